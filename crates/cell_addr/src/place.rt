@@ -1,0 +1,48 @@
+// Places and blocks, and the limits of a sheet.
+ghost use Rattle.std.specs.Prelude.{◌≡◌, ◌<◌, ◌≤◌, ◌↔◌, IsTrue};
+ghost use Rattle.cell_addr.specs.Place.{IsInside, IsBlockInside};
+
+/// How many rows a sheet has. This project's own limit.
+pub const ROWS: u32 = 40_000;
+
+/// How many columns a sheet has: the last one is ZZZ. This project's own limit.
+pub const COLS: u32 = 18_278;
+
+/// A number that no sheet has.
+pub const NO_SHEET: u32 = u32::MAX;
+
+/// One cell: its sheet's number, its row and its column, both counted from 0.
+#[derive(Clone, Copy, PartialEq, Eq, PartialOrd, Ord, Debug)]
+pub struct Place {
+    pub sheet: u32,
+    pub row: u32,
+    pub col: u32,
+}
+
+/// A rectangle of cells on one sheet, by its first and last row and column, counted from 0.
+#[derive(Clone, Copy, PartialEq, Eq, Debug)]
+pub struct Block {
+    pub sheet: u32,
+    pub top: u32,
+    pub left: u32,
+    pub bottom: u32,
+    pub right: u32,
+}
+
+impl Place {
+    /// Whether the place is within the limits of a sheet.
+    pub fn inside(self) -> bool
+        ensures { IsTrue result ↔ IsInside self }
+    {
+        self.row < ROWS && self.col < COLS
+    }
+}
+
+impl Block {
+    /// Whether both corners are within the limits of a sheet, and the ends in order.
+    pub fn inside(self) -> bool
+        ensures { IsTrue result ↔ IsBlockInside self }
+    {
+        self.top <= self.bottom && self.bottom < ROWS && self.left <= self.right && self.right < COLS
+    }
+}
