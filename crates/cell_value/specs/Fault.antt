@@ -2,8 +2,8 @@
 use Rattle.std.specs.Prelude.{ℕ, Bool, List, [], ◌∷◌, Option, codes, bytes_eq}
 use Rattle.std.specs.List.{find}
 use Rattle.cell_addr.specs.Text.{folded}
-use Rattle.fix_num.specs.declared.NumError.{NumError}
-use Rattle.fix_num.specs.declared.NumError.TheVariants.{NotANumber, Range, ZeroDivisor}
+use Rattle.fix_num.specs.declared.error.NumError.{NumError}
+use Rattle.fix_num.specs.declared.error.NumError.TheVariants.{NotANumber, Range, ZeroDivisor}
 use Rattle.cell_value.specs.declared.fault.FaultKind.{FaultKind}
 use Rattle.cell_value.specs.declared.fault.FaultKind.TheVariants.{Div0, Name, Value, Num, Na, Cycle, Ref, Error}
 

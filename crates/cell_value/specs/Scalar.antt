@@ -7,8 +7,8 @@ use Rattle.std.specs.Bool.{beq}
 use Rattle.std.specs.Ordering.{nat_cmp, int_cmp, int_eq, bool_cmp}
 use Rattle.std.specs.Cmp.Lexicographic.{slice_cmp}
 use Rattle.cell_addr.specs.Text.{folded}
-use Rattle.fix_num.specs.declared.NumError.{NumError}
-use Rattle.fix_num.specs.Number.{number_of, number_text}
+use Rattle.fix_num.specs.declared.error.NumError.{NumError}
+use Rattle.fix_num.specs.Text.{number_of, text_of}
 use Rattle.cell_value.specs.declared.fault.FaultKind.{FaultKind}
 use Rattle.cell_value.specs.declared.fault.FaultKind.TheVariants as fault
 use Rattle.cell_value.specs.declared.scalar.Scalar.{Scalar}
@@ -61,7 +61,7 @@ to_truth (Fault fault) = Err fault
 -- what a person sees of a value
 abbrev pub shown_text : Scalar → List ℕ
 shown_text Empty = []
-shown_text (Number number) = number_text number
+shown_text (Number number) = text_of number
 shown_text (Text text) = text
 shown_text (Truth truth) = truth_text truth
 shown_text (Fault fault) = fault_text fault

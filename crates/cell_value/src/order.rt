@@ -14,9 +14,13 @@ use crate::scalar::Scalar;
 pub fn compare_texts(a: &str, b: &str) -> Ordering
     ensures { result ≡ text_order a.now b.now }
 {
-    let folded_a = a.as_bytes().iter().map(|byte| fold_byte(*byte));
-    let folded_b = b.as_bytes().iter().map(|byte| fold_byte(*byte));
-    folded_a.cmp(folded_b)
+    'bytes: for (x, y) in a.as_bytes().iter().zip(b.as_bytes()) {
+        match fold_byte(*x).cmp(&fold_byte(*y)) {
+            Ordering::Equal => {}
+            decided => return decided,
+        }
+    }
+    a.len().cmp(&b.len())
 }
 
 impl Scalar {
