@@ -21,6 +21,15 @@ AppendsPart old new bs = (n : ℕ) × Appends old new (take n bs)
 abbrev pub Loses : Option (List ℕ) → Option (List ℕ) → ℕ → Type 0
 Loses old new n = (bs : List ℕ) × Consumes old new bs × (length bs ≡ n)
 
+-- known bytes begin with at most n bytes, and lose them
+abbrev pub LosesAtMost : Option (List ℕ) → Option (List ℕ) → ℕ → Type 0
+LosesAtMost old new n = (bs : List ℕ) × Consumes old new bs × (length bs ≤ n)
+
+-- a stream of the system and its faults, up to the greatest u64
+pub record Counted (S : Type 0) : Type 0 where
+  pub stream : S
+  pub faults : ℕ
+
 -- a stream in memory: its bytes, the numbers of the calls that fail, and how many calls and faults there were
 pub record MemStream : Type 0 where
   pub bytes : List ℕ

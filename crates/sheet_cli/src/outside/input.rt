@@ -1,7 +1,7 @@
 // A source read to its end.
 ghost use Rattle.std.specs.Prelude.{◌≡◌, ◌≢◌, ◌≤◌, ◌+◌, IfOk, OnOk, OnErr, vec_len};
 ghost use Rattle.std.specs.Io.KnownBytes.{Consumes, IsAtEnd};
-ghost use Rattle.sheet_cli.specs.Outside.{Loses, Rose};
+ghost use Rattle.sheet_cli.specs.Outside.{Loses, LosesAtMost, Rose};
 
 use super::error::LoadError;
 use super::source::Source;
@@ -32,6 +32,7 @@ pub fn read_all<I: Source>(alloc: Global, input: &mut I) -> Result<Vec<u8>, Load
     ensures limit { IfOk result (λ v. vec_len v ≤ MAX_INPUT) }
     ensures too_long { result ≡ Err LoadError.TooLong
         → Loses (I.left input.old) (I.left input.new) (MAX_INPUT + 1) }
+    ensures at_most { LosesAtMost (I.left input.old) (I.left input.new) (MAX_INPUT + 1) }
     ensures failed { result ≡ Err LoadError.Failed → Rose (I.faults input.old) (I.faults input.new) }
     ensures never_missing { result ≢ Err LoadError.Missing }
     ensures later { I.faults input.old ≤ I.faults input.new }

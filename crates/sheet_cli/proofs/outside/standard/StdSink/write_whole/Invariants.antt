@@ -6,8 +6,8 @@ use Rattle.sheet_cli.proofs.outside.standard.StdSink.write_whole.Given as goal
 abbrev pub invariant-writing : goal.invariant-writing
 invariant-writing g l = record {
   within : l.at ≤ length l.bytes;
-  written : Appends (g.W.Write.contents l.fn.self.writer) (g.W.Write.contents l.self.writer) (take l.at l.bytes);
-  faults : l.self.faults ≡ l.fn.self.faults;
+  written : Appends (g.W.Write.contents l.fn.self.stream) (g.W.Write.contents l.self-inside.writer) (take l.at l.bytes);
+  faults : l.self-inside.faults ≡ l.fn.self.faults;
 }
 
 abbrev pub decreases-writing : goal.decreases-writing
