@@ -1,1 +1,2 @@
+pub mod RecordSteps
 pub mod StreamFacts

@@ -5,3 +5,4 @@
 #![tactic(auto)]
 
 pub mod outside;
+pub mod records;
