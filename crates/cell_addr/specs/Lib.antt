@@ -1,3 +1,4 @@
 pub mod Address
 pub mod Place
+pub mod SheetName
 pub mod Text
