@@ -1,6 +1,7 @@
 pub mod Blocks
 pub mod Columns
 pub mod Entries
+pub mod Listed
 pub mod Places
 pub mod Quoted
 pub mod Rows

@@ -2,4 +2,5 @@ pub mod Address
 pub mod Order
 pub mod Place
 pub mod SheetName
+pub mod Sheets
 pub mod Text
