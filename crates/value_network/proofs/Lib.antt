@@ -5,3 +5,4 @@ pub mod ShortChains
 pub mod Stuck
 pub mod Values
 pub mod Orders
+pub mod Rows

@@ -6,6 +6,12 @@
 //! many rounds as there are formulas, and one more, nothing changes. A node on a cycle shows one
 //! fixed value. A workbook's cells are one such network, so what is proved here holds of them.
 //!
-//! For example, with formulas at 1 and 2, where 1 needs 0 and 2 needs 0 and 1, nothing is on a
-//! cycle, and the value of 2 is its meaning over the values of 0 and 1.
+//! For example a [`Slot`] of a row is a number or the sum of two slots before it. A row is a
+//! network, and [`row_numbers`] works its values out: of the row `4, 0 + 0, 0 + 1` they are 4, 8
+//! and 12.
 #![tactic(auto)]
+
+mod laws;
+mod row;
+
+pub use row::{row_numbers, Slot};
