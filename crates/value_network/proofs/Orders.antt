@@ -2,7 +2,7 @@
 use Rattle.std.proofs.Common.{◌≡◌, ℕ, ◌<◌, Bool, true, false, List, [], ◌∷◌, length, sym, ◌∙◌, arith}
 use Rattle.std.proofs.lemmas.Bool.{false_from_ne_true, false≢true}
 use Rattle.value_network.specs.Network.{Network, leads, cyclic}
-use Rattle.value_network.specs.Laws.{HasNoCycle, NeedsLower, NeedsEarlier}
+use Rattle.value_network.specs.Laws.{HasNoCycle, NeedsLower, NeedsEarlier, IsTransitive, IsIrreflexive, RanksForbidCycles, OrdersForbidCycles}
 use Rattle.value_network.proofs.Chains.{leads_carries}
 
 module _ {K V : Type 0} (net : Network K V) where
@@ -11,15 +11,15 @@ module _ {K V : Type 0} (net : Network K V) where
   leads_lower rank lower n a b h = leads_carries net (λ x y. rank x < rank y) lower (λ x y z p q. omega (arith, p, q)) n a b h
 
   -- a chain leads to an earlier node
-  pub leads_earlier : (earlier : K → K → Bool) → NeedsEarlier net earlier → ((a b c : K) → earlier a b ≡ true → earlier b c ≡ true → earlier a c ≡ true) → (n : ℕ) (a b : K) → leads net n a (b ∷ []) ≡ true → earlier b a ≡ true
-  leads_earlier earlier needs joins n a b h = leads_carries net (λ x y. earlier x y ≡ true) needs (λ x y z p q. joins z y x q p) n a b h
+  pub leads_earlier : (earlier : K → K → Bool) → IsTransitive earlier → NeedsEarlier net earlier → (n : ℕ) (a b : K) → leads net n a (b ∷ []) ≡ true → earlier b a ≡ true
+  leads_earlier earlier joins needs n a b h = leads_carries net (λ x y. earlier x y ≡ true) needs (λ x y z p q. joins z y x q p) n a b h
 
-  -- needs of lower rank make no cycle
-  pub no_cycle_by_rank : (rank : K → ℕ) → NeedsLower net rank → HasNoCycle net
+  -- needs of lower rank alone make no cycle
+  pub no_cycle_by_rank : RanksForbidCycles net
   no_cycle_by_rank rank lower a = false_from_ne_true (cyclic net a) λ h.
     let below = leads_lower rank lower (length net.formulas) a a h in omega (arith, below)
 
-  -- earlier needs make no cycle
-  pub no_cycle_by_order : (earlier : K → K → Bool) → NeedsEarlier net earlier → ((a b c : K) → earlier a b ≡ true → earlier b c ≡ true → earlier a c ≡ true) → ((a : K) → earlier a a ≡ false) → HasNoCycle net
-  no_cycle_by_order earlier needs joins never a = false_from_ne_true (cyclic net a) λ h.
-    false≢true (sym (never a) ∙ leads_earlier earlier needs joins (length net.formulas) a a h)
+  -- needs of earlier nodes alone make no cycle
+  pub no_cycle_by_order : OrdersForbidCycles net
+  no_cycle_by_order earlier joins never needs a = false_from_ne_true (cyclic net a) λ h.
+    false≢true (sym (never a) ∙ leads_earlier earlier joins needs (length net.formulas) a a h)

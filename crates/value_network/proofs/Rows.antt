@@ -9,11 +9,11 @@ use Rattle.value_network.specs.declared.row.Slot.{Slot}
 use Rattle.value_network.specs.declared.row.Slot.TheVariants.{Number, Sum}
 use Rattle.value_network.specs.Network.{Network, IsNetwork, has, cyclic, value}
 use Rattle.value_network.specs.Laws.{HasNoCycle, CoversCycles}
-use Rattle.value_network.specs.Row.{number_before, number_of, mentions, slot_at, row_network, row_value, RowsUnfold, RowsAreUnique, RowsSettle}
+use Rattle.value_network.specs.Row.{number_before, number_of, mentions, slot_at, row_network, row_value}
 use Rattle.value_network.proofs.Tests.{any_from}
 use Rattle.value_network.proofs.Orders.{no_cycle_by_rank}
 use Rattle.value_network.proofs.Stuck.{no_cycle_covers}
-use Rattle.value_network.proofs.Values.{unfolds, unique, settles, works_in_place}
+use Rattle.value_network.proofs.Values.{works_in_place}
 
 -- a slot that a sum mentions stands before it
 mentions_before : (home : ℕ) (slot : Slot) (place : ℕ) → mentions home slot place ≡ true → place < home
@@ -55,15 +55,6 @@ row_has_no_cycle row = no_cycle_by_rank (row_network row) (λ a. a) (λ a b h. m
 
 covers : (row : List Slot) → CoversCycles (row_network row) (λ _. false)
 covers row = no_cycle_covers (row_network row) (λ _. false) (row_has_no_cycle row)
-
-pub rows_unfold : RowsUnfold
-rows_unfold row = unfolds (row_network row) (row_is_network row) (λ _. false) (covers row)
-
-pub rows_are_unique : RowsAreUnique
-rows_are_unique row = unique (row_network row) (row_is_network row) (λ _. false) (covers row)
-
-pub rows_settle : RowsSettle
-rows_settle row = settles (row_network row) (row_is_network row) (λ _. false) (covers row)
 
 -- over the values of the slots before it a slot works out its own
 pub number_in_order : (row : List Slot) (home : ℕ) (numbers : List ℕ) → numbers ≡ map (row_value row) (range_with_len 0 home) → number_of (λ place. slice_index numbers place) home (slot_at row home) ≡ row_value row home

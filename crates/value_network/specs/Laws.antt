@@ -1,6 +1,6 @@
 -- What holds of the values of a network, said of one network so that a contract can cite it. Source: this project's own.
-use Rattle.std.specs.Prelude.{◌≡◌, ◌<◌, ◌||◌, ℕ, suc, Bool, true, false, List, [], ◌∷◌, length}
-use Rattle.value_network.specs.Network.{Network, leads, cyclic, reaches, stuck, round, rounds, value}
+use Rattle.std.specs.Prelude.{◌≡◌, ◌<◌, ℕ, Bool, true, false, List, [], ◌∷◌, length}
+use Rattle.value_network.specs.Network.{Network, IsNetwork, leads, cyclic, stuck, round, rounds, value}
 
 -- every node on a cycle is bad
 abbrev pub CoversCycles : {K V : Type 0} → Network K V → (K → Bool) → Type 0
@@ -34,6 +34,10 @@ WorksInPlace {K} {V} net bad = (a : K) (shown : K → V) → bad a ≡ false →
 abbrev pub HasShortChains : {K V : Type 0} → Network K V → Type 0
 HasShortChains {K} net = (n : ℕ) (a : K) (ends : List K) → leads net n a ends ≡ true → leads net (length net.formulas) a ends ≡ true
 
+-- a node from which a chain of any number of needs leads back to it is on a cycle
+abbrev pub ChainsFindCycles : {K V : Type 0} → Network K V → Type 0
+ChainsFindCycles {K} net = (n : ℕ) (a : K) → leads net n a (a ∷ []) ≡ true → cyclic net a ≡ true
+
 -- what needs a stuck node is stuck
 abbrev pub StuckSpreads : {K V : Type 0} → Network K V → Type 0
 StuckSpreads {K} net = (a b : K) → net.needs a b ≡ true → stuck net b ≡ true → stuck net a ≡ true
@@ -53,3 +57,27 @@ NeedsLower {K} net rank = (a b : K) → net.needs a b ≡ true → rank b < rank
 -- each node needs only earlier nodes
 abbrev pub NeedsEarlier : {K V : Type 0} → Network K V → (K → K → Bool) → Type 0
 NeedsEarlier {K} net earlier = (a b : K) → net.needs a b ≡ true → earlier b a ≡ true
+
+-- the first of three that come one after another is earlier than the last
+abbrev pub IsTransitive : {K : Type 0} → (K → K → Bool) → Type 0
+IsTransitive {K} earlier = (a b c : K) → earlier a b ≡ true → earlier b c ≡ true → earlier a c ≡ true
+
+-- nothing is earlier than itself
+abbrev pub IsIrreflexive : {K : Type 0} → (K → K → Bool) → Type 0
+IsIrreflexive {K} earlier = (a : K) → earlier a a ≡ false
+
+-- needs of lower rank alone make no cycle
+abbrev pub RanksForbidCycles : {K V : Type 0} → Network K V → Type 0
+RanksForbidCycles {K} net = (rank : K → ℕ) → NeedsLower net rank → HasNoCycle net
+
+-- needs of earlier nodes alone make no cycle
+abbrev pub OrdersForbidCycles : {K V : Type 0} → Network K V → Type 0
+OrdersForbidCycles {K} net = (earlier : K → K → Bool) → IsTransitive earlier → IsIrreflexive earlier → NeedsEarlier net earlier → HasNoCycle net
+
+-- the law holds whatever nodes are bad, as long as every node on a cycle is
+abbrev pub WhateverIsBad : {K V : Type 0} → (Network K V → (K → Bool) → Type 0) → Network K V → Type 0
+WhateverIsBad {K} Law net = (bad : K → Bool) → CoversCycles net bad → Law net bad
+
+-- the law holds of every network whose nodes and values are numbers
+abbrev pub AtNumbers : (Network ℕ ℕ → Type 0) → Type 0
+AtNumbers Law = (net : Network ℕ ℕ) → IsNetwork net → Law net

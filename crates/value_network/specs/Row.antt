@@ -4,7 +4,6 @@ use Rattle.std.specs.List.{range_with_len}
 use Rattle.value_network.specs.declared.row.Slot.{Slot}
 use Rattle.value_network.specs.declared.row.Slot.TheVariants.{Number, Sum}
 use Rattle.value_network.specs.Network.{Network, value}
-use Rattle.value_network.specs.Laws.{Unfolds, IsUnique, Settles}
 
 -- what a slot adds to a sum: its number where it stands before the sum, else 0
 abbrev pub number_before : (ℕ → ℕ) → ℕ → ℕ → ℕ
@@ -35,15 +34,3 @@ row_value row = value (row_network row) (λ _. false)
 -- what the slots of a row show, in order
 abbrev pub row_values : List Slot → List ℕ
 row_values row = map (row_value row) (range_with_len 0 (length row))
-
--- each slot shows its number, or the sum of what the slots before it show
-abbrev pub RowsUnfold : Type 0
-RowsUnfold = (row : List Slot) → Unfolds (row_network row) (λ _. false)
-
--- nothing else than the values of a row unfolds so
-abbrev pub RowsAreUnique : Type 0
-RowsAreUnique = (row : List Slot) → IsUnique (row_network row) (λ _. false)
-
--- one round more than a row has slots gives its values
-abbrev pub RowsSettle : Type 0
-RowsSettle = (row : List Slot) → Settles (row_network row) (λ _. false)

@@ -1,21 +1,64 @@
-//! What holds of the values of every row: laws, with nothing to run.
+//! What holds of every network: laws, with nothing to run. They are stated where nodes and values
+//! are numbers; the lemmas behind them hold of nodes and values of any type.
 
-ghost use Rattle.value_network.specs.Row.{RowsUnfold, RowsAreUnique, RowsSettle};
+ghost use Rattle.value_network.specs.Laws.{AtNumbers, WhateverIsBad, Unfolds, IsUnique, Settles, WorksInPlace, HasShortChains, ChainsFindCycles, StuckSpreads, CyclicIsStuck, RanksForbidCycles, OrdersForbidCycles};
 
-/// Each slot shows its number, or the sum of what the slots before it show.
-pub fn rows_unfold()
-    ensures { RowsUnfold }
+/// A good node shows what it works out from what the others show, a bad one a cycle's value.
+pub fn values_unfold()
+    ensures { AtNumbers (WhateverIsBad Unfolds) }
 {
 }
 
-/// Nothing else than the values of a row unfolds so.
-pub fn rows_are_unique()
-    ensures { RowsAreUnique }
+/// Nothing but the values unfolds so, also on any set of nodes with all that they need.
+pub fn values_are_unique()
+    ensures { AtNumbers (WhateverIsBad IsUnique) }
 {
 }
 
-/// One round more than a row has slots gives its values, from any start.
-pub fn rows_settle()
-    ensures { RowsSettle }
+/// More rounds than there are formulas give the values, whatever the nodes showed at first.
+pub fn values_settle()
+    ensures { AtNumbers (WhateverIsBad Settles) }
+{
+}
+
+/// A good node whose needs already show their values works out its own.
+pub fn values_come_in_place()
+    ensures { AtNumbers (WhateverIsBad WorksInPlace) }
+{
+}
+
+/// A chain of any number of needs can be cut to no more links than there are formulas.
+pub fn chains_are_short()
+    ensures { AtNumbers HasShortChains }
+{
+}
+
+/// A node from which a chain of any number of needs leads back to it is on a cycle.
+pub fn chains_find_cycles()
+    ensures { AtNumbers ChainsFindCycles }
+{
+}
+
+/// What needs a stuck node is stuck.
+pub fn stuck_spreads()
+    ensures { AtNumbers StuckSpreads }
+{
+}
+
+/// A node on a cycle is stuck, so the stuck nodes may be taken as the bad ones.
+pub fn cyclic_is_stuck()
+    ensures { AtNumbers CyclicIsStuck }
+{
+}
+
+/// Where each node needs only nodes of a lower rank, none is on a cycle.
+pub fn ranks_forbid_cycles()
+    ensures { AtNumbers RanksForbidCycles }
+{
+}
+
+/// Where each node needs only earlier nodes, none is on a cycle.
+pub fn orders_forbid_cycles()
+    ensures { AtNumbers OrdersForbidCycles }
 {
 }

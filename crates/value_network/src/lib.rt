@@ -11,7 +11,7 @@
 //! and 12.
 #![tactic(auto)]
 
-mod laws;
+pub mod laws;
 mod row;
 
 pub use row::{row_numbers, Slot};
