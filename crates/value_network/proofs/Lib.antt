@@ -3,6 +3,7 @@ pub mod Chains
 pub mod Counts
 pub mod ShortChains
 pub mod Stuck
+pub mod FollowedNeeds
 pub mod Values
 pub mod Orders
 pub mod Rows

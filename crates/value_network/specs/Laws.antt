@@ -1,6 +1,19 @@
 -- What holds of the values of a network, said of one network so that a contract can cite it. Source: this project's own.
-use Rattle.std.specs.Prelude.{◌≡◌, ◌<◌, ℕ, Bool, true, false, List, [], ◌∷◌, length}
+use Rattle.std.specs.Prelude.{◌≡◌, ◌<◌, ◌⊎◌, ◌↔◌, ℕ, Bool, true, false, List, [], ◌∷◌, length}
 use Rattle.value_network.specs.Network.{Network, IsNetwork, leads, cyclic, stuck, round, rounds, value}
+
+-- following needs from the first node, one or more, comes to the second
+pub data LeadsTo {K V : Type 0} (net : Network K V) : K → K → Type 0 where
+  at_once : {a b : K} → net.needs a b ≡ true → LeadsTo net a b
+  after : {a b c : K} → net.needs a b ≡ true → LeadsTo net b c → LeadsTo net a c
+
+-- the nodes on a cycle are those from which following needs comes back to them
+abbrev pub CyclesReturn : {K V : Type 0} → Network K V → Type 0
+CyclesReturn {K} net = (a : K) → (cyclic net a ≡ true) ↔ LeadsTo net a a
+
+-- the stuck nodes are those on a cycle, and those from which following needs comes to one
+abbrev pub StuckLeadsToCycle : {K V : Type 0} → Network K V → Type 0
+StuckLeadsToCycle {K} net = (a : K) → (stuck net a ≡ true) ↔ ((b : K) × (cyclic net b ≡ true) × ((a ≡ b) ⊎ LeadsTo net a b))
 
 -- every node on a cycle is bad
 abbrev pub CoversCycles : {K V : Type 0} → Network K V → (K → Bool) → Type 0
@@ -33,10 +46,6 @@ WorksInPlace {K} {V} net bad = (a : K) (shown : K → V) → bad a ≡ false →
 -- a chain of any number of needs can be cut to no more links than there are formulas
 abbrev pub HasShortChains : {K V : Type 0} → Network K V → Type 0
 HasShortChains {K} net = (n : ℕ) (a : K) (ends : List K) → leads net n a ends ≡ true → leads net (length net.formulas) a ends ≡ true
-
--- a node from which a chain of any number of needs leads back to it is on a cycle
-abbrev pub ChainsFindCycles : {K V : Type 0} → Network K V → Type 0
-ChainsFindCycles {K} net = (n : ℕ) (a : K) → leads net n a (a ∷ []) ≡ true → cyclic net a ≡ true
 
 -- what needs a stuck node is stuck
 abbrev pub StuckSpreads : {K V : Type 0} → Network K V → Type 0

@@ -1,7 +1,7 @@
 //! What holds of every network: laws, with nothing to run. They are stated where nodes and values
 //! are numbers; the lemmas behind them hold of nodes and values of any type.
 
-ghost use Rattle.value_network.specs.Laws.{AtNumbers, WhateverIsBad, Unfolds, IsUnique, Settles, WorksInPlace, HasShortChains, ChainsFindCycles, StuckSpreads, CyclicIsStuck, RanksForbidCycles, OrdersForbidCycles};
+ghost use Rattle.value_network.specs.Laws.{AtNumbers, WhateverIsBad, Unfolds, IsUnique, Settles, WorksInPlace, HasShortChains, CyclesReturn, StuckLeadsToCycle, StuckSpreads, CyclicIsStuck, RanksForbidCycles, OrdersForbidCycles};
 
 /// A good node shows what it works out from what the others show, a bad one a cycle's value.
 pub fn values_unfold()
@@ -33,9 +33,15 @@ pub fn chains_are_short()
 {
 }
 
-/// A node from which a chain of any number of needs leads back to it is on a cycle.
-pub fn chains_find_cycles()
-    ensures { AtNumbers ChainsFindCycles }
+/// The nodes on a cycle are those from which following needs comes back to them.
+pub fn cycles_return()
+    ensures { AtNumbers CyclesReturn }
+{
+}
+
+/// The stuck nodes are those on a cycle, and those from which following needs comes to one.
+pub fn stuck_leads_to_cycle()
+    ensures { AtNumbers StuckLeadsToCycle }
 {
 }
 
