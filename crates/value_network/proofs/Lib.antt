@@ -7,3 +7,4 @@ pub mod FollowedNeeds
 pub mod Values
 pub mod Orders
 pub mod Rows
+pub mod Alike

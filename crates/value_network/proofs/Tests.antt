@@ -5,6 +5,12 @@ use Rattle.std.proofs.lemmas.Bool.{cases_Bool, or_cases, or_left, or_right, and_
 use Rattle.std.proofs.lemmas.List.Folds.{Any-from_list_any, list_any_at}
 use Rattle.value_network.specs.Network.{Network, IsNetwork, has}
 
+-- two tests that imply each other are equal
+pub equal_from_both : (one other : Bool) → (one ≡ true → other ≡ true) → (other ≡ true → one ≡ true) → one ≡ other
+equal_from_both true other there back = sym (there refl)
+equal_from_both false true there back = back refl
+equal_from_both false false there back = refl
+
 module _ {K : Type 0} where
   -- an element passes where the test over the list does
   pub any_gives : (test : K → Bool) (xs : List K) → list_any test xs ≡ true → (x : K) × Contains xs x × (test x ≡ true)
@@ -30,13 +36,9 @@ module _ {K : Type 0} where
 
   -- two tests that agree at each element agree over the list
   pub any_agree : (one other : K → Bool) (xs : List K) → ((x : K) → Contains xs x → one x ≡ other x) → list_any one xs ≡ list_any other xs
-  any_agree one other xs agree = go (list_any one xs) (list_any other xs) refl refl
-    where
-      go : (s t : Bool) → list_any one xs ≡ s → list_any other xs ≡ t → s ≡ t
-      go true true e f = refl
-      go false false e f = refl
-      go true false e f = sym (any_wider one other xs (λ x inside p. sym (agree x inside) ∙ p) e) ∙ f
-      go false true e f = sym e ∙ any_wider other one xs (λ x inside p. agree x inside ∙ p) f
+  any_agree one other xs agree = equal_from_both (list_any one xs) (list_any other xs)
+    (any_wider one other xs (λ x inside p. sym (agree x inside) ∙ p))
+    (any_wider other one xs (λ x inside p. agree x inside ∙ p))
 
   -- a test over what a filter keeps passes exactly where one element passes both tests
   pub any-filter : (keep test : K → Bool) (xs : List K) → list_any test (filter keep xs) ≡ list_any (λ x. keep x && test x) xs
