@@ -1,8 +1,7 @@
 -- How many elements pass a test: serves the bounds on the length of chains.
-use Rattle.std.proofs.Common.{◌≡◌, ℕ, zero, suc, ◌<◌, ◌≤◌, ◌||◌, ◌⊎◌, Bool, true, false, cond, List, [], ◌∷◌, length, filter, Contains, sym, refl, ap, ◌∙◌, subst, inl, inr, ⊎_elim, arith, zero-le, suc-le-suc, le_trans}
+use Rattle.std.proofs.Common.{◌≡◌, ℕ, suc, ◌<◌, ◌≤◌, ◌||◌, Bool, true, false, cond, List, [], ◌∷◌, length, filter, sym, refl, ap, ◌∙◌, subst, arith, zero-le}
 use Rattle.std.specs.List.{list_any}
-use Rattle.std.proofs.lemmas.Bool.{false_from_ne_true, true_from_ne_false, false≢true, cases_Bool}
-use Rattle.value_network.proofs.Tests.{any_from}
+use Rattle.std.proofs.lemmas.Bool.{true_from_ne_false, false≢true}
 
 module _ {K : Type 0} where
   -- how many elements of the list pass
@@ -40,8 +39,8 @@ module _ {K : Type 0} where
   -- where a wider test passes no more often, it passes the same elements
   pub passing_still : (same : K → K → Bool) (narrow wide : K → Bool) (xs : List K) (x : K) → ((y : K) → same x y ≡ true → x ≡ y) → ((y : K) → narrow y ≡ true → wide y ≡ true) → passing wide xs ≤ passing narrow xs → list_any (same x) xs ≡ true → wide x ≡ true → narrow x ≡ true
   passing_still same narrow wide xs x equal wider still inside passes = true_from_ne_false (narrow x) λ fails.
-    let up = passing_rises narrow wide (same x) xs wider (λ y s. (subst (λ z. narrow z ≡ false) (equal y s) fails, subst (λ z. wide z ≡ true) (equal y s) passes)) inside in
-    omega (arith, up, still)
+      let up = passing_rises narrow wide (same x) xs wider (λ y s. (subst (λ z. narrow z ≡ false) (equal y s) fails, subst (λ z. wide z ≡ true) (equal y s) passes)) inside in
+      omega (arith, up, still)
 
   -- a test passes no more often than there are elements
   pub passing_within : (test : K → Bool) (xs : List K) → passing test xs ≤ length xs

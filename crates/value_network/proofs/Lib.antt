@@ -1,4 +1,4 @@
-pub mod Tests
+pub mod ListTests
 pub mod Chains
 pub mod Counts
 pub mod ShortChains

@@ -1,8 +1,8 @@
 -- Where needs go only to nodes of a lower rank, or to earlier nodes, no node is on a cycle.
-use Rattle.std.proofs.Common.{◌≡◌, ℕ, ◌<◌, Bool, true, false, List, [], ◌∷◌, length, sym, ◌∙◌, arith}
+use Rattle.std.proofs.Common.{◌≡◌, ℕ, ◌<◌, Bool, true, [], ◌∷◌, length, sym, ◌∙◌, arith}
 use Rattle.std.proofs.lemmas.Bool.{false_from_ne_true, false≢true}
 use Rattle.value_network.specs.Network.{Network, leads, cyclic}
-use Rattle.value_network.specs.Laws.{HasNoCycle, NeedsLower, NeedsEarlier, IsTransitive, IsIrreflexive, RanksForbidCycles, OrdersForbidCycles}
+use Rattle.value_network.specs.Laws.{NeedsLower, NeedsEarlier, IsTransitive, RanksForbidCycles, OrdersForbidCycles}
 use Rattle.value_network.proofs.Chains.{leads_carries}
 
 module _ {K V : Type 0} (net : Network K V) where
@@ -17,9 +17,9 @@ module _ {K V : Type 0} (net : Network K V) where
   -- needs of lower rank alone make no cycle
   pub no_cycle_by_rank : RanksForbidCycles net
   no_cycle_by_rank rank lower a = false_from_ne_true (cyclic net a) λ h.
-    let below = leads_lower rank lower (length net.formulas) a a h in omega (arith, below)
+      let below = leads_lower rank lower (length net.formulas) a a h in omega (arith, below)
 
   -- needs of earlier nodes alone make no cycle
   pub no_cycle_by_order : OrdersForbidCycles net
   no_cycle_by_order earlier joins never needs a = false_from_ne_true (cyclic net a) λ h.
-    false≢true (sym (never a) ∙ leads_earlier earlier joins needs (length net.formulas) a a h)
+      false≢true (sym (never a) ∙ leads_earlier earlier joins needs (length net.formulas) a a h)

@@ -1,9 +1,9 @@
 -- What needs a node that reaches some ends reaches them too. Serves the laws on what is stuck.
-use Rattle.std.proofs.Common.{◌≡◌, ℕ, zero, suc, ◌||◌, ◌⊎◌, Bool, true, false, List, [], ◌∷◌, length, filter, Contains, sym, refl, ap, ◌∙◌, inl, inr, ⊎_elim}
+use Rattle.std.proofs.Common.{◌≡◌, ℕ, zero, suc, Bool, true, false, List, [], ◌∷◌, length, filter, sym, ◌∙◌, ⊎_elim}
 use Rattle.std.proofs.lemmas.Bool.{or_cases, or_left, or_right, false_from_ne_true, false≢true}
 use Rattle.value_network.specs.Network.{Network, IsNetwork, has, leads, cyclic, reaches, stuck}
 use Rattle.value_network.specs.Laws.{StuckSpreads, FreeNeedsFree, CyclicIsStuck, CoversCycles}
-use Rattle.value_network.proofs.Tests.{any_from, has-filter, Contains-from_has}
+use Rattle.value_network.proofs.ListTests.{any_from, has-filter, Contains-from_has}
 use Rattle.value_network.proofs.Chains.{leads_at_once, leads_longer, leads_from_formula}
 use Rattle.value_network.proofs.ShortChains.{short_chains}
 
@@ -19,9 +19,9 @@ module _ {K V : Type 0} (net : Network K V) (sound : IsNetwork net) where
   -- what needs a node that reaches the ends reaches them
   pub reaches_back : (ends : List K) (a b : K) → net.needs a b ≡ true → reaches net ends b ≡ true → reaches net ends a ≡ true
   reaches_back ends a b need h = ⊎_elim
-    (λ inside. reaches_by_chain ends (suc zero) a (leads_at_once net zero a ends (any_from (net.needs a) ends b (Contains-from_has net sound ends b inside) need)))
-    (λ chain. reaches_by_chain ends (suc (length net.formulas)) a (leads_longer net sound (length net.formulas) a b ends need chain))
-    (or_cases (has net b ends) (leads net (length net.formulas) b ends) h)
+      (λ inside. reaches_by_chain ends (suc zero) a (leads_at_once net zero a ends (any_from (net.needs a) ends b (Contains-from_has net sound ends b inside) need)))
+      (λ chain. reaches_by_chain ends (suc (length net.formulas)) a (leads_longer net sound (length net.formulas) a b ends need chain))
+      (or_cases (has net b ends) (leads net (length net.formulas) b ends) h)
 
   -- a node that does not reach the ends needs none that does
   pub not_reaching_back : (ends : List K) (a b : K) → reaches net ends a ≡ false → net.needs a b ≡ true → reaches net ends b ≡ false

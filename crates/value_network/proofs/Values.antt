@@ -1,9 +1,9 @@
 -- The values of a network unfold, nothing else does, and enough rounds give them.
-use Rattle.std.proofs.Common.{◌≡◌, ℕ, zero, suc, ◌+◌, ◌<◌, ◌≤◌, ◌⊎◌, Bool, true, false, not, cond, List, [], ◌∷◌, length, filter, Contains, sym, refl, ap, ◌∙◌, subst, inl, inr, ⊎_elim, arith}
+use Rattle.std.proofs.Common.{◌≡◌, ℕ, zero, suc, ◌+◌, ◌<◌, ◌≤◌, ◌⊎◌, Bool, true, false, not, List, [], ◌∷◌, length, sym, refl, ap, ◌∙◌, subst, inl, inr, ⊎_elim, arith}
 use Rattle.std.specs.Prelude.{⊤}
-use Rattle.std.proofs.lemmas.Bool.{cases_Bool, cases_lt, false≢true, or_left, or_cases, not-false, not-true, not_from_true, not_from_false, or_parts, cond-true, cond-false}
-use Rattle.value_network.specs.Network.{Network, IsNetwork, has, leads, cyclic, round, rounds, value}
-use Rattle.value_network.specs.Laws.{CoversCycles, Unfolds, IsClosed, IsUnique, Settles, WorksInPlace}
+use Rattle.std.proofs.lemmas.Bool.{cases_Bool, cases_lt, false≢true, or_left, or_cases, not-true, not_from_true, not_from_false, or_parts, cond-true, cond-false}
+use Rattle.value_network.specs.Network.{Network, IsNetwork, has, leads, round, rounds, value}
+use Rattle.value_network.specs.Laws.{CoversCycles, Unfolds, IsUnique, Settles, WorksInPlace}
 use Rattle.value_network.proofs.Counts.{passing, passing_rises, passing_all}
 use Rattle.value_network.proofs.Chains.{leads_within, leads_further, leads_at_once}
 
@@ -40,17 +40,17 @@ module _ {K V : Type 0} (net : Network K V) (bad : K → Bool) where
   settled_within : (m n : ℕ) (a : K) → n ≤ m → Settled n a → Settled m a
   settled_within zero n a le s = subst (λ k. Settled k a) (omega (arith, le)) s
   settled_within (suc m) n a le s = ⊎_elim
-    (λ lt. subst (λ k. Settled k a) (omega (arith, le, lt)) s)
-    (λ below. settled_longer m a (settled_within m n a below s))
-    (cases_lt m n)
+      (λ lt. subst (λ k. Settled k a) (omega (arith, le, lt)) s)
+      (λ below. settled_longer m a (settled_within m n a below s))
+      (cases_lt m n)
 
 module _ {K V : Type 0} (net : Network K V) (sound : IsNetwork net) (bad : K → Bool) where
   -- a round shows the same at a node where what it needs shows the same
   pub round_reads : (v w : K → V) (a : K) → (bad a ≡ false → (b : K) → net.needs a b ≡ true → v b ≡ w b) → round net bad v a ≡ round net bad w a
   round_reads v w a alike = ⊎_elim
-    (λ h. round-bad net bad v a h ∙ sym (round-bad net bad w a h))
-    (λ h. round-good net bad v a h ∙ sound.reads_needs a v w (alike h) ∙ sym (round-good net bad w a h))
-    (cases_Bool (bad a))
+      (λ h. round-bad net bad v a h ∙ sym (round-bad net bad w a h))
+      (λ h. round-good net bad v a h ∙ sound.reads_needs a v w (alike h) ∙ sym (round-good net bad w a h))
+      (cases_Bool (bad a))
 
   -- what unfolds on a set of nodes with all their needs is there what enough rounds give, from any start
   unfolding_is_rounds : (Inside : K → Type 0) (shown start : K → V) → ((a b : K) → Inside a → net.needs a b ≡ true → Inside b) → ((a : K) → Inside a → shown a ≡ round net bad shown a) → (n : ℕ) (a : K) → Settled net bad n a → Inside a → shown a ≡ rounds net bad n start a
@@ -80,33 +80,33 @@ module _ {K V : Type 0} (net : Network K V) (sound : IsNetwork net) (bad : K →
   -- a formula that is met for the first time leaves fewer
   unvisited_falls : (a : K) (path : List K) → has net a path ≡ false → has net a net.formulas ≡ true → unvisited (a ∷ path) < unvisited path
   unvisited_falls a path new formula = passing_rises (λ x. not (has net x (a ∷ path))) (λ x. not (has net x path)) (net.same a) net.formulas
-    (λ x h. not_from_false (has net x path) (or_parts (net.same x a) (has net x path) (not-true (has net x (a ∷ path)) h)).1)
-    (λ x same. (not_from_true (has net x (a ∷ path)) (or_left (net.same x a) (has net x path) (subst (λ y. net.same y a ≡ true) (sound.same_equal a x same) (sound.same_self a))), not_from_false (has net x path) (subst (λ y. has net y path ≡ false) (sound.same_equal a x same) new)))
-    formula
+      (λ x h. not_from_false (has net x path) (or_parts (net.same x a) (has net x path) (not-true (has net x (a ∷ path)) h)).1)
+      (λ x same. (not_from_true (has net x (a ∷ path)) (or_left (net.same x a) (has net x path) (subst (λ y. net.same y a ≡ true) (sound.same_equal a x same) (sound.same_self a))), not_from_false (has net x path) (subst (λ y. has net y path ≡ false) (sound.same_equal a x same) new)))
+      formula
 
   -- the nodes of the path lead to what its last node needs
   path_grows : (a b : K) (path : List K) → ((x : K) → has net x path ≡ true → leads net (length path) x (a ∷ []) ≡ true) → net.needs a b ≡ true → (x : K) → has net x (a ∷ path) ≡ true → leads net (suc (length path)) x (b ∷ []) ≡ true
   path_grows a b path above need x h = ⊎_elim
-    (λ same. leads_at_once net (length path) x (b ∷ []) (or_left (net.needs x b) false (subst (λ y. net.needs y b ≡ true) (sym (sound.same_equal x a same)) need)))
-    (λ inside. leads_further net sound (length path) x a b (above x inside) need)
-    (or_cases (net.same x a) (has net x path) h)
+      (λ same. leads_at_once net (length path) x (b ∷ []) (or_left (net.needs x b) false (subst (λ y. net.needs y b ≡ true) (sym (sound.same_equal x a same)) need)))
+      (λ inside. leads_further net sound (length path) x a b (above x inside) need)
+      (or_cases (net.same x a) (has net x path) h)
 
   -- at the end of a path of needs: a node met again is on a cycle, one without a formula needs nothing
   settled_at_end : (n : ℕ) (a : K) (path : List K) → ((x : K) → has net x path ≡ true → leads net (length path) x (a ∷ []) ≡ true) → unvisited path + length path ≤ length net.formulas → (unvisited (a ∷ path) < unvisited path → (b : K) → net.needs a b ≡ true → Settled net bad n b) → Settled net bad (suc n) a
   unfolding Settled
   settled_at_end n a path above within on = ⊎_elim
-    (λ again. inl (covers a (leads_within net (length net.formulas) (length path) a (a ∷ []) (omega (arith, within)) (above a again))))
-    (λ new. ⊎_elim
+      (λ again. inl (covers a (leads_within net (length net.formulas) (length path) a (a ∷ []) (omega (arith, within)) (above a again))))
+      (λ new. ⊎_elim
       (λ formula. inr (on (unvisited_falls a path new formula)))
       (λ plain. inr λ b need. absurd (false≢true (sym plain ∙ sound.needs_formula a b need)))
       (cases_Bool (has net a net.formulas)))
-    (cases_Bool (has net a path))
+      (cases_Bool (has net a path))
 
   -- down a path of needs: where at most n formulas are not met yet, n + 1 rounds settle its last node
   settled_below : (n : ℕ) (a : K) (path : List K) → ((x : K) → has net x path ≡ true → leads net (length path) x (a ∷ []) ≡ true) → unvisited path ≤ n → unvisited path + length path ≤ length net.formulas → Settled net bad (suc n) a
   settled_below zero a path above few within = settled_at_end zero a path above within (λ falls. absurd (omega (arith, few, falls)))
   settled_below (suc n) a path above few within = settled_at_end (suc n) a path above within
-    (λ falls b need. settled_below n b (a ∷ path) (path_grows a b path above need) (omega (arith, few, falls)) (omega (arith, within, falls)))
+      (λ falls b need. settled_below n b (a ∷ path) (path_grows a b path above need) (omega (arith, few, falls)) (omega (arith, within, falls)))
 
   -- one round more than there are formulas settles every node
   settled : (a : K) → Settled net bad (suc (length net.formulas)) a
@@ -118,7 +118,7 @@ module _ {K V : Type 0} (net : Network K V) (sound : IsNetwork net) (bad : K →
   -- a good node shows what it works out from what the others show, a bad one a cycle's value
   pub unfolds : Unfolds net bad
   unfolds a = start_is_lost net sound bad (λ _. net.cycle) (round net bad (λ _. net.cycle)) (suc (length net.formulas)) a (settled a)
-    ∙ ap (λ f. f a) (round_before_is_after net sound bad (suc (length net.formulas)) (λ _. net.cycle))
+      ∙ ap (λ f. f a) (round_before_is_after net sound bad (suc (length net.formulas)) (λ _. net.cycle))
 
   -- what unfolds on a set of nodes with all their needs shows the values there
   pub unique_on : (Inside : K → Type 0) (shown : K → V) → ((a b : K) → Inside a → net.needs a b ≡ true → Inside b) → ((a : K) → Inside a → shown a ≡ round net bad shown a) → (a : K) → Inside a → shown a ≡ value net bad a

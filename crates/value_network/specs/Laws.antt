@@ -1,5 +1,5 @@
 -- What holds of the values of a network, said of one network so that a contract can cite it. Source: this project's own.
-use Rattle.std.specs.Prelude.{◌≡◌, ◌<◌, ◌⊎◌, ◌↔◌, ℕ, Bool, true, false, List, [], ◌∷◌, length}
+use Rattle.std.specs.Prelude.{◌≡◌, ◌<◌, ◌⊎◌, ◌↔◌, ℕ, Bool, true, false, List, length}
 use Rattle.value_network.specs.Network.{Network, IsNetwork, leads, cyclic, stuck, round, rounds, value}
 
 -- following needs from the first node, one or more, comes to the second

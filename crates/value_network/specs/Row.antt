@@ -1,5 +1,5 @@
 -- A row of numbers, and of sums of the slots before them, as a network. Source: this project's own.
-use Rattle.std.specs.Prelude.{◌≡◌, ◌+◌, ◌%◌, ◌^◌, ◌&&◌, ◌||◌, ℕ, Bool, true, false, List, map, length, nat_eq, nat_lt, slice_index_or, if◌then◌else◌}
+use Rattle.std.specs.Prelude.{◌+◌, ◌%◌, ◌^◌, ◌&&◌, ◌||◌, ℕ, Bool, false, List, map, length, nat_eq, nat_lt, slice_index_or, if◌then◌else◌}
 use Rattle.std.specs.List.{range_with_len}
 use Rattle.value_network.specs.declared.row.Slot.{Slot}
 use Rattle.value_network.specs.declared.row.Slot.TheVariants.{Number, Sum}

@@ -19,7 +19,7 @@ pub enum Slot {
 fn number_at(numbers: &[u32], place: usize) -> u32
     ensures { result ≡ number_before (λ at. slice_index numbers.now at) (length numbers.now) place }
 {
-    if place < numbers.len() { numbers[place] } else { 0 }
+    numbers.get(place).copied().unwrap_or(0)
 }
 
 /// The number of the slot that comes after those whose numbers are given.
