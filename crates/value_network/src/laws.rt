@@ -1,7 +1,7 @@
 //! What holds of every network: laws, with nothing to run. They are stated where nodes and values
 //! are numbers; the lemmas behind them hold of nodes and values of any type.
 
-ghost use Rattle.value_network.specs.Laws.{AtNumbers, WhateverIsBad, Unfolds, IsUnique, Settles, WorksInPlace, HasShortChains, CyclesReturn, StuckLeadsToCycle, StuckSpreads, CyclicIsStuck, RanksForbidCycles, OrdersForbidCycles};
+ghost use Rattle.value_network.specs.Laws.{AtNumbers, WhateverIsBad, Unfolds, IsUnique, Settles, WorksInPlace, HasShortChains, CyclesReturn, StuckLeadsToCycle, StuckSpreads, FreeNeedsFree, CyclicIsStuck, RanksForbidCycles, OrdersForbidCycles};
 
 /// A good node shows what it works out from what the others show, a bad one a cycle's value.
 pub fn values_unfold()
@@ -41,6 +41,11 @@ pub fn stuck_leads_to_cycle()
 /// What needs a stuck node is stuck.
 pub fn stuck_spreads()
     ensures { AtNumbers StuckSpreads }
+{}
+
+/// A node that is not stuck needs no stuck node.
+pub fn free_needs_free()
+    ensures { AtNumbers FreeNeedsFree }
 {}
 
 /// A node on a cycle is stuck, so the stuck nodes may be taken as the bad ones.
