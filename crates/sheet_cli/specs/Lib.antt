@@ -1,2 +1,9 @@
+pub mod Command
+pub mod Content
+pub mod Formula
 pub mod Outside
 pub mod Records
+pub mod Run
+pub mod Session
+pub mod Values
+pub mod Workbook
