@@ -1,3 +1,4 @@
 pub mod Fields
+pub mod Books
 pub mod RecordSteps
 pub mod StreamFacts
