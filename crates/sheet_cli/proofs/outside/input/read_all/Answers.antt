@@ -1,5 +1,5 @@
 -- Where memory runs out, the bytes of the last read are taken too.
-use Rattle.std.proofs.Common.{◌≤◌, ◌+◌, ◌++◌, length, take, arith, length-append}
+use Rattle.std.proofs.Common.{◌++◌, take, arith, length-append}
 use Rattle.std.proofs.lemmas.List.{length-take}
 use Rattle.sheet_cli.proofs.StreamFacts.{consumes-more}
 use Rattle.sheet_cli.proofs.outside.input.read_all.Goals as goal
