@@ -1,0 +1,4 @@
+//! The command line of the workbook engine.
+#![tactic(auto)]
+
+pub mod formula;
