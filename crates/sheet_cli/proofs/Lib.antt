@@ -1,0 +1,3 @@
+pub mod FormulaParts
+pub mod FormulaTerms
+pub mod FormulaSums
