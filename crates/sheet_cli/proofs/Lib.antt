@@ -1,3 +1,5 @@
 pub mod FormulaParts
 pub mod FormulaTerms
 pub mod FormulaSums
+pub mod RecordSteps
+pub mod StreamFacts

@@ -1,2 +1,4 @@
 pub mod Formula
 pub mod FormulaLaws
+pub mod Outside
+pub mod Records

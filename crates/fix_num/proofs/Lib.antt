@@ -1,0 +1,4 @@
+pub mod Rounded
+pub mod Powers
+pub mod Decimals
+pub mod Magnitudes
