@@ -1,5 +1,6 @@
 pub mod FormulaParts
 pub mod FormulaTerms
 pub mod FormulaSums
+pub mod FormulaTrees
 pub mod RecordSteps
 pub mod StreamFacts
