@@ -1,7 +1,7 @@
 -- The parts of a text between its `+`. Serves the reading of formulas: a text is its parts joined again, and a
 -- text without `+` is one part.
-use Rattle.std.proofs.Common.{◌≡◌, ◌∙◌, sym, ap, refl, arith, ℕ, ◌+◌, Bool, true, false, not, cond, ◌&&◌, List, [], ◌∷◌, ◌++◌, length, append_assoc}
-use Rattle.std.specs.List.{list_all, slice_split, onto_first, join_with_byte}
+use Rattle.std.proofs.Common.{◌≡◌, ◌∙◌, sym, ap, refl, arith, ℕ, suc, ◌+◌, Bool, true, false, not, cond, ◌&&◌, ◌||◌, List, [], ◌∷◌, ◌++◌, take, drop}
+use Rattle.std.specs.List.{list_all, list_any, slice_split, onto_first, join_with_byte, position_or_len, before_first, after_first}
 use Rattle.std.proofs.lemmas.List.{append-nil}
 use Rattle.std.proofs.lemmas.List.Splits.{join_with_byte-slice_split}
 use Rattle.std.proofs.lemmas.Bool.{and_parts, not-true}
@@ -62,3 +62,24 @@ join_is_behind part (next ∷ rest) = ap (λ x. part ++ 43 ∷ x) (join_is_behin
 -- a text is its first part and the others behind it
 pub parts_join : (text part : List ℕ) (rest : List (List ℕ)) → parts text ≡ part ∷ rest → part ++ behind rest ≡ text
 parts_join text part rest e = sym (join_is_behind part rest) ∙ ap (join_with_byte 43) (sym e) ∙ join_with_byte-slice_split 43 text
+
+first_part_step : (b v : Bool) (c k : ℕ) (cs : List ℕ) (all more : List (List ℕ)) → all ≡ take k cs ∷ cond v more []
+    → cond b ([] ∷ all) (onto_first c all) ≡ take (cond (not b) (1 + k) 0) (c ∷ cs) ∷ cond (b || v) (cond b all more) []
+first_part_step true v c k cs all more e = refl
+first_part_step false v c k cs all more e =
+    let one : 1 + k ≡ suc k = omega arith in
+    rw (e, one) refl
+
+rest_step : (b : Bool) (c k : ℕ) (cs : List ℕ) → parts (drop (cond (not b) (1 + k) 0 + 1) (c ∷ cs)) ≡ cond b (parts cs) (parts (drop (k + 1) cs))
+rest_step true c k cs = refl
+rest_step false c k cs =
+    let two : 1 + k + 1 ≡ suc (k + 1) = omega arith in
+    rw two refl
+
+-- the first part of a text stands before its first `+`, and the others are the parts behind that
+pub parts_first : (text : List ℕ) → parts text ≡ before_first is_plus text ∷ cond (list_any is_plus text) (parts (after_first is_plus text)) []
+parts_first [] = refl
+parts_first (c ∷ cs) =
+    let k = position_or_len is_plus cs in
+    first_part_step (is_plus c) (list_any is_plus cs) c k cs (parts cs) (parts (drop (k + 1) cs)) (parts_first cs)
+    ∙ ap (λ x. take (cond (not (is_plus c)) (1 + k) 0) (c ∷ cs) ∷ cond (is_plus c || list_any is_plus cs) x []) (sym (rest_step (is_plus c) c k cs))

@@ -2,5 +2,6 @@ pub mod FormulaParts
 pub mod FormulaTerms
 pub mod FormulaSums
 pub mod FormulaTrees
+pub mod FormulaSteps
 pub mod RecordSteps
 pub mod StreamFacts

@@ -25,7 +25,14 @@ pub fn read_formula(alloc: Global, text: &str, home: Place) -> Result<Option<Pla
     ensures spelt { IfOk result (λ read. IfSome read (λ tree. Spells home text.now (seen tree))) }
     ensures none { IfOk result (λ read. IfNone read ((t : Term Corner) → ¬ Spells home text.now t)) }
 {
-    match text.as_bytes() {
+    read_tree(alloc, text.as_bytes(), home)
+}
+
+// The tree of a formula's bytes.
+fn read_tree(alloc: Global, text: &[u8], home: Place) -> Result<Option<Plain>, AllocError>
+    ensures { IfOk result (λ read. option_map seen read ≡ tree_of home text.now) }
+{
+    match text {
         [b'=', sum @ ..] => read_sum(alloc, sum, home),
         _ => Ok(None),
     }
