@@ -116,7 +116,7 @@ sum_with_whole : (w p q x r : ℕ) → 2 * p + q ≡ x * (2 * q) + r → 2 * (w 
 sum_with_whole w p q x r e = omega (arith, e)
 
 -- a whole number and a part are rounded by the part
-near_with_whole : (w p q : ℕ) → 0 < q → near (w * q + p) q ≡ w + near p q
+pub near_with_whole : (w p q : ℕ) → 0 < q → near (w * q + p) q ≡ w + near p q
 near_with_whole w p q h =
     let twice : 0 < 2 * q = omega arith in
     let parts : 2 * p + q ≡ near p q * (2 * q) + (2 * p + q) % (2 * q) = sym (div-add-mod' (2 * p + q) (2 * q)) in
@@ -126,7 +126,7 @@ near_with_whole w p q h =
 millions : (v t d : ℕ) → 1000000 * (v * t + d) ≡ 1000000 * v * t + 1000000 * d
 millions v t d = omega arith
 
-magnitude_of_parts : (cs : List ℕ) → magnitude cs ≡ 1000000 * value (whole cs) + near (1000000 * value (decimals cs)) (10 ^ length (decimals cs))
+pub magnitude_of_parts : (cs : List ℕ) → magnitude cs ≡ 1000000 * value (whole cs) + near (1000000 * value (decimals cs)) (10 ^ length (decimals cs))
 magnitude_of_parts cs =
     let v = value (whole cs) in
     let d = value (decimals cs) in
@@ -135,7 +135,7 @@ magnitude_of_parts cs =
     ∙ ap (λ n. near n t) (millions v t d)
     ∙ near_with_whole (1000000 * v) (1000000 * d) t (one-le-pow (length (decimals cs)) 10 (omega arith))
 
-unsigned_abs-signed : (b : Bool) (n : ℕ) → unsigned_abs (signed b n) ≡ n
+pub unsigned_abs-signed : (b : Bool) (n : ℕ) → unsigned_abs (signed b n) ≡ n
 unsigned_abs-signed false n = refl
 unsigned_abs-signed true zero = refl
 unsigned_abs-signed true (suc n) = refl
