@@ -80,7 +80,8 @@ first_is_no_digit c n cs h =
     let e : 1 + n ≡ suc n = omega arith in
     rw e (and_left (is_digit c) (list_all is_digit (take n cs)) h)
 
-starts_no_number : (c : ℕ) (cs : List ℕ) → is_point c ≡ false → is_digit c ≡ false → is_unsigned (c ∷ cs) ≡ false
+-- a text that begins with neither a point nor a digit is no number without a sign
+pub starts_no_number : (c : ℕ) (cs : List ℕ) → is_point c ≡ false → is_digit c ≡ false → is_unsigned (c ∷ cs) ≡ false
 starts_no_number c cs p d =
     let k = prefix_len (λ x. not (is_point x)) cs in
     let w : list_all is_digit (take (cond (not (is_point c)) (1 + k) 0) (c ∷ cs)) ≡ false = rw p (first_is_no_digit c k cs d) in

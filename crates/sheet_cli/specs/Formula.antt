@@ -120,9 +120,13 @@ tree_of home (c ∷ sum) = if c == 61 then sum_of home MAX_LEVELS None (parts su
 
 -- The text of a tree.
 
+-- the letters of a column in capitals; a column outside a sheet has none
+abbrev pub column_capitals : ℕ → List ℕ
+column_capitals col = if nat_lt col COLS then column_letters col else []
+
 -- a corner as it is printed: the column in capitals, and the row counted from 1, each behind a `$` where it is fixed
 abbrev pub corner_text : Corner → List ℕ
-corner_text c = dollar c.col_fixed (column_letters c.at.col ++ dollar c.row_fixed (decimal (c.at.row + 1)))
+corner_text c = dollar c.col_fixed (column_capitals c.at.col ++ dollar c.row_fixed (decimal (c.at.row + 1)))
 
 -- the canonical text of a tree, without `=`
 abbrev pub text_of_tree : Term Corner → List ℕ
