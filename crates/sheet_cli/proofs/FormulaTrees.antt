@@ -9,7 +9,6 @@ use Rattle.formula_tree.specs.Seen.{seen}
 use Rattle.formula_tree.specs.declared.plain.Corner.{Corner}
 use Rattle.formula_tree.specs.declared.plain.Plain.{Plain}
 use Rattle.formula_tree.specs.declared.plain.Op.TheVariants.{Add}
-use Rattle.sheet_cli.specs.declared.formula.TheConstants.{MAX_LEVELS}
 use Rattle.sheet_cli.specs.Formula.{is_before, SpellsTerm, SpellsSum, Spells, term_of, sum_from, sum_of, parts, tree_of, same_place, mentions}
 use Rattle.sheet_cli.proofs.FormulaParts.{behind, parts_HasFirst, parts_join}
 use Rattle.sheet_cli.proofs.FormulaTerms.{term_is_spelt}
@@ -31,10 +30,10 @@ some_from : (b : Bool) (o : Option (Term Corner)) (t : Term Corner) → cond b o
 some_from true o t e = (refl, e)
 some_from false o t e = absurd (cc)
 
-sum_of_is_spelt : (home : Place) (sum : List ℕ) (t : Term Corner) → sum_of home MAX_LEVELS None (parts sum) ≡ Some t → SpellsSum home sum t × (depth_of t ≤ MAX_LEVELS)
+sum_of_is_spelt : (home : Place) (sum : List ℕ) (t : Term Corner) → sum_of home 64 None (parts sum) ≡ Some t → SpellsSum home sum t × (depth_of t ≤ 64)
 sum_of_is_spelt home sum t e =
-    let p = some_from (nat_le (length (parts sum)) MAX_LEVELS) (sum_from home None (parts sum)) t e in
-    let few = leb-true (length (parts sum)) MAX_LEVELS p.0 in
+    let p = some_from (nat_le (length (parts sum)) 64) (sum_from home None (parts sum)) t e in
+    let few = leb-true (length (parts sum)) 64 p.0 in
     let first = parts_HasFirst sum in
     let whole = whole_sum_is_spelt home first.0 first.1 t (ap (sum_from home None) (sym first.2) ∙ p.1) in
     let count = ap length first.2 in
@@ -45,7 +44,7 @@ sum_of_is_spelt home sum t e =
 pub tree_is_spelt : (home : Place) (text : List ℕ) (t : Term Corner) → tree_of home text ≡ Some t → Spells home text t
 tree_is_spelt home [] t e = absurd (cc)
 tree_is_spelt home (c ∷ sum) t e =
-    let p = some_from (c == 61) (sum_of home MAX_LEVELS None (parts sum)) t e in
+    let p = some_from (c == 61) (sum_of home 64 None (parts sum)) t e in
     let s = sum_of_is_spelt home sum t p.1 in
     (sum, ap (λ x. x ∷ sum) (eqb-true c 61 p.0), s.0, s.1)
 
@@ -57,8 +56,8 @@ pub tree_is_read : (home : Place) (text : List ℕ) (t : Term Corner) → Spells
 tree_is_read home text t s =
     let sum = s.0 in
     let read = sum_is_read home t sum s.2 in
-    let few : length (parts sum) ≤ MAX_LEVELS = omega (arith, read.1, s.3) in
-    ap (tree_of home) s.1 ∙ read_at_most (nat_le (length (parts sum)) MAX_LEVELS) (sum_from home None (parts sum)) t (le-leb (length (parts sum)) MAX_LEVELS few) read.0
+    let few : length (parts sum) ≤ 64 = omega (arith, read.1, s.3) in
+    ap (tree_of home) s.1 ∙ read_at_most (nat_le (length (parts sum)) 64) (sum_from home None (parts sum)) t (le-leb (length (parts sum)) 64 few) read.0
 
 -- no text spells two trees
 pub one_tree : (home : Place) (text : List ℕ) (t u : Term Corner) → Spells home text t → Spells home text u → t ≡ u

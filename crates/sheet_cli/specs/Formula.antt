@@ -12,7 +12,6 @@ use Rattle.formula_tree.specs.Term.{Term, number, cell, binary, depth_of}
 use Rattle.formula_tree.specs.declared.plain.Corner.{Corner}
 use Rattle.formula_tree.specs.declared.plain.Op.{Op}
 use Rattle.formula_tree.specs.declared.plain.Op.TheVariants.{Add}
-use Rattle.sheet_cli.specs.declared.formula.TheConstants.{MAX_LEVELS}
 
 -- What a text spells.
 
@@ -51,7 +50,7 @@ SpellsSum home text (binary Add l r) = (front back : List ℕ) × (text ≡ fron
 
 -- a text spells the tree of a formula: `=`, and a sum of at most 64 levels
 abbrev pub Spells : Place → List ℕ → Term Corner → Type 0
-Spells home text t = (sum : List ℕ) × (text ≡ 61 ∷ sum) × SpellsSum home sum t × (depth_of t ≤ MAX_LEVELS)
+Spells home text t = (sum : List ℕ) × (text ≡ 61 ∷ sum) × SpellsSum home sum t × (depth_of t ≤ 64)
 
 -- The tree of a text.
 
@@ -116,7 +115,7 @@ sum_of home most left all = if nat_le (length all) most then sum_from home left 
 -- the tree of a formula's text, if it has one
 abbrev pub tree_of : Place → List ℕ → Option (Term Corner)
 tree_of home [] = None
-tree_of home (c ∷ sum) = if c == 61 then sum_of home MAX_LEVELS None (parts sum) else None
+tree_of home (c ∷ sum) = if c == 61 then sum_of home 64 None (parts sum) else None
 
 -- The text of a tree.
 

@@ -6,9 +6,12 @@ mod laws;
 mod print;
 mod read;
 
-pub use laws::{formulas_are_read, formulas_refer_back, no_text_spells_two};
+pub use laws::{canonical_text_spells, formulas_are_read, formulas_refer_back, no_text_spells_two};
 pub use print::formula_text;
 pub use read::read_formula;
 
 /// How many levels the tree of a formula may have. This project's own limit.
 pub const MAX_LEVELS: u32 = 64;
+
+#[cfg(test)]
+mod tests;

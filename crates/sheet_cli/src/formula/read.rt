@@ -40,7 +40,7 @@ fn read_tree(alloc: Global, text: &[u8], home: Place) -> Result<Option<Plain>, A
 
 // The tree of a sum of at most 64 terms.
 fn read_sum(alloc: Global, sum: &[u8], home: Place) -> Result<Option<Plain>, AllocError>
-    ensures { IfOk result (λ read. option_map seen read ≡ sum_of home MAX_LEVELS None (parts sum.now)) }
+    ensures { IfOk result (λ read. option_map seen read ≡ sum_of home 64 None (parts sum.now)) }
 {
     let mut left = None;
     let mut rest = sum;
