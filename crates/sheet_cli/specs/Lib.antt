@@ -1,6 +1,7 @@
 pub mod Command
 pub mod Content
 pub mod Formula
+pub mod FormulaLaws
 pub mod Outside
 pub mod Records
 pub mod Run
