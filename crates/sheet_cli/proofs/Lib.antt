@@ -1,3 +1,4 @@
+pub mod Outcomes
 pub mod Fields
 pub mod Books
 pub mod FormulaParts

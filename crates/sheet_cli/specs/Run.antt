@@ -1,5 +1,5 @@
 -- The whole output and status of a run, from its words and the bytes of its script. Source: this project's own.
-use Rattle.std.specs.Prelude.{◌≡◌, ◌≢◌, ◌≤◌, ◌⊎◌, ◌+◌, ◌++◌, if◌then◌else◌, nat_lt, ℕ, Bool, List, [], ◌∷◌, length, drop, map, Option, Some, None, Result, Ok, Err, codes, ⊤}
+use Rattle.std.specs.Prelude.{◌≡◌, ◌⊎◌, ◌+◌, ◌++◌, if◌then◌else◌, nat_lt, ℕ, Bool, true, false, List, [], ◌∷◌, length, drop, Option, Some, None, Result, Ok, Err, codes, ⊤}
 use Rattle.std.specs.Fmt.{decimal}
 use Rattle.std.specs.FinMap as map
 use Rattle.std.specs.Io.KnownBytes.{Appends}
@@ -30,9 +30,13 @@ cause_text FieldCount = codes "field count"
 cause_text (BadField j) = codes "bad field " ++ decimal j
 cause_text NoMemory = codes "out of memory"
 
--- the last line of a run whose record of this number, counted from 1, is no command
+-- what a run says of a record that is no command; records are counted from 1
+abbrev pub record_text : ℕ → ScriptError → List ℕ
+record_text k e = (codes "record " ++ decimal k ++ codes ": ") ++ cause_text e
+
+-- the last line of a run whose record of this number is no command
 abbrev pub record_line : ℕ → ScriptError → List ℕ
-record_line k e = line_of ((codes "record " ++ decimal k ++ codes ": ") ++ cause_text e)
+record_line k e = line_of (record_text k e)
 
 -- what a record does: its reply and then the rest of the run, or the end of the run where it is no command
 abbrev pub outcome_of : Book → ℕ → Result Command ScriptError → (Book → Outcome) → Outcome

@@ -91,7 +91,7 @@ abbrev pub refusal_name : Refusal → List ℕ
 refusal_name Outside = codes "Outside"
 
 abbrev pub refused_text : Refusal → List ℕ
-refused_text r = codes "refused " ++ decimal (refusal_number r) ++ codes " " ++ refusal_name r
+refused_text r = (codes "refused " ++ decimal (refusal_number r) ++ codes " ") ++ refusal_name r
 
 abbrev pub answer_unless : Option Refusal → List ℕ → List ℕ
 answer_unless None text = text

@@ -1,5 +1,5 @@
 // The call that the program makes: the words and the script come in, lines and a status go out.
-ghost use Rattle.std.specs.Prelude.{◌≡◌, ◌≢◌, ◌<◌, ◌≤◌, ◌↔◌, ◌+◌, length, IfOk, OnOk, IsErrOf};
+ghost use Rattle.std.specs.Prelude.{◌≡◌, ◌≢◌, ◌⊎◌, ◌<◌, ◌≤◌, ◌↔◌, length, IfOk, OnOk, IsErrOf, string_bytes};
 ghost use Rattle.std.specs.Io.KnownBytes.{Appends};
 ghost use Rattle.csv.specs.Records.{fields_of};
 ghost use Rattle.sheet_cli.specs.Outside.{Rose};
@@ -7,12 +7,12 @@ ghost use Rattle.sheet_cli.specs.Command.{command_of};
 ghost use Rattle.sheet_cli.specs.Workbook.{book_of};
 ghost use Rattle.sheet_cli.specs.Values.{IsBackward};
 ghost use Rattle.sheet_cli.specs.Session.{line_of};
-ghost use Rattle.sheet_cli.specs.Run.{Did, IsStatus, PrintsFor, WasRead, outcome, outcome_from, script_outcome};
+ghost use Rattle.sheet_cli.specs.Run.{Did, IsEndStatus, IsStatus, PrintsFor, WasRead, cause_text, outcome, record_text, script_outcome};
 
 use crate::command::ScriptError;
 use crate::script::command;
 use crate::line::line;
-use crate::outside::{LoadError, Sink, Source, WriteError, read_all};
+use crate::outside::{LoadError, MAX_INPUT, Sink, Source, WriteError, read_all};
 use crate::records::Records;
 use crate::session::execute;
 use crate::workbook::Workbook;
@@ -146,7 +146,7 @@ fn run_script<O: Sink, L: Ledger>(
     out: &mut O,
     steps: &mut Steps<L>,
 ) -> Result<u8, Stop>
-    requires { length script.now ≤ 67108864 }
+    requires { length script.now ≤ MAX_INPUT }
     ensures output { IfOk result (λ status. Appends (O.taken out.old) (O.taken out.new) (script_outcome script.now).0 × (status ≡ (script_outcome script.now).1)) }
     ensures no_read_fault { IsErrOf result Stop.ReadFault → ⊥ }
     ensures write_fault { IsErrOf result Stop.WriteFault → Rose (O.faults out.old) (O.faults out.new) }
@@ -187,10 +187,32 @@ fn run_record<O: Sink, L: Ledger>(
         }
         Err(ScriptError::NoMemory) => Err(Stop::NoMemory),
         Err(cause) => {
-            let text = format!(in alloc; "record {number}: {cause}")?;
+            let text = record_text(alloc, number, cause)?;
             print(alloc, out, text.as_str())?;
             Ok(true)
         }
+    }
+}
+
+/// What a run says of a record that is no command.
+fn record_text(alloc: Global, number: u64, cause: ScriptError) -> Result<String, AllocError>
+    ensures { IfOk result (λ text. string_bytes text ≡ record_text number cause) }
+{
+    let mut text = format!(in alloc; "record {number}: ")?;
+    let cause = cause_text(alloc, cause)?;
+    text.push_str(&cause)?;
+    Ok(text)
+}
+
+/// Why a record is no command.
+fn cause_text(alloc: Global, cause: ScriptError) -> Result<String, AllocError>
+    ensures { IfOk result (λ text. string_bytes text ≡ cause_text cause) }
+{
+    match cause {
+        ScriptError::UnknownCommand => String::from_str(alloc, "unknown command"),
+        ScriptError::FieldCount => String::from_str(alloc, "field count"),
+        ScriptError::BadField(field) => format!(in alloc; "bad field {field}"),
+        ScriptError::NoMemory => String::from_str(alloc, "out of memory"),
     }
 }
 

@@ -140,7 +140,7 @@ fn refused(alloc: Global, refusal: Refusal) -> Result<Vec<u8>, AllocError>
     ensures { IfOk result (λ line. line.items ≡ line_of (refused_text refusal)) }
 {
     let number = refusal.number();
-    let name = refusal.name();
-    let text = format!(in alloc; "refused {number} {name}")?;
+    let mut text = format!(in alloc; "refused {number} ")?;
+    text.push_str(refusal.name())?;
     line(alloc, text.as_str())
 }
