@@ -7,5 +7,8 @@ pub mod FormulaSums
 pub mod FormulaTrees
 pub mod FormulaSteps
 pub mod FormulaTexts
+pub mod BackwardBooks
+pub mod Books
+pub mod KeptValues
 pub mod RecordSteps
 pub mod StreamFacts

@@ -6,5 +6,6 @@ pub mod Outside
 pub mod Records
 pub mod Run
 pub mod Session
+pub mod Shown
 pub mod Values
 pub mod Workbook

@@ -1,6 +1,8 @@
 -- What the cells of a workbook show. Source: OpenFormula for the sum, this project's own for the rest.
 use Rattle.std.specs.Prelude.{◌≡◌, ◌==◌, ◌&&◌, ◌||◌, ◌+ℤ◌, ℤ, ℕ, Bool, true, false, List, [], ◌∷◌, nat_lt, filter, map, Option, Some, None, Result, Ok, Err}
 use Rattle.std.specs.FinMap as map
+use Rattle.std.specs.declared.cmp.Ordering.TheVariants.{Less}
+use Rattle.cell_addr.specs.Order.{place_cmp}
 use Rattle.cell_addr.specs.declared.place.Place.{Place}
 use Rattle.cell_value.specs.declared.scalar.Scalar.{Scalar}
 use Rattle.cell_value.specs.declared.scalar.Scalar.TheVariants as scalar
@@ -15,7 +17,7 @@ use Rattle.formula_tree.specs.declared.plain.Corner.{Corner}
 use Rattle.value_network.specs.Network.{Network, value}
 use Rattle.sheet_cli.specs.Workbook.{Content, Book}
 use Rattle.sheet_cli.specs.Workbook as content
-use Rattle.sheet_cli.specs.Formula.{mentions, is_before}
+use Rattle.sheet_cli.specs.Formula.{mentions}
 
 -- the sum of two numbers, where both are numbers; the fault of the left one first
 abbrev pub sum_of : Result ℤ FaultKind → Result ℤ FaultKind → Scalar
@@ -73,6 +75,6 @@ network b = record {
 abbrev pub value_at : Book → Place → Scalar
 value_at b = value (network b) (λ _. false)
 
--- every formula of a book refers to earlier places alone
+-- every formula of a book refers to earlier places alone, in the order of places
 abbrev pub IsBackward : Book → Type 0
-IsBackward b = (p q : Place) → needs_place (map.get b p) q ≡ true → is_before q p ≡ true
+IsBackward b = (p q : Place) → needs_place (map.get b p) q ≡ true → place_cmp q p ≡ Less

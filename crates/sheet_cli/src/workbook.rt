@@ -47,6 +47,13 @@ impl Workbook {
         self.cells.get(&at)
     }
 
+    /// The filled cells, in the order of their places.
+    pub fn cells(&self) -> &BTreeMap<Place, Cell>
+        ensures { result.now ≡ self.now.cells }
+    {
+        &self.cells
+    }
+
     /// Fills the cell, in place of what it held.
     pub fn put(&mut self, at: Place, cell: Cell) -> Result<(), AllocError>
         ensures ok { OnOk result (book_of self.new ≡ map.insert (book_of self.old) at (content cell)) }
