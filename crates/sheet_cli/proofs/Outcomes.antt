@@ -1,14 +1,22 @@
 -- A run over the records of a script, one record at a time: what the call of the program promises rests on this.
-use Rattle.std.proofs.Common.{◌≡◌, ◌∙◌, sym, ap, refl, arith, ℕ, ◌+◌, ◌<◌, ◌≤◌, Bool, true, false, List, [], ◌∷◌, ◌++◌, length, Option, Some, None, Result, Ok, Err, append_assoc}
+use Rattle.std.proofs.Common.{◌≡◌, ◌∙◌, sym, ap, subst, refl, arith, ℕ, zero, suc, ◌+◌, ◌<◌, ◌≤◌, nat_lt, Bool, true, false, cond, List, [], ◌∷◌, ◌++◌, length, Option, Some, None, Result, Ok, Err, append_assoc}
 use Rattle.std.specs.Prelude.{⊤}
+use Rattle.std.proofs.lemmas.Bool.Decides.{nat_tests}
 use Rattle.std.proofs.lemmas.List.{append-nil}
+use Rattle.std.specs.FinMap as map
+use Rattle.csv.specs.declared.parser.State.{State}
+use Rattle.csv.specs.declared.parser.State.TheVariants as st
+use Rattle.csv.specs.Machine.{Read, next_record}
+use Rattle.csv.specs.Reading.{records, records_from, records_next, default_config, strip_bom, is_bom}
 use Rattle.std.specs.Io.KnownBytes.{Appends}
 use Rattle.sheet_cli.specs.declared.command.Command.{Command}
 use Rattle.sheet_cli.specs.declared.command.ScriptError.{ScriptError}
 use Rattle.sheet_cli.specs.Command.{command_of}
 use Rattle.sheet_cli.specs.Workbook.{Book}
 use Rattle.sheet_cli.specs.Session.{next, reply}
-use Rattle.sheet_cli.specs.Run.{Did, Outcome, outcome_of, outcome_from, behind, record_line}
+use Rattle.sheet_cli.specs.Values.{IsBackward}
+use Rattle.sheet_cli.specs.Run.{Did, Outcome, outcome_of, outcome_from, behind, record_line, script_outcome}
+use Rattle.sheet_cli.proofs.NextBooks.{next_is_backward}
 
 -- what was taken since an old moment, and then the rest, is the whole
 abbrev pub Completes : Option (List ℕ) → Option (List ℕ) → List ℕ → List ℕ → Type 0
@@ -60,3 +68,64 @@ pub outcome-ends : (said : Result Command ScriptError) (k : ℕ) (before after :
     → (line : List ℕ) × Appends old new line × (outcome_of before k said rest ≡ (line, 3))
 outcome-ends (Ok command) k before after old new rest did = absurd did
 outcome-ends (Err e) k before after old new rest did = (record_line k e, did, refl)
+
+-- a command keeps every formula referring to earlier places
+pub stays_backward : (said : Result Command ScriptError) (k : ℕ) (before after : Book) (old new : Option (List ℕ)) → Did said k false before after old new → IsBackward before → IsBackward after
+stays_backward (Ok command) k before after old new did backward = let P : Book → Type 0 = IsBackward in subst P (sym did.1) (next_is_backward command before backward)
+stays_backward (Err e) k before after old new did backward = absurd did
+
+-- a record that doesn't end the run: what was written and the rest still make the whole
+pub goes_on : (old now new : Option (List ℕ)) (before after : Book) (k : ℕ) (left rest : List (List (List ℕ))) (fields : List (List ℕ)) (whole : Outcome) → left ≡ fields ∷ rest → Did (command_of fields) k false before after now new
+    → Completes old now (outcome_from before k left).0 whole.0 → (outcome_from before k left).1 ≡ whole.1
+    → Completes old new (outcome_from after (k + 1) rest).0 whole.0 × ((outcome_from after (k + 1) rest).1 ≡ whole.1)
+goes_on old now new before after k left rest fields whole is did written status =
+    let g = outcome-goes (command_of fields) k before after now new (λ b. outcome_from b (k + 1) rest) did in
+    let e : outcome_from before k left ≡ behind g.0 (outcome_from after (k + 1) rest) = ap (λ l. outcome_from before k l) is ∙ outcome-more before k fields rest ∙ g.2 in
+    let P : Outcome → Type 0 = λ o. Completes old now o.0 whole.0 in
+    (completes-write old now new g.0 (outcome_from after (k + 1) rest).0 whole.0 (subst P e written) g.1, sym (ap (λ (o : Outcome). o.1) e) ∙ status)
+
+-- a record that is no command: what was written is the whole
+pub stops : (old now new : Option (List ℕ)) (before after : Book) (k : ℕ) (left rest : List (List (List ℕ))) (fields : List (List ℕ)) (whole : Outcome) → left ≡ fields ∷ rest → Did (command_of fields) k true before after now new
+    → Completes old now (outcome_from before k left).0 whole.0 → (outcome_from before k left).1 ≡ whole.1
+    → Appends old new whole.0 × (3 ≡ whole.1)
+stops old now new before after k left rest fields whole is did written status =
+    let g = outcome-ends (command_of fields) k before after now new (λ b. outcome_from b (k + 1) rest) did in
+    let e : outcome_from before k left ≡ (g.0, 3) = ap (λ l. outcome_from before k l) is ∙ outcome-more before k fields rest ∙ g.2 in
+    let P : Outcome → Type 0 = λ o. Completes old now o.0 whole.0 in
+    (completes-last old now new g.0 whole.0 (subst P e written) g.1, sym (ap (λ (o : Outcome). o.1) e) ∙ status)
+
+-- no record is left: what was written is the whole
+pub ends : (old now : Option (List ℕ)) (book : Book) (k : ℕ) (left : List (List (List ℕ))) (whole : Outcome) → left ≡ [] → Completes old now (outcome_from book k left).0 whole.0 → (outcome_from book k left).1 ≡ whole.1
+    → Appends old now whole.0 × (0 ≡ whole.1)
+ends old now book k left whole is written status =
+    let e : outcome_from book k left ≡ ([], 0) = ap (λ l. outcome_from book k l) is ∙ outcome-none book k in
+    let P : Outcome → Type 0 = λ o. Completes old now o.0 whole.0 in
+    (completes-end old now whole.0 (subst P e written), sym (ap (λ (o : Outcome). o.1) e) ∙ status)
+
+-- a script that isn't too long is answered by its records
+pub short_script : (bytes : List ℕ) → length bytes ≤ 67108864 → script_outcome bytes ≡ outcome_from map.empty 1 (records default_config (strip_bom bytes))
+short_script bytes short = let e : nat_lt 67108864 (length bytes) ≡ false = grind (arith, nat_tests) in rw e refl
+
+long_next : (n : ℕ) (next : Option Read) → ((p : Read) → length (records_from default_config n p.1 p.2) ≤ n) → length (records_next (records_from default_config n) next) ≤ suc n
+long_next n None h = omega arith
+long_next n (Some p) h = let l = h p in omega arith
+
+bom-shorter : (b : Bool) (a c d : ℕ) (rest : List ℕ) → length (cond b rest (a ∷ c ∷ d ∷ rest)) ≤ length (a ∷ c ∷ d ∷ rest)
+bom-shorter true a c d rest = omega arith
+bom-shorter false a c d rest = omega arith
+
+no_longer : (bytes : List ℕ) → length (strip_bom bytes) ≤ length bytes
+unfolding strip_bom
+no_longer [] = omega arith
+no_longer (a ∷ []) = omega arith
+no_longer (a ∷ c ∷ []) = omega arith
+no_longer (a ∷ c ∷ d ∷ rest) = bom-shorter (is_bom a c d) a c d rest
+
+long_from : (n : ℕ) (s : State) (xs : List ℕ) → length (records_from default_config n s xs) ≤ n
+unfolding records_from
+long_from zero s xs = omega arith
+long_from (suc n) s xs = long_next n (next_record default_config s [] [] xs) (λ p. long_from n p.1 p.2)
+
+-- a text has no more records than bytes, and one
+pub few_records : (bytes : List ℕ) → length (records default_config (strip_bom bytes)) ≤ length bytes + 1
+few_records bytes = let l = long_from (length (strip_bom bytes) + 1) st.StartRecord (strip_bom bytes) in omega (arith, no_longer bytes)
