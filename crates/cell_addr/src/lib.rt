@@ -5,6 +5,7 @@
 #![tactic(auto)]
 
 mod address;
+mod laws;
 mod place;
 mod print;
 mod sheet_name;
@@ -13,6 +14,9 @@ mod spot;
 mod text;
 
 pub use address::{read_address, read_area, read_column, read_place, read_row};
+pub use laws::{
+    addresses_are_read, columns_are_read_back, columns_differ, found_sheets_are_listed, names_are_read, places_are_read_back, places_are_written, sheets_are_found,
+};
 pub use place::{Block, COLS, NO_SHEET, Place, ROWS};
 pub use print::{column_text, place_text};
 pub use sheet_name::{behind_quoted, is_bare_name, quoted_name};

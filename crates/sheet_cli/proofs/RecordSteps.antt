@@ -69,6 +69,7 @@ records_after-next s bytes = rw add-one (next (next_record default_config s [] [
     rest : (p : Read) → Shrinks bytes p → records_from default_config (length bytes) p.1 p.2 ≡ records_after p.1 p.2
     rest p (inl h) = enough default_config (length bytes) (length p.2 + 1) p.1 p.2 h (omega arith)
     rest p (inr h) = rw (h.0, h.1) (none-left default_config (length bytes) ∙ sym (none-left default_config 1))
+
     next : (r : Option Read) → ((p : Read) → r ≡ Some p → Shrinks bytes p) → records_next (records_from default_config (length bytes)) r ≡ records_next records_after r
     next None shorter = refl
     next (Some p) shorter = ap (λ t. p.0 ∷ t) (rest p (shorter p refl))

@@ -1,5 +1,5 @@
 -- One call after another: what they did to the bytes that a stream tells. It serves the loops that read and write, and what a run's output is.
-use Rattle.std.proofs.Common.{◌≡◌, ◌+◌, ◌∙◌, ℕ, List, [], ◌++◌, take, drop, Option, Some, None, sym, refl, ap, append_assoc}
+use Rattle.std.proofs.Common.{◌+◌, ◌∙◌, ℕ, List, [], ◌++◌, take, drop, Option, Some, None, sym, refl, ap, append_assoc}
 use Rattle.std.proofs.lemmas.List.{append-nil}
 use Rattle.std.proofs.Math.Seq.{take-add}
 use Rattle.std.specs.Io.KnownBytes.{Appends, Consumes}

@@ -1,6 +1,8 @@
 -- What a record of a script says. Source: this project's own.
-use Rattle.std.specs.Prelude.{◌≡◌, ◌==◌, ◌&&◌, ◌+◌, if◌then◌else◌, Bool, not, ℕ, List, [], ◌∷◌, length, slice_index_or, Option, Some, None, Result, Ok, Err, bytes_eq, codes, is_some, option_and_then, ⊤}
+use Rattle.std.specs.Prelude.{◌≡◌, ◌==◌, ◌&&◌, ◌+◌, if◌then◌else◌, Bool, not, ℕ, List, [], ◌∷◌, length, Option, Some, None, Result, Ok, Err, bytes_eq, codes, is_some, option_and_then, ⊤}
+use Rattle.std.specs.Option.{unwrap_or}
 use Rattle.std.specs.Str.{is_utf8}
+use Rattle.csv.specs.Records.{field_at}
 use Rattle.cell_addr.specs.Address.{spot_of}
 use Rattle.cell_addr.specs.declared.spot.Spot.{Spot}
 use Rattle.sheet_cli.specs.declared.command.Command.{Command}
@@ -49,9 +51,9 @@ abbrev pub place_command : (Spot → Command) → Option Spot → Result Command
 place_command make None = Err (BadField 1)
 place_command make (Some at) = Ok (make at)
 
--- the field of this number; the word has number 0
+-- the field of this number, where the word has number 0; no bytes where there is none
 abbrev pub field : List (List ℕ) → ℕ → List ℕ
-field fields j = slice_index_or fields j []
+field fields j = unwrap_or (field_at fields j) []
 
 -- the command of a word and the right number of fields
 abbrev pub command_with : Word → List (List ℕ) → Result Command ScriptError

@@ -13,6 +13,11 @@ counted n = min (n + 1) (2 ^ 64 - 1)
 abbrev pub Rose : ℕ → ℕ → Type 0
 Rose before now = counted before ≤ now
 
+-- a count of faults after a call: one more where the call failed
+abbrev pub faults_after : {T E : Type 0} → ℕ → Result T E → ℕ
+faults_after n (Ok x) = n
+faults_after n (Err e) = counted n
+
 -- known bytes grow by a part of bs, from its front
 abbrev pub AppendsPart : Option (List ℕ) → Option (List ℕ) → List ℕ → Type 0
 AppendsPart old new bs = (n : ℕ) × Appends old new (take n bs)

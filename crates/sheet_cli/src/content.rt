@@ -1,8 +1,10 @@
 // What the text given to a cell says.
 ghost use Rattle.std.specs.Prelude.{◌≡◌, IfOk};
-ghost use Rattle.sheet_cli.specs.Content.{content_of, word_content};
+ghost use Rattle.cell_value.specs.Scalar.{read_truth};
+ghost use Rattle.sheet_cli.specs.Content.{content_of, text_content, word_content};
 
 use cell_addr::Text;
+use cell_value::Scalar;
 use fix_num::Fixed;
 use std::alloc::{AllocError, Global};
 
@@ -41,14 +43,21 @@ pub fn read_content(alloc: Global, text: &str) -> Result<ContentText, AllocError
 
 /// What a text says that is no formula and no number.
 fn read_word(alloc: Global, text: &str) -> Result<ContentText, AllocError>
-    ensures { IfOk result (λ content. content ≡ word_content text.now) }
+    ensures { IfOk result (λ content. content ≡ word_content (read_truth text.now) text.now) }
 {
-    if text.eq_ignore_ascii_case("TRUE") {
-        return Ok(ContentText::Truth(true));
+    let word = Scalar::Text(Text::from_str(alloc, text)?);
+    match word.as_truth() {
+        Ok(truth) => Ok(ContentText::Truth(truth)),
+        Err(_) => read_text(alloc, text),
     }
-    if text.eq_ignore_ascii_case("FALSE") {
-        return Ok(ContentText::Truth(false));
+}
+
+/// The text behind an apostrophe in front, or the whole text.
+fn read_text(alloc: Global, text: &str) -> Result<ContentText, AllocError>
+    ensures { IfOk result (λ content. content ≡ text_content text.now) }
+{
+    match text.strip_prefix('\'') {
+        Some(rest) => Ok(ContentText::Text(Text::from_str(alloc, rest)?)),
+        None => Ok(ContentText::Text(Text::from_str(alloc, text)?)),
     }
-    let content = text.strip_prefix('\'').unwrap_or(text);
-    Ok(ContentText::Text(Text::from_str(alloc, content)?))
 }

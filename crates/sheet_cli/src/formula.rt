@@ -1,16 +1,17 @@
-ghost use Rattle.std.specs.Prelude.{◌≡◌, IfOk, option_map};
-ghost use Rattle.formula_tree.specs.Seen.{seen};
-ghost use Rattle.sheet_cli.specs.Formula.{tree_of, formula_text};
-use cell_addr::{Place, Text};
-use formula_tree::Plain;
-use std::alloc::{AllocError, Global};
-pub fn read_formula(alloc: Global, text: &str, home: Place) -> Result<Option<Plain>, AllocError>
-    ensures { IfOk result (λ o. option_map seen o ≡ tree_of home text.now) }
-{
-    Err(AllocError)
-}
-pub fn formula_text(alloc: Global, tree: &Plain) -> Result<Text, AllocError>
-    ensures { IfOk result (λ t. t ≡ formula_text (seen tree.now)) }
-{
-    Err(AllocError)
-}
+// Formulas of the first edition: `=`, and terms with `+` between them.
+//
+// [`read_formula`] gives the tree that a text spells, and [`formula_text`] the canonical text of a
+// tree. What holds of both stands in the laws.
+mod laws;
+mod print;
+mod read;
+
+pub use laws::{canonical_text_spells, formulas_are_read, formulas_refer_back, no_text_spells_two};
+pub use print::formula_text;
+pub use read::read_formula;
+
+/// How many levels the tree of a formula may have. This project's own limit.
+pub const MAX_LEVELS: u32 = 64;
+
+#[cfg(test)]
+mod tests;

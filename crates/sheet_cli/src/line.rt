@@ -10,7 +10,7 @@ pub fn line(alloc: Global, text: &str) -> Result<Vec<u8>, AllocError>
     ensures { IfOk result (λ line. line.items ≡ line_of text.now) }
 {
     let mut line = Vec::new(alloc);
-    for byte in text.as_bytes() {
+    'bytes: for byte in text.as_bytes() {
         match *byte {
             b'\\' => line.extend_from_slice(b"\\\\")?,
             b'\n' => line.extend_from_slice(b"\\n")?,

@@ -16,6 +16,8 @@ mod memory;
 mod sink;
 mod source;
 mod standard;
+#[cfg(test)]
+mod tests;
 
 pub use error::{Failed, LoadError, WriteError};
 pub use input::{MAX_INPUT, read_all};

@@ -1,7 +1,8 @@
 // How the records of a script say commands.
-ghost use Rattle.std.specs.Prelude.{◌≡◌, IfOk};
+ghost use Rattle.std.specs.Prelude.{◌≡◌, IfOk, option_and_then};
+ghost use Rattle.cell_addr.specs.Address.{spot_of};
 ghost use Rattle.csv.specs.Records.{fields_of};
-ghost use Rattle.sheet_cli.specs.Command.{Says, arguments_of, command_of, field, is_place, place_command, place_field, set_command, text_field, word_of};
+ghost use Rattle.sheet_cli.specs.Command.{Says, arguments_of, command_of, field, is_place, place_command, place_field, place_spot, set_command, text_field, word_of};
 ghost use Rattle.sheet_cli.specs.declared.command.Command.TheVariants as said;
 
 use crate::command::{Command, ScriptError};
@@ -70,7 +71,10 @@ pub fn command(alloc: Global, fields: &ByteRecord) -> Result<Command, ScriptErro
 fn argument(fields: &ByteRecord, number: usize) -> &[u8]
     ensures { result.now ≡ field (fields_of fields.now) number }
 {
-    fields.get(number).unwrap_or(b"")
+    match fields.get(number) {
+        Some(field) => field,
+        None => b"",
+    }
 }
 
 /// The command `set` of a place and a text.
@@ -110,11 +114,24 @@ fn formula(alloc: Global, place: &[u8]) -> Result<Command, ScriptError>
 fn read_spot(alloc: Global, field: &[u8]) -> Result<Option<Spot>, AllocError>
     ensures { IfOk result (λ spot. spot ≡ place_field field.now) }
 {
-    let Ok(text) = str::from_utf8(field) else {
-        return Ok(None);
-    };
+    match str::from_utf8(field) {
+        Ok(text) => read_plain_spot(alloc, text),
+        Err(_) => Ok(None),
+    }
+}
+
+/// The place that a text names.
+fn read_plain_spot(alloc: Global, text: &str) -> Result<Option<Spot>, AllocError>
+    ensures { IfOk result (λ spot. spot ≡ option_and_then place_spot (spot_of text.now)) }
+{
     match read_place(alloc, text) {
-        Ok(spot) => Ok(if is_place(&spot) { Some(spot) } else { None }),
+        Ok(spot) => {
+            if is_place(&spot) {
+                Ok(Some(spot))
+            } else {
+                Ok(None)
+            }
+        }
         Err(AddrError::NotAnAddress) => Ok(None),
         Err(AddrError::NoMemory) => Err(AllocError),
     }

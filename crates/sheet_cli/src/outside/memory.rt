@@ -76,7 +76,12 @@ impl Model for MemSource {
 
     ghost Value = { MemStream };
 
-    ghost view = { λ s. record { bytes = s.stream; fails = s.fails.items; calls = s.calls; faults = s.faults } };
+    ghost view = { λ s. record {
+      bytes = s.stream;
+      fails = s.fails.items;
+      calls = s.calls;
+      faults = s.faults;
+    } };
 }
 
 impl MemSource {
@@ -180,7 +185,12 @@ impl Model for MemSink {
 
     ghost Value = { MemStream };
 
-    ghost view = { λ s. record { bytes = s.stream; fails = s.fails.items; calls = s.calls; faults = s.faults } };
+    ghost view = { λ s. record {
+      bytes = s.stream;
+      fails = s.fails.items;
+      calls = s.calls;
+      faults = s.faults;
+    } };
 }
 
 impl MemSink {

@@ -1,7 +1,7 @@
 // The standard streams.
-ghost use Rattle.std.specs.Prelude.{◌≡◌, ◌<◌, ◌≤◌, if◌then◌else◌, take, length, IfOk, IsOkUnless, IsTrue, OnErr, OnOk, is_err};
+ghost use Rattle.std.specs.Prelude.{◌≡◌, ◌<◌, ◌≤◌, take, length, IfOk, IsOkUnless, IsTrue, OnErr, OnOk};
 ghost use Rattle.std.specs.Io.KnownBytes.{Appends, Consumes, IsAtEnd, Keeps};
-ghost use Rattle.sheet_cli.specs.Outside.{AppendsPart, counted};
+ghost use Rattle.sheet_cli.specs.Outside.{AppendsPart, faults_after};
 
 use super::error::{Failed, WriteError};
 use super::sink::Sink;
@@ -45,11 +45,12 @@ impl<R: Read> Source for StdSource<R> {
     fn read(&mut self, buf: &mut [u8]) -> Result<usize, Failed>
         requires { 0 < length buf.old }
         ensures bound { IfOk result (λ n. n ≤ length buf.old) }
-        ensures taken { IfOk result (λ n. Consumes (R.remaining self.old.stream) (R.remaining self.new.stream) (take n buf.new)) }
+        ensures taken { IfOk result (λ n.
+            Consumes (R.remaining self.old.stream) (R.remaining self.new.stream) (take n buf.new)) }
         ensures end { IfOk result (λ n. n ≡ 0 → IsAtEnd (R.remaining self.new.stream)) }
         ensures failed { OnErr result (Keeps (R.remaining self.old.stream) (R.remaining self.new.stream)) }
         ensures later { self.old.faults ≤ self.new.faults }
-        ensures count { self.new.faults ≡ (if is_err result then counted self.old.faults else self.old.faults) }
+        ensures count { self.new.faults ≡ faults_after self.old.faults result }
     {
         match self.reader.read(buf) {
             Ok(count) => Ok(count),
@@ -92,7 +93,8 @@ impl<'a, P: Print> StdSink<Printer<'a, P>> {
 impl<W: Write> StdSink<W> {
     // Writes all of `bytes`, and tells whether that was done.
     fn write_whole(&mut self, bytes: &[u8]) -> bool
-        ensures whole { IsTrue result → Appends (W.contents self.old.stream) (W.contents self.new.stream) bytes.now }
+        ensures whole { IsTrue result
+            → Appends (W.contents self.old.stream) (W.contents self.new.stream) bytes.now }
         ensures part { AppendsPart (W.contents self.old.stream) (W.contents self.new.stream) bytes.now }
         ensures faults { self.new.faults ≡ self.old.faults }
     {
@@ -113,11 +115,12 @@ impl<W: Write> Sink for StdSink<W> {
     ghost faults = { λ s. s.faults };
 
     fn write(&mut self, bytes: &[u8]) -> Result<(), WriteError>
-        ensures all { OnOk result (Appends (W.contents self.old.stream) (W.contents self.new.stream) bytes.now) }
+        ensures all { OnOk result
+            (Appends (W.contents self.old.stream) (W.contents self.new.stream) bytes.now) }
         ensures part { AppendsPart (W.contents self.old.stream) (W.contents self.new.stream) bytes.now }
         ensures cause { IsOkUnless result WriteError.Failed }
         ensures later { self.old.faults ≤ self.new.faults }
-        ensures count { self.new.faults ≡ (if is_err result then counted self.old.faults else self.old.faults) }
+        ensures count { self.new.faults ≡ faults_after self.old.faults result }
     {
         if self.write_whole(bytes) {
             return Ok(());
