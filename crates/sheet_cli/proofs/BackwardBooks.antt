@@ -1,6 +1,6 @@
 -- The cells of a book are a network, and where each formula refers to earlier places alone none is on a cycle: so
 -- a cell works out its value over those of the places before it. Serves what works the values out.
-use Rattle.std.proofs.Common.{◌≡◌, ◌∙◌, sym, ap, ap₂, refl, Bool, true, false, ◌&&◌, ◌||◌, cond, List, [], ◌∷◌, map, Option, Some, None, ⊎_elim, eqb-true, eq-eqb}
+use Rattle.std.proofs.Common.{◌≡◌, ◌∙◌, sym, ap, ap₂, refl, Bool, true, false, ◌&&◌, cond, List, [], ◌∷◌, map, Option, Some, None, ⊎_elim, eqb-true, eq-eqb}
 use Rattle.std.specs.List.{list_any, filter}
 use Rattle.std.specs.declared.cmp.Ordering.{Ordering}
 use Rattle.std.specs.declared.cmp.Ordering.TheVariants.{Less, Equal, Greater}
@@ -19,11 +19,11 @@ use Rattle.value_network.specs.Network.{IsNetwork}
 use Rattle.value_network.specs.Laws.{HasNoCycle, CoversCycles}
 use Rattle.value_network.proofs.Orders.{no_cycle_by_order}
 use Rattle.value_network.proofs.Stuck.{no_cycle_covers}
-use Rattle.value_network.proofs.Values.{works_in_place}
+use Rattle.value_network.proofs.Values.{works_in_place, unique_everywhere}
 use Rattle.sheet_cli.specs.Workbook.{Content, Book}
 use Rattle.sheet_cli.specs.Workbook as content
-use Rattle.sheet_cli.specs.Formula.{mentions}
-use Rattle.sheet_cli.specs.Values.{combined, meaning, worked_out, needs_place, same_place, is_formula, network, value_at, IsBackward}
+use Rattle.sheet_cli.specs.Formula.{mentions, same_place}
+use Rattle.sheet_cli.specs.Values.{combined, meaning, worked_out, needs_place, is_formula, network, value_at, IsBackward}
 
 all_three : (a b c : Bool) → (a && b && c) ≡ true → (a ≡ true) × (b ≡ true) × (c ≡ true)
 all_three true true true h = (refl, refl, refl)
@@ -34,7 +34,8 @@ all_three false b c h = absurd (false≢true h)
 three : (a b c : Bool) → a ≡ true → b ≡ true → c ≡ true → (a && b && c) ≡ true
 three a b c p q r = ap (λ x. x && b && c) p ∙ ap (λ x. true && x && c) q ∙ ap (λ x. true && true && x) r
 
-same_place_equal : (p q : Place) → same_place p q ≡ true → p ≡ q
+-- places that are one are equal
+pub same_place_equal : (p q : Place) → same_place p q ≡ true → p ≡ q
 same_place_equal p q h =
     let parts = all_three _ _ _ h in
     let sheet = eqb-true p.sheet q.sheet parts.0 in
@@ -99,9 +100,9 @@ listed : (es : List (Place × Content)) (p : Place) (c : Content) → find place
 listed [] p c found f = cc
 listed (e ∷ es) p c found f = ⊎_elim
     (λ (here : is_eq (place_cmp p e.0) ≡ true).
-      let first : Some e.1 ≡ Some c = sym (ap (λ b. cond b (Some e.1) (find place_cmp p es)) here) ∙ found in
-      let is : e.1 ≡ c = cc in
-      listed_first p e es (place_cmp-IsAntisymmetric p e.0 (equal (place_cmp p e.0) here)) (ap is_formula is ∙ f))
+    let first : Some e.1 ≡ Some c = sym (ap (λ b. cond b (Some e.1) (find place_cmp p es)) here) ∙ found in
+    let is : e.1 ≡ c = cc in
+    listed_first p e es (place_cmp-IsAntisymmetric p e.0 (equal (place_cmp p e.0) here)) (ap is_formula is ∙ f))
     (λ (there : is_eq (place_cmp p e.0) ≡ false). listed_later p e es (is_formula e.1) (listed es p c (sym (ap (λ b. cond b (Some e.1) (find place_cmp p es)) there) ∙ found) f))
     (cases_Bool (is_eq (place_cmp p e.0)))
 
@@ -126,6 +127,13 @@ covers b backward = no_cycle_covers (network b) (λ _. false) (book_has_no_cycle
 pub value_in_order : (b : Book) → IsBackward b → (p : Place) (shown : Place → Scalar) → ((q : Place) → place_cmp q p ≡ Less → shown q ≡ value_at b q) → worked_out shown (get b p) ≡ value_at b p
 value_in_order b backward p shown ready = works_in_place (network b) (book_is_network b) (λ _. false) (covers b backward) p shown refl (λ q need. ready q (backward p q need))
 
+-- each cell shows what it works out from what the others show, and nothing else does
+pub values_unfold : (b : Book) → IsBackward b → (p : Place) → value_at b p ≡ worked_out (value_at b) (get b p)
+values_unfold b backward p = sym (value_in_order b backward p (value_at b) (λ q _. refl))
+
+pub nothing_else_unfolds : (b : Book) → IsBackward b → (shown : Place → Scalar) → ((p : Place) → shown p ≡ worked_out shown (get b p)) → (p : Place) → shown p ≡ value_at b p
+nothing_else_unfolds b backward shown unfolds p = unique_everywhere (network b) (book_is_network b) (λ _. false) (covers b backward) shown unfolds p
+
 -- a cell without content shows nothing
 pub value_of_empty : (b : Book) → IsBackward b → (p : Place) → get b p ≡ None → value_at b p ≡ Empty
-value_of_empty b backward p none = sym (value_in_order b backward p (value_at b) (λ q _. refl)) ∙ ap (worked_out (value_at b)) none
+value_of_empty b backward p none = values_unfold b backward p ∙ ap (worked_out (value_at b)) none

@@ -7,12 +7,11 @@ use Rattle.std.specs.Ordering.{is_eq, ordering_reverse}
 use Rattle.std.specs.BTreeMap.{is_at}
 use Rattle.std.specs.List.{AllByRecursion}
 use Rattle.std.specs.List.Sorted.{IsStrictlySortedBy}
-use Rattle.std.specs.Map.{lookup, keys_of}
+use Rattle.std.specs.Map.{keys_of}
 use Rattle.std.specs.Option.{unwrap_or}
 use Rattle.std.specs.FinMap.{from_entries}
 use Rattle.std.proofs.lemmas.Bool.{false≢true}
 use Rattle.std.proofs.lemmas.Cmp.{tied_itself}
-use Rattle.std.proofs.lemmas.List.{append-nil}
 use Rattle.cell_addr.specs.Order.{place_cmp}
 use Rattle.cell_addr.specs.declared.place.Place.{Place}
 use Rattle.cell_addr.proofs.Places.{place_cmp-IsTotalOrder, place_cmp-IsAntisymmetric}
@@ -84,7 +83,7 @@ found_more [] rest e q sorted = ap (λ b. cond b (Some e.1) None) (either_way e.
 found_more (d ∷ done) rest e q sorted =
     ap (cond (is_at (place_cmp q) d.0) (Some d.1)) (found_more done rest e q sorted.1)
     ∙ apart (is_at (place_cmp q) d.0) (is_at (place_cmp e.0) q) (λ h k.
-      false≢true (sym (not_at_above e.0 d.0 (of_next (λ y. place_cmp d.0 y ≡ Less) done rest e sorted.0)) ∙ ap (λ y. is_at (place_cmp y) d.0) (place_cmp-IsAntisymmetric e.0 q (equal (place_cmp e.0 q) k)) ∙ h))
+    false≢true (sym (not_at_above e.0 d.0 (of_next (λ y. place_cmp d.0 y ≡ Less) done rest e sorted.0)) ∙ ap (λ y. is_at (place_cmp y) d.0) (place_cmp-IsAntisymmetric e.0 q (equal (place_cmp e.0 q) k)) ∙ h))
   where
     apart : (a b : Bool) → (a ≡ true → b ≡ true → ⊥) → cond a (Some d.1) (cond b (Some e.1) (cell_at done q)) ≡ cond b (Some e.1) (cond a (Some d.1) (cell_at done q))
     apart true true h = absurd (h refl refl)

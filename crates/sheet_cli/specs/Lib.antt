@@ -7,5 +7,6 @@ pub mod Records
 pub mod Run
 pub mod Session
 pub mod Shown
+pub mod ValueLaws
 pub mod Values
 pub mod Workbook

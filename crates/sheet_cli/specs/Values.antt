@@ -1,5 +1,5 @@
 -- What the cells of a workbook show. Source: OpenFormula for the sum, this project's own for the rest.
-use Rattle.std.specs.Prelude.{◌≡◌, ◌==◌, ◌&&◌, ◌||◌, ◌+ℤ◌, ℤ, ℕ, Bool, true, false, List, [], ◌∷◌, nat_lt, filter, map, Option, Some, None, Result, Ok, Err}
+use Rattle.std.specs.Prelude.{◌≡◌, ◌+ℤ◌, ℤ, Bool, true, false, List, filter, map, Option, Some, None, Result, Ok, Err}
 use Rattle.std.specs.FinMap as map
 use Rattle.std.specs.declared.cmp.Ordering.TheVariants.{Less}
 use Rattle.cell_addr.specs.Order.{place_cmp}
@@ -17,7 +17,7 @@ use Rattle.formula_tree.specs.declared.plain.Corner.{Corner}
 use Rattle.value_network.specs.Network.{Network, value}
 use Rattle.sheet_cli.specs.Workbook.{Content, Book}
 use Rattle.sheet_cli.specs.Workbook as content
-use Rattle.sheet_cli.specs.Formula.{mentions}
+use Rattle.sheet_cli.specs.Formula.{mentions, same_place}
 
 -- the sum of two numbers, where both are numbers; the fault of the left one first
 abbrev pub sum_of : Result ℤ FaultKind → Result ℤ FaultKind → Scalar
@@ -49,10 +49,6 @@ abbrev pub needs_place : Option Content → Place → Bool
 needs_place (Some (content.formula t)) p = mentions t p
 needs_place _ p = false
 
--- whether two places are one
-abbrev pub same_place : Place → Place → Bool
-same_place p q = (p.sheet == q.sheet) && (p.row == q.row) && (p.col == q.col)
-
 abbrev pub is_formula : Content → Bool
 is_formula (content.formula t) = true
 is_formula _ = false
@@ -68,7 +64,7 @@ network b = record {
   same = same_place;
   needs = λ p q. needs_place (map.get b p) q;
   own = λ shown p. worked_out shown (map.get b p);
-  cycle = scalar.Fault fault.Cycle
+  cycle = scalar.Fault fault.Cycle;
 }
 
 -- what a place of a book shows. No formula can be on a cycle yet, since each refers to earlier cells alone.

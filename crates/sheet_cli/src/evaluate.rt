@@ -1,4 +1,6 @@
 // What the cells of a workbook show.
+mod laws;
+
 ghost use Rattle.std.specs.Prelude.{◌≡◌, IfOk, OnOk, Some};
 ghost use Rattle.formula_tree.specs.Seen.{seen};
 ghost use Rattle.cell_value.specs.Scalar.{to_number};
@@ -10,6 +12,7 @@ use crate::workbook::{Cell, Workbook};
 use cell_addr::Place;
 use cell_value::{FaultKind, Scalar};
 use formula_tree::{Op, Plain};
+pub use laws::{formulas_stay_backward, nothing_else_unfolds, values_unfold};
 use std::alloc::{AllocError, Global};
 use std::collections::BTreeMap;
 use std::sync::ledger::Ledger;
@@ -41,7 +44,12 @@ impl Shown {
     }
 
     /// What a cell works out over what the places show.
-    fn worked_out<L: Ledger>(&self, alloc: Global, cell: &Cell, steps: &mut Steps<L>) -> Result<Scalar, AllocError>
+    fn worked_out<L: Ledger>(
+        &self,
+        alloc: Global,
+        cell: &Cell,
+        steps: &mut Steps<L>,
+    ) -> Result<Scalar, AllocError>
         ensures { IfOk result (λ scalar. scalar ≡ worked_out (shown_by self.now) (Some (content cell.now))) }
     {
         match cell {
@@ -54,7 +62,12 @@ impl Shown {
     }
 
     /// What a tree means over what the places show.
-    fn meaning<L: Ledger>(&self, alloc: Global, tree: &Plain, steps: &mut Steps<L>) -> Result<Scalar, AllocError>
+    fn meaning<L: Ledger>(
+        &self,
+        alloc: Global,
+        tree: &Plain,
+        steps: &mut Steps<L>,
+    ) -> Result<Scalar, AllocError>
         ensures { IfOk result (λ scalar. scalar ≡ meaning (shown_by self.now) (seen tree.now)) }
     {
         steps.tick();
@@ -83,7 +96,12 @@ fn sum(left: &Scalar, right: &Scalar) -> Scalar
 
 /// What a cell shows. The cells are worked out in the order of their places, each once, up to the
 /// one that is asked for: a formula refers to earlier places alone.
-pub fn value<L: Ledger>(alloc: Global, workbook: &Workbook, at: Place, steps: &mut Steps<L>) -> Result<Scalar, AllocError>
+pub fn value<L: Ledger>(
+    alloc: Global,
+    workbook: &Workbook,
+    at: Place,
+    steps: &mut Steps<L>,
+) -> Result<Scalar, AllocError>
     requires { IsBackward (book_of workbook.now) }
     ensures { IfOk result (λ scalar. scalar ≡ value_at (book_of workbook.now) at) }
 {

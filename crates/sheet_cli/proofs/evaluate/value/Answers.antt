@@ -1,10 +1,9 @@
-use Rattle.std.proofs.Common.{◌≡◌, ◌∙◌, sym, ap, subst, refl, Bool, true, false, List, [], ◌∷◌, ◌++◌, append_assoc, Some, IfOk}
+use Rattle.std.proofs.Common.{◌≡◌, ◌∙◌, sym, ap, subst, refl, true, [], ◌∷◌, ◌++◌, append_assoc, Some, IfOk}
 use Rattle.std.specs.declared.cmp.Ordering.{Ordering}
 use Rattle.std.specs.declared.cmp.Ordering.TheVariants.{Less, Equal, Greater}
 use Rattle.std.specs.Ordering.{nat_cmp, is_lt, is_some_and, ordering_then, partial_ordering_then}
 use Rattle.std.proofs.lemmas.Bool.{false≢true}
 use Rattle.std.proofs.lemmas.List.{append-nil}
-use Rattle.cell_addr.specs.Order.{place_cmp}
 use Rattle.cell_addr.specs.declared.place.Place.{Place}
 use Rattle.sheet_cli.specs.declared.workbook.Cell.{Cell}
 use Rattle.sheet_cli.specs.Workbook.{book_of}
@@ -29,9 +28,11 @@ cells-preserved g c =
     let e : Place × Cell = (c.in-Some.place.now, c.in-Some.cell.now) in
     let done = c.cells.invariant.0 in
     let is = ap (λ rest. done ++ rest) (sym c.in-Some.ensures.steps) ∙ c.cells.invariant.1 in
-    let sorted = subst (λ m. IsInOrder m.entries) c.cells-place-items.ensures c.into_iter-place-iterator.ensures.into_iter_gives.5 in
-    (done ++ e ∷ [], append_assoc done (e ∷ []) c.next.new.self ∙ is,
-      keeps_more c.args.workbook.now.cells.entries c.requires done c.next.new.self e is sorted c.cells.shown c.keep.new.self c.in_ok-scalar.scalar c.cells.invariant.2 c.in_ok-scalar.ensures c.in_ok-keep.ensures)
+    let sorted = subst (λ m. IsInOrder m.entries) c.cells-place-items.ensures c.into_iter-place-iterator.ensures.into_iter_gives.5 in (
+      done ++ e ∷ [],
+      append_assoc done (e ∷ []) c.next.new.self ∙ is,
+      keeps_more c.args.workbook.now.cells.entries c.requires done c.next.new.self e is sorted c.cells.shown c.keep.new.self c.in_ok-scalar.scalar c.cells.invariant.2 c.in_ok-scalar.ensures c.in_ok-keep.ensures,
+    )
 
 pub returns : goal.returns
 returns g c =
@@ -39,10 +40,10 @@ returns g c =
     let done = c.cells.invariant.0 in
     let sorted = subst (λ m. IsInOrder m.entries) c.cells-place-items.ensures c.into_iter-place-iterator.ensures.into_iter_gives.5 in
     let shows : shown_by c.cells.shown c.args.at ≡ value_at (book_of c.args.workbook.now) c.args.at = elim c.match-next.branch [
-      in-None w ↦ kept_value all c.requires c.cells.shown done c.args.at c.cells.invariant.2
-        (ap (λ es. cell_at es c.args.at) (sym c.cells.invariant.1 ∙ ap (λ rest. done ++ rest) w.in-None.ensures.steps.0 ∙ append-nil done))
-    | in-Some+then-lt w ↦ value_before all c.requires done c.next.new.self (w.in-Some.place.now, w.in-Some.cell.now)
-        (ap (λ rest. done ++ rest) (sym w.in-Some.ensures.steps) ∙ c.cells.invariant.1) sorted c.cells.shown c.args.at c.cells.invariant.2
-        (less_by_parts (nat_cmp c.args.at.sheet w.in-Some.place.now.sheet) (nat_cmp c.args.at.row w.in-Some.place.now.row) (nat_cmp c.args.at.col w.in-Some.place.now.col) (sym w.lt.ensures ∙ w.if-lt.true))
+      | in-None w ↦ kept_value all c.requires c.cells.shown done c.args.at c.cells.invariant.2
+          (ap (λ es. cell_at es c.args.at) (sym c.cells.invariant.1 ∙ ap (λ rest. done ++ rest) w.in-None.ensures.steps.0 ∙ append-nil done))
+      | in-Some+then-lt w ↦ value_before all c.requires done c.next.new.self (w.in-Some.place.now, w.in-Some.cell.now)
+          (ap (λ rest. done ++ rest) (sym w.in-Some.ensures.steps) ∙ c.cells.invariant.1) sorted c.cells.shown c.args.at c.cells.invariant.2
+          (less_by_parts (nat_cmp c.args.at.sheet w.in-Some.place.now.sheet) (nat_cmp c.args.at.row w.in-Some.place.now.row) (nat_cmp c.args.at.col w.in-Some.place.now.col) (sym w.lt.ensures ∙ w.if-lt.true))
     ] in
     subst (λ v. IfOk c.copy_at.result (λ scalar. scalar ≡ v)) shows c.copy_at.ensures
