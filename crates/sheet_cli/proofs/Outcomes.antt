@@ -1,5 +1,5 @@
 -- A run over the records of a script, one record at a time: what the call of the program promises rests on this.
-use Rattle.std.proofs.Common.{◌≡◌, ◌∙◌, sym, ap, subst, refl, arith, ℕ, zero, suc, ◌+◌, ◌<◌, ◌≤◌, nat_lt, Bool, true, false, cond, List, [], ◌∷◌, ◌++◌, length, Option, Some, None, Result, Ok, Err, append_assoc}
+use Rattle.std.proofs.Common.{◌≡◌, ◌∙◌, sym, ap, subst, refl, arith, ℕ, zero, suc, ◌+◌, ◌<◌, ◌≤◌, nat_lt, Bool, true, false, cond, List, [], ◌∷◌, ◌++◌, length, drop, inl, inr, Option, Some, None, Result, Ok, Err, append_assoc}
 use Rattle.std.specs.Prelude.{⊤}
 use Rattle.std.proofs.lemmas.Bool.Decides.{nat_tests}
 use Rattle.std.proofs.lemmas.List.{append-nil}
@@ -13,9 +13,10 @@ use Rattle.sheet_cli.specs.declared.command.Command.{Command}
 use Rattle.sheet_cli.specs.declared.command.ScriptError.{ScriptError}
 use Rattle.sheet_cli.specs.Command.{command_of}
 use Rattle.sheet_cli.specs.Workbook.{Book}
+use Rattle.sheet_cli.specs.Outside.{Loses}
 use Rattle.sheet_cli.specs.Session.{next, reply}
 use Rattle.sheet_cli.specs.Values.{IsBackward}
-use Rattle.sheet_cli.specs.Run.{Did, Outcome, outcome_of, outcome_from, behind, record_line, script_outcome}
+use Rattle.sheet_cli.specs.Run.{Did, WasRead, Outcome, outcome_of, outcome_from, behind, record_line, script_outcome}
 use Rattle.sheet_cli.proofs.NextBooks.{next_is_backward}
 
 -- what was taken since an old moment, and then the rest, is the whole
@@ -129,3 +130,20 @@ long_from (suc n) s xs = long_next n (next_record default_config s [] [] xs) (λ
 -- a text has no more records than bytes, and one
 pub few_records : (bytes : List ℕ) → length (records default_config (strip_bom bytes)) ≤ length bytes + 1
 few_records bytes = let l = long_from (length (strip_bom bytes) + 1) st.StartRecord (strip_bom bytes) in omega (arith, no_longer bytes)
+
+behind_front : (bs ys : List ℕ) → drop (length bs) (bs ++ ys) ≡ ys
+behind_front [] ys = refl
+behind_front (b ∷ bs) ys = behind_front bs ys
+
+taken_off : (n : ℕ) (xs bs ys : List ℕ) → xs ≡ bs ++ ys → length bs ≡ n → ys ≡ drop n xs
+taken_off n xs bs ys is long = sym (behind_front bs ys) ∙ ap (λ k. drop k (bs ++ ys)) long ∙ ap (drop n) (sym is)
+
+-- of a script that is too long, one byte more than the limit was taken
+pub was_read-too_long : (old new : Option (List ℕ)) → Loses old new 67108865 → WasRead 8 old new
+was_read-too_long None new lost = tt
+was_read-too_long (Some xs) None lost = absurd lost.1
+was_read-too_long (Some xs) (Some ys) lost = (
+    λ h. elim h [ inl e ↦ absurd (omega arith) | inr e ↦ absurd (omega arith) ],
+    λ e. absurd (omega arith),
+    λ e. ap (λ (zs : List ℕ). Some zs) (taken_off 67108865 xs lost.0 ys lost.1 lost.2),
+  )
