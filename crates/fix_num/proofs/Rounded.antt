@@ -11,8 +11,8 @@ use Rattle.fix_num.specs.Number.{within, signed, is_negative, near, nearest, quo
 near_of_less : (p q : ℕ) → 2 * p < q → near p q ≡ 0
 near_of_less p q h = ap (λ n. n / (2 * q)) (sum p q) ∙ div-mul-add 0 (2 * q) (2 * p + q) (omega arith)
   where
-  sum : (p q : ℕ) → 2 * p + q ≡ 0 * (2 * q) + (2 * p + q)
-  sum p q = omega arith
+    sum : (p q : ℕ) → 2 * p + q ≡ 0 * (2 * q) + (2 * p + q)
+    sum p q = omega arith
 
 -- a number other than 0 has an absolute value above 0
 abs_of_nonzero : (b : ℤ) → b ≢ pos 0 → 0 < unsigned_abs b

@@ -69,9 +69,9 @@ spell_more k rest r some h =
 spell_all : (k rest : ℕ) → rest < 10 ^ k → Spell k rest (decimals_of k rest)
 spell_all zero rest r = let none : rest ≡ 0 = omega arith in rw (none, decimals_of-zero 0) (spell_nothing 0)
 spell_all (suc k) rest r = elim (cases_lt 0 rest) [
-    | inl some ↦ rw (decimals_of-suc k rest some) (spell_more k rest r some (spell_all k (rest % 10 ^ k) (mod_below rest (10 ^ k) (ten_above k))))
-    | inr none_left ↦ let none : rest ≡ 0 = omega arith in rw (none, decimals_of-zero (suc k)) (spell_nothing (suc k))
-  ]
+  | inl some ↦ rw (decimals_of-suc k rest some) (spell_more k rest r some (spell_all k (rest % 10 ^ k) (mod_below rest (10 ^ k) (ten_above k))))
+  | inr none_left ↦ let none : rest ≡ 0 = omega arith in rw (none, decimals_of-zero (suc k)) (spell_nothing (suc k))
+]
 
 pub list_all-decimals_of : (rest : ℕ) → rest < 1000000 → list_all is_digit (decimals_of 6 rest) ≡ true
 list_all-decimals_of rest r = (spell_all 6 rest r).digits
