@@ -1,14 +1,13 @@
 -- What decimals round to, and a whole part with decimals. Serves `from_text`.
-use Rattle.std.proofs.Common.{◌≡◌, ◌∙◌, sym, ap, arith, refl, ℕ, zero, suc, ◌+◌, ◌-◌, ◌*◌, ◌/◌, ◌%◌, ◌^◌, ◌<◌, ◌≤◌, min, Bool, true, false, ◌&&◌, cond, List, [], ◌∷◌, ◌++◌, length, take, drop, ℤ, pos, neg_ℤ, unsigned_abs, Result, Ok, Err, ◌⊎◌, inl, inr, nat_lt}
+use Rattle.std.proofs.Common.{◌≡◌, ◌∙◌, sym, ap, arith, refl, ℕ, zero, suc, ◌+◌, ◌-◌, ◌*◌, ◌/◌, ◌%◌, ◌^◌, ◌<◌, ◌≤◌, min, Bool, true, false, List, length, take, drop, unsigned_abs, Err, inl, inr}
 use Rattle.std.specs.List.{list_all}
 use Rattle.std.proofs.Math.Nat.{one-le-pow, mul-le-mul_left, pow-le-pow_right}
 use Rattle.std.proofs.lemmas.Nat.{div-mul-add, div-add-mod', mod_below, pow-add}
 use Rattle.std.proofs.lemmas.List.{take_all, take-append-drop, length-drop, length-take}
 use Rattle.std.proofs.lemmas.List.Folds.{list_all-append}
-use Rattle.std.proofs.lemmas.Bool.{cases_lt, and_parts, lt-ltb, le-ltb}
+use Rattle.std.proofs.lemmas.Bool.{cases_lt, and_parts, le-ltb}
 use Rattle.digits.specs.Digits.{value, is_digit}
 use Rattle.digits.proofs.Numerals.{value-append, value_below}
-use Rattle.fix_num.specs.declared.error.NumError.{NumError}
 use Rattle.fix_num.specs.declared.error.NumError.TheVariants.{Range}
 use Rattle.fix_num.specs.Number.{near, within, signed}
 use Rattle.fix_num.specs.Text.{magnitude, whole, decimals, has_minus, behind_sign, are_parts, is_unsigned, number_of}

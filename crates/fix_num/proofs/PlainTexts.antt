@@ -1,21 +1,21 @@
 -- The text of a number has plain form, and spells the number. Serves the laws of texts.
-use Rattle.std.proofs.Common.{◌≡◌, ◌∙◌, sym, ap, subst, arith, refl, ℕ, zero, suc, ◌+◌, ◌-◌, ◌*◌, ◌/◌, ◌%◌, ◌^◌, ◌<◌, ◌≤◌, ◌≢◌, ◌==◌, Bool, true, false, not, ◌&&◌, cond, List, [], ◌∷◌, ◌++◌, length, get_or, ◌⊎◌, inl, inr, ℤ, pos, negsuc, unsigned_abs, Result, Ok}
+use Rattle.std.proofs.Common.{◌≡◌, ◌∙◌, sym, ap, arith, refl, ℕ, suc, ◌+◌, ◌-◌, ◌*◌, ◌/◌, ◌%◌, ◌^◌, ◌<◌, ◌≤◌, ◌≢◌, ◌==◌, true, false, not, List, [], ◌∷◌, ◌++◌, length, get_or, inl, inr, ℤ, pos, negsuc, unsigned_abs, Ok}
 use Rattle.std.specs.List.{list_all}
 use Rattle.std.specs.Fmt.{decimal}
 use Rattle.std.proofs.lemmas.Fmt.{decimal_nonempty, first_decimal, decimal_digit}
 use Rattle.std.proofs.Math.Nat.{mul_assoc}
 use Rattle.std.proofs.lemmas.List.{append-nil}
-use Rattle.std.proofs.lemmas.Nat.{pow-add, div_below}
-use Rattle.std.proofs.lemmas.Bool.{and_from, and_parts, ne_eqb, lt-ltb, cases_eq, cases_lt}
+use Rattle.std.proofs.lemmas.Nat.{pow-add}
+use Rattle.std.proofs.lemmas.Bool.{and_parts, ne_eqb, lt-ltb, cases_eq, cases_lt}
 use Rattle.digits.specs.Digits.{is_digit, value}
 use Rattle.digits.proofs.Numerals.{is_digit-bounds}
 use Rattle.digits.proofs.Printed.{value-decimal, list_all-decimal}
 use Rattle.digits.proofs.Parts.{before_first-append, after_first-append, before_first-none, after_first-none, digits_without}
-use Rattle.fix_num.specs.Number.{IsInside, near, within, signed}
+use Rattle.fix_num.specs.Number.{IsInside, near, within}
 use Rattle.fix_num.specs.Text.{is_point, whole, decimals, has_minus, behind_sign, are_parts, is_unsigned, magnitude, number_of, decimals_of, fraction_of, unsigned_text, text_of}
 use Rattle.fix_num.specs.Laws.{IsWholePart, AreDecimals, HasPlainForm}
 use Rattle.fix_num.proofs.Decimals.{decimals_of-zero, ten_above}
-use Rattle.fix_num.proofs.Magnitudes.{near_with_whole, magnitude_of_parts, unsigned_abs-signed}
+use Rattle.fix_num.proofs.Magnitudes.{near_with_whole, magnitude_of_parts}
 use Rattle.fix_num.proofs.Rounded.{near_zero}
 use Rattle.fix_num.proofs.SpelledDecimals.{list_all-decimals_of, length-decimals_of, value-decimals_of, decimals_of-some, decimals_of-last}
 

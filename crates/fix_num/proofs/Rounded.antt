@@ -5,7 +5,7 @@ use Rattle.std.proofs.Math.Nat.{one-le-pow, pow-le-pow_right, zero-mul, mul-pos}
 use Rattle.std.proofs.lemmas.Nat.{div-mul-add}
 use Rattle.std.proofs.lemmas.Bool.{ne_eqb}
 use Rattle.std.proofs.lemmas.Int.{ints}
-use Rattle.fix_num.specs.Number.{within, signed, is_negative, near, nearest, quotient, rounded_to, unit}
+use Rattle.fix_num.specs.Number.{within, signed, is_negative, near, nearest, quotient, rounded_to}
 
 -- a unit of more than twice the number rounds it to 0
 near_of_less : (p q : ℕ) → 2 * p < q → near p q ≡ 0

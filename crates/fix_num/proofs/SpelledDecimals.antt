@@ -1,5 +1,5 @@
 -- The printed decimals are digits that spell the rest, and don't end in 0. Serves the laws of texts.
-use Rattle.std.proofs.Common.{◌≡◌, ◌∙◌, sym, ap, arith, refl, ℕ, zero, suc, ◌+◌, ◌-◌, ◌*◌, ◌/◌, ◌%◌, ◌^◌, ◌<◌, ◌≤◌, ◌≢◌, Bool, true, false, List, [], ◌∷◌, ◌++◌, length, get_or, ◌⊎◌, inl, inr}
+use Rattle.std.proofs.Common.{◌≡◌, ◌∙◌, sym, ap, arith, refl, ℕ, zero, suc, ◌+◌, ◌-◌, ◌*◌, ◌/◌, ◌%◌, ◌^◌, ◌<◌, ◌≤◌, ◌≢◌, true, List, [], ◌∷◌, length, get_or, inl, inr}
 use Rattle.std.specs.List.{list_all}
 use Rattle.std.proofs.Math.Nat.{add-mul, mul_assoc, pow-suc}
 use Rattle.std.proofs.lemmas.Nat.{pow-add, div_below, mod_below, div-add-mod'}
@@ -8,7 +8,7 @@ use Rattle.digits.specs.Digits.{is_digit, value}
 use Rattle.digits.proofs.Numerals.{value_from-split}
 use Rattle.digits.proofs.Printed.{digit_is}
 use Rattle.fix_num.specs.Text.{decimals_of}
-use Rattle.fix_num.proofs.Decimals.{decimals_of-zero, decimals_of-suc, decimals_of-no_place, ten_above}
+use Rattle.fix_num.proofs.Decimals.{decimals_of-zero, decimals_of-suc, ten_above}
 
 -- the last digit, if there is one, isn't 0
 abbrev EndsWell : List ℕ → Type 0
