@@ -39,7 +39,7 @@ one_letter a n la e = record {
   few = omega arith;
   raised = and_from _ _ (uppercase-capital a la) refl;
   all_letters = and_from _ _ (alphabetic-capital a la) refl;
-  spelled = rw (letter_number-capital a la) (omega arith)
+  spelled = rw (letter_number-capital a la) (omega arith);
 }
 
 two_letters : (a b n : ℕ) → a < 26 → b < 26 → n ≡ 26 * (a + 1) + (b + 1) → IsColumnText n (capital a ∷ capital b ∷ [])
@@ -48,7 +48,7 @@ two_letters a b n la lb e = record {
   few = omega arith;
   raised = and_from _ _ (uppercase-capital a la) (and_from _ _ (uppercase-capital b lb) refl);
   all_letters = and_from _ _ (alphabetic-capital a la) (and_from _ _ (alphabetic-capital b lb) refl);
-  spelled = rw (letter_number-capital a la, letter_number-capital b lb) (omega arith)
+  spelled = rw (letter_number-capital a la, letter_number-capital b lb) (omega arith);
 }
 
 three_letters : (a b c n : ℕ) → a < 26 → b < 26 → c < 26 → n ≡ 26 * (26 * (a + 1) + (b + 1)) + (c + 1) → IsColumnText n (capital a ∷ capital b ∷ capital c ∷ [])
@@ -57,7 +57,7 @@ three_letters a b c n la lb lc e = record {
   few = omega arith;
   raised = and_from _ _ (uppercase-capital a la) (and_from _ _ (uppercase-capital b lb) (and_from _ _ (uppercase-capital c lc) refl));
   all_letters = and_from _ _ (alphabetic-capital a la) (and_from _ _ (alphabetic-capital b lb) (and_from _ _ (alphabetic-capital c lc) refl));
-  spelled = rw (letter_number-capital a la, letter_number-capital b lb, letter_number-capital c lc) (omega arith)
+  spelled = rw (letter_number-capital a la, letter_number-capital b lb, letter_number-capital c lc) (omega arith);
 }
 
 abbrev pieces : Bool → Bool → ℕ → List ℕ
