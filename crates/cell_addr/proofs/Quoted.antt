@@ -1,6 +1,6 @@
 -- Names between apostrophes, piece by piece. Serves the reading of sheets' names, and the law that what
 -- is written between apostrophes is read back.
-use Rattle.std.proofs.Common.{◌≡◌, ◌∙◌, sym, ap, arith, refl, ℕ, ◌<◌, Bool, true, false, cond, eqb, List, [], ◌∷◌, ◌++◌, length, Option, Some, None, option_map, append_assoc}
+use Rattle.std.proofs.Common.{◌≡◌, ◌∙◌, sym, ap, refl, ℕ, Bool, true, false, cond, eqb, List, [], ◌∷◌, ◌++◌, Option, Some, None, option_map, append_assoc}
 use Rattle.std.proofs.lemmas.List.{append-nil}
 use Rattle.std.proofs.lemmas.Bool.{eqb-true, cond-true, cond-false}
 use Rattle.cell_addr.specs.SheetName.{with_byte, split_first, behind_first, doubled, quoted}
@@ -108,20 +108,18 @@ written-by true c cs name rest (Some (n, r)) e f h ys w =
     let first : c ∷ n ≡ name = parts.0 in
     let behind : r ≡ rest = parts.1 in
     let more = h n r refl in
-    let same : doubled (c ∷ n) ≡ 39 ∷ 39 ∷ doubled n = cond-true (eqb c 39) _ _ e in
-    (
+    let same : doubled (c ∷ n) ≡ 39 ∷ 39 ∷ doubled n = cond-true (eqb c 39) _ _ e in (
       w ∙ ap (λ xs. 39 ∷ 39 ∷ xs) more.0 ∙ ap (λ xs. xs ++ (39 ∷ r)) (sym same) ∙ ap (λ xs. doubled xs ++ (39 ∷ r)) first ∙ ap (λ xs. doubled name ++ (39 ∷ xs)) behind,
-      rw (← behind) more.1
+      rw (← behind) more.1,
     )
 written-by false c cs name rest (Some (n, r)) e f h ys w =
     let parts = same_parts (c ∷ n, r) (name, rest) f in
     let first : c ∷ n ≡ name = parts.0 in
     let behind : r ≡ rest = parts.1 in
     let more = h n r refl in
-    let same : doubled (c ∷ n) ≡ c ∷ doubled n = cond-false (eqb c 39) _ _ e in
-    (
+    let same : doubled (c ∷ n) ≡ c ∷ doubled n = cond-false (eqb c 39) _ _ e in (
       w ∙ ap (λ xs. c ∷ xs) more.0 ∙ ap (λ xs. xs ++ (39 ∷ r)) (sym same) ∙ ap (λ xs. doubled xs ++ (39 ∷ r)) first ∙ ap (λ xs. doubled name ++ (39 ∷ xs)) behind,
-      rw (← behind) more.1
+      rw (← behind) more.1,
     )
 
 written_one : (b : Bool) (c : ℕ) (name rest : List ℕ) → eqb c 39 ≡ b → cond b (closed_at []) None ≡ Some (name, rest) → IsWritten (c ∷ []) name rest
@@ -136,10 +134,9 @@ written_closed : (c d : ℕ) (cs name rest : List ℕ) → eqb c 39 ≡ true →
 written_closed c d cs name rest e g f =
     let parts = same_parts ([], d ∷ cs) (name, rest) f in
     let none : [] ≡ name = parts.0 in
-    let behind : d ∷ cs ≡ rest = parts.1 in
-    (
+    let behind : d ∷ cs ≡ rest = parts.1 in (
       ap (λ x. x ∷ d ∷ cs) (eqb-true c 39 e) ∙ ap (λ xs. doubled xs ++ (39 ∷ d ∷ cs)) none ∙ ap (λ xs. doubled name ++ (39 ∷ xs)) behind,
-      rw (← behind) (cond-false (eqb d 39) (Some cs) None g)
+      rw (← behind) (cond-false (eqb d 39) (Some cs) None g),
     )
 
 written_more : (a b : Bool) (c d : ℕ) (cs name rest : List ℕ) → eqb c 39 ≡ a → eqb d 39 ≡ b → cond a (cond b (with_byte 39 (quoted cs)) (closed_at (d ∷ cs))) (with_byte c (quoted (d ∷ cs))) ≡ Some (name, rest)
