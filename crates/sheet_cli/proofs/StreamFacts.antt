@@ -1,13 +1,7 @@
--- One call after another: what they did to the bytes that a stream tells. It serves the loops that read and write, and what a run's output is.
-use Rattle.std.proofs.Common.{◌+◌, ◌∙◌, ℕ, List, [], ◌++◌, take, drop, Option, Some, None, sym, refl, ap, append_assoc}
-use Rattle.std.proofs.lemmas.List.{append-nil}
+-- One call after another: what they did to the bytes that a stream tells. It serves the loops that read and write.
+use Rattle.std.proofs.Common.{◌+◌, ◌∙◌, ℕ, List, ◌++◌, take, drop, Option, Some, None, sym, ap, append_assoc}
 use Rattle.std.proofs.Math.Seq.{take-add}
 use Rattle.std.specs.Io.KnownBytes.{Appends, Consumes}
-
--- nothing was written
-pub appends-none : (now : Option (List ℕ)) → Appends now now []
-appends-none None = tt
-appends-none (Some xs) = sym (append-nil xs)
 
 -- a write after another
 pub appends-more : (old now new : Option (List ℕ)) (bs cs : List ℕ) → Appends old now bs → Appends now new cs → Appends old new (bs ++ cs)
@@ -19,11 +13,6 @@ appends-more (Some xs) (Some ys) (Some zs) bs cs a b = b ∙ ap (λ t. t ++ cs) 
 -- the next n bytes were written, after those up to a place
 pub appends-take : (old now new : Option (List ℕ)) (at n : ℕ) (bs : List ℕ) → Appends old now (take at bs) → Appends now new (take n (drop at bs)) → Appends old new (take (at + n) bs)
 appends-take old now new at n bs a b = rw (take-add at n bs) (appends-more old now new (take at bs) (take n (drop at bs)) a b)
-
--- nothing was read
-pub consumes-none : (now : Option (List ℕ)) → Consumes now now []
-consumes-none None = tt
-consumes-none (Some xs) = refl
 
 -- a read after another
 pub consumes-more : (old now new : Option (List ℕ)) (bs cs : List ℕ) → Consumes old now bs → Consumes now new cs → Consumes old new (bs ++ cs)
