@@ -1,0 +1,19 @@
+//! The structural operations of a sheet, and what they do to places and blocks.
+//!
+//! A [`Shift`] inserts, deletes or moves rows or columns, moves a block of cells, or drops a sheet.
+//! [`moved_place`] and [`moved_block`] say where a reference points afterwards; [`back_place`] and
+//! [`back_block`] say what it pointed at before. Two rows put before row 5 (counted from 0) move a
+//! place in row 7 to row 9, and back again:
+//!
+//! ```text
+//! let two_rows = Shift::InsertRows { sheet: 0, at: 5, count: 2 };
+//! moved_place(&two_rows, Place { sheet: 0, row: 7, col: 1 })  // Some(Place { sheet: 0, row: 9, col: 1 })
+//! back_place(&two_rows, Place { sheet: 0, row: 9, col: 1 })   // Some(Place { sheet: 0, row: 7, col: 1 })
+//! ```
+#![tactic(auto)]
+
+mod line;
+mod shift;
+mod span;
+
+pub use shift::{Shift, back_block, back_place, is_bent, moved_block, moved_place, sound};
