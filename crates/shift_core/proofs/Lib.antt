@@ -1,0 +1,3 @@
+pub mod LinesReturn
+pub mod PlacesReturn
+pub mod BlockMoves
