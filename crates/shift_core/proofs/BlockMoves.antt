@@ -12,26 +12,26 @@ pub same_place : (p q : Place) → p.sheet ≡ q.sheet → p.row ≡ q.row → p
 same_place p q sheets rows cols = grind arith
 
 -- the test and the fact say the same
-pub Covers-held : (b : Block) (p : Place) → holds b p ≡ true → Covers b p
-Covers-held b p h = grind (arith, nat_tests)
+pub Covers-from_holds : (b : Block) (p : Place) → holds b p ≡ true → Covers b p
+Covers-from_holds b p h = grind (arith, nat_tests)
 
-pub holds-covered : (b : Block) (p : Place) → Covers b p → holds b p ≡ true
-holds-covered b p c = grind (arith, nat_tests)
+pub holds-from_Covers : (b : Block) (p : Place) → Covers b p → holds b p ≡ true
+holds-from_Covers b p c = grind (arith, nat_tests)
 
 -- the destination covers what is carried there
-pub carried-covered : (source : Block) (to p : Place) → Covers source p → Covers (destination source to) (carried source to p)
-carried-covered source to p c = (refl, omega arith, omega arith, omega arith, omega arith)
+pub carried_covered : (source : Block) (to p : Place) → Covers source p → Covers (destination source to) (carried source to p)
+carried_covered source to p c = (refl, omega arith, omega arith, omega arith, omega arith)
 
 -- a place that is carried to the destination is carried back to where it was
-pub carried-returns : (source : Block) (to p : Place) → Covers source p → carried (destination source to) (first_place source) (carried source to p) ≡ p
-carried-returns source to p c = same_place _ _ c.0 (omega arith) (omega arith)
+pub carried_returns : (source : Block) (to p : Place) → Covers source p → carried (destination source to) (first_place source) (carried source to p) ≡ p
+carried_returns source to p c = same_place _ _ c.0 (omega arith) (omega arith)
 
 -- the source covers what is carried back there
-pub returned-covered : (source : Block) (to q : Place) → IsBlockInside source → Covers (destination source to) q → Covers source (carried (destination source to) (first_place source) q)
-returned-covered source to q i c = (refl, omega arith, omega arith, omega arith, omega arith)
+pub returned_covered : (source : Block) (to q : Place) → IsBlockInside source → Covers (destination source to) q → Covers source (carried (destination source to) (first_place source) q)
+returned_covered source to q i c = (refl, omega arith, omega arith, omega arith, omega arith)
 
-pub returned-goes : (source : Block) (to q : Place) → Covers (destination source to) q → carried source to (carried (destination source to) (first_place source) q) ≡ q
-returned-goes source to q c = same_place _ _ c.0 (omega arith) (omega arith)
+pub returned_goes : (source : Block) (to q : Place) → Covers (destination source to) q → carried source to (carried (destination source to) (first_place source) q) ≡ q
+returned_goes source to q c = same_place _ _ c.0 (omega arith) (omega arith)
 
 -- the first where `a`, lost where else `b`, else the second
 pub cases_chosen : (a b : Bool) (x p q : Place) → cond a (Some x) (cond b None (Some p)) ≡ Some q → ((a ≡ true) × (q ≡ x)) ⊎ ((a ≡ false) × (b ≡ false) × (q ≡ p))
@@ -45,44 +45,44 @@ chosen_first a b x p t = rw t refl
 pub chosen_second : (a b : Bool) (x p : Place) → a ≡ false → b ≡ false → cond a (Some x) (cond b None (Some p)) ≡ Some p
 chosen_second a b x p f g = rw (f, g) refl
 
-pub move_block-returns : (source : Block) (to p q : Place) → moved (MoveBlock source to) p ≡ Some q → back (MoveBlock source to) q ≡ Some p
-move_block-returns source to p q h =
+pub move_block_returns : (source : Block) (to p q : Place) → moved (MoveBlock source to) p ≡ Some q → back (MoveBlock source to) q ≡ Some p
+move_block_returns source to p q h =
     elim (cases_chosen (holds source p) (holds (destination source to) p) (carried source to p) p q h) [
       | inl w ↦
-        let c = Covers-held source p w.0 in
+        let c = Covers-from_holds source p w.0 in
         rw w.1 (
-          chosen_first _ (holds source (carried source to p)) _ _ (holds-covered (destination source to) (carried source to p) (carried-covered source to p c))
-          ∙ ap (λ x. Some x) (carried-returns source to p c)
+          chosen_first _ (holds source (carried source to p)) _ _ (holds-from_Covers (destination source to) (carried source to p) (carried_covered source to p c))
+          ∙ ap (λ x. Some x) (carried_returns source to p c)
         )
       | inr w ↦ rw w.2 (chosen_second (holds (destination source to) p) (holds source p) _ p w.1 w.0)
     ]
 
-pub move_block-goes : (source : Block) (to p q : Place) → IsBlockInside source → back (MoveBlock source to) q ≡ Some p → moved (MoveBlock source to) p ≡ Some q
-move_block-goes source to p q i h =
+pub move_block_goes : (source : Block) (to p q : Place) → IsBlockInside source → back (MoveBlock source to) q ≡ Some p → moved (MoveBlock source to) p ≡ Some q
+move_block_goes source to p q i h =
     elim (cases_chosen (holds (destination source to) q) (holds source q) (carried (destination source to) (first_place source) q) q p h) [
       | inl w ↦
-        let c = Covers-held (destination source to) q w.0 in
+        let c = Covers-from_holds (destination source to) q w.0 in
         rw w.1 (
-          chosen_first _ (holds (destination source to) (carried (destination source to) (first_place source) q)) _ _ (holds-covered source (carried (destination source to) (first_place source) q) (returned-covered source to q i c))
-          ∙ ap (λ x. Some x) (returned-goes source to q c)
+          chosen_first _ (holds (destination source to) (carried (destination source to) (first_place source) q)) _ _ (holds-from_Covers source (carried (destination source to) (first_place source) q) (returned_covered source to q i c))
+          ∙ ap (λ x. Some x) (returned_goes source to q c)
         )
       | inr w ↦ rw w.2 (chosen_second (holds source q) (holds (destination source to) q) _ q w.1 w.0)
     ]
 
 -- what an inside block covers is inside
-pub Covers-inside : (b : Block) (p : Place) → IsBlockInside b → Covers b p → IsInside p
-Covers-inside b p i c = (omega arith, omega arith)
+pub Covers_inside : (b : Block) (p : Place) → IsBlockInside b → Covers b p → IsInside p
+Covers_inside b p i c = (omega arith, omega arith)
 
-pub move_block-inside : (source : Block) (to p q : Place) → IsBlockInside (destination source to) → IsInside p → moved (MoveBlock source to) p ≡ Some q → IsInside q
-move_block-inside source to p q d i h =
+pub move_block_inside : (source : Block) (to p q : Place) → IsBlockInside (destination source to) → IsInside p → moved (MoveBlock source to) p ≡ Some q → IsInside q
+move_block_inside source to p q d i h =
     elim (cases_chosen (holds source p) (holds (destination source to) p) (carried source to p) p q h) [
-      | inl w ↦ rw w.1 (Covers-inside (destination source to) (carried source to p) d (carried-covered source to p (Covers-held source p w.0)))
+      | inl w ↦ rw w.1 (Covers_inside (destination source to) (carried source to p) d (carried_covered source to p (Covers-from_holds source p w.0)))
       | inr w ↦ rw w.2 i
     ]
 
-pub unmove_block-inside : (source : Block) (to p q : Place) → IsBlockInside source → IsInside q → back (MoveBlock source to) q ≡ Some p → IsInside p
-unmove_block-inside source to p q d i h =
+pub unmove_block_inside : (source : Block) (to p q : Place) → IsBlockInside source → IsInside q → back (MoveBlock source to) q ≡ Some p → IsInside p
+unmove_block_inside source to p q d i h =
     elim (cases_chosen (holds (destination source to) q) (holds source q) (carried (destination source to) (first_place source) q) q p h) [
-      | inl w ↦ rw w.1 (Covers-inside source (carried (destination source to) (first_place source) q) d (returned-covered source to q d (Covers-held (destination source to) q w.0)))
+      | inl w ↦ rw w.1 (Covers_inside source (carried (destination source to) (first_place source) q) d (returned_covered source to q d (Covers-from_holds (destination source to) q w.0)))
       | inr w ↦ rw w.2 i
     ]

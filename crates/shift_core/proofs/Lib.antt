@@ -1,3 +1,5 @@
 pub mod LinesReturn
 pub mod PlacesReturn
 pub mod BlockMoves
+pub mod PlaceLaws
+pub mod SpanLaws

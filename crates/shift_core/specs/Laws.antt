@@ -1,11 +1,13 @@
 -- What the tables of moved places and blocks have in common, in words of the places alone.
-use Rattle.std.specs.Prelude.{◌≡◌, ◌≢◌, ◌↔◌, ℕ, ◌+◌, ◌<◌, ◌≤◌, ◌⊎◌, Option, Some, None, option_map}
+use Rattle.std.specs.Prelude.{◌≡◌, ◌≢◌, ◌↔◌, ℕ, ◌+◌, ◌-◌, ◌<◌, ◌≤◌, ◌⊎◌, ⊤, ◌&&◌, if◌then◌else◌, Option, Some, None, option_map}
 use Rattle.cell_addr.specs.declared.place.Place.{Place}
 use Rattle.cell_addr.specs.declared.place.Block.{Block}
 use Rattle.cell_addr.specs.Place.{IsInside, IsBlockInside, Covers}
 use Rattle.shift_core.specs.declared.shift.Shift.{Shift}
 use Rattle.shift_core.specs.declared.shift.Shift.TheVariants.{InsertRows, DeleteRows, InsertCols, DeleteCols, MoveRows, MoveCols, MoveBlock, DropSheet}
-use Rattle.shift_core.specs.Shift.{IsSound, moved, moved_ends, back, back_ends}
+use Rattle.shift_core.specs.declared.span.Span.{Span}
+use Rattle.shift_core.specs.Lines.{is_among, line_after_move}
+use Rattle.shift_core.specs.Shift.{IsSound, IsBent, moved, moved_ends, back, by_rows, by_cols, carried, first_place}
 
 -- a place that isn't lost comes back to where it was
 abbrev pub PlacesComeBack : Type 0
@@ -22,10 +24,90 @@ abbrev pub NoTwoMeet : Type 0
 NoTwoMeet =
     (s : Shift) (p other q : Place) → IsSound s → IsInside p → IsInside other → moved s p ≡ Some q → moved s other ≡ Some q → p ≡ other
 
--- a place of the sheet moves to a place of the sheet, or is lost
-abbrev pub PlacesStayInside : Type 0
-PlacesStayInside = (s : Shift) (p q : Place) → IsSound s → IsInside p → moved s p ≡ Some q → IsInside q
+-- the block covers only places of the sheet after the operation, or is lost
+abbrev pub BlocksStayInside : Type 0
+BlocksStayInside = (s : Shift) (b after : Block) → IsSound s → IsBlockInside b → moved_ends s b ≡ Some after → IsBlockInside after
 
--- a place of the sheet came from a place of the sheet, or from none
-abbrev pub PlacesCameFromInside : Type 0
-PlacesCameFromInside = (s : Shift) (p q : Place) → IsSound s → IsInside q → back s q ≡ Some p → IsInside p
+-- the operation leaves all lines in their order: it inserts or deletes some, or drops a sheet
+abbrev pub KeepsOrder : Shift → Type 0
+KeepsOrder (MoveRows sheet start count before) = ⊥
+KeepsOrder (MoveCols sheet start count before) = ⊥
+KeepsOrder (MoveBlock source to) = ⊥
+KeepsOrder _ = ⊤
+
+-- the operation moves a place of the block here
+abbrev pub ComesFrom : Shift → Block → Place → Type 0
+ComesFrom s b q = (p : Place) × Covers b p × (moved s p ≡ Some q)
+
+-- one of the `count` lines that an insert puts between two lines of a block
+abbrev pub IsPutBetween : ℕ → ℕ → ℕ → ℕ → ℕ → Type 0
+IsPutBetween start count first last line =
+    (first < start) × (start ≤ last) × (start ≤ line) × (line < start + count)
+
+-- the place lies on a line that an insert puts between two lines of the block
+abbrev pub IsPutInside : Shift → Block → Place → Type 0
+IsPutInside (InsertRows sheet start count) b q =
+    (b.sheet ≡ sheet) × (q.sheet ≡ sheet) × IsPutBetween start count b.top b.bottom q.row × (b.left ≤ q.col) × (q.col ≤ b.right)
+IsPutInside (InsertCols sheet start count) b q =
+    (b.sheet ≡ sheet) × (q.sheet ≡ sheet) × IsPutBetween start count b.left b.right q.col × (b.top ≤ q.row) × (q.row ≤ b.bottom)
+IsPutInside _ b q = ⊥
+
+-- over an insert, a deletion or a dropped sheet, a block covers the places that its places move to, and what is
+-- inserted between them; of the sheet's places no others
+abbrev pub BlocksCoverWhatMoves : Type 0
+BlocksCoverWhatMoves =
+    (s : Shift) (b after : Block) (q : Place) → IsSound s → KeepsOrder s → IsBlockInside b → IsInside q →
+    moved_ends s b ≡ Some after → Covers after q ↔ (ComesFrom s b q ⊎ IsPutInside s b q)
+
+-- over an insert, a deletion or a dropped sheet, a block is lost exactly where each of its places is
+abbrev pub BlocksAreLostWithTheirPlaces : Type 0
+BlocksAreLostWithTheirPlaces =
+    (s : Shift) (b : Block) → IsSound s → KeepsOrder s → IsBlockInside b →
+    (moved_ends s b ≡ None) ↔ ((p : Place) → Covers b p → moved s p ≡ None)
+
+-- the first line of a block that isn't among the moved ones, where the block ends behind them
+abbrev pub first_unmoved : ℕ → ℕ → ℕ → ℕ
+first_unmoved start count first = if is_among start count first then start + count else first
+
+-- the last line of a block that isn't among the moved ones, where the block begins before them
+abbrev pub last_unmoved : ℕ → ℕ → ℕ → ℕ
+last_unmoved start count last = if is_among start count last then start - 1 else last
+
+-- after a move of lines a block ends where its outermost lines stand: those that aren't moved, where there are any
+abbrev pub span_of_lines : ℕ → ℕ → ℕ → Span → Span
+span_of_lines start count before s =
+    if is_among start count s.first && is_among start count s.last
+    then record { first = line_after_move start count before s.first; last = line_after_move start count before s.last }
+    else record {
+      first = line_after_move start count before (first_unmoved start count s.first);
+      last = line_after_move start count before (last_unmoved start count s.last)
+    }
+
+-- a move of rows or columns loses no block
+abbrev pub MovesLoseNoBlock : Type 0
+MovesLoseNoBlock =
+    (sheet start count before : ℕ) (b : Block) → IsBlockInside b →
+    (IsSound (MoveRows sheet start count before) →
+      moved_ends (MoveRows sheet start count before) b ≡ by_rows sheet (λ rows. Some (span_of_lines start count before rows)) b)
+    × (IsSound (MoveCols sheet start count before) →
+      moved_ends (MoveCols sheet start count before) b ≡ by_cols sheet (λ cols. Some (span_of_lines start count before cols)) b)
+
+-- the block of one place
+abbrev pub one_cell : Place → Block
+one_cell p = record { sheet = p.sheet; top = p.row; left = p.col; bottom = p.row; right = p.col }
+
+-- a place and the block of that place move alike
+abbrev pub OneCellsMoveAlike : Type 0
+OneCellsMoveAlike =
+    (s : Shift) (p : Place) → IsSound s → IsInside p → moved_ends s (one_cell p) ≡ option_map one_cell (moved s p)
+
+-- the operation isn't the move of a block of cells
+abbrev pub MovesNoBlock : Shift → Type 0
+MovesNoBlock (MoveBlock source to) = ⊥
+MovesNoBlock _ = ⊤
+
+-- unless the operation is a move of cells, the places of a block that isn't bent keep their offsets in it
+abbrev pub UnbentBlocksKeepOffsets : Type 0
+UnbentBlocksKeepOffsets =
+    (s : Shift) (b after : Block) (p : Place) → IsSound s → MovesNoBlock s → IsBlockInside b → ¬ IsBent s b →
+    moved_ends s b ≡ Some after → Covers b p → moved s p ≡ Some (carried b (first_place after) p)

@@ -12,8 +12,10 @@
 //! ```
 #![tactic(auto)]
 
+mod laws;
 mod line;
 mod shift;
 mod span;
 
+pub use laws::{no_two_meet, places_come_back, places_go_forth};
 pub use shift::{Shift, back_block, back_place, is_bent, moved_block, moved_place, sound};
