@@ -1,5 +1,6 @@
 pub mod LinesReturn
-pub mod PlacesReturn
-pub mod BlockMoves
-pub mod PlaceLaws
 pub mod SpanLaws
+pub mod BlockMoves
+pub mod RowRules
+pub mod ColRules
+pub mod PlaceLaws

@@ -10,7 +10,8 @@ use Rattle.shift_core.specs.declared.shift.Shift.TheVariants.{InsertRows, Delete
 use Rattle.shift_core.specs.Lines.{line_after_insert, line_after_delete, line_after_move, line_before_insert, line_before_delete, line_before_move, IsSoundMove}
 use Rattle.shift_core.specs.Shift.{IsSound, moved, back, by_row, by_col}
 use Rattle.shift_core.proofs.LinesReturn.{insert_returns, insert_goes, insert_inside, delete_inside, delete_returns, delete_goes, move_returns, move_goes, move_inside, unmove_inside}
-use Rattle.shift_core.proofs.PlacesReturn.{by_row_returns, by_col_returns, by_row_inside, by_col_inside}
+use Rattle.shift_core.proofs.RowRules.{by_row_returns, by_row_inside}
+use Rattle.shift_core.proofs.ColRules.{by_col_returns, by_col_inside}
 use Rattle.shift_core.proofs.BlockMoves.{move_block_returns, move_block_goes, move_block_inside, unmove_block_inside}
 
 -- two rules without loss, of which the second undoes the first
