@@ -34,15 +34,15 @@ pub returned_goes : (source : Block) (to q : Place) → Covers (destination sour
 returned_goes source to q c = same_place _ _ c.0 (omega arith) (omega arith)
 
 -- the first where `a`, lost where else `b`, else the second
-pub cases_chosen : (a b : Bool) (x p q : Place) → cond a (Some x) (cond b None (Some p)) ≡ Some q → ((a ≡ true) × (q ≡ x)) ⊎ ((a ≡ false) × (b ≡ false) × (q ≡ p))
+pub cases_chosen : {A : Type 0} (a b : Bool) (x p q : A) → cond a (Some x) (cond b None (Some p)) ≡ Some q → ((a ≡ true) × (q ≡ x)) ⊎ ((a ≡ false) × (b ≡ false) × (q ≡ p))
 cases_chosen true b x p q h = inl (refl, cc)
 cases_chosen false true x p q h = cc
 cases_chosen false false x p q h = inr (refl, refl, cc)
 
-pub chosen_first : (a b : Bool) (x p : Place) → a ≡ true → cond a (Some x) (cond b None (Some p)) ≡ Some x
+pub chosen_first : {A : Type 0} (a b : Bool) (x p : A) → a ≡ true → cond a (Some x) (cond b None (Some p)) ≡ Some x
 chosen_first a b x p t = rw t refl
 
-pub chosen_second : (a b : Bool) (x p : Place) → a ≡ false → b ≡ false → cond a (Some x) (cond b None (Some p)) ≡ Some p
+pub chosen_second : {A : Type 0} (a b : Bool) (x p : A) → a ≡ false → b ≡ false → cond a (Some x) (cond b None (Some p)) ≡ Some p
 chosen_second a b x p f g = rw (f, g) refl
 
 pub move_block_returns : (source : Block) (to p q : Place) → moved (MoveBlock source to) p ≡ Some q → back (MoveBlock source to) q ≡ Some p

@@ -4,3 +4,4 @@ pub mod BlockMoves
 pub mod RowRules
 pub mod ColRules
 pub mod PlaceLaws
+pub mod BlockLaws

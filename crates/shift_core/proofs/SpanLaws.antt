@@ -1,6 +1,7 @@
 -- What the ends of a block say of its lines. Serves the laws on blocks.
-use Rattle.std.proofs.Common.{◌≡◌, ◌==◌, ℕ, ◌+◌, ◌-◌, ◌<◌, ◌≤◌, ◌⊎◌, ◌↔◌, inl, inr, Bool, true, false, cond, Option, Some, None, option_map, arith, refl, sym, ◌∙◌, ap}
+use Rattle.std.proofs.Common.{◌≡◌, ◌==◌, ℕ, ◌+◌, ◌-◌, ◌<◌, ◌≤◌, ◌⊎◌, ◌↔◌, inl, inr, Bool, true, false, cond, ltb, Option, Some, None, option_map, arith, refl, sym, ◌∙◌, ap}
 use Rattle.std.proofs.lemmas.Bool.Decides.{nat_tests}
+use Rattle.std.proofs.lemmas.Bool.{cases_lt, cond-true, cond-false, lt-ltb, le-ltb}
 use Rattle.std.proofs.lemmas.Option.{same_Some}
 use Rattle.shift_core.specs.declared.span.Span.{Span}
 use Rattle.shift_core.specs.Lines.{IsSoundInsert, IsSoundDelete, IsSoundMove, line_after_insert, line_after_delete, line_after_move}
@@ -115,3 +116,25 @@ one_line_delete start count r = grind (arith, nat_tests)
 
 pub one_line_move : (limit start count before r : ℕ) → IsSoundMove limit start count before → span_after_move start count before (one_line r) ≡ Some (one_line (line_after_move start count before r))
 one_line_move limit start count before r sound = grind (arith, nat_tests)
+
+pub before_insert_inside : (limit start count : ℕ) (s t : Span) → s.first ≤ s.last → s.last < limit → span_before_insert start count s ≡ Some t → (t.first ≤ t.last) × (t.last < limit)
+before_insert_inside limit start count s t o l h = grind (arith, nat_tests)
+
+pub before_delete_inside : (limit start count : ℕ) (s t : Span) → s.first ≤ s.last → s.last < limit → span_before_delete limit start count s ≡ Some t → (t.first ≤ t.last) × (t.last < limit)
+before_delete_inside limit start count s t o l h = grind (arith, nat_tests)
+
+opposite_down : (limit start count before : ℕ) → IsSoundMove limit start count before → start + count < before → IsSoundMove limit (before - count) count start
+opposite_down limit start count before sound d = (sound.0, omega arith, omega arith, inl (omega arith))
+
+opposite_up : (limit start count before : ℕ) → IsSoundMove limit start count before → before ≤ start + count → IsSoundMove limit before count (start + count)
+opposite_up limit start count before sound u = elim sound.3 [
+    | inl b ↦ (sound.0, omega arith, sound.1, inr (omega arith))
+    | inr b ↦ absurd (omega arith)
+  ]
+
+pub before_move_inside : (limit start count before : ℕ) (s t : Span) → IsSoundMove limit start count before → s.first ≤ s.last → s.last < limit → span_before_move start count before s ≡ Some t → (t.first ≤ t.last) × (t.last < limit)
+before_move_inside limit start count before s t sound o l h =
+    elim (cases_lt (start + count) before) [
+      | inl d ↦ move_span_inside limit (before - count) count start s t (opposite_down limit start count before sound d) o l (sym (cond-true (ltb (start + count) before) _ _ (lt-ltb (start + count) before d)) ∙ h)
+      | inr u ↦ move_span_inside limit before count (start + count) s t (opposite_up limit start count before sound u) o l (sym (cond-false (ltb (start + count) before) _ _ (le-ltb (start + count) before u)) ∙ h)
+    ]

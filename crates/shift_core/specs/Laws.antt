@@ -73,7 +73,7 @@ first_unmoved start count first = if is_among start count first then start + cou
 abbrev pub last_unmoved : ℕ → ℕ → ℕ → ℕ
 last_unmoved start count last = if is_among start count last then start - 1 else last
 
--- after a move of lines a block ends where its outermost lines stand: those that aren't moved, where there are any
+-- the outermost lines of a block, of those that a move doesn't take where there are any, after the move
 abbrev pub span_of_lines : ℕ → ℕ → ℕ → Span → Span
 span_of_lines start count before s =
     if is_among start count s.first && is_among start count s.last
@@ -83,9 +83,9 @@ span_of_lines start count before s =
       last = line_after_move start count before (last_unmoved start count s.last)
     }
 
--- a move of rows or columns loses no block
-abbrev pub MovesLoseNoBlock : Type 0
-MovesLoseNoBlock =
+-- a move of rows or columns loses no block: each ends where its outermost lines stand then
+abbrev pub MovedBlocksEndAtTheirLines : Type 0
+MovedBlocksEndAtTheirLines =
     (sheet start count before : ℕ) (b : Block) → IsBlockInside b →
     (IsSound (MoveRows sheet start count before) →
       moved_ends (MoveRows sheet start count before) b ≡ by_rows sheet (λ rows. Some (span_of_lines start count before rows)) b)
