@@ -25,7 +25,7 @@ some_inside limit f inside r q i h = let P : ℕ → Type 0 = λ x. x < limit in
 kept_on_drop : (sheet : ℕ) (p q : Place) → moved (DropSheet sheet) p ≡ Some q → moved (DropSheet sheet) q ≡ Some p
 kept_on_drop sheet p q h = grind (arith, nat_tests)
 
-stays_on_drop : (sheet : ℕ) (p q : Place) → moved (DropSheet sheet) p ≡ Some q → p ≡ q
+pub stays_on_drop : (sheet : ℕ) (p q : Place) → moved (DropSheet sheet) p ≡ Some q → p ≡ q
 stays_on_drop sheet p q h = grind (arith, nat_tests)
 
 pub moved_returns : (s : Shift) (p q : Place) → IsSound s → IsInside p → moved s p ≡ Some q → back s q ≡ Some p

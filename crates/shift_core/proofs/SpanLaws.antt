@@ -5,6 +5,7 @@ use Rattle.std.proofs.lemmas.Bool.{cases_lt, cond-true, cond-false, lt-ltb, le-l
 use Rattle.std.proofs.lemmas.Option.{same_Some}
 use Rattle.shift_core.specs.declared.span.Span.{Span}
 use Rattle.shift_core.specs.Lines.{IsSoundInsert, IsSoundDelete, IsSoundMove, line_after_insert, line_after_delete, line_after_move}
+use Rattle.shift_core.specs.Ends.{pushed_line}
 use Rattle.shift_core.specs.Spans.{span_after_insert, span_after_delete, span_after_move, span_before_insert, span_before_delete, span_before_move}
 use Rattle.shift_core.specs.Laws.{IsPutBetween, span_of_lines}
 
@@ -138,3 +139,24 @@ before_move_inside limit start count before s t sound o l h =
       | inl d ↦ move_span_inside limit (before - count) count start s t (opposite_down limit start count before sound d) o l (sym (cond-true (ltb (start + count) before) _ _ (lt-ltb (start + count) before d)) ∙ h)
       | inr u ↦ move_span_inside limit before count (start + count) s t (opposite_up limit start count before sound u) o l (sym (cond-false (ltb (start + count) before) _ _ (le-ltb (start + count) before u)) ∙ h)
     ]
+
+pub insert_carries : (limit start count : ℕ) (s t : Span) (r : ℕ) → IsSoundInsert limit start count → s.first ≤ s.last → ¬ (limit ≤ pushed_line start count s.last) → span_after_insert limit start count s ≡ Some t
+    → t.last - t.first ≡ s.last - s.first → IsWithin s r → line_after_insert limit start count r ≡ Some (t.first + (r - s.first))
+insert_carries limit start count s t r sound o whole h same w = grind (arith, nat_tests)
+
+pub delete_carries : (start count : ℕ) (s t : Span) (r : ℕ) → 0 < count → s.first ≤ s.last → span_after_delete start count s ≡ Some t
+    → t.last - t.first ≡ s.last - s.first → IsWithin s r → line_after_delete start count r ≡ Some (t.first + (r - s.first))
+delete_carries start count s t r some o h same w = grind (arith, nat_tests)
+
+-- a block whose outermost lines stay has the same ends
+undisplaced : (limit start count before : ℕ) (s : Span) → IsSoundMove limit start count before → s.first ≤ s.last
+    → line_after_move start count before s.first ≡ s.first → line_after_move start count before s.last ≡ s.last → (span_of_lines start count before s).first ≡ s.first
+undisplaced limit start count before s sound o first last = grind (arith, nat_tests)
+
+pub move_carries : (limit start count before : ℕ) (s t : Span) (r : ℕ) → IsSoundMove limit start count before → s.first ≤ s.last → span_after_move start count before s ≡ Some t
+    → ((line : ℕ) → IsWithin s line → line_after_move start count before line ≡ line) → IsWithin s r → line_after_move start count before r ≡ t.first + (r - s.first)
+move_carries limit start count before s t r sound o h still w =
+    let e : span_of_lines start count before s ≡ t = same_Some _ _ (sym (move_ends limit start count before s sound o) ∙ h) in
+    let f : t.first ≡ s.first =
+      sym (ap (λ x. x.first) e) ∙ undisplaced limit start count before s sound o (still s.first (omega arith, omega arith)) (still s.last (omega arith, omega arith)) in
+    still r w ∙ omega arith

@@ -2,10 +2,12 @@
 use Rattle.std.specs.Prelude.{◌≡◌, ◌≢◌, ◌↔◌, ℕ, ◌+◌, ◌-◌, ◌<◌, ◌≤◌, ◌⊎◌, ⊤, ◌&&◌, if◌then◌else◌, Option, Some, None, option_map}
 use Rattle.cell_addr.specs.declared.place.Place.{Place}
 use Rattle.cell_addr.specs.declared.place.Block.{Block}
+use Rattle.cell_addr.specs.declared.place.TheConstants.{ROWS, COLS}
 use Rattle.cell_addr.specs.Place.{IsInside, IsBlockInside, Covers}
 use Rattle.shift_core.specs.declared.shift.Shift.{Shift}
 use Rattle.shift_core.specs.declared.shift.Shift.TheVariants.{InsertRows, DeleteRows, InsertCols, DeleteCols, MoveRows, MoveCols, MoveBlock, DropSheet}
 use Rattle.shift_core.specs.declared.span.Span.{Span}
+use Rattle.shift_core.specs.Ends.{pushed_line}
 use Rattle.shift_core.specs.Lines.{is_among, line_after_move}
 use Rattle.shift_core.specs.Shift.{IsSound, IsBent, moved, moved_ends, back, by_rows, by_cols, carried, first_place}
 
@@ -106,8 +108,14 @@ abbrev pub MovesNoBlock : Shift → Type 0
 MovesNoBlock (MoveBlock source to) = ⊥
 MovesNoBlock _ = ⊤
 
--- unless the operation is a move of cells, the places of a block that isn't bent keep their offsets in it
+-- an insert pushes the block's end past the last row or column, where it is cut
+abbrev pub IsCut : Shift → Block → Type 0
+IsCut (InsertRows sheet start count) b = (b.sheet ≡ sheet) × (ROWS ≤ pushed_line start count b.bottom)
+IsCut (InsertCols sheet start count) b = (b.sheet ≡ sheet) × (COLS ≤ pushed_line start count b.right)
+IsCut _ b = ⊥
+
+-- unless the operation is a move of cells, the places of a block that is neither bent nor cut keep their offsets in it
 abbrev pub UnbentBlocksKeepOffsets : Type 0
 UnbentBlocksKeepOffsets =
-    (s : Shift) (b after : Block) (p : Place) → IsSound s → MovesNoBlock s → IsBlockInside b → ¬ IsBent s b →
+    (s : Shift) (b after : Block) (p : Place) → IsSound s → MovesNoBlock s → IsBlockInside b → ¬ IsBent s b → ¬ IsCut s b →
     moved_ends s b ≡ Some after → Covers b p → moved s p ≡ Some (carried b (first_place after) p)
