@@ -5,3 +5,4 @@ pub mod RowRules
 pub mod ColRules
 pub mod PlaceLaws
 pub mod BlockLaws
+pub mod UnbentBlocks

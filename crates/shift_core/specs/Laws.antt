@@ -9,7 +9,7 @@ use Rattle.shift_core.specs.declared.shift.Shift.TheVariants.{InsertRows, Delete
 use Rattle.shift_core.specs.declared.span.Span.{Span}
 use Rattle.shift_core.specs.Ends.{pushed_line}
 use Rattle.shift_core.specs.Lines.{is_among, line_after_move}
-use Rattle.shift_core.specs.Shift.{IsSound, IsBent, moved, moved_ends, back, by_rows, by_cols, carried, first_place}
+use Rattle.shift_core.specs.Shift.{IsSound, IsBent, moved, moved_ends, back, back_ends, by_rows, by_cols, carried, first_place}
 
 -- a place that isn't lost comes back to where it was
 abbrev pub PlacesComeBack : Type 0
@@ -26,9 +26,15 @@ abbrev pub NoTwoMeet : Type 0
 NoTwoMeet =
     (s : Shift) (p other q : Place) → IsSound s → IsInside p → IsInside other → moved s p ≡ Some q → moved s other ≡ Some q → p ≡ other
 
--- the block covers only places of the sheet after the operation, or is lost
+-- places of the sheet move to places of the sheet, and came from places of the sheet
+abbrev pub PlacesStayInside : Type 0
+PlacesStayInside =
+    (s : Shift) (p q : Place) → IsSound s → IsInside p → ((moved s p ≡ Some q → IsInside q) × (back s p ≡ Some q → IsInside q))
+
+-- blocks of the sheet move to blocks of the sheet, and came from blocks of the sheet
 abbrev pub BlocksStayInside : Type 0
-BlocksStayInside = (s : Shift) (b after : Block) → IsSound s → IsBlockInside b → moved_ends s b ≡ Some after → IsBlockInside after
+BlocksStayInside =
+    (s : Shift) (b c : Block) → IsSound s → IsBlockInside b → ((moved_ends s b ≡ Some c → IsBlockInside c) × (back_ends s b ≡ Some c → IsBlockInside c))
 
 -- the operation leaves all lines in their order: it inserts or deletes some, or drops a sheet
 abbrev pub KeepsOrder : Shift → Type 0
