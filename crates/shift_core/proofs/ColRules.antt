@@ -6,7 +6,7 @@ use Rattle.cell_addr.specs.declared.place.Block.{Block}
 use Rattle.cell_addr.specs.declared.place.TheConstants.{COLS}
 use Rattle.cell_addr.specs.Place.{IsInside, IsBlockInside, Covers}
 use Rattle.shift_core.specs.declared.span.Span.{Span}
-use Rattle.shift_core.specs.Shift.{by_col, by_cols, carried, first_place}
+use Rattle.shift_core.specs.Shift.{by_col, by_cols, carried_place, first_place}
 use Rattle.shift_core.specs.Laws.{one_cell}
 use Rattle.shift_core.proofs.BlockMoves.{same_place}
 use Rattle.shift_core.proofs.SpanLaws.{IsWithin, LineComesFrom, one_line}
@@ -136,19 +136,19 @@ pub by_cols_same : (sheet : ℕ) (F G : Span → Option Span) (b : Block) → F 
 by_cols_same sheet F G b h = grind (arith, nat_tests)
 
 carries_on : (sheet : ℕ) (f : ℕ → Option ℕ) (b after : Block) (p : Place) → b.sheet ≡ sheet → after ≡ with_cols b (cols_of after) → Covers b p
-    → f p.col ≡ Some (after.left + (p.col - b.left)) → by_col sheet f p ≡ Some (carried b (first_place after) p)
+    → f p.col ≡ Some (after.left + (p.col - b.left)) → by_col sheet f p ≡ Some (carried_place b (first_place after) p)
 carries_on sheet f b after p on e c h =
     let same : after.sheet ≡ b.sheet = ap (λ x. x.sheet) e in
     let l : after.top ≡ b.top = ap (λ x. x.top) e in
     by_col_on sheet f p (after.left + (p.col - b.left)) (sym c.0 ∙ on) h
-    ∙ ap (λ x. Some x) (same_place (record p { col = after.left + (p.col - b.left) }) (carried b (first_place after) p) (sym c.0 ∙ sym same) (omega arith) refl)
+    ∙ ap (λ x. Some x) (same_place (record p { col = after.left + (p.col - b.left) }) (carried_place b (first_place after) p) (sym c.0 ∙ sym same) (omega arith) refl)
 
 -- where the first col of a block takes the others along, so does the block
 pub by_cols_carries : (sheet : ℕ) (f : ℕ → Option ℕ) (F : Span → Option Span) (b after : Block) (p : Place)
     → (b.sheet ≡ sheet → F (cols_of b) ≡ Some (cols_of after) → f p.col ≡ Some (after.left + (p.col - b.left)))
-    → by_cols sheet F b ≡ Some after → Covers b p → by_col sheet f p ≡ Some (carried b (first_place after) p)
+    → by_cols sheet F b ≡ Some after → Covers b p → by_col sheet f p ≡ Some (carried_place b (first_place after) p)
 by_cols_carries sheet f F b after p lines h c =
     elim (cases_by_cols sheet F b after h) [
       | inl w ↦ carries_on sheet f b after p w.0 w.2 c (lines w.0 w.1)
-      | inr w ↦ rw w.1 (by_col_off sheet f p (λ e. w.0 (c.0 ∙ e)) ∙ ap (λ x. Some x) (same_place p (carried b (first_place b) p) (sym c.0) (omega arith) (omega arith)))
+      | inr w ↦ rw w.1 (by_col_off sheet f p (λ e. w.0 (c.0 ∙ e)) ∙ ap (λ x. Some x) (same_place p (carried_place b (first_place b) p) (sym c.0) (omega arith) (omega arith)))
     ]

@@ -6,7 +6,7 @@ use Rattle.cell_addr.specs.declared.place.Block.{Block}
 use Rattle.cell_addr.specs.declared.place.TheConstants.{ROWS}
 use Rattle.cell_addr.specs.Place.{IsInside, IsBlockInside, Covers}
 use Rattle.shift_core.specs.declared.span.Span.{Span}
-use Rattle.shift_core.specs.Shift.{by_row, by_rows, carried, first_place}
+use Rattle.shift_core.specs.Shift.{by_row, by_rows, carried_place, first_place}
 use Rattle.shift_core.specs.Laws.{one_cell}
 use Rattle.shift_core.proofs.BlockMoves.{same_place}
 use Rattle.shift_core.proofs.SpanLaws.{IsWithin, LineComesFrom, one_line}
@@ -136,19 +136,19 @@ pub by_rows_same : (sheet : ℕ) (F G : Span → Option Span) (b : Block) → F 
 by_rows_same sheet F G b h = grind (arith, nat_tests)
 
 carries_on : (sheet : ℕ) (f : ℕ → Option ℕ) (b after : Block) (p : Place) → b.sheet ≡ sheet → after ≡ with_rows b (rows_of after) → Covers b p
-    → f p.row ≡ Some (after.top + (p.row - b.top)) → by_row sheet f p ≡ Some (carried b (first_place after) p)
+    → f p.row ≡ Some (after.top + (p.row - b.top)) → by_row sheet f p ≡ Some (carried_place b (first_place after) p)
 carries_on sheet f b after p on e c h =
     let same : after.sheet ≡ b.sheet = ap (λ x. x.sheet) e in
     let l : after.left ≡ b.left = ap (λ x. x.left) e in
     by_row_on sheet f p (after.top + (p.row - b.top)) (sym c.0 ∙ on) h
-    ∙ ap (λ x. Some x) (same_place (record p { row = after.top + (p.row - b.top) }) (carried b (first_place after) p) (sym c.0 ∙ sym same) refl (omega arith))
+    ∙ ap (λ x. Some x) (same_place (record p { row = after.top + (p.row - b.top) }) (carried_place b (first_place after) p) (sym c.0 ∙ sym same) refl (omega arith))
 
 -- where the first row of a block takes the others along, so does the block
 pub by_rows_carries : (sheet : ℕ) (f : ℕ → Option ℕ) (F : Span → Option Span) (b after : Block) (p : Place)
     → (b.sheet ≡ sheet → F (rows_of b) ≡ Some (rows_of after) → f p.row ≡ Some (after.top + (p.row - b.top)))
-    → by_rows sheet F b ≡ Some after → Covers b p → by_row sheet f p ≡ Some (carried b (first_place after) p)
+    → by_rows sheet F b ≡ Some after → Covers b p → by_row sheet f p ≡ Some (carried_place b (first_place after) p)
 by_rows_carries sheet f F b after p lines h c =
     elim (cases_by_rows sheet F b after h) [
       | inl w ↦ carries_on sheet f b after p w.0 w.2 c (lines w.0 w.1)
-      | inr w ↦ rw w.1 (by_row_off sheet f p (λ e. w.0 (c.0 ∙ e)) ∙ ap (λ x. Some x) (same_place p (carried b (first_place b) p) (sym c.0) (omega arith) (omega arith)))
+      | inr w ↦ rw w.1 (by_row_off sheet f p (λ e. w.0 (c.0 ∙ e)) ∙ ap (λ x. Some x) (same_place p (carried_place b (first_place b) p) (sym c.0) (omega arith) (omega arith)))
     ]

@@ -11,7 +11,7 @@ use Rattle.shift_core.specs.declared.shift.Shift.{Shift}
 use Rattle.shift_core.specs.declared.shift.Shift.TheVariants.{InsertRows, DeleteRows, InsertCols, DeleteCols, MoveRows, MoveCols, MoveBlock, DropSheet}
 use Rattle.shift_core.specs.Lines.{line_after_insert, line_after_delete, line_after_move}
 use Rattle.shift_core.specs.Spans.{span_after_insert, span_after_delete, span_after_move}
-use Rattle.shift_core.specs.Shift.{IsSound, IsBent, HaveOtherSizes, MeetsDisplaced, moved, moved_ends, carried, first_place}
+use Rattle.shift_core.specs.Shift.{IsSound, IsBent, HaveOtherSizes, MeetsDisplaced, place_after, block_after, carried_place, first_place}
 use Rattle.shift_core.specs.Laws.{IsCut, MovesNoBlock}
 use Rattle.shift_core.proofs.BlockMoves.{same_place}
 use Rattle.shift_core.proofs.PlaceLaws.{stays_on_drop}
@@ -20,24 +20,24 @@ use Rattle.shift_core.proofs.RowRules.{by_rows_carries, rows_of}
 use Rattle.shift_core.proofs.ColRules.{by_cols_carries, cols_of}
 
 -- what an operation that doesn't bend a block leaves of it has the same size, and no line in it is displaced
-straight : (s : Shift) (b after : Block) → ¬ IsBent s b → moved_ends s b ≡ Some after → ¬ (HaveOtherSizes b after ⊎ MeetsDisplaced s b)
+straight : (s : Shift) (b after : Block) → ¬ IsBent s b → block_after s b ≡ Some after → ¬ (HaveOtherSizes b after ⊎ MeetsDisplaced s b)
 straight s b after still h bent =
     let P : Option Block → Type 0 = λ o. MatchOption o ⊤ (λ x. HaveOtherSizes b x ⊎ MeetsDisplaced s b) in still (subst P (sym h) bent)
 
 equal : (a b : ℕ) → ¬ (a ≢ b) → a ≡ b
 equal a b h = elim (cases_eq a b) [ inl e ↦ e | inr n ↦ absurd (h n) ]
 
-same_height : (s : Shift) (b after : Block) → ¬ IsBent s b → moved_ends s b ≡ Some after → after.bottom - after.top ≡ b.bottom - b.top
+same_height : (s : Shift) (b after : Block) → ¬ IsBent s b → block_after s b ≡ Some after → after.bottom - after.top ≡ b.bottom - b.top
 same_height s b after still h = sym (equal _ _ (λ n. straight s b after still h (inl (inl n))))
 
-same_width : (s : Shift) (b after : Block) → ¬ IsBent s b → moved_ends s b ≡ Some after → after.right - after.left ≡ b.right - b.left
+same_width : (s : Shift) (b after : Block) → ¬ IsBent s b → block_after s b ≡ Some after → after.right - after.left ≡ b.right - b.left
 same_width s b after still h = sym (equal _ _ (λ n. straight s b after still h (inl (inr n))))
 
-dropped_offset : (sheet : ℕ) (b after : Block) (p : Place) → moved_ends (DropSheet sheet) b ≡ Some after → Covers b p → moved (DropSheet sheet) p ≡ Some (carried b (first_place after) p)
+dropped_offset : (sheet : ℕ) (b after : Block) (p : Place) → block_after (DropSheet sheet) b ≡ Some after → Covers b p → place_after (DropSheet sheet) p ≡ Some (carried_place b (first_place after) p)
 dropped_offset sheet b after p h c = grind (arith, nat_tests)
 
-pub unbent_keeps : (s : Shift) (b after : Block) (p : Place) → IsSound s → MovesNoBlock s → IsBlockInside b → ¬ IsBent s b → ¬ IsCut s b → moved_ends s b ≡ Some after → Covers b p
-    → moved s p ≡ Some (carried b (first_place after) p)
+pub unbent_keeps : (s : Shift) (b after : Block) (p : Place) → IsSound s → MovesNoBlock s → IsBlockInside b → ¬ IsBent s b → ¬ IsCut s b → block_after s b ≡ Some after → Covers b p
+    → place_after s p ≡ Some (carried_place b (first_place after) p)
 unbent_keeps (InsertRows sheet start count) b after p sound none i still whole h c =
     by_rows_carries sheet (line_after_insert ROWS start count) (span_after_insert ROWS start count) b after p
     (λ on e. insert_carries ROWS start count (rows_of b) (rows_of after) p.row sound i.0 (λ cut. whole (on, cut)) e (same_height (InsertRows sheet start count) b after still h) (c.1, c.2)) h c

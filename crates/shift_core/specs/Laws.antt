@@ -9,32 +9,32 @@ use Rattle.shift_core.specs.declared.shift.Shift.TheVariants.{InsertRows, Delete
 use Rattle.shift_core.specs.declared.span.Span.{Span}
 use Rattle.shift_core.specs.Ends.{pushed_line}
 use Rattle.shift_core.specs.Lines.{is_among, line_after_move}
-use Rattle.shift_core.specs.Shift.{IsSound, IsBent, moved, moved_ends, back, back_ends, by_rows, by_cols, carried, first_place}
+use Rattle.shift_core.specs.Shift.{IsSound, IsBent, place_after, block_after, place_before, block_before, by_rows, by_cols, carried_place, first_place}
 
 -- a place that isn't lost comes back to where it was
 abbrev pub PlacesComeBack : Type 0
 PlacesComeBack =
-    (s : Shift) (p q : Place) → IsSound s → IsInside p → moved s p ≡ Some q → back s q ≡ Some p
+    (s : Shift) (p q : Place) → IsSound s → IsInside p → place_after s p ≡ Some q → place_before s q ≡ Some p
 
 -- what a place of the sheet came from goes there
 abbrev pub PlacesGoForth : Type 0
 PlacesGoForth =
-    (s : Shift) (p q : Place) → IsSound s → IsInside q → back s q ≡ Some p → moved s p ≡ Some q
+    (s : Shift) (p q : Place) → IsSound s → IsInside q → place_before s q ≡ Some p → place_after s p ≡ Some q
 
 -- no two places move to one
 abbrev pub NoTwoMeet : Type 0
 NoTwoMeet =
-    (s : Shift) (p other q : Place) → IsSound s → IsInside p → IsInside other → moved s p ≡ Some q → moved s other ≡ Some q → p ≡ other
+    (s : Shift) (p other q : Place) → IsSound s → IsInside p → IsInside other → place_after s p ≡ Some q → place_after s other ≡ Some q → p ≡ other
 
 -- places of the sheet move to places of the sheet, and came from places of the sheet
 abbrev pub PlacesStayInside : Type 0
 PlacesStayInside =
-    (s : Shift) (p q : Place) → IsSound s → IsInside p → ((moved s p ≡ Some q → IsInside q) × (back s p ≡ Some q → IsInside q))
+    (s : Shift) (p q : Place) → IsSound s → IsInside p → ((place_after s p ≡ Some q → IsInside q) × (place_before s p ≡ Some q → IsInside q))
 
 -- blocks of the sheet move to blocks of the sheet, and came from blocks of the sheet
 abbrev pub BlocksStayInside : Type 0
 BlocksStayInside =
-    (s : Shift) (b c : Block) → IsSound s → IsBlockInside b → ((moved_ends s b ≡ Some c → IsBlockInside c) × (back_ends s b ≡ Some c → IsBlockInside c))
+    (s : Shift) (b c : Block) → IsSound s → IsBlockInside b → ((block_after s b ≡ Some c → IsBlockInside c) × (block_before s b ≡ Some c → IsBlockInside c))
 
 -- the operation leaves all lines in their order: it inserts or deletes some, or drops a sheet
 abbrev pub KeepsOrder : Shift → Type 0
@@ -45,7 +45,7 @@ KeepsOrder _ = ⊤
 
 -- the operation moves a place of the block here
 abbrev pub ComesFrom : Shift → Block → Place → Type 0
-ComesFrom s b q = (p : Place) × Covers b p × (moved s p ≡ Some q)
+ComesFrom s b q = (p : Place) × Covers b p × (place_after s p ≡ Some q)
 
 -- one of the `count` lines that an insert puts between two lines of a block
 abbrev pub IsPutBetween : ℕ → ℕ → ℕ → ℕ → ℕ → Type 0
@@ -65,13 +65,13 @@ IsPutInside _ b q = ⊥
 abbrev pub BlocksCoverWhatMoves : Type 0
 BlocksCoverWhatMoves =
     (s : Shift) (b after : Block) (q : Place) → IsSound s → KeepsOrder s → IsBlockInside b → IsInside q →
-    moved_ends s b ≡ Some after → Covers after q ↔ (ComesFrom s b q ⊎ IsPutInside s b q)
+    block_after s b ≡ Some after → Covers after q ↔ (ComesFrom s b q ⊎ IsPutInside s b q)
 
 -- over an insert, a deletion or a dropped sheet, a block is lost exactly where each of its places is
 abbrev pub BlocksAreLostWithTheirPlaces : Type 0
 BlocksAreLostWithTheirPlaces =
     (s : Shift) (b : Block) → IsSound s → KeepsOrder s → IsBlockInside b →
-    (moved_ends s b ≡ None) ↔ ((p : Place) → Covers b p → moved s p ≡ None)
+    (block_after s b ≡ None) ↔ ((p : Place) → Covers b p → place_after s p ≡ None)
 
 -- the first line of a block that isn't among the moved ones, where the block ends behind them
 abbrev pub first_unmoved : ℕ → ℕ → ℕ → ℕ
@@ -96,9 +96,9 @@ abbrev pub MovedBlocksEndAtTheirLines : Type 0
 MovedBlocksEndAtTheirLines =
     (sheet start count before : ℕ) (b : Block) → IsBlockInside b →
     (IsSound (MoveRows sheet start count before) →
-      moved_ends (MoveRows sheet start count before) b ≡ by_rows sheet (λ rows. Some (span_of_lines start count before rows)) b)
+      block_after (MoveRows sheet start count before) b ≡ by_rows sheet (λ rows. Some (span_of_lines start count before rows)) b)
     × (IsSound (MoveCols sheet start count before) →
-      moved_ends (MoveCols sheet start count before) b ≡ by_cols sheet (λ cols. Some (span_of_lines start count before cols)) b)
+      block_after (MoveCols sheet start count before) b ≡ by_cols sheet (λ cols. Some (span_of_lines start count before cols)) b)
 
 -- the block of one place
 abbrev pub one_cell : Place → Block
@@ -107,7 +107,7 @@ one_cell p = record { sheet = p.sheet; top = p.row; left = p.col; bottom = p.row
 -- a place and the block of that place move alike
 abbrev pub OneCellsMoveAlike : Type 0
 OneCellsMoveAlike =
-    (s : Shift) (p : Place) → IsSound s → IsInside p → moved_ends s (one_cell p) ≡ option_map one_cell (moved s p)
+    (s : Shift) (p : Place) → IsSound s → IsInside p → block_after s (one_cell p) ≡ option_map one_cell (place_after s p)
 
 -- the operation isn't the move of a block of cells
 abbrev pub MovesNoBlock : Shift → Type 0
@@ -124,4 +124,4 @@ IsCut _ b = ⊥
 abbrev pub UnbentBlocksKeepOffsets : Type 0
 UnbentBlocksKeepOffsets =
     (s : Shift) (b after : Block) (p : Place) → IsSound s → MovesNoBlock s → IsBlockInside b → ¬ IsBent s b → ¬ IsCut s b →
-    moved_ends s b ≡ Some after → Covers b p → moved s p ≡ Some (carried b (first_place after) p)
+    block_after s b ≡ Some after → Covers b p → place_after s p ≡ Some (carried_place b (first_place after) p)

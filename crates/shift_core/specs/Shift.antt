@@ -28,8 +28,8 @@ abbrev pub contains : Block → Block → Bool
 contains b part = holds b (first_place part) && holds b (last_place part)
 
 -- the place with the same offset from `to` as `p` has from the block's first place
-abbrev pub carried : Block → Place → Place → Place
-carried source to p =
+abbrev pub carried_place : Block → Place → Place → Place
+carried_place source to p =
     record { sheet = to.sheet; row = to.row + (p.row - source.top); col = to.col + (p.col - source.left) }
 
 -- a block inside `source`, both corners carried along
@@ -84,55 +84,55 @@ by_cols sheet rule b =
     else Some b
 
 -- where an operation moves a place; none is lost
-abbrev pub moved : Shift → Place → Option Place
-moved (InsertRows sheet start count) p = by_row sheet (line_after_insert ROWS start count) p
-moved (DeleteRows sheet start count) p = by_row sheet (line_after_delete start count) p
-moved (InsertCols sheet start count) p = by_col sheet (line_after_insert COLS start count) p
-moved (DeleteCols sheet start count) p = by_col sheet (line_after_delete start count) p
-moved (MoveRows sheet start count before) p = by_row sheet (λ row. Some (line_after_move start count before row)) p
-moved (MoveCols sheet start count before) p = by_col sheet (λ col. Some (line_after_move start count before col)) p
-moved (MoveBlock source to) p =
-    if holds source p then Some (carried source to p)
+abbrev pub place_after : Shift → Place → Option Place
+place_after (InsertRows sheet start count) p = by_row sheet (line_after_insert ROWS start count) p
+place_after (DeleteRows sheet start count) p = by_row sheet (line_after_delete start count) p
+place_after (InsertCols sheet start count) p = by_col sheet (line_after_insert COLS start count) p
+place_after (DeleteCols sheet start count) p = by_col sheet (line_after_delete start count) p
+place_after (MoveRows sheet start count before) p = by_row sheet (λ row. Some (line_after_move start count before row)) p
+place_after (MoveCols sheet start count before) p = by_col sheet (λ col. Some (line_after_move start count before col)) p
+place_after (MoveBlock source to) p =
+    if holds source p then Some (carried_place source to p)
     else (if holds (destination source to) p then None else Some p)
-moved (DropSheet sheet) p = if p.sheet == sheet then None else Some p
+place_after (DropSheet sheet) p = if p.sheet == sheet then None else Some p
 
 -- where an operation moves a block; none is lost
-abbrev pub moved_ends : Shift → Block → Option Block
-moved_ends (InsertRows sheet start count) b = by_rows sheet (span_after_insert ROWS start count) b
-moved_ends (DeleteRows sheet start count) b = by_rows sheet (span_after_delete start count) b
-moved_ends (InsertCols sheet start count) b = by_cols sheet (span_after_insert COLS start count) b
-moved_ends (DeleteCols sheet start count) b = by_cols sheet (span_after_delete start count) b
-moved_ends (MoveRows sheet start count before) b = by_rows sheet (span_after_move start count before) b
-moved_ends (MoveCols sheet start count before) b = by_cols sheet (span_after_move start count before) b
-moved_ends (MoveBlock source to) b =
+abbrev pub block_after : Shift → Block → Option Block
+block_after (InsertRows sheet start count) b = by_rows sheet (span_after_insert ROWS start count) b
+block_after (DeleteRows sheet start count) b = by_rows sheet (span_after_delete start count) b
+block_after (InsertCols sheet start count) b = by_cols sheet (span_after_insert COLS start count) b
+block_after (DeleteCols sheet start count) b = by_cols sheet (span_after_delete start count) b
+block_after (MoveRows sheet start count before) b = by_rows sheet (span_after_move start count before) b
+block_after (MoveCols sheet start count before) b = by_cols sheet (span_after_move start count before) b
+block_after (MoveBlock source to) b =
     if contains source b then Some (carried_block source to b)
     else (if contains (destination source to) b then None else Some b)
-moved_ends (DropSheet sheet) b = if b.sheet == sheet then None else Some b
+block_after (DropSheet sheet) b = if b.sheet == sheet then None else Some b
 
 -- which place an operation moved here; none where there was none
-abbrev pub back : Shift → Place → Option Place
-back (InsertRows sheet start count) p = by_row sheet (line_before_insert start count) p
-back (DeleteRows sheet start count) p = by_row sheet (line_before_delete ROWS start count) p
-back (InsertCols sheet start count) p = by_col sheet (line_before_insert start count) p
-back (DeleteCols sheet start count) p = by_col sheet (line_before_delete COLS start count) p
-back (MoveRows sheet start count before) p = by_row sheet (λ row. Some (line_before_move start count before row)) p
-back (MoveCols sheet start count before) p = by_col sheet (λ col. Some (line_before_move start count before col)) p
-back (MoveBlock source to) p =
-    if holds (destination source to) p then Some (carried (destination source to) (first_place source) p)
+abbrev pub place_before : Shift → Place → Option Place
+place_before (InsertRows sheet start count) p = by_row sheet (line_before_insert start count) p
+place_before (DeleteRows sheet start count) p = by_row sheet (line_before_delete ROWS start count) p
+place_before (InsertCols sheet start count) p = by_col sheet (line_before_insert start count) p
+place_before (DeleteCols sheet start count) p = by_col sheet (line_before_delete COLS start count) p
+place_before (MoveRows sheet start count before) p = by_row sheet (λ row. Some (line_before_move start count before row)) p
+place_before (MoveCols sheet start count before) p = by_col sheet (λ col. Some (line_before_move start count before col)) p
+place_before (MoveBlock source to) p =
+    if holds (destination source to) p then Some (carried_place (destination source to) (first_place source) p)
     else (if holds source p then None else Some p)
-back (DropSheet sheet) p = if p.sheet == sheet then None else Some p
+place_before (DropSheet sheet) p = if p.sheet == sheet then None else Some p
 
 -- which block the ends stood for before the operation; none where an end was nowhere
-abbrev pub back_ends : Shift → Block → Option Block
-back_ends (InsertRows sheet start count) b = by_rows sheet (span_before_insert start count) b
-back_ends (DeleteRows sheet start count) b = by_rows sheet (span_before_delete ROWS start count) b
-back_ends (InsertCols sheet start count) b = by_cols sheet (span_before_insert start count) b
-back_ends (DeleteCols sheet start count) b = by_cols sheet (span_before_delete COLS start count) b
-back_ends (MoveRows sheet start count before) b = by_rows sheet (span_before_move start count before) b
-back_ends (MoveCols sheet start count before) b = by_cols sheet (span_before_move start count before) b
-back_ends (MoveBlock source to) b =
+abbrev pub block_before : Shift → Block → Option Block
+block_before (InsertRows sheet start count) b = by_rows sheet (span_before_insert start count) b
+block_before (DeleteRows sheet start count) b = by_rows sheet (span_before_delete ROWS start count) b
+block_before (InsertCols sheet start count) b = by_cols sheet (span_before_insert start count) b
+block_before (DeleteCols sheet start count) b = by_cols sheet (span_before_delete COLS start count) b
+block_before (MoveRows sheet start count before) b = by_rows sheet (span_before_move start count before) b
+block_before (MoveCols sheet start count before) b = by_cols sheet (span_before_move start count before) b
+block_before (MoveBlock source to) b =
     if contains (destination source to) b then Some (carried_block (destination source to) (first_place source) b) else Some b
-back_ends (DropSheet sheet) b = if b.sheet == sheet then None else Some b
+block_before (DropSheet sheet) b = if b.sheet == sheet then None else Some b
 
 -- the block meets a row or a column that a move of rows or columns displaces
 abbrev pub MeetsDisplaced : Shift → Block → Type 0
@@ -148,4 +148,4 @@ HaveOtherSizes a b = (a.bottom - a.top ≢ b.bottom - b.top) ⊎ (a.right - a.le
 
 -- the operation doesn't carry the block along as it is: it is lost, or its size changes, or lines in it are displaced
 abbrev pub IsBent : Shift → Block → Type 0
-IsBent s b = MatchOption (moved_ends s b) ⊤ (λ after. HaveOtherSizes b after ⊎ MeetsDisplaced s b)
+IsBent s b = MatchOption (block_after s b) ⊤ (λ after. HaveOtherSizes b after ⊎ MeetsDisplaced s b)

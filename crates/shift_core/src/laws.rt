@@ -57,7 +57,7 @@ pub fn one_cells_move_alike()
 {
 }
 
-/// Unless a block of cells is moved, the places of a block that is neither bent nor cut at the
+/// Unless a block of cells is place_after, the places of a block that is neither bent nor cut at the
 /// sheet's end keep their offsets in it.
 pub fn unbent_blocks_keep_offsets()
     ensures { UnbentBlocksKeepOffsets }

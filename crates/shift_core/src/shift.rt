@@ -29,7 +29,7 @@ pub enum Shift {
 
 ghost use Rattle.cell_addr.specs.Place.{IsBlockInside};
 ghost use Rattle.shift_core.specs.declared.shift.Shift.TheVariants.{MoveBlock};
-ghost use Rattle.shift_core.specs.Shift.{IsSound, IsBent, MeetsDisplaced, HaveOtherSizes, moved, moved_ends, back, back_ends, by_row, by_col, by_rows, by_cols, holds, contains, first_place, carried, carried_block, destination};
+ghost use Rattle.shift_core.specs.Shift.{IsSound, IsBent, MeetsDisplaced, HaveOtherSizes, place_after, block_after, place_before, block_before, by_row, by_col, by_rows, by_cols, holds, contains, first_place, carried_place, carried_block, destination};
 
 /// Whether the operation fits a sheet and isn't without effect.
 ///
@@ -66,7 +66,7 @@ fn sound_move_block(source: Block, to: Place) -> bool
 /// Where the operation moves the place; None where it is lost.
 pub fn moved_place(s: &Shift, p: Place) -> Option<Place>
     requires { IsSound s.now }
-    ensures { result ≡ moved s.now p }
+    ensures { result ≡ place_after s.now p }
 {
     match *s {
         Shift::InsertRows { sheet, at, count } => on_row(sheet, p, line::after_insert(ROWS, at, count, p.row)),
@@ -97,7 +97,7 @@ pub fn moved_place(s: &Shift, p: Place) -> Option<Place>
 /// Where the operation moves the block; None where it is lost.
 pub fn moved_block(s: &Shift, b: Block) -> Option<Block>
     requires { IsSound s.now }
-    ensures { result ≡ moved_ends s.now b }
+    ensures { result ≡ block_after s.now b }
 {
     match *s {
         Shift::InsertRows { sheet, at, count } => on_rows(sheet, b, rows(b).after_insert(ROWS, at, count)),
@@ -128,7 +128,7 @@ pub fn moved_block(s: &Shift, b: Block) -> Option<Block>
 /// Which place the operation moved to `p`; None where there was none.
 pub fn back_place(s: &Shift, p: Place) -> Option<Place>
     requires { IsSound s.now }
-    ensures { result ≡ back s.now p }
+    ensures { result ≡ place_before s.now p }
 {
     match *s {
         Shift::InsertRows { sheet, at, count } => on_row(sheet, p, line::before_insert(at, count, p.row)),
@@ -163,7 +163,7 @@ pub fn back_place(s: &Shift, p: Place) -> Option<Place>
 /// Which block had the ends that the operation moved to those of `b`; None where one of them was nowhere.
 pub fn back_block(s: &Shift, b: Block) -> Option<Block>
     requires { IsSound s.now }
-    ensures { result ≡ back_ends s.now b }
+    ensures { result ≡ block_before s.now b }
 {
     match *s {
         Shift::InsertRows { sheet, at, count } => on_rows(sheet, b, rows(b).before_insert(at, count)),
@@ -250,7 +250,7 @@ fn covered(b: Block, p: Place) -> bool
 fn carry(source: Block, to: Place, p: Place) -> Place
     requires covered { IsTrue (holds source p) }
     requires inside { IsBlockInside (destination source to) }
-    ensures { result ≡ carried source to p }
+    ensures { result ≡ carried_place source to p }
 {
     Place { sheet: to.sheet, row: to.row + (p.row - source.top), col: to.col + (p.col - source.left) }
 }
