@@ -12,7 +12,9 @@ use Rattle.shift_core.specs.declared.shift.Shift.TheVariants.{InsertRows, Delete
 use Rattle.shift_core.specs.declared.span.Span.{Span}
 use Rattle.shift_core.specs.Lines.{line_after_insert, line_after_delete, line_after_move}
 use Rattle.shift_core.specs.Spans.{span_after_insert, span_after_delete, span_after_move, span_before_insert, span_before_delete, span_before_move}
-use Rattle.shift_core.specs.Shift.{IsSound, place_after, block_after, block_before, by_rows, by_cols, holds, contains, carried_place, carried_block, destination, first_place, last_place}
+use Rattle.shift_core.specs.Sound.{IsSound}
+use Rattle.shift_core.specs.Tables.{place_after, block_after, block_before, by_rows, by_cols}
+use Rattle.shift_core.specs.Carried.{holds, contains, carried_place, carried_block, destination, first_place, last_place}
 use Rattle.shift_core.specs.Laws.{KeepsOrder, ComesFrom, IsPutBetween, IsPutInside, MovedBlocksEndAtTheirLines, span_of_lines, one_cell}
 use Rattle.shift_core.proofs.BlockMoves.{cases_chosen, Covers-from_holds}
 use Rattle.shift_core.proofs.PlaceLaws.{stays_on_drop}

@@ -6,7 +6,8 @@ use Rattle.cell_addr.specs.declared.place.Block.{Block}
 use Rattle.cell_addr.specs.declared.place.TheConstants.{ROWS, COLS}
 use Rattle.cell_addr.specs.Place.{IsInside, IsBlockInside, Covers}
 use Rattle.shift_core.specs.declared.shift.Shift.TheVariants.{MoveBlock}
-use Rattle.shift_core.specs.Shift.{place_after, place_before, holds, carried_place, destination, first_place}
+use Rattle.shift_core.specs.Tables.{place_after, place_before}
+use Rattle.shift_core.specs.Carried.{holds, carried_place, destination, first_place}
 
 pub same_place : (p q : Place) → p.sheet ≡ q.sheet → p.row ≡ q.row → p.col ≡ q.col → p ≡ q
 same_place p q sheets rows cols = grind arith

@@ -6,7 +6,8 @@ use Rattle.cell_addr.specs.declared.place.Block.{Block}
 use Rattle.cell_addr.specs.declared.place.TheConstants.{COLS}
 use Rattle.cell_addr.specs.Place.{IsInside, IsBlockInside, Covers}
 use Rattle.shift_core.specs.declared.span.Span.{Span}
-use Rattle.shift_core.specs.Shift.{by_col, by_cols, carried_place, first_place}
+use Rattle.shift_core.specs.Tables.{by_col, by_cols}
+use Rattle.shift_core.specs.Carried.{carried_place, first_place}
 use Rattle.shift_core.specs.Laws.{one_cell}
 use Rattle.shift_core.proofs.BlockMoves.{same_place}
 use Rattle.shift_core.proofs.SpanLaws.{IsWithin, LineComesFrom, one_line}

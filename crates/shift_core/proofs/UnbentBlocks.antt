@@ -11,8 +11,12 @@ use Rattle.shift_core.specs.declared.shift.Shift.{Shift}
 use Rattle.shift_core.specs.declared.shift.Shift.TheVariants.{InsertRows, DeleteRows, InsertCols, DeleteCols, MoveRows, MoveCols, MoveBlock, DropSheet}
 use Rattle.shift_core.specs.Lines.{line_after_insert, line_after_delete, line_after_move}
 use Rattle.shift_core.specs.Spans.{span_after_insert, span_after_delete, span_after_move}
-use Rattle.shift_core.specs.Shift.{IsSound, IsBent, HaveOtherSizes, MeetsDisplaced, place_after, block_after, carried_place, first_place}
-use Rattle.shift_core.specs.Laws.{IsCut, MovesNoBlock}
+use Rattle.shift_core.specs.Sound.{IsSound}
+use Rattle.shift_core.specs.Bent.{IsBent, HaveOtherSizes, MeetsDisplaced}
+use Rattle.shift_core.specs.Tables.{place_after, block_after}
+use Rattle.shift_core.specs.Carried.{carried_place, first_place}
+use Rattle.shift_core.specs.Bent.{IsCut}
+use Rattle.shift_core.specs.Laws.{MovesNoBlock}
 use Rattle.shift_core.proofs.BlockMoves.{same_place}
 use Rattle.shift_core.proofs.PlaceLaws.{stays_on_drop}
 use Rattle.shift_core.proofs.SpanLaws.{insert_carries, delete_carries, move_carries}

@@ -2,14 +2,15 @@
 use Rattle.std.specs.Prelude.{◌≡◌, ◌≢◌, ◌↔◌, ℕ, ◌+◌, ◌-◌, ◌<◌, ◌≤◌, ◌⊎◌, ⊤, ◌&&◌, if◌then◌else◌, Option, Some, None, option_map}
 use Rattle.cell_addr.specs.declared.place.Place.{Place}
 use Rattle.cell_addr.specs.declared.place.Block.{Block}
-use Rattle.cell_addr.specs.declared.place.TheConstants.{ROWS, COLS}
 use Rattle.cell_addr.specs.Place.{IsInside, IsBlockInside, Covers}
 use Rattle.shift_core.specs.declared.shift.Shift.{Shift}
 use Rattle.shift_core.specs.declared.shift.Shift.TheVariants.{InsertRows, DeleteRows, InsertCols, DeleteCols, MoveRows, MoveCols, MoveBlock, DropSheet}
 use Rattle.shift_core.specs.declared.span.Span.{Span}
-use Rattle.shift_core.specs.Ends.{pushed_line}
 use Rattle.shift_core.specs.Lines.{is_among, line_after_move}
-use Rattle.shift_core.specs.Shift.{IsSound, IsBent, place_after, block_after, place_before, block_before, by_rows, by_cols, carried_place, first_place}
+use Rattle.shift_core.specs.Carried.{carried_place, first_place}
+use Rattle.shift_core.specs.Sound.{IsSound}
+use Rattle.shift_core.specs.Tables.{place_after, block_after, place_before, block_before, by_rows, by_cols}
+use Rattle.shift_core.specs.Bent.{IsBent, IsCut}
 
 -- a place that isn't lost comes back to where it was
 abbrev pub PlacesComeBack : Type 0
@@ -113,12 +114,6 @@ OneCellsMoveAlike =
 abbrev pub MovesNoBlock : Shift → Type 0
 MovesNoBlock (MoveBlock source to) = ⊥
 MovesNoBlock _ = ⊤
-
--- an insert pushes the block's end past the last row or column, where it is cut
-abbrev pub IsCut : Shift → Block → Type 0
-IsCut (InsertRows sheet start count) b = (b.sheet ≡ sheet) × (ROWS ≤ pushed_line start count b.bottom)
-IsCut (InsertCols sheet start count) b = (b.sheet ≡ sheet) × (COLS ≤ pushed_line start count b.right)
-IsCut _ b = ⊥
 
 -- unless the operation is a move of cells, the places of a block that is neither bent nor cut keep their offsets in it
 abbrev pub UnbentBlocksKeepOffsets : Type 0

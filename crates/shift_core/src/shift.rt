@@ -27,9 +27,12 @@ pub enum Shift {
     DropSheet { sheet: u32 },
 }
 
-ghost use Rattle.cell_addr.specs.Place.{IsBlockInside};
+ghost use Rattle.cell_addr.specs.Place.{IsBlockInside, Covers};
 ghost use Rattle.shift_core.specs.declared.shift.Shift.TheVariants.{MoveBlock};
-ghost use Rattle.shift_core.specs.Shift.{IsSound, IsBent, MeetsDisplaced, HaveOtherSizes, place_after, block_after, place_before, block_before, by_row, by_col, by_rows, by_cols, holds, contains, first_place, carried_place, carried_block, destination};
+ghost use Rattle.shift_core.specs.Sound.{IsSound};
+ghost use Rattle.shift_core.specs.Bent.{IsBent, MeetsDisplaced, HaveOtherSizes};
+ghost use Rattle.shift_core.specs.Tables.{place_after, block_after, place_before, block_before, by_row, by_col, by_rows, by_cols};
+ghost use Rattle.shift_core.specs.Carried.{holds, contains, first_place, carried_place, carried_block, destination};
 
 /// Whether the operation fits a sheet and isn't without effect.
 ///
@@ -80,9 +83,9 @@ pub fn moved_place(s: &Shift, p: Place) -> Option<Place>
             on_col(sheet, p, Some(line::after_move(from, count, before, p.col)))
         }
         Shift::MoveBlock { source, to } => {
-            if covered(source, p) {
+            if source.holds(p) {
                 Some(carry(source, to, p))
-            } else if covered(landing(source, to), p) {
+            } else if destination_of(source, to).holds(p) {
                 None
             } else {
                 Some(p)
@@ -113,7 +116,7 @@ pub fn moved_block(s: &Shift, b: Block) -> Option<Block>
         Shift::MoveBlock { source, to } => {
             if contained(source, b) {
                 Some(carry_block(source, to, b))
-            } else if contained(landing(source, to), b) {
+            } else if contained(destination_of(source, to), b) {
                 None
             } else {
                 Some(b)
@@ -146,9 +149,9 @@ pub fn back_place(s: &Shift, p: Place) -> Option<Place>
             on_col(sheet, p, Some(line::before_move(from, count, before, p.col)))
         }
         Shift::MoveBlock { source, to } => {
-            if covered(landing(source, to), p) {
-                Some(carry(landing(source, to), first(source), p))
-            } else if covered(source, p) {
+            if destination_of(source, to).holds(p) {
+                Some(carry(destination_of(source, to), first(source), p))
+            } else if source.holds(p) {
                 None
             } else {
                 Some(p)
@@ -177,8 +180,8 @@ pub fn back_block(s: &Shift, b: Block) -> Option<Block>
             on_cols(sheet, b, cols(b).before_move(from, count, before))
         }
         Shift::MoveBlock { source, to } => {
-            if contained(landing(source, to), b) {
-                Some(carry_block(landing(source, to), first(source), b))
+            if contained(destination_of(source, to), b) {
+                Some(carry_block(destination_of(source, to), first(source), b))
             } else {
                 Some(b)
             }
@@ -239,16 +242,9 @@ fn on_col(sheet: u32, p: Place, col: Option<u32>) -> Option<Place>
     if p.sheet == sheet { Some(Place { col: col?, ..p }) } else { Some(p) }
 }
 
-/// Whether the block covers the place.
-fn covered(b: Block, p: Place) -> bool
-    ensures { result ≡ holds b p }
-{
-    b.sheet == p.sheet && b.top <= p.row && p.row <= b.bottom && b.left <= p.col && p.col <= b.right
-}
-
 /// The place with the same offset from `to` as `p` has from the first place of `source`.
 fn carry(source: Block, to: Place, p: Place) -> Place
-    requires covered { IsTrue (holds source p) }
+    requires covered { Covers source p }
     requires inside { IsBlockInside (destination source to) }
     ensures { result ≡ carried_place source to p }
 {
@@ -256,7 +252,7 @@ fn carry(source: Block, to: Place, p: Place) -> Place
 }
 
 /// The block of the size of `source` that begins at `to`.
-fn landing(source: Block, to: Place) -> Block
+fn destination_of(source: Block, to: Place) -> Block
     requires source_inside { IsBlockInside source }
     requires inside { IsBlockInside (destination source to) }
     ensures { result ≡ destination source to }
@@ -319,7 +315,7 @@ fn first(b: Block) -> Place
 fn contained(b: Block, part: Block) -> bool
     ensures { result ≡ contains b part }
 {
-    covered(b, first(part)) && covered(b, Place { sheet: part.sheet, row: part.bottom, col: part.right })
+    b.holds(first(part)) && b.holds(Place { sheet: part.sheet, row: part.bottom, col: part.right })
 }
 
 /// The part of `source` with the same offset from `to`.
