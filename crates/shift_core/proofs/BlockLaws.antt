@@ -69,9 +69,9 @@ dropped_block sheet b h = grind (arith, nat_tests)
 
 drop_loses : (sheet : ℕ) (b : Block) → IsBlockInside b → (block_after (DropSheet sheet) b ≡ None) ↔ ((p : Place) → Covers b p → place_after (DropSheet sheet) p ≡ None)
 drop_loses sheet b i = (
-    λ h p c. lost_place sheet p (sym c.0 ∙ lost_block sheet b h),
-    λ all. dropped_block sheet b (all (first_place b) (refl, omega arith, omega arith, omega arith, omega arith)),
-  )
+  λ h p c. lost_place sheet p (sym c.0 ∙ lost_block sheet b h),
+  λ all. dropped_block sheet b (all (first_place b) (refl, omega arith, omega arith, omega arith, omega arith)),
+)
 
 one_cell_dropped : (sheet : ℕ) (p : Place) → block_after (DropSheet sheet) (one_cell p) ≡ option_map one_cell (place_after (DropSheet sheet) p)
 one_cell_dropped sheet p = grind (arith, nat_tests)
@@ -125,9 +125,9 @@ drop_covers sheet b after q h =
 -- what never is put in makes no case
 never_put : {A B : Type 0} (f : B → ⊥) → {C : Type 0} → C ↔ (A ⊎ B) → C ↔ (A ⊎ ⊥)
 never_put f iff = (
-    λ c. elim (iff.0 c) [ inl a ↦ inl a | inr b ↦ absurd (f b) ],
-    λ e. elim e [ inl a ↦ iff.1 (inl a) | inr b ↦ absurd b ],
-  )
+  λ c. elim (iff.0 c) [ inl a ↦ inl a | inr b ↦ absurd (f b) ],
+  λ e. elim e [ inl a ↦ iff.1 (inl a) | inr b ↦ absurd b ],
+)
 
 pub block_after_covers : (s : Shift) (b after : Block) (q : Place) → IsSound s → KeepsOrder s → IsBlockInside b → IsInside q → block_after s b ≡ Some after
     → Covers after q ↔ (ComesFrom s b q ⊎ IsPutInside s b q)
@@ -160,9 +160,9 @@ block_after_lost (DropSheet sheet) b sound keeps i = drop_loses sheet b i
 
 pub move_lines_ends : MovedBlocksEndAtTheirLines
 move_lines_ends sheet start count before b i = (
-    λ sound. by_rows_same sheet (span_after_move start count before) (λ rows. Some (span_of_lines start count before rows)) b (move_ends ROWS start count before (rows_of b) sound i.0),
-    λ sound. by_cols_same sheet (span_after_move start count before) (λ cols. Some (span_of_lines start count before cols)) b (move_ends COLS start count before (cols_of b) sound i.2),
-  )
+  λ sound. by_rows_same sheet (span_after_move start count before) (λ rows. Some (span_of_lines start count before rows)) b (move_ends ROWS start count before (rows_of b) sound i.0),
+  λ sound. by_cols_same sheet (span_after_move start count before) (λ cols. Some (span_of_lines start count before cols)) b (move_ends COLS start count before (cols_of b) sound i.2),
+)
 
 pub one_cell_moves : (s : Shift) (p : Place) → IsSound s → IsInside p → block_after s (one_cell p) ≡ option_map one_cell (place_after s p)
 one_cell_moves (InsertRows sheet start count) p sound i = by_rows_one_cell sheet (line_after_insert ROWS start count) (span_after_insert ROWS start count) p (one_line_insert ROWS start count p.row sound i.0)

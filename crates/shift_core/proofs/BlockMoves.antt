@@ -50,11 +50,11 @@ pub move_block_returns : (source : Block) (to p q : Place) → place_after (Move
 move_block_returns source to p q h =
     elim (cases_chosen (holds source p) (holds (destination source to) p) (carried_place source to p) p q h) [
       | inl w ↦
-        let c = Covers-from_holds source p w.0 in
-        rw w.1 (
+          let c = Covers-from_holds source p w.0 in
+          rw w.1 (
           chosen_first _ (holds source (carried_place source to p)) _ _ (holds-from_Covers (destination source to) (carried_place source to p) (carried_covered source to p c))
           ∙ ap (λ x. Some x) (carried_returns source to p c)
-        )
+          )
       | inr w ↦ rw w.2 (chosen_second (holds (destination source to) p) (holds source p) _ p w.1 w.0)
     ]
 
@@ -62,11 +62,11 @@ pub move_block_goes : (source : Block) (to p q : Place) → IsBlockInside source
 move_block_goes source to p q i h =
     elim (cases_chosen (holds (destination source to) q) (holds source q) (carried_place (destination source to) (first_place source) q) q p h) [
       | inl w ↦
-        let c = Covers-from_holds (destination source to) q w.0 in
-        rw w.1 (
+          let c = Covers-from_holds (destination source to) q w.0 in
+          rw w.1 (
           chosen_first _ (holds (destination source to) (carried_place (destination source to) (first_place source) q)) _ _ (holds-from_Covers source (carried_place (destination source to) (first_place source) q) (returned_covered source to q i c))
           ∙ ap (λ x. Some x) (returned_goes source to q c)
-        )
+          )
       | inr w ↦ rw w.2 (chosen_second (holds source q) (holds (destination source to) q) _ q w.1 w.0)
     ]
 

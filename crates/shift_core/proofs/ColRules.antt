@@ -72,8 +72,8 @@ covers_on sheet f Put b after q on e lines =
     let r : after.bottom ≡ b.bottom = ap (λ x. x.bottom) e in (
       λ c. elim (lines.0 (c.3, c.4)) [
         | inl (n, w, m) ↦
-          let p : Place = record { sheet = b.sheet; col = n; row = q.row } in
-          inl (p, (refl, omega arith, omega arith, w.0, w.1), by_col_on sheet f p q.col on m ∙ ap (λ x. Some x) (same_place (record p { col = q.col }) q (sym same ∙ c.0) refl refl))
+            let p : Place = record { sheet = b.sheet; col = n; row = q.row } in
+            inl (p, (refl, omega arith, omega arith, w.0, w.1), by_col_on sheet f p q.col on m ∙ ap (λ x. Some x) (same_place (record p { col = q.col }) q (sym same ∙ c.0) refl refl))
         | inr put ↦ inr (on, sym c.0 ∙ same ∙ on, put, omega arith, omega arith)
       ],
       λ e. elim e [
@@ -87,15 +87,15 @@ covers_on sheet f Put b after q on e lines =
 
 covers_off : (sheet : ℕ) (f : ℕ → Option ℕ) (Put : Span → ℕ → Type 0) (b : Block) (q : Place) → b.sheet ≢ sheet → Covers b q ↔ (ComesByCol sheet f b q ⊎ IsPutByCol sheet Put b q)
 covers_off sheet f Put b q off = (
-    λ c. inl (q, c, by_col_off sheet f q (λ h. off (c.0 ∙ h))),
-    λ e. elim e [
-      | inl (p, c, m) ↦ elim (cases_by_col sheet f p q m) [
-        | inl w ↦ absurd (off (c.0 ∙ w.0))
-        | inr w ↦ rw w.1 c
-      ]
-      | inr w ↦ absurd (off w.0)
-    ],
-  )
+  λ c. inl (q, c, by_col_off sheet f q (λ h. off (c.0 ∙ h))),
+  λ e. elim e [
+    | inl (p, c, m) ↦ elim (cases_by_col sheet f p q m) [
+      | inl w ↦ absurd (off (c.0 ∙ w.0))
+      | inr w ↦ rw w.1 c
+    ]
+    | inr w ↦ absurd (off w.0)
+  ],
+)
 
 pub by_cols_covers : (sheet : ℕ) (f : ℕ → Option ℕ) (F : Span → Option Span) (Put : Span → ℕ → Type 0)
     → ((s t : Span) (q : ℕ) → s.first ≤ s.last → s.last < COLS → q < COLS → F s ≡ Some t → IsWithin t q ↔ (LineComesFrom f s q ⊎ Put s q))
@@ -121,12 +121,12 @@ pub by_cols_loses : (sheet : ℕ) (f : ℕ → Option ℕ) (F : Span → Option 
     → ((s : Span) → s.first ≤ s.last → s.last < COLS → f s.first ≡ None → f s.last ≡ None → F s ≡ None)
     → (b : Block) → IsBlockInside b → (by_cols sheet F b ≡ None) ↔ ((p : Place) → Covers b p → by_col sheet f p ≡ None)
 by_cols_loses sheet f F loses lost b i = (
-    λ h p c. let w = lost_cols sheet F b h in by_col_lost sheet f p (sym c.0 ∙ w.0) (loses (cols_of b) p.col i.2 i.3 (c.3, c.4) w.1),
-    λ all.
+  λ h p c. let w = lost_cols sheet F b h in by_col_lost sheet f p (sym c.0 ∙ w.0) (loses (cols_of b) p.col i.2 i.3 (c.3, c.4) w.1),
+  λ all.
       let first = lost_col sheet f (record { sheet = b.sheet; col = b.left; row = b.top }) (all _ (refl, omega arith, omega arith, omega arith, omega arith)) in
       let last = lost_col sheet f (record { sheet = b.sheet; col = b.right; row = b.bottom }) (all _ (refl, omega arith, omega arith, omega arith, omega arith)) in
       by_cols_lost sheet F b first.0 (lost (cols_of b) i.2 i.3 first.1 last.1),
-  )
+)
 
 pub by_cols_one_cell : (sheet : ℕ) (f : ℕ → Option ℕ) (F : Span → Option Span) (p : Place) → F (one_line p.col) ≡ option_map one_line (f p.col)
     → by_cols sheet F (one_cell p) ≡ option_map one_cell (by_col sheet f p)

@@ -72,8 +72,8 @@ covers_on sheet f Put b after q on e lines =
     let r : after.right ≡ b.right = ap (λ x. x.right) e in (
       λ c. elim (lines.0 (c.1, c.2)) [
         | inl (n, w, m) ↦
-          let p : Place = record { sheet = b.sheet; row = n; col = q.col } in
-          inl (p, (refl, w.0, w.1, omega arith, omega arith), by_row_on sheet f p q.row on m ∙ ap (λ x. Some x) (same_place (record p { row = q.row }) q (sym same ∙ c.0) refl refl))
+            let p : Place = record { sheet = b.sheet; row = n; col = q.col } in
+            inl (p, (refl, w.0, w.1, omega arith, omega arith), by_row_on sheet f p q.row on m ∙ ap (λ x. Some x) (same_place (record p { row = q.row }) q (sym same ∙ c.0) refl refl))
         | inr put ↦ inr (on, sym c.0 ∙ same ∙ on, put, omega arith, omega arith)
       ],
       λ e. elim e [
@@ -87,15 +87,15 @@ covers_on sheet f Put b after q on e lines =
 
 covers_off : (sheet : ℕ) (f : ℕ → Option ℕ) (Put : Span → ℕ → Type 0) (b : Block) (q : Place) → b.sheet ≢ sheet → Covers b q ↔ (ComesByRow sheet f b q ⊎ IsPutByRow sheet Put b q)
 covers_off sheet f Put b q off = (
-    λ c. inl (q, c, by_row_off sheet f q (λ h. off (c.0 ∙ h))),
-    λ e. elim e [
-      | inl (p, c, m) ↦ elim (cases_by_row sheet f p q m) [
-        | inl w ↦ absurd (off (c.0 ∙ w.0))
-        | inr w ↦ rw w.1 c
-      ]
-      | inr w ↦ absurd (off w.0)
-    ],
-  )
+  λ c. inl (q, c, by_row_off sheet f q (λ h. off (c.0 ∙ h))),
+  λ e. elim e [
+    | inl (p, c, m) ↦ elim (cases_by_row sheet f p q m) [
+      | inl w ↦ absurd (off (c.0 ∙ w.0))
+      | inr w ↦ rw w.1 c
+    ]
+    | inr w ↦ absurd (off w.0)
+  ],
+)
 
 pub by_rows_covers : (sheet : ℕ) (f : ℕ → Option ℕ) (F : Span → Option Span) (Put : Span → ℕ → Type 0)
     → ((s t : Span) (q : ℕ) → s.first ≤ s.last → s.last < ROWS → q < ROWS → F s ≡ Some t → IsWithin t q ↔ (LineComesFrom f s q ⊎ Put s q))
@@ -121,12 +121,12 @@ pub by_rows_loses : (sheet : ℕ) (f : ℕ → Option ℕ) (F : Span → Option 
     → ((s : Span) → s.first ≤ s.last → s.last < ROWS → f s.first ≡ None → f s.last ≡ None → F s ≡ None)
     → (b : Block) → IsBlockInside b → (by_rows sheet F b ≡ None) ↔ ((p : Place) → Covers b p → by_row sheet f p ≡ None)
 by_rows_loses sheet f F loses lost b i = (
-    λ h p c. let w = lost_rows sheet F b h in by_row_lost sheet f p (sym c.0 ∙ w.0) (loses (rows_of b) p.row i.0 i.1 (c.1, c.2) w.1),
-    λ all.
+  λ h p c. let w = lost_rows sheet F b h in by_row_lost sheet f p (sym c.0 ∙ w.0) (loses (rows_of b) p.row i.0 i.1 (c.1, c.2) w.1),
+  λ all.
       let first = lost_row sheet f (record { sheet = b.sheet; row = b.top; col = b.left }) (all _ (refl, omega arith, omega arith, omega arith, omega arith)) in
       let last = lost_row sheet f (record { sheet = b.sheet; row = b.bottom; col = b.right }) (all _ (refl, omega arith, omega arith, omega arith, omega arith)) in
       by_rows_lost sheet F b first.0 (lost (rows_of b) i.0 i.1 first.1 last.1),
-  )
+)
 
 pub by_rows_one_cell : (sheet : ℕ) (f : ℕ → Option ℕ) (F : Span → Option Span) (p : Place) → F (one_line p.row) ≡ option_map one_line (f p.row)
     → by_rows sheet F (one_cell p) ≡ option_map one_cell (by_row sheet f p)

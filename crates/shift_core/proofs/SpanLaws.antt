@@ -53,29 +53,29 @@ delete_covered start count s t r q h w e = grind (arith, nat_tests)
 pub insert_covers : (limit start count : ℕ) (s t : Span) (q : ℕ) → s.first ≤ s.last → s.last < limit → q < limit → span_after_insert limit start count s ≡ Some t
     → IsWithin t q ↔ (LineComesFrom (line_after_insert limit start count) s q ⊎ IsPutBetween start count s.first s.last q)
 insert_covers limit start count s t q o l i h = (
-    λ w. elim (insert_source limit start count s t q o h w) [
-      | inl a ↦ inl (q, a.0, low_stays limit start count q a.1)
-      | inr (inl a) ↦ inl (q - count, a.0, high_moves limit start count q i a.1)
-      | inr (inr put) ↦ inr put
-    ],
-    λ e. elim e [
-      | inl (r, w, m) ↦ insert_covered limit start count s t r q l h w m
-      | inr put ↦ insert_put limit start count s t q i h put
-    ],
-  )
+  λ w. elim (insert_source limit start count s t q o h w) [
+    | inl a ↦ inl (q, a.0, low_stays limit start count q a.1)
+    | inr (inl a) ↦ inl (q - count, a.0, high_moves limit start count q i a.1)
+    | inr (inr put) ↦ inr put
+  ],
+  λ e. elim e [
+    | inl (r, w, m) ↦ insert_covered limit start count s t r q l h w m
+    | inr put ↦ insert_put limit start count s t q i h put
+  ],
+)
 
 pub delete_covers : (limit start count : ℕ) (s t : Span) (q : ℕ) → s.first ≤ s.last → s.last < limit → q < limit → span_after_delete start count s ≡ Some t
     → IsWithin t q ↔ (LineComesFrom (line_after_delete start count) s q ⊎ ⊥)
 delete_covers limit start count s t q o l i h = (
-    λ w. elim (delete_source start count s t q o h w) [
-      | inl a ↦ inl (q, a.0, low_left start count q a.1)
-      | inr a ↦ inl (q + count, a.0, high_closes start count q a.1)
-    ],
-    λ e. elim e [
-      | inl (r, w, m) ↦ delete_covered start count s t r q h w m
-      | inr never ↦ absurd never
-    ],
-  )
+  λ w. elim (delete_source start count s t q o h w) [
+    | inl a ↦ inl (q, a.0, low_left start count q a.1)
+    | inr a ↦ inl (q + count, a.0, high_closes start count q a.1)
+  ],
+  λ e. elim e [
+    | inl (r, w, m) ↦ delete_covered start count s t r q h w m
+    | inr never ↦ absurd never
+  ],
+)
 
 pub insert_loses : (limit start count : ℕ) (s : Span) (r : ℕ) → s.first ≤ s.last → s.last < limit → IsWithin s r → span_after_insert limit start count s ≡ None → line_after_insert limit start count r ≡ None
 insert_loses limit start count s r o l w h = grind (arith, nat_tests)
@@ -129,9 +129,9 @@ opposite_down limit start count before sound d = (sound.0, omega arith, omega ar
 
 opposite_up : (limit start count before : ℕ) → IsSoundMove limit start count before → before ≤ start + count → IsSoundMove limit before count (start + count)
 opposite_up limit start count before sound u = elim sound.3 [
-    | inl b ↦ (sound.0, omega arith, sound.1, inr (omega arith))
-    | inr b ↦ absurd (omega arith)
-  ]
+  | inl b ↦ (sound.0, omega arith, sound.1, inr (omega arith))
+  | inr b ↦ absurd (omega arith)
+]
 
 pub before_move_inside : (limit start count before : ℕ) (s t : Span) → IsSoundMove limit start count before → s.first ≤ s.last → s.last < limit → span_before_move start count before s ≡ Some t → (t.first ≤ t.last) × (t.last < limit)
 before_move_inside limit start count before s t sound o l h =
@@ -158,5 +158,5 @@ pub move_carries : (limit start count before : ℕ) (s t : Span) (r : ℕ) → I
 move_carries limit start count before s t r sound o h still w =
     let e : span_of_lines start count before s ≡ t = same_Some _ _ (sym (move_ends limit start count before s sound o) ∙ h) in
     let f : t.first ≡ s.first =
-      sym (ap (λ x. x.first) e) ∙ undisplaced limit start count before s sound o (still s.first (omega arith, omega arith)) (still s.last (omega arith, omega arith)) in
+    sym (ap (λ x. x.first) e) ∙ undisplaced limit start count before s sound o (still s.first (omega arith, omega arith)) (still s.last (omega arith, omega arith)) in
     still r w ∙ omega arith

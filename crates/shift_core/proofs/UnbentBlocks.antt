@@ -57,10 +57,10 @@ unbent_keeps (DeleteCols sheet start count) b after p sound none i still whole h
 unbent_keeps (MoveRows sheet start count before) b after p sound none i still whole h c =
     by_rows_carries sheet (λ r. Some (line_after_move start count before r)) (span_after_move start count before) b after p
     (λ on e. ap (λ x. Some x) (move_carries ROWS start count before (rows_of b) (rows_of after) p.row sound i.0 e
-      (λ line w. equal _ _ (λ n. straight (MoveRows sheet start count before) b after still h (inr (on, (line, w.0, w.1, n))))) (c.1, c.2))) h c
+    (λ line w. equal _ _ (λ n. straight (MoveRows sheet start count before) b after still h (inr (on, (line, w.0, w.1, n))))) (c.1, c.2))) h c
 unbent_keeps (MoveCols sheet start count before) b after p sound none i still whole h c =
     by_cols_carries sheet (λ r. Some (line_after_move start count before r)) (span_after_move start count before) b after p
     (λ on e. ap (λ x. Some x) (move_carries COLS start count before (cols_of b) (cols_of after) p.col sound i.2 e
-      (λ line w. equal _ _ (λ n. straight (MoveCols sheet start count before) b after still h (inr (on, (line, w.0, w.1, n))))) (c.3, c.4))) h c
+    (λ line w. equal _ _ (λ n. straight (MoveCols sheet start count before) b after still h (inr (on, (line, w.0, w.1, n))))) (c.3, c.4))) h c
 unbent_keeps (MoveBlock source to) b after p sound none i still whole h c = absurd none
 unbent_keeps (DropSheet sheet) b after p sound none i still whole h c = dropped_offset sheet b after p h c

@@ -33,7 +33,7 @@ carried_block source to b =
       top = to.row + (b.top - source.top);
       left = to.col + (b.left - source.left);
       bottom = to.row + (b.bottom - source.top);
-      right = to.col + (b.right - source.left)
+      right = to.col + (b.right - source.left);
     }
 
 -- the block of the size of `source` that begins at `to`

@@ -89,7 +89,7 @@ span_of_lines start count before s =
     then record { first = line_after_move start count before s.first; last = line_after_move start count before s.last }
     else record {
       first = line_after_move start count before (first_unmoved start count s.first);
-      last = line_after_move start count before (last_unmoved start count s.last)
+      last = line_after_move start count before (last_unmoved start count s.last);
     }
 
 -- a move of rows or columns loses no block: each ends where its outermost lines stand then
@@ -97,9 +97,9 @@ abbrev pub MovedBlocksEndAtTheirLines : Type 0
 MovedBlocksEndAtTheirLines =
     (sheet start count before : ℕ) (b : Block) → IsBlockInside b →
     (IsSound (MoveRows sheet start count before) →
-      block_after (MoveRows sheet start count before) b ≡ by_rows sheet (λ rows. Some (span_of_lines start count before rows)) b)
+    block_after (MoveRows sheet start count before) b ≡ by_rows sheet (λ rows. Some (span_of_lines start count before rows)) b)
     × (IsSound (MoveCols sheet start count before) →
-      block_after (MoveCols sheet start count before) b ≡ by_cols sheet (λ cols. Some (span_of_lines start count before cols)) b)
+    block_after (MoveCols sheet start count before) b ≡ by_cols sheet (λ cols. Some (span_of_lines start count before cols)) b)
 
 -- the block of one place
 abbrev pub one_cell : Place → Block

@@ -16,6 +16,12 @@ mod laws;
 mod line;
 mod shift;
 mod span;
+#[cfg(test)]
+mod tests;
 
-pub use laws::{blocks_are_lost_with_their_places, blocks_cover_what_moves, blocks_stay_inside, moved_blocks_end_at_their_lines, no_two_meet, one_cells_move_alike, places_come_back, places_go_forth, places_stay_inside, unbent_blocks_keep_offsets};
+pub use laws::{
+    blocks_are_lost_with_their_places, blocks_cover_what_moves, blocks_stay_inside,
+    moved_blocks_end_at_their_lines, no_two_meet, one_cells_move_alike, places_come_back,
+    places_go_forth, places_stay_inside, unbent_blocks_keep_offsets,
+};
 pub use shift::{Shift, back_block, back_place, is_bent, moved_block, moved_place, sound};

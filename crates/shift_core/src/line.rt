@@ -20,7 +20,9 @@ pub(crate) fn sound_delete(limit: u32, start: u32, count: u32) -> bool
 pub(crate) fn sound_move(limit: u32, start: u32, count: u32, before: u32) -> bool
     ensures { IsTrue result ↔ IsSoundMove limit start count before }
 {
-    sound_delete(limit, start, count) && before <= limit && (before < start || start + count < before)
+    sound_delete(limit, start, count)
+        && before <= limit
+        && (before < start || start + count < before)
 }
 
 /// Whether the line is one of the `count` lines from `start`.

@@ -1,30 +1,60 @@
 // The structural operations of a sheet, and what they do to places and blocks.
 ghost use Rattle.std.specs.Prelude.{◌≡◌, ◌↔◌, IsTrue};
 
-use cell_addr::{Block, COLS, Place, ROWS};
-
 use crate::line;
 use crate::span::Span;
+use cell_addr::{Block, COLS, Place, ROWS};
 
 /// A structural operation of a workbook. Lines are counted from 0; a sheet is named by its number.
 #[derive(Clone, Copy, PartialEq, Eq, Debug)]
 pub enum Shift {
     /// Puts `count` rows before the row `at`; rows pushed off the sheet's end are lost.
-    InsertRows { sheet: u32, at: u32, count: u32 },
+    InsertRows {
+        sheet: u32,
+        at: u32,
+        count: u32,
+    },
     /// Deletes `count` rows from `at`; those behind close up.
-    DeleteRows { sheet: u32, at: u32, count: u32 },
+    DeleteRows {
+        sheet: u32,
+        at: u32,
+        count: u32,
+    },
     /// Puts `count` columns before the column `at`; columns pushed off the sheet's end are lost.
-    InsertCols { sheet: u32, at: u32, count: u32 },
+    InsertCols {
+        sheet: u32,
+        at: u32,
+        count: u32,
+    },
     /// Deletes `count` columns from `at`; those behind close up.
-    DeleteCols { sheet: u32, at: u32, count: u32 },
+    DeleteCols {
+        sheet: u32,
+        at: u32,
+        count: u32,
+    },
     /// Takes `count` rows from `from` and puts them before the row `before`.
-    MoveRows { sheet: u32, from: u32, count: u32, before: u32 },
+    MoveRows {
+        sheet: u32,
+        from: u32,
+        count: u32,
+        before: u32,
+    },
     /// Takes `count` columns from `from` and puts them before the column `before`.
-    MoveCols { sheet: u32, from: u32, count: u32, before: u32 },
+    MoveCols {
+        sheet: u32,
+        from: u32,
+        count: u32,
+        before: u32,
+    },
     /// Moves the cells of `source` so that they begin at `to`, over what stands there.
-    MoveBlock { source: Block, to: Place },
+    MoveBlock {
+        source: Block,
+        to: Place,
+    },
     /// Drops the sheet with all of its cells.
-    DropSheet { sheet: u32 },
+    DropSheet {
+        sheet: u32,
+    },
 }
 
 ghost use Rattle.cell_addr.specs.Place.{IsBlockInside, Covers};
@@ -48,8 +78,18 @@ pub fn sound(s: &Shift) -> bool
         Shift::DeleteRows { at, count, .. } => line::sound_delete(ROWS, at, count),
         Shift::InsertCols { at, count, .. } => line::sound_insert(COLS, at, count),
         Shift::DeleteCols { at, count, .. } => line::sound_delete(COLS, at, count),
-        Shift::MoveRows { from, count, before, .. } => line::sound_move(ROWS, from, count, before),
-        Shift::MoveCols { from, count, before, .. } => line::sound_move(COLS, from, count, before),
+        Shift::MoveRows {
+            from,
+            count,
+            before,
+            ..
+        } => line::sound_move(ROWS, from, count, before),
+        Shift::MoveCols {
+            from,
+            count,
+            before,
+            ..
+        } => line::sound_move(COLS, from, count, before),
         Shift::MoveBlock { source, to } => sound_move_block(source, to),
         Shift::DropSheet { .. } => true,
     }
@@ -72,16 +112,38 @@ pub fn moved_place(s: &Shift, p: Place) -> Option<Place>
     ensures { result ≡ place_after s.now p }
 {
     match *s {
-        Shift::InsertRows { sheet, at, count } => on_row(sheet, p, line::after_insert(ROWS, at, count, p.row)),
-        Shift::DeleteRows { sheet, at, count } => on_row(sheet, p, line::after_delete(at, count, p.row)),
-        Shift::InsertCols { sheet, at, count } => on_col(sheet, p, line::after_insert(COLS, at, count, p.col)),
-        Shift::DeleteCols { sheet, at, count } => on_col(sheet, p, line::after_delete(at, count, p.col)),
-        Shift::MoveRows { sheet, from, count, before } => {
-            on_row(sheet, p, Some(line::after_move(from, count, before, p.row)))
-        }
-        Shift::MoveCols { sheet, from, count, before } => {
-            on_col(sheet, p, Some(line::after_move(from, count, before, p.col)))
-        }
+        Shift::InsertRows { sheet, at, count } => on_row(
+            sheet,
+            p,
+            line::after_insert(ROWS, at, count, p.row),
+        ),
+        Shift::DeleteRows { sheet, at, count } => on_row(
+            sheet,
+            p,
+            line::after_delete(at, count, p.row),
+        ),
+        Shift::InsertCols { sheet, at, count } => on_col(
+            sheet,
+            p,
+            line::after_insert(COLS, at, count, p.col),
+        ),
+        Shift::DeleteCols { sheet, at, count } => on_col(
+            sheet,
+            p,
+            line::after_delete(at, count, p.col),
+        ),
+        Shift::MoveRows {
+            sheet,
+            from,
+            count,
+            before,
+        } => { on_row(sheet, p, Some(line::after_move(from, count, before, p.row))) }
+        Shift::MoveCols {
+            sheet,
+            from,
+            count,
+            before,
+        } => { on_col(sheet, p, Some(line::after_move(from, count, before, p.col))) }
         Shift::MoveBlock { source, to } => {
             if source.holds(p) {
                 Some(carry(source, to, p))
@@ -91,9 +153,7 @@ pub fn moved_place(s: &Shift, p: Place) -> Option<Place>
                 Some(p)
             }
         }
-        Shift::DropSheet { sheet } => {
-            if p.sheet == sheet { None } else { Some(p) }
-        }
+        Shift::DropSheet { sheet } => { if p.sheet == sheet { None } else { Some(p) } }
     }
 }
 
@@ -103,16 +163,38 @@ pub fn moved_block(s: &Shift, b: Block) -> Option<Block>
     ensures { result ≡ block_after s.now b }
 {
     match *s {
-        Shift::InsertRows { sheet, at, count } => on_rows(sheet, b, rows(b).after_insert(ROWS, at, count)),
-        Shift::DeleteRows { sheet, at, count } => on_rows(sheet, b, rows(b).after_delete(at, count)),
-        Shift::InsertCols { sheet, at, count } => on_cols(sheet, b, cols(b).after_insert(COLS, at, count)),
-        Shift::DeleteCols { sheet, at, count } => on_cols(sheet, b, cols(b).after_delete(at, count)),
-        Shift::MoveRows { sheet, from, count, before } => {
-            on_rows(sheet, b, rows(b).after_move(from, count, before))
-        }
-        Shift::MoveCols { sheet, from, count, before } => {
-            on_cols(sheet, b, cols(b).after_move(from, count, before))
-        }
+        Shift::InsertRows { sheet, at, count } => on_rows(
+            sheet,
+            b,
+            rows(b).after_insert(ROWS, at, count),
+        ),
+        Shift::DeleteRows { sheet, at, count } => on_rows(
+            sheet,
+            b,
+            rows(b).after_delete(at, count),
+        ),
+        Shift::InsertCols { sheet, at, count } => on_cols(
+            sheet,
+            b,
+            cols(b).after_insert(COLS, at, count),
+        ),
+        Shift::DeleteCols { sheet, at, count } => on_cols(
+            sheet,
+            b,
+            cols(b).after_delete(at, count),
+        ),
+        Shift::MoveRows {
+            sheet,
+            from,
+            count,
+            before,
+        } => { on_rows(sheet, b, rows(b).after_move(from, count, before)) }
+        Shift::MoveCols {
+            sheet,
+            from,
+            count,
+            before,
+        } => { on_cols(sheet, b, cols(b).after_move(from, count, before)) }
         Shift::MoveBlock { source, to } => {
             if contained(source, b) {
                 Some(carry_block(source, to, b))
@@ -122,9 +204,7 @@ pub fn moved_block(s: &Shift, b: Block) -> Option<Block>
                 Some(b)
             }
         }
-        Shift::DropSheet { sheet } => {
-            if b.sheet == sheet { None } else { Some(b) }
-        }
+        Shift::DropSheet { sheet } => { if b.sheet == sheet { None } else { Some(b) } }
     }
 }
 
@@ -134,19 +214,45 @@ pub fn back_place(s: &Shift, p: Place) -> Option<Place>
     ensures { result ≡ place_before s.now p }
 {
     match *s {
-        Shift::InsertRows { sheet, at, count } => on_row(sheet, p, line::before_insert(at, count, p.row)),
+        Shift::InsertRows { sheet, at, count } => on_row(
+            sheet,
+            p,
+            line::before_insert(at, count, p.row),
+        ),
         Shift::DeleteRows { sheet, at, count } => {
             on_row(sheet, p, line::before_delete(ROWS, at, count, p.row))
         }
-        Shift::InsertCols { sheet, at, count } => on_col(sheet, p, line::before_insert(at, count, p.col)),
+        Shift::InsertCols { sheet, at, count } => on_col(
+            sheet,
+            p,
+            line::before_insert(at, count, p.col),
+        ),
         Shift::DeleteCols { sheet, at, count } => {
             on_col(sheet, p, line::before_delete(COLS, at, count, p.col))
         }
-        Shift::MoveRows { sheet, from, count, before } => {
-            on_row(sheet, p, Some(line::before_move(from, count, before, p.row)))
+        Shift::MoveRows {
+            sheet,
+            from,
+            count,
+            before,
+        } => {
+            on_row(
+                sheet,
+                p,
+                Some(line::before_move(from, count, before, p.row)),
+            )
         }
-        Shift::MoveCols { sheet, from, count, before } => {
-            on_col(sheet, p, Some(line::before_move(from, count, before, p.col)))
+        Shift::MoveCols {
+            sheet,
+            from,
+            count,
+            before,
+        } => {
+            on_col(
+                sheet,
+                p,
+                Some(line::before_move(from, count, before, p.col)),
+            )
         }
         Shift::MoveBlock { source, to } => {
             if destination_of(source, to).holds(p) {
@@ -157,9 +263,7 @@ pub fn back_place(s: &Shift, p: Place) -> Option<Place>
                 Some(p)
             }
         }
-        Shift::DropSheet { sheet } => {
-            if p.sheet == sheet { None } else { Some(p) }
-        }
+        Shift::DropSheet { sheet } => { if p.sheet == sheet { None } else { Some(p) } }
     }
 }
 
@@ -169,16 +273,38 @@ pub fn back_block(s: &Shift, b: Block) -> Option<Block>
     ensures { result ≡ block_before s.now b }
 {
     match *s {
-        Shift::InsertRows { sheet, at, count } => on_rows(sheet, b, rows(b).before_insert(at, count)),
-        Shift::DeleteRows { sheet, at, count } => on_rows(sheet, b, rows(b).before_delete(ROWS, at, count)),
-        Shift::InsertCols { sheet, at, count } => on_cols(sheet, b, cols(b).before_insert(at, count)),
-        Shift::DeleteCols { sheet, at, count } => on_cols(sheet, b, cols(b).before_delete(COLS, at, count)),
-        Shift::MoveRows { sheet, from, count, before } => {
-            on_rows(sheet, b, rows(b).before_move(from, count, before))
-        }
-        Shift::MoveCols { sheet, from, count, before } => {
-            on_cols(sheet, b, cols(b).before_move(from, count, before))
-        }
+        Shift::InsertRows { sheet, at, count } => on_rows(
+            sheet,
+            b,
+            rows(b).before_insert(at, count),
+        ),
+        Shift::DeleteRows { sheet, at, count } => on_rows(
+            sheet,
+            b,
+            rows(b).before_delete(ROWS, at, count),
+        ),
+        Shift::InsertCols { sheet, at, count } => on_cols(
+            sheet,
+            b,
+            cols(b).before_insert(at, count),
+        ),
+        Shift::DeleteCols { sheet, at, count } => on_cols(
+            sheet,
+            b,
+            cols(b).before_delete(COLS, at, count),
+        ),
+        Shift::MoveRows {
+            sheet,
+            from,
+            count,
+            before,
+        } => { on_rows(sheet, b, rows(b).before_move(from, count, before)) }
+        Shift::MoveCols {
+            sheet,
+            from,
+            count,
+            before,
+        } => { on_cols(sheet, b, cols(b).before_move(from, count, before)) }
         Shift::MoveBlock { source, to } => {
             if contained(destination_of(source, to), b) {
                 Some(carry_block(destination_of(source, to), first(source), b))
@@ -186,9 +312,7 @@ pub fn back_block(s: &Shift, b: Block) -> Option<Block>
                 Some(b)
             }
         }
-        Shift::DropSheet { sheet } => {
-            if b.sheet == sheet { None } else { Some(b) }
-        }
+        Shift::DropSheet { sheet } => { if b.sheet == sheet { None } else { Some(b) } }
     }
 }
 
@@ -218,12 +342,18 @@ fn meets_displaced(s: &Shift, b: Block) -> bool
     ensures { IsTrue result ↔ MeetsDisplaced s.now b }
 {
     match *s {
-        Shift::MoveRows { sheet, from, count, before } => {
-            b.sheet == sheet && rows(b).meets_displaced(from, count, before)
-        }
-        Shift::MoveCols { sheet, from, count, before } => {
-            b.sheet == sheet && cols(b).meets_displaced(from, count, before)
-        }
+        Shift::MoveRows {
+            sheet,
+            from,
+            count,
+            before,
+        } => { b.sheet == sheet && rows(b).meets_displaced(from, count, before) }
+        Shift::MoveCols {
+            sheet,
+            from,
+            count,
+            before,
+        } => { b.sheet == sheet && cols(b).meets_displaced(from, count, before) }
         _ => false,
     }
 }
@@ -232,14 +362,22 @@ fn meets_displaced(s: &Shift, b: Block) -> bool
 fn on_row(sheet: u32, p: Place, row: Option<u32>) -> Option<Place>
     ensures { result ≡ by_row sheet (λ _. row) p }
 {
-    if p.sheet == sheet { Some(Place { row: row?, ..p }) } else { Some(p) }
+    if p.sheet == sheet {
+        Some(Place { row: row?, ..p })
+    } else {
+        Some(p)
+    }
 }
 
 /// The place with another column, where it is on the sheet.
 fn on_col(sheet: u32, p: Place, col: Option<u32>) -> Option<Place>
     ensures { result ≡ by_col sheet (λ _. col) p }
 {
-    if p.sheet == sheet { Some(Place { col: col?, ..p }) } else { Some(p) }
+    if p.sheet == sheet {
+        Some(Place { col: col?, ..p })
+    } else {
+        Some(p)
+    }
 }
 
 /// The place with the same offset from `to` as `p` has from the first place of `source`.
@@ -248,7 +386,11 @@ fn carry(source: Block, to: Place, p: Place) -> Place
     requires inside { IsBlockInside (destination source to) }
     ensures { result ≡ carried_place source to p }
 {
-    Place { sheet: to.sheet, row: to.row + (p.row - source.top), col: to.col + (p.col - source.left) }
+    Place {
+        sheet: to.sheet,
+        row: to.row + (p.row - source.top),
+        col: to.col + (p.col - source.left),
+    }
 }
 
 /// The block of the size of `source` that begins at `to`.
@@ -270,14 +412,20 @@ fn destination_of(source: Block, to: Place) -> Block
 fn rows(b: Block) -> Span
     ensures { result ≡ record { first = b.top; last = b.bottom } }
 {
-    Span { first: b.top, last: b.bottom }
+    Span {
+        first: b.top,
+        last: b.bottom,
+    }
 }
 
 /// The first and the last column.
 fn cols(b: Block) -> Span
     ensures { result ≡ record { first = b.left; last = b.right } }
 {
-    Span { first: b.left, last: b.right }
+    Span {
+        first: b.left,
+        last: b.right,
+    }
 }
 
 /// The block with other rows, where it is on the sheet.
@@ -286,7 +434,11 @@ fn on_rows(sheet: u32, b: Block, rows: Option<Span>) -> Option<Block>
 {
     if b.sheet == sheet {
         let Span { first, last } = rows?;
-        Some(Block { top: first, bottom: last, ..b })
+        Some(Block {
+            top: first,
+            bottom: last,
+            ..b
+        })
     } else {
         Some(b)
     }
@@ -298,7 +450,11 @@ fn on_cols(sheet: u32, b: Block, cols: Option<Span>) -> Option<Block>
 {
     if b.sheet == sheet {
         let Span { first, last } = cols?;
-        Some(Block { left: first, right: last, ..b })
+        Some(Block {
+            left: first,
+            right: last,
+            ..b
+        })
     } else {
         Some(b)
     }
@@ -308,14 +464,23 @@ fn on_cols(sheet: u32, b: Block, cols: Option<Span>) -> Option<Block>
 fn first(b: Block) -> Place
     ensures { result ≡ first_place b }
 {
-    Place { sheet: b.sheet, row: b.top, col: b.left }
+    Place {
+        sheet: b.sheet,
+        row: b.top,
+        col: b.left,
+    }
 }
 
 /// Whether every place of the part is in the block.
 fn contained(b: Block, part: Block) -> bool
     ensures { result ≡ contains b part }
 {
-    b.holds(first(part)) && b.holds(Place { sheet: part.sheet, row: part.bottom, col: part.right })
+    b.holds(first(part))
+        && b.holds(Place {
+            sheet: part.sheet,
+            row: part.bottom,
+            col: part.right,
+        })
 }
 
 /// The part of `source` with the same offset from `to`.

@@ -24,7 +24,10 @@ impl Span {
     {
         let first = line::after_insert(limit, start, count, self.first)?;
         let last = line::after_insert(limit, start, count, self.last).unwrap_or(limit - 1);
-        Some(Span { first, last: last.min(limit - 1) })
+        Some(Span {
+            first,
+            last: last.min(limit - 1),
+        })
     }
 
     /// The ends after `count` lines from `start` were deleted.
@@ -34,7 +37,11 @@ impl Span {
     {
         let first = first_kept(start, count, self.first);
         let last = last_kept(start, count, self.last)?;
-        if first <= last { Some(Span { first, last }) } else { None }
+        if first <= last {
+            Some(Span { first, last })
+        } else {
+            None
+        }
     }
 
     /// The ends after `count` lines from `start` were moved to stand before the line `before`.
@@ -52,7 +59,11 @@ impl Span {
         } else {
             let first = first_moved(start, count, before, self.first);
             let last = last_moved(start, count, before, self.last)?;
-            if first <= last { Some(Span { first, last }) } else { None }
+            if first <= last {
+                Some(Span { first, last })
+            } else {
+                None
+            }
         }
     }
 
