@@ -5,6 +5,203 @@ use std::process::Abort;
 
 const SHEET: u32 = 1;
 
+type Ends = (u32, u32);
+
+// Rows inserted at a row, in a number; a row, where it goes, and which came there.
+const INSERTED_ROWS: [(u32, u32, u32, Option<u32>, Option<u32>); 10] = [
+    (5, 2, 4, Some(4), Some(4)),
+    (5, 2, 5, Some(7), None),
+    (5, 2, 6, Some(8), None),
+    (0, 1, 0, Some(1), None),
+    (0, 1, 39_999, None, Some(39_998)),
+    (39_999, 9_999_999, 39_998, Some(39_998), Some(39_998)),
+    (39_999, 9_999_999, 39_999, None, None),
+    (0, u32::MAX, 0, None, None),
+    (10, 39_989, 10, Some(39_999), None),
+    (10, 39_990, 10, None, None),
+];
+
+// The same of columns.
+const INSERTED_COLS: [(u32, u32, u32, Option<u32>, Option<u32>); 3] = [
+    (18_277, 1, 18_277, None, None),
+    (0, 1, 18_276, Some(18_277), Some(18_275)),
+    (3, u32::MAX, 2, Some(2), Some(2)),
+];
+
+// Rows deleted from a row, in a number; a row, where it goes, and which came there.
+const DELETED_ROWS: [(u32, u32, u32, Option<u32>, Option<u32>); 7] = [
+    (3, 2, 2, Some(2), Some(2)),
+    (3, 2, 4, None, Some(6)),
+    (3, 2, 5, Some(3), Some(7)),
+    (3, 2, 39_998, Some(39_996), None),
+    (39_999, 1, 39_998, Some(39_998), Some(39_998)),
+    (39_999, 1, 39_999, None, None),
+    (0, 40_000, 0, None, None),
+];
+
+// The same of columns.
+const DELETED_COLS: [(u32, u32, u32, Option<u32>, Option<u32>); 2] = [
+    (18_270, 8, 18_269, Some(18_269), Some(18_269)),
+    (0, 1, 18_277, Some(18_276), None),
+];
+
+// Rows moved from a row, in a number, before another; a row, where it goes, and which came there.
+const MOVED_ROWS: [(u32, u32, u32, u32, u32, u32); 8] = [
+    (2, 1, 4, 2, 3, 3),
+    (2, 1, 4, 3, 2, 2),
+    (2, 1, 4, 4, 4, 4),
+    (3, 1, 2, 2, 3, 3),
+    (3, 1, 2, 3, 2, 2),
+    (0, 3, 40_000, 0, 39_997, 3),
+    (0, 3, 40_000, 39_999, 39_996, 2),
+    (39_997, 3, 0, 39_997, 0, 39_994),
+];
+
+// The same of columns.
+const MOVED_COLS: [(u32, u32, u32, u32, u32, u32); 4] = [
+    (5, 2, 1, 6, 2, 4),
+    (5, 2, 1, 1, 3, 5),
+    (1, 1, 18_278, 1, 18_277, 2),
+    (1, 1, 18_278, 40, 39, 41),
+];
+
+// Rows inserted; the ends of a block, where they go, which came there, and whether it is bent.
+const ENDS_OVER_INSERTED_ROWS: [(u32, u32, Ends, Option<Ends>, Option<Ends>, bool); 9] = [
+    (
+        2,
+        3,
+        (0, 39_999),
+        Some((0, 39_999)),
+        Some((0, 39_996)),
+        false,
+    ),
+    (39_999, 1, (39_999, 39_999), None, None, true),
+    (10, 39_985, (10, 20), Some((39_995, 39_999)), None, true),
+    (10, 39_990, (10, 20), None, None, true),
+    (0, u32::MAX, (0, 5), None, None, true),
+    (6, 4, (2, 5), Some((2, 5)), Some((2, 5)), false),
+    (5, 4, (2, 5), Some((2, 9)), None, true),
+    (2, 4, (2, 5), Some((6, 9)), None, false),
+    (6, 9_999_999, (2, 7), Some((2, 39_999)), None, true),
+];
+
+// The same of columns.
+const ENDS_OVER_INSERTED_COLS: [(u32, u32, Ends, Option<Ends>, Option<Ends>, bool); 2] = [
+    (4, u32::MAX, (3, 5), Some((3, 18_277)), None, true),
+    (
+        18_277,
+        1,
+        (18_276, 18_277),
+        Some((18_276, 18_277)),
+        None,
+        false,
+    ),
+];
+
+// Rows deleted; the ends of a block, where they go, which came there, and whether it is bent.
+const ENDS_OVER_DELETED_ROWS: [(u32, u32, Ends, Option<Ends>, Option<Ends>, bool); 9] = [
+    (8, 5, (5, 10), Some((5, 7)), Some((5, 15)), true),
+    (3, 4, (5, 10), Some((3, 6)), Some((9, 14)), true),
+    (5, 6, (5, 10), None, Some((11, 16)), true),
+    (0, 4, (0, 3), None, Some((4, 7)), true),
+    (0, 2, (0, 3), Some((0, 1)), Some((2, 5)), true),
+    (39_999, 1, (0, 39_999), Some((0, 39_998)), None, true),
+    (6, 2, (5, 10), Some((5, 8)), Some((5, 12)), true),
+    (11, 2, (5, 10), Some((5, 10)), Some((5, 10)), false),
+    (0, 40_000, (3, 4), None, None, true),
+];
+
+// The same of columns.
+const ENDS_OVER_DELETED_COLS: [(u32, u32, Ends, Option<Ends>, Option<Ends>, bool); 2] = [
+    (18_277, 1, (18_277, 18_277), None, None, true),
+    (2, 2, (1, 6), Some((1, 4)), Some((1, 8)), true),
+];
+
+// Rows moved; the ends of a bent block, where they go, and which came there.
+const ENDS_OVER_MOVED_ROWS: [(u32, u32, u32, Ends, Ends, Ends); 12] = [
+    (4, 1, 6, (2, 6), (2, 6), (2, 6)),
+    (4, 1, 9, (2, 6), (2, 5), (2, 7)),
+    (2, 1, 9, (2, 6), (2, 5), (3, 7)),
+    (6, 1, 2, (2, 6), (3, 6), (2, 5)),
+    (6, 1, 1, (2, 6), (3, 6), (1, 5)),
+    (2, 5, 0, (2, 6), (0, 4), (0, 1)),
+    (2, 5, 40_000, (3, 4), (39_996, 39_997), (8, 9)),
+    (8, 1, 4, (2, 6), (2, 7), (2, 5)),
+    (8, 1, 2, (2, 6), (3, 7), (2, 5)),
+    (0, 2, 39_999, (0, 39_999), (0, 39_999), (2, 39_999)),
+    (5, 3, 1, (2, 6), (5, 7), (1, 3)),
+    (3, 2, 9, (0, 3), (0, 2), (0, 5)),
+];
+
+// Columns moved; the ends of a block, where they go, which came there, and whether it is bent.
+const ENDS_OVER_MOVED_COLS: [(u32, u32, u32, Ends, Ends, Ends, bool); 2] = [
+    (1, 2, 6, (2, 5), (1, 3), (4, 5), true),
+    (9, 2, 12, (2, 5), (2, 5), (2, 5), false),
+];
+
+// Three rows of two cells moved down by a row; a row and a column, where they go, and which came there.
+const OVERWRITTEN_PLACES: [(u32, u32, Option<Ends>, Option<Ends>); 5] = [
+    (2, 1, Some((3, 1)), None),
+    (4, 2, Some((5, 2)), Some((3, 2))),
+    (5, 1, None, Some((4, 1))),
+    (6, 1, Some((6, 1)), Some((6, 1))),
+    (3, 3, Some((3, 3)), Some((3, 3))),
+];
+
+// The same cells; first and last row of a block two columns wide, where they go, and which came there.
+const OVERWRITTEN_BLOCKS: [(u32, u32, Option<Ends>, Option<Ends>); 5] = [
+    (2, 4, Some((3, 5)), Some((2, 4))),
+    (3, 4, Some((4, 5)), Some((2, 3))),
+    (3, 5, None, Some((2, 4))),
+    (4, 6, Some((4, 6)), Some((4, 6))),
+    (5, 5, None, Some((4, 4))),
+];
+
+// A row and a number; whether so many can be inserted there, and deleted from there.
+const FITTING_ROWS: [(u32, u32, bool, bool); 7] = [
+    (0, 0, false, false),
+    (0, 40_000, true, true),
+    (0, 40_001, true, false),
+    (39_999, 1, true, true),
+    (39_999, 2, true, false),
+    (39_999, u32::MAX, true, false),
+    (40_000, 1, false, false),
+];
+
+// The same of columns.
+const FITTING_COLS: [(u32, u32, bool, bool); 3] = [
+    (18_277, 1, true, true),
+    (18_277, 2, true, false),
+    (18_278, 1, false, false),
+];
+
+// A line, a number and a line to move them to; whether rows can be moved so, and columns.
+const FITTING_MOVES: [(u32, u32, u32, bool, bool); 12] = [
+    (3, 2, 2, true, true),
+    (3, 2, 3, false, false),
+    (3, 2, 4, false, false),
+    (3, 2, 5, false, false),
+    (3, 2, 6, true, true),
+    (3, 0, 9, false, false),
+    (3, 2, 18_278, true, true),
+    (3, 2, 18_279, true, false),
+    (3, 2, 40_001, false, false),
+    (39_999, 1, 0, true, false),
+    (39_999, 2, 0, false, false),
+    (3, u32::MAX, 1, false, false),
+];
+
+// A sheet, a row and a column; whether the three rows of two cells can be moved there.
+const FITTING_DESTINATIONS: [(u32, u32, u32, bool); 7] = [
+    (1, 2, 1, false),
+    (1, 3, 1, true),
+    (2, 2, 1, true),
+    (1, 39_997, 18_276, true),
+    (1, 39_998, 1, false),
+    (1, 2, 18_277, false),
+    (1, u32::MAX, 1, false),
+];
+
 // Compares where a row goes, and which row came there.
 fn expect_row<A: Abort>(rt: &A, s: Shift, row: u32, after: Option<u32>, before: Option<u32>) {
     assert!(rt; sound(&s));
@@ -44,8 +241,6 @@ fn expect_col<A: Abort>(rt: &A, s: Shift, col: u32, after: Option<u32>, before: 
         "column {col} before {s:?}"
     );
 }
-
-type Ends = (u32, u32);
 
 // Compares where the first and last row of a block go, which came there, and whether the block is bent.
 fn expect_rows<A: Abort>(
@@ -109,18 +304,7 @@ fn expect_cols<A: Abort>(
 
 #[test]
 fn lines_move_as_in_the_tables(rt: HostRuntime) {
-    for (at, count, row, after, before) in [
-        (5, 2, 4, Some(4), Some(4)),
-        (5, 2, 5, Some(7), None),
-        (5, 2, 6, Some(8), None),
-        (0, 1, 0, Some(1), None),
-        (0, 1, 39_999, None, Some(39_998)),
-        (39_999, 9_999_999, 39_998, Some(39_998), Some(39_998)),
-        (39_999, 9_999_999, 39_999, None, None),
-        (0, u32::MAX, 0, None, None),
-        (10, 39_989, 10, Some(39_999), None),
-        (10, 39_990, 10, None, None),
-    ] {
+    for (at, count, row, after, before) in INSERTED_ROWS {
         expect_row(
             &rt,
             Shift::InsertRows {
@@ -133,11 +317,7 @@ fn lines_move_as_in_the_tables(rt: HostRuntime) {
             before,
         );
     }
-    for (at, count, col, after, before) in [
-        (18_277, 1, 18_277, None, None),
-        (0, 1, 18_276, Some(18_277), Some(18_275)),
-        (3, u32::MAX, 2, Some(2), Some(2)),
-    ] {
+    for (at, count, col, after, before) in INSERTED_COLS {
         expect_col(
             &rt,
             Shift::InsertCols {
@@ -150,15 +330,7 @@ fn lines_move_as_in_the_tables(rt: HostRuntime) {
             before,
         );
     }
-    for (at, count, row, after, before) in [
-        (3, 2, 2, Some(2), Some(2)),
-        (3, 2, 4, None, Some(6)),
-        (3, 2, 5, Some(3), Some(7)),
-        (3, 2, 39_998, Some(39_996), None),
-        (39_999, 1, 39_998, Some(39_998), Some(39_998)),
-        (39_999, 1, 39_999, None, None),
-        (0, 40_000, 0, None, None),
-    ] {
+    for (at, count, row, after, before) in DELETED_ROWS {
         expect_row(
             &rt,
             Shift::DeleteRows {
@@ -171,10 +343,7 @@ fn lines_move_as_in_the_tables(rt: HostRuntime) {
             before,
         );
     }
-    for (at, count, col, after, before) in [
-        (18_270, 8, 18_269, Some(18_269), Some(18_269)),
-        (0, 1, 18_277, Some(18_276), None),
-    ] {
+    for (at, count, col, after, before) in DELETED_COLS {
         expect_col(
             &rt,
             Shift::DeleteCols {
@@ -187,16 +356,7 @@ fn lines_move_as_in_the_tables(rt: HostRuntime) {
             before,
         );
     }
-    for (from, count, before, row, goes, came) in [
-        (2, 1, 4, 2, 3, 3),
-        (2, 1, 4, 3, 2, 2),
-        (2, 1, 4, 4, 4, 4),
-        (3, 1, 2, 2, 3, 3),
-        (3, 1, 2, 3, 2, 2),
-        (0, 3, 40_000, 0, 39_997, 3),
-        (0, 3, 40_000, 39_999, 39_996, 2),
-        (39_997, 3, 0, 39_997, 0, 39_994),
-    ] {
+    for (from, count, before, row, goes, came) in MOVED_ROWS {
         expect_row(
             &rt,
             Shift::MoveRows {
@@ -210,12 +370,7 @@ fn lines_move_as_in_the_tables(rt: HostRuntime) {
             Some(came),
         );
     }
-    for (from, count, before, col, goes, came) in [
-        (5, 2, 1, 6, 2, 4),
-        (5, 2, 1, 1, 3, 5),
-        (1, 1, 18_278, 1, 18_277, 2),
-        (1, 1, 18_278, 40, 39, 41),
-    ] {
+    for (from, count, before, col, goes, came) in MOVED_COLS {
         expect_col(
             &rt,
             Shift::MoveCols {
@@ -233,24 +388,7 @@ fn lines_move_as_in_the_tables(rt: HostRuntime) {
 
 #[test]
 fn ends_of_blocks_move_as_in_the_tables(rt: HostRuntime) {
-    for (at, count, rows, after, before, bent) in [
-        (
-            2,
-            3,
-            (0, 39_999),
-            Some((0, 39_999)),
-            Some((0, 39_996)),
-            false,
-        ),
-        (39_999, 1, (39_999, 39_999), None, None, true),
-        (10, 39_985, (10, 20), Some((39_995, 39_999)), None, true),
-        (10, 39_990, (10, 20), None, None, true),
-        (0, u32::MAX, (0, 5), None, None, true),
-        (6, 4, (2, 5), Some((2, 5)), Some((2, 5)), false),
-        (5, 4, (2, 5), Some((2, 9)), None, true),
-        (2, 4, (2, 5), Some((6, 9)), None, false),
-        (6, 9_999_999, (2, 7), Some((2, 39_999)), None, true),
-    ] {
+    for (at, count, rows, after, before, bent) in ENDS_OVER_INSERTED_ROWS {
         expect_rows(
             &rt,
             Shift::InsertRows {
@@ -264,17 +402,7 @@ fn ends_of_blocks_move_as_in_the_tables(rt: HostRuntime) {
             bent,
         );
     }
-    for (at, count, cols, after, before, bent) in [
-        (4, u32::MAX, (3, 5), Some((3, 18_277)), None, true),
-        (
-            18_277,
-            1,
-            (18_276, 18_277),
-            Some((18_276, 18_277)),
-            None,
-            false,
-        ),
-    ] {
+    for (at, count, cols, after, before, bent) in ENDS_OVER_INSERTED_COLS {
         expect_cols(
             &rt,
             Shift::InsertCols {
@@ -288,17 +416,7 @@ fn ends_of_blocks_move_as_in_the_tables(rt: HostRuntime) {
             bent,
         );
     }
-    for (at, count, rows, after, before, bent) in [
-        (8, 5, (5, 10), Some((5, 7)), Some((5, 15)), true),
-        (3, 4, (5, 10), Some((3, 6)), Some((9, 14)), true),
-        (5, 6, (5, 10), None, Some((11, 16)), true),
-        (0, 4, (0, 3), None, Some((4, 7)), true),
-        (0, 2, (0, 3), Some((0, 1)), Some((2, 5)), true),
-        (39_999, 1, (0, 39_999), Some((0, 39_998)), None, true),
-        (6, 2, (5, 10), Some((5, 8)), Some((5, 12)), true),
-        (11, 2, (5, 10), Some((5, 10)), Some((5, 10)), false),
-        (0, 40_000, (3, 4), None, None, true),
-    ] {
+    for (at, count, rows, after, before, bent) in ENDS_OVER_DELETED_ROWS {
         expect_rows(
             &rt,
             Shift::DeleteRows {
@@ -312,10 +430,7 @@ fn ends_of_blocks_move_as_in_the_tables(rt: HostRuntime) {
             bent,
         );
     }
-    for (at, count, cols, after, before, bent) in [
-        (18_277, 1, (18_277, 18_277), None, None, true),
-        (2, 2, (1, 6), Some((1, 4)), Some((1, 8)), true),
-    ] {
+    for (at, count, cols, after, before, bent) in ENDS_OVER_DELETED_COLS {
         expect_cols(
             &rt,
             Shift::DeleteCols {
@@ -329,20 +444,7 @@ fn ends_of_blocks_move_as_in_the_tables(rt: HostRuntime) {
             bent,
         );
     }
-    for (from, count, before, rows, goes, came) in [
-        (4, 1, 6, (2, 6), (2, 6), (2, 6)),
-        (4, 1, 9, (2, 6), (2, 5), (2, 7)),
-        (2, 1, 9, (2, 6), (2, 5), (3, 7)),
-        (6, 1, 2, (2, 6), (3, 6), (2, 5)),
-        (6, 1, 1, (2, 6), (3, 6), (1, 5)),
-        (2, 5, 0, (2, 6), (0, 4), (0, 1)),
-        (2, 5, 40_000, (3, 4), (39_996, 39_997), (8, 9)),
-        (8, 1, 4, (2, 6), (2, 7), (2, 5)),
-        (8, 1, 2, (2, 6), (3, 7), (2, 5)),
-        (0, 2, 39_999, (0, 39_999), (0, 39_999), (2, 39_999)),
-        (5, 3, 1, (2, 6), (5, 7), (1, 3)),
-        (3, 2, 9, (0, 3), (0, 2), (0, 5)),
-    ] {
+    for (from, count, before, rows, goes, came) in ENDS_OVER_MOVED_ROWS {
         expect_rows(
             &rt,
             Shift::MoveRows {
@@ -357,10 +459,7 @@ fn ends_of_blocks_move_as_in_the_tables(rt: HostRuntime) {
             true,
         );
     }
-    for (from, count, before, cols, goes, came, bent) in [
-        (1, 2, 6, (2, 5), (1, 3), (4, 5), true),
-        (9, 2, 12, (2, 5), (2, 5), (2, 5), false),
-    ] {
+    for (from, count, before, cols, goes, came, bent) in ENDS_OVER_MOVED_COLS {
         expect_cols(
             &rt,
             Shift::MoveCols {
@@ -396,13 +495,7 @@ fn cells_move_over_others_and_sheets_go(rt: HostRuntime) {
         },
     };
     assert!(rt; sound(&down));
-    for (row, col, after, before) in [
-        (2, 1, Some((3, 1)), None),
-        (4, 2, Some((5, 2)), Some((3, 2))),
-        (5, 1, None, Some((4, 1))),
-        (6, 1, Some((6, 1)), Some((6, 1))),
-        (3, 3, Some((3, 3)), Some((3, 3))),
-    ] {
+    for (row, col, after, before) in OVERWRITTEN_PLACES {
         let p = Place {
             sheet: SHEET,
             row,
@@ -419,13 +512,7 @@ fn cells_move_over_others_and_sheets_go(rt: HostRuntime) {
             "{p:?} before"
         );
     }
-    for (top, bottom, after, before) in [
-        (2, 4, Some((3, 5)), Some((2, 4))),
-        (3, 4, Some((4, 5)), Some((2, 3))),
-        (3, 5, None, Some((2, 4))),
-        (4, 6, Some((4, 6)), Some((4, 6))),
-        (5, 5, None, Some((4, 4))),
-    ] {
+    for (top, bottom, after, before) in OVERWRITTEN_BLOCKS {
         let b = Block {
             sheet: SHEET,
             top,
@@ -479,15 +566,7 @@ fn cells_move_over_others_and_sheets_go(rt: HostRuntime) {
 
 #[test]
 fn operations_that_fit_are_sound(rt: HostRuntime) {
-    for (at, count, insert, delete) in [
-        (0, 0, false, false),
-        (0, 40_000, true, true),
-        (0, 40_001, true, false),
-        (39_999, 1, true, true),
-        (39_999, 2, true, false),
-        (39_999, u32::MAX, true, false),
-        (40_000, 1, false, false),
-    ] {
+    for (at, count, insert, delete) in FITTING_ROWS {
         assert_eq!(rt;
             sound(&Shift::InsertRows {
                 sheet: SHEET,
@@ -507,11 +586,7 @@ fn operations_that_fit_are_sound(rt: HostRuntime) {
             "{count} at {at}"
         );
     }
-    for (at, count, insert, delete) in [
-        (18_277, 1, true, true),
-        (18_277, 2, true, false),
-        (18_278, 1, false, false),
-    ] {
+    for (at, count, insert, delete) in FITTING_COLS {
         assert_eq!(rt;
             sound(&Shift::InsertCols {
                 sheet: SHEET,
@@ -531,20 +606,7 @@ fn operations_that_fit_are_sound(rt: HostRuntime) {
             "{count} at {at}"
         );
     }
-    for (from, count, before, rows, cols) in [
-        (3, 2, 2, true, true),
-        (3, 2, 3, false, false),
-        (3, 2, 4, false, false),
-        (3, 2, 5, false, false),
-        (3, 2, 6, true, true),
-        (3, 0, 9, false, false),
-        (3, 2, 18_278, true, true),
-        (3, 2, 18_279, true, false),
-        (3, 2, 40_001, false, false),
-        (39_999, 1, 0, true, false),
-        (39_999, 2, 0, false, false),
-        (3, u32::MAX, 1, false, false),
-    ] {
+    for (from, count, before, rows, cols) in FITTING_MOVES {
         assert_eq!(rt;
             sound(&Shift::MoveRows {
                 sheet: SHEET,
@@ -573,16 +635,8 @@ fn operations_that_fit_are_sound(rt: HostRuntime) {
         bottom: 4,
         right: 2,
     };
-    for (sheet, row, col, fits) in [
-        (1, 2, 1, false),
-        (1, 3, 1, true),
-        (2, 2, 1, true),
-        (1, 39_997, 18_276, true),
-        (1, 39_998, 1, false),
-        (1, 2, 18_277, false),
-        (1, u32::MAX, 1, false),
-    ] {
+    for (sheet, row, col, fits) in FITTING_DESTINATIONS {
         let to = Place { sheet, row, col };
-        assert_eq!(rt; sound(&Shift::MoveBlock { source, to }), fits, "to {to:?}");
+        assert_eq!(rt; sound(&Shift::MoveBlock { source, to }), fits, "moved to {to:?}");
     }
 }
