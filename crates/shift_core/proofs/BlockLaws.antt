@@ -1,6 +1,6 @@
 -- The laws on blocks: they stay inside, cover what moves, are lost with their places, and a block of one place moves
 -- like that place.
-use Rattle.std.proofs.Common.{◌≡◌, ◌≢◌, ◌==◌, ℕ, ◌+◌, ◌-◌, ◌<◌, ◌≤◌, ◌⊎◌, ◌↔◌, inl, inr, ◌&&◌, Bool, true, false, cond, Option, Some, None, option_map, arith, refl, sym, ◌∙◌, ap}
+use Rattle.std.proofs.Common.{◌≡◌, ◌≢◌, ℕ, ◌⊎◌, ◌↔◌, inl, inr, ◌&&◌, Bool, true, false, cond, Some, None, option_map, arith, refl, sym, ◌∙◌, ap}
 use Rattle.std.proofs.lemmas.Bool.{and_parts}
 use Rattle.std.proofs.lemmas.Bool.Decides.{nat_tests}
 use Rattle.cell_addr.specs.declared.place.Place.{Place}
@@ -9,11 +9,10 @@ use Rattle.cell_addr.specs.declared.place.TheConstants.{ROWS, COLS}
 use Rattle.cell_addr.specs.Place.{IsInside, IsBlockInside, Covers}
 use Rattle.shift_core.specs.declared.shift.Shift.{Shift}
 use Rattle.shift_core.specs.declared.shift.Shift.TheVariants.{InsertRows, DeleteRows, InsertCols, DeleteCols, MoveRows, MoveCols, MoveBlock, DropSheet}
-use Rattle.shift_core.specs.declared.span.Span.{Span}
 use Rattle.shift_core.specs.Lines.{line_after_insert, line_after_delete, line_after_move}
 use Rattle.shift_core.specs.Spans.{span_after_insert, span_after_delete, span_after_move, span_before_insert, span_before_delete, span_before_move}
 use Rattle.shift_core.specs.Sound.{IsSound}
-use Rattle.shift_core.specs.Tables.{place_after, block_after, block_before, by_rows, by_cols}
+use Rattle.shift_core.specs.Tables.{place_after, block_after, block_before}
 use Rattle.shift_core.specs.Carried.{holds, contains, carried_place, carried_block, destination, first_place, last_place}
 use Rattle.shift_core.specs.Laws.{KeepsOrder, ComesFrom, IsPutBetween, IsPutInside, MovedBlocksEndAtTheirLines, span_of_lines, one_cell}
 use Rattle.shift_core.proofs.BlockMoves.{cases_chosen, Covers-from_holds}

@@ -1,9 +1,8 @@
 -- What a move of a block does to a place: carried along, overwritten or left. Serves the laws on places.
-use Rattle.std.proofs.Common.{◌≡◌, ◌==◌, ℕ, ◌+◌, ◌-◌, ◌<◌, ◌≤◌, ◌⊎◌, inl, inr, Bool, true, false, cond, Option, Some, None, option_map, arith, refl, sym, ◌∙◌, ap}
+use Rattle.std.proofs.Common.{◌≡◌, ◌⊎◌, inl, inr, Bool, true, false, cond, Some, None, arith, refl, ◌∙◌, ap}
 use Rattle.std.proofs.lemmas.Bool.Decides.{nat_tests}
 use Rattle.cell_addr.specs.declared.place.Place.{Place}
 use Rattle.cell_addr.specs.declared.place.Block.{Block}
-use Rattle.cell_addr.specs.declared.place.TheConstants.{ROWS, COLS}
 use Rattle.cell_addr.specs.Place.{IsInside, IsBlockInside, Covers}
 use Rattle.shift_core.specs.declared.shift.Shift.TheVariants.{MoveBlock}
 use Rattle.shift_core.specs.Tables.{place_after, place_before}

@@ -1,7 +1,7 @@
 -- Lines go back to where they were, and stay on the sheet. Serves the laws on places.
-use Rattle.std.proofs.Common.{◌≡◌, ℕ, ◌+◌, ◌-◌, ◌<◌, ◌≤◌, Option, Some, None, arith}
+use Rattle.std.proofs.Common.{◌≡◌, ℕ, ◌+◌, ◌-◌, ◌<◌, Some, arith}
 use Rattle.std.proofs.lemmas.Bool.Decides.{nat_tests}
-use Rattle.shift_core.specs.Lines.{IsSoundInsert, IsSoundDelete, IsSoundMove, line_after_insert, line_after_delete, line_after_move, line_after_move_down, line_after_move_up, line_before_insert, line_before_delete, line_before_move}
+use Rattle.shift_core.specs.Lines.{IsSoundMove, line_after_insert, line_after_delete, line_after_move, line_after_move_down, line_after_move_up, line_before_insert, line_before_delete, line_before_move}
 
 pub insert_returns : (limit start count r q : ℕ) → line_after_insert limit start count r ≡ Some q → line_before_insert start count q ≡ Some r
 insert_returns limit start count r q h = grind (arith, nat_tests)

@@ -1,5 +1,5 @@
 -- The laws on places: they come back, go forth, stay inside, and no two move to one.
-use Rattle.std.proofs.Common.{◌≡◌, ◌==◌, ℕ, ◌+◌, ◌<◌, ◌≤◌, Bool, true, false, cond, Option, Some, None, arith, sym, ◌∙◌, ap, subst}
+use Rattle.std.proofs.Common.{◌≡◌, ℕ, ◌<◌, Some, arith, sym, ◌∙◌, ap, subst}
 use Rattle.std.proofs.lemmas.Bool.Decides.{nat_tests}
 use Rattle.std.proofs.lemmas.Option.{same_Some}
 use Rattle.cell_addr.specs.declared.place.Place.{Place}
@@ -7,9 +7,9 @@ use Rattle.cell_addr.specs.declared.place.TheConstants.{ROWS, COLS}
 use Rattle.cell_addr.specs.Place.{IsInside}
 use Rattle.shift_core.specs.declared.shift.Shift.{Shift}
 use Rattle.shift_core.specs.declared.shift.Shift.TheVariants.{InsertRows, DeleteRows, InsertCols, DeleteCols, MoveRows, MoveCols, MoveBlock, DropSheet}
-use Rattle.shift_core.specs.Lines.{line_after_insert, line_after_delete, line_after_move, line_before_insert, line_before_delete, line_before_move, IsSoundMove}
+use Rattle.shift_core.specs.Lines.{line_after_insert, line_after_delete, line_after_move, line_before_insert, line_before_delete, line_before_move}
 use Rattle.shift_core.specs.Sound.{IsSound}
-use Rattle.shift_core.specs.Tables.{place_after, place_before, by_row, by_col}
+use Rattle.shift_core.specs.Tables.{place_after, place_before}
 use Rattle.shift_core.proofs.LinesReturn.{insert_returns, insert_goes, insert_inside, delete_inside, delete_returns, delete_goes, move_returns, move_goes, move_inside, unmove_inside}
 use Rattle.shift_core.proofs.RowRules.{by_row_returns, by_row_inside}
 use Rattle.shift_core.proofs.ColRules.{by_col_returns, by_col_inside}

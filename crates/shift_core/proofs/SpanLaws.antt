@@ -1,10 +1,10 @@
 -- What the ends of a block say of its lines. Serves the laws on blocks.
-use Rattle.std.proofs.Common.{◌≡◌, ◌==◌, ℕ, ◌+◌, ◌-◌, ◌<◌, ◌≤◌, ◌⊎◌, ◌↔◌, inl, inr, Bool, true, false, cond, ltb, Option, Some, None, option_map, arith, refl, sym, ◌∙◌, ap}
+use Rattle.std.proofs.Common.{◌≡◌, ℕ, ◌+◌, ◌-◌, ◌<◌, ◌≤◌, ◌⊎◌, ◌↔◌, inl, inr, ltb, Option, Some, None, option_map, arith, sym, ◌∙◌, ap}
 use Rattle.std.proofs.lemmas.Bool.Decides.{nat_tests}
 use Rattle.std.proofs.lemmas.Bool.{cases_lt, cond-true, cond-false, lt-ltb, le-ltb}
 use Rattle.std.proofs.lemmas.Option.{same_Some}
 use Rattle.shift_core.specs.declared.span.Span.{Span}
-use Rattle.shift_core.specs.Lines.{IsSoundInsert, IsSoundDelete, IsSoundMove, line_after_insert, line_after_delete, line_after_move}
+use Rattle.shift_core.specs.Lines.{IsSoundInsert, IsSoundMove, line_after_insert, line_after_delete, line_after_move}
 use Rattle.shift_core.specs.Ends.{pushed_line}
 use Rattle.shift_core.specs.Spans.{span_after_insert, span_after_delete, span_after_move, span_before_insert, span_before_delete, span_before_move}
 use Rattle.shift_core.specs.Laws.{IsPutBetween, span_of_lines}

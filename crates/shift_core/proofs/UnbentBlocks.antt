@@ -1,5 +1,5 @@
 -- A block that an operation neither bends nor cuts keeps the offsets of its places. Serves that law.
-use Rattle.std.proofs.Common.{◌≡◌, ◌≢◌, ℕ, ◌+◌, ◌-◌, ◌≤◌, ◌⊎◌, inl, inr, Option, Some, None, MatchOption, arith, sym, ◌∙◌, ap, subst}
+use Rattle.std.proofs.Common.{◌≡◌, ◌≢◌, ℕ, ◌-◌, ◌⊎◌, inl, inr, Option, Some, MatchOption, arith, sym, ap, subst}
 use Rattle.std.specs.Bool.{⊤}
 use Rattle.std.proofs.lemmas.Bool.{cases_eq}
 use Rattle.std.proofs.lemmas.Bool.Decides.{nat_tests}
@@ -17,8 +17,6 @@ use Rattle.shift_core.specs.Tables.{place_after, block_after}
 use Rattle.shift_core.specs.Carried.{carried_place, first_place}
 use Rattle.shift_core.specs.Bent.{IsCut}
 use Rattle.shift_core.specs.Laws.{MovesNoBlock}
-use Rattle.shift_core.proofs.BlockMoves.{same_place}
-use Rattle.shift_core.proofs.PlaceLaws.{stays_on_drop}
 use Rattle.shift_core.proofs.SpanLaws.{insert_carries, delete_carries, move_carries}
 use Rattle.shift_core.proofs.RowRules.{by_rows_carries, rows_of}
 use Rattle.shift_core.proofs.ColRules.{by_cols_carries, cols_of}

@@ -1,9 +1,9 @@
 -- Which blocks a structural operation doesn't just carry along as they are. Source: this project's own.
-use Rattle.std.specs.Prelude.{◌≡◌, ◌≢◌, ℕ, ◌-◌, ◌≤◌, ◌⊎◌, ⊤, MatchOption}
+use Rattle.std.specs.Prelude.{◌≡◌, ◌≢◌, ◌-◌, ◌≤◌, ◌⊎◌, ⊤, MatchOption}
 use Rattle.cell_addr.specs.declared.place.Block.{Block}
 use Rattle.cell_addr.specs.declared.place.TheConstants.{ROWS, COLS}
 use Rattle.shift_core.specs.declared.shift.Shift.{Shift}
-use Rattle.shift_core.specs.declared.shift.Shift.TheVariants.{InsertRows, DeleteRows, InsertCols, DeleteCols, MoveRows, MoveCols, MoveBlock, DropSheet}
+use Rattle.shift_core.specs.declared.shift.Shift.TheVariants.{InsertRows, InsertCols, MoveRows, MoveCols}
 use Rattle.shift_core.specs.Ends.{pushed_line}
 use Rattle.shift_core.specs.Spans.{MeetsDisplacedLine}
 use Rattle.shift_core.specs.Tables.{block_after}

@@ -1,5 +1,5 @@
 -- Places and blocks carried along with a block of cells. Source: this project's own.
-use Rattle.std.specs.Prelude.{ℕ, Bool, ◌+◌, ◌-◌, ◌==◌, nat_le, ◌&&◌}
+use Rattle.std.specs.Prelude.{Bool, ◌+◌, ◌-◌, ◌==◌, nat_le, ◌&&◌}
 use Rattle.cell_addr.specs.declared.place.Place.{Place}
 use Rattle.cell_addr.specs.declared.place.Block.{Block}
 

@@ -1,10 +1,10 @@
 -- What the tables of moved places and blocks have in common, in words of the places alone.
-use Rattle.std.specs.Prelude.{◌≡◌, ◌≢◌, ◌↔◌, ℕ, ◌+◌, ◌-◌, ◌<◌, ◌≤◌, ◌⊎◌, ⊤, ◌&&◌, if◌then◌else◌, Option, Some, None, option_map}
+use Rattle.std.specs.Prelude.{◌≡◌, ◌↔◌, ℕ, ◌+◌, ◌-◌, ◌<◌, ◌≤◌, ◌⊎◌, ⊤, ◌&&◌, if◌then◌else◌, Some, None, option_map}
 use Rattle.cell_addr.specs.declared.place.Place.{Place}
 use Rattle.cell_addr.specs.declared.place.Block.{Block}
 use Rattle.cell_addr.specs.Place.{IsInside, IsBlockInside, Covers}
 use Rattle.shift_core.specs.declared.shift.Shift.{Shift}
-use Rattle.shift_core.specs.declared.shift.Shift.TheVariants.{InsertRows, DeleteRows, InsertCols, DeleteCols, MoveRows, MoveCols, MoveBlock, DropSheet}
+use Rattle.shift_core.specs.declared.shift.Shift.TheVariants.{InsertRows, InsertCols, MoveRows, MoveCols, MoveBlock}
 use Rattle.shift_core.specs.declared.span.Span.{Span}
 use Rattle.shift_core.specs.Lines.{is_among, line_after_move}
 use Rattle.shift_core.specs.Carried.{carried_place, first_place}

@@ -1,5 +1,5 @@
 -- Which structural operations can be done: each fits a sheet, and isn't without effect. Source: this project's own.
-use Rattle.std.specs.Prelude.{◌≢◌, ℕ}
+use Rattle.std.specs.Prelude.{◌≢◌}
 use Rattle.cell_addr.specs.declared.place.TheConstants.{ROWS, COLS}
 use Rattle.cell_addr.specs.Place.{IsBlockInside}
 use Rattle.shift_core.specs.declared.shift.Shift.{Shift}

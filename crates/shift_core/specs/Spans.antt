@@ -1,8 +1,8 @@
 -- What an insert, a deletion or a move does to the ends of a block along one axis.
-use Rattle.std.specs.Prelude.{ℕ, ◌≤◌, ◌+◌, ◌-◌, min, nat_lt, nat_le, ◌&&◌, if◌then◌else◌, Option, Some, None, option_map, option_and_then}
+use Rattle.std.specs.Prelude.{ℕ, ◌≤◌, ◌+◌, ◌-◌, min, nat_lt, ◌&&◌, if◌then◌else◌, Option, Some, None, option_map, option_and_then}
 use Rattle.shift_core.specs.declared.span.Span.{Span}
 use Rattle.shift_core.specs.Ends.{pushed_line, first_left, behind_left, old_start}
-use Rattle.shift_core.specs.Lines.{IsDisplaced, is_among, line_after_move, line_before_insert, line_before_delete, line_before_move}
+use Rattle.shift_core.specs.Lines.{IsDisplaced, is_among, line_after_move, line_before_insert, line_before_delete}
 
 -- both ends pushed, as if the sheet had no edge
 abbrev pub pushed_span : ℕ → ℕ → Span → Span

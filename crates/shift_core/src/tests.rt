@@ -637,6 +637,10 @@ fn operations_that_fit_are_sound(rt: HostRuntime) {
     };
     for (sheet, row, col, fits) in FITTING_DESTINATIONS {
         let to = Place { sheet, row, col };
-        assert_eq!(rt; sound(&Shift::MoveBlock { source, to }), fits, "moved to {to:?}");
+        assert_eq!(rt;
+            sound(&Shift::MoveBlock { source, to }),
+            fits,
+            "moved to {to:?}"
+        );
     }
 }
