@@ -1,5 +1,11 @@
 // The structural operations of a sheet, and what they do to places and blocks.
 ghost use Rattle.std.specs.Prelude.{◌≡◌, ◌↔◌, IsTrue};
+ghost use Rattle.cell_addr.specs.Place.{IsBlockInside, Covers};
+ghost use Rattle.shift_core.specs.declared.shift.Shift.TheVariants.{MoveBlock};
+ghost use Rattle.shift_core.specs.Sound.{IsSound};
+ghost use Rattle.shift_core.specs.Bent.{IsBent, MeetsDisplaced, HaveOtherSizes};
+ghost use Rattle.shift_core.specs.Tables.{place_after, block_after, place_before, block_before, by_row, by_col, by_rows, by_cols};
+ghost use Rattle.shift_core.specs.Carried.{holds, contains, first_place, carried_place, carried_block, destination};
 
 use crate::line;
 use crate::span::Span;
@@ -56,13 +62,6 @@ pub enum Shift {
         sheet: u32,
     },
 }
-
-ghost use Rattle.cell_addr.specs.Place.{IsBlockInside, Covers};
-ghost use Rattle.shift_core.specs.declared.shift.Shift.TheVariants.{MoveBlock};
-ghost use Rattle.shift_core.specs.Sound.{IsSound};
-ghost use Rattle.shift_core.specs.Bent.{IsBent, MeetsDisplaced, HaveOtherSizes};
-ghost use Rattle.shift_core.specs.Tables.{place_after, block_after, place_before, block_before, by_row, by_col, by_rows, by_cols};
-ghost use Rattle.shift_core.specs.Carried.{holds, contains, first_place, carried_place, carried_block, destination};
 
 /// Whether the operation fits a sheet and isn't without effect.
 ///
@@ -144,16 +143,8 @@ pub fn moved_place(s: &Shift, p: Place) -> Option<Place>
             count,
             before,
         } => { on_col(sheet, p, Some(line::after_move(from, count, before, p.col))) }
-        Shift::MoveBlock { source, to } => {
-            if source.holds(p) {
-                Some(carry(source, to, p))
-            } else if destination_of(source, to).holds(p) {
-                None
-            } else {
-                Some(p)
-            }
-        }
-        Shift::DropSheet { sheet } => { if p.sheet == sheet { None } else { Some(p) } }
+        Shift::MoveBlock { source, to } => place_after_move_block(source, to, p),
+        Shift::DropSheet { sheet } => on_row(sheet, p, None),
     }
 }
 
@@ -195,16 +186,8 @@ pub fn moved_block(s: &Shift, b: Block) -> Option<Block>
             count,
             before,
         } => { on_cols(sheet, b, cols(b).after_move(from, count, before)) }
-        Shift::MoveBlock { source, to } => {
-            if contained(source, b) {
-                Some(carry_block(source, to, b))
-            } else if contained(destination_of(source, to), b) {
-                None
-            } else {
-                Some(b)
-            }
-        }
-        Shift::DropSheet { sheet } => { if b.sheet == sheet { None } else { Some(b) } }
+        Shift::MoveBlock { source, to } => block_after_move_block(source, to, b),
+        Shift::DropSheet { sheet } => on_rows(sheet, b, None),
     }
 }
 
@@ -254,16 +237,8 @@ pub fn back_place(s: &Shift, p: Place) -> Option<Place>
                 Some(line::before_move(from, count, before, p.col)),
             )
         }
-        Shift::MoveBlock { source, to } => {
-            if destination_of(source, to).holds(p) {
-                Some(carry(destination_of(source, to), first(source), p))
-            } else if source.holds(p) {
-                None
-            } else {
-                Some(p)
-            }
-        }
-        Shift::DropSheet { sheet } => { if p.sheet == sheet { None } else { Some(p) } }
+        Shift::MoveBlock { source, to } => place_before_move_block(source, to, p),
+        Shift::DropSheet { sheet } => on_row(sheet, p, None),
     }
 }
 
@@ -305,14 +280,8 @@ pub fn back_block(s: &Shift, b: Block) -> Option<Block>
             count,
             before,
         } => { on_cols(sheet, b, cols(b).before_move(from, count, before)) }
-        Shift::MoveBlock { source, to } => {
-            if contained(destination_of(source, to), b) {
-                Some(carry_block(destination_of(source, to), first(source), b))
-            } else {
-                Some(b)
-            }
-        }
-        Shift::DropSheet { sheet } => { if b.sheet == sheet { None } else { Some(b) } }
+        Shift::MoveBlock { source, to } => block_before_move_block(source, to, b),
+        Shift::DropSheet { sheet } => on_rows(sheet, b, None),
     }
 }
 
@@ -358,7 +327,7 @@ fn meets_displaced(s: &Shift, b: Block) -> bool
     }
 }
 
-/// The place with another row, where it is on the sheet.
+/// The place with another row, or none, where it is on the sheet.
 fn on_row(sheet: u32, p: Place, row: Option<u32>) -> Option<Place>
     ensures { result ≡ by_row sheet (λ _. row) p }
 {
@@ -369,7 +338,7 @@ fn on_row(sheet: u32, p: Place, row: Option<u32>) -> Option<Place>
     }
 }
 
-/// The place with another column, where it is on the sheet.
+/// The place with another column, or none, where it is on the sheet.
 fn on_col(sheet: u32, p: Place, col: Option<u32>) -> Option<Place>
     ensures { result ≡ by_col sheet (λ _. col) p }
 {
@@ -377,6 +346,60 @@ fn on_col(sheet: u32, p: Place, col: Option<u32>) -> Option<Place>
         Some(Place { col: col?, ..p })
     } else {
         Some(p)
+    }
+}
+
+/// Where the move of a block of cells to `to` moves a place; None where the cells are put over it.
+fn place_after_move_block(source: Block, to: Place, p: Place) -> Option<Place>
+    requires { IsSound (MoveBlock source to) }
+    ensures { result ≡ place_after (MoveBlock source to) p }
+{
+    if source.holds(p) {
+        Some(carry(source, to, p))
+    } else if destination_of(source, to).holds(p) {
+        None
+    } else {
+        Some(p)
+    }
+}
+
+/// Where the move of a block of cells to `to` moves a block; None where the cells are put over all of it.
+fn block_after_move_block(source: Block, to: Place, b: Block) -> Option<Block>
+    requires { IsSound (MoveBlock source to) }
+    ensures { result ≡ block_after (MoveBlock source to) b }
+{
+    if contained(source, b) {
+        Some(carry_block(source, to, b))
+    } else if contained(destination_of(source, to), b) {
+        None
+    } else {
+        Some(b)
+    }
+}
+
+/// Which place the move of a block of cells to `to` moved to `p`; None where the cells were taken from there.
+fn place_before_move_block(source: Block, to: Place, p: Place) -> Option<Place>
+    requires { IsSound (MoveBlock source to) }
+    ensures { result ≡ place_before (MoveBlock source to) p }
+{
+    if destination_of(source, to).holds(p) {
+        Some(carry(destination_of(source, to), first(source), p))
+    } else if source.holds(p) {
+        None
+    } else {
+        Some(p)
+    }
+}
+
+/// Which block the move of a block of cells to `to` moved to `b`.
+fn block_before_move_block(source: Block, to: Place, b: Block) -> Option<Block>
+    requires { IsSound (MoveBlock source to) }
+    ensures { result ≡ block_before (MoveBlock source to) b }
+{
+    if contained(destination_of(source, to), b) {
+        Some(carry_block(destination_of(source, to), first(source), b))
+    } else {
+        Some(b)
     }
 }
 
@@ -428,7 +451,7 @@ fn cols(b: Block) -> Span
     }
 }
 
-/// The block with other rows, where it is on the sheet.
+/// The block with other rows, or none, where it is on the sheet.
 fn on_rows(sheet: u32, b: Block, rows: Option<Span>) -> Option<Block>
     ensures { result ≡ by_rows sheet (λ _. rows) b }
 {
@@ -444,7 +467,7 @@ fn on_rows(sheet: u32, b: Block, rows: Option<Span>) -> Option<Block>
     }
 }
 
-/// The block with other columns, where it is on the sheet.
+/// The block with other columns, or none, where it is on the sheet.
 fn on_cols(sheet: u32, b: Block, cols: Option<Span>) -> Option<Block>
     ensures { result ≡ by_cols sheet (λ _. cols) b }
 {

@@ -7,7 +7,7 @@ ghost use Rattle.shift_core.specs.Ends.{pushed_line, old_start, first_left, behi
 use crate::line;
 
 /// The first and the last line of a block along one axis.
-#[derive(Clone, Copy, PartialEq, Eq, Debug)]
+#[derive(Clone, Copy)]
 pub(crate) struct Span {
     pub first: u32,
     pub last: u32,
