@@ -1,3 +1,6 @@
 pub mod Address
+pub mod Order
 pub mod Place
+pub mod SheetName
+pub mod Sheets
 pub mod Text
