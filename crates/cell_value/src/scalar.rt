@@ -4,12 +4,10 @@ ghost use Rattle.std.specs.Cmp.{partial_equiv_from_equiv};
 ghost use Rattle.cell_value.specs.Scalar.{read_truth, same_value, scalar_of, shown_text, to_number, to_text, to_truth, truth_text};
 ghost use Rattle.cell_value.specs.Same.{same_value_equiv};
 
-use std::alloc::{AllocError, Global};
-
+use crate::fault::FaultKind;
 use cell_addr::{Text, same_folded};
 use fix_num::{Fixed, NumError};
-
-use crate::fault::FaultKind;
+use std::alloc::{AllocError, Global};
 
 /// The value of a cell, or of a part of a formula.
 #[derive(Drop, Debug)]

@@ -1,12 +1,10 @@
+use crate::{FaultKind, Scalar, compare_texts};
+use cell_addr::Text;
+use fix_num::{Fixed, NumError};
 use std::alloc::{AllocError, Global};
 use std::cmp::Ordering::{self, Equal, Greater, Less};
 use std::process::Abort;
 use std::test::Fail;
-
-use cell_addr::Text;
-use fix_num::{Fixed, NumError};
-
-use crate::{FaultKind, Scalar, compare_texts};
 
 /// The value that the words describe; a text stands behind an apostrophe.
 fn value(alloc: Global, words: &str) -> Result<Scalar, AllocError> {
@@ -63,7 +61,10 @@ fn numbers_of_values(rt: HostRuntime) -> Result<(), Fail> {
         "'1000000000000",
         "'-99999999999999999999",
     ] {
-        assert!(rt; millionths(rt.alloc(), words)? == Err(FaultKind::Value), "{words}");
+        assert!(rt;
+            millionths(rt.alloc(), words)? == Err(FaultKind::Value),
+            "{words}"
+        );
     }
     assert!(rt; millionths(rt.alloc(), "#CYCLE!")? == Err(FaultKind::Cycle));
     Ok(())
@@ -94,7 +95,13 @@ fn truths_of_values(rt: HostRuntime) -> Result<(), Fail> {
 
 /// Asserts what a person sees of the value, that its text is the other value, and that its copy is
 /// itself.
-fn assert_shown(rt: &impl Abort, alloc: Global, words: &str, shown: &str, text: &str) -> Result<(), AllocError> {
+fn assert_shown(
+    rt: &impl Abort,
+    alloc: Global,
+    words: &str,
+    shown: &str,
+    text: &str,
+) -> Result<(), AllocError> {
     let of = value(alloc, words)?;
     assert!(rt; of.shown(alloc)?.as_str() == shown, "{words}");
     assert!(rt; of.as_text(alloc)? == value(alloc, text)?, "{words}");
