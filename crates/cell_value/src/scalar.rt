@@ -64,7 +64,7 @@ impl Scalar {
         ensures { IfOk result (λ text. text ≡ to_text self.now) }
     {
         match self {
-            Scalar::Fault(fault) => Ok(Scalar::Fault(*fault)),
+            Scalar::Fault(_) => self.copy(alloc),
             _ => Ok(Scalar::Text(self.shown(alloc)?)),
         }
     }
@@ -97,7 +97,7 @@ impl Scalar {
 }
 
 /// How a truth value is spelled.
-pub fn truth_text(truth: bool) -> &'static str
+fn truth_text(truth: bool) -> &'static str
     ensures { result.now ≡ truth_text truth }
 {
     if truth { "TRUE" } else { "FALSE" }
