@@ -1,5 +1,5 @@
 -- That the test of two values for sameness tells exactly whether they are equal: for `==` of scalars.
-use Rattle.std.proofs.Common.{◌≡◌, ◌∙◌, sym, ap, refl, Bool, true, false, Some, ℕ, List}
+use Rattle.std.proofs.Common.{◌≡◌, ◌∙◌, sym, ap, refl, Some}
 use Rattle.std.specs.Cmp.{IsEquivalence, decided, signed_Decides, booleans_Decides}
 use Rattle.std.specs.Bool.{Decides}
 use Rattle.std.specs.Cmp.Lexicographic.{bytes_decides}

@@ -14,3 +14,6 @@ mod scalar;
 pub use fault::FaultKind;
 pub use order::compare_texts;
 pub use scalar::Scalar;
+
+#[cfg(test)]
+mod tests;

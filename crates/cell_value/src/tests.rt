@@ -1,0 +1,228 @@
+use crate::{FaultKind, Scalar, compare_texts};
+use cell_addr::Text;
+use fix_num::{Fixed, NumError};
+use std::alloc::{AllocError, Global};
+use std::cmp::Ordering::{self, Equal, Greater, Less};
+use std::process::Abort;
+use std::test::Fail;
+
+/// The value that the words describe; a text stands behind an apostrophe.
+fn value(alloc: Global, words: &str) -> Result<Scalar, AllocError> {
+    if let Some(content) = words.strip_prefix('\'') {
+        return Ok(Scalar::Text(Text::from_str(alloc, content)?));
+    }
+    match words {
+        "" => Ok(Scalar::Empty),
+        "TRUE" => Ok(Scalar::Truth(true)),
+        "FALSE" => Ok(Scalar::Truth(false)),
+        _ => match FaultKind::named(words) {
+            Some(fault) => Ok(Scalar::Fault(fault)),
+            None => Ok(Scalar::from(Fixed::from_text(words))),
+        },
+    }
+}
+
+/// How many millionths the value has as a number.
+fn millionths(alloc: Global, words: &str) -> Result<Result<i64, FaultKind>, AllocError> {
+    match value(alloc, words)?.as_number() {
+        Ok(number) => Ok(Ok(number.millionths())),
+        Err(fault) => Ok(Err(fault)),
+    }
+}
+
+#[test]
+fn numbers_of_values(rt: HostRuntime) -> Result<(), Fail> {
+    for (words, number) in [
+        ("'5", 5_000_000),
+        ("'+5", 5_000_000),
+        ("'-0.25", -250_000),
+        ("'.5", 500_000),
+        ("'5.", 5_000_000),
+        ("'007", 7_000_000),
+        ("'0.1234565", 123_457),
+        ("'999999999999.999999", 999_999_999_999_999_999),
+        ("-1.5", -1_500_000),
+        ("TRUE", 1_000_000),
+        ("FALSE", 0),
+        ("", 0),
+    ] {
+        assert!(rt; millionths(rt.alloc(), words)? == Ok(number), "{words}");
+    }
+    for words in [
+        "'",
+        "' 5",
+        "'5 ",
+        "'1e3",
+        "'1,5",
+        "'1.2.3",
+        "'.",
+        "'TRUE",
+        "'#N/A",
+        "'1000000000000",
+        "'-99999999999999999999",
+    ] {
+        assert!(rt;
+            millionths(rt.alloc(), words)? == Err(FaultKind::Value),
+            "{words}"
+        );
+    }
+    assert!(rt; millionths(rt.alloc(), "#CYCLE!")? == Err(FaultKind::Cycle));
+    Ok(())
+}
+
+#[test]
+fn truths_of_values(rt: HostRuntime) -> Result<(), Fail> {
+    for (words, truth) in [
+        ("'TRUE", Ok(true)),
+        ("'true", Ok(true)),
+        ("'tRuE", Ok(true)),
+        ("'FALSE", Ok(false)),
+        ("'fAlSe", Ok(false)),
+        ("'", Err(FaultKind::Value)),
+        ("'1", Err(FaultKind::Value)),
+        ("'TRUE ", Err(FaultKind::Value)),
+        ("'T", Err(FaultKind::Value)),
+        ("", Ok(false)),
+        ("0", Ok(false)),
+        ("-0.000001", Ok(true)),
+        ("TRUE", Ok(true)),
+        ("#DIV/0!", Err(FaultKind::Div0)),
+    ] {
+        assert!(rt; value(rt.alloc(), words)?.as_truth() == truth, "{words}");
+    }
+    Ok(())
+}
+
+/// Asserts what a person sees of the value, that its text is the other value, and that its copy is
+/// itself.
+fn assert_shown(
+    rt: &impl Abort,
+    alloc: Global,
+    words: &str,
+    shown: &str,
+    text: &str,
+) -> Result<(), AllocError> {
+    let of = value(alloc, words)?;
+    assert!(rt; of.shown(alloc)?.as_str() == shown, "{words}");
+    assert!(rt; of.as_text(alloc)? == value(alloc, text)?, "{words}");
+    assert!(rt; of.copy(alloc)? == of, "{words}");
+    Ok(())
+}
+
+#[test]
+fn texts_of_values(rt: HostRuntime) -> Result<(), Fail> {
+    for (words, shown, text) in [
+        ("", "", "'"),
+        ("1.50", "1.5", "'1.5"),
+        ("-0.000001", "-0.000001", "'-0.000001"),
+        ("0", "0", "'0"),
+        ("TRUE", "TRUE", "'TRUE"),
+        ("FALSE", "FALSE", "'FALSE"),
+        ("'x", "x", "'x"),
+        ("'", "", "'"),
+        ("'#REF!", "#REF!", "'#REF!"),
+        ("#REF!", "#REF!", "#REF!"),
+    ] {
+        assert_shown(&rt, rt.alloc(), words, shown, text)?;
+    }
+    Ok(())
+}
+
+#[test]
+fn names_of_faults(rt: HostRuntime) -> Result<(), Fail> {
+    for (fault, text) in [
+        (FaultKind::Div0, "#DIV/0!"),
+        (FaultKind::Name, "#NAME?"),
+        (FaultKind::Value, "#VALUE!"),
+        (FaultKind::Num, "#NUM!"),
+        (FaultKind::Na, "#N/A"),
+        (FaultKind::Cycle, "#CYCLE!"),
+        (FaultKind::Ref, "#REF!"),
+        (FaultKind::Error, "#ERROR!"),
+    ] {
+        assert!(rt; fault.text() == text);
+        assert!(rt; fault.to_string(rt.alloc())?.as_str() == text);
+        assert!(rt; FaultKind::named(text) == Some(fault));
+    }
+    assert!(rt; FaultKind::named("#div/0!") == Some(FaultKind::Div0));
+    assert!(rt; FaultKind::named("#n/A") == Some(FaultKind::Na));
+    for none in ["", "#", "#DIV/0", "#DIV/0! ", "N/A", "#NULL!", "VALUE"] {
+        assert!(rt; FaultKind::named(none) == None, "{none}");
+    }
+    Ok(())
+}
+
+#[test]
+fn calculations_as_values(rt: HostRuntime) {
+    for (error, fault) in [
+        (NumError::Range, FaultKind::Num),
+        (NumError::ZeroDivisor, FaultKind::Div0),
+        (NumError::NotANumber, FaultKind::Value),
+    ] {
+        assert!(rt; Scalar::from(Err(error)) == Scalar::Fault(fault));
+    }
+    assert!(rt; Scalar::from(Ok(Fixed::ONE)) == Scalar::Number(Fixed::ONE));
+    assert!(rt; Scalar::Number(Fixed::ONE) != Scalar::Truth(true));
+    assert!(rt; Scalar::Number(Fixed::ZERO) != Scalar::Empty);
+}
+
+/// Whether the values compare so, and the other way round in reverse.
+fn compares(alloc: Global, a: &str, b: &str, order: Ordering) -> Result<bool, AllocError> {
+    let a = value(alloc, a)?;
+    let b = value(alloc, b)?;
+    Ok(a.compare(&b) == Ok(order) && b.compare(&a) == Ok(order.reverse()))
+}
+
+#[test]
+fn orders_of_values(rt: HostRuntime) -> Result<(), Fail> {
+    for (a, b, order) in [
+        ("2", "10", Less),
+        ("-2", "-10", Greater),
+        ("'a", "'B", Less),
+        ("'Z", "'a", Greater),
+        ("'apple", "'APPLE", Equal),
+        ("'", "'a", Less),
+        ("'ab", "'a", Greater),
+        ("'ab", "'B", Less),
+        ("'A", "'_", Greater),
+        ("'Z", "'[", Greater),
+        ("'é", "'z", Greater),
+        ("'é", "'É", Greater),
+        ("'10", "'9", Less),
+        ("'𝄞", "'\u{ffff}", Greater),
+        ("999999999999", "'", Less),
+        ("2", "'1", Less),
+        ("'TRUE", "FALSE", Less),
+        ("1", "TRUE", Less),
+        ("FALSE", "TRUE", Less),
+        ("TRUE", "TRUE", Equal),
+        ("", "", Equal),
+        ("", "0", Equal),
+        ("", "-1", Greater),
+        ("", "1", Less),
+        ("", "'", Equal),
+        ("", "'a", Less),
+        ("", "FALSE", Equal),
+        ("", "TRUE", Less),
+    ] {
+        assert!(rt; compares(rt.alloc(), a, b, order)?, "{a} and {b}");
+    }
+    assert!(rt; compare_texts("Straße", "STRASSE") == Greater);
+    Ok(())
+}
+
+#[test]
+fn faults_before_orders(rt: HostRuntime) -> Result<(), Fail> {
+    for (a, b, fault) in [
+        ("#DIV/0!", "#N/A", FaultKind::Div0),
+        ("#N/A", "#DIV/0!", FaultKind::Na),
+        ("", "#NAME?", FaultKind::Name),
+        ("#NUM!", "1", FaultKind::Num),
+        ("'x", "#REF!", FaultKind::Ref),
+    ] {
+        let left = value(rt.alloc(), a)?;
+        let right = value(rt.alloc(), b)?;
+        assert!(rt; left.compare(&right) == Err(fault), "{a} and {b}");
+    }
+    Ok(())
+}
