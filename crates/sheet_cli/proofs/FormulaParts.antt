@@ -1,7 +1,7 @@
 -- The parts of a text between its `+`. Serves the reading of formulas: a text is its parts joined again, and a
 -- text without `+` is one part.
-use Rattle.std.proofs.Common.{◌≡◌, ◌∙◌, sym, ap, refl, arith, ℕ, suc, ◌+◌, Bool, true, false, not, cond, ◌&&◌, ◌||◌, List, [], ◌∷◌, ◌++◌, take, drop}
-use Rattle.std.specs.List.{list_all, list_any, slice_split, onto_first, join_with_byte, position_or_len, before_first, after_first}
+use Rattle.std.proofs.Common.{◌≡◌, ◌∙◌, sym, ap, refl, arith, ℕ, suc, ◌+◌, Bool, true, false, not, cond, ◌||◌, List, [], ◌∷◌, ◌++◌, take, drop}
+use Rattle.std.specs.List.{list_all, list_any, onto_first, join_with_byte, position_or_len, before_first, after_first}
 use Rattle.std.proofs.lemmas.List.{append-nil}
 use Rattle.std.proofs.lemmas.List.Splits.{join_with_byte-slice_split}
 use Rattle.std.proofs.lemmas.Bool.{and_parts, not-true}

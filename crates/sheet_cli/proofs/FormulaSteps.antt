@@ -1,8 +1,8 @@
 -- The reading of a sum, one term at a time. Serves the loop over the terms of a formula.
-use Rattle.std.proofs.Common.{◌≡◌, ◌∙◌, sym, ap, refl, arith, ℕ, zero, suc, ◌+◌, ◌-◌, ◌<◌, ◌≤◌, Bool, true, false, cond, nat_le, List, [], ◌∷◌, length, Option, Some, None}
+use Rattle.std.proofs.Common.{◌≡◌, ◌∙◌, ap, refl, arith, ℕ, zero, suc, ◌<◌, true, false, cond, nat_le, List, [], ◌∷◌, length, Option, Some, None}
 use Rattle.std.specs.Option.{option_and_then}
 use Rattle.std.specs.List.{list_any, before_first, after_first}
-use Rattle.std.proofs.lemmas.Bool.{cases_Bool, le-leb, lt-leb}
+use Rattle.std.proofs.lemmas.Bool.{le-leb, lt-leb}
 use Rattle.std.proofs.lemmas.Bool.Decides.{nat_tests}
 use Rattle.cell_addr.specs.declared.place.Place.{Place}
 use Rattle.formula_tree.specs.Term.{Term}
@@ -12,9 +12,9 @@ use Rattle.sheet_cli.proofs.FormulaParts.{parts_first}
 
 no_term : (home : Place) (n : ℕ) (left : Option (Term Corner)) (part : List ℕ) (rest : List (List ℕ)) → term_of home part ≡ None → sum_of home n left (part ∷ rest) ≡ None
 no_term home n left part rest e = elim (nat_le (length (part ∷ rest)) n) as (λ b. cond b (option_and_then (λ t. sum_from home (Some (joined left t)) rest) (term_of home part)) None ≡ None) [
-      | true ↦ rw e refl
-      | false ↦ refl
-    ]
+  | true ↦ rw e refl
+  | false ↦ refl
+]
 
 one_level_more : (a n : ℕ) → nat_le (suc a) (suc n) ≡ nat_le a n
 one_level_more a n = grind (arith, nat_tests)

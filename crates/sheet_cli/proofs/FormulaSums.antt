@@ -1,5 +1,5 @@
 -- The sums of formulas: the recipe gives the tree that a sum spells, and no other.
-use Rattle.std.proofs.Common.{◌≡◌, ◌∙◌, sym, ap, subst, refl, arith, ℕ, ◌+◌, ◌≤◌, max, Bool, true, false, List, [], ◌∷◌, ◌++◌, length, append_assoc, length-append, Option, Some, None}
+use Rattle.std.proofs.Common.{◌≡◌, ◌∙◌, sym, ap, subst, refl, arith, ℕ, ◌+◌, ◌≤◌, List, [], ◌∷◌, ◌++◌, length, append_assoc, length-append, Option, Some, None}
 use Rattle.std.proofs.lemmas.List.{append-nil}
 use Rattle.std.specs.Option.{option_and_then}
 use Rattle.cell_addr.specs.declared.place.Place.{Place}
@@ -7,7 +7,7 @@ use Rattle.formula_tree.specs.Term.{Term, number, cell, binary, depth_of}
 use Rattle.formula_tree.specs.declared.plain.Corner.{Corner}
 use Rattle.formula_tree.specs.declared.plain.Op.TheVariants.{Add}
 use Rattle.sheet_cli.specs.Formula.{SpellsTerm, SpellsSum, term_of, joined, sum_from, parts}
-use Rattle.sheet_cli.proofs.FormulaParts.{behind, has_no_plus, parts-append, parts_alone}
+use Rattle.sheet_cli.proofs.FormulaParts.{behind, parts-append, parts_alone}
 use Rattle.sheet_cli.proofs.FormulaTerms.{term_is_spelt, term_is_read, term_has_no_plus}
 
 depth_is_positive : (t : Term Corner) → 1 ≤ depth_of t
@@ -38,14 +38,14 @@ sum_is_spelt home [] front l t s e =
     subst P same (subst Q (sym (append-nil front)) s, omega arith)
 sum_is_spelt home (part ∷ rest) front l t s e =
     elim (term_of home part) as (λ o. term_of home part ≡ o → option_and_then (λ r. sum_from home (Some (binary Add l r)) rest) o ≡ Some t
-        → SpellsSum home (front ++ 43 ∷ (part ++ behind rest)) t × (depth_of t ≡ depth_of l + length (part ∷ rest))) [
+    → SpellsSum home (front ++ 43 ∷ (part ++ behind rest)) t × (depth_of t ≡ depth_of l + length (part ∷ rest))) [
       | None ↦ λ is f. absurd (cc)
       | Some r ↦ λ is f.
-        let term = term_is_spelt home part r is in
-        let more = sum_is_spelt home rest (front ++ 43 ∷ part) (binary Add l r) t (front, part, refl, s, term) f in
-        let deep = one_deeper l r (term_depth home part r term) in
-        let P : List ℕ → Type 0 = λ x. SpellsSum home x t in
-        (subst P (append_assoc front (43 ∷ part) (behind rest)) more.0, omega (arith, more.1, deep))
+          let term = term_is_spelt home part r is in
+          let more = sum_is_spelt home rest (front ++ 43 ∷ part) (binary Add l r) t (front, part, refl, s, term) f in
+          let deep = one_deeper l r (term_depth home part r term) in
+          let P : List ℕ → Type 0 = λ x. SpellsSum home x t in
+          (subst P (append_assoc front (43 ∷ part) (behind rest)) more.0, omega (arith, more.1, deep))
     ] refl e
 
 -- a term behind the parts of a sum
@@ -54,7 +54,7 @@ sum_with_term : (home : Place) (all : List (List ℕ)) (left : Option (Term Corn
 sum_with_term home [] left part l r e f = rw (e, f) refl
 sum_with_term home (first ∷ rest) left part l r e f =
     elim (term_of home first) as (λ o. option_and_then (λ t. sum_from home (Some (joined left t)) rest) o ≡ Some l
-        → option_and_then (λ t. sum_from home (Some (joined left t)) (rest ++ part ∷ [])) o ≡ Some (binary Add l r)) [
+    → option_and_then (λ t. sum_from home (Some (joined left t)) (rest ++ part ∷ [])) o ≡ Some (binary Add l r)) [
       | None ↦ λ g. cc
       | Some t ↦ λ g. sum_with_term home rest (Some (joined left t)) part l r g f
     ] e

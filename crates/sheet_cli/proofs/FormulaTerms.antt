@@ -1,6 +1,6 @@
 -- The terms of a formula: the recipe gives the term that a text spells, and no other; and no term has a `+`.
 -- Serves the reading of formulas.
-use Rattle.std.proofs.Common.{◌≡◌, ◌∙◌, sym, ap, subst, refl, arith, ℕ, zero, suc, ◌+◌, ◌<◌, ◌≤◌, ℤ, Bool, true, false, not, cond, ◌&&◌, ◌==◌, nat_lt, nat_le, List, [], ◌∷◌, ◌++◌, length, take, drop, get_or, add-one, Option, Some, None, Result, Ok, Err}
+use Rattle.std.proofs.Common.{◌≡◌, ◌∙◌, sym, ap, subst, refl, arith, ℕ, suc, ◌+◌, ◌≤◌, ℤ, Bool, true, false, not, cond, ◌&&◌, ◌==◌, nat_lt, nat_le, List, [], ◌∷◌, ◌++◌, length, take, drop, Option, Some, None, Result, Ok, Err}
 use Rattle.std.specs.Option.{option_map, option_and_then}
 use Rattle.std.specs.Result.{result_ok}
 use Rattle.std.specs.List.{list_all, prefix_len, before_first, after_first}
@@ -95,11 +95,11 @@ around_first p q r f g (c ∷ cs) a b =
     elim (p c) as (λ v. p c ≡ v → list_all q (take (cond (not v) (1 + k) 0) (c ∷ cs)) ≡ true → list_all q (drop (cond (not v) (1 + k) 0 + 1) (c ∷ cs)) ≡ true → list_all r (c ∷ cs) ≡ true) [
       | true ↦ λ e x y. and_from (r c) (list_all r cs) (f c e) (all_weaker q r g cs y)
       | false ↦ λ e x y.
-        let one : 1 + k ≡ suc k = omega arith in
-        let two : 1 + k + 1 ≡ suc (k + 1) = omega arith in
-        let x' = and_parts (q c) (list_all q (take k cs)) (rw one at x) in
-        let y' : list_all q (drop (k + 1) cs) ≡ true = rw two at y in
-        and_from (r c) (list_all r cs) (g c x'.0) (around_first p q r f g cs x'.1 y')
+          let one : 1 + k ≡ suc k = omega arith in
+          let two : 1 + k + 1 ≡ suc (k + 1) = omega arith in
+          let x' = and_parts (q c) (list_all q (take k cs)) (rw one at x) in
+          let y' : list_all q (drop (k + 1) cs) ≡ true = rw two at y in
+          and_from (r c) (list_all r cs) (g c x'.0) (around_first p q r f g cs x'.1 y')
     ] refl a b
 
 number_has_no_plus : (text : List ℕ) → is_unsigned text ≡ true → has_no_plus text ≡ true
@@ -113,9 +113,9 @@ number_has_no_plus text h =
 dollar_split : (text : List ℕ) → text ≡ dollar (has_dollar text) (behind_dollar text)
 dollar_split [] = refl
 dollar_split (c ∷ cs) = elim (c == 36) as (λ b. (c == 36) ≡ b → c ∷ cs ≡ dollar b (cond b cs (c ∷ cs))) [
-      | true ↦ λ e. ap (λ x. x ∷ cs) (eqb-true c 36 e)
-      | false ↦ λ e. refl
-    ] refl
+  | true ↦ λ e. ap (λ x. x ∷ cs) (eqb-true c 36 e)
+  | false ↦ λ e. refl
+] refl
 
 has_dollar-dollar : (b : Bool) (text : List ℕ) → has_dollar text ≡ false → has_dollar (dollar b text) ≡ b
 has_dollar-dollar true text h = refl
@@ -282,9 +282,9 @@ term_is_spelt home text t e =
     elim (unsigned_number text) as (λ o. unsigned_number text ≡ o → number_or_cell home o (corner_of text) ≡ Some t → SpellsTerm home text t) [
       | Some m ↦ λ is f. let same : number m ≡ t = cc in subst P same (number_is_spelt text m is)
       | None ↦ λ is f. elim (corner_of text) as (λ o. corner_of text ≡ o → option_and_then (cell_before home) o ≡ Some t → SpellsTerm home text t) [
-          | Some c ↦ λ at g. cell_is_spelt home text c t at g
-          | None ↦ λ at g. absurd (cc)
-        ] refl f
+        | Some c ↦ λ at g. cell_is_spelt home text c t at g
+        | None ↦ λ at g. absurd (cc)
+      ] refl f
     ] refl e
 
 -- what is spelt, the recipe gives

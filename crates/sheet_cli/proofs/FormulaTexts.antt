@@ -1,13 +1,13 @@
 -- The canonical texts of trees: they spell the trees that they are the texts of. Serves the law of canonical texts.
-use Rattle.std.proofs.Common.{◌≡◌, ◌∙◌, sym, ap, subst, refl, arith, ℕ, ◌+◌, ◌<◌, ◌≤◌, ℤ, pos, negsuc, unsigned_abs, Bool, true, false, cond, ◌||◌, ◌==◌, nat_lt, List, [], ◌∷◌, ◌++◌, Result, Ok, Err, Some, decimal}
+use Rattle.std.proofs.Common.{◌≡◌, ◌∙◌, sym, ap, subst, refl, arith, ℕ, ◌+◌, ◌<◌, ℤ, pos, Bool, true, false, cond, ◌||◌, ◌==◌, nat_lt, List, [], ◌∷◌, ◌++◌, Ok, Err, decimal}
 use Rattle.std.proofs.lemmas.Bool.{lt-ltb, ltb-true, eqb-true, both_ways, false_from_ne_true}
 use Rattle.digits.specs.Digits.{is_digit}
 use Rattle.fix_num.specs.declared.error.NumError.TheVariants.{Range, NotANumber}
-use Rattle.fix_num.specs.Number.{within, signed, IsInside}
-use Rattle.fix_num.specs.Text.{is_point, is_unsigned, number_of, text_of, has_minus, behind_sign, magnitude, unsigned_text}
+use Rattle.fix_num.specs.Number.{within, signed}
+use Rattle.fix_num.specs.Text.{is_point, is_unsigned, number_of, text_of, has_minus, behind_sign, magnitude}
 use Rattle.fix_num.proofs.PlainTexts.{number_of-text_of, is_unsigned-unsigned_text}
 use Rattle.cell_addr.specs.declared.place.Place.{Place}
-use Rattle.cell_addr.specs.declared.place.TheConstants.{ROWS, COLS}
+use Rattle.cell_addr.specs.declared.place.TheConstants.{COLS}
 use Rattle.cell_addr.specs.Address.{column_letters}
 use Rattle.cell_addr.proofs.Printed.{column_of-column_letters, row_of-decimal}
 use Rattle.formula_tree.specs.Term.{Term, number, cell, binary}

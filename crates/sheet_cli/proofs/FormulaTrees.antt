@@ -1,6 +1,6 @@
 -- The trees of texts: what a text spells is the tree that the recipe gives, no text spells two trees, and every
 -- place that a tree mentions comes before its home. Serves the laws of formulas, and the workbook.
-use Rattle.std.proofs.Common.{◌≡◌, ◌∙◌, sym, ap, subst, refl, arith, ℕ, suc, ◌+◌, ◌<◌, ◌≤◌, inl, inr, Bool, true, false, cond, ◌||◌, ◌&&◌, ◌==◌, nat_le, nat_lt, List, [], ◌∷◌, ◌++◌, length, Option, Some, None, IsTrue, IfSome, IfNone}
+use Rattle.std.proofs.Common.{◌≡◌, ◌∙◌, sym, ap, subst, refl, arith, ℕ, ◌≤◌, inl, inr, Bool, true, false, cond, ◌||◌, ◌&&◌, ◌==◌, nat_le, nat_lt, List, [], ◌∷◌, ◌++◌, length, Option, Some, None, IfSome, IfNone}
 use Rattle.std.specs.Option.{option_map, option_and_then}
 use Rattle.std.proofs.lemmas.Bool.{leb-true, le-leb, eqb-true, or_cases, and_parts}
 use Rattle.cell_addr.specs.declared.place.Place.{Place}
@@ -9,7 +9,7 @@ use Rattle.formula_tree.specs.Seen.{seen}
 use Rattle.formula_tree.specs.declared.plain.Corner.{Corner}
 use Rattle.formula_tree.specs.declared.plain.Plain.{Plain}
 use Rattle.formula_tree.specs.declared.plain.Op.TheVariants.{Add}
-use Rattle.sheet_cli.specs.Formula.{is_before, SpellsTerm, SpellsSum, Spells, term_of, sum_from, sum_of, parts, tree_of, same_place, mentions}
+use Rattle.sheet_cli.specs.Formula.{is_before, SpellsSum, Spells, term_of, sum_from, sum_of, parts, tree_of, same_place, mentions}
 use Rattle.sheet_cli.proofs.FormulaParts.{behind, parts_HasFirst, parts_join}
 use Rattle.sheet_cli.proofs.FormulaTerms.{term_is_spelt}
 use Rattle.sheet_cli.proofs.FormulaSums.{term_is_sum, sum_is_spelt, sum_is_read}
@@ -21,9 +21,9 @@ whole_sum_is_spelt home part rest t e =
     elim (term_of home part) as (λ o. term_of home part ≡ o → option_and_then (λ r. sum_from home (Some r) rest) o ≡ Some t → SpellsSum home (part ++ behind rest) t × (depth_of t ≡ length (part ∷ rest))) [
       | None ↦ λ is f. absurd (cc)
       | Some r ↦ λ is f.
-        let first = term_is_sum home part r (term_is_spelt home part r is) in
-        let more = sum_is_spelt home rest part r t first.0 f in
-        (more.0, omega (arith, more.1, first.1))
+          let first = term_is_sum home part r (term_is_spelt home part r is) in
+          let more = sum_is_spelt home rest part r t first.0 f in
+          (more.0, omega (arith, more.1, first.1))
     ] refl e
 
 some_from : (b : Bool) (o : Option (Term Corner)) (t : Term Corner) → cond b o None ≡ Some t → (b ≡ true) × (o ≡ Some t)

@@ -10,7 +10,6 @@ use Rattle.cell_addr.specs.declared.place.Place.{Place}
 use Rattle.cell_addr.specs.declared.place.TheConstants.{ROWS, COLS}
 use Rattle.formula_tree.specs.Term.{Term, number, cell, binary, depth_of}
 use Rattle.formula_tree.specs.declared.plain.Corner.{Corner}
-use Rattle.formula_tree.specs.declared.plain.Op.{Op}
 use Rattle.formula_tree.specs.declared.plain.Op.TheVariants.{Add}
 
 -- What a text spells.

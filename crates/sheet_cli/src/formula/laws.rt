@@ -4,23 +4,19 @@ ghost use Rattle.sheet_cli.specs.FormulaLaws.{FormulasAreRead, NoTextSpellsTwo, 
 /// A text has the tree that it spells, and none where it spells none.
 pub fn formulas_are_read()
     ensures { FormulasAreRead }
-{
-}
+{}
 
 /// No text spells two trees.
 pub fn no_text_spells_two()
     ensures { NoTextSpellsTwo }
-{
-}
+{}
 
 /// The canonical text of a tree that some text spells in a cell spells that tree in that cell too.
 pub fn canonical_text_spells()
     ensures { CanonicalTextSpells }
-{
-}
+{}
 
 /// Every place that a formula mentions comes before the formula's own cell.
 pub fn formulas_refer_back()
     ensures { FormulasReferBack }
-{
-}
+{}

@@ -1,10 +1,9 @@
 -- What the reading answers is what the text spells, since the recipe gives what is spelt.
-use Rattle.std.proofs.Common.{◌≡◌, ◌∙◌, ap, Option, option_map, IfSome, IfNone}
+use Rattle.std.proofs.Common.{◌≡◌, ◌∙◌, ap, option_map, IfSome, IfNone}
 use Rattle.std.proofs.lemmas.Result.{IfOk-weaker}
 use Rattle.formula_tree.specs.Term.{Term}
 use Rattle.formula_tree.specs.Seen.{seen}
 use Rattle.formula_tree.specs.declared.plain.Corner.{Corner}
-use Rattle.formula_tree.specs.declared.plain.Plain.{Plain}
 use Rattle.sheet_cli.specs.Formula.{Spells, tree_of}
 use Rattle.sheet_cli.proofs.FormulaTrees.{read_is_spelt, unread_is_unspelt}
 use Rattle.sheet_cli.proofs.formula.read.read_formula.Goals as goal

@@ -1,5 +1,5 @@
 -- Each turn of the loop reads one term, and the terms that are left give the rest of the tree.
-use Rattle.std.proofs.Common.{◌≡◌, ◌∙◌, sym, ap, arith, ◌+◌, ◌-◌, suc, Bool, false, true, Some, None, option_map}
+use Rattle.std.proofs.Common.{◌∙◌, sym, ap, arith, ◌+◌, ◌-◌, Some, option_map}
 use Rattle.formula_tree.specs.Seen.{seen}
 use Rattle.sheet_cli.specs.Formula.{term_of, joined, parts, sum_of}
 use Rattle.sheet_cli.proofs.FormulaSteps.{term_missing, last_term, next_term, no_level_left}
