@@ -27,3 +27,6 @@ mod session;
 mod workbook;
 
 pub use program::run;
+
+#[cfg(test)]
+mod tests;
