@@ -1,4 +1,5 @@
 pub mod Address
+pub mod Laws
 pub mod Order
 pub mod Place
 pub mod SheetName
