@@ -6,6 +6,125 @@ use std::cmp::Ordering::{self, Equal, Greater, Less};
 use std::process::Abort;
 use std::test::Fail;
 
+// Values, and their numbers in millionths.
+const NUMBERS: &[(&str, i64)] = &[
+    ("'5", 5_000_000),
+    ("'+5", 5_000_000),
+    ("'-0.25", -250_000),
+    ("'.5", 500_000),
+    ("'5.", 5_000_000),
+    ("'007", 7_000_000),
+    ("'0.1234565", 123_457),
+    ("'999999999999.999999", 999_999_999_999_999_999),
+    ("-1.5", -1_500_000),
+    ("TRUE", 1_000_000),
+    ("FALSE", 0),
+    ("", 0),
+];
+
+// Texts that are no number within the limits.
+const NO_NUMBERS: &[&str] = &[
+    "'",
+    "' 5",
+    "'5 ",
+    "'1e3",
+    "'1,5",
+    "'1.2.3",
+    "'.",
+    "'TRUE",
+    "'#N/A",
+    "'1000000000000",
+    "'-99999999999999999999",
+];
+
+// Values, and their truth values.
+const TRUTHS: &[(&str, Result<bool, FaultKind>)] = &[
+    ("'TRUE", Ok(true)),
+    ("'true", Ok(true)),
+    ("'tRuE", Ok(true)),
+    ("'FALSE", Ok(false)),
+    ("'fAlSe", Ok(false)),
+    ("'", Err(FaultKind::Value)),
+    ("'1", Err(FaultKind::Value)),
+    ("'TRUE ", Err(FaultKind::Value)),
+    ("'T", Err(FaultKind::Value)),
+    ("", Ok(false)),
+    ("0", Ok(false)),
+    ("-0.000001", Ok(true)),
+    ("TRUE", Ok(true)),
+    ("#DIV/0!", Err(FaultKind::Div0)),
+];
+
+// Values, what a person sees of them, and what they are as texts.
+const SHOWN: &[(&str, &str, &str)] = &[
+    ("", "", "'"),
+    ("1.50", "1.5", "'1.5"),
+    ("-0.000001", "-0.000001", "'-0.000001"),
+    ("0", "0", "'0"),
+    ("TRUE", "TRUE", "'TRUE"),
+    ("FALSE", "FALSE", "'FALSE"),
+    ("'x", "x", "'x"),
+    ("'", "", "'"),
+    ("'#REF!", "#REF!", "'#REF!"),
+    ("#REF!", "#REF!", "#REF!"),
+];
+
+// The faults and their spelling.
+const FAULTS: &[(FaultKind, &str)] = &[
+    (FaultKind::Div0, "#DIV/0!"),
+    (FaultKind::Name, "#NAME?"),
+    (FaultKind::Value, "#VALUE!"),
+    (FaultKind::Num, "#NUM!"),
+    (FaultKind::Na, "#N/A"),
+    (FaultKind::Cycle, "#CYCLE!"),
+    (FaultKind::Ref, "#REF!"),
+    (FaultKind::Error, "#ERROR!"),
+];
+
+// Texts that spell no fault.
+const NO_FAULTS: &[&str] = &["", "#", "#DIV/0", "#DIV/0! ", "N/A", "#NULL!", "VALUE"];
+
+// Two values, and how the first compares with the second.
+const ORDERS: &[(&str, &str, Ordering)] = &[
+    ("2", "10", Less),
+    ("-2", "-10", Greater),
+    ("'a", "'B", Less),
+    ("'Z", "'a", Greater),
+    ("'apple", "'APPLE", Equal),
+    ("'", "'a", Less),
+    ("'ab", "'a", Greater),
+    ("'ab", "'B", Less),
+    ("'A", "'_", Greater),
+    ("'Z", "'[", Greater),
+    ("'é", "'z", Greater),
+    ("'é", "'É", Greater),
+    ("'10", "'9", Less),
+    ("'𝄞", "'\u{ffff}", Greater),
+    ("999999999999", "'", Less),
+    ("2", "'1", Less),
+    ("'TRUE", "FALSE", Less),
+    ("1", "TRUE", Less),
+    ("FALSE", "TRUE", Less),
+    ("TRUE", "TRUE", Equal),
+    ("", "", Equal),
+    ("", "0", Equal),
+    ("", "-1", Greater),
+    ("", "1", Less),
+    ("", "'", Equal),
+    ("", "'a", Less),
+    ("", "FALSE", Equal),
+    ("", "TRUE", Less),
+];
+
+// Two values of which a fault decides.
+const DECIDED: &[(&str, &str, FaultKind)] = &[
+    ("#DIV/0!", "#N/A", FaultKind::Div0),
+    ("#N/A", "#DIV/0!", FaultKind::Na),
+    ("", "#NAME?", FaultKind::Name),
+    ("#NUM!", "1", FaultKind::Num),
+    ("'x", "#REF!", FaultKind::Ref),
+];
+
 /// The value that the words describe; a text stands behind an apostrophe.
 fn value(alloc: Global, words: &str) -> Result<Scalar, AllocError> {
     if let Some(content) = words.strip_prefix('\'') {
@@ -32,35 +151,10 @@ fn millionths(alloc: Global, words: &str) -> Result<Result<i64, FaultKind>, Allo
 
 #[test]
 fn numbers_of_values(rt: HostRuntime) -> Result<(), Fail> {
-    for (words, number) in [
-        ("'5", 5_000_000),
-        ("'+5", 5_000_000),
-        ("'-0.25", -250_000),
-        ("'.5", 500_000),
-        ("'5.", 5_000_000),
-        ("'007", 7_000_000),
-        ("'0.1234565", 123_457),
-        ("'999999999999.999999", 999_999_999_999_999_999),
-        ("-1.5", -1_500_000),
-        ("TRUE", 1_000_000),
-        ("FALSE", 0),
-        ("", 0),
-    ] {
-        assert!(rt; millionths(rt.alloc(), words)? == Ok(number), "{words}");
+    for (words, number) in NUMBERS {
+        assert!(rt; millionths(rt.alloc(), words)? == Ok(*number), "{words}");
     }
-    for words in [
-        "'",
-        "' 5",
-        "'5 ",
-        "'1e3",
-        "'1,5",
-        "'1.2.3",
-        "'.",
-        "'TRUE",
-        "'#N/A",
-        "'1000000000000",
-        "'-99999999999999999999",
-    ] {
+    for words in NO_NUMBERS {
         assert!(rt;
             millionths(rt.alloc(), words)? == Err(FaultKind::Value),
             "{words}"
@@ -72,23 +166,8 @@ fn numbers_of_values(rt: HostRuntime) -> Result<(), Fail> {
 
 #[test]
 fn truths_of_values(rt: HostRuntime) -> Result<(), Fail> {
-    for (words, truth) in [
-        ("'TRUE", Ok(true)),
-        ("'true", Ok(true)),
-        ("'tRuE", Ok(true)),
-        ("'FALSE", Ok(false)),
-        ("'fAlSe", Ok(false)),
-        ("'", Err(FaultKind::Value)),
-        ("'1", Err(FaultKind::Value)),
-        ("'TRUE ", Err(FaultKind::Value)),
-        ("'T", Err(FaultKind::Value)),
-        ("", Ok(false)),
-        ("0", Ok(false)),
-        ("-0.000001", Ok(true)),
-        ("TRUE", Ok(true)),
-        ("#DIV/0!", Err(FaultKind::Div0)),
-    ] {
-        assert!(rt; value(rt.alloc(), words)?.as_truth() == truth, "{words}");
+    for (words, truth) in TRUTHS {
+        assert!(rt; value(rt.alloc(), words)?.as_truth() == *truth, "{words}");
     }
     Ok(())
 }
@@ -111,18 +190,7 @@ fn assert_shown(
 
 #[test]
 fn texts_of_values(rt: HostRuntime) -> Result<(), Fail> {
-    for (words, shown, text) in [
-        ("", "", "'"),
-        ("1.50", "1.5", "'1.5"),
-        ("-0.000001", "-0.000001", "'-0.000001"),
-        ("0", "0", "'0"),
-        ("TRUE", "TRUE", "'TRUE"),
-        ("FALSE", "FALSE", "'FALSE"),
-        ("'x", "x", "'x"),
-        ("'", "", "'"),
-        ("'#REF!", "#REF!", "'#REF!"),
-        ("#REF!", "#REF!", "#REF!"),
-    ] {
+    for (words, shown, text) in SHOWN {
         assert_shown(&rt, rt.alloc(), words, shown, text)?;
     }
     Ok(())
@@ -130,23 +198,14 @@ fn texts_of_values(rt: HostRuntime) -> Result<(), Fail> {
 
 #[test]
 fn names_of_faults(rt: HostRuntime) -> Result<(), Fail> {
-    for (fault, text) in [
-        (FaultKind::Div0, "#DIV/0!"),
-        (FaultKind::Name, "#NAME?"),
-        (FaultKind::Value, "#VALUE!"),
-        (FaultKind::Num, "#NUM!"),
-        (FaultKind::Na, "#N/A"),
-        (FaultKind::Cycle, "#CYCLE!"),
-        (FaultKind::Ref, "#REF!"),
-        (FaultKind::Error, "#ERROR!"),
-    ] {
-        assert!(rt; fault.text() == text);
-        assert!(rt; fault.to_string(rt.alloc())?.as_str() == text);
-        assert!(rt; FaultKind::named(text) == Some(fault));
+    for (fault, text) in FAULTS {
+        assert!(rt; fault.text() == *text);
+        assert!(rt; fault.to_string(rt.alloc())?.as_str() == *text);
+        assert!(rt; FaultKind::named(text) == Some(*fault));
     }
     assert!(rt; FaultKind::named("#div/0!") == Some(FaultKind::Div0));
     assert!(rt; FaultKind::named("#n/A") == Some(FaultKind::Na));
-    for none in ["", "#", "#DIV/0", "#DIV/0! ", "N/A", "#NULL!", "VALUE"] {
+    for none in NO_FAULTS {
         assert!(rt; FaultKind::named(none) == None, "{none}");
     }
     Ok(())
@@ -175,37 +234,8 @@ fn compares(alloc: Global, a: &str, b: &str, order: Ordering) -> Result<bool, Al
 
 #[test]
 fn orders_of_values(rt: HostRuntime) -> Result<(), Fail> {
-    for (a, b, order) in [
-        ("2", "10", Less),
-        ("-2", "-10", Greater),
-        ("'a", "'B", Less),
-        ("'Z", "'a", Greater),
-        ("'apple", "'APPLE", Equal),
-        ("'", "'a", Less),
-        ("'ab", "'a", Greater),
-        ("'ab", "'B", Less),
-        ("'A", "'_", Greater),
-        ("'Z", "'[", Greater),
-        ("'é", "'z", Greater),
-        ("'é", "'É", Greater),
-        ("'10", "'9", Less),
-        ("'𝄞", "'\u{ffff}", Greater),
-        ("999999999999", "'", Less),
-        ("2", "'1", Less),
-        ("'TRUE", "FALSE", Less),
-        ("1", "TRUE", Less),
-        ("FALSE", "TRUE", Less),
-        ("TRUE", "TRUE", Equal),
-        ("", "", Equal),
-        ("", "0", Equal),
-        ("", "-1", Greater),
-        ("", "1", Less),
-        ("", "'", Equal),
-        ("", "'a", Less),
-        ("", "FALSE", Equal),
-        ("", "TRUE", Less),
-    ] {
-        assert!(rt; compares(rt.alloc(), a, b, order)?, "{a} and {b}");
+    for (a, b, order) in ORDERS {
+        assert!(rt; compares(rt.alloc(), a, b, *order)?, "{a} and {b}");
     }
     assert!(rt; compare_texts("Straße", "STRASSE") == Greater);
     Ok(())
@@ -213,16 +243,10 @@ fn orders_of_values(rt: HostRuntime) -> Result<(), Fail> {
 
 #[test]
 fn faults_before_orders(rt: HostRuntime) -> Result<(), Fail> {
-    for (a, b, fault) in [
-        ("#DIV/0!", "#N/A", FaultKind::Div0),
-        ("#N/A", "#DIV/0!", FaultKind::Na),
-        ("", "#NAME?", FaultKind::Name),
-        ("#NUM!", "1", FaultKind::Num),
-        ("'x", "#REF!", FaultKind::Ref),
-    ] {
+    for (a, b, fault) in DECIDED {
         let left = value(rt.alloc(), a)?;
         let right = value(rt.alloc(), b)?;
-        assert!(rt; left.compare(&right) == Err(fault), "{a} and {b}");
+        assert!(rt; left.compare(&right) == Err(*fault), "{a} and {b}");
     }
     Ok(())
 }
