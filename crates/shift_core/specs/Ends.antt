@@ -5,13 +5,13 @@ use Rattle.std.specs.Prelude.{ℕ, ◌+◌, ◌-◌, nat_lt, if◌then◌else◌
 abbrev pub pushed_line : ℕ → ℕ → ℕ → ℕ
 pushed_line start count line = if nat_lt line start then line else line + count
 
--- the first line that a deletion leaves of a block: in the deleted span, the line that comes in its place
+-- the first line of a block after a deletion: one in the deleted span becomes the line that takes its place
 abbrev pub first_left : ℕ → ℕ → ℕ → ℕ
 first_left start count line =
     if nat_lt line start then line
     else (if nat_lt line (start + count) then start else line - count)
 
--- one more than the last line that a deletion leaves of a block: in the deleted span, that is start - 1
+-- one more than the last line of a block after a deletion: a last line in the deleted span becomes start - 1
 abbrev pub behind_left : ℕ → ℕ → ℕ → ℕ
 behind_left start count line =
     if nat_lt line start then line + 1

@@ -34,7 +34,7 @@ by_cols sheet rule b =
     then option_map (λ cols. record b { left = cols.first; right = cols.last }) (rule (record { first = b.left; last = b.right }))
     else Some b
 
--- where an operation moves a place; none is lost
+-- where an operation moves a place; a lost place has none
 abbrev pub place_after : Shift → Place → Option Place
 place_after (InsertRows sheet start count) p = by_row sheet (line_after_insert ROWS start count) p
 place_after (DeleteRows sheet start count) p = by_row sheet (line_after_delete start count) p
@@ -47,7 +47,7 @@ place_after (MoveBlock source to) p =
     else (if holds (destination source to) p then None else Some p)
 place_after (DropSheet sheet) p = if p.sheet == sheet then None else Some p
 
--- where an operation moves a block; none is lost
+-- where an operation moves a block; a lost block has none
 abbrev pub block_after : Shift → Block → Option Block
 block_after (InsertRows sheet start count) b = by_rows sheet (span_after_insert ROWS start count) b
 block_after (DeleteRows sheet start count) b = by_rows sheet (span_after_delete start count) b

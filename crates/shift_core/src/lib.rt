@@ -2,7 +2,8 @@
 //!
 //! A [`Shift`] inserts, deletes or moves rows or columns, moves a block of cells, or drops a sheet.
 //! [`moved_place`] and [`moved_block`] say where a reference points afterwards; [`back_place`] and
-//! [`back_block`] say what it pointed at before. Two rows put before row 5 (counted from 0) move a
+//! [`back_block`] say what it pointed at before. The laws say what these have in common, such as that
+//! a place that isn't lost comes back. Two rows put before row 5 (counted from 0) move a
 //! place in row 7 to row 9, and back again:
 //!
 //! ```text
