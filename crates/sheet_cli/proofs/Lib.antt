@@ -2,7 +2,6 @@ pub mod Outcomes
 pub mod Fields
 pub mod BackwardBooks
 pub mod Books
-pub mod Fields
 pub mod FormulaParts
 pub mod FormulaTerms
 pub mod FormulaSums
