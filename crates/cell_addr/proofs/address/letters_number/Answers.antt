@@ -1,4 +1,4 @@
-use Rattle.std.proofs.Common.{◌∙◌, ap, arith, ◌+◌, ◌*◌, sym}
+use Rattle.std.proofs.Common.{arith}
 use Rattle.cell_addr.proofs.Columns.{letters_number_more}
 use Rattle.cell_addr.proofs.address.letters_number.Goals as goal
 
@@ -11,5 +11,5 @@ letters-preserved c =
       spelled = omega (arith, more, i.spelled, s.number);
       none = omega arith;
       one = omega (arith, i.none, s.small);
-      two = omega (arith, i.one, s.small)
+      two = omega (arith, i.one, s.small);
     }
