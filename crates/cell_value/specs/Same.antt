@@ -21,6 +21,7 @@ fault_named-fault_text Cycle = refl
 fault_named-fault_text Ref = refl
 fault_named-fault_text Error = refl
 
+-- faults that are spelled alike are the same
 pub fault_text-exact : (a b : FaultKind) → fault_text a ≡ fault_text b → a ≡ b
 fault_text-exact a b e =
     let s : Some a ≡ Some b = sym (fault_named-fault_text a) ∙ ap fault_named e ∙ fault_named-fault_text b in
