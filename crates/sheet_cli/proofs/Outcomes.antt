@@ -143,7 +143,7 @@ pub was_read-too_long : (old new : Option (List ℕ)) → Loses old new 67108865
 was_read-too_long None new lost = tt
 was_read-too_long (Some xs) None lost = absurd lost.1
 was_read-too_long (Some xs) (Some ys) lost = (
-    λ h. elim h [ inl e ↦ absurd (omega arith) | inr e ↦ absurd (omega arith) ],
-    λ e. absurd (omega arith),
-    λ e. ap (λ (zs : List ℕ). Some zs) (taken_off 67108865 xs lost.0 ys lost.1 lost.2),
-  )
+  λ h. elim h [ inl e ↦ absurd (omega arith) | inr e ↦ absurd (omega arith) ],
+  λ e. absurd (omega arith),
+  λ e. ap (λ (zs : List ℕ). Some zs) (taken_off 67108865 xs lost.0 ys lost.1 lost.2),
+)

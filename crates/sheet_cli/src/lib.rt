@@ -26,6 +26,10 @@ mod script;
 mod session;
 mod workbook;
 
+pub use evaluate::{formulas_stay_backward, nothing_else_unfolds, values_unfold};
+pub use formula::{
+    canonical_text_spells, formulas_are_read, formulas_refer_back, no_text_spells_two,
+};
 pub use program::run;
 
 #[cfg(test)]

@@ -10,10 +10,10 @@ ghost use Rattle.sheet_cli.specs.Session.{line_of};
 ghost use Rattle.sheet_cli.specs.Run.{Did, IsEndStatus, IsStatus, PrintsFor, WasRead, cause_text, outcome, record_text, script_outcome};
 
 use crate::command::ScriptError;
-use crate::script::command;
 use crate::line::line;
 use crate::outside::{LoadError, MAX_INPUT, Sink, Source, WriteError, read_all};
 use crate::records::Records;
+use crate::script::command;
 use crate::session::execute;
 use crate::workbook::Workbook;
 use csv::ByteRecord;
@@ -23,11 +23,17 @@ use steps::Steps;
 
 // The statuses of a run.
 const ANSWERED: u8 = 0;
+
 const WRONG_WORDS: u8 = 2;
+
 const NO_COMMAND: u8 = 3;
+
 const READ_FAULT: u8 = 5;
+
 const WRITE_FAULT: u8 = 6;
+
 const NO_MEMORY: u8 = 7;
+
 const TOO_LONG: u8 = 8;
 
 const USAGE: &str =
