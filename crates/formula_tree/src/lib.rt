@@ -11,3 +11,6 @@
 mod plain;
 
 pub use plain::{Corner, Op, Plain};
+
+#[cfg(test)]
+mod tests;
