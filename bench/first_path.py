@@ -28,31 +28,26 @@ def chain(count):
     yield f"value,A{count}\n"
 
 
-def values(size):
-    """So many bytes of records that ask for an empty cell."""
-    record = "value,A1\n"
-    return [(record * (size // len(record) + 1))[:size]]
-
-
-def one_text(size):
-    """One record with a text of about so many bytes."""
-    return ["set,A1," + "x" * (size - 8) + "\n"]
-
-
-def one_sum(size):
-    """One record with a formula of about so many bytes."""
-    return ["set,A1,=" + "1+" * ((size - 10) // 2) + "1\n"]
+def filled(front, piece, back, size):
+    """`front`, then `piece` again and again, and `back` at the end: so many bytes in all."""
+    room = size - len(front) - len(back)
+    block = piece * (65_536 // len(piece))
+    yield front
+    while room > 0:
+        yield block[:room]
+        room -= min(room, len(block))
+    yield back
 
 
 CASES = [
-    ("100,000 numbers and one value", numbers(100_000)),
-    ("200,000 numbers and one value", numbers(200_000)),
-    ("a chain of 10,000 formulas", chain(10_000)),
-    ("a chain of 20,000 formulas", chain(20_000)),
-    ("64 MiB of records", values(LIMIT)),
-    ("64 MiB and one byte", values(LIMIT + 1)),
-    ("one text of 64 MiB", one_text(LIMIT)),
-    ("one formula of 64 MiB", one_sum(LIMIT)),
+    ("100,000 numbers and one value", lambda: numbers(100_000)),
+    ("200,000 numbers and one value", lambda: numbers(200_000)),
+    ("a chain of 10,000 formulas", lambda: chain(10_000)),
+    ("a chain of 20,000 formulas", lambda: chain(20_000)),
+    ("64 MiB of records", lambda: filled("", "value,A1\n", "", LIMIT)),
+    ("64 MiB and one byte", lambda: filled("", "value,A1\n", "", LIMIT + 1)),
+    ("one text of 64 MiB", lambda: filled("set,A1,", "x", "\n", LIMIT)),
+    ("one formula of 64 MiB", lambda: filled("set,A1,=", "1+", "1\n", LIMIT)),
 ]
 
 
@@ -81,7 +76,7 @@ def main(words):
         script, output = os.path.join(folder, "script.csv"), os.path.join(folder, "output")
         for name, lines in CASES:
             with open(script, "w", encoding="ascii") as file:
-                file.writelines(lines)
+                file.writelines(lines())
             seconds, memory, status = measured(program, script, output)
             size = os.path.getsize(script)
             print(f"{name:32} {size:>11,} bytes  {seconds:7.2f} s  {memory:8.1f} MiB  status {status}  {last_line(output)}")
