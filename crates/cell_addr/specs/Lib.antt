@@ -1,1 +1,3 @@
+pub mod Address
 pub mod Place
+pub mod Text

@@ -5,5 +5,9 @@
 #![tactic(auto)]
 
 mod place;
+mod spot;
+mod text;
 
 pub use place::{Block, COLS, NO_SHEET, Place, ROWS};
+pub use spot::{AddrError, Spot};
+pub use text::{Text, capitals, fold_byte, same_folded};

@@ -1,0 +1,135 @@
+-- Addresses of cells as texts: what they name, and how a place is written. Source: OpenFormula's
+-- references without `$`, and this project's own limits on letters and digits.
+use Rattle.std.specs.Prelude.{◌≡◌, ◌<◌, ◌≤◌, ℕ, ◌+◌, ◌-◌, ◌*◌, ◌/◌, ◌%◌, Bool, true, false, not, ◌&&◌, ◌||◌, if◌then◌else◌, nat_lt, nat_le, ◌==◌, List, [], ◌∷◌, ◌++◌, length, take, drop, slice_index, Option, Some, None, option_and_then, min, max}
+use Rattle.std.specs.Option.{option_map}
+use Rattle.std.specs.List.{list_all, list_any, position_or_len, before_first, after_first}
+use Rattle.std.specs.Char.{is_ascii_alphabetic, is_ascii_alphanumeric, to_ascii_uppercase}
+use Rattle.std.specs.Fmt.{decimal}
+use Rattle.digits.specs.Digits.{is_digit, value}
+use Rattle.cell_addr.specs.declared.spot.Spot.{Spot}
+
+-- the number of a column letter, in either case: A is 1 and Z is 26
+abbrev pub letter_number : ℕ → ℕ
+letter_number c = to_ascii_uppercase c - 64
+
+-- the number that letters spell behind those that spell n
+abbrev pub letters_number_from : ℕ → List ℕ → ℕ
+letters_number_from n [] = n
+letters_number_from n (c ∷ cs) = letters_number_from (26 * n + letter_number c) cs
+
+-- the number that letters spell: Z is 26, AA is 27, ZZ is 702, AAA is 703
+abbrev pub letters_number : List ℕ → ℕ
+letters_number cs = letters_number_from 0 cs
+
+-- one to three letters
+abbrev pub is_column : List ℕ → Bool
+is_column cs = (nat_le 1 (length cs) && nat_le (length cs) 3) && list_all is_ascii_alphabetic cs
+
+-- one to seven digits, the first of them no 0
+abbrev pub is_row : List ℕ → Bool
+is_row cs = (nat_le 1 (length cs) && nat_le (length cs) 7) && (not (slice_index cs 0 == 48) && list_all is_digit cs)
+
+-- the column that a text names, counted from 0
+abbrev pub column_of : List ℕ → Option ℕ
+column_of cs = if is_column cs then Some (letters_number cs - 1) else None
+
+-- the row that a text names, counted from 0
+abbrev pub row_of : List ℕ → Option ℕ
+row_of cs = if is_row cs then Some (value cs - 1) else None
+
+-- the letters that a text begins with, and what stands behind them
+abbrev pub is_no_letter : ℕ → Bool
+is_no_letter c = not (is_ascii_alphabetic c)
+
+abbrev pub letters : List ℕ → List ℕ
+letters text = take (position_or_len is_no_letter text) text
+
+abbrev pub behind_letters : List ℕ → List ℕ
+behind_letters text = drop (position_or_len is_no_letter text) text
+
+-- both values, where there are both
+abbrev pub both : {X Y : Type 0} → Option X → Option Y → Option (X × Y)
+both None y = None
+both (Some x) None = None
+both (Some x) (Some y) = Some (x, y)
+
+-- the row and the column that an address names: letters, and behind them digits
+abbrev pub address_of : List ℕ → Option (ℕ × ℕ)
+address_of text = both (row_of (behind_letters text)) (column_of (letters text))
+
+abbrev pub is_colon : ℕ → Bool
+is_colon c = c == 58
+
+abbrev pub is_exclamation : ℕ → Bool
+is_exclamation c = c == 33
+
+-- the spot of one address
+abbrev pub spot_at : ℕ × ℕ → Spot
+spot_at a = record { sheet = None; top = a.0; left = a.1; bottom = a.0; right = a.1; single = true }
+
+-- the spot between two addresses, its corners in order
+abbrev pub spot_between : (ℕ × ℕ) × (ℕ × ℕ) → Spot
+spot_between (a, b) = record { sheet = None; top = min a.0 b.0; left = min a.1 b.1; bottom = max a.0 b.0; right = max a.1 b.1; single = false }
+
+-- an address, or two with a colon between them
+abbrev pub area_of : List ℕ → Option Spot
+area_of text = if list_any is_colon text
+    then option_map spot_between (both (address_of (before_first is_colon text)) (address_of (after_first is_colon text)))
+    else option_map spot_at (address_of text)
+
+-- a sheet's name that needs no apostrophes: a letter or _, and behind it letters, digits and _
+abbrev pub is_bare_name : List ℕ → Bool
+is_bare_name [] = false
+is_bare_name (c ∷ cs) = (is_ascii_alphabetic c || c == 95) && list_all (λ d. is_ascii_alphanumeric d || d == 95) cs
+
+-- a name as it is written between apostrophes, each apostrophe of its own twice
+abbrev pub doubled : List ℕ → List ℕ
+doubled [] = []
+doubled (c ∷ cs) = if c == 39 then 39 ∷ 39 ∷ doubled cs else c ∷ doubled cs
+
+-- one byte more in front of a name that was read
+abbrev pub with_byte : ℕ → Option (List ℕ × List ℕ) → Option (List ℕ × List ℕ)
+with_byte c read = option_map (λ p. (c ∷ p.0, p.1)) read
+
+-- of a text behind an apostrophe: the name up to the closing one, where two are one of the name, and
+-- what stands behind the closing one; nothing where none closes the name
+abbrev pub quoted : List ℕ → Option (List ℕ × List ℕ)
+quoted [] = None
+quoted (c ∷ []) = if c == 39 then Some ([], []) else None
+quoted (c ∷ d ∷ cs) = if c == 39
+    then (if d == 39 then with_byte 39 (quoted cs) else Some ([], d ∷ cs))
+    else with_byte c (quoted (d ∷ cs))
+
+-- the spot on the sheet of this name
+abbrev pub on_sheet : List ℕ → Spot → Spot
+on_sheet name spot = record spot { sheet = Some name }
+
+-- what follows a name between apostrophes: at once `!`, and then an area
+abbrev pub spot_behind : List ℕ × List ℕ → Option Spot
+spot_behind (name, rest) = if slice_index rest 0 == 33 then option_map (on_sheet name) (area_of (drop 1 rest)) else None
+
+-- the spot that a text names: a sheet's name with `!` where wanted, and an area
+abbrev pub spot_of : List ℕ → Option Spot
+spot_of text = if slice_index text 0 == 39
+    then option_and_then spot_behind (quoted (drop 1 text))
+    else (if list_any is_exclamation text
+    then (if is_bare_name (before_first is_exclamation text)
+    then option_map (on_sheet (before_first is_exclamation text)) (area_of (after_first is_exclamation text))
+    else None)
+    else area_of text)
+
+-- the capital of a number from 0 for A to 25 for Z
+abbrev pub capital : ℕ → ℕ
+capital n = 65 + n
+
+-- the letters of a column: one for the first 26 columns, then two, and three from column 702 on
+abbrev pub column_letters : ℕ → List ℕ
+column_letters col = if nat_lt col 26
+    then capital col ∷ []
+    else (if nat_lt col 702
+    then capital ((col - 26) / 26) ∷ capital ((col - 26) % 26) ∷ []
+    else capital ((col - 702) / 676) ∷ capital ((col - 702) / 26 % 26) ∷ capital ((col - 702) % 26) ∷ [])
+
+-- the address of a row and a column
+abbrev pub place_letters : ℕ → ℕ → List ℕ
+place_letters row col = column_letters col ++ decimal (row + 1)
