@@ -1,12 +1,14 @@
 -- Addresses of cells as texts: what they name, and how a place is written. Source: OpenFormula's
 -- references without `$`, and this project's own limits on letters and digits.
-use Rattle.std.specs.Prelude.{◌≡◌, ◌<◌, ◌≤◌, ℕ, ◌+◌, ◌-◌, ◌*◌, ◌/◌, ◌%◌, Bool, true, false, not, ◌&&◌, ◌||◌, if◌then◌else◌, nat_lt, nat_le, ◌==◌, List, [], ◌∷◌, ◌++◌, length, take, drop, slice_index, Option, Some, None, option_and_then, min, max}
+use Rattle.std.specs.Prelude.{◌≡◌, ◌<◌, ◌≤◌, ℕ, ◌+◌, ◌-◌, ◌*◌, ◌/◌, ◌%◌, Bool, true, false, not, ◌&&◌, ◌||◌, if◌then◌else◌, nat_lt, nat_le, ◌==◌, List, [], ◌∷◌, ◌++◌, length, take, drop, slice_index, Option, Some, None, option_and_then, IsSome, Result, Ok, Err, min, max}
 use Rattle.std.specs.Option.{option_map}
-use Rattle.std.specs.List.{list_all, list_any, position_or_len, before_first, after_first}
+use Rattle.std.specs.List.{list_all, list_any, prefix_len, before_first, after_first}
 use Rattle.std.specs.Char.{is_ascii_alphabetic, is_ascii_alphanumeric, to_ascii_uppercase}
 use Rattle.std.specs.Fmt.{decimal}
 use Rattle.digits.specs.Digits.{is_digit, value}
 use Rattle.cell_addr.specs.declared.spot.Spot.{Spot}
+use Rattle.cell_addr.specs.declared.spot.AddrError.{AddrError}
+use Rattle.cell_addr.specs.declared.spot.AddrError.TheVariants.{NotAnAddress, NoMemory}
 
 -- the number of a column letter, in either case: A is 1 and Z is 26
 abbrev pub letter_number : ℕ → ℕ
@@ -38,14 +40,11 @@ abbrev pub row_of : List ℕ → Option ℕ
 row_of cs = if is_row cs then Some (value cs - 1) else None
 
 -- the letters that a text begins with, and what stands behind them
-abbrev pub is_no_letter : ℕ → Bool
-is_no_letter c = not (is_ascii_alphabetic c)
-
 abbrev pub letters : List ℕ → List ℕ
-letters text = take (position_or_len is_no_letter text) text
+letters text = take (prefix_len is_ascii_alphabetic text) text
 
 abbrev pub behind_letters : List ℕ → List ℕ
-behind_letters text = drop (position_or_len is_no_letter text) text
+behind_letters text = drop (prefix_len is_ascii_alphabetic text) text
 
 -- both values, where there are both
 abbrev pub both : {X Y : Type 0} → Option X → Option Y → Option (X × Y)
@@ -77,10 +76,16 @@ area_of text = if list_any is_colon text
     then option_map spot_between (both (address_of (before_first is_colon text)) (address_of (after_first is_colon text)))
     else option_map spot_at (address_of text)
 
--- a sheet's name that needs no apostrophes: a letter or _, and behind it letters, digits and _
+-- the bytes that a sheet's bare name may begin with, and those that it may hold
+abbrev pub is_name_start : ℕ → Bool
+is_name_start c = is_ascii_alphabetic c || c == 95
+
+abbrev pub is_name_byte : ℕ → Bool
+is_name_byte c = is_ascii_alphanumeric c || c == 95
+
+-- a sheet's name that needs no apostrophes: it begins with a letter or _, and has letters, digits and _
 abbrev pub is_bare_name : List ℕ → Bool
-is_bare_name [] = false
-is_bare_name (c ∷ cs) = (is_ascii_alphabetic c || c == 95) && list_all (λ d. is_ascii_alphanumeric d || d == 95) cs
+is_bare_name text = (not (length text == 0) && is_name_start (slice_index text 0)) && list_all is_name_byte text
 
 -- a name as it is written between apostrophes, each apostrophe of its own twice
 abbrev pub doubled : List ℕ → List ℕ
@@ -117,6 +122,13 @@ spot_of text = if slice_index text 0 == 39
     then option_map (on_sheet (before_first is_exclamation text)) (area_of (after_first is_exclamation text))
     else None)
     else area_of text)
+
+-- what a reading answers where the text names this spot, or none: that spot, or that it is no address;
+-- want of memory only where there is a spot
+abbrev pub Reads : Result Spot AddrError → Option Spot → Type 0
+Reads (Ok spot) named = named ≡ Some spot
+Reads (Err NotAnAddress) named = named ≡ None
+Reads (Err NoMemory) named = IsSome named
 
 -- the capital of a number from 0 for A to 25 for Z
 abbrev pub capital : ℕ → ℕ

@@ -4,10 +4,12 @@
 //! counted from 0 in calls and from 1, or from A, in texts.
 #![tactic(auto)]
 
+mod address;
 mod place;
 mod spot;
 mod text;
 
+pub use address::{is_bare_name, read_address, read_area, read_column, read_row};
 pub use place::{Block, COLS, NO_SHEET, Place, ROWS};
 pub use spot::{AddrError, Spot};
 pub use text::{Text, capitals, fold_byte, same_folded};

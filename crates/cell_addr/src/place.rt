@@ -1,6 +1,6 @@
 // Places and blocks, and the limits of a sheet.
 ghost use Rattle.std.specs.Prelude.{◌≡◌, ◌<◌, ◌≤◌, ◌↔◌, IsTrue};
-ghost use Rattle.cell_addr.specs.Place.{IsInside, IsBlockInside};
+ghost use Rattle.cell_addr.specs.Place.{IsInside, IsBlockInside, Covers, CoverOne, CoversAllOf, IsInOrder, Overlap, Spans};
 
 /// How many rows a sheet has. This project's own limit.
 pub const ROWS: u32 = 40_000;
@@ -43,9 +43,58 @@ impl Block {
     pub fn inside(self) -> bool
         ensures { IsTrue result ↔ IsBlockInside self }
     {
-        self.top <= self.bottom
-            && self.bottom < ROWS
-            && self.left <= self.right
-            && self.right < COLS
+        self.top <= self.bottom && self.bottom < ROWS && self.left <= self.right && self.right < COLS
+    }
+
+    /// Whether the block covers the place.
+    pub fn holds(self, p: Place) -> bool
+        ensures { IsTrue result ↔ Covers self p }
+    {
+        self.sheet == p.sheet
+            && self.top <= p.row
+            && p.row <= self.bottom
+            && self.left <= p.col
+            && p.col <= self.right
+    }
+
+    /// Whether both blocks cover some place. A block whose ends are out of order covers none.
+    pub fn meets(self, b: Block) -> bool
+        ensures { IsTrue result ↔ CoverOne self b }
+    {
+        self.overlaps(b)
+    }
+
+    /// Whether the block covers each place that `b` covers; so it does where `b` covers none.
+    pub fn contains(self, b: Block) -> bool
+        ensures { IsTrue result ↔ CoversAllOf self b }
+    {
+        !b.in_order() || self.spans(b)
+    }
+
+    // Whether the ends are in order, so that the block covers a place.
+    fn in_order(self) -> bool
+        ensures { IsTrue result ↔ IsInOrder self }
+    {
+        self.top <= self.bottom && self.left <= self.right
+    }
+
+    // Whether the rows and the columns of both blocks overlap, on one sheet.
+    fn overlaps(self, b: Block) -> bool
+        ensures { IsTrue result ↔ Overlap self b }
+    {
+        self.sheet == b.sheet
+            && self.top.max(b.top) <= self.bottom.min(b.bottom)
+            && self.left.max(b.left) <= self.right.min(b.right)
+    }
+
+    // Whether the ends of `b` lie within this block's.
+    fn spans(self, b: Block) -> bool
+        ensures { IsTrue result ↔ Spans self b }
+    {
+        self.sheet == b.sheet
+            && self.top <= b.top
+            && b.bottom <= self.bottom
+            && self.left <= b.left
+            && b.right <= self.right
     }
 }

@@ -1,4 +1,6 @@
 // Addresses as they are written.
+ghost use Rattle.std.specs.Prelude.{◌≡◌};
+
 use crate::text::Text;
 
 /// An address as written: a sheet's name or none, and one corner, or two in order. Rows and columns
@@ -26,4 +28,37 @@ pub enum AddrError {
     NotAnAddress,
     /// There was no memory for the sheet's name.
     NoMemory,
+}
+
+impl Spot {
+    ghost use Rattle.cell_addr.specs.Address.{spot_at, spot_between};
+
+    // One address, given by its row and column.
+    pub(crate) fn at(address: (u32, u32)) -> Spot
+        ensures { result ≡ spot_at address }
+    {
+        let (row, col) = address;
+        Spot {
+            sheet: None,
+            top: row,
+            left: col,
+            bottom: row,
+            right: col,
+            single: true,
+        }
+    }
+
+    // Two addresses, each given by its row and column, with the corners put in order.
+    pub(crate) fn between(first: (u32, u32), last: (u32, u32)) -> Spot
+        ensures { result ≡ spot_between (first, last) }
+    {
+        Spot {
+            sheet: None,
+            top: first.0.min(last.0),
+            left: first.1.min(last.1),
+            bottom: first.0.max(last.0),
+            right: first.1.max(last.1),
+            single: false,
+        }
+    }
 }

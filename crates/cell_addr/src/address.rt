@@ -1,0 +1,140 @@
+// Reading addresses: columns, rows, and one or two of them on a sheet.
+ghost use Rattle.std.specs.Prelude.{◌≡◌, ◌≤◌, length, IfOk, IsTrue};
+ghost use Rattle.std.specs.Option.{option_map};
+ghost use Rattle.std.specs.List.{prefix_len, list_all};
+ghost use Rattle.std.specs.Char.{is_ascii_alphabetic};
+ghost use Rattle.cell_addr.specs.Address.{is_column, letter_number, letters_number, column_of, is_row, row_of, address_of, spot_at, spot_between, area_of, is_bare_name, is_name_start, is_name_byte, on_sheet, quoted, spot_behind, spot_of, Reads};
+
+use crate::spot::{AddrError, Spot};
+use crate::text::Text;
+use digits::{after_byte, all_digits, before_byte, has_byte, value_at_most};
+use std::alloc::{AllocError, Global};
+
+/// The column, counted from 0, that one to three letters of either case name: `A` is 0 and `ZZZ` is
+/// 18,277. `None` where the text has another form. Source: OpenFormula.
+pub fn read_column(text: &[u8]) -> Option<u32>
+    ensures { result ≡ column_of text.now }
+{
+    if is_column(text) {
+        Some(letters_number(text).saturating_sub(1))
+    } else {
+        None
+    }
+}
+
+/// The row, counted from 0, that one to seven digits without a leading 0 name: `1` is 0. `None` where
+/// the text has another form. Source: OpenFormula, and this project's own limit on the digits.
+pub fn read_row(text: &[u8]) -> Option<u32>
+    ensures { result ≡ row_of text.now }
+{
+    if is_row(text) {
+        let number = value_at_most(text, 9_999_999) as u32;
+        Some(number.saturating_sub(1))
+    } else {
+        None
+    }
+}
+
+/// The row and the column, counted from 0, that an address such as `b3` names: column letters, and
+/// at once behind them a row's digits. `None` where the text has another form.
+pub fn read_address(text: &[u8]) -> Option<(u32, u32)>
+    ensures { result ≡ address_of text.now }
+{
+    let (letters, digits) = text.split_at(letters_count(text));
+    let row = read_row(digits)?;
+    let col = read_column(letters)?;
+    Some((row, col))
+}
+
+/// The spot, on no sheet, that an address or two with a colon between them name. `None` where the
+/// text has another form.
+pub fn read_area(text: &[u8]) -> Option<Spot>
+    ensures { result ≡ area_of text.now }
+{
+    if has_byte(text, b':') {
+        let first = read_address(before_byte(text, b':'))?;
+        let last = read_address(after_byte(text, b':'))?;
+        Some(Spot::between(first, last))
+    } else {
+        let only = read_address(text)?;
+        Some(Spot::at(only))
+    }
+}
+
+/// Whether a sheet's name needs no apostrophes in front of `!`: it begins with a letter or `_`, and has
+/// letters, digits and `_` alone. Source: this project's own.
+pub fn is_bare_name(text: &[u8]) -> bool
+    ensures { result ≡ is_bare_name text.now }
+{
+    !text.is_empty() && is_name_start(text[0]) && all_name_bytes(text)
+}
+
+// Whether the text is one to three letters.
+fn is_column(text: &[u8]) -> bool
+    ensures { result ≡ is_column text.now }
+{
+    1 <= text.len() && text.len() <= 3 && all_letters(text)
+}
+
+// Whether each byte is a letter.
+fn all_letters(text: &[u8]) -> bool
+    ensures { result ≡ list_all is_ascii_alphabetic text.now }
+{
+    text.iter().all(|c| c.is_ascii_alphabetic())
+}
+
+// The number that one to three letters spell, where A is 1.
+fn letters_number(text: &[u8]) -> u32
+    requires { length text.now ≤ 3 }
+    ensures { result ≡ letters_number text.now }
+{
+    let mut number = 0;
+    'letters: for c in text {
+        number = 26 * number + letter_number(*c);
+    }
+    number
+}
+
+// The number of a letter, where A is 1.
+fn letter_number(c: u8) -> u32
+    ensures number { result ≡ letter_number c }
+    ensures small { result ≤ 255 }
+{
+    u32::from(c.to_ascii_uppercase().saturating_sub(64))
+}
+
+// Whether the text is one to seven digits, the first of them no 0.
+fn is_row(text: &[u8]) -> bool
+    ensures { result ≡ is_row text.now }
+{
+    1 <= text.len() && text.len() <= 7 && text[0] != b'0' && all_digits(text)
+}
+
+// How many letters the text begins with.
+fn letters_count(text: &[u8]) -> usize
+    ensures count { result ≡ prefix_len is_ascii_alphabetic text.now }
+    ensures within { result ≤ length text.now }
+{
+    text.iter().take_while(|c| c.is_ascii_alphabetic()).count()
+}
+
+// Whether a sheet's bare name may hold each byte.
+fn all_name_bytes(text: &[u8]) -> bool
+    ensures { result ≡ list_all is_name_byte text.now }
+{
+    text.iter().all(|c| is_name_byte(*c))
+}
+
+// Whether a sheet's bare name may begin with the byte.
+fn is_name_start(c: u8) -> bool
+    ensures { result ≡ is_name_start c }
+{
+    c.is_ascii_alphabetic() || c == b'_'
+}
+
+// Whether a sheet's bare name may hold the byte.
+fn is_name_byte(c: u8) -> bool
+    ensures { result ≡ is_name_byte c }
+{
+    c.is_ascii_alphanumeric() || c == b'_'
+}
