@@ -1,10 +1,23 @@
 // The tree of a formula, and its depth.
-ghost use Rattle.std.specs.Prelude.{◌≡◌, min};
-ghost use Rattle.formula_tree.specs.Term.{depth_of};
-ghost use Rattle.formula_tree.specs.Seen.{seen};
+ghost use Rattle.std.specs.Prelude.{◌≡◌, min, List, [], ◌∷◌, ◌++◌, OnOk, OnErr};
+ghost use Rattle.formula_tree.specs.Term.{depth_of, depth_of_all};
+ghost use Rattle.formula_tree.specs.Seen.{seen, seen_list};
 
-use cell_addr::Place;
+use std::alloc::{AllocError, Global};
+
+use cell_addr::{Place, Text};
+use cell_value::FaultKind;
 use fix_num::Fixed;
+
+/// Where a formula stands.
+#[derive(Clone, Copy, PartialEq, Eq, Debug)]
+pub enum Home {
+    /// The formula of this cell.
+    Cell(Place),
+    /// The formula of a named expression, whose scope is the sheet with this number, or
+    /// [`cell_addr::NO_SHEET`] for the global scope.
+    Name { sheet: u32 },
+}
 
 /// One corner of a reference: the place that it names, and which of its parts have a `$` in front.
 #[derive(Clone, Copy, PartialEq, Eq, Debug)]
@@ -14,34 +27,139 @@ pub struct Corner {
     pub col_fixed: bool,
 }
 
-/// A binary operator.
+/// A sign in front of an operand.
+#[derive(Clone, Copy, PartialEq, Eq, Debug)]
+pub enum Sign {
+    /// `+`
+    Plus,
+    /// `-`
+    Minus,
+}
+
+/// An operator between two operands.
 #[derive(Clone, Copy, PartialEq, Eq, Debug)]
 pub enum Op {
+    /// `+`
     Add,
+    /// `-`
+    Sub,
+    /// `*`
+    Mul,
+    /// `/`
+    Div,
+    /// `^`
+    Power,
+    /// `&`
+    Join,
+    /// `=`
+    Equal,
+    /// `<>`
+    Unequal,
+    /// `<`
+    Less,
+    /// `>`
+    Greater,
+    /// `<=`
+    AtMost,
+    /// `>=`
+    AtLeast,
 }
 
 /// The tree of a formula.
 #[derive(Drop)]
+#[cycle(plain)]
 pub enum Plain {
     /// A number as written, which has no sign.
     Number(Fixed),
-
+    /// A text between quotes.
+    Text(Text),
+    /// TRUE or FALSE.
+    Truth(bool),
+    /// A fault that is written out, or a reference to a sheet that doesn't exist.
+    Fault(FaultKind),
     /// The value of a cell.
     Cell(Corner),
-
+    /// A block of cells, by its first corner and its last one.
+    Area(Corner, Corner),
+    /// A named expression.
+    Name(Text),
+    /// A sign in front of a formula.
+    Prefix(Sign, Box<Plain>),
+    /// A formula with `%` behind it.
+    Percent(Box<Plain>),
     /// An operator between two formulas.
     Binary(Op, Box<Plain>, Box<Plain>),
+    /// A function, by its word in capitals, and its arguments.
+    Call(Text, PlainList),
+    /// A formula in parentheses.
+    Paren(Box<Plain>),
+}
+
+/// The arguments of a call, in order.
+#[derive(Drop)]
+#[cycle(plain)]
+pub struct PlainList {
+    list: Vec<Plain>,
+}
+
+impl PlainList {
+    ghost use Rattle.formula_tree.specs.Arguments.{arguments};
+
+    /// No arguments.
+    pub fn new(alloc: Global) -> PlainList
+        ensures { arguments result ≡ [] }
+    {
+        PlainList {
+            list: Vec::new(alloc),
+        }
+    }
+
+    /// Puts an argument behind the others. Where there is no memory the arguments stay as they were.
+    pub fn push(&mut self, argument: Plain) -> Result<(), AllocError>
+        ensures ok { OnOk result (arguments self.new ≡ arguments self.old ++ argument ∷ []) }
+        ensures err { OnErr result (arguments self.new ≡ arguments self.old) }
+    {
+        self.list.push(argument)?;
+        Ok(())
+    }
+
+    /// The arguments.
+    pub fn items(&self) -> &[Plain]
+        ensures { result.now ≡ arguments self.now }
+    {
+        self.list.as_slice()
+    }
 }
 
 impl Plain {
     /// The levels of the tree: 1 for a leaf, and 1 more than its deepest part for another node.
     /// `u32::MAX` where that is more.
+    #[cycle(depth)]
     pub fn depth(&self) -> u32
         ensures { result ≡ min (depth_of (seen self.now)) u32.MAX }
     {
         match self {
-            Plain::Number(_) | Plain::Cell(_) => 1,
+            Plain::Number(_) | Plain::Text(_) | Plain::Truth(_) | Plain::Fault(_) => 1,
+            Plain::Cell(_) | Plain::Area(_, _) | Plain::Name(_) => 1,
+            Plain::Prefix(_, part) => part.depth().saturating_add(1),
+            Plain::Percent(part) => part.depth().saturating_add(1),
+            Plain::Paren(part) => part.depth().saturating_add(1),
             Plain::Binary(_, left, right) => left.depth().max(right.depth()).saturating_add(1),
+            Plain::Call(_, list) => list.deepest().saturating_add(1),
         }
+    }
+}
+
+impl PlainList {
+    /// The levels of the deepest argument, at most `u32::MAX`; 0 where there is none.
+    #[cycle(depth)]
+    fn deepest(&self) -> u32
+        ensures { result ≡ min (depth_of_all (seen_list self.now)) u32.MAX }
+    {
+        let mut deepest = 0;
+        'arguments: for argument in self.list.as_slice() {
+            deepest = deepest.max(argument.depth());
+        }
+        deepest
     }
 }
