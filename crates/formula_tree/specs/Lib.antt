@@ -5,3 +5,6 @@ pub mod Level
 pub mod Run
 pub mod Tokens
 pub mod Grammar
+pub mod Reader
+pub mod Canonical
+pub mod Proper

@@ -4,7 +4,7 @@
 //! see it as a `Term`, one inductive type with the kind of references as a parameter, and never its
 //! boxes: `seen tree` is the term of a tree. A [`Token`] is a piece of a formula's text. The
 //! relation `Spells` of the specs says which tokens spell which term, one case for each production
-//! of the grammar, and `text_of` is the one canonical text of a term.
+//! of the grammar, and `formula_text` is the canonical text of a term.
 //!
 //! The formula `=A1+0.5` has the tokens A1, `+` and 0.5. It spells `Plain::Binary(Op::Add, a, b)`,
 //! where `a` is the cell A1 and `b` the number 0.5; its depth is 2.
