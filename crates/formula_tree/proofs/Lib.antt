@@ -1,0 +1,2 @@
+pub mod ReaderSteps
+pub mod Complete
