@@ -1,2 +1,3 @@
 pub mod ReaderSteps
 pub mod Complete
+pub mod Sound
