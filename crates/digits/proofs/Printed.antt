@@ -9,7 +9,8 @@ use Rattle.std.proofs.lemmas.Bool.{lt-ltb, and_from}
 use Rattle.digits.specs.Digits.{value_from, value, is_digit}
 use Rattle.digits.proofs.Numerals.{value_push}
 
-digit_is : (d : ℕ) → d < 10 → is_digit (48 + d) ≡ true
+-- the byte of a digit is one
+pub digit_is : (d : ℕ) → d < 10 → is_digit (48 + d) ≡ true
 digit_is d h = and_from _ _ (lt-ltb 47 (48 + d) (omega arith)) (lt-ltb (48 + d) 58 (omega arith))
 
 abbrev IsPrinted : ℕ → List ℕ → Type 0

@@ -1,2 +1,6 @@
 pub mod Rounded
 pub mod Powers
+pub mod Decimals
+pub mod Magnitudes
+pub mod SpelledDecimals
+pub mod PlainTexts

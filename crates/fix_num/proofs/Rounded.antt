@@ -1,5 +1,5 @@
 -- What rounding gives at quotients, and at more places than a number has. Serves `div`, `round_to` and `unit`.
-use Rattle.std.proofs.Common.{◌≡◌, ◌∙◌, sym, ap, arith, refl, ℕ, zero, suc, ◌+◌, ◌-◌, ◌*◌, ◌/◌, ◌^◌, ◌<◌, ◌≤◌, ◌≢◌, Bool, true, false, not, ℤ, pos, negsuc, neg_ℤ, ◌*ℤ◌, ◌<ℤ◌, unsigned_abs}
+use Rattle.std.proofs.Common.{◌≡◌, ◌∙◌, sym, ap, arith, refl, ℕ, zero, suc, ◌+◌, ◌-◌, ◌*◌, ◌/◌, ◌^◌, ◌<◌, ◌≤◌, ◌≢◌, Bool, true, false, not, ℤ, pos, negsuc, neg_ℤ, ◌*ℤ◌, ◌<ℤ◌, ◌≤ℤ◌, unsigned_abs}
 use Rattle.std.specs.Bool.{beq}
 use Rattle.std.proofs.Math.Nat.{one-le-pow, pow-le-pow_right, zero-mul, mul-pos}
 use Rattle.std.proofs.lemmas.Nat.{div-mul-add}
@@ -28,7 +28,7 @@ signed_zero : (b : Bool) → signed b 0 ≡ pos 0
 signed_zero false = refl
 signed_zero true = refl
 
-near_zero : (q : ℕ) → 0 < q → near 0 q ≡ 0
+pub near_zero : (q : ℕ) → 0 < q → near 0 q ≡ 0
 near_zero q h = near_of_less 0 q (omega arith)
 
 -- a quotient of a number below 0 and one above has a minus sign, and no sign where it is 0
@@ -65,3 +65,16 @@ rounded_to_far m (negsuc n) h p =
     let large : 10 ^ 19 ≤ 10 ^ (7 + n) = pow-le-pow_right {n = 10} (omega arith) {i = 19} {j = 7 + n} (twelve n p) in
     let none : near (unsigned_abs m) (10 ^ (7 + n)) ≡ 0 = near_of_less (unsigned_abs m) (10 ^ (7 + n)) (omega arith) in
     ap (λ k. signed (is_negative m) (k * 10 ^ (7 + n))) none ∙ ap (signed (is_negative m)) (zero-mul (10 ^ (7 + n))) ∙ signed_zero (is_negative m)
+
+near_one : (p : ℕ) → near p 1 * 1 ≡ p
+near_one p = omega arith
+
+signed_self : (m : ℤ) → signed (is_negative m) (unsigned_abs m) ≡ m
+signed_self (pos n) = refl
+signed_self (negsuc n) = refl
+
+pub rounded_to_fine : (m places : ℤ) → pos 6 ≤ℤ places → rounded_to m places ≡ m
+rounded_to_fine m (pos n) h =
+    let none : 6 - n ≡ 0 = omega (arith, ints) in
+    rw none (ap (signed (is_negative m)) (near_one (unsigned_abs m)) ∙ signed_self m)
+rounded_to_fine m (negsuc n) h = absurd (omega (arith, ints))

@@ -1,5 +1,5 @@
 -- The texts of numbers, as they are read and as they are printed. Source: this project's own.
-use Rattle.std.specs.Prelude.{ℕ, suc, zero, ◌+◌, ◌*◌, ◌/◌, ◌%◌, ◌^◌, ◌==◌, Bool, true, false, ◌&&◌, ◌||◌, nat_lt, if◌then◌else◌, List, [], ◌∷◌, ◌++◌, length, ℤ, unsigned_abs, Result, Ok, Err}
+use Rattle.std.specs.Prelude.{ℕ, suc, zero, ◌+◌, ◌*◌, ◌/◌, ◌%◌, ◌^◌, ◌==◌, Bool, true, false, ◌&&◌, ◌||◌, not, if◌then◌else◌, List, [], ◌∷◌, ◌++◌, length, ℤ, unsigned_abs, Result, Ok, Err}
 use Rattle.std.specs.List.{list_all, before_first, after_first}
 use Rattle.std.specs.Fmt.{decimal}
 use Rattle.digits.specs.Digits.{is_digit, value}
@@ -29,9 +29,13 @@ abbrev pub behind_sign : List ℕ → List ℕ
 behind_sign [] = []
 behind_sign (c ∷ cs) = if (c == 45) || (c == 43) then cs else c ∷ cs
 
--- at most one point, digits on both sides of it, and at least one digit
+-- these bytes before a point and behind it make a number: digits alone, and one at least
+abbrev pub are_parts : List ℕ → List ℕ → Bool
+are_parts ws ds = list_all is_digit ws && list_all is_digit ds && not (length ws == 0 && length ds == 0)
+
+-- digits, digits and a point, digits and a point and digits, or a point and digits
 abbrev pub is_unsigned : List ℕ → Bool
-is_unsigned cs = list_all is_digit (whole cs) && list_all is_digit (decimals cs) && nat_lt 0 (length (whole cs) + length (decimals cs))
+is_unsigned cs = are_parts (whole cs) (decimals cs)
 
 -- all the digits over ten to the number of decimals, rounded to a millionth
 abbrev pub magnitude : List ℕ → ℕ

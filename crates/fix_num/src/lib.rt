@@ -9,7 +9,7 @@
 
 mod arithmetic;
 mod error;
-mod laws;
+pub mod laws;
 mod number;
 mod printing;
 mod reading;

@@ -3,7 +3,7 @@ ghost use Rattle.std.specs.Prelude.{◌≡◌, ◌*◌, ◌^◌, ◌≤◌, true
 ghost use Rattle.std.specs.List.{list_all};
 ghost use Rattle.digits.specs.Digits.{is_digit, value};
 ghost use Rattle.fix_num.specs.Number.{near};
-ghost use Rattle.fix_num.specs.Text.{number_of, has_minus, behind_sign};
+ghost use Rattle.fix_num.specs.Text.{number_of, has_minus, behind_sign, are_parts};
 
 use digits::{after_byte, all_digits, before_byte, value_at_most};
 
@@ -33,8 +33,7 @@ impl Fixed {
         let (negative, number) = split_sign(text);
         let whole = before_byte(number, b'.');
         let decimals = after_byte(number, b'.');
-        let has_digit = !whole.is_empty() || !decimals.is_empty();
-        if !all_digits(whole) || !all_digits(decimals) || !has_digit {
+        if !are_parts(whole, decimals) {
             return Err(NumError::NotANumber);
         }
         let millionths = value_at_most(whole, MAX_WHOLE) * ONE + rounded(decimals);
@@ -52,6 +51,13 @@ fn split_sign(text: &[u8]) -> (bool, &[u8])
         [b'+', number @ ..] => (false, number),
         _ => (false, text),
     }
+}
+
+/// Whether the bytes before a point and behind it make a number: digits alone, and one at least.
+fn are_parts(whole: &[u8], decimals: &[u8]) -> bool
+    ensures { result ≡ are_parts whole.now decimals.now }
+{
+    all_digits(whole) && all_digits(decimals) && !(whole.is_empty() && decimals.is_empty())
 }
 
 /// The decimals in millionths, rounded by the seventh, a half going up.
