@@ -6,6 +6,7 @@ use Rattle.std.specs.List.{list_all, list_any, prefix_len, before_first, after_f
 use Rattle.std.specs.Char.{is_ascii_alphabetic, is_ascii_alphanumeric, to_ascii_uppercase}
 use Rattle.std.specs.Fmt.{decimal}
 use Rattle.digits.specs.Digits.{is_digit, value}
+use Rattle.cell_addr.specs.SheetName.{sheet_and_rest}
 use Rattle.cell_addr.specs.declared.spot.Spot.{Spot}
 use Rattle.cell_addr.specs.declared.spot.AddrError.{AddrError}
 use Rattle.cell_addr.specs.declared.spot.AddrError.TheVariants.{NotAnAddress, NoMemory}
@@ -59,9 +60,6 @@ address_of text = both (row_of (behind_letters text)) (column_of (letters text))
 abbrev pub is_colon : ℕ → Bool
 is_colon c = c == 58
 
-abbrev pub is_exclamation : ℕ → Bool
-is_exclamation c = c == 33
-
 -- the spot of one address
 abbrev pub spot_at : ℕ × ℕ → Spot
 spot_at a = record { sheet = None; top = a.0; left = a.1; bottom = a.0; right = a.1; single = true }
@@ -76,52 +74,17 @@ area_of text = if list_any is_colon text
     then option_map spot_between (both (address_of (before_first is_colon text)) (address_of (after_first is_colon text)))
     else option_map spot_at (address_of text)
 
--- the bytes that a sheet's bare name may begin with, and those that it may hold
-abbrev pub is_name_start : ℕ → Bool
-is_name_start c = is_ascii_alphabetic c || c == 95
+-- the spot on this sheet
+abbrev pub on_sheet : Option (List ℕ) → Spot → Spot
+on_sheet name spot = record spot { sheet = name }
 
-abbrev pub is_name_byte : ℕ → Bool
-is_name_byte c = is_ascii_alphanumeric c || c == 95
+-- an area behind a sheet's name, or behind none
+abbrev pub area_on_sheet : Option (List ℕ) × List ℕ → Option Spot
+area_on_sheet (name, area) = option_map (on_sheet name) (area_of area)
 
--- a sheet's name that needs no apostrophes: it begins with a letter or _, and has letters, digits and _
-abbrev pub is_bare_name : List ℕ → Bool
-is_bare_name text = (not (length text == 0) && is_name_start (slice_index text 0)) && list_all is_name_byte text
-
--- a name as it is written between apostrophes, each apostrophe of its own twice
-abbrev pub doubled : List ℕ → List ℕ
-doubled [] = []
-doubled (c ∷ cs) = if c == 39 then 39 ∷ 39 ∷ doubled cs else c ∷ doubled cs
-
--- one byte more in front of a name that was read
-abbrev pub with_byte : ℕ → Option (List ℕ × List ℕ) → Option (List ℕ × List ℕ)
-with_byte c read = option_map (λ p. (c ∷ p.0, p.1)) read
-
--- of a text behind an apostrophe: the name up to the closing one, where two are one of the name, and
--- what stands behind the closing one; nothing where none closes the name
-abbrev pub quoted : List ℕ → Option (List ℕ × List ℕ)
-quoted [] = None
-quoted (c ∷ []) = if c == 39 then Some ([], []) else None
-quoted (c ∷ d ∷ cs) = if c == 39
-    then (if d == 39 then with_byte 39 (quoted cs) else Some ([], d ∷ cs))
-    else with_byte c (quoted (d ∷ cs))
-
--- the spot on the sheet of this name
-abbrev pub on_sheet : List ℕ → Spot → Spot
-on_sheet name spot = record spot { sheet = Some name }
-
--- what follows a name between apostrophes: at once `!`, and then an area
-abbrev pub spot_behind : List ℕ × List ℕ → Option Spot
-spot_behind (name, rest) = if slice_index rest 0 == 33 then option_map (on_sheet name) (area_of (drop 1 rest)) else None
-
--- the spot that a text names: a sheet's name with `!` where wanted, and an area
+-- the spot that a text names: a sheet's name with `!` where one is wanted, and an area
 abbrev pub spot_of : List ℕ → Option Spot
-spot_of text = if slice_index text 0 == 39
-    then option_and_then spot_behind (quoted (drop 1 text))
-    else (if list_any is_exclamation text
-    then (if is_bare_name (before_first is_exclamation text)
-    then option_map (on_sheet (before_first is_exclamation text)) (area_of (after_first is_exclamation text))
-    else None)
-    else area_of text)
+spot_of text = option_and_then area_on_sheet (sheet_and_rest text)
 
 -- what a reading answers where the text names this spot, or none: that spot, or that it is no address;
 -- want of memory only where there is a spot

@@ -1,14 +1,13 @@
 // Reading addresses: columns, rows, and one or two of them on a sheet.
-ghost use Rattle.std.specs.Prelude.{◌≡◌, ◌≤◌, length, IfOk, IsTrue};
-ghost use Rattle.std.specs.Option.{option_map};
+ghost use Rattle.std.specs.Prelude.{◌≡◌, ◌≤◌, length};
 ghost use Rattle.std.specs.List.{prefix_len, list_all};
 ghost use Rattle.std.specs.Char.{is_ascii_alphabetic};
-ghost use Rattle.cell_addr.specs.Address.{is_column, letter_number, letters_number, column_of, is_row, row_of, address_of, spot_at, spot_between, area_of, is_bare_name, is_name_start, is_name_byte, on_sheet, quoted, spot_behind, spot_of, Reads};
+ghost use Rattle.cell_addr.specs.Address.{is_column, letter_number, letters_number, column_of, is_row, row_of, address_of, spot_at, spot_between, area_of, spot_of, Reads};
 
+use crate::sheet_name::{area_part, sheet_part};
 use crate::spot::{AddrError, Spot};
-use crate::text::Text;
 use digits::{after_byte, all_digits, before_byte, has_byte, value_at_most};
-use std::alloc::{AllocError, Global};
+use std::alloc::Global;
 
 /// The column, counted from 0, that one to three letters of either case name: `A` is 0 and `ZZZ` is
 /// 18,277. `None` where the text has another form. Source: OpenFormula.
@@ -61,12 +60,27 @@ pub fn read_area(text: &[u8]) -> Option<Spot>
     }
 }
 
-/// Whether a sheet's name needs no apostrophes in front of `!`: it begins with a letter or `_`, and has
-/// letters, digits and `_` alone. Source: this project's own.
-pub fn is_bare_name(text: &[u8]) -> bool
-    ensures { result ≡ is_bare_name text.now }
+/// The spot that a text names: an address, or two with a colon between them, and in front of them a
+/// sheet's name and `!` where one is wanted. The name is bare, or stands between apostrophes, where two
+/// apostrophes are one of the name. Nothing blank is skipped.
+///
+/// # Errors
+/// `NotAnAddress` exactly where the text has another form, and `NoMemory` only where it names a sheet.
+///
+/// Source: OpenFormula's references without `$`, and this project's own limits on letters and digits.
+pub fn read_place(alloc: Global, text: &str) -> Result<Spot, AddrError>
+    ensures { Reads result (spot_of text.now) }
 {
-    !text.is_empty() && is_name_start(text[0]) && all_name_bytes(text)
+    let Some(area) = area_part(text) else {
+        return Err(AddrError::NotAnAddress);
+    };
+    let Some(spot) = read_area(area.as_bytes()) else {
+        return Err(AddrError::NotAnAddress);
+    };
+    match sheet_part(alloc, text) {
+        Ok(sheet) => Ok(Spot { sheet, ..spot }),
+        Err(_) => Err(AddrError::NoMemory),
+    }
 }
 
 // Whether the text is one to three letters.
@@ -116,25 +130,4 @@ fn letters_count(text: &[u8]) -> usize
     ensures within { result ≤ length text.now }
 {
     text.iter().take_while(|c| c.is_ascii_alphabetic()).count()
-}
-
-// Whether a sheet's bare name may hold each byte.
-fn all_name_bytes(text: &[u8]) -> bool
-    ensures { result ≡ list_all is_name_byte text.now }
-{
-    text.iter().all(|c| is_name_byte(*c))
-}
-
-// Whether a sheet's bare name may begin with the byte.
-fn is_name_start(c: u8) -> bool
-    ensures { result ≡ is_name_start c }
-{
-    c.is_ascii_alphabetic() || c == b'_'
-}
-
-// Whether a sheet's bare name may hold the byte.
-fn is_name_byte(c: u8) -> bool
-    ensures { result ≡ is_name_byte c }
-{
-    c.is_ascii_alphanumeric() || c == b'_'
 }

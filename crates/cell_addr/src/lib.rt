@@ -6,10 +6,14 @@
 
 mod address;
 mod place;
+mod print;
+mod sheet_name;
 mod spot;
 mod text;
 
-pub use address::{is_bare_name, read_address, read_area, read_column, read_row};
+pub use address::{read_address, read_area, read_column, read_place, read_row};
 pub use place::{Block, COLS, NO_SHEET, Place, ROWS};
+pub use print::{column_text, place_text};
+pub use sheet_name::{behind_quoted, is_bare_name, quoted_name};
 pub use spot::{AddrError, Spot};
 pub use text::{Text, capitals, fold_byte, same_folded};

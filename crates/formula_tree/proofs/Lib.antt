@@ -1,3 +1,4 @@
 pub mod ReaderSteps
 pub mod Complete
 pub mod Sound
+pub mod Exact

@@ -8,3 +8,4 @@ pub mod Grammar
 pub mod Reader
 pub mod Canonical
 pub mod Proper
+pub mod Laws

@@ -10,6 +10,7 @@
 //! where `a` is the cell A1 and `b` the number 0.5; its depth is 2.
 #![tactic(auto)]
 
+pub mod laws;
 mod plain;
 mod token;
 

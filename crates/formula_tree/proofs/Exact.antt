@@ -1,0 +1,53 @@
+-- The reader and the grammar agree. Serves the laws `reader_is_exact` and `no_text_spells_two`.
+use Rattle.std.proofs.Common.{◌≡◌, sym, ◌∙◌, ap, refl, arith, subst, ℕ, suc, ◌+◌, ◌<◌, ◌≤◌, Bool, true, false, nat_le, if◌then◌else◌, List, [], ◌∷◌, Option, Some, None}
+use Rattle.std.proofs.lemmas.Bool.{leb-le, le-leb}
+use Rattle.formula_tree.specs.declared.plain.Corner.{Corner}
+use Rattle.formula_tree.specs.declared.token.Token.{Token}
+use Rattle.formula_tree.specs.Term.{Term, depth_of}
+use Rattle.formula_tree.specs.Level.{sign_level}
+use Rattle.formula_tree.specs.Grammar.{Spells, SpellsTokens, SpellsText}
+use Rattle.formula_tree.specs.Reader.{Read, and_then, read, whole_then, max_levels, tree_of}
+use Rattle.formula_tree.specs.Laws.{ReaderIsExact, OneTree}
+use Rattle.formula_tree.proofs.Complete.{read-spelt}
+use Rattle.formula_tree.proofs.Sound.{spelt-read}
+
+-- a whole tree is one behind which nothing stands
+whole-is : (u t : Term Corner) (rest : List Token) → whole_then u rest ≡ Some t → (rest ≡ []) × (u ≡ t) × (depth_of t ≤ max_levels)
+whole-is u t [] e =
+    elim (nat_le (depth_of u) max_levels) as (λ b. nat_le (depth_of u) max_levels ≡ b → (if b then Some u else None) ≡ Some t → ([] ≡ []) × (u ≡ t) × (depth_of t ≤ max_levels)) [
+      | true ↦ λ h f. let same : u ≡ t = cc in (refl, same, subst (λ v. depth_of v ≤ max_levels) same (leb-le (depth_of u) max_levels h))
+      | false ↦ λ h f. cc
+    ] refl e
+whole-is u t (x ∷ rest) e = cc
+
+tree-of-read : (t : Term Corner) (r : Read) → and_then r whole_then ≡ Some t → (r ≡ Some (t, [])) × (depth_of t ≤ max_levels)
+tree-of-read t None e = cc
+tree-of-read t (Some r) e =
+    let w : (r.1 ≡ []) × (r.0 ≡ t) × (depth_of t ≤ max_levels) = whole-is r.0 t r.1 e in
+    let same : r ≡ (t, []) = λ i. (w.1 i, w.0 i) in
+    (ap (λ p. Some p) same, w.2)
+
+pub reader-exact : ReaderIsExact
+reader-exact home find tokens t = (
+    λ e.
+      let p : (read home find max_levels 0 tokens ≡ Some (t, [])) × (depth_of t ≤ max_levels) = tree-of-read t (read home find max_levels 0 tokens) e in
+      (spelt-read home find max_levels 0 tokens t [] (omega arith) p.0, p.1),
+    λ p.
+      let e : read home find max_levels 0 tokens ≡ Some (t, []) = read-spelt home find p.0 max_levels p.1 tt in
+      rw (e, le-leb (depth_of t) max_levels p.1) refl,
+  )
+
+-- tokens spell one tree at most
+pub one-spelt : (home : ℕ) (find : List ℕ → Option ℕ) (tokens : List Token) (t u : Term Corner) → SpellsTokens home find tokens t → SpellsTokens home find tokens u → t ≡ u
+one-spelt home find tokens t u d e =
+    let n : ℕ = depth_of t + depth_of u in
+    let a : read home find n 0 tokens ≡ Some (t, []) = read-spelt home find d n (omega arith) tt in
+    let b : read home find n 0 tokens ≡ Some (u, []) = read-spelt home find e n (omega arith) tt in
+    let same : ◌≡◌ {A = Read} (Some (t, [])) (Some (u, [])) = sym a ∙ b in
+    cc
+
+pub one-tree : OneTree
+one-tree home find [] t u d e = absurd d
+one-tree home find (c ∷ cs) t u (xs, (b, f, d)) (ys, (b', g, e)) =
+    let same : xs ≡ ys = cc in
+    one-spelt home find ys t u (subst (λ zs. SpellsTokens home find zs t) same d) e

@@ -1,0 +1,16 @@
+-- What holds of every formula: the reader and the grammar agree, and a text has one tree at most.
+use Rattle.std.specs.Prelude.{◌≡◌, ℕ, ◌≤◌, ◌↔◌, List, Option, Some, None}
+use Rattle.formula_tree.specs.declared.plain.Corner.{Corner}
+use Rattle.formula_tree.specs.declared.token.Token.{Token}
+use Rattle.formula_tree.specs.Term.{Term, depth_of}
+use Rattle.formula_tree.specs.Grammar.{SpellsTokens, SpellsText}
+use Rattle.formula_tree.specs.Reader.{tree_of, max_levels}
+
+-- the reader answers a tree exactly where the tokens spell it and it has no more levels than it may
+abbrev pub ReaderIsExact : Type 0
+ReaderIsExact = (home : ℕ) (find : List ℕ → Option ℕ) (tokens : List Token) (t : Term Corner)
+    → (tree_of home find tokens ≡ Some t) ↔ (SpellsTokens home find tokens t × (depth_of t ≤ max_levels))
+
+-- no text spells two trees
+abbrev pub OneTree : Type 0
+OneTree = (home : ℕ) (find : List ℕ → Option ℕ) (text : List ℕ) (t u : Term Corner) → SpellsText home find text t → SpellsText home find text u → t ≡ u

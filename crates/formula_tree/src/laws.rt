@@ -1,0 +1,14 @@
+//! What holds of every formula: laws, with nothing to run.
+
+ghost use Rattle.formula_tree.specs.Laws.{ReaderIsExact, OneTree};
+
+/// Reading by operator precedence answers a tree exactly where the tokens spell it and it has at most
+/// 64 levels.
+pub fn reader_is_exact()
+    ensures { ReaderIsExact }
+{}
+
+/// No text spells two trees.
+pub fn no_text_spells_two()
+    ensures { OneTree }
+{}
