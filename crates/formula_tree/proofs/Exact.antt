@@ -1,6 +1,6 @@
 -- The reader and the grammar agree. Serves the laws `reader_is_exact` and `no_text_spells_two`.
 use Rattle.std.proofs.Common.{◌≡◌, sym, ◌∙◌, ap, refl, arith, subst, ℕ, suc, ◌+◌, ◌<◌, ◌≤◌, Bool, true, false, nat_le, if◌then◌else◌, List, [], ◌∷◌, Option, Some, None}
-use Rattle.std.proofs.lemmas.Bool.{leb-le, le-leb}
+use Rattle.std.proofs.lemmas.Bool.{leb-true, le-leb}
 use Rattle.formula_tree.specs.declared.plain.Corner.{Corner}
 use Rattle.formula_tree.specs.declared.token.Token.{Token}
 use Rattle.formula_tree.specs.Term.{Term, depth_of}
@@ -11,13 +11,16 @@ use Rattle.formula_tree.specs.Laws.{ReaderIsExact, OneTree}
 use Rattle.formula_tree.proofs.Complete.{read-spelt}
 use Rattle.formula_tree.proofs.Sound.{spelt-read}
 
--- a whole tree is one behind which nothing stands
-whole-is : (u t : Term Corner) (rest : List Token) → whole_then u rest ≡ Some t → (rest ≡ []) × (u ≡ t) × (depth_of t ≤ max_levels)
-whole-is u t [] e =
-    elim (nat_le (depth_of u) max_levels) as (λ b. nat_le (depth_of u) max_levels ≡ b → (if b then Some u else None) ≡ Some t → ([] ≡ []) × (u ≡ t) × (depth_of t ≤ max_levels)) [
-      | true ↦ λ h f. let same : u ≡ t = cc in (refl, same, subst (λ v. depth_of v ≤ max_levels) same (leb-le (depth_of u) max_levels h))
+-- a whole tree is one behind which nothing stands, and that has no more levels than it may
+whole-at : (u t : Term Corner) → whole_then u [] ≡ Some t → (◌≡◌ {A = List Token} [] []) × (u ≡ t) × (depth_of t ≤ max_levels)
+whole-at u t e =
+    elim (nat_le (depth_of u) max_levels) as (λ b. nat_le (depth_of u) max_levels ≡ b → (if b then Some u else None) ≡ Some t → (◌≡◌ {A = List Token} [] []) × (u ≡ t) × (depth_of t ≤ max_levels)) [
+      | true ↦ λ h f. let same : u ≡ t = cc in (refl, same, subst (λ v. depth_of v ≤ max_levels) same (leb-true (depth_of u) max_levels h))
       | false ↦ λ h f. cc
     ] refl e
+
+whole-is : (u t : Term Corner) (rest : List Token) → whole_then u rest ≡ Some t → (rest ≡ []) × (u ≡ t) × (depth_of t ≤ max_levels)
+whole-is u t [] e = whole-at u t e
 whole-is u t (x ∷ rest) e = cc
 
 tree-of-read : (t : Term Corner) (r : Read) → and_then r whole_then ≡ Some t → (r ≡ Some (t, [])) × (depth_of t ≤ max_levels)
@@ -44,7 +47,8 @@ one-spelt home find tokens t u d e =
     let a : read home find n 0 tokens ≡ Some (t, []) = read-spelt home find d n (omega arith) tt in
     let b : read home find n 0 tokens ≡ Some (u, []) = read-spelt home find e n (omega arith) tt in
     let same : ◌≡◌ {A = Read} (Some (t, [])) (Some (u, [])) = sym a ∙ b in
-    cc
+    let pair : ◌≡◌ {A = Term Corner × List Token} (t, []) (u, []) = cc in
+    ap (λ p. p.0) pair
 
 pub one-tree : OneTree
 one-tree home find [] t u d e = absurd d
