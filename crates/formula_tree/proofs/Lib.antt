@@ -2,3 +2,4 @@ pub mod ReaderSteps
 pub mod Complete
 pub mod Sound
 pub mod Exact
+pub mod Written

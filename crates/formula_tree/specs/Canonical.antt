@@ -34,13 +34,13 @@ abbrev pub sign_text : Sign → List ℕ
 sign_text sign.Plus = 43 ∷ []
 sign_text sign.Minus = 45 ∷ []
 
--- a content between quotes q, each q inside written twice
-abbrev pub doubled : ℕ → List ℕ → List ℕ → List ℕ
-doubled q [] rest = q ∷ rest
-doubled q (c ∷ cs) rest = if c == q then q ∷ q ∷ doubled q cs rest else c ∷ doubled q cs rest
+-- a content with each quote q inside written twice
+abbrev pub doubled : ℕ → List ℕ → List ℕ
+doubled q [] = []
+doubled q (c ∷ cs) = if c == q then q ∷ q ∷ doubled q cs else c ∷ doubled q cs
 
 abbrev pub between_quotes : ℕ → List ℕ → List ℕ → List ℕ
-between_quotes q content rest = q ∷ doubled q content rest
+between_quotes q content rest = q ∷ (doubled q content ++ (q ∷ rest))
 
 -- a `$` where a part is fixed
 abbrev pub dollar : Bool → List ℕ → List ℕ

@@ -3,6 +3,7 @@ use Rattle.std.specs.Prelude.{◌≡◌, ℕ, zero, suc, ◌+◌, Bool, true, fa
 use Rattle.std.specs.List.{prefix_len, take_while, find}
 use Rattle.std.specs.Option.{option_map}
 use Rattle.digits.specs.Digits.{is_digit}
+use Rattle.cell_addr.specs.SheetName.{with_byte}
 use Rattle.cell_value.specs.declared.fault.FaultKind.{FaultKind}
 use Rattle.cell_value.specs.Fault.{fault_text, faults, spells}
 use Rattle.formula_tree.specs.declared.plain.Op.{Op}
@@ -26,16 +27,14 @@ number_length cs = prefix_len is_digit cs + decimals_length (behind is_digit cs)
 abbrev pub begins_number : List ℕ → Bool
 begins_number cs = begins_with_any is_digit cs || (begins_with 46 cs && begins_with_any is_digit (drop 1 cs))
 
--- what stands between quotes q, behind the bytes done: two quotes are one of them; and what stands
--- behind the closing quote; nothing where no quote closes
-abbrev mutual
-  pub quoted : ℕ → List ℕ → List ℕ → Option (List ℕ × List ℕ)
-  quoted q done [] = None
-  quoted q done (c ∷ cs) = if c == q then behind_quote q done cs else quoted q (done ++ c ∷ []) cs
-
-  pub behind_quote : ℕ → List ℕ → List ℕ → Option (List ℕ × List ℕ)
-  behind_quote q done [] = Some (done, [])
-  behind_quote q done (c ∷ cs) = if c == q then quoted q (done ++ q ∷ []) cs else Some (done, c ∷ cs)
+-- of a text behind a quote q: the content up to the closing one, where two are one of the content, and
+-- what stands behind the closing one; nothing where none closes it
+abbrev pub quoted : ℕ → List ℕ → Option (List ℕ × List ℕ)
+quoted q [] = None
+quoted q (c ∷ []) = if c == q then Some ([], []) else None
+quoted q (c ∷ d ∷ cs) = if c == q
+    then (if d == q then with_byte q (quoted q cs) else Some ([], d ∷ cs))
+    else with_byte c (quoted q (d ∷ cs))
 
 -- the text between double quotes
 abbrev pub text_token : List ℕ × List ℕ → Token × List ℕ
@@ -86,8 +85,8 @@ sign_token None c cs = option_map (λ token. (token, cs)) (byte_token c)
 abbrev pub token_at : ℕ → List ℕ → Front
 token_at c cs = if begins_run c then Some (run_token (take_while is_run_byte (c ∷ cs)) (behind is_run_byte (c ∷ cs)))
     else if begins_number (c ∷ cs) then Some (tok.Number (take (number_length (c ∷ cs)) (c ∷ cs)), drop (number_length (c ∷ cs)) (c ∷ cs))
-    else if c == 34 then option_map text_token (quoted 34 [] cs)
-    else if c == 39 then option_and_then sheet_token (quoted 39 [] cs)
+    else if c == 34 then option_map text_token (quoted 34 cs)
+    else if c == 39 then option_and_then sheet_token (quoted 39 cs)
     else if c == 35 then option_map (fault_token (c ∷ cs)) (find (begins_with_fault (c ∷ cs)) faults)
     else sign_token (pair_op c cs) c cs
 
