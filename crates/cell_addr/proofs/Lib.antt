@@ -1,7 +1,11 @@
+pub mod Addresses
 pub mod Blocks
 pub mod Columns
 pub mod Entries
+pub mod Limits
+pub mod Listed
 pub mod Places
+pub mod Printed
 pub mod Quoted
 pub mod Rows
 pub mod Splits

@@ -43,7 +43,10 @@ impl Block {
     pub fn inside(self) -> bool
         ensures { IsTrue result ↔ IsBlockInside self }
     {
-        self.top <= self.bottom && self.bottom < ROWS && self.left <= self.right && self.right < COLS
+        self.top <= self.bottom
+            && self.bottom < ROWS
+            && self.left <= self.right
+            && self.right < COLS
     }
 
     /// Whether the block covers the place.

@@ -2,6 +2,7 @@
 ghost use Rattle.std.specs.Prelude.{◌≡◌};
 
 use crate::text::Text;
+use thiserror::Error;
 
 /// An address as written: a sheet's name or none, and one corner, or two in order. Rows and columns
 /// are counted from 0. Rows go up to 9,999,998 and columns up to 18,277.
@@ -22,11 +23,13 @@ pub struct Spot {
 }
 
 /// Why a text could not be read as an address.
-#[derive(Clone, Copy, PartialEq, Eq, Debug)]
+#[derive(Clone, Copy, PartialEq, Eq, Debug, Error)]
 pub enum AddrError {
     /// The text has another form.
+    #[error("the text is no address")]
     NotAnAddress,
     /// There was no memory for the sheet's name.
+    #[error("there is no memory for the sheet's name")]
     NoMemory,
 }
 

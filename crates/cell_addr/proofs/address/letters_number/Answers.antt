@@ -11,5 +11,5 @@ letters-preserved c =
       spelled = omega (arith, more, i.spelled, s.number);
       none = omega arith;
       one = omega (arith, i.none, s.small);
-      two = omega (arith, i.one, s.small)
+      two = omega (arith, i.one, s.small);
     }

@@ -7,5 +7,5 @@ invariant-letters l = record {
   spelled : l.number ≡ letters_number (take l.c-index l.text);
   none : l.c-index ≤ 0 → l.number ≤ 0;
   one : l.c-index ≤ 1 → l.number ≤ 255;
-  two : l.c-index ≤ 2 → l.number ≤ 6885
+  two : l.c-index ≤ 2 → l.number ≤ 6885;
 }

@@ -21,7 +21,7 @@ pieces-preserved c =
     let before = c.pieces.invariant.1 in (
       search rules,
       before ∙ ap (with_bytes (string_bytes c.pieces.name)) more ∙ with_bytes-with_bytes _ _ (quoted c.in-Some-behind_first.more.now)
-      ∙ ap (λ xs. with_bytes xs (quoted c.in-Some-behind_first.more.now)) (sym bytes),
+          ∙ ap (λ xs. with_bytes xs (quoted c.in-Some-behind_first.more.now)) (sym bytes),
     )
 
 pub returns-in-None : goal.returns-in-None
