@@ -3,3 +3,5 @@ pub mod Complete
 pub mod Sound
 pub mod Exact
 pub mod Written
+pub mod Fronts
+pub mod Lexes
