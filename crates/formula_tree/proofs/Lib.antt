@@ -5,3 +5,4 @@ pub mod Exact
 pub mod Written
 pub mod Fronts
 pub mod Lexes
+pub mod LexedNumbers
