@@ -84,6 +84,17 @@ pub lexes-number : (m : ℤ) → numbers.IsInside m → numbers.is_negative m �
 lexes-number (pos n) h g cs tokens s l = lexes-plain (text_of (pos n)) cs tokens (plain-unsigned_text n h) s l
 lexes-number (negsuc n) h g cs tokens s l = cc
 
+plain-begins : (text cs : List ℕ) → HasPlainForm text → begins_with_any is_digit (text ++ cs) ≡ true
+plain-begins text cs (ws, w, inl e) = subst (λ x. begins_with_any is_digit (x ++ cs) ≡ true) (sym e) (whole-begins ws cs w)
+plain-begins text cs (ws, w, inr (ds, e, d)) =
+    subst (λ x. begins_with_any is_digit (x ++ cs) ≡ true) (sym e)
+      (subst (λ x. begins_with_any is_digit x ≡ true) (sym (append_assoc ws (46 ∷ ds) cs)) (whole-begins ws (46 ∷ (ds ++ cs)) w))
+
+-- and begins with a digit
+pub number-begins : (m : ℤ) → numbers.IsInside m → numbers.is_negative m ≡ false → (cs : List ℕ) → begins_with_any is_digit (text_of m ++ cs) ≡ true
+number-begins (pos n) h g cs = plain-begins (text_of (pos n)) cs (plain-unsigned_text n h)
+number-begins (negsuc n) h g cs = cc
+
 -- a byte other than the quote belongs to the content
 quoted-other : (q c : ℕ) (cs : List ℕ) → (c == q) ≡ false → quoted q (c ∷ cs) ≡ with_byte c (quoted q cs)
 quoted-other q c [] h = rw h refl

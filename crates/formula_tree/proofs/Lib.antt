@@ -6,3 +6,5 @@ pub mod Written
 pub mod Fronts
 pub mod Lexes
 pub mod LexedNumbers
+pub mod LexedRuns
+pub mod CanonicalText

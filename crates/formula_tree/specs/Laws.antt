@@ -1,9 +1,12 @@
--- What holds of every formula: the reader and the grammar agree, and a text has one tree at most.
+-- What holds of every formula: the reader and the grammar agree, a text has one tree at most, and the
+-- canonical text spells its tree.
 use Rattle.std.specs.Prelude.{◌≡◌, ℕ, ◌≤◌, ◌↔◌, List, Option, Some, None}
 use Rattle.formula_tree.specs.declared.plain.Corner.{Corner}
 use Rattle.formula_tree.specs.declared.token.Token.{Token}
 use Rattle.formula_tree.specs.Term.{Term, depth_of}
 use Rattle.formula_tree.specs.Grammar.{SpellsTokens, SpellsText}
+use Rattle.formula_tree.specs.Canonical.{formula_text}
+use Rattle.formula_tree.specs.Proper.{IsProper, SheetsAreListed}
 use Rattle.formula_tree.specs.Reader.{tree_of, max_levels}
 
 -- the reader answers a tree exactly where the tokens spell it and it has no more levels than it may
@@ -14,3 +17,8 @@ ReaderIsExact = (home : ℕ) (find : List ℕ → Option ℕ) (tokens : List Tok
 -- no text spells two trees
 abbrev pub OneTree : Type 0
 OneTree = (home : ℕ) (find : List ℕ → Option ℕ) (text : List ℕ) (t u : Term Corner) → SpellsText home find text t → SpellsText home find text u → t ≡ u
+
+-- the canonical text of a proper tree whose sheets are listed spells that tree
+abbrev pub CanonicalSpells : Type 0
+CanonicalSpells = (home : ℕ) (find : List ℕ → Option ℕ) (names : ℕ → Option (List ℕ)) (t : Term Corner) → IsProper t → SheetsAreListed home names find t
+    → SpellsText home find (formula_text home names t) t

@@ -1,6 +1,6 @@
 //! What holds of every formula: laws, with nothing to run.
 
-ghost use Rattle.formula_tree.specs.Laws.{ReaderIsExact, OneTree};
+ghost use Rattle.formula_tree.specs.Laws.{ReaderIsExact, OneTree, CanonicalSpells};
 
 /// Reading by operator precedence answers a tree exactly where the tokens spell it and it has at most
 /// 64 levels.
@@ -11,4 +11,9 @@ pub fn reader_is_exact()
 /// No text spells two trees.
 pub fn no_text_spells_two()
     ensures { OneTree }
+{}
+
+/// The canonical text of a proper tree whose sheets are listed spells that tree.
+pub fn canonical_text_spells()
+    ensures { CanonicalSpells }
 {}
