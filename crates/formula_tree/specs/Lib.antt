@@ -9,3 +9,5 @@ pub mod Reader
 pub mod Canonical
 pub mod Proper
 pub mod Laws
+pub mod StandsFor
+pub mod Links

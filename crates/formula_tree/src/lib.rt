@@ -11,8 +11,10 @@
 #![tactic(auto)]
 
 pub mod laws;
+mod link;
 mod plain;
 mod token;
 
+pub use link::Link;
 pub use plain::{Corner, Home, Op, Plain, PlainList, Sign};
 pub use token::{Address, Token};
