@@ -14,7 +14,9 @@ pub mod laws;
 mod link;
 mod plain;
 mod token;
+mod tree;
 
 pub use link::Link;
 pub use plain::{Corner, Home, Op, Plain, PlainList, Sign};
 pub use token::{Address, Token};
+pub use tree::{Pool, Tree, depth, to_absolute};

@@ -1,5 +1,5 @@
 // The tree of a formula, and its depth.
-ghost use Rattle.std.specs.Prelude.{◌≡◌, min, List, [], ◌∷◌, ◌++◌, OnOk, OnErr};
+ghost use Rattle.std.specs.Prelude.{◌≡◌, min, List, [], ◌∷◌, ◌++◌, IfOk, OnOk, OnErr};
 ghost use Rattle.formula_tree.specs.Term.{depth_of, depth_of_all};
 ghost use Rattle.formula_tree.specs.Seen.{seen, seen_list};
 
@@ -147,6 +147,47 @@ impl Plain {
             Plain::Binary(_, left, right) => left.depth().max(right.depth()).saturating_add(1),
             Plain::Call(_, list) => list.deepest().saturating_add(1),
         }
+    }
+}
+
+impl Plain {
+    /// An equal tree.
+    #[cycle(copy)]
+    pub fn copy(&self, alloc: Global) -> Result<Plain, AllocError>
+        ensures { IfOk result (λ copy. seen copy ≡ seen self.now) }
+    {
+        match self {
+            Plain::Number(number) => Ok(Plain::Number(*number)),
+            Plain::Text(text) => Ok(Plain::Text(text.copy(alloc)?)),
+            Plain::Truth(truth) => Ok(Plain::Truth(*truth)),
+            Plain::Fault(fault) => Ok(Plain::Fault(*fault)),
+            Plain::Cell(corner) => Ok(Plain::Cell(*corner)),
+            Plain::Area(first, last) => Ok(Plain::Area(*first, *last)),
+            Plain::Name(name) => Ok(Plain::Name(name.copy(alloc)?)),
+            Plain::Prefix(sign, part) => Ok(Plain::Prefix(*sign, Box::new(alloc, part.copy(alloc)?)?)),
+            Plain::Percent(part) => Ok(Plain::Percent(Box::new(alloc, part.copy(alloc)?)?)),
+            Plain::Binary(op, left, right) => {
+                let left = Box::new(alloc, left.copy(alloc)?)?;
+                let right = Box::new(alloc, right.copy(alloc)?)?;
+                Ok(Plain::Binary(*op, left, right))
+            }
+            Plain::Call(word, list) => Ok(Plain::Call(word.copy(alloc)?, list.copy(alloc)?)),
+            Plain::Paren(part) => Ok(Plain::Paren(Box::new(alloc, part.copy(alloc)?)?)),
+        }
+    }
+}
+
+impl PlainList {
+    /// Equal arguments, in the same order.
+    #[cycle(copy)]
+    pub fn copy(&self, alloc: Global) -> Result<PlainList, AllocError>
+        ensures { IfOk result (λ copy. seen_list copy ≡ seen_list self.now) }
+    {
+        let mut copies = PlainList::new(alloc);
+        'arguments: for argument in self.list.as_slice() {
+            copies.push(argument.copy(alloc)?)?;
+        }
+        Ok(copies)
     }
 }
 
