@@ -8,3 +8,5 @@ pub mod Lexes
 pub mod LexedNumbers
 pub mod LexedRuns
 pub mod CanonicalText
+pub mod Once
+pub mod SeenNodes

@@ -3,7 +3,7 @@ use Rattle.std.specs.Prelude.{ℕ, Bool, true, false, ◌&&◌, ◌||◌, if◌t
 use Rattle.std.specs.List.{list_any}
 use Rattle.cell_addr.specs.declared.place.Place.{Place}
 use Rattle.cell_addr.specs.declared.place.Block.{Block}
-use Rattle.cell_value.specs.Fault.{spells}
+use Rattle.cell_addr.specs.Sheets.{same_name}
 use Rattle.formula_tree.specs.declared.plain.Corner.{Corner}
 use Rattle.formula_tree.specs.declared.link.Link.{Link}
 use Rattle.formula_tree.specs.declared.link.Link.TheVariants as links
@@ -49,7 +49,7 @@ same_scope s t = false
 abbrev pub same_link : Link → Link → Bool
 same_link (links.Cell p) (links.Cell q) = same_place p q
 same_link (links.Area b) (links.Area c) = same_block b c
-same_link (links.Name s v) (links.Name t w) = same_scope s t && spells v w
+same_link (links.Name s v) (links.Name t w) = same_scope s t && same_name v w
 same_link a b = false
 
 -- the block between two corners

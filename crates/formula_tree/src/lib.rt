@@ -16,7 +16,7 @@ mod plain;
 mod token;
 mod tree;
 
-pub use link::Link;
+pub use link::{Link, names_of, places_of};
 pub use plain::{Corner, Home, Op, Plain, PlainList, Sign};
 pub use token::{Address, Token};
 pub use tree::{Pool, Tree, depth, to_absolute};
