@@ -10,3 +10,4 @@ pub mod LexedRuns
 pub mod CanonicalText
 pub mod Once
 pub mod SeenNodes
+pub mod TokenSteps
