@@ -1,13 +1,15 @@
 -- The reader and the grammar agree. Serves the laws `reader_is_exact` and `no_text_spells_two`.
-use Rattle.std.proofs.Common.{◌≡◌, sym, ◌∙◌, ap, refl, arith, subst, ℕ, suc, ◌+◌, ◌<◌, ◌≤◌, Bool, true, false, nat_le, if◌then◌else◌, List, [], ◌∷◌, Option, Some, None}
-use Rattle.std.proofs.lemmas.Bool.{leb-true, le-leb}
+use Rattle.std.proofs.Common.{◌≡◌, sym, ◌∙◌, ap, refl, arith, subst, ℕ, suc, ◌+◌, ◌<◌, ◌≤◌, Bool, true, false, nat_le, ◌==◌, if◌then◌else◌, List, [], ◌∷◌, Option, Some, None}
+use Rattle.std.specs.Option.{option_and_then}
+use Rattle.std.proofs.lemmas.Bool.{leb-true, le-leb, eqb-true, eq-eqb}
 use Rattle.formula_tree.specs.declared.plain.Corner.{Corner}
 use Rattle.formula_tree.specs.declared.token.Token.{Token}
 use Rattle.formula_tree.specs.Term.{Term, depth_of}
 use Rattle.formula_tree.specs.Level.{sign_level}
 use Rattle.formula_tree.specs.Grammar.{Spells, SpellsTokens, SpellsText}
-use Rattle.formula_tree.specs.Reader.{Read, and_then, read, whole_then, max_levels, tree_of}
-use Rattle.formula_tree.specs.Laws.{ReaderIsExact, OneTree}
+use Rattle.formula_tree.specs.Tokens.{tokens_of}
+use Rattle.formula_tree.specs.Reader.{Read, and_then, read, whole_then, max_levels, tree_of, tree_of_text}
+use Rattle.formula_tree.specs.Laws.{ReaderIsExact, TextReaderIsExact, OneTree}
 use Rattle.formula_tree.proofs.Complete.{read-spelt}
 use Rattle.formula_tree.proofs.Sound.{spelt-read}
 
@@ -39,6 +41,25 @@ reader-exact home find tokens t = (
       let e : read home find max_levels 0 tokens ≡ Some (t, []) = read-spelt home find p.0 max_levels p.1 tt in
       rw (e, le-leb (depth_of t) max_levels p.1) refl,
   )
+
+-- a text, by its first byte and by the tokens behind it
+read-text : (home : ℕ) (find : List ℕ → Option ℕ) (c : ℕ) (cs : List ℕ) (t : Term Corner) (b : Bool) (r : Option (List Token)) → (c == 61) ≡ b → tokens_of cs ≡ r
+    → (if b then option_and_then (tree_of home find) r else None) ≡ Some t → SpellsText home find (c ∷ cs) t × (depth_of t ≤ max_levels)
+read-text home find c cs t false r e f h = cc
+read-text home find c cs t true None e f h = cc
+read-text home find c cs t true (Some tokens) e f h =
+    let p = (reader-exact home find tokens t).0 h in
+    ((tokens, (eqb-true c 61 e, f, p.0)), p.1)
+
+text-read : (home : ℕ) (find : List ℕ → Option ℕ) (c : ℕ) (cs : List ℕ) (t : Term Corner) → SpellsText home find (c ∷ cs) t → depth_of t ≤ max_levels
+    → tree_of_text home find (c ∷ cs) ≡ Some t
+text-read home find c cs t (tokens, (e, f, d)) h =
+    let read : tree_of home find tokens ≡ Some t = (reader-exact home find tokens t).1 (d, h) in
+    rw (eq-eqb c 61 e, f) read
+
+pub text_reader-exact : TextReaderIsExact
+text_reader-exact home find [] t = (λ e. cc, λ p. absurd p.0)
+text_reader-exact home find (c ∷ cs) t = (λ e. read-text home find c cs t (c == 61) (tokens_of cs) refl refl e, λ p. text-read home find c cs t p.0 p.1)
 
 -- tokens spell one tree at most
 pub one-spelt : (home : ℕ) (find : List ℕ → Option ℕ) (tokens : List Token) (t u : Term Corner) → SpellsTokens home find tokens t → SpellsTokens home find tokens u → t ≡ u

@@ -7,12 +7,17 @@ use Rattle.formula_tree.specs.Term.{Term, depth_of}
 use Rattle.formula_tree.specs.Grammar.{SpellsTokens, SpellsText}
 use Rattle.formula_tree.specs.Canonical.{formula_text}
 use Rattle.formula_tree.specs.Proper.{IsProper, SheetsAreListed}
-use Rattle.formula_tree.specs.Reader.{tree_of, max_levels}
+use Rattle.formula_tree.specs.Reader.{tree_of, tree_of_text, max_levels}
 
 -- the reader answers a tree exactly where the tokens spell it and it has no more levels than it may
 abbrev pub ReaderIsExact : Type 0
 ReaderIsExact = (home : ℕ) (find : List ℕ → Option ℕ) (tokens : List Token) (t : Term Corner)
     → (tree_of home find tokens ≡ Some t) ↔ (SpellsTokens home find tokens t × (depth_of t ≤ max_levels))
+
+-- and so does the reader of texts
+abbrev pub TextReaderIsExact : Type 0
+TextReaderIsExact = (home : ℕ) (find : List ℕ → Option ℕ) (text : List ℕ) (t : Term Corner)
+    → (tree_of_text home find text ≡ Some t) ↔ (SpellsText home find text t × (depth_of t ≤ max_levels))
 
 -- no text spells two trees
 abbrev pub OneTree : Type 0

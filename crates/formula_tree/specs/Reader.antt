@@ -1,6 +1,6 @@
 -- How a list of tokens is read: by operator precedence, level by level. That it reads exactly what the
 -- grammar spells is a law. A reader R reads a tree of a level at the front of a list.
-use Rattle.std.specs.Prelude.{ℕ, zero, suc, ℤ, if◌then◌else◌, nat_lt, nat_le, List, [], ◌∷◌, ◌++◌, length, Option, Some, None, option_and_then, Result, Ok, Err}
+use Rattle.std.specs.Prelude.{ℕ, zero, suc, ℤ, if◌then◌else◌, nat_lt, nat_le, ◌==◌, List, [], ◌∷◌, ◌++◌, length, Option, Some, None, option_and_then, Result, Ok, Err}
 use Rattle.std.specs.Option.{option_map}
 use Rattle.cell_addr.specs.Text.{capitals}
 use Rattle.fix_num.specs.declared.error.NumError.{NumError}
@@ -13,6 +13,7 @@ use Rattle.formula_tree.specs.declared.token.Token.TheVariants as tok
 use Rattle.formula_tree.specs.Term.{Term, number, text, truth, fault, name, prefix, percent, binary, call, paren, no_terms, terms_of, depth_of}
 use Rattle.formula_tree.specs.Level.{level_of, percent_level, sign_level, sign_of}
 use Rattle.formula_tree.specs.Grammar.{cell_on, area_on}
+use Rattle.formula_tree.specs.Tokens.{tokens_of}
 
 -- a tree that was read, and the tokens behind it; nothing where none was
 abbrev pub Read : Type 0
@@ -145,3 +146,8 @@ whole_then t (token ∷ rest) = None
 
 abbrev pub tree_of : ℕ → (List ℕ → Option ℕ) → List Token → Option (Term Corner)
 tree_of home find tokens = and_then (read home find max_levels 0 tokens) whole_then
+
+-- the tree of a text that begins with `=`
+abbrev pub tree_of_text : ℕ → (List ℕ → Option ℕ) → List ℕ → Option (Term Corner)
+tree_of_text home find [] = None
+tree_of_text home find (c ∷ cs) = if c == 61 then option_and_then (tree_of home find) (tokens_of cs) else None

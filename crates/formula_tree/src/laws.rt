@@ -1,11 +1,16 @@
 //! What holds of every formula: laws, with nothing to run.
 
-ghost use Rattle.formula_tree.specs.Laws.{ReaderIsExact, OneTree, CanonicalSpells};
+ghost use Rattle.formula_tree.specs.Laws.{ReaderIsExact, TextReaderIsExact, OneTree, CanonicalSpells};
 
 /// Reading by operator precedence answers a tree exactly where the tokens spell it and it has at most
 /// 64 levels.
 pub fn reader_is_exact()
     ensures { ReaderIsExact }
+{}
+
+/// Reading a text answers a tree exactly where the text spells it and it has at most 64 levels.
+pub fn text_reader_is_exact()
+    ensures { TextReaderIsExact }
 {}
 
 /// No text spells two trees.
