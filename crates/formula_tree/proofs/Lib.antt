@@ -11,3 +11,5 @@ pub mod CanonicalText
 pub mod Once
 pub mod SeenNodes
 pub mod TokenSteps
+pub mod FitTokens
+pub mod ProperTrees

@@ -31,7 +31,7 @@ behind-shorter : (p : ℕ → Bool) (c : ℕ) (cs : List ℕ) → p c ≡ true �
 behind-shorter p c cs h = rw h (omega (arith, length-drop (1 + prefix_len p cs) (c ∷ cs)))
 
 -- the choices of a run's token
-abbrev chosen : Bool → Bool → Bool → Token → Token → Token → Token → List ℕ → Token × List ℕ
+abbrev pub chosen : Bool → Bool → Bool → Token → Token → Token → Token → List ℕ → Token × List ℕ
 chosen b d e sheet word other lone cs = if b then (sheet, drop 1 cs) else (if d then (if e then (word, cs) else (other, cs)) else (lone, cs))
 
 chosen-shorter : (b d e : Bool) (sheet word other lone : Token) (cs : List ℕ) → length (chosen b d e sheet word other lone cs).1 ≤ length cs

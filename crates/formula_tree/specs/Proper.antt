@@ -46,6 +46,10 @@ abbrev mutual
 abbrev pub IsListed : ℕ → (ℕ → Option (List ℕ)) → (List ℕ → Option ℕ) → ℕ → Type 0
 IsListed home names find sheet = (sheet ≡ home) ⊎ ((w : List ℕ) × (names sheet ≡ Some w) × (find w ≡ Some sheet))
 
+-- each sheet that a name finds has a name by which it is found
+abbrev pub AreNamed : (ℕ → Option (List ℕ)) → (List ℕ → Option ℕ) → Type 0
+AreNamed names find = (v : List ℕ) (sheet : ℕ) → find v ≡ Some sheet → (w : List ℕ) × (names sheet ≡ Some w) × (find w ≡ Some sheet)
+
 abbrev mutual
   -- each sheet of the tree is the home's or listed
   pub SheetsAreListed : ℕ → (ℕ → Option (List ℕ)) → (List ℕ → Option ℕ) → Term Corner → Type 0
