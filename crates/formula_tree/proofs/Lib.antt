@@ -13,3 +13,4 @@ pub mod SeenNodes
 pub mod TokenSteps
 pub mod FitTokens
 pub mod ProperTrees
+pub mod Examples

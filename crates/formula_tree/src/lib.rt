@@ -13,6 +13,8 @@
 pub mod laws;
 mod link;
 mod plain;
+#[cfg(test)]
+mod tests;
 mod token;
 mod tree;
 
