@@ -1,6 +1,6 @@
 -- The canonical text has the tokens that spell its tree. Serves the law that the canonical text spells
 -- its tree.
-use Rattle.std.proofs.Common.{◌≡◌, sym, ◌∙◌, ap, subst, refl, arith, ℕ, ℤ, suc, ◌+◌, ◌<◌, ◌≤◌, Bool, true, false, if◌then◌else◌, ◌==◌, List, [], ◌∷◌, ◌++◌, length, Option, Some, None}
+use Rattle.std.proofs.Common.{◌≡◌, sym, ◌∙◌, ap, subst, refl, arith, ℕ, ◌+◌, Bool, true, false, if◌then◌else◌, ◌==◌, List, [], ◌∷◌, ◌++◌, length, Option, Some, None}
 use Rattle.std.proofs.lemmas.Bool.Decides.{nat_tests}
 use Rattle.digits.specs.Digits.{is_digit}
 use Rattle.digits.proofs.Numerals.{is_digit-bounds}
@@ -17,15 +17,14 @@ use Rattle.formula_tree.specs.declared.plain.Sign.TheVariants as sign
 use Rattle.formula_tree.specs.declared.token.Token.{Token}
 use Rattle.formula_tree.specs.declared.token.Token.TheVariants as tok
 use Rattle.formula_tree.specs.Term.{Term, number, text, truth, fault, cell, area, name, prefix, percent, binary, call, paren, Terms, no_terms, term}
-use Rattle.formula_tree.specs.Run.{is_blank, begins_run, begins_with, begins_with_any}
-use Rattle.formula_tree.specs.Grammar.{SpellsText}
-use Rattle.formula_tree.specs.Canonical.{op_text, sign_text, corner_text, sheet_text, front_text, printed, printed_all, printed_more, formula_text}
-use Rattle.formula_tree.specs.Proper.{IsProper, AreProper, SheetsAreListed}
+use Rattle.formula_tree.specs.Run.{is_blank, begins_run, begins_with_any}
+use Rattle.formula_tree.specs.Canonical.{op_text, sign_text, corner_text, sheet_text, printed, printed_all, printed_more}
+use Rattle.formula_tree.specs.Proper.{IsProper, AreProper}
 use Rattle.formula_tree.specs.Laws.{CanonicalSpells}
 use Rattle.formula_tree.proofs.Lexes.{Lexes, lexes-nil, Stopped, stopped-nil, stopped-close, stopped-comma, stopped-colon, stopped-percent, stopped-op, lexes-open, lexes-close, lexes-comma, lexes-colon, lexes-percent, lexes-sign, IsApart, lexes-op, lexes-fault}
 use Rattle.formula_tree.proofs.LexedNumbers.{lexes-number, number-begins, lexes-text, lexes-quoted_sheet}
 use Rattle.formula_tree.proofs.LexedRuns.{IsRun, IsRun-word, IsRun-bare, lexes-name, lexes-truth, lexes-word, lexes-bare_sheet, lexes-corner, corner_text-begins}
-use Rattle.formula_tree.proofs.Written.{address_of, sheet_tokens, front_tokens, written, written_all, written_more, spelt-canonical}
+use Rattle.formula_tree.proofs.Written.{address_of, sheet_tokens, written, written_all, written_more, spelt-canonical}
 
 -- no tree's text begins with `=` or `>`
 digit-apart : (cs : List ℕ) → begins_with_any is_digit cs ≡ true → IsApart cs
@@ -101,7 +100,6 @@ lexes-front true n rest tokens h l = l
 lexes-front false n rest tokens h l = lexes-sheet n rest tokens h l
 
 module _ (home : ℕ) (names : ℕ → Option (List ℕ)) where
-
   apart : (t : Term Corner) → IsProper t → (cs : List ℕ) → IsApart (printed home names t cs)
   apart (number m) p cs = digit-apart (text_of m ++ cs) (number-begins m p.0 p.1 cs)
   apart (text w) p cs = (refl, refl)
@@ -128,33 +126,33 @@ module _ (home : ℕ) (names : ℕ → Option (List ℕ)) where
     lexes-printed (truth b) p cs zs s l = lexes-truth b cs zs s l
     lexes-printed (fault f) p cs zs s l = lexes-fault f cs zs l
     lexes-printed (cell c) p cs zs s l =
-      lexes-front (c.at.sheet == home) (names c.at.sheet) (corner_text c cs) (tok.Corner (address_of c) ∷ zs) (corner-no_blank c cs p) (lexes-corner c cs zs p s l)
+        lexes-front (c.at.sheet == home) (names c.at.sheet) (corner_text c cs) (tok.Corner (address_of c) ∷ zs) (corner-no_blank c cs p) (lexes-corner c cs zs p s l)
     lexes-printed (area c d) p cs zs s l =
-      lexes-front (c.at.sheet == home) (names c.at.sheet) (corner_text c (58 ∷ corner_text d cs)) (tok.Corner (address_of c) ∷ tok.Colon ∷ tok.Corner (address_of d) ∷ zs)
+        lexes-front (c.at.sheet == home) (names c.at.sheet) (corner_text c (58 ∷ corner_text d cs)) (tok.Corner (address_of c) ∷ tok.Colon ∷ tok.Corner (address_of d) ∷ zs)
         (corner-no_blank c (58 ∷ corner_text d cs) p.0)
         (lexes-corner c (58 ∷ corner_text d cs) (tok.Colon ∷ tok.Corner (address_of d) ∷ zs) p.0 (stopped-colon (corner_text d cs))
-          (lexes-colon (corner_text d cs) (tok.Corner (address_of d) ∷ zs) (lexes-corner d cs zs p.1 s l)))
+        (lexes-colon (corner_text d cs) (tok.Corner (address_of d) ∷ zs) (lexes-corner d cs zs p.1 s l)))
     lexes-printed (name w) p cs zs s l = lexes-name w cs zs p s l
     lexes-printed (prefix v t) p cs zs s l = lexes-sign v (printed home names t cs) (written home names t zs) (lexes-printed t p.1 cs zs s l)
     lexes-printed (percent t) p cs zs s l = lexes-printed t p.1 (37 ∷ cs) (tok.Percent ∷ zs) (stopped-percent cs) (lexes-percent cs zs l)
     lexes-printed (binary o a b) p cs zs s l =
-      lexes-printed a p.2 (op_text o ++ printed home names b cs) (tok.Operator o ∷ written home names b zs) (stopped-op o (printed home names b cs))
+        lexes-printed a p.2 (op_text o ++ printed home names b cs) (tok.Operator o ∷ written home names b zs) (stopped-op o (printed home names b cs))
         (lexes-op o (printed home names b cs) (written home names b zs) (apart b p.3 cs) (lexes-printed b p.3 cs zs s l))
     lexes-printed (call w ts) p cs zs s l =
-      lexes-word w (printed_all home names ts cs) (tok.Open ∷ written_all home names ts zs) p.0
+        lexes-word w (printed_all home names ts cs) (tok.Open ∷ written_all home names ts zs) p.0
         (lexes-open (printed_all home names ts cs) (written_all home names ts zs) (lexes-all ts p.1 cs zs l))
     lexes-printed (paren t) p cs zs s l =
-      lexes-open (printed home names t (41 ∷ cs)) (written home names t (tok.Close ∷ zs)) (lexes-printed t p (41 ∷ cs) (tok.Close ∷ zs) (stopped-close cs) (lexes-close cs zs l))
+        lexes-open (printed home names t (41 ∷ cs)) (written home names t (tok.Close ∷ zs)) (lexes-printed t p (41 ∷ cs) (tok.Close ∷ zs) (stopped-close cs) (lexes-close cs zs l))
 
     lexes-all : (ts : Terms Corner) → AreProper ts → (cs : List ℕ) (zs : List Token) → Lexes cs zs → Lexes (printed_all home names ts cs) (written_all home names ts zs)
     lexes-all no_terms p cs zs l = lexes-close cs zs l
     lexes-all (term t ts) p cs zs l =
-      lexes-printed t p.0 (printed_more home names ts cs) (written_more home names ts zs) (stopped-more ts cs) (lexes-more ts p.1 cs zs l)
+        lexes-printed t p.0 (printed_more home names ts cs) (written_more home names ts zs) (stopped-more ts cs) (lexes-more ts p.1 cs zs l)
 
     lexes-more : (ts : Terms Corner) → AreProper ts → (cs : List ℕ) (zs : List Token) → Lexes cs zs → Lexes (printed_more home names ts cs) (written_more home names ts zs)
     lexes-more no_terms p cs zs l = lexes-close cs zs l
     lexes-more (term t ts) p cs zs l =
-      lexes-comma (printed home names t (printed_more home names ts cs)) (written home names t (written_more home names ts zs))
+        lexes-comma (printed home names t (printed_more home names ts cs)) (written home names t (written_more home names ts zs))
         (lexes-printed t p.0 (printed_more home names ts cs) (written_more home names ts zs) (stopped-more ts cs) (lexes-more ts p.1 cs zs l))
 
 pub canonical-spells : CanonicalSpells

@@ -1,8 +1,6 @@
 -- What the tokens spell, the reader reads. Serves the law that the reader is exact.
-use Rattle.std.proofs.Common.{◌≡◌, sym, ◌∙◌, ap, refl, arith, ℕ, zero, suc, ◌+◌, ◌-◌, ◌<◌, ◌≤◌, max, Bool, true, false, nat_lt, List, [], ◌∷◌, ◌++◌, length, Option, Some, None, Ok, append_assoc}
-use Rattle.std.proofs.lemmas.Bool.{le-ltb}
+use Rattle.std.proofs.Common.{◌≡◌, ◌∙◌, ap, refl, arith, ℕ, zero, suc, ◌+◌, ◌-◌, ◌<◌, ◌≤◌, true, false, nat_lt, List, [], ◌∷◌, ◌++◌, length, Option, Some, None, append_assoc}
 use Rattle.cell_addr.specs.Text.{capitals}
-use Rattle.fix_num.specs.Text.{number_of}
 use Rattle.formula_tree.specs.declared.plain.Corner.{Corner}
 use Rattle.formula_tree.specs.declared.plain.Op.{Op}
 use Rattle.formula_tree.specs.declared.plain.Op.TheVariants as op
@@ -14,8 +12,8 @@ use Rattle.formula_tree.specs.declared.token.Token.TheVariants as tok
 use Rattle.formula_tree.specs.Term.{Term, number, text, truth, fault, cell, area, name, prefix, percent, binary, call, paren, Terms, no_terms, term, terms_of, depth_of, depth_of_all}
 use Rattle.formula_tree.specs.Level.{level_of, percent_level, sign_level, op_of, sign_of}
 use Rattle.formula_tree.specs.Grammar.{Leaf, a_number, a_text, a_truth, a_fault, a_name, a_corner, a_range, a_sheet_corner, a_sheet_range, Spells, lower, between, behind, before, leaf, inside, alone, called, SpellsAll, last, more, cell_on, area_on}
-use Rattle.formula_tree.specs.Reader.{Read, and_then, after_open, after_close, after_comma, after_colon, corner_front, number_then, reference, colon_then, signed, closed, first, climb, climb_at, climb_step, arguments, arguments_step, argument_then, read}
-use Rattle.formula_tree.proofs.ReaderSteps.{read_none, read_more, climb_more, arguments_more}
+use Rattle.formula_tree.specs.Reader.{Read, and_then, after_close, after_colon, first, climb, arguments, read}
+use Rattle.formula_tree.proofs.ReaderSteps.{read_more, climb_more, arguments_more}
 
 -- what may stand behind a tree of level k: nothing, a parenthesis, a comma, or an operator below k
 abbrev pub Stops : ℕ → List Token → Type 0
@@ -128,7 +126,6 @@ climb-stops R n k t (tok.Percent ∷ zs) h s = climb_more R n k t (tok.Percent �
 climb-stops R n k t (x ∷ zs) h s = absurd s
 
 module _ (home : ℕ) (find : List ℕ → Option ℕ) where
-
   -- a spelling takes a token or more, and doesn't begin with a closing parenthesis
   leaf-shorter : {xs : List Token} {t : Term Corner} {zs : List Token} → Leaf home find xs t zs → length zs < length xs
   leaf-shorter (a_number e) = omega arith
@@ -202,7 +199,7 @@ module _ (home : ℕ) (find : List ℕ → Option ℕ) where
   leaf-spine (a_sheet_range {s = s} {a = a} {b = b}) = spine-area_on (find s) a b
 
   leaf-first : {xs : List Token} {t : Term Corner} {zs : List Token} → Leaf home find xs t zs
-    → (R : ℕ → List Token → Read) (k : ℕ) → Stops k zs → first home find R xs ≡ Some (t, zs)
+      → (R : ℕ → List Token → Read) (k : ℕ) → Stops k zs → first home find R xs ≡ Some (t, zs)
   leaf-first (a_number e) R k s = rw e refl
   leaf-first a_text R k s = refl
   leaf-first a_truth R k s = refl
@@ -218,105 +215,105 @@ module _ (home : ℕ) (find : List ℕ → Option ℕ) where
   Climbs i k xs t zs = (m c : ℕ) → c ≡ spine t + m → and_then (first home find (read home find i) xs) (climb (read home find i) c k) ≡ climb (read home find i) m k t zs
 
   read-climbs : (n k : ℕ) (xs : List Token) (t : Term Corner) (zs : List Token) → ((i : ℕ) → depth_of t ≤ suc i → Climbs i k xs t zs)
-    → depth_of t ≤ n → Stops k zs → read home find n k xs ≡ Some (t, zs)
+      → depth_of t ≤ n → Stops k zs → read home find n k xs ≡ Some (t, zs)
   read-climbs zero k xs t zs h d s = absurd (omega (arith, depth_of-positive t))
   read-climbs (suc i) k xs t zs h d s =
-    let m : ℕ = suc i - spine t in
-    let e : suc i ≡ spine t + m = omega (arith, spine-depth t) in
-    let p : 0 < m = omega (arith, spine-depth t) in
-    let r : suc i - 1 ≡ i = omega arith in
-    read_more home find (suc i) k xs (omega arith)
-    ∙ ap (λ j. and_then (first home find (read home find j) xs) (climb (read home find j) (suc i) k)) r
-    ∙ h i d m (suc i) e
-    ∙ climb-stops (read home find i) m k t zs p s
+      let m : ℕ = suc i - spine t in
+      let e : suc i ≡ spine t + m = omega (arith, spine-depth t) in
+      let p : 0 < m = omega (arith, spine-depth t) in
+      let r : suc i - 1 ≡ i = omega arith in
+      read_more home find (suc i) k xs (omega arith)
+      ∙ ap (λ j. and_then (first home find (read home find j) xs) (climb (read home find j) (suc i) k)) r
+      ∙ h i d m (suc i) e
+      ∙ climb-stops (read home find i) m k t zs p s
 
   climb-binary : (R : ℕ → List Token → Read) (o : Op) (l : Term Corner) (ys : List Token) (r : Term Corner) (zs : List Token) (j m : ℕ)
-    → j ≤ level_of o → R (suc (level_of o)) ys ≡ Some (r, zs) → climb R (suc m) j l (tok.Operator o ∷ ys) ≡ climb R m j (binary o l r) zs
+      → j ≤ level_of o → R (suc (level_of o)) ys ≡ Some (r, zs) → climb R (suc m) j l (tok.Operator o ∷ ys) ≡ climb R m j (binary o l r) zs
   climb-binary R o l ys r zs j m h e =
-    let n : suc m - 1 ≡ m = omega arith in
-    climb_more R (suc m) j l (tok.Operator o ∷ ys) (omega arith)
-    ∙ rw (le-false (level_of o) j h, e) (ap (λ x. climb R x j (binary o l r) zs) n)
+      let n : suc m - 1 ≡ m = omega arith in
+      climb_more R (suc m) j l (tok.Operator o ∷ ys) (omega arith)
+      ∙ rw (le-false (level_of o) j h, e) (ap (λ x. climb R x j (binary o l r) zs) n)
 
   climb-percent : (R : ℕ → List Token → Read) (t : Term Corner) (zs : List Token) (j m : ℕ)
-    → j ≤ percent_level → climb R (suc m) j t (tok.Percent ∷ zs) ≡ climb R m j (percent t) zs
+      → j ≤ percent_level → climb R (suc m) j t (tok.Percent ∷ zs) ≡ climb R m j (percent t) zs
   climb-percent R t zs j m h =
-    let n : suc m - 1 ≡ m = omega arith in
-    climb_more R (suc m) j t (tok.Percent ∷ zs) (omega arith)
-    ∙ rw (le-false percent_level j h) (ap (λ x. climb R x j (percent t) zs) n)
+      let n : suc m - 1 ≡ m = omega arith in
+      climb_more R (suc m) j t (tok.Percent ∷ zs) (omega arith)
+      ∙ rw (le-false percent_level j h) (ap (λ x. climb R x j (percent t) zs) n)
 
   first-signed : (R : ℕ → List Token → Read) (s : Sign) (xs : List Token) (t : Term Corner) (zs : List Token)
-    → R sign_level xs ≡ Some (t, zs) → first home find R (tok.Operator (op_of s) ∷ xs) ≡ Some (prefix s t, zs)
+      → R sign_level xs ≡ Some (t, zs) → first home find R (tok.Operator (op_of s) ∷ xs) ≡ Some (prefix s t, zs)
   first-signed R s xs t zs e = rw (sign_of-op_of s, e) refl
 
   first-inside : (R : ℕ → List Token → Read) (xs : List Token) (t : Term Corner) (zs : List Token)
-    → R 0 xs ≡ Some (t, tok.Close ∷ zs) → first home find R (tok.Open ∷ xs) ≡ Some (paren t, zs)
+      → R 0 xs ≡ Some (t, tok.Close ∷ zs) → first home find R (tok.Open ∷ xs) ≡ Some (paren t, zs)
   first-inside R xs t zs e = rw e refl
 
   first-called : (R : ℕ → List Token → Read) (w : List ℕ) (xs : List Token) (ts : Terms Corner) (zs : List Token) → after_close xs ≡ None
-    → arguments R w (length xs) [] xs ≡ Some (call (capitals w) (terms_of (trees_in ts)), zs)
-    → first home find R (tok.Word w ∷ tok.Open ∷ xs) ≡ Some (call (capitals w) ts, zs)
+      → arguments R w (length xs) [] xs ≡ Some (call (capitals w) (terms_of (trees_in ts)), zs)
+      → first home find R (tok.Word w ∷ tok.Open ∷ xs) ≡ Some (call (capitals w) ts, zs)
   first-called R w xs ts zs c e = rw (c, e, terms_of-trees_in ts) refl
 
   -- where the first tree is the whole one
   climbs-first : (i j : ℕ) (xs : List Token) (t : Term Corner) (zs : List Token)
-    → first home find (read home find i) xs ≡ Some (t, zs) → spine t ≡ 0 → Climbs i j xs t zs
+      → first home find (read home find i) xs ≡ Some (t, zs) → spine t ≡ 0 → Climbs i j xs t zs
   climbs-first i j xs t zs e p m c h =
-    let n : c ≡ m = omega arith in
-    rw e (ap (λ x. climb (read home find i) x j t zs) n)
+      let n : c ≡ m = omega arith in
+      rw e (ap (λ x. climb (read home find i) x j t zs) n)
 
   arguments-last : (R : ℕ → List Token → Read) (w : List ℕ) (most : ℕ) (done : List (Term Corner)) (xs : List Token) (t : Term Corner) (zs : List Token)
-    → 0 < most → R 0 xs ≡ Some (t, tok.Close ∷ zs) → arguments R w most done xs ≡ Some (call (capitals w) (terms_of (done ++ t ∷ [])), zs)
+      → 0 < most → R 0 xs ≡ Some (t, tok.Close ∷ zs) → arguments R w most done xs ≡ Some (call (capitals w) (terms_of (done ++ t ∷ [])), zs)
   arguments-last R w most done xs t zs p e = arguments_more R w most done xs p ∙ rw e refl
 
   arguments-next : (R : ℕ → List Token → Read) (w : List ℕ) (most : ℕ) (done : List (Term Corner)) (xs : List Token) (t : Term Corner) (ys : List Token)
-    → 0 < most → R 0 xs ≡ Some (t, tok.Comma ∷ ys) → arguments R w most done xs ≡ arguments R w (most - 1) (done ++ t ∷ []) ys
+      → 0 < most → R 0 xs ≡ Some (t, tok.Comma ∷ ys) → arguments R w most done xs ≡ arguments R w (most - 1) (done ++ t ∷ []) ys
   arguments-next R w most done xs t ys p e = arguments_more R w most done xs p ∙ rw e refl
 
   mutual
     complete : {k : ℕ} {xs : List Token} {t : Term Corner} {zs : List Token} → Spells home find k xs t zs
-      → (i j : ℕ) → j ≤ k → depth_of t ≤ suc i → Stops (suc k) zs → Climbs i j xs t zs
+        → (i j : ℕ) → j ≤ k → depth_of t ≤ suc i → Stops (suc k) zs → Climbs i j xs t zs
     complete (lower {k = k} {zs = zs} d) i j h g s m c e = complete d i j (omega arith) g (Stops-higher (suc k) (suc (suc k)) zs (omega arith) s) m c e
     complete (between o {l = l} {ys = ys} {r = r} {zs = zs} d b) i j h g s m c e =
-      complete d i j h (omega arith) (omega arith) (suc m) c (omega arith)
-      ∙ climb-binary (read home find i) o l ys r zs j m h
+        complete d i j h (omega arith) (omega arith) (suc m) c (omega arith)
+        ∙ climb-binary (read home find i) o l ys r zs j m h
         (read-climbs i (suc (level_of o)) ys r zs
-          (λ n p. complete b n (suc (level_of o)) (omega arith) p (Stops-higher (suc (level_of o)) (suc (suc (level_of o))) zs (omega arith) s))
-          (omega arith) s)
+        (λ n p. complete b n (suc (level_of o)) (omega arith) p (Stops-higher (suc (level_of o)) (suc (suc (level_of o))) zs (omega arith) s))
+        (omega arith) s)
     complete (behind {t = t} {zs = zs} d) i j h g s m c e =
-      complete d i j h (omega arith) (omega arith) (suc m) c (omega arith) ∙ climb-percent (read home find i) t zs j m h
+        complete d i j h (omega arith) (omega arith) (suc m) c (omega arith) ∙ climb-percent (read home find i) t zs j m h
     complete (before v {xs = xs} {t = t} {zs = zs} d) i j h g s m c e =
-      climbs-first i j (tok.Operator (op_of v) ∷ xs) (prefix v t) zs
+        climbs-first i j (tok.Operator (op_of v) ∷ xs) (prefix v t) zs
         (first-signed (read home find i) v xs t zs
-          (read-climbs i sign_level xs t zs (λ n p. complete d n sign_level (omega arith) p s) (omega arith) (Stops-sign (suc sign_level) zs s)))
+        (read-climbs i sign_level xs t zs (λ n p. complete d n sign_level (omega arith) p s) (omega arith) (Stops-sign (suc sign_level) zs s)))
         refl m c e
     complete (leaf {xs = xs} {t = t} {zs = zs} l) i j h g s m c e =
-      climbs-first i j xs t zs (leaf-first l (read home find i) 8 s) (leaf-spine l) m c e
+        climbs-first i j xs t zs (leaf-first l (read home find i) 8 s) (leaf-spine l) m c e
     complete (inside {xs = xs} {t = t} {zs = zs} d) i j h g s m c e =
-      climbs-first i j (tok.Open ∷ xs) (paren t) zs
+        climbs-first i j (tok.Open ∷ xs) (paren t) zs
         (first-inside (read home find i) xs t zs
-          (read-climbs i 0 xs t (tok.Close ∷ zs) (λ n p. complete d n 0 (omega arith) p tt) (omega arith) tt))
+        (read-climbs i 0 xs t (tok.Close ∷ zs) (λ n p. complete d n 0 (omega arith) p tt) (omega arith) tt))
         refl m c e
     complete (alone {w = w} {zs = zs}) i j h g s m c e =
-      climbs-first i j (tok.Word w ∷ tok.Open ∷ tok.Close ∷ zs) (call (capitals w) no_terms) zs refl refl m c e
+        climbs-first i j (tok.Word w ∷ tok.Open ∷ tok.Close ∷ zs) (call (capitals w) no_terms) zs refl refl m c e
     complete (called {w = w} {xs = xs} {ts = ts} {zs = zs} ds) i j h g s m c e =
-      climbs-first i j (tok.Word w ∷ tok.Open ∷ xs) (call (capitals w) ts) zs
+        climbs-first i j (tok.Word w ∷ tok.Open ∷ xs) (call (capitals w) ts) zs
         (first-called (read home find i) w xs ts zs (all-not_close ds) (complete_all ds i (omega arith) w (length xs) [] (omega arith)))
         refl m c e
 
     complete_all : {xs : List Token} {ts : Terms Corner} {zs : List Token} → SpellsAll home find xs ts zs
-      → (i : ℕ) → depth_of_all ts ≤ i → (w : List ℕ) (most : ℕ) (done : List (Term Corner)) → length xs ≤ most
-      → arguments (read home find i) w most done xs ≡ Some (call (capitals w) (terms_of (done ++ trees_in ts)), zs)
+        → (i : ℕ) → depth_of_all ts ≤ i → (w : List ℕ) (most : ℕ) (done : List (Term Corner)) → length xs ≤ most
+        → arguments (read home find i) w most done xs ≡ Some (call (capitals w) (terms_of (done ++ trees_in ts)), zs)
     complete_all (last {xs = xs} {t = t} {zs = zs} d) i g w most done h =
-      arguments-last (read home find i) w most done xs t zs (omega (arith, shorter d))
+        arguments-last (read home find i) w most done xs t zs (omega (arith, shorter d))
         (read-climbs i 0 xs t (tok.Close ∷ zs) (λ n p. complete d n 0 (omega arith) p tt) (omega arith) tt)
     complete_all (more {xs = xs} {t = t} {ys = ys} {ts = ts} {zs = zs} d ds) i g w most done h =
-      arguments-next (read home find i) w most done xs t ys (omega (arith, shorter d))
+        arguments-next (read home find i) w most done xs t ys (omega (arith, shorter d))
         (read-climbs i 0 xs t (tok.Comma ∷ ys) (λ n p. complete d n 0 (omega arith) p tt) (omega arith) tt)
-      ∙ complete_all ds i (omega arith) w (most - 1) (done ++ t ∷ []) (omega (arith, shorter d))
-      ∙ ap (λ us. Some (call (capitals w) (terms_of us), zs)) (append_assoc done (t ∷ []) (trees_in ts))
+        ∙ complete_all ds i (omega arith) w (most - 1) (done ++ t ∷ []) (omega (arith, shorter d))
+        ∙ ap (λ us. Some (call (capitals w) (terms_of us), zs)) (append_assoc done (t ∷ []) (trees_in ts))
 
   -- what is spelt is read, by a reader of as many levels as the tree has
   pub read-spelt : {k : ℕ} {xs : List Token} {t : Term Corner} {zs : List Token} → Spells home find k xs t zs → (n : ℕ) → depth_of t ≤ n → Stops k zs
-    → read home find n k xs ≡ Some (t, zs)
+      → read home find n k xs ≡ Some (t, zs)
   read-spelt {k} {xs} {t} {zs} d n g s =
-    read-climbs n k xs t zs (λ i p. complete d i k (omega arith) p (Stops-higher k (suc k) zs (omega arith) s)) g s
+      read-climbs n k xs t zs (λ i p. complete d i k (omega arith) p (Stops-higher k (suc k) zs (omega arith) s)) g s

@@ -1,12 +1,11 @@
 -- The reader and the grammar agree. Serves the laws `reader_is_exact` and `no_text_spells_two`.
-use Rattle.std.proofs.Common.{◌≡◌, sym, ◌∙◌, ap, refl, arith, subst, ℕ, suc, ◌+◌, ◌<◌, ◌≤◌, Bool, true, false, nat_le, ◌==◌, if◌then◌else◌, List, [], ◌∷◌, Option, Some, None}
+use Rattle.std.proofs.Common.{◌≡◌, sym, ◌∙◌, ap, refl, arith, subst, ℕ, ◌+◌, ◌≤◌, Bool, true, false, nat_le, ◌==◌, if◌then◌else◌, List, [], ◌∷◌, Option, Some, None}
 use Rattle.std.specs.Option.{option_and_then}
 use Rattle.std.proofs.lemmas.Bool.{leb-true, le-leb, eqb-true, eq-eqb}
 use Rattle.formula_tree.specs.declared.plain.Corner.{Corner}
 use Rattle.formula_tree.specs.declared.token.Token.{Token}
 use Rattle.formula_tree.specs.Term.{Term, depth_of}
-use Rattle.formula_tree.specs.Level.{sign_level}
-use Rattle.formula_tree.specs.Grammar.{Spells, SpellsTokens, SpellsText}
+use Rattle.formula_tree.specs.Grammar.{SpellsTokens, SpellsText}
 use Rattle.formula_tree.specs.Tokens.{tokens_of}
 use Rattle.formula_tree.specs.Reader.{Read, and_then, read, whole_then, max_levels, tree_of, tree_of_text}
 use Rattle.formula_tree.specs.Laws.{ReaderIsExact, TextReaderIsExact, OneTree}
@@ -34,13 +33,13 @@ tree-of-read t (Some r) e =
 
 pub reader-exact : ReaderIsExact
 reader-exact home find tokens t = (
-    λ e.
+  λ e.
       let p : (read home find max_levels 0 tokens ≡ Some (t, [])) × (depth_of t ≤ max_levels) = tree-of-read t (read home find max_levels 0 tokens) e in
       (spelt-read home find max_levels 0 tokens t [] (omega arith) p.0, p.1),
-    λ p.
+  λ p.
       let e : read home find max_levels 0 tokens ≡ Some (t, []) = read-spelt home find p.0 max_levels p.1 tt in
       rw (e, le-leb (depth_of t) max_levels p.1) refl,
-  )
+)
 
 -- a text, by its first byte and by the tokens behind it
 read-text : (home : ℕ) (find : List ℕ → Option ℕ) (c : ℕ) (cs : List ℕ) (t : Term Corner) (b : Bool) (r : Option (List Token)) → (c == 61) ≡ b → tokens_of cs ≡ r

@@ -1,6 +1,6 @@
 -- What the tokens of a text hold: numbers without a sign, addresses within the limits, names and words of
 -- their form. Serves the law that a text's tree is proper.
-use Rattle.std.proofs.Common.{◌≡◌, sym, ◌∙◌, ap, subst, refl, arith, ℕ, zero, suc, ◌<◌, Bool, true, false, ◌&&◌, ◌||◌, ◌==◌, nat_lt, cond, if◌then◌else◌, List, [], ◌∷◌, take, drop, Option, Some, None, option_map}
+use Rattle.std.proofs.Common.{◌≡◌, subst, refl, arith, ℕ, zero, suc, ◌<◌, Bool, true, false, ◌&&◌, ◌||◌, ◌==◌, nat_lt, cond, if◌then◌else◌, List, [], ◌∷◌, take, drop, Option, Some, None, option_map}
 use Rattle.std.specs.Option.{option_and_then}
 use Rattle.std.specs.List.{take_while, find}
 use Rattle.std.proofs.lemmas.Bool.{and_parts, ltb-true}
@@ -16,7 +16,7 @@ use Rattle.formula_tree.specs.declared.token.Address.{Address}
 use Rattle.formula_tree.specs.declared.token.Token.{Token}
 use Rattle.formula_tree.specs.declared.token.Token.TheVariants as tok
 use Rattle.formula_tree.specs.Run.{is_blank, begins_run, is_run_byte, begins_with, begins_with_any, behind, is_word, behind_dollar, address_at, corner_of, truth_of, word_token, lone_token, is_sheet_behind, is_sheet_run, run_token}
-use Rattle.formula_tree.specs.Tokens.{Front, number_length, begins_number, quoted, text_token, sheet_token, begins_with_fault, fault_token, byte_token, pair_op, sign_token, token_at, and_tokens, tokens_step, tokens_in}
+use Rattle.formula_tree.specs.Tokens.{Front, number_length, begins_number, quoted, text_token, sheet_token, begins_with_fault, fault_token, byte_token, pair_op, sign_token, token_at, and_tokens, tokens_in}
 use Rattle.formula_tree.specs.Proper.{IsName}
 use Rattle.formula_tree.proofs.TokenSteps.{chosen}
 
@@ -52,7 +52,7 @@ fit-limits false a h = tt
 fit-address : (f g : Bool) (row col : ℕ) → FitCorner (address_at f g (row, col))
 fit-address f g row col =
     fit-limits (nat_lt row ROWS && nat_lt col COLS) (record { row = row; col = col; row_fixed = g; col_fixed = f })
-      (λ h. let parts = and_parts (nat_lt row ROWS) (nat_lt col COLS) h in (ltb-true row ROWS parts.0, ltb-true col COLS parts.1))
+    (λ h. let parts = and_parts (nat_lt row ROWS) (nat_lt col COLS) h in (ltb-true row ROWS parts.0, ltb-true col COLS parts.1))
 
 fit-both : (f g : Bool) (r : Option (ℕ × ℕ)) → FitCorner (option_and_then (address_at f g) r)
 fit-both f g None = tt
@@ -162,7 +162,7 @@ fit-tokens_in zero cs = tt
 fit-tokens_in (suc n) [] = tt
 fit-tokens_in (suc n) (c ∷ cs) =
     all-cond (is_blank c) (tokens_in n cs) (and_tokens (token_at c cs) (tokens_in n)) (fit-tokens_in n cs)
-      (fit-and_tokens (token_at c cs) (tokens_in n) (fit-token_at c cs) (λ ds. fit-tokens_in n ds))
+    (fit-and_tokens (token_at c cs) (tokens_in n) (fit-token_at c cs) (λ ds. fit-tokens_in n ds))
 
 fit-of : (r : Option (List Token)) (tokens : List Token) → r ≡ Some tokens → FitAll r → AreFit tokens
 fit-of r tokens e h = let f : FitAll (Some tokens) = subst FitAll e h in f

@@ -1,10 +1,10 @@
 -- Fronts of texts: the bytes that pass a test, and what stands behind them. Serves the law that the
 -- canonical text spells its tree.
-use Rattle.std.proofs.Common.{◌≡◌, sym, ◌∙◌, ap, refl, arith, ℕ, suc, ◌+◌, ◌<◌, ◌≤◌, Bool, true, false, not, ◌&&◌, ◌||◌, List, [], ◌∷◌, ◌++◌, length, take, drop}
+use Rattle.std.proofs.Common.{◌≡◌, ◌∙◌, ap, refl, arith, ℕ, Bool, true, false, List, [], ◌∷◌, ◌++◌, length, take, drop}
 use Rattle.std.specs.List.{list_all, prefix_len, take_while}
 use Rattle.std.proofs.lemmas.Bool.{and_parts, and_from}
 use Rattle.std.proofs.Math.Seq.{take-append_seam, drop-append_seam}
-use Rattle.formula_tree.specs.Run.{begins_with, begins_with_any, behind}
+use Rattle.formula_tree.specs.Run.{begins_with_any, behind}
 
 pub prefix_len-append : (p : ℕ → Bool) (xs ys : List ℕ) → list_all p xs ≡ true → begins_with_any p ys ≡ false → prefix_len p (xs ++ ys) ≡ length xs
 prefix_len-append p [] [] h g = refl

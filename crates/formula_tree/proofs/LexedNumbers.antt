@@ -1,6 +1,6 @@
 -- The tokens of numbers, and of what stands between quotes. Serves the law that the canonical text
 -- spells its tree.
-use Rattle.std.proofs.Common.{◌≡◌, sym, ◌∙◌, ap, subst, refl, arith, ℕ, ℤ, pos, negsuc, suc, ◌+◌, ◌<◌, ◌≤◌, ◌⊎◌, inl, inr, Bool, true, false, not, ◌&&◌, ◌||◌, ◌==◌, cond, List, [], ◌∷◌, ◌++◌, length, take, drop, Option, Some, None, option_map, append_assoc, length-append}
+use Rattle.std.proofs.Common.{◌≡◌, sym, ◌∙◌, ap, subst, refl, arith, ℕ, ℤ, pos, negsuc, ◌+◌, ◌≤◌, inl, inr, Bool, true, false, ◌==◌, cond, List, [], ◌∷◌, ◌++◌, length, take, drop, Some, option_map, append_assoc, length-append}
 use Rattle.std.specs.Option.{option_and_then}
 use Rattle.std.specs.List.{list_all, prefix_len}
 use Rattle.std.proofs.lemmas.Bool.{and_parts, cond-true, cond-false, eqb-true}
@@ -63,16 +63,16 @@ whole-begins (c ∷ ws) rest w = (and_parts (is_digit c) (list_all is_digit ws) 
 lexes-whole : (ws cs : List ℕ) (tokens : List Token) → IsWholePart ws → Stopped cs → Lexes cs tokens → Lexes (ws ++ cs) (tok.Number ws ∷ tokens)
 lexes-whole ws cs tokens w s l =
     lexes-digits ws cs tokens (subst (λ x. begins_with_any is_digit x ≡ true) (append-nil ws) (whole-begins ws [] w))
-      (number_length-digits ws cs w.0 s.no_digit ∙ ap (λ n. length ws + n) (decimals_length-none cs s.no_point) ∙ omega arith) l
+    (number_length-digits ws cs w.0 s.no_digit ∙ ap (λ n. length ws + n) (decimals_length-none cs s.no_point) ∙ omega arith) l
 
 lexes-parts : (ws ds cs : List ℕ) (tokens : List Token) → IsWholePart ws → AreDecimals ds → Stopped cs → Lexes cs tokens
     → Lexes ((ws ++ 46 ∷ ds) ++ cs) (tok.Number (ws ++ 46 ∷ ds) ∷ tokens)
 lexes-parts ws ds cs tokens w d s l =
     lexes-digits (ws ++ 46 ∷ ds) cs tokens (whole-begins ws (46 ∷ ds) w)
-      (ap number_length (append_assoc ws (46 ∷ ds) cs)
-        ∙ number_length-digits ws (46 ∷ (ds ++ cs)) w.0 refl
-        ∙ ap (λ n. length ws + n) (decimals_length-some ds cs d.0 s.no_digit)
-        ∙ omega (arith, length-append ws (46 ∷ ds))) l
+    (ap number_length (append_assoc ws (46 ∷ ds) cs)
+    ∙ number_length-digits ws (46 ∷ (ds ++ cs)) w.0 refl
+    ∙ ap (λ n. length ws + n) (decimals_length-some ds cs d.0 s.no_digit)
+    ∙ omega (arith, length-append ws (46 ∷ ds))) l
 
 lexes-plain : (text cs : List ℕ) (tokens : List Token) → HasPlainForm text → Stopped cs → Lexes cs tokens → Lexes (text ++ cs) (tok.Number text ∷ tokens)
 lexes-plain text cs tokens (ws, w, inl e) s l = subst (λ x. Lexes (x ++ cs) (tok.Number x ∷ tokens)) (sym e) (lexes-whole ws cs tokens w s l)
@@ -88,7 +88,7 @@ plain-begins : (text cs : List ℕ) → HasPlainForm text → begins_with_any is
 plain-begins text cs (ws, w, inl e) = subst (λ x. begins_with_any is_digit (x ++ cs) ≡ true) (sym e) (whole-begins ws cs w)
 plain-begins text cs (ws, w, inr (ds, e, d)) =
     subst (λ x. begins_with_any is_digit (x ++ cs) ≡ true) (sym e)
-      (subst (λ x. begins_with_any is_digit x ≡ true) (sym (append_assoc ws (46 ∷ ds) cs)) (whole-begins ws (46 ∷ (ds ++ cs)) w))
+    (subst (λ x. begins_with_any is_digit x ≡ true) (sym (append_assoc ws (46 ∷ ds) cs)) (whole-begins ws (46 ∷ (ds ++ cs)) w))
 
 -- and begins with a digit
 pub number-begins : (m : ℤ) → numbers.IsInside m → numbers.is_negative m ≡ false → (cs : List ℕ) → begins_with_any is_digit (text_of m ++ cs) ≡ true
@@ -127,7 +127,7 @@ behind_quotes-shorter q content rest = omega (arith, length-append (doubled q co
 pub lexes-text : (content cs : List ℕ) (tokens : List Token) → Stopped cs → Lexes cs tokens → Lexes (between_quotes 34 content cs) (tok.Text content ∷ tokens)
 lexes-text content cs tokens s l =
     lexes-token 34 (doubled 34 content ++ (34 ∷ cs)) (tok.Text content) cs tokens refl
-      (ap (option_map text_token) (quoted-doubled 34 content cs s.no_quote)) (behind_quotes-shorter 34 content cs) l
+    (ap (option_map text_token) (quoted-doubled 34 content cs s.no_quote)) (behind_quotes-shorter 34 content cs) l
 
 sheet_token-behind : (content cs : List ℕ) → begins_with_any is_blank cs ≡ false → sheet_token (content, 33 ∷ cs) ≡ Some (tok.Sheet content, cs)
 sheet_token-behind content cs h = rw h refl
@@ -137,5 +137,5 @@ pub lexes-quoted_sheet : (content cs : List ℕ) (tokens : List Token) → begin
     → Lexes (between_quotes 39 content (33 ∷ cs)) (tok.Sheet content ∷ tokens)
 lexes-quoted_sheet content cs tokens h l =
     lexes-token 39 (doubled 39 content ++ (39 ∷ 33 ∷ cs)) (tok.Sheet content) cs tokens refl
-      (ap (option_and_then sheet_token) (quoted-doubled 39 content (33 ∷ cs) refl) ∙ sheet_token-behind content cs h)
-      (omega (arith, length-append (doubled 39 content) (39 ∷ 33 ∷ cs))) l
+    (ap (option_and_then sheet_token) (quoted-doubled 39 content (33 ∷ cs) refl) ∙ sheet_token-behind content cs h)
+    (omega (arith, length-append (doubled 39 content) (39 ∷ 33 ∷ cs))) l

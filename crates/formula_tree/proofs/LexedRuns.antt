@@ -1,8 +1,8 @@
 -- The tokens of runs: names, functions' words, truth values, sheets' names and addresses. Serves the
 -- law that the canonical text spells its tree.
-use Rattle.std.proofs.Common.{◌≡◌, sym, ◌∙◌, ap, subst, refl, arith, ℕ, suc, ◌+◌, ◌^◌, ◌<◌, ◌≤◌, Bool, true, false, not, ◌&&◌, ◌||◌, ◌==◌, nat_lt, cond, List, [], ◌∷◌, ◌++◌, length, take, drop, get_or, Option, Some, None, append_assoc, length-append}
+use Rattle.std.proofs.Common.{◌≡◌, sym, ◌∙◌, ap, subst, refl, arith, ℕ, ◌+◌, ◌^◌, ◌<◌, ◌≤◌, Bool, true, false, not, ◌&&◌, ◌||◌, ◌==◌, nat_lt, List, [], ◌∷◌, ◌++◌, length, drop, Some, append_assoc, length-append}
 use Rattle.std.specs.Option.{option_and_then}
-use Rattle.std.specs.List.{list_all, prefix_len, take_while}
+use Rattle.std.specs.List.{list_all}
 use Rattle.std.specs.Char.{is_ascii_alphabetic, is_ascii_alphanumeric}
 use Rattle.std.specs.Fmt.{decimal}
 use Rattle.std.proofs.lemmas.Bool.{and_parts, and_from, and_left, and_right, cond-true, cond-false, lt-ltb}
@@ -16,13 +16,12 @@ use Rattle.cell_addr.specs.declared.place.TheConstants.{ROWS, COLS}
 use Rattle.cell_addr.specs.Place as places
 use Rattle.cell_addr.specs.Address.{column_letters, column_of, row_of, letters, behind_letters, both}
 use Rattle.cell_addr.specs.SheetName.{is_bare_name, is_name_start, is_name_byte}
-use Rattle.cell_addr.proofs.Printed.{IsColumnText, column_letters-spell, row_of-decimal, column_of-column_letters}
+use Rattle.cell_addr.proofs.Printed.{column_letters-spell, row_of-decimal, column_of-column_letters}
 use Rattle.cell_value.specs.Scalar.{truth_text}
 use Rattle.formula_tree.specs.declared.plain.Corner.{Corner}
-use Rattle.formula_tree.specs.declared.token.Address.{Address}
 use Rattle.formula_tree.specs.declared.token.Token.{Token}
 use Rattle.formula_tree.specs.declared.token.Token.TheVariants as tok
-use Rattle.formula_tree.specs.Run.{is_blank, begins_run, is_run_byte, begins_with, begins_with_any, behind, is_word, behind_dollar, address_at, corner_behind, corner_of, truth_of, word_token, lone_token, is_sheet_behind, is_sheet_run, run_token}
+use Rattle.formula_tree.specs.Run.{is_blank, begins_run, is_run_byte, begins_with, begins_with_any, behind, is_word, behind_dollar, address_at, corner_behind, corner_of, word_token, lone_token, is_sheet_behind, is_sheet_run, run_token}
 use Rattle.formula_tree.specs.Tokens.{token_at}
 use Rattle.formula_tree.specs.Canonical.{dollar, corner_text}
 use Rattle.formula_tree.specs.Proper.{IsName, IsCallWord}
@@ -64,9 +63,10 @@ word_byte-goes_on c h = grind (arith, nat_tests)
 pub IsRun-word : (w : List ℕ) → is_word w ≡ true → IsRun w
 IsRun-word [] h = absurd (cc)
 IsRun-word (c ∷ cs) h =
-    let parts = and_parts (is_ascii_alphabetic c || c == 95) (list_all (λ d. is_ascii_alphanumeric d || (d == 95 || d == 46)) cs) h in
-    (word_start-begins c parts.0,
-      and_from (is_run_byte c) (list_all is_run_byte cs) (word_start-goes_on c parts.0) (all-weaker (λ d. is_ascii_alphanumeric d || (d == 95 || d == 46)) is_run_byte word_byte-goes_on cs parts.1))
+    let parts = and_parts (is_ascii_alphabetic c || c == 95) (list_all (λ d. is_ascii_alphanumeric d || (d == 95 || d == 46)) cs) h in (
+      word_start-begins c parts.0,
+      and_from (is_run_byte c) (list_all is_run_byte cs) (word_start-goes_on c parts.0) (all-weaker (λ d. is_ascii_alphanumeric d || (d == 95 || d == 46)) is_run_byte word_byte-goes_on cs parts.1),
+    )
 
 name_byte-goes_on : (c : ℕ) → is_name_byte c ≡ true → is_run_byte c ≡ true
 name_byte-goes_on c h = grind (arith, nat_tests)
@@ -218,7 +218,7 @@ corner_of-bytes c p =
     ap (λ b. corner_behind b (behind_dollar (corner_bytes c))) (dollar-is c.col_fixed (column_letters c.at.col ++ rest) no_dollar)
     ∙ ap (corner_behind c.col_fixed) (behind_dollar-dollar c.col_fixed (column_letters c.at.col ++ rest) no_dollar)
     ∙ corner_behind-parts c.col_fixed c.row_fixed (column_letters c.at.col) (decimal (c.at.row + 1)) c.at.row c.at.col l d
-      (column_of-column_letters c.at.col p.1) (row_of-decimal c.at.row (omega (arith, p.0))) p.0 p.1
+    (column_of-column_letters c.at.col p.1) (row_of-decimal c.at.row (omega (arith, p.0))) p.0 p.1
 
 goes_on-dollar : (fixed : Bool) (cs : List ℕ) → list_all is_run_byte cs ≡ true → list_all is_run_byte (dollar fixed cs) ≡ true
 goes_on-dollar true cs h = h
@@ -235,16 +235,16 @@ IsRun-corner c p =
     let d = row-digits c p in
     let rest : List ℕ = dollar c.row_fixed (decimal (c.at.row + 1)) in
     IsRun-letters c.col_fixed (column_letters c.at.col) rest l
-      (list_all-append is_run_byte (column_letters c.at.col) rest
-        ∙ and_from (list_all is_run_byte (column_letters c.at.col)) (list_all is_run_byte rest)
-          (all-weaker is_ascii_alphabetic is_run_byte letter-goes_on (column_letters c.at.col) l.1)
-          (goes_on-dollar c.row_fixed (decimal (c.at.row + 1)) (all-weaker is_digit is_run_byte digit-goes_on (decimal (c.at.row + 1)) d.1)))
+    (list_all-append is_run_byte (column_letters c.at.col) rest
+    ∙ and_from (list_all is_run_byte (column_letters c.at.col)) (list_all is_run_byte rest)
+    (all-weaker is_ascii_alphabetic is_run_byte letter-goes_on (column_letters c.at.col) l.1)
+    (goes_on-dollar c.row_fixed (decimal (c.at.row + 1)) (all-weaker is_digit is_run_byte digit-goes_on (decimal (c.at.row + 1)) d.1)))
 
 pub lexes-corner : (c : Corner) (cs : List ℕ) (tokens : List Token) → places.IsInside c.at → Stopped cs → Lexes cs tokens → Lexes (corner_text c cs) (tok.Corner (address_of c) ∷ tokens)
 lexes-corner c cs tokens p s l =
     subst (λ x. Lexes x (tok.Corner (address_of c) ∷ tokens)) (sym (corner_text-append c cs))
-      (lexes-run (corner_bytes c) cs (tok.Corner (address_of c)) cs tokens (IsRun-corner c p) s.no_run
-        (run_token-lone (corner_bytes c) cs s ∙ ap (λ a. (lone_token (corner_bytes c) a, cs)) (corner_of-bytes c p)) (omega arith) l)
+    (lexes-run (corner_bytes c) cs (tok.Corner (address_of c)) cs tokens (IsRun-corner c p) s.no_run
+    (run_token-lone (corner_bytes c) cs s ∙ ap (λ a. (lone_token (corner_bytes c) a, cs)) (corner_of-bytes c p)) (omega arith) l)
 
 -- what an address begins with
 pub corner_text-begins : (c : Corner) (cs : List ℕ) → places.IsInside c.at → (w : List ℕ) × (IsRun w × (corner_text c cs ≡ w ++ cs))

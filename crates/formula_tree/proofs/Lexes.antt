@@ -1,32 +1,19 @@
 -- Texts and their tokens, one token at a time. Serves the law that the canonical text spells its tree.
-use Rattle.std.proofs.Common.{◌≡◌, sym, ◌∙◌, ap, refl, arith, ℕ, ℤ, zero, suc, ◌+◌, ◌<◌, ◌≤◌, ◌⊎◌, inl, inr, Bool, true, false, not, ◌&&◌, ◌||◌, ◌==◌, cond, List, [], ◌∷◌, ◌++◌, length, take, drop, Option, Some, None, option_map, append_assoc, length-append, get_or}
-use Rattle.std.specs.Option.{option_and_then}
-use Rattle.std.specs.List.{list_all, prefix_len, take_while, find}
-use Rattle.std.specs.Char.{is_ascii_alphabetic, is_ascii_alphanumeric}
-use Rattle.std.proofs.lemmas.Bool.{and_parts, and_from, and_left, and_right, cond-true, cond-false, eqb-true}
-use Rattle.std.proofs.lemmas.Bool.Decides.{nat_tests}
-use Rattle.std.proofs.lemmas.List.{append-nil}
-use Rattle.std.proofs.Math.Seq.{take-append_seam, drop-append_seam}
+use Rattle.std.proofs.Common.{◌≡◌, refl, arith, ℕ, zero, suc, ◌<◌, ◌≤◌, false, List, [], ◌∷◌, ◌++◌, length, Some}
 use Rattle.digits.specs.Digits.{is_digit}
-use Rattle.digits.proofs.Numerals.{is_digit-bounds}
-use Rattle.cell_addr.specs.SheetName.{is_bare_name, is_name_start, is_name_byte, with_byte}
 use Rattle.cell_value.specs.declared.fault.FaultKind.{FaultKind}
 use Rattle.cell_value.specs.declared.fault.FaultKind.TheVariants as kinds
-use Rattle.cell_value.specs.Fault.{fault_text, faults}
-use Rattle.cell_value.specs.Scalar.{truth_text}
+use Rattle.cell_value.specs.Fault.{fault_text}
 use Rattle.formula_tree.specs.declared.plain.Op.{Op}
 use Rattle.formula_tree.specs.declared.plain.Op.TheVariants as op
 use Rattle.formula_tree.specs.declared.plain.Sign.{Sign}
 use Rattle.formula_tree.specs.declared.plain.Sign.TheVariants as sign
-use Rattle.formula_tree.specs.declared.token.Address.{Address}
 use Rattle.formula_tree.specs.declared.token.Token.{Token}
 use Rattle.formula_tree.specs.declared.token.Token.TheVariants as tok
 use Rattle.formula_tree.specs.Level.{op_of}
-use Rattle.formula_tree.specs.Run.{is_blank, begins_run, is_run_byte, begins_with, begins_with_any, behind, is_word, corner_of, truth_of, word_token, lone_token, is_sheet_behind, is_sheet_run, run_token}
-use Rattle.formula_tree.specs.Tokens.{Front, decimals_length, number_length, begins_number, quoted, text_token, sheet_token, begins_with_fault, fault_token, byte_token, pair_op, sign_token, token_at, tokens_step, tokens_in}
-use Rattle.formula_tree.specs.Canonical.{op_text, sign_text, doubled, between_quotes}
-use Rattle.formula_tree.specs.Proper.{IsName, IsCallWord}
-use Rattle.formula_tree.proofs.Fronts.{prefix_len-append, take_while-append, behind-append, all-weaker}
+use Rattle.formula_tree.specs.Run.{is_blank, is_run_byte, begins_with, begins_with_any, behind}
+use Rattle.formula_tree.specs.Tokens.{token_at, tokens_in}
+use Rattle.formula_tree.specs.Canonical.{op_text, sign_text}
 
 -- the text has these tokens, and each number of steps above its length finds them
 abbrev pub Lexes : List ℕ → List Token → Type 0

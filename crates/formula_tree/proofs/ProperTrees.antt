@@ -1,29 +1,25 @@
 -- Trees that tokens spell are proper. Serves the laws `a_texts_tree_is_proper` and
 -- `a_texts_sheets_are_listed`.
-use Rattle.std.proofs.Common.{◌≡◌, sym, ◌∙◌, ap, subst, refl, arith, ℕ, ℤ, pos, suc, ◌+◌, ◌<◌, ◌≤◌, ◌⊎◌, inl, inr, Bool, true, false, ◌&&◌, ◌||◌, ◌==◌, nat_lt, cond, if◌then◌else◌, List, [], ◌∷◌, map, length, Option, Some, None, Result, Ok, Err}
+use Rattle.std.proofs.Common.{◌≡◌, sym, ◌∙◌, ap, subst, refl, arith, ℕ, ℤ, pos, ◌+◌, ◌<◌, ◌≤◌, inl, inr, Bool, true, false, ◌||◌, ◌==◌, nat_lt, if◌then◌else◌, List, [], ◌∷◌, length, Option, Some, None, Ok, Err}
 use Rattle.std.specs.List.{list_all}
 use Rattle.std.specs.Char.{is_ascii_alphabetic, is_ascii_alphanumeric, to_ascii_uppercase}
 use Rattle.std.proofs.lemmas.Bool.{and_parts, and_from, ltb-true, ltb-false}
 use Rattle.std.proofs.lemmas.Bool.Decides.{nat_tests}
 use Rattle.cell_addr.specs.declared.place.TheConstants.{ROWS, COLS}
 use Rattle.cell_addr.specs.Text.{capitals}
-use Rattle.cell_addr.specs.Place as places
-use Rattle.fix_num.specs.declared.error.NumError.{NumError}
 use Rattle.fix_num.specs.declared.error.NumError.TheVariants.{Range, NotANumber}
 use Rattle.fix_num.specs.Number as numbers
 use Rattle.fix_num.specs.Text.{has_minus, behind_sign, is_unsigned, magnitude, number_of}
 use Rattle.formula_tree.specs.declared.plain.Corner.{Corner}
-use Rattle.formula_tree.specs.declared.plain.Op.{Op}
 use Rattle.formula_tree.specs.declared.token.Address.{Address}
 use Rattle.formula_tree.specs.declared.token.Token.{Token}
-use Rattle.formula_tree.specs.declared.token.Token.TheVariants as tok
-use Rattle.formula_tree.specs.Term.{Term, number, text, truth, fault, cell, area, name, prefix, percent, binary, call, paren, Terms, no_terms, term}
-use Rattle.formula_tree.specs.Level.{level, level_of, percent_level, sign_level, atom_level}
+use Rattle.formula_tree.specs.Term.{Term, number, Terms}
+use Rattle.formula_tree.specs.Level.{level, atom_level}
 use Rattle.formula_tree.specs.Run.{is_word}
-use Rattle.formula_tree.specs.Grammar.{Leaf, a_number, a_text, a_truth, a_fault, a_name, a_corner, a_range, a_sheet_corner, a_sheet_range, Spells, lower, between, behind, before, leaf, inside, alone, called, SpellsAll, last, more, placed, first_of, last_of, cell_on, area_on, SpellsText}
-use Rattle.formula_tree.specs.Proper.{IsProper, AreProper, AreOrdered, IsCallWord, IsListed, SheetsAreListed, AllSheetsAreListed, AreNamed}
+use Rattle.formula_tree.specs.Grammar.{Leaf, a_number, a_text, a_truth, a_fault, a_name, a_corner, a_range, a_sheet_corner, a_sheet_range, Spells, lower, between, behind, before, leaf, inside, alone, called, SpellsAll, last, more, cell_on, area_on}
+use Rattle.formula_tree.specs.Proper.{IsProper, AreProper, IsCallWord, IsListed, SheetsAreListed, AllSheetsAreListed, AreNamed}
 use Rattle.formula_tree.specs.Laws.{SpelledIsProper, SpelledIsListed}
-use Rattle.formula_tree.proofs.FitTokens.{IsFit, AreFit, are-fit}
+use Rattle.formula_tree.proofs.FitTokens.{AreFit, are-fit}
 
 -- a number that is read without a minus sign is proper
 within-proper : (b : Bool) (n : ℕ) (m : ℤ) → nat_lt n 1000000000000000000 ≡ b → (if b then Ok (pos n) else Err Range) ≡ Ok m → IsProper (number m)
@@ -37,7 +33,7 @@ number-proper false n m e = cc
 number_of-proper : (w : List ℕ) (m : ℤ) → has_minus w ≡ false → number_of w ≡ Ok m → IsProper (number m)
 number_of-proper w m h e =
     number-proper (is_unsigned (behind_sign w)) (magnitude (behind_sign w)) m
-      (ap (λ b. if is_unsigned (behind_sign w) then numbers.within (numbers.signed b (magnitude (behind_sign w))) else Err NotANumber) (sym h) ∙ e)
+    (ap (λ b. if is_unsigned (behind_sign w) then numbers.within (numbers.signed b (magnitude (behind_sign w))) else Err NotANumber) (sym h) ∙ e)
 
 -- corners in order
 pick-below : (b : Bool) (x y n : ℕ) → x < n → y < n → (if b then x else y) < n
@@ -55,10 +51,10 @@ proper-cell (Some s) a h = h
 proper-area : (s : Option ℕ) (a b : Address) → (a.row < ROWS) × (a.col < COLS) → (b.row < ROWS) × (b.col < COLS) → IsProper (area_on s a b)
 proper-area None a b h g = tt
 proper-area (Some s) a b h g = (
-    (pick-below (nat_lt b.row a.row) b.row a.row ROWS g.0 h.0, pick-below (nat_lt b.col a.col) b.col a.col COLS g.1 h.1),
-    (pick-below (nat_lt b.row a.row) a.row b.row ROWS h.0 g.0, pick-below (nat_lt b.col a.col) a.col b.col COLS h.1 g.1),
-    (refl, pick-ordered (nat_lt b.row a.row) a.row b.row refl, pick-ordered (nat_lt b.col a.col) a.col b.col refl),
-  )
+  (pick-below (nat_lt b.row a.row) b.row a.row ROWS g.0 h.0, pick-below (nat_lt b.col a.col) b.col a.col COLS g.1 h.1),
+  (pick-below (nat_lt b.row a.row) a.row b.row ROWS h.0 g.0, pick-below (nat_lt b.col a.col) a.col b.col COLS h.1 g.1),
+  (refl, pick-ordered (nat_lt b.row a.row) a.row b.row refl, pick-ordered (nat_lt b.col a.col) a.col b.col refl),
+)
 
 level-cell : (s : Option ℕ) (a : Address) → level (cell_on s a) ≡ atom_level
 level-cell None a = refl
@@ -98,7 +94,6 @@ call_word : (w : List ℕ) → is_word w ≡ true → IsCallWord (capitals w)
 call_word w h = (is_word-capitals w h, capitals-twice w)
 
 module _ (home : ℕ) (find : List ℕ → Option ℕ) where
-
   leaf-proper : {xs : List Token} {t : Term Corner} {zs : List Token} → Leaf home find xs t zs → AreFit xs → (level t ≡ atom_level) × IsProper t × AreFit zs
   leaf-proper (a_number {w = w} {m = m} e) f = (refl, number_of-proper w m f.0 e, f.1)
   leaf-proper a_text f = (refl, tt, f.1)
@@ -115,9 +110,9 @@ module _ (home : ℕ) (find : List ℕ → Option ℕ) where
     proper : {k : ℕ} {xs : List Token} {t : Term Corner} {zs : List Token} → Spells home find k xs t zs → AreFit xs → (k ≤ level t) × IsProper t × AreFit zs
     proper (lower d) f = let p = proper d f in (omega (arith, p.0), p.1, p.2)
     proper (between o d e) f =
-      let p = proper d f in
-      let q = proper e p.2.1 in
-      (omega arith, (p.0, q.0, p.1, q.1), q.2)
+        let p = proper d f in
+        let q = proper e p.2.1 in
+        (omega arith, (p.0, q.0, p.1, q.1), q.2)
     proper (behind d) f = let p = proper d f in (omega arith, (p.0, p.1), p.2.1)
     proper (before s d) f = let p = proper d f.1 in (omega arith, (p.0, p.1), p.2)
     proper (leaf l) f = let p = leaf-proper l f in (omega (arith, p.0), p.1, p.2)
@@ -128,12 +123,11 @@ module _ (home : ℕ) (find : List ℕ → Option ℕ) where
     proper_all : {xs : List Token} {ts : Terms Corner} {zs : List Token} → SpellsAll home find xs ts zs → AreFit xs → AreProper ts × AreFit zs
     proper_all (last d) f = let p = proper d f in ((p.1, tt), p.2.1)
     proper_all (more d ds) f =
-      let p = proper d f in
-      let q = proper_all ds p.2.1 in
-      ((p.1, q.0), q.1)
+        let p = proper d f in
+        let q = proper_all ds p.2.1 in
+        ((p.1, q.0), q.1)
 
   module _ (names : ℕ → Option (List ℕ)) (named : AreNamed names find) where
-
     listed-cell : (s : Option ℕ) (a : Address) → ((n : ℕ) → s ≡ Some n → IsListed home names find n) → SheetsAreListed home names find (cell_on s a)
     listed-cell None a h = tt
     listed-cell (Some n) a h = h n refl

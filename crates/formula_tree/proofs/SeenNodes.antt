@@ -7,7 +7,7 @@ use Rattle.formula_tree.specs.declared.plain.Sign.{Sign}
 use Rattle.formula_tree.specs.declared.plain.Plain.{Plain}
 use Rattle.formula_tree.specs.declared.plain.Plain.TheVariants as plain
 use Rattle.formula_tree.specs.declared.plain.Plain.TheVariants.{rolls-Number, rolls-Text, rolls-Truth, rolls-Fault, rolls-Cell, rolls-Area, rolls-Name, rolls-Prefix, rolls-Percent, rolls-Binary, rolls-Call, rolls-Paren}
-use Rattle.formula_tree.specs.declared.plain.Plain.TheOpen.{Plain-F, PlainList-F}
+use Rattle.formula_tree.specs.declared.plain.Plain.TheOpen.{Plain-F}
 use Rattle.formula_tree.specs.declared.plain.Plain.TheFolds.{fold-roll-Plain, fold_out-PlainList}
 use Rattle.formula_tree.specs.declared.plain.PlainList.{PlainList}
 use Rattle.formula_tree.specs.Term.{Term, number, text, truth, fault, cell, area, name, prefix, percent, binary, call, paren, Terms, terms_of}

@@ -1,19 +1,19 @@
 -- The tokens of a text, one step at a time, with no count of steps. Serves the lexer, and the law that a
 -- text's tree is proper.
-use Rattle.std.proofs.Common.{◌≡◌, sym, ◌∙◌, ap, refl, arith, ℕ, zero, suc, ◌+◌, ◌-◌, ◌<◌, ◌≤◌, Bool, true, false, not, ◌&&◌, ◌||◌, ◌==◌, cond, if◌then◌else◌, List, [], ◌∷◌, ◌++◌, length, take, drop, Option, Some, None, option_map, length-drop}
+use Rattle.std.proofs.Common.{◌≡◌, ◌∙◌, ap, refl, arith, ℕ, zero, suc, ◌+◌, ◌<◌, ◌≤◌, Bool, true, false, ◌==◌, cond, if◌then◌else◌, List, [], ◌∷◌, length, take, drop, Option, Some, None, option_map, length-drop}
 use Rattle.std.specs.Option.{option_and_then}
 use Rattle.std.specs.List.{prefix_len, take_while, find}
 use Rattle.std.proofs.lemmas.Bool.Decides.{nat_tests}
 use Rattle.digits.specs.Digits.{is_digit}
-use Rattle.cell_addr.specs.SheetName.{is_bare_name, with_byte}
+use Rattle.cell_addr.specs.SheetName.{with_byte}
 use Rattle.cell_value.specs.declared.fault.FaultKind.{FaultKind}
 use Rattle.cell_value.specs.declared.fault.FaultKind.TheVariants as kinds
 use Rattle.cell_value.specs.Fault.{fault_text, faults}
 use Rattle.formula_tree.specs.declared.plain.Op.{Op}
 use Rattle.formula_tree.specs.declared.token.Token.{Token}
 use Rattle.formula_tree.specs.declared.token.Token.TheVariants as tok
-use Rattle.formula_tree.specs.Run.{is_blank, begins_run, is_run_byte, begins_with, begins_with_any, behind, is_word, corner_of, lone_token, is_sheet_behind, is_sheet_run, run_token}
-use Rattle.formula_tree.specs.Tokens.{Front, decimals_length, number_length, begins_number, quoted, text_token, sheet_token, begins_with_fault, fault_token, byte_token, pair_op, sign_token, token_at, and_tokens, tokens_step, tokens_in, tokens_of}
+use Rattle.formula_tree.specs.Run.{is_blank, begins_run, is_run_byte, begins_with, behind, is_word, corner_of, lone_token, is_sheet_behind, is_sheet_run, run_token}
+use Rattle.formula_tree.specs.Tokens.{Front, number_length, begins_number, quoted, text_token, sheet_token, begins_with_fault, fault_token, byte_token, pair_op, sign_token, token_at, and_tokens, tokens_step, tokens_in, tokens_of}
 
 -- what stands behind a token is no longer than this
 abbrev Short : ℕ → Front → Type 0
@@ -78,8 +78,8 @@ quoted-shorter q [] = tt
 quoted-shorter q (c ∷ []) = parts-cond 1 (c == q) (Some ([], [])) None (omega arith) tt
 quoted-shorter q (c ∷ d ∷ cs) =
     parts-cond (length (c ∷ d ∷ cs)) (c == q) _ _
-      (parts-cond (length (c ∷ d ∷ cs)) (d == q) _ _ (parts-byte (length cs) (length (c ∷ d ∷ cs)) q (quoted q cs) (omega arith) (quoted-shorter q cs)) (omega arith))
-      (parts-byte (length (d ∷ cs)) (length (c ∷ d ∷ cs)) c (quoted q (d ∷ cs)) (omega arith) (quoted-shorter q (d ∷ cs)))
+    (parts-cond (length (c ∷ d ∷ cs)) (d == q) _ _ (parts-byte (length cs) (length (c ∷ d ∷ cs)) q (quoted q cs) (omega arith) (quoted-shorter q cs)) (omega arith))
+    (parts-byte (length (d ∷ cs)) (length (c ∷ d ∷ cs)) c (quoted q (d ∷ cs)) (omega arith) (quoted-shorter q (d ∷ cs)))
 
 short-text : (n : ℕ) (parts : Option (List ℕ × List ℕ)) → ShortParts n parts → Short n (option_map text_token parts)
 short-text n None s = tt

@@ -1,6 +1,6 @@
 -- The canonical text of a tree: no blanks, capitals, and a sheet's name exactly where the sheet isn't
 -- the home's. Each definition puts a tree in front of what follows it. Source: this project's own.
-use Rattle.std.specs.Prelude.{◌≡◌, ℕ, ◌+◌, Bool, if◌then◌else◌, ◌==◌, List, [], ◌∷◌, ◌++◌, Option, Some, None}
+use Rattle.std.specs.Prelude.{ℕ, ◌+◌, Bool, if◌then◌else◌, ◌==◌, List, [], ◌∷◌, ◌++◌, Option, Some, None}
 use Rattle.std.specs.Fmt.{decimal}
 use Rattle.cell_addr.specs.Address.{column_letters}
 use Rattle.cell_addr.specs.SheetName.{is_bare_name}

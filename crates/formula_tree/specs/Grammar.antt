@@ -33,7 +33,8 @@ first_of a b = record {
   row = if nat_lt b.row a.row then b.row else a.row;
   col = if nat_lt b.col a.col then b.col else a.col;
   row_fixed = if nat_lt b.row a.row then b.row_fixed else a.row_fixed;
-  col_fixed = if nat_lt b.col a.col then b.col_fixed else a.col_fixed }
+  col_fixed = if nat_lt b.col a.col then b.col_fixed else a.col_fixed;
+}
 
 -- and the other row and the other column
 abbrev pub last_of : Address → Address → Address
@@ -41,7 +42,8 @@ last_of a b = record {
   row = if nat_lt b.row a.row then a.row else b.row;
   col = if nat_lt b.col a.col then a.col else b.col;
   row_fixed = if nat_lt b.row a.row then a.row_fixed else b.row_fixed;
-  col_fixed = if nat_lt b.col a.col then a.col_fixed else b.col_fixed }
+  col_fixed = if nat_lt b.col a.col then a.col_fixed else b.col_fixed;
+}
 
 -- a reference on a sheet, or the fault #REF! where there is no such sheet
 abbrev pub cell_on : Option ℕ → Address → Term Corner
@@ -73,23 +75,23 @@ mutual
     lower : {k : ℕ} {xs : List Token} {t : Term Corner} {zs : List Token} → Spells home find (suc k) xs t zs → Spells home find k xs t zs
     -- operators of one level group to the left
     between : (o : Op) {xs : List Token} {l : Term Corner} {ys : List Token} {r : Term Corner} {zs : List Token}
-      → Spells home find (level_of o) xs l (tok.Operator o ∷ ys) → Spells home find (suc (level_of o)) ys r zs → Spells home find (level_of o) xs (binary o l r) zs
+        → Spells home find (level_of o) xs l (tok.Operator o ∷ ys) → Spells home find (suc (level_of o)) ys r zs → Spells home find (level_of o) xs (binary o l r) zs
     behind : {xs : List Token} {t : Term Corner} {zs : List Token}
-      → Spells home find percent_level xs t (tok.Percent ∷ zs) → Spells home find percent_level xs (percent t) zs
+        → Spells home find percent_level xs t (tok.Percent ∷ zs) → Spells home find percent_level xs (percent t) zs
     before : (s : Sign) {xs : List Token} {t : Term Corner} {zs : List Token}
-      → Spells home find sign_level xs t zs → Spells home find sign_level (tok.Operator (op_of s) ∷ xs) (prefix s t) zs
+        → Spells home find sign_level xs t zs → Spells home find sign_level (tok.Operator (op_of s) ∷ xs) (prefix s t) zs
     leaf : {xs : List Token} {t : Term Corner} {zs : List Token} → Leaf home find xs t zs → Spells home find atom_level xs t zs
     inside : {xs : List Token} {t : Term Corner} {zs : List Token}
-      → Spells home find 0 xs t (tok.Close ∷ zs) → Spells home find atom_level (tok.Open ∷ xs) (paren t) zs
+        → Spells home find 0 xs t (tok.Close ∷ zs) → Spells home find atom_level (tok.Open ∷ xs) (paren t) zs
     alone : {w : List ℕ} {zs : List Token} → Spells home find atom_level (tok.Word w ∷ tok.Open ∷ tok.Close ∷ zs) (call (capitals w) no_terms) zs
     called : {w : List ℕ} {xs : List Token} {ts : Terms Corner} {zs : List Token}
-      → SpellsAll home find xs ts zs → Spells home find atom_level (tok.Word w ∷ tok.Open ∷ xs) (call (capitals w) ts) zs
+        → SpellsAll home find xs ts zs → Spells home find atom_level (tok.Word w ∷ tok.Open ∷ xs) (call (capitals w) ts) zs
 
   -- the tokens spell one argument or more, with commas between them, and the closing parenthesis
   pub data SpellsAll (home : ℕ) (find : List ℕ → Option ℕ) : List Token → Terms Corner → List Token → Type 0 where
     last : {xs : List Token} {t : Term Corner} {zs : List Token} → Spells home find 0 xs t (tok.Close ∷ zs) → SpellsAll home find xs (term t no_terms) zs
     more : {xs : List Token} {t : Term Corner} {ys : List Token} {ts : Terms Corner} {zs : List Token}
-      → Spells home find 0 xs t (tok.Comma ∷ ys) → SpellsAll home find ys ts zs → SpellsAll home find xs (term t ts) zs
+        → Spells home find 0 xs t (tok.Comma ∷ ys) → SpellsAll home find ys ts zs → SpellsAll home find xs (term t ts) zs
 
 -- a whole list of tokens spells a tree
 abbrev pub SpellsTokens : ℕ → (List ℕ → Option ℕ) → List Token → Term Corner → Type 0

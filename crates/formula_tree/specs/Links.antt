@@ -7,7 +7,7 @@ use Rattle.cell_addr.specs.Sheets.{same_name}
 use Rattle.formula_tree.specs.declared.plain.Corner.{Corner}
 use Rattle.formula_tree.specs.declared.link.Link.{Link}
 use Rattle.formula_tree.specs.declared.link.Link.TheVariants as links
-use Rattle.formula_tree.specs.Term.{Term, number, text, truth, fault, cell, area, name, prefix, percent, binary, call, paren, Terms, no_terms, term}
+use Rattle.formula_tree.specs.Term.{Term, cell, area, name, prefix, percent, binary, call, paren, Terms, no_terms, term}
 
 -- the items behind those done, without each that is the same as an earlier one
 abbrev pub once_behind : {X : Type 0} → (X → X → Bool) → List X → List X → List X

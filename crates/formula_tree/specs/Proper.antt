@@ -1,6 +1,6 @@
 -- Proper trees: those that the grammar can spell, with operands of the level that it asks.
 -- Source: this project's own.
-use Rattle.std.specs.Prelude.{◌≡◌, ℕ, ◌<◌, ◌≤◌, Bool, true, false, List, Option, Some, None, ◌==◌, ◌⊎◌, IsTrue}
+use Rattle.std.specs.Prelude.{◌≡◌, ℕ, ◌<◌, ◌≤◌, false, List, Option, Some, None, ◌⊎◌, IsTrue}
 use Rattle.cell_addr.specs.Text.{capitals}
 use Rattle.cell_addr.specs.Place as places
 use Rattle.fix_num.specs.Number as numbers

@@ -1,5 +1,4 @@
 -- What a tree of the program stands for: its term, without boxes.
-use Rattle.std.specs.Prelude.{List, map}
 use Rattle.formula_tree.specs.Term.{Term, number, text, truth, fault, cell, area, name, prefix, percent, binary, call, paren, Terms, terms_of}
 use Rattle.formula_tree.specs.declared.plain.Corner.{Corner}
 use Rattle.formula_tree.specs.declared.plain.Plain.{Plain}

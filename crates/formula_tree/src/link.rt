@@ -8,12 +8,10 @@ ghost use Rattle.formula_tree.specs.Seen.{seen, seen_list};
 ghost use Rattle.formula_tree.specs.StandsFor.{StandsFor};
 ghost use Rattle.formula_tree.specs.declared.plain.Corner.{Corner};
 
-use std::alloc::{AllocError, Global};
-
-use cell_addr::{Block, Place, Text, same_folded};
-
 use crate::plain::{Corner, Home, Plain, PlainList};
 use crate::tree::Tree;
+use cell_addr::{Block, Place, Text, same_folded};
+use std::alloc::{AllocError, Global};
 
 /// What the value of a formula depends on.
 #[derive(Drop, Debug)]
@@ -86,7 +84,11 @@ impl Plain {
                 right.add_links(links)?;
             }
             Plain::Call(word, list) => list.add_links(is_place_word(word), links)?,
-            Plain::Number(_) | Plain::Text(_) | Plain::Truth(_) | Plain::Fault(_) | Plain::Name(_) => {}
+            Plain::Number(_)
+            | Plain::Text(_)
+            | Plain::Truth(_)
+            | Plain::Fault(_)
+            | Plain::Name(_) => {}
         }
         Ok(())
     }
@@ -104,7 +106,11 @@ impl Plain {
     {
         match self {
             Plain::Cell(_) | Plain::Area(_, _) => true,
-            Plain::Number(_) | Plain::Text(_) | Plain::Truth(_) | Plain::Fault(_) | Plain::Name(_) => false,
+            Plain::Number(_)
+            | Plain::Text(_)
+            | Plain::Truth(_)
+            | Plain::Fault(_)
+            | Plain::Name(_) => false,
             Plain::Prefix(_, _) | Plain::Percent(_) | Plain::Paren(_) => false,
             Plain::Binary(_, _, _) | Plain::Call(_, _) => false,
         }
@@ -175,7 +181,10 @@ fn block_between(first: Corner, last: Corner) -> Block
 fn is_place_word(word: &Text) -> bool
     ensures { result ≡ is_place_word word.now }
 {
-    word.as_str() == "ROW" || word.as_str() == "COLUMN" || word.as_str() == "ROWS" || word.as_str() == "COLUMNS"
+    word.as_str() == "ROW"
+        || word.as_str() == "COLUMN"
+        || word.as_str() == "ROWS"
+        || word.as_str() == "COLUMNS"
 }
 
 // Puts a name behind the others, unless it stands there already.

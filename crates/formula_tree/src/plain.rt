@@ -3,11 +3,10 @@ ghost use Rattle.std.specs.Prelude.{◌≡◌, min, List, [], ◌∷◌, ◌++�
 ghost use Rattle.formula_tree.specs.Term.{depth_of, depth_of_all};
 ghost use Rattle.formula_tree.specs.Seen.{seen, seen_list};
 
-use std::alloc::{AllocError, Global};
-
 use cell_addr::{Place, Text};
 use cell_value::FaultKind;
 use fix_num::Fixed;
+use std::alloc::{AllocError, Global};
 
 /// Where a formula stands.
 #[derive(Clone, Copy, PartialEq, Eq, Debug)]
@@ -164,7 +163,10 @@ impl Plain {
             Plain::Cell(corner) => Ok(Plain::Cell(*corner)),
             Plain::Area(first, last) => Ok(Plain::Area(*first, *last)),
             Plain::Name(name) => Ok(Plain::Name(name.copy(alloc)?)),
-            Plain::Prefix(sign, part) => Ok(Plain::Prefix(*sign, Box::new(alloc, part.copy(alloc)?)?)),
+            Plain::Prefix(sign, part) => Ok(Plain::Prefix(
+                *sign,
+                Box::new(alloc, part.copy(alloc)?)?,
+            )),
             Plain::Percent(part) => Ok(Plain::Percent(Box::new(alloc, part.copy(alloc)?)?)),
             Plain::Binary(op, left, right) => {
                 let left = Box::new(alloc, left.copy(alloc)?)?;

@@ -1,4 +1,6 @@
-use crate::{Corner, Home, Link, Op, Plain, PlainList, Pool, depth, names_of, places_of, to_absolute};
+use crate::{
+    Corner, Home, Link, Op, Plain, PlainList, Pool, depth, names_of, places_of, to_absolute,
+};
 use cell_addr::{NO_SHEET, Place, Text};
 use std::alloc::{AllocError, Global};
 use std::test::Fail;
@@ -27,7 +29,12 @@ fn call(alloc: Global, word: &str, first: Plain, second: Plain) -> Result<Plain,
 
 /// The tree of `=SUM(B2,ROWS(A1:C3,Rate))+RATE+(B2:B2)`.
 fn sum_of_rows(alloc: Global) -> Result<Plain, AllocError> {
-    let rows = call(alloc, "ROWS", Plain::Area(corner(0, 0), corner(2, 2)), name(alloc, "Rate")?)?;
+    let rows = call(
+        alloc,
+        "ROWS",
+        Plain::Area(corner(0, 0), corner(2, 2)),
+        name(alloc, "Rate")?,
+    )?;
     let sum = Box::new(alloc, call(alloc, "SUM", Plain::Cell(corner(1, 1)), rows)?)?;
     let rate = Box::new(alloc, name(alloc, "RATE")?)?;
     let left = Box::new(alloc, Plain::Binary(Op::Add, sum, rate))?;

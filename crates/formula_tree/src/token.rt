@@ -1,8 +1,7 @@
 // The tokens of formulas' texts.
+use crate::plain::Op;
 use cell_addr::Text;
 use cell_value::FaultKind;
-
-use crate::plain::Op;
 
 /// An address as written in a formula, without a sheet: its row and its column, counted from 0, and
 /// which of them have a `$` in front. It lies within the limits of a sheet.

@@ -5,10 +5,9 @@ ghost use Rattle.formula_tree.specs.Seen.{seen};
 ghost use Rattle.formula_tree.specs.StandsFor.{StandsFor};
 ghost use Rattle.formula_tree.specs.declared.plain.Corner.{Corner};
 
+use crate::plain::{Home, Plain};
 use std::alloc::{AllocError, Global};
 use std::rc::Rc;
-
-use crate::plain::{Home, Plain};
 
 /// The tree of a formula, shared by all formulas that have it. What it stands for depends on the home
 /// of the formula.

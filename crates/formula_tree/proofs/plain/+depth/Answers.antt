@@ -1,7 +1,7 @@
-use Rattle.std.proofs.Common.{◌≡◌, ◌≤◌, sym, ◌∙◌, ap, min, max, arith, List, [], map, drop, length}
+use Rattle.std.proofs.Common.{◌≡◌, min, max, arith, [], drop}
 use Rattle.std.proofs.lemmas.List.{drop_all}
-use Rattle.formula_tree.specs.Term.{depth_of_all, terms_of}
-use Rattle.formula_tree.specs.Seen.{seen, seen_list}
+use Rattle.formula_tree.specs.Term.{depth_of_all}
+use Rattle.formula_tree.specs.Seen.{seen_list}
 use Rattle.formula_tree.proofs.plain.+depth.Goals as goal
 
 pub PlainList::deepest-returns : goal.PlainList::deepest-returns
