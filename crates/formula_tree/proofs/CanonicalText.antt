@@ -23,7 +23,7 @@ use Rattle.formula_tree.specs.Proper.{IsProper, AreProper}
 use Rattle.formula_tree.specs.Laws.{CanonicalSpells}
 use Rattle.formula_tree.proofs.Lexes.{Lexes, lexes-nil, Stopped, stopped-nil, stopped-close, stopped-comma, stopped-colon, stopped-percent, stopped-op, lexes-open, lexes-close, lexes-comma, lexes-colon, lexes-percent, lexes-sign, IsApart, lexes-op, lexes-fault}
 use Rattle.formula_tree.proofs.LexedNumbers.{lexes-number, number-begins, lexes-text, lexes-quoted_sheet}
-use Rattle.formula_tree.proofs.LexedRuns.{IsRun, IsRun-word, IsRun-bare, lexes-name, lexes-truth, lexes-word, lexes-bare_sheet, lexes-corner, corner_text-begins}
+use Rattle.formula_tree.proofs.LexedRuns.{IsRun, run-not_blank, IsRun-word, IsRun-bare, lexes-name, lexes-truth, lexes-word, lexes-bare_sheet, lexes-corner, corner_text-begins}
 use Rattle.formula_tree.proofs.Written.{address_of, sheet_tokens, written, written_all, written_more, spelt-canonical}
 
 -- no tree's text begins with `=` or `>`
@@ -37,16 +37,13 @@ begins_run-not_equal c h = grind (arith, nat_tests)
 begins_run-not_greater : (c : ℕ) → begins_run c ≡ true → (c == 62) ≡ false
 begins_run-not_greater c h = grind (arith, nat_tests)
 
-begins_run-not_blank : (c : ℕ) → begins_run c ≡ true → is_blank c ≡ false
-begins_run-not_blank c h = grind (arith, nat_tests)
-
 run-apart : (w rest : List ℕ) → IsRun w → IsApart (w ++ rest)
 run-apart [] rest r = absurd r
 run-apart (c ∷ w) rest r = (begins_run-not_equal c r.0, begins_run-not_greater c r.0)
 
 run-no_blank : (w rest : List ℕ) → IsRun w → begins_with_any is_blank (w ++ rest) ≡ false
 run-no_blank [] rest r = absurd r
-run-no_blank (c ∷ w) rest r = begins_run-not_blank c r.0
+run-no_blank (c ∷ w) rest r = run-not_blank c r.0
 
 fault-apart : (f : FaultKind) (cs : List ℕ) → IsApart (fault_text f ++ cs)
 fault-apart kinds.Div0 cs = (refl, refl)

@@ -1,5 +1,6 @@
 -- What the tokens spell, the reader reads. Serves the law that the reader is exact.
 use Rattle.std.proofs.Common.{◌≡◌, ◌∙◌, ap, refl, arith, ℕ, zero, suc, ◌+◌, ◌-◌, ◌<◌, ◌≤◌, true, false, nat_lt, List, [], ◌∷◌, ◌++◌, length, Option, Some, None, append_assoc}
+use Rattle.std.proofs.lemmas.Bool.{lt-ltb, le-ltb}
 use Rattle.cell_addr.specs.Text.{capitals}
 use Rattle.formula_tree.specs.declared.plain.Corner.{Corner}
 use Rattle.formula_tree.specs.declared.plain.Op.{Op}
@@ -110,19 +111,13 @@ after_colon-stops k (tok.Operator o ∷ zs) s = refl
 after_colon-stops k (tok.Percent ∷ zs) s = refl
 after_colon-stops k (x ∷ zs) s = absurd s
 
-lt-true : (m n : ℕ) → m < n → nat_lt m n ≡ true
-lt-true m n h = grind arith
-
-le-false : (m n : ℕ) → n ≤ m → nat_lt m n ≡ false
-le-false m n h = grind arith
-
 -- where the tree stops, the climb ends
 climb-stops : (R : ℕ → List Token → Read) (n k : ℕ) (t : Term Corner) (zs : List Token) → 0 < n → Stops k zs → climb R n k t zs ≡ Some (t, zs)
 climb-stops R n k t [] h s = climb_more R n k t [] h
 climb-stops R n k t (tok.Close ∷ zs) h s = climb_more R n k t (tok.Close ∷ zs) h
 climb-stops R n k t (tok.Comma ∷ zs) h s = climb_more R n k t (tok.Comma ∷ zs) h
-climb-stops R n k t (tok.Operator o ∷ zs) h s = climb_more R n k t (tok.Operator o ∷ zs) h ∙ rw (lt-true (level_of o) k s) refl
-climb-stops R n k t (tok.Percent ∷ zs) h s = climb_more R n k t (tok.Percent ∷ zs) h ∙ rw (lt-true percent_level k s) refl
+climb-stops R n k t (tok.Operator o ∷ zs) h s = climb_more R n k t (tok.Operator o ∷ zs) h ∙ rw (lt-ltb (level_of o) k s) refl
+climb-stops R n k t (tok.Percent ∷ zs) h s = climb_more R n k t (tok.Percent ∷ zs) h ∙ rw (lt-ltb percent_level k s) refl
 climb-stops R n k t (x ∷ zs) h s = absurd s
 
 module _ (home : ℕ) (find : List ℕ → Option ℕ) where
@@ -232,14 +227,14 @@ module _ (home : ℕ) (find : List ℕ → Option ℕ) where
   climb-binary R o l ys r zs j m h e =
       let n : suc m - 1 ≡ m = omega arith in
       climb_more R (suc m) j l (tok.Operator o ∷ ys) (omega arith)
-      ∙ rw (le-false (level_of o) j h, e) (ap (λ x. climb R x j (binary o l r) zs) n)
+      ∙ rw (le-ltb (level_of o) j h, e) (ap (λ x. climb R x j (binary o l r) zs) n)
 
   climb-percent : (R : ℕ → List Token → Read) (t : Term Corner) (zs : List Token) (j m : ℕ)
       → j ≤ percent_level → climb R (suc m) j t (tok.Percent ∷ zs) ≡ climb R m j (percent t) zs
   climb-percent R t zs j m h =
       let n : suc m - 1 ≡ m = omega arith in
       climb_more R (suc m) j t (tok.Percent ∷ zs) (omega arith)
-      ∙ rw (le-false percent_level j h) (ap (λ x. climb R x j (percent t) zs) n)
+      ∙ rw (le-ltb percent_level j h) (ap (λ x. climb R x j (percent t) zs) n)
 
   first-signed : (R : ℕ → List Token → Read) (s : Sign) (xs : List Token) (t : Term Corner) (zs : List Token)
       → R sign_level xs ≡ Some (t, zs) → first home find R (tok.Operator (op_of s) ∷ xs) ≡ Some (prefix s t, zs)

@@ -34,7 +34,7 @@ abbrev pub IsRun : List ℕ → Type 0
 IsRun [] = ⊥
 IsRun (c ∷ cs) = (begins_run c ≡ true) × (list_all is_run_byte (c ∷ cs) ≡ true)
 
-run-not_blank : (c : ℕ) → begins_run c ≡ true → is_blank c ≡ false
+pub run-not_blank : (c : ℕ) → begins_run c ≡ true → is_blank c ≡ false
 run-not_blank c h = grind (arith, nat_tests)
 
 run-front : (c : ℕ) (w cs : List ℕ) → IsRun (c ∷ w) → begins_with_any is_run_byte cs ≡ false → token_at c (w ++ cs) ≡ Some (run_token (c ∷ w) cs)

@@ -128,6 +128,30 @@ impl PlainList {
     {
         self.list.as_slice()
     }
+
+    /// Equal arguments, in the same order.
+    #[cycle(copy)]
+    pub fn copy(&self, alloc: Global) -> Result<PlainList, AllocError>
+        ensures { IfOk result (λ copy. seen_list copy ≡ seen_list self.now) }
+    {
+        let mut copies = PlainList::new(alloc);
+        'arguments: for argument in self.list.as_slice() {
+            copies.push(argument.copy(alloc)?)?;
+        }
+        Ok(copies)
+    }
+
+    /// The levels of the deepest argument, at most `u32::MAX`; 0 where there is none.
+    #[cycle(depth)]
+    fn deepest(&self) -> u32
+        ensures { result ≡ min (depth_of_all (seen_list self.now)) u32.MAX }
+    {
+        let mut deepest = 0;
+        'arguments: for argument in self.list.as_slice() {
+            deepest = deepest.max(argument.depth());
+        }
+        deepest
+    }
 }
 
 impl Plain {
@@ -147,9 +171,7 @@ impl Plain {
             Plain::Call(_, list) => list.deepest().saturating_add(1),
         }
     }
-}
 
-impl Plain {
     /// An equal tree.
     #[cycle(copy)]
     pub fn copy(&self, alloc: Global) -> Result<Plain, AllocError>
@@ -176,33 +198,5 @@ impl Plain {
             Plain::Call(word, list) => Ok(Plain::Call(word.copy(alloc)?, list.copy(alloc)?)),
             Plain::Paren(part) => Ok(Plain::Paren(Box::new(alloc, part.copy(alloc)?)?)),
         }
-    }
-}
-
-impl PlainList {
-    /// Equal arguments, in the same order.
-    #[cycle(copy)]
-    pub fn copy(&self, alloc: Global) -> Result<PlainList, AllocError>
-        ensures { IfOk result (λ copy. seen_list copy ≡ seen_list self.now) }
-    {
-        let mut copies = PlainList::new(alloc);
-        'arguments: for argument in self.list.as_slice() {
-            copies.push(argument.copy(alloc)?)?;
-        }
-        Ok(copies)
-    }
-}
-
-impl PlainList {
-    /// The levels of the deepest argument, at most `u32::MAX`; 0 where there is none.
-    #[cycle(depth)]
-    fn deepest(&self) -> u32
-        ensures { result ≡ min (depth_of_all (seen_list self.now)) u32.MAX }
-    {
-        let mut deepest = 0;
-        'arguments: for argument in self.list.as_slice() {
-            deepest = deepest.max(argument.depth());
-        }
-        deepest
     }
 }
