@@ -1,5 +1,5 @@
 -- What the ends of blocks say of the places that they cover. Serves `meets` and `contains`.
-use Rattle.std.proofs.Common.{◌≡◌, ◌<◌, ◌≤◌, min, max, arith, sym, ◌∙◌, refl}
+use Rattle.std.proofs.Common.{max, arith, sym, ◌∙◌, refl}
 use Rattle.cell_addr.specs.declared.place.Place.{Place}
 use Rattle.cell_addr.specs.declared.place.Block.{Block}
 use Rattle.cell_addr.specs.Place.{Covers, CoverOne, CoversAllOf, IsInOrder, Overlap, Spans}

@@ -1,14 +1,13 @@
 -- A finite map by the entries of a `BTreeMap`: look-ups, changes at one key, and the entries in order.
 -- Serves the structs that hold such a map and stand for a finite map.
-use Rattle.std.proofs.Common.{◌≡◌, ◌∙◌, sym, ap, refl, arith, cond, length, List, [], ◌∷◌, Option, Some, None}
+use Rattle.std.proofs.Common.{◌≡◌, ◌∙◌, sym, ap, refl, arith, cond, length, List, [], ◌∷◌, Some, None}
 use Rattle.std.specs.declared.cmp.Ordering.{Ordering}
-use Rattle.std.specs.declared.cmp.Ordering.TheVariants.{Less}
 use Rattle.std.specs.Ordering.{is_eq, eq_by_cmp}
 use Rattle.std.specs.Cmp.{IsTotalOrder, eq_by_cmp_equiv}
 use Rattle.std.specs.List.Sorted.{IsStrictlySortedBy}
 use Rattle.std.specs.Map.{lookup, keys_of}
 use Rattle.std.specs.BTreeMap.{is_at}
-use Rattle.std.specs.FinMap.{FinMap, find, IsAntisymmetric, from_entries, empty, entries, get, insert, remove, same_map, get-from_entries, get-insert, get-remove, entries-insert, len-entries, len-empty}
+use Rattle.std.specs.FinMap.{find, IsAntisymmetric, from_entries, empty, entries, get, insert, remove, same_map, get-from_entries, get-insert, get-remove, entries-insert, len-entries, len-empty}
 use Rattle.std.specs.FinMap.Entries.{put, by_order}
 
 module _ {K X : Type 0} (R : K → K → Ordering) where

@@ -1,6 +1,6 @@
 -- What the limits of a sheet are: the few facts that rest on their numbers.
-use Rattle.std.proofs.Common.{◌≡◌, refl, arith, ◌+◌, ◌*◌, ◌^◌, ◌<◌, ◌≤◌}
-use Rattle.cell_addr.specs.declared.place.TheConstants.{ROWS, COLS, NO_SHEET}
+use Rattle.std.proofs.Common.{◌≡◌, refl, arith, ◌+◌, ◌*◌, ◌^◌, ◌<◌}
+use Rattle.cell_addr.specs.declared.place.TheConstants.{ROWS, COLS}
 
 -- the columns are those of one letter, of two and of three
 pub COLS-letters : COLS ≡ 26 + 26 * 26 + 26 * 26 * 26

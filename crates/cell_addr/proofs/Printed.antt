@@ -1,20 +1,19 @@
 -- The texts of columns and places, and what they are read back as. Serves the laws of printing.
-use Rattle.std.proofs.Common.{◌≡◌, ◌∙◌, sym, ap, refl, arith, rules, ℕ, zero, suc, ◌+◌, ◌-◌, ◌*◌, ◌/◌, ◌%◌, ◌^◌, ◌<◌, ◌≤◌, ◌⊎◌, inl, inr, Bool, true, false, cond, not, ◌&&◌, ◌||◌, eqb, ltb, leb, List, [], ◌∷◌, ◌++◌, length, take, drop, get_or, Option, Some, None, option_map}
-use Rattle.std.specs.List.{list_all, list_any, prefix_len}
-use Rattle.std.specs.Char.{is_ascii_alphabetic, is_ascii_alphanumeric, is_ascii_uppercase, to_ascii_uppercase}
+use Rattle.std.proofs.Common.{◌≡◌, ◌∙◌, sym, ap, refl, arith, ℕ, ◌+◌, ◌-◌, ◌*◌, ◌/◌, ◌%◌, ◌^◌, ◌<◌, ◌≤◌, Bool, true, false, cond, not, eqb, ltb, List, [], ◌∷◌, length, get_or, Some, None, option_map}
+use Rattle.std.specs.List.{list_all, list_any}
+use Rattle.std.specs.Char.{is_ascii_alphabetic, is_ascii_alphanumeric, is_ascii_uppercase}
 use Rattle.std.specs.Option.{option_and_then}
 use Rattle.std.specs.Fmt.{decimal}
-use Rattle.std.proofs.lemmas.Bool.{cases_lt, ltb-true, ltb-false, cond-true, cond-false, both_ways, or_from, and_from, and_parts, eqb-true, le-leb, lt-ltb, le-ltb, ne_eqb, false_from_ne_true}
+use Rattle.std.proofs.lemmas.Bool.{ltb-true, ltb-false, cond-true, cond-false, both_ways, or_from, and_from, and_parts, eqb-true, le-leb, ne_eqb, false_from_ne_true}
 use Rattle.std.proofs.lemmas.Bool.Decides.{nat_tests}
 use Rattle.std.proofs.lemmas.Fmt.{decimal_nonempty, first_decimal, length-decimal-le}
 use Rattle.std.proofs.lemmas.List.Folds.{list_all-append}
-use Rattle.std.proofs.Math.Seq.{take-append_seam, drop-append_seam}
 use Rattle.digits.specs.Digits.{is_digit, value}
 use Rattle.digits.proofs.Printed.{value-decimal, list_all-decimal}
 use Rattle.digits.proofs.Numerals.{is_digit-bounds}
 use Rattle.cell_addr.proofs.Addresses.{address_of-append}
 use Rattle.cell_addr.specs.Address.{letter_number, letters_number, capital, column_letters, place_letters, is_column, is_row, column_of, row_of, address_of, is_colon, spot_at, area_of, on_sheet, area_on_sheet, spot_of}
-use Rattle.cell_addr.specs.SheetName.{split_first, behind_first, bare, sheet_by, sheet_and_rest}
+use Rattle.cell_addr.specs.SheetName.{split_first, behind_first, bare_sheet, sheet_by_start, sheet_and_rest}
 
 letter_number-capital : (n : ℕ) → n < 26 → letter_number (capital n) ≡ n + 1
 letter_number-capital n h = grind (arith, nat_tests)
@@ -153,8 +152,8 @@ behind_first-absent c (x ∷ xs) n h =
 -- an address of letters and digits alone is the spot of one corner on no sheet
 pub spot_of-address : (text : List ℕ) (at : ℕ × ℕ) → list_all is_ascii_alphanumeric text ≡ true → address_of text ≡ Some at → spot_of text ≡ Some (spot_at at)
 spot_of-address text at h e =
-    let no_quote : sheet_and_rest text ≡ sheet_by text None = ap (sheet_by text) (behind_first-absent 39 text refl h) in
-    let no_sheet : sheet_by text None ≡ Some (None, text) = ap (bare text) (split_first-absent 33 text refl h) in
+    let no_quote : sheet_and_rest text ≡ sheet_by_start text None = ap (sheet_by_start text) (behind_first-absent 39 text refl h) in
+    let no_sheet : sheet_by_start text None ≡ Some (None, text) = ap (bare_sheet text) (split_first-absent 33 text refl h) in
     let no_colon : area_of text ≡ option_map spot_at (address_of text) = cond-false (list_any is_colon text) _ _ (list_any-absent 58 text refl h) in
     ap (option_and_then area_on_sheet) (no_quote ∙ no_sheet) ∙ ap (option_map (on_sheet None)) (no_colon ∙ ap (option_map spot_at) e)
 

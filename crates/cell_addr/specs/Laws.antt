@@ -1,8 +1,7 @@
 -- What holds of the definitions as a whole: what is printed is read back, and what is listed is found.
-use Rattle.std.specs.Prelude.{◌≡◌, ◌<◌, ◌≤◌, ◌↔◌, ℕ, ◌+◌, Bool, true, List, [], ◌∷◌, ◌++◌, length, Option, Some, None, Contains}
+use Rattle.std.specs.Prelude.{◌≡◌, ◌<◌, ◌≤◌, ◌↔◌, ℕ, true, List, ◌∷◌, ◌++◌, length, Some, None, Contains}
 use Rattle.std.specs.List.{list_all}
 use Rattle.std.specs.Char.{is_ascii_uppercase}
-use Rattle.std.specs.Fmt.{decimal}
 use Rattle.cell_addr.specs.declared.place.Place.{Place}
 use Rattle.cell_addr.specs.declared.place.TheConstants.{COLS}
 use Rattle.cell_addr.specs.Place.{IsInside}

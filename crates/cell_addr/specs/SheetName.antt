@@ -1,6 +1,6 @@
 -- Names of sheets in front of `!`: bare, or between apostrophes. Source: OpenFormula's quoted sheet
 -- names, and this project's own rule for bare ones.
-use Rattle.std.specs.Prelude.{◌≡◌, ◌≢◌, ℕ, Bool, not, ◌&&◌, ◌||◌, if◌then◌else◌, ◌==◌, List, [], ◌∷◌, ◌++◌, length, slice_index, Option, Some, None, option_and_then}
+use Rattle.std.specs.Prelude.{ℕ, Bool, not, ◌&&◌, ◌||◌, if◌then◌else◌, ◌==◌, List, [], ◌∷◌, length, slice_index, Option, Some, None, option_and_then}
 use Rattle.std.specs.Option.{option_map}
 use Rattle.std.specs.List.{list_all}
 use Rattle.std.specs.Char.{is_ascii_alphabetic, is_ascii_alphanumeric}
@@ -45,20 +45,20 @@ quoted (c ∷ d ∷ cs) = if c == 39
     else with_byte c (quoted (d ∷ cs))
 
 -- a name that was read between apostrophes, and behind it at once `!` and the rest
-abbrev pub closed : List ℕ × List ℕ → Option (Option (List ℕ) × List ℕ)
-closed (name, rest) = option_map (λ area. (Some name, area)) (behind_first 33 rest)
+abbrev pub quoted_sheet : List ℕ × List ℕ → Option (Option (List ℕ) × List ℕ)
+quoted_sheet (name, rest) = option_map (λ area. (Some name, area)) (behind_first 33 rest)
 
 -- the bare name in front of the first `!`, and the rest; a text without `!` has no name
-abbrev pub bare : List ℕ → Option (List ℕ × List ℕ) → Option (Option (List ℕ) × List ℕ)
-bare text None = Some (None, text)
-bare text (Some (name, area)) = if is_bare_name name then Some (Some name, area) else None
+abbrev pub bare_sheet : List ℕ → Option (List ℕ × List ℕ) → Option (Option (List ℕ) × List ℕ)
+bare_sheet text None = Some (None, text)
+bare_sheet text (Some (name, area)) = if is_bare_name name then Some (Some name, area) else None
 
--- the same, by what stands behind an apostrophe at the text's start
-abbrev pub sheet_by : List ℕ → Option (List ℕ) → Option (Option (List ℕ) × List ℕ)
-sheet_by text None = bare text (split_first 33 text)
-sheet_by text (Some behind) = option_and_then closed (quoted behind)
+-- the sheet's name and the rest, by what stands behind an apostrophe that the text begins with, if one does
+abbrev pub sheet_by_start : List ℕ → Option (List ℕ) → Option (Option (List ℕ) × List ℕ)
+sheet_by_start text None = bare_sheet text (split_first 33 text)
+sheet_by_start text (Some behind) = option_and_then quoted_sheet (quoted behind)
 
 -- the sheet's name that a text begins with, or none, and the rest behind its `!`; nothing where the
 -- name has no such form
 abbrev pub sheet_and_rest : List ℕ → Option (Option (List ℕ) × List ℕ)
-sheet_and_rest text = sheet_by text (behind_first 39 text)
+sheet_and_rest text = sheet_by_start text (behind_first 39 text)

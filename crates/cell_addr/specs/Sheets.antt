@@ -1,6 +1,6 @@
 -- Lists of sheets: what number and name belong together. Source: this project's own; names are compared
 -- with ASCII letters folded.
-use Rattle.std.specs.Prelude.{◌≡◌, ◌≢◌, ℕ, Bool, if◌then◌else◌, ◌==◌, List, [], ◌∷◌, Option, Some, None, bytes_eq, AllPairs, Contains}
+use Rattle.std.specs.Prelude.{◌≢◌, ℕ, Bool, if◌then◌else◌, ◌==◌, List, [], ◌∷◌, Option, Some, None, bytes_eq, AllPairs}
 use Rattle.std.proofs.Common.{arith}
 use Rattle.cell_addr.specs.Text.{folded}
 

@@ -2,7 +2,7 @@
 use Rattle.std.proofs.Common.{◌≡◌, ◌↔◌, ◌∙◌, sym, ap, refl, subst, ℕ, ℤ, pos, Bool, false, List, [], Ok}
 use Rattle.std.specs.declared.cmp.Ordering.{Ordering}
 use Rattle.std.specs.declared.cmp.Ordering.TheVariants.{Less, Equal, Greater}
-use Rattle.std.specs.Ordering.{is_eq, nat_cmp, int_cmp, bool_cmp, ordering_then, ordering_reverse, then_cmp, on}
+use Rattle.std.specs.Ordering.{is_eq, nat_cmp, int_cmp, bool_cmp, ordering_then, then_cmp, on}
 use Rattle.std.specs.Cmp.{IsTotalOrder, Equal-is, on_total, then_total, nat_cmp_total, int_cmp_total, bool_cmp_total}
 use Rattle.std.specs.Cmp.Lexicographic.{slice_cmp, on_texts, texts_ties, bytes_decides}
 use Rattle.cell_addr.specs.Text.{folded}
@@ -13,11 +13,10 @@ use Rattle.cell_value.specs.Laws.{IsValue, IsNoFault, IsNumeric, IsTextual, IsLo
 
 -- lists of bytes are equal exactly where their order answers so
 pub bytes_equal : (xs ys : List ℕ) → (slice_cmp nat_cmp xs ys ≡ Equal) ↔ (xs ≡ ys)
-bytes_equal xs ys =
-    (
-      λ e. (bytes_decides xs ys).0 (texts_ties xs ys ∙ ap is_eq e),
-      λ e. (Equal-is (slice_cmp nat_cmp xs ys)).0 (sym (texts_ties xs ys) ∙ (bytes_decides xs ys).1 e),
-    )
+bytes_equal xs ys = (
+  λ e. (bytes_decides xs ys).0 (texts_ties xs ys ∙ ap is_eq e),
+  λ e. (Equal-is (slice_cmp nat_cmp xs ys)).0 (sym (texts_ties xs ys) ∙ (bytes_decides xs ys).1 e),
+)
 
 -- the order of texts is total
 pub text_order_total : IsTotalOrder text_order
@@ -67,7 +66,7 @@ value_order-by_parts a b = refl
 pub value_order_total : IsTotalOrder value_order
 value_order_total =
     let parts : IsTotalOrder by_parts =
-      then_total (on_total kind_rank nat_cmp_total) (then_total (on_total number_in int_cmp_total) (then_total (on_total text_in text_order_total) (on_total truth_in bool_cmp_total))) in
+    then_total (on_total kind_rank nat_cmp_total) (then_total (on_total number_in int_cmp_total) (then_total (on_total text_in text_order_total) (on_total truth_in bool_cmp_total))) in
     subst IsTotalOrder (λ i a b. value_order-by_parts a b i) parts
 
 -- where each scalar counts as f of it, the order of the three is that of values
@@ -78,12 +77,12 @@ ordered_by f a b c ab ba bc ac =
     record {
       compared = (value_order (f a) (f b), ab, ba ∙ ap Ok (o.antisymm (f b) (f a)));
       chained = λ h k.
-        let p : value_order (f a) (f b) ≡ Less = cc in
-        let q : value_order (f b) (f c) ≡ Less = cc in
-        ac ∙ ap Ok (o.trans (f a) (f b) (f c) p q);
+          let p : value_order (f a) (f b) ≡ Less = cc in
+          let q : value_order (f b) (f c) ≡ Less = cc in
+          ac ∙ ap Ok (o.trans (f a) (f b) (f c) p q);
       alike = λ h.
-        let p : value_order (f a) (f b) ≡ Equal = cc in
-        ac ∙ ap Ok (o.congr (f a) (f b) (f c) p) ∙ sym bc;
+          let p : value_order (f a) (f b) ≡ Equal = cc in
+          ac ∙ ap Ok (o.congr (f a) (f b) (f c) p) ∙ sym bc;
     }
 
 -- what Empty counts as beside values of one kind

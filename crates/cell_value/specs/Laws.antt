@@ -4,11 +4,12 @@ use Rattle.std.specs.declared.cmp.Ordering.{Ordering}
 use Rattle.std.specs.declared.cmp.Ordering.TheVariants.{Less, Equal}
 use Rattle.std.specs.Ordering.{ordering_reverse}
 use Rattle.cell_addr.specs.Text.{folded}
+use Rattle.fix_num.specs.Number.{IsInside}
 use Rattle.cell_value.specs.declared.fault.FaultKind.{FaultKind}
 use Rattle.cell_value.specs.declared.scalar.Scalar.{Scalar}
 use Rattle.cell_value.specs.declared.scalar.Scalar.TheVariants.{Empty, Number, Text, Truth, Fault}
 use Rattle.cell_value.specs.Fault.{fault_named, fault_text}
-use Rattle.cell_value.specs.Scalar.{order_of, same_value, to_text, to_truth}
+use Rattle.cell_value.specs.Scalar.{order_of, same_value, to_number, to_text, to_truth}
 
 -- a number, a text or a truth value
 abbrev pub IsValue : Scalar → Type 0
@@ -112,6 +113,10 @@ SameAreEqual = (a b : Scalar) → IsTrue (same_value a b) ↔ (a ≡ b)
 abbrev pub FaultsAreNamedBySpelling : Type 0
 FaultsAreNamedBySpelling = (text : List ℕ) (fault : FaultKind) → (fault_named text ≡ Some fault) ↔ (folded text ≡ folded (fault_text fault))
 
--- a truth value's text is read back as it
+-- the text of a number is read back as that number
+abbrev pub NumbersAreReadBack : Type 0
+NumbersAreReadBack = (number : ℤ) → IsInside number → to_number (to_text (Number number)) ≡ Ok number
+
+-- the text of a truth value is read back as that truth value
 abbrev pub TruthsAreReadBack : Type 0
 TruthsAreReadBack = (truth : Bool) → to_truth (to_text (Truth truth)) ≡ Ok truth

@@ -1,5 +1,5 @@
 -- That the test of two values for sameness tells exactly whether they are equal: for `==` of scalars.
-use Rattle.std.proofs.Common.{◌≡◌, ◌∙◌, sym, ap, refl, Bool, true, false, Some, ℕ, List}
+use Rattle.std.proofs.Common.{◌≡◌, ◌∙◌, sym, ap, refl, Some}
 use Rattle.std.specs.Cmp.{IsEquivalence, decided, signed_Decides, booleans_Decides}
 use Rattle.std.specs.Bool.{Decides}
 use Rattle.std.specs.Cmp.Lexicographic.{bytes_decides}
@@ -21,6 +21,7 @@ fault_named-fault_text Cycle = refl
 fault_named-fault_text Ref = refl
 fault_named-fault_text Error = refl
 
+-- faults that are spelled alike are the same
 pub fault_text-exact : (a b : FaultKind) → fault_text a ≡ fault_text b → a ≡ b
 fault_text-exact a b e =
     let s : Some a ≡ Some b = sym (fault_named-fault_text a) ∙ ap fault_named e ∙ fault_named-fault_text b in

@@ -79,7 +79,9 @@ beside Empty (Truth _) = Truth false
 beside Empty _ = Number (pos 0)
 beside x _ = x
 
--- the place of each kind in the order: numbers, then texts, then truth values
+-- the place of each kind in the order: numbers, then texts, then truth values. Nothing and faults
+-- stand at its ends, where no comparison meets them: beside a value nothing counts as one of its
+-- kind, and a fault decides before
 abbrev pub kind_rank : Scalar → ℕ
 kind_rank Empty = 0
 kind_rank (Number _) = 1

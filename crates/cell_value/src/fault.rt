@@ -2,11 +2,10 @@
 ghost use Rattle.std.specs.Prelude.{◌≡◌, Some};
 ghost use Rattle.cell_value.specs.Fault.{fault_named, fault_of_error, fault_text};
 
-use std::error::Error;
-use std::fmt;
-
 use cell_addr::same_folded;
 use fix_num::NumError;
+use std::error::Error;
+use std::fmt;
 
 /// Why a cell has no value.
 #[derive(Clone, Copy, PartialEq, Eq, Debug)]
@@ -60,7 +59,10 @@ impl FaultKind {
             FaultKind::Ref,
             FaultKind::Error,
         ];
-        faults.iter().copied().find(|fault| same_folded(text, fault.text()))
+        faults
+            .iter()
+            .copied()
+            .find(|fault| same_folded(text, fault.text()))
     }
 }
 

@@ -2,13 +2,11 @@
 ghost use Rattle.std.specs.Prelude.{◌≡◌};
 ghost use Rattle.cell_value.specs.Scalar.{counted_order, kind_rank, order_of, text_order};
 
-use std::cmp::Ordering;
-
-use cell_addr::fold_byte;
-use fix_num::Fixed;
-
 use crate::fault::FaultKind;
 use crate::scalar::Scalar;
+use cell_addr::fold_byte;
+use fix_num::Fixed;
+use std::cmp::Ordering;
 
 /// How two texts compare: by their bytes, with ASCII capitals made small.
 pub fn compare_texts(a: &str, b: &str) -> Ordering

@@ -4,12 +4,10 @@ ghost use Rattle.std.specs.Cmp.{partial_equiv_from_equiv};
 ghost use Rattle.cell_value.specs.Scalar.{read_truth, same_value, scalar_of, shown_text, to_number, to_text, to_truth, truth_text};
 ghost use Rattle.cell_value.specs.Same.{same_value_equiv};
 
-use std::alloc::{AllocError, Global};
-
+use crate::fault::FaultKind;
 use cell_addr::{Text, same_folded};
 use fix_num::{Fixed, NumError};
-
-use crate::fault::FaultKind;
+use std::alloc::{AllocError, Global};
 
 /// The value of a cell, or of a part of a formula.
 #[derive(Drop, Debug)]
@@ -66,7 +64,7 @@ impl Scalar {
         ensures { IfOk result (λ text. text ≡ to_text self.now) }
     {
         match self {
-            Scalar::Fault(fault) => Ok(Scalar::Fault(*fault)),
+            Scalar::Fault(_) => self.copy(alloc),
             _ => Ok(Scalar::Text(self.shown(alloc)?)),
         }
     }
@@ -99,7 +97,7 @@ impl Scalar {
 }
 
 /// How a truth value is spelled.
-pub fn truth_text(truth: bool) -> &'static str
+fn truth_text(truth: bool) -> &'static str
     ensures { result.now ≡ truth_text truth }
 {
     if truth { "TRUE" } else { "FALSE" }

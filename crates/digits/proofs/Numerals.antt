@@ -1,6 +1,6 @@
 -- The number that digits spell: what a part of them, a further digit, and how many they are say of it.
 -- Serves the bounded reading of digits, and the crates above that read numbers.
-use Rattle.std.proofs.Common.{◌≡◌, ◌∙◌, sym, ap, arith, refl, ℕ, zero, suc, ◌+◌, ◌-◌, ◌*◌, ◌^◌, ◌<◌, ◌≤◌, min, Bool, true, false, ◌&&◌, List, [], ◌∷◌, ◌++◌, length, take, drop, get_or}
+use Rattle.std.proofs.Common.{◌≡◌, ◌∙◌, ap, arith, refl, ℕ, suc, ◌+◌, ◌-◌, ◌*◌, ◌^◌, ◌<◌, ◌≤◌, min, true, List, [], ◌∷◌, ◌++◌, length, take, get_or}
 use Rattle.std.specs.List.{list_all}
 use Rattle.std.proofs.Math.Nat.{add-mul, mul_assoc, pow-suc, mul-le-mul_right}
 use Rattle.std.proofs.lemmas.List.{take_more}

@@ -1,5 +1,5 @@
 -- The parts of a list round the first item that passes a test. Serves the splitting of a text at a byte.
-use Rattle.std.proofs.Common.{◌≡◌, ◌∙◌, sym, ap, arith, refl, ℕ, ◌+◌, ◌-◌, ◌<◌, ◌≤◌, suc, Bool, true, false, not, cond, ◌==◌, List, [], ◌∷◌, ◌++◌, add-one, length, take, drop, Option, Some, None}
+use Rattle.std.proofs.Common.{◌≡◌, ◌∙◌, sym, ap, arith, refl, ℕ, ◌+◌, ◌-◌, ◌≤◌, suc, Bool, true, false, not, cond, ◌==◌, List, [], ◌∷◌, ◌++◌, add-one, length, take, drop, Option, Some, None}
 use Rattle.std.specs.List.{list_all, position, position_or_len, before_first, after_first}
 use Rattle.std.proofs.lemmas.List.{take_all, take_at, drop_all, take_rest}
 use Rattle.std.proofs.lemmas.Bool.{ltb-false, and_parts, and_from, ne_eqb, both_ways}

@@ -1,14 +1,13 @@
 -- What decimals round to, and a whole part with decimals. Serves `from_text`.
-use Rattle.std.proofs.Common.{◌≡◌, ◌∙◌, sym, ap, arith, refl, ℕ, zero, suc, ◌+◌, ◌-◌, ◌*◌, ◌/◌, ◌%◌, ◌^◌, ◌<◌, ◌≤◌, min, Bool, true, false, ◌&&◌, cond, List, [], ◌∷◌, ◌++◌, length, take, drop, ℤ, pos, neg_ℤ, unsigned_abs, Result, Ok, Err, ◌⊎◌, inl, inr, nat_lt}
+use Rattle.std.proofs.Common.{◌≡◌, ◌∙◌, sym, ap, arith, refl, ℕ, zero, suc, ◌+◌, ◌-◌, ◌*◌, ◌/◌, ◌%◌, ◌^◌, ◌<◌, ◌≤◌, min, Bool, true, false, List, length, take, drop, unsigned_abs, Err, inl, inr}
 use Rattle.std.specs.List.{list_all}
 use Rattle.std.proofs.Math.Nat.{one-le-pow, mul-le-mul_left, pow-le-pow_right}
 use Rattle.std.proofs.lemmas.Nat.{div-mul-add, div-add-mod', mod_below, pow-add}
 use Rattle.std.proofs.lemmas.List.{take_all, take-append-drop, length-drop, length-take}
 use Rattle.std.proofs.lemmas.List.Folds.{list_all-append}
-use Rattle.std.proofs.lemmas.Bool.{cases_lt, and_parts, lt-ltb, le-ltb}
+use Rattle.std.proofs.lemmas.Bool.{cases_lt, and_parts, le-ltb}
 use Rattle.digits.specs.Digits.{value, is_digit}
 use Rattle.digits.proofs.Numerals.{value-append, value_below}
-use Rattle.fix_num.specs.declared.error.NumError.{NumError}
 use Rattle.fix_num.specs.declared.error.NumError.TheVariants.{Range}
 use Rattle.fix_num.specs.Number.{near, within, signed}
 use Rattle.fix_num.specs.Text.{magnitude, whole, decimals, has_minus, behind_sign, are_parts, is_unsigned, number_of}
@@ -89,9 +88,9 @@ rounded_of_many cs h more =
 rounded_by_seven : (cs : List ℕ) → list_all is_digit cs ≡ true
     → (min (value (take (min (length cs) 7) cs)) 10000000 * 10 ^ (7 - min (length cs) 7) + 5) / 10 ≡ near (1000000 * value cs) (10 ^ length cs)
 rounded_by_seven cs h = elim (cases_lt 7 (length cs)) [
-    | inl more ↦ rounded_of_many cs h more
-    | inr few ↦ rounded_of_few cs h few
-  ]
+  | inl more ↦ rounded_of_many cs h more
+  | inr few ↦ rounded_of_few cs h few
+]
 
 length_kept : (cs : List ℕ) → length (take (min (length cs) 7) cs) ≡ min (length cs) 7
 length_kept cs = length-take (min (length cs) 7) cs ∙ omega arith
@@ -146,9 +145,9 @@ within_far b n h = rw (unsigned_abs-signed b n, le-ltb n 1000000000000000000 h) 
 -- a whole part of 10^12 or more is as good as 10^12
 within_capped : (b : Bool) (v r : ℕ) → within (signed b (min v 1000000000000 * 1000000 + r)) ≡ within (signed b (1000000 * v + r))
 within_capped b v r = elim (cases_lt v 1000000000000) [
-    | inl less ↦ ap (λ n. within (signed b n)) (omega arith)
-    | inr more ↦ within_far b (min v 1000000000000 * 1000000 + r) (omega arith) ∙ sym (within_far b (1000000 * v + r) (omega arith))
-  ]
+  | inl less ↦ ap (λ n. within (signed b n)) (omega arith)
+  | inr more ↦ within_far b (min v 1000000000000 * 1000000 + r) (omega arith) ∙ sym (within_far b (1000000 * v + r) (omega arith))
+]
 
 -- what `from_bytes` computes of a text in the form of a number is the number that it spells
 pub number_of_parts : (text cs ws ds : List ℕ) (b : Bool) (w r : ℕ) → b ≡ has_minus text → cs ≡ behind_sign text → ws ≡ whole cs → ds ≡ decimals cs → are_parts ws ds ≡ true

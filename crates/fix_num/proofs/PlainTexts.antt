@@ -1,21 +1,21 @@
 -- The text of a number has plain form, and spells the number. Serves the laws of texts.
-use Rattle.std.proofs.Common.{◌≡◌, ◌∙◌, sym, ap, subst, arith, refl, ℕ, zero, suc, ◌+◌, ◌-◌, ◌*◌, ◌/◌, ◌%◌, ◌^◌, ◌<◌, ◌≤◌, ◌≢◌, ◌==◌, Bool, true, false, not, ◌&&◌, cond, List, [], ◌∷◌, ◌++◌, length, get_or, ◌⊎◌, inl, inr, ℤ, pos, negsuc, unsigned_abs, Result, Ok}
+use Rattle.std.proofs.Common.{◌≡◌, ◌∙◌, sym, ap, arith, refl, ℕ, suc, ◌+◌, ◌-◌, ◌*◌, ◌/◌, ◌%◌, ◌^◌, ◌<◌, ◌≤◌, ◌≢◌, ◌==◌, true, false, not, List, [], ◌∷◌, ◌++◌, length, get_or, inl, inr, ℤ, pos, negsuc, unsigned_abs, Ok}
 use Rattle.std.specs.List.{list_all}
 use Rattle.std.specs.Fmt.{decimal}
 use Rattle.std.proofs.lemmas.Fmt.{decimal_nonempty, first_decimal, decimal_digit}
 use Rattle.std.proofs.Math.Nat.{mul_assoc}
 use Rattle.std.proofs.lemmas.List.{append-nil}
-use Rattle.std.proofs.lemmas.Nat.{pow-add, div_below}
-use Rattle.std.proofs.lemmas.Bool.{and_from, and_parts, ne_eqb, lt-ltb, cases_eq, cases_lt}
+use Rattle.std.proofs.lemmas.Nat.{pow-add}
+use Rattle.std.proofs.lemmas.Bool.{and_parts, ne_eqb, lt-ltb, cases_eq, cases_lt}
 use Rattle.digits.specs.Digits.{is_digit, value}
 use Rattle.digits.proofs.Numerals.{is_digit-bounds}
 use Rattle.digits.proofs.Printed.{value-decimal, list_all-decimal}
 use Rattle.digits.proofs.Parts.{before_first-append, after_first-append, before_first-none, after_first-none, digits_without}
-use Rattle.fix_num.specs.Number.{IsInside, near, within, signed}
+use Rattle.fix_num.specs.Number.{IsInside, near, within}
 use Rattle.fix_num.specs.Text.{is_point, whole, decimals, has_minus, behind_sign, are_parts, is_unsigned, magnitude, number_of, decimals_of, fraction_of, unsigned_text, text_of}
 use Rattle.fix_num.specs.Laws.{IsWholePart, AreDecimals, HasPlainForm}
 use Rattle.fix_num.proofs.Decimals.{decimals_of-zero, ten_above}
-use Rattle.fix_num.proofs.Magnitudes.{near_with_whole, magnitude_of_parts, unsigned_abs-signed}
+use Rattle.fix_num.proofs.Magnitudes.{near_with_whole, magnitude_of_parts}
 use Rattle.fix_num.proofs.Rounded.{near_zero}
 use Rattle.fix_num.proofs.SpelledDecimals.{list_all-decimals_of, length-decimals_of, value-decimals_of, decimals_of-some, decimals_of-last}
 
@@ -38,15 +38,15 @@ no_point ds h = digits_without 46 ds refl h
 -- digits with the fraction of f behind them are split into the digits and the decimals of f
 whole_of : (ds : List ℕ) (f : ℕ) → list_all is_digit ds ≡ true → whole (ds ++ fraction_of f) ≡ ds
 whole_of ds f h = elim (cases_eq f 0) [
-    | inl zero_left ↦ rw (fraction_none f zero_left, append-nil ds) (before_first-none is_point ds (no_point ds h))
-    | inr some ↦ rw (fraction_some f some) (before_first-append is_point ds 46 (decimals_of 6 f) (no_point ds h) refl)
-  ]
+  | inl zero_left ↦ rw (fraction_none f zero_left, append-nil ds) (before_first-none is_point ds (no_point ds h))
+  | inr some ↦ rw (fraction_some f some) (before_first-append is_point ds 46 (decimals_of 6 f) (no_point ds h) refl)
+]
 
 decimals_behind : (ds : List ℕ) (f : ℕ) → list_all is_digit ds ≡ true → decimals (ds ++ fraction_of f) ≡ decimals_of 6 f
 decimals_behind ds f h = elim (cases_eq f 0) [
-    | inl zero_left ↦ rw (fraction_none f zero_left, append-nil ds) (after_first-none is_point ds (no_point ds h) ∙ sym (ap (decimals_of 6) zero_left ∙ decimals_of-zero 6))
-    | inr some ↦ rw (fraction_some f some) (after_first-append is_point ds 46 (decimals_of 6 f) (no_point ds h) refl)
-  ]
+  | inl zero_left ↦ rw (fraction_none f zero_left, append-nil ds) (after_first-none is_point ds (no_point ds h) ∙ sym (ap (decimals_of 6) zero_left ∙ decimals_of-zero 6))
+  | inr some ↦ rw (fraction_some f some) (after_first-append is_point ds 46 (decimals_of 6 f) (no_point ds h) refl)
+]
 
 pub whole-unsigned_text : (n : ℕ) → n < 1000000000000000000 → whole (unsigned_text n) ≡ decimal (n / 1000000)
 whole-unsigned_text n h = whole_of (decimal (n / 1000000)) (n % 1000000) (list_all-decimal (n / 1000000) (whole_inside n h))
@@ -108,9 +108,9 @@ number_of-text_of (negsuc n) h = rw (is_unsigned-unsigned_text (suc n) h, magnit
 
 leading : (w : ℕ) → w < 2 ^ 64 → get_or (decimal w) 0 0 ≡ 48 → length (decimal w) ≡ 1
 leading w h e = elim (cases_lt 0 w) [
-    | inl some ↦ absurd (omega (arith, first_decimal w some h))
-    | inr none_left ↦ let small : w < 10 = omega arith in rw (decimal_digit w small) refl
-  ]
+  | inl some ↦ absurd (omega (arith, first_decimal w some h))
+  | inr none_left ↦ let small : w < 10 = omega arith in rw (decimal_digit w small) refl
+]
 
 whole_part_of : (w : ℕ) → w < 2 ^ 64 → IsWholePart (decimal w)
 whole_part_of w h = (list_all-decimal w h, decimal_nonempty w h, leading w h)
@@ -120,11 +120,14 @@ decimals_are f h n = let some : 0 < f = omega arith in (list_all-decimals_of f h
 
 -- the text of a number without a sign is digits, or digits with a point and digits, with no needless 0
 pub plain-unsigned_text : (n : ℕ) → n < 1000000000000000000 → HasPlainForm (unsigned_text n)
-plain-unsigned_text n h =
-    (decimal (n / 1000000), whole_part_of (n / 1000000) (whole_inside n h), elim (cases_eq (n % 1000000) 0) [
-      | inl zero_left ↦ inl (ap (λ t. decimal (n / 1000000) ++ t) (fraction_none (n % 1000000) zero_left) ∙ append-nil (decimal (n / 1000000)))
-      | inr some ↦ inr (decimals_of 6 (n % 1000000), ap (λ t. decimal (n / 1000000) ++ t) (fraction_some (n % 1000000) some), decimals_are (n % 1000000) (rest_inside n) some)
-    ])
+plain-unsigned_text n h = (
+  decimal (n / 1000000),
+  whole_part_of (n / 1000000) (whole_inside n h),
+  elim (cases_eq (n % 1000000) 0) [
+    | inl zero_left ↦ inl (ap (λ t. decimal (n / 1000000) ++ t) (fraction_none (n % 1000000) zero_left) ∙ append-nil (decimal (n / 1000000)))
+    | inr some ↦ inr (decimals_of 6 (n % 1000000), ap (λ t. decimal (n / 1000000) ++ t) (fraction_some (n % 1000000) some), decimals_are (n % 1000000) (rest_inside n) some)
+  ],
+)
 
 pub negative_text : (n : ℕ) → 0 < n → text_of (negsuc (n - 1)) ≡ 45 ∷ text_of (pos n)
 negative_text n h = let e : suc (n - 1) ≡ n = omega arith in ap (λ k. 45 ∷ unsigned_text k) e

@@ -1,5 +1,5 @@
 -- Repeated multiplication, one product at a time. Serves `multiplied`.
-use Rattle.std.proofs.Common.{◌≡◌, ◌∙◌, sym, ap, arith, refl, ℕ, zero, suc, ◌+◌, ◌-◌, ◌<◌, ℤ, Result, Ok, Err}
+use Rattle.std.proofs.Common.{◌≡◌, arith, refl, ℕ, suc, ◌+◌, ◌-◌, ◌<◌, ℤ, Ok, Err}
 use Rattle.fix_num.specs.declared.error.NumError.{NumError}
 use Rattle.fix_num.specs.Number.{product, and_then, multiplied}
 

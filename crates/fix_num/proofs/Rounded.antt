@@ -5,14 +5,14 @@ use Rattle.std.proofs.Math.Nat.{one-le-pow, pow-le-pow_right, zero-mul, mul-pos}
 use Rattle.std.proofs.lemmas.Nat.{div-mul-add}
 use Rattle.std.proofs.lemmas.Bool.{ne_eqb}
 use Rattle.std.proofs.lemmas.Int.{ints}
-use Rattle.fix_num.specs.Number.{within, signed, is_negative, near, nearest, quotient, rounded_to, unit}
+use Rattle.fix_num.specs.Number.{within, signed, is_negative, near, nearest, quotient, rounded_to}
 
 -- a unit of more than twice the number rounds it to 0
 near_of_less : (p q : ℕ) → 2 * p < q → near p q ≡ 0
 near_of_less p q h = ap (λ n. n / (2 * q)) (sum p q) ∙ div-mul-add 0 (2 * q) (2 * p + q) (omega arith)
   where
-  sum : (p q : ℕ) → 2 * p + q ≡ 0 * (2 * q) + (2 * p + q)
-  sum p q = omega arith
+    sum : (p q : ℕ) → 2 * p + q ≡ 0 * (2 * q) + (2 * p + q)
+    sum p q = omega arith
 
 -- a number other than 0 has an absolute value above 0
 abs_of_nonzero : (b : ℤ) → b ≢ pos 0 → 0 < unsigned_abs b

@@ -1,5 +1,5 @@
 -- The printed decimals are digits that spell the rest, and don't end in 0. Serves the laws of texts.
-use Rattle.std.proofs.Common.{◌≡◌, ◌∙◌, sym, ap, arith, refl, ℕ, zero, suc, ◌+◌, ◌-◌, ◌*◌, ◌/◌, ◌%◌, ◌^◌, ◌<◌, ◌≤◌, ◌≢◌, Bool, true, false, List, [], ◌∷◌, ◌++◌, length, get_or, ◌⊎◌, inl, inr}
+use Rattle.std.proofs.Common.{◌≡◌, ◌∙◌, sym, ap, arith, refl, ℕ, zero, suc, ◌+◌, ◌-◌, ◌*◌, ◌/◌, ◌%◌, ◌^◌, ◌<◌, ◌≤◌, ◌≢◌, true, List, [], ◌∷◌, length, get_or, inl, inr}
 use Rattle.std.specs.List.{list_all}
 use Rattle.std.proofs.Math.Nat.{add-mul, mul_assoc, pow-suc}
 use Rattle.std.proofs.lemmas.Nat.{pow-add, div_below, mod_below, div-add-mod'}
@@ -8,7 +8,7 @@ use Rattle.digits.specs.Digits.{is_digit, value}
 use Rattle.digits.proofs.Numerals.{value_from-split}
 use Rattle.digits.proofs.Printed.{digit_is}
 use Rattle.fix_num.specs.Text.{decimals_of}
-use Rattle.fix_num.proofs.Decimals.{decimals_of-zero, decimals_of-suc, decimals_of-no_place, ten_above}
+use Rattle.fix_num.proofs.Decimals.{decimals_of-zero, decimals_of-suc, ten_above}
 
 -- the last digit, if there is one, isn't 0
 abbrev EndsWell : List ℕ → Type 0
@@ -69,9 +69,9 @@ spell_more k rest r some h =
 spell_all : (k rest : ℕ) → rest < 10 ^ k → Spell k rest (decimals_of k rest)
 spell_all zero rest r = let none : rest ≡ 0 = omega arith in rw (none, decimals_of-zero 0) (spell_nothing 0)
 spell_all (suc k) rest r = elim (cases_lt 0 rest) [
-    | inl some ↦ rw (decimals_of-suc k rest some) (spell_more k rest r some (spell_all k (rest % 10 ^ k) (mod_below rest (10 ^ k) (ten_above k))))
-    | inr none_left ↦ let none : rest ≡ 0 = omega arith in rw (none, decimals_of-zero (suc k)) (spell_nothing (suc k))
-  ]
+  | inl some ↦ rw (decimals_of-suc k rest some) (spell_more k rest r some (spell_all k (rest % 10 ^ k) (mod_below rest (10 ^ k) (ten_above k))))
+  | inr none_left ↦ let none : rest ≡ 0 = omega arith in rw (none, decimals_of-zero (suc k)) (spell_nothing (suc k))
+]
 
 pub list_all-decimals_of : (rest : ℕ) → rest < 1000000 → list_all is_digit (decimals_of 6 rest) ≡ true
 list_all-decimals_of rest r = (spell_all 6 rest r).digits

@@ -56,8 +56,8 @@ abbrev pub power_of : ℤ → ℤ → Result ℤ NumError
 power_of a n =
     if is_exponent n
     then (if is_negative n
-      then and_then (multiplied (pos 1000000) a (unsigned_abs n / 1000000)) (λ p. quotient (pos 1000000) p)
-      else multiplied (pos 1000000) a (unsigned_abs n / 1000000))
+    then and_then (multiplied (pos 1000000) a (unsigned_abs n / 1000000)) (λ p. quotient (pos 1000000) p)
+    else multiplied (pos 1000000) a (unsigned_abs n / 1000000))
     else Err Range
 
 -- 10^(-places) in millionths, and one millionth from the sixth place on

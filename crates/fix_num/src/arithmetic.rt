@@ -35,7 +35,10 @@ impl Fixed {
         ensures { result ≡ product self b }
     {
         let exact = u128::from(self.size()) * u128::from(b.size());
-        Fixed::signed(self.is_negative() != b.is_negative(), near(exact, u128::from(ONE)))
+        Fixed::signed(
+            self.is_negative() != b.is_negative(),
+            near(exact, u128::from(ONE)),
+        )
     }
 
     /// The quotient, rounded to a millionth, a half going away from zero.
@@ -49,7 +52,10 @@ impl Fixed {
             return Err(NumError::ZeroDivisor);
         }
         let dividend = u128::from(self.size()) * u128::from(ONE);
-        Fixed::signed(self.is_negative() != b.is_negative(), near(dividend, u128::from(b.size())))
+        Fixed::signed(
+            self.is_negative() != b.is_negative(),
+            near(dividend, u128::from(b.size())),
+        )
     }
 
     /// 1 multiplied by the number as often as the exponent says, each product rounded; for a
@@ -66,7 +72,11 @@ impl Fixed {
             return Err(NumError::Range);
         }
         let power = self.multiplied(size / ONE)?;
-        if exponent.is_negative() { Fixed::ONE.div(power) } else { Ok(power) }
+        if exponent.is_negative() {
+            Fixed::ONE.div(power)
+        } else {
+            Ok(power)
+        }
     }
 
     /// 1 multiplied so often by the number, each product rounded.

@@ -17,3 +17,6 @@ mod rounding;
 
 pub use error::NumError;
 pub use number::Fixed;
+
+#[cfg(test)]
+mod tests;

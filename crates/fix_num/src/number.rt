@@ -2,9 +2,8 @@
 ghost use Rattle.std.specs.Prelude.{◌≡◌, ◌<◌, ◌+◌, ◌↔◌, IsTrue, ℤ, pos, unsigned_abs, ◌*ℤ◌};
 ghost use Rattle.fix_num.specs.Number.{IsInside, within, is_negative, signed};
 
-use std::marker::Model;
-
 use crate::error::NumError;
+use std::marker::Model;
 
 /// How many millionths one has.
 pub(crate) const ONE: u64 = 1_000_000;
@@ -35,7 +34,9 @@ impl Fixed {
     pub const ZERO: Fixed = Fixed { millionths: 0 };
 
     /// The number 1.
-    pub const ONE: Fixed = Fixed { millionths: 1_000_000 };
+    pub const ONE: Fixed = Fixed {
+        millionths: 1_000_000,
+    };
 
     /// The whole number n.
     ///

@@ -2,9 +2,8 @@
 ghost use Rattle.std.specs.Prelude.{◌≡◌, ◌<◌, ◌++◌, ◌+◌, [], ◌∷◌, IfOk, OnOk, string_bytes};
 ghost use Rattle.fix_num.specs.Text.{text_of, decimals_of};
 
-use std::alloc::{AllocError, Global};
-
 use crate::number::{Fixed, ONE};
+use std::alloc::{AllocError, Global};
 
 impl Fixed {
     /// The shortest text of the number: a minus sign where it is negative, the whole part without

@@ -5,10 +5,9 @@ ghost use Rattle.digits.specs.Digits.{is_digit, value};
 ghost use Rattle.fix_num.specs.Number.{near};
 ghost use Rattle.fix_num.specs.Text.{number_of, has_minus, behind_sign, are_parts};
 
-use digits::{after_byte, all_digits, before_byte, value_at_most};
-
 use crate::error::NumError;
 use crate::number::{Fixed, ONE};
+use digits::{after_byte, all_digits, before_byte, value_at_most};
 
 /// A whole part that no number has: this and every greater one is outside.
 const MAX_WHOLE: u64 = 1_000_000_000_000;

@@ -52,7 +52,11 @@ impl Fixed {
         ensures { result ≡ within (floor_of self) }
     {
         let size = self.size();
-        let whole = if self.is_negative() { size.div_ceil(ONE) } else { size / ONE };
+        let whole = if self.is_negative() {
+            size.div_ceil(ONE)
+        } else {
+            size / ONE
+        };
         Fixed::signed(self.is_negative(), u128::from(whole * ONE))
     }
 

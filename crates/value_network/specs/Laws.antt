@@ -1,6 +1,19 @@
 -- What holds of the values of a network, said of one network so that a contract can cite it. Source: this project's own.
-use Rattle.std.specs.Prelude.{◌≡◌, ◌<◌, ◌||◌, ℕ, suc, Bool, true, false, List, [], ◌∷◌, length}
-use Rattle.value_network.specs.Network.{Network, leads, cyclic, reaches, stuck, round, rounds, value}
+use Rattle.std.specs.Prelude.{◌≡◌, ◌<◌, ◌⊎◌, ◌↔◌, ℕ, Bool, true, false, List, length}
+use Rattle.value_network.specs.Network.{Network, IsNetwork, leads, cyclic, stuck, round, rounds, value}
+
+-- following needs from the first node, one or more, comes to the second
+pub data LeadsTo {K V : Type 0} (net : Network K V) : K → K → Type 0 where
+  at_once : {a b : K} → net.needs a b ≡ true → LeadsTo net a b
+  after : {a b c : K} → net.needs a b ≡ true → LeadsTo net b c → LeadsTo net a c
+
+-- the nodes on a cycle are those from which following needs comes back to them
+abbrev pub CyclesReturn : {K V : Type 0} → Network K V → Type 0
+CyclesReturn {K} net = (a : K) → (cyclic net a ≡ true) ↔ LeadsTo net a a
+
+-- the stuck nodes are those on a cycle, and those from which following needs comes to one
+abbrev pub StuckLeadsToCycle : {K V : Type 0} → Network K V → Type 0
+StuckLeadsToCycle {K} net = (a : K) → (stuck net a ≡ true) ↔ ((b : K) × (cyclic net b ≡ true) × ((a ≡ b) ⊎ LeadsTo net a b))
 
 -- every node on a cycle is bad
 abbrev pub CoversCycles : {K V : Type 0} → Network K V → (K → Bool) → Type 0
@@ -53,3 +66,27 @@ NeedsLower {K} net rank = (a b : K) → net.needs a b ≡ true → rank b < rank
 -- each node needs only earlier nodes
 abbrev pub NeedsEarlier : {K V : Type 0} → Network K V → (K → K → Bool) → Type 0
 NeedsEarlier {K} net earlier = (a b : K) → net.needs a b ≡ true → earlier b a ≡ true
+
+-- the first of three that come one after another is earlier than the last
+abbrev pub IsTransitive : {K : Type 0} → (K → K → Bool) → Type 0
+IsTransitive {K} earlier = (a b c : K) → earlier a b ≡ true → earlier b c ≡ true → earlier a c ≡ true
+
+-- nothing is earlier than itself
+abbrev pub IsIrreflexive : {K : Type 0} → (K → K → Bool) → Type 0
+IsIrreflexive {K} earlier = (a : K) → earlier a a ≡ false
+
+-- needs of lower rank alone make no cycle
+abbrev pub RanksForbidCycles : {K V : Type 0} → Network K V → Type 0
+RanksForbidCycles {K} net = (rank : K → ℕ) → NeedsLower net rank → HasNoCycle net
+
+-- needs of earlier nodes alone make no cycle
+abbrev pub OrdersForbidCycles : {K V : Type 0} → Network K V → Type 0
+OrdersForbidCycles {K} net = (earlier : K → K → Bool) → IsTransitive earlier → IsIrreflexive earlier → NeedsEarlier net earlier → HasNoCycle net
+
+-- the law holds whatever nodes are bad, as long as every node on a cycle is
+abbrev pub WhateverIsBad : {K V : Type 0} → (Network K V → (K → Bool) → Type 0) → Network K V → Type 0
+WhateverIsBad {K} Law net = (bad : K → Bool) → CoversCycles net bad → Law net bad
+
+-- the law holds of every network whose nodes and values are numbers
+abbrev pub AtNumbers : (Network ℕ ℕ → Type 0) → Type 0
+AtNumbers Law = (net : Network ℕ ℕ) → IsNetwork net → Law net

@@ -2,7 +2,7 @@
 use Rattle.std.specs.Prelude.{◌≡◌, ◌&&◌, ◌||◌, ℕ, zero, suc, Bool, true, false, List, [], ◌∷◌, length, filter, if◌then◌else◌}
 use Rattle.std.specs.List.{list_any}
 
--- nodes of type K that show values of type V
+-- nodes of type K, such as a workbook's cells, that show values of type V
 pub record Network (K V : Type 0) : Type 0 where
   -- the nodes that have a formula; a node that is listed twice does no harm
   pub formulas : List K
@@ -36,7 +36,8 @@ reaches net ends a = has net a ends || leads net (length net.formulas) a ends
 abbrev pub stuck : {K V : Type 0} → Network K V → K → Bool
 stuck net a = reaches net (filter (cyclic net) net.formulas) a
 
--- what a node shows after every node is worked out once more; the bad ones show the value of a cycle
+-- what a node shows after every node is worked out once more. Which nodes are bad, and show a cycle's value, is
+-- the rule's choice: those on a cycle, or all that are stuck
 abbrev pub round : {K V : Type 0} → Network K V → (K → Bool) → (K → V) → K → V
 round net bad shown a = if bad a then net.cycle else net.own shown a
 
@@ -45,11 +46,12 @@ unfoldable pub rounds : {K V : Type 0} → Network K V → (K → Bool) → ℕ 
 rounds net bad zero shown = shown
 rounds net bad (suc n) shown = round net bad (rounds net bad n shown)
 
--- what a node shows: a round for each formula and one more, from any start; this one begins with a cycle's value everywhere
+-- what a node shows: a round for each formula and one more; from any start they give the same, and this one is a
+-- cycle's value everywhere
 abbrev pub value : {K V : Type 0} → Network K V → (K → Bool) → K → V
 value net bad = rounds net bad (suc (length net.formulas)) (λ _. net.cycle)
 
--- the network says of itself what is so
+-- the parts of a network fit together
 pub record IsNetwork {K V : Type 0} (net : Network K V) : Type 0 where
   -- nodes that are called the same are equal
   pub same_equal : (a b : K) → net.same a b ≡ true → a ≡ b

@@ -4,8 +4,20 @@
 //! needs, and what a node works out where the others show given values. `value` says what a node
 //! shows: each round works every node out anew from what the nodes showed before it, and after as
 //! many rounds as there are formulas, and one more, nothing changes. A node on a cycle shows one
-//! fixed value. A workbook's cells are one such network, so what is proved here holds of them.
+//! fixed value. A workbook's cells are such a network, so the laws here (specs/Laws.antt) hold of
+//! them.
 //!
-//! For example, with formulas at 1 and 2, where 1 needs 0 and 2 needs 0 and 1, nothing is on a
-//! cycle, and the value of 2 is its meaning over the values of 0 and 1.
+//! Nothing here runs in the engine but the example: a [`Slot`] of a row is a number or the sum of
+//! two slots before it, a row is a network, and [`row_numbers`] works its values out:
+//!
+//! ```text
+//! row_numbers(alloc, &[Slot::Number(4), Slot::Sum(0, 0), Slot::Sum(0, 1)])?   // 4, 8, 12
+//! ```
 #![tactic(auto)]
+
+pub mod laws;
+mod row;
+#[cfg(test)]
+mod tests;
+
+pub use row::{Slot, row_numbers};

@@ -1,5 +1,3 @@
-use Rattle.std.proofs.Common.{◌≡◌, ◌+◌, ◌-◌, ◌*◌, min, take, get_or}
-use Rattle.digits.specs.Digits.{value}
 use Rattle.digits.proofs.Numerals.{value_at_most_more}
 use Rattle.digits.proofs.value_at_most.Goals as goal
 

@@ -1,4 +1,4 @@
-use Rattle.std.proofs.Common.{◌∙◌, ap, arith, ◌+◌, ◌*◌, sym}
+use Rattle.std.proofs.Common.{arith}
 use Rattle.cell_addr.proofs.Columns.{letters_number_more}
 use Rattle.cell_addr.proofs.address.letters_number.Goals as goal
 

@@ -1,4 +1,4 @@
-use Rattle.std.proofs.Common.{◌≡◌, ◌∙◌, ap}
+use Rattle.std.proofs.Common.{◌∙◌, ap}
 use Rattle.cell_addr.specs.Address.{address_of}
 use Rattle.cell_addr.proofs.Addresses.{address_of-append, address_of-parts}
 use Rattle.cell_addr.proofs.laws.addresses_are_read.Goals as goal

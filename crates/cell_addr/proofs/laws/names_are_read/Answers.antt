@@ -1,4 +1,4 @@
-use Rattle.std.proofs.Common.{◌≡◌, ◌∙◌, ap}
+use Rattle.std.proofs.Common.{◌∙◌, ap}
 use Rattle.cell_addr.specs.SheetName.{quoted}
 use Rattle.cell_addr.proofs.Quoted.{quoted-doubled, quoted-written}
 use Rattle.cell_addr.proofs.laws.names_are_read.Goals as goal

@@ -1,4 +1,4 @@
-use Rattle.std.proofs.Common.{◌≡◌, ◌∙◌, sym, ap, arith, rules, option_map}
+use Rattle.std.proofs.Common.{◌∙◌, sym, ap, arith, rules, option_map}
 use Rattle.cell_addr.proofs.Splits.{length-split_first, length-behind_first}
 use Rattle.cell_addr.proofs.Quoted.{quoted-unclosed, quoted-closed, quoted_more, rest-with_bytes}
 use Rattle.cell_addr.proofs.sheet_name.behind_quoted.Goals as goal

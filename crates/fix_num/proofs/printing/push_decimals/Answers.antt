@@ -1,4 +1,4 @@
-use Rattle.std.proofs.Common.{◌≡◌, ◌∙◌, sym, ap, arith, ◌<◌, ℕ}
+use Rattle.std.proofs.Common.{arith, ◌<◌}
 use Rattle.fix_num.proofs.Decimals.{ten_above, digit_below, rest_below, written_more, written_all, written_to_end}
 use Rattle.fix_num.proofs.printing.push_decimals.Goals as goal
 

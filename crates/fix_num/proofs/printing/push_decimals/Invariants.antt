@@ -5,5 +5,5 @@ use Rattle.fix_num.proofs.printing.push_decimals.Given as goal
 abbrev pub invariant-decimals : goal.invariant-decimals
 invariant-decimals l = record {
   written : string_bytes l.text ++ decimals_of (6 - l.place) l.rest ≡ string_bytes l.fn.text ++ decimals_of 6 l.fn.millionths;
-  below : l.rest < 10 ^ (6 - l.place)
+  below : l.rest < 10 ^ (6 - l.place);
 }

@@ -1,4 +1,4 @@
-use Rattle.std.proofs.Common.{◌≡◌, ◌^◌, ◌≤◌, ℕ, arith, pos, ◌-ℤ◌, unsigned_abs, to_z, of_z, w32}
+use Rattle.std.proofs.Common.{◌≤◌, arith, pos, ◌-ℤ◌, unsigned_abs, to_z, of_z, w32}
 use Rattle.std.proofs.lemmas.Int.{ints}
 use Rattle.fix_num.proofs.Rounded.{pow_bounds}
 use Rattle.fix_num.proofs.rounding.unit.Goals as goal

@@ -1,4 +1,4 @@
-use Rattle.std.proofs.Common.{◌≡◌, ◌∙◌, ◌≢◌, pos}
+use Rattle.std.proofs.Common.{◌≢◌, pos}
 use Rattle.std.proofs.lemmas.Bool.{iff_false}
 use Rattle.fix_num.proofs.Rounded.{quotient_of_nonzero}
 use Rattle.fix_num.proofs.number.Fixed.div.Goals as goal

@@ -1,4 +1,4 @@
-use Rattle.std.proofs.Common.{◌≡◌, ◌∙◌, sym, ap}
+use Rattle.std.proofs.Common.{◌∙◌, sym, ap}
 use Rattle.fix_num.specs.Number.{within, signed}
 use Rattle.fix_num.proofs.Magnitudes.{number_of_parts}
 use Rattle.fix_num.proofs.number.Fixed.from_bytes.Goals as goal

@@ -1,4 +1,4 @@
-use Rattle.std.proofs.Common.{◌≡◌, ◌∙◌, sym, arith, pos}
+use Rattle.std.proofs.Common.{◌∙◌, sym, arith}
 use Rattle.std.proofs.lemmas.Result.{err_from_is_err_and}
 use Rattle.fix_num.proofs.Powers.{multiplied-more, multiplied-stops, multiplied-zero}
 use Rattle.fix_num.proofs.number.Fixed.multiplied.Goals as goal

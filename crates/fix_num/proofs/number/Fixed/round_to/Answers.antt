@@ -1,4 +1,4 @@
-use Rattle.std.proofs.Common.{◌≡◌, ◌<ℤ◌, sym, ap, arith, negsuc}
+use Rattle.std.proofs.Common.{◌<ℤ◌, sym, ap, arith, negsuc}
 use Rattle.std.proofs.lemmas.Int.{ints}
 use Rattle.fix_num.specs.Number.{within}
 use Rattle.fix_num.proofs.Rounded.{rounded_to_far}

@@ -1,0 +1,63 @@
+// What the text given to a cell says.
+ghost use Rattle.std.specs.Prelude.{◌≡◌, IfOk};
+ghost use Rattle.cell_value.specs.Scalar.{read_truth};
+ghost use Rattle.sheet_cli.specs.Content.{content_of, text_content, word_content};
+
+use cell_addr::Text;
+use cell_value::Scalar;
+use fix_num::Fixed;
+use std::alloc::{AllocError, Global};
+
+/// What a text says when it is given to a cell. This project's own.
+#[derive(Drop, Debug)]
+pub enum ContentText {
+    /// The cell becomes empty.
+    Clear,
+    /// A formula, as its whole text.
+    Formula(Text),
+    /// A number.
+    Number(Fixed),
+    /// A truth value.
+    Truth(bool),
+    /// A text.
+    Text(Text),
+}
+
+/// What the text says: nothing clears the cell; a text with `=` in front is a formula; a text that
+/// spells a number in range is that number; TRUE and FALSE in any case are truth values; a text with
+/// an apostrophe in front is the text behind it; every other text is itself.
+pub fn read_content(alloc: Global, text: &str) -> Result<ContentText, AllocError>
+    ensures { IfOk result (λ content. content ≡ content_of text.now) }
+{
+    if text.is_empty() {
+        return Ok(ContentText::Clear);
+    }
+    if text.starts_with('=') {
+        return Ok(ContentText::Formula(Text::from_str(alloc, text)?));
+    }
+    match Fixed::from_text(text) {
+        Ok(number) => Ok(ContentText::Number(number)),
+        Err(_) => read_word(alloc, text),
+    }
+}
+
+/// What a text says that is no formula and no number.
+fn read_word(alloc: Global, text: &str) -> Result<ContentText, AllocError>
+    ensures { IfOk result (λ content. content ≡ word_content (read_truth text.now) text.now) }
+{
+    let word = Scalar::Text(Text::from_str(alloc, text)?);
+    match word.as_truth() {
+        Ok(truth) => Ok(ContentText::Truth(truth)),
+        Err(_) => read_text(alloc, text),
+    }
+}
+
+/// The text behind an apostrophe in front, or the whole text.
+fn read_text(alloc: Global, text: &str) -> Result<ContentText, AllocError>
+    ensures { IfOk result (λ content. content ≡ text_content text.now) }
+{
+    match text.strip_prefix('\'') {
+        Some(rest) => Ok(ContentText::Text(Text::from_str(alloc, rest)?)),
+        None => Ok(ContentText::Text(Text::from_str(alloc, text)?)),
+    }
+}

@@ -1,0 +1,36 @@
+//! The command line of the workbook engine: what a run reads, and what it prints.
+//!
+//! [`run`] does all that the program does. [`outside`] has the streams that it is given: a
+//! [`outside::Source`] of bytes and a [`outside::Sink`] for them, over the standard streams or over
+//! memory.
+//!
+//! A script is a list of records, each a command that is answered by one line:
+//!
+//! ```text
+//! set,A1,0.1      ok
+//! set,A2,=A1+2    ok
+//! value,A2        2.1
+//! ```
+#![tactic(auto)]
+
+mod command;
+pub mod content;
+mod evaluate;
+mod formula;
+mod line;
+pub mod outside;
+mod program;
+mod records;
+mod refusal;
+mod script;
+mod session;
+mod workbook;
+
+pub use evaluate::{formulas_stay_backward, nothing_else_unfolds, values_unfold};
+pub use formula::{
+    canonical_text_spells, formulas_are_read, formulas_refer_back, no_text_spells_two,
+};
+pub use program::run;
+
+#[cfg(test)]
+mod tests;

@@ -1,0 +1,5 @@
+use Rattle.shift_core.proofs.BlockLaws.{one_cell_moves}
+use Rattle.shift_core.proofs.laws.one_cells_move_alike.Goals as goal
+
+pub returns : goal.returns
+returns c = one_cell_moves

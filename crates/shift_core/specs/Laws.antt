@@ -1,0 +1,122 @@
+-- What the tables of moved places and blocks have in common, in words of the places alone.
+use Rattle.std.specs.Prelude.{◌≡◌, ◌↔◌, ℕ, ◌+◌, ◌-◌, ◌<◌, ◌≤◌, ◌⊎◌, ⊤, ◌&&◌, if◌then◌else◌, Some, None, option_map}
+use Rattle.cell_addr.specs.declared.place.Place.{Place}
+use Rattle.cell_addr.specs.declared.place.Block.{Block}
+use Rattle.cell_addr.specs.Place.{IsInside, IsBlockInside, Covers}
+use Rattle.shift_core.specs.declared.shift.Shift.{Shift}
+use Rattle.shift_core.specs.declared.shift.Shift.TheVariants.{InsertRows, InsertCols, MoveRows, MoveCols, MoveBlock}
+use Rattle.shift_core.specs.declared.span.Span.{Span}
+use Rattle.shift_core.specs.Lines.{is_among, line_after_move}
+use Rattle.shift_core.specs.Carried.{carried_place, first_place}
+use Rattle.shift_core.specs.Sound.{IsSound}
+use Rattle.shift_core.specs.Tables.{place_after, block_after, place_before, block_before, by_rows, by_cols}
+use Rattle.shift_core.specs.Bent.{IsBent, IsCut}
+
+-- a place that isn't lost comes back to where it was
+abbrev pub PlacesComeBack : Type 0
+PlacesComeBack =
+    (s : Shift) (p q : Place) → IsSound s → IsInside p → place_after s p ≡ Some q → place_before s q ≡ Some p
+
+-- what a place of the sheet came from goes there
+abbrev pub PlacesGoForth : Type 0
+PlacesGoForth =
+    (s : Shift) (p q : Place) → IsSound s → IsInside q → place_before s q ≡ Some p → place_after s p ≡ Some q
+
+-- no two places move to one
+abbrev pub NoTwoMeet : Type 0
+NoTwoMeet =
+    (s : Shift) (p other q : Place) → IsSound s → IsInside p → IsInside other → place_after s p ≡ Some q → place_after s other ≡ Some q → p ≡ other
+
+-- places of the sheet move to places of the sheet, and came from places of the sheet
+abbrev pub PlacesStayInside : Type 0
+PlacesStayInside =
+    (s : Shift) (p q : Place) → IsSound s → IsInside p → ((place_after s p ≡ Some q → IsInside q) × (place_before s p ≡ Some q → IsInside q))
+
+-- blocks of the sheet move to blocks of the sheet, and came from blocks of the sheet
+abbrev pub BlocksStayInside : Type 0
+BlocksStayInside =
+    (s : Shift) (b c : Block) → IsSound s → IsBlockInside b → ((block_after s b ≡ Some c → IsBlockInside c) × (block_before s b ≡ Some c → IsBlockInside c))
+
+-- the operation leaves all lines in their order: it inserts or deletes some, or drops a sheet
+abbrev pub KeepsOrder : Shift → Type 0
+KeepsOrder (MoveRows sheet start count before) = ⊥
+KeepsOrder (MoveCols sheet start count before) = ⊥
+KeepsOrder (MoveBlock source to) = ⊥
+KeepsOrder _ = ⊤
+
+-- the operation moves a place of the block here
+abbrev pub ComesFrom : Shift → Block → Place → Type 0
+ComesFrom s b q = (p : Place) × Covers b p × (place_after s p ≡ Some q)
+
+-- one of the `count` lines that an insert puts between two lines of a block
+abbrev pub IsPutBetween : ℕ → ℕ → ℕ → ℕ → ℕ → Type 0
+IsPutBetween start count first last line =
+    (first < start) × (start ≤ last) × (start ≤ line) × (line < start + count)
+
+-- the place lies on a line that an insert puts between two lines of the block
+abbrev pub IsPutInside : Shift → Block → Place → Type 0
+IsPutInside (InsertRows sheet start count) b q =
+    (b.sheet ≡ sheet) × (q.sheet ≡ sheet) × IsPutBetween start count b.top b.bottom q.row × (b.left ≤ q.col) × (q.col ≤ b.right)
+IsPutInside (InsertCols sheet start count) b q =
+    (b.sheet ≡ sheet) × (q.sheet ≡ sheet) × IsPutBetween start count b.left b.right q.col × (b.top ≤ q.row) × (q.row ≤ b.bottom)
+IsPutInside _ b q = ⊥
+
+-- over an insert, a deletion or a dropped sheet, a block covers the places that its places move to, and what is
+-- inserted between them; of the sheet's places no others
+abbrev pub BlocksCoverWhatMoves : Type 0
+BlocksCoverWhatMoves =
+    (s : Shift) (b after : Block) (q : Place) → IsSound s → KeepsOrder s → IsBlockInside b → IsInside q →
+    block_after s b ≡ Some after → Covers after q ↔ (ComesFrom s b q ⊎ IsPutInside s b q)
+
+-- over an insert, a deletion or a dropped sheet, a block is lost exactly where each of its places is
+abbrev pub BlocksAreLostWithTheirPlaces : Type 0
+BlocksAreLostWithTheirPlaces =
+    (s : Shift) (b : Block) → IsSound s → KeepsOrder s → IsBlockInside b →
+    (block_after s b ≡ None) ↔ ((p : Place) → Covers b p → place_after s p ≡ None)
+
+-- the first line of a block that isn't among the moved ones, where the block ends behind them
+abbrev pub first_unmoved : ℕ → ℕ → ℕ → ℕ
+first_unmoved start count first = if is_among start count first then start + count else first
+
+-- the last line of a block that isn't among the moved ones, where the block begins before them
+abbrev pub last_unmoved : ℕ → ℕ → ℕ → ℕ
+last_unmoved start count last = if is_among start count last then start - 1 else last
+
+-- the outermost lines of a block, of those that a move doesn't take where there are any, after the move
+abbrev pub span_of_lines : ℕ → ℕ → ℕ → Span → Span
+span_of_lines start count before s =
+    if is_among start count s.first && is_among start count s.last
+    then record { first = line_after_move start count before s.first; last = line_after_move start count before s.last }
+    else record {
+      first = line_after_move start count before (first_unmoved start count s.first);
+      last = line_after_move start count before (last_unmoved start count s.last);
+    }
+
+-- a move of rows or columns loses no block: each ends where its outermost lines stand then
+abbrev pub MovedBlocksEndAtTheirLines : Type 0
+MovedBlocksEndAtTheirLines =
+    (sheet start count before : ℕ) (b : Block) → IsBlockInside b →
+    (IsSound (MoveRows sheet start count before) →
+    block_after (MoveRows sheet start count before) b ≡ by_rows sheet (λ rows. Some (span_of_lines start count before rows)) b)
+    × (IsSound (MoveCols sheet start count before) →
+    block_after (MoveCols sheet start count before) b ≡ by_cols sheet (λ cols. Some (span_of_lines start count before cols)) b)
+
+-- the block of one place
+abbrev pub one_cell : Place → Block
+one_cell p = record { sheet = p.sheet; top = p.row; left = p.col; bottom = p.row; right = p.col }
+
+-- a place and the block of that place move alike
+abbrev pub OneCellsMoveAlike : Type 0
+OneCellsMoveAlike =
+    (s : Shift) (p : Place) → IsSound s → IsInside p → block_after s (one_cell p) ≡ option_map one_cell (place_after s p)
+
+-- the operation isn't the move of a block of cells
+abbrev pub MovesNoBlock : Shift → Type 0
+MovesNoBlock (MoveBlock source to) = ⊥
+MovesNoBlock _ = ⊤
+
+-- unless the operation is a move of cells, the places of a block that is neither bent nor cut keep their offsets in it
+abbrev pub UnbentBlocksKeepOffsets : Type 0
+UnbentBlocksKeepOffsets =
+    (s : Shift) (b after : Block) (p : Place) → IsSound s → MovesNoBlock s → IsBlockInside b → ¬ IsBent s b → ¬ IsCut s b →
+    block_after s b ≡ Some after → Covers b p → place_after s p ≡ Some (carried_place b (first_place after) p)

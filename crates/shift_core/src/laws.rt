@@ -1,0 +1,55 @@
+// What the tables of moved places and blocks have in common, as laws over every operation.
+ghost use Rattle.shift_core.specs.Laws.{PlacesComeBack, PlacesGoForth, NoTwoMeet, PlacesStayInside, BlocksStayInside, BlocksCoverWhatMoves, BlocksAreLostWithTheirPlaces, MovedBlocksEndAtTheirLines, OneCellsMoveAlike, UnbentBlocksKeepOffsets};
+
+/// A place of the sheet that isn't lost comes back to where it was.
+pub fn places_come_back()
+    ensures { PlacesComeBack }
+{}
+
+/// What a place of the sheet came from goes there.
+pub fn places_go_forth()
+    ensures { PlacesGoForth }
+{}
+
+/// No two places of the sheet move to one.
+pub fn no_two_meet()
+    ensures { NoTwoMeet }
+{}
+
+/// Places of the sheet move to places of the sheet, and came from places of the sheet.
+pub fn places_stay_inside()
+    ensures { PlacesStayInside }
+{}
+
+/// Blocks of the sheet move to blocks of the sheet, and came from blocks of the sheet.
+pub fn blocks_stay_inside()
+    ensures { BlocksStayInside }
+{}
+
+/// Over an insert, a deletion or a dropped sheet, a block covers the places that its places move to
+/// and the lines that are inserted between them, and no others.
+pub fn blocks_cover_what_moves()
+    ensures { BlocksCoverWhatMoves }
+{}
+
+/// Over an insert, a deletion or a dropped sheet, a block is lost exactly where each of its places is.
+pub fn blocks_are_lost_with_their_places()
+    ensures { BlocksAreLostWithTheirPlaces }
+{}
+
+/// A move of rows or columns loses no block. One that isn't wholly among the moved lines ends where
+/// its outermost lines that aren't moved stand then.
+pub fn moved_blocks_end_at_their_lines()
+    ensures { MovedBlocksEndAtTheirLines }
+{}
+
+/// A place and the block of that place move alike.
+pub fn one_cells_move_alike()
+    ensures { OneCellsMoveAlike }
+{}
+
+/// Unless a block of cells is place_after, the places of a block that is neither bent nor cut at the
+/// sheet's end keep their offsets in it.
+pub fn unbent_blocks_keep_offsets()
+    ensures { UnbentBlocksKeepOffsets }
+{}

@@ -1,0 +1,28 @@
+//! The structural operations of a sheet, and what they do to places and blocks.
+//!
+//! A [`Shift`] inserts, deletes or moves rows or columns, moves a block of cells, or drops a sheet.
+//! [`moved_place`] and [`moved_block`] say where a reference points afterwards; [`back_place`] and
+//! [`back_block`] say what it pointed at before. The laws say what these have in common, such as that
+//! a place that isn't lost comes back. Two rows put before row 5 (counted from 0) move a
+//! place in row 7 to row 9, and back again:
+//!
+//! ```text
+//! let two_rows = Shift::InsertRows { sheet: 0, at: 5, count: 2 };
+//! moved_place(&two_rows, Place { sheet: 0, row: 7, col: 1 })  // Some(Place { sheet: 0, row: 9, col: 1 })
+//! back_place(&two_rows, Place { sheet: 0, row: 9, col: 1 })   // Some(Place { sheet: 0, row: 7, col: 1 })
+//! ```
+#![tactic(auto)]
+
+mod laws;
+mod line;
+mod shift;
+mod span;
+#[cfg(test)]
+mod tests;
+
+pub use laws::{
+    blocks_are_lost_with_their_places, blocks_cover_what_moves, blocks_stay_inside,
+    moved_blocks_end_at_their_lines, no_two_meet, one_cells_move_alike, places_come_back,
+    places_go_forth, places_stay_inside, unbent_blocks_keep_offsets,
+};
+pub use shift::{Shift, back_block, back_place, is_bent, moved_block, moved_place, sound};

@@ -1,0 +1,10 @@
+pub mod ListTests
+pub mod Chains
+pub mod Counts
+pub mod ShortChains
+pub mod Stuck
+pub mod FollowedNeeds
+pub mod Values
+pub mod Orders
+pub mod Rows
+pub mod Alike
