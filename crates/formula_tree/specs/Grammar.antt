@@ -55,7 +55,8 @@ abbrev pub area_on : Option ℕ → Address → Address → Term Corner
 area_on (Some sheet) a b = area (placed sheet (first_of a b)) (placed sheet (last_of a b))
 area_on None a b = fault faults.Ref
 
--- atoms without parts; home is the formula's sheet, and find gives the sheet of a name
+-- atoms without parts: a number, a text, a truth value, a fault, a name, a reference or a block, these two
+-- with a sheet's name in front or without; home is the formula's sheet, and find gives the sheet of a name
 pub data Leaf (home : ℕ) (find : List ℕ → Option ℕ) : List Token → Term Corner → List Token → Type 0 where
   a_number : {w : List ℕ} {m : ℤ} {zs : List Token} → number_of w ≡ Ok m → Leaf home find (tok.Number w ∷ zs) (number m) zs
   a_text : {w : List ℕ} {zs : List Token} → Leaf home find (tok.Text w ∷ zs) (text w) zs
@@ -76,14 +77,20 @@ mutual
     -- operators of one level group to the left
     between : (o : Op) {xs : List Token} {l : Term Corner} {ys : List Token} {r : Term Corner} {zs : List Token}
         → Spells home find (level_of o) xs l (tok.Operator o ∷ ys) → Spells home find (suc (level_of o)) ys r zs → Spells home find (level_of o) xs (binary o l r) zs
+    -- `%` behind an operand, as often as wanted
     behind : {xs : List Token} {t : Term Corner} {zs : List Token}
         → Spells home find percent_level xs t (tok.Percent ∷ zs) → Spells home find percent_level xs (percent t) zs
+    -- a sign in front of an operand, as often as wanted
     before : (s : Sign) {xs : List Token} {t : Term Corner} {zs : List Token}
         → Spells home find sign_level xs t zs → Spells home find sign_level (tok.Operator (op_of s) ∷ xs) (prefix s t) zs
+    -- an atom without parts
     leaf : {xs : List Token} {t : Term Corner} {zs : List Token} → Leaf home find xs t zs → Spells home find atom_level xs t zs
+    -- a formula in parentheses
     inside : {xs : List Token} {t : Term Corner} {zs : List Token}
         → Spells home find 0 xs t (tok.Close ∷ zs) → Spells home find atom_level (tok.Open ∷ xs) (paren t) zs
+    -- a function without arguments
     alone : {w : List ℕ} {zs : List Token} → Spells home find atom_level (tok.Word w ∷ tok.Open ∷ tok.Close ∷ zs) (call (capitals w) no_terms) zs
+    -- a function with arguments
     called : {w : List ℕ} {xs : List Token} {ts : Terms Corner} {zs : List Token}
         → SpellsAll home find xs ts zs → Spells home find atom_level (tok.Word w ∷ tok.Open ∷ xs) (call (capitals w) ts) zs
 
