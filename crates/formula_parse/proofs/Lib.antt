@@ -1,0 +1,5 @@
+pub mod AsciiFronts
+pub mod Quotes
+pub mod ShorterFronts
+pub mod FrontTests
+pub mod ReadTokens
