@@ -1,5 +1,4 @@
 pub mod AsciiFronts
 pub mod Quotes
 pub mod ShorterFronts
-pub mod FrontTests
 pub mod ReadTokens

@@ -1,11 +1,11 @@
 -- The tokens that are read so far, and those of the rest. Serves the lexer.
 use Rattle.std.proofs.Common.{◌≡◌, sym, ◌∙◌, ap, refl, arith, ℕ, ◌+◌, ◌<◌, ◌≤◌, Bool, true, false, cond, List, [], ◌∷◌, ◌++◌, length, drop, Option, Some, None, option_map, append_assoc}
-use Rattle.std.specs.List.{slice_get}
+use Rattle.std.specs.List.{slice_get, take_while}
 use Rattle.std.specs.Char.{is_ascii}
 use Rattle.std.proofs.lemmas.Bool.Decides.{nat_tests}
 use Rattle.std.proofs.lemmas.Bool.{cond-true, cond-false}
 use Rattle.formula_tree.specs.declared.token.Token.{Token}
-use Rattle.formula_tree.specs.Run.{is_blank, begins_with_any}
+use Rattle.formula_tree.specs.Run.{is_blank, begins_run, is_run_byte, begins_with_any, behind, run_token}
 use Rattle.formula_tree.specs.Tokens.{token_at, and_tokens, tokens_of}
 use Rattle.formula_tree.proofs.TokenSteps.{tokens_of-nil, tokens_of-step}
 use Rattle.formula_parse.specs.Front.{front_of}
@@ -67,3 +67,8 @@ tokens-none (d ∷ ds) c e h f =
 pub tokens-end : (cs : List ℕ) → None ≡ slice_get cs 0 → tokens_of cs ≡ Some []
 tokens-end [] e = tokens_of-nil
 tokens-end (d ∷ ds) e = cc
+
+-- a text that begins with a run
+pub front_of-run : (cs run rest : List ℕ) → begins_with_any begins_run cs ≡ true → run ≡ take_while is_run_byte cs → rest ≡ behind is_run_byte cs → front_of cs ≡ Some (run_token run rest)
+front_of-run [] run rest h e f = cc
+front_of-run (c ∷ cs) run rest h e f = rw (h, e, f) refl
