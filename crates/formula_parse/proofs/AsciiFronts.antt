@@ -142,4 +142,4 @@ two-ascii k q c cs h g e =
 pub ascii-pair : (c : ℕ) (cs : List ℕ) (o : Op) → pair_op c cs ≡ Some o → 2 ≤ prefix_len is_ascii (c ∷ cs)
 ascii-pair c cs o e =
     pair-by (c == 60 && begins_with 62 cs) (c == 60 && begins_with 61 cs) (c == 62 && begins_with 61 cs) c cs _ _ _ o
-      (two-ascii 60 62 c cs refl refl) (two-ascii 60 61 c cs refl refl) (two-ascii 62 61 c cs refl refl) e
+    (two-ascii 60 62 c cs refl refl) (two-ascii 60 61 c cs refl refl) (two-ascii 62 61 c cs refl refl) e

@@ -74,8 +74,8 @@ quoted-shorter q [] = tt
 quoted-shorter q (c ∷ []) = parts-cond 1 (c == q) (Some ([], [])) None (omega arith) tt
 quoted-shorter q (c ∷ d ∷ cs) =
     parts-cond (length (c ∷ d ∷ cs)) (c == q) _ _
-      (parts-cond (length (c ∷ d ∷ cs)) (d == q) _ _ (parts-byte (length cs) (length (c ∷ d ∷ cs)) q (quoted q cs) (omega arith) (quoted-shorter q cs)) (omega arith))
-      (parts-byte (length (d ∷ cs)) (length (c ∷ d ∷ cs)) c (quoted q (d ∷ cs)) (omega arith) (quoted-shorter q (d ∷ cs)))
+    (parts-cond (length (c ∷ d ∷ cs)) (d == q) _ _ (parts-byte (length cs) (length (c ∷ d ∷ cs)) q (quoted q cs) (omega arith) (quoted-shorter q cs)) (omega arith))
+    (parts-byte (length (d ∷ cs)) (length (c ∷ d ∷ cs)) c (quoted q (d ∷ cs)) (omega arith) (quoted-shorter q (d ∷ cs)))
 
 short-text : (n : ℕ) (parts : Option (List ℕ × List ℕ)) → ShortParts n parts → Short n (option_map text_token parts)
 short-text n None s = tt
@@ -119,4 +119,3 @@ token_at-shorter c cs =
     short-cond (length cs) (c == 34) _ _ (λ _. short-text (length cs) (quoted 34 cs) (quoted-shorter 34 cs)) (λ _.
     short-cond (length cs) (c == 39) _ _ (λ _. short-sheet (length cs) (quoted 39 cs) (quoted-shorter 39 cs)) (λ _.
     short-cond (length cs) (c == 35) _ _ (λ _. short-fault c cs (find (begins_with_fault (c ∷ cs)) faults)) (λ _. short-sign (pair_op c cs) c cs)))))
-

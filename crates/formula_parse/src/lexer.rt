@@ -7,8 +7,8 @@ ghost use Rattle.formula_tree.specs.Tokens.{decimals_length, number_length, begi
 ghost use Rattle.formula_parse.specs.Front.{front_of, sign_of, number_front};
 
 use crate::front::{
-    begins_with, begins_with_digit, begins_with_run, behind_byte, digits_count, first_bytes, is_blank, split_front,
-    split_run,
+    begins_with, begins_with_digit, begins_with_run, behind_byte, digits_count, first_bytes,
+    is_blank, split_front, split_run,
 };
 use crate::quote::quoted;
 use crate::run::{is_sheet_behind, run_token};
@@ -163,7 +163,10 @@ fn fault_in_front(text: &[u8]) -> Option<FaultKind>
         FaultKind::Ref,
         FaultKind::Error,
     ];
-    faults.iter().copied().find(|fault| begins_with_fault(text, *fault))
+    faults
+        .iter()
+        .copied()
+        .find(|fault| begins_with_fault(text, *fault))
 }
 
 // Whether the text begins with the spelling of this fault, in letters of any case.

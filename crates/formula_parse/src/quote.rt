@@ -9,7 +9,11 @@ use std::alloc::{AllocError, Global};
 
 /// Of a text behind a quote: the content up to the closing one, where two quotes are one of the content,
 /// and what stands behind the closing one. `None` where no quote closes the content.
-pub(crate) fn quoted(alloc: Global, text: &str, quote: char) -> Result<Option<(Text, &str)>, AllocError>
+pub(crate) fn quoted(
+    alloc: Global,
+    text: &str,
+    quote: char,
+) -> Result<Option<(Text, &str)>, AllocError>
     requires { quote < 128 }
     ensures { IfOk result (λ parts. option_map (λ p. (p.0, p.1.now)) parts ≡ quoted quote text.now) }
 {

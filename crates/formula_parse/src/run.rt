@@ -12,7 +12,11 @@ use std::alloc::{AllocError, Global};
 
 /// What the run is, and what stands behind it: before `!` a sheet's name, before `(` a function's word,
 /// then an address, a truth value, a name.
-pub(crate) fn run_token<'a>(alloc: Global, run: &str, behind: &'a str) -> Result<Option<(Token, &'a str)>, AllocError>
+pub(crate) fn run_token<'a>(
+    alloc: Global,
+    run: &str,
+    behind: &'a str,
+) -> Result<Option<(Token, &'a str)>, AllocError>
     ensures { IfOk result (λ front. option_map (λ p. (p.0, p.1.now)) front ≡ Some (run_token run.now behind.now)) }
 {
     if is_sheet_run(run.as_bytes(), behind.as_bytes()) {
@@ -92,7 +96,8 @@ fn is_word(run: &[u8]) -> bool
     ensures { result ≡ is_word run.now }
 {
     match run {
-        [first, behind @ ..] => (first.is_ascii_alphabetic() || *first == b'_') && all_word_bytes(behind),
+        [first, behind @ ..] => (first.is_ascii_alphabetic() || *first == b'_')
+            && all_word_bytes(behind),
         [] => false,
     }
 }
