@@ -1,0 +1,4 @@
+pub mod AsciiFronts
+pub mod Quotes
+pub mod ShorterFronts
+pub mod ReadTokens
