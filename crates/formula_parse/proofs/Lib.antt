@@ -2,3 +2,5 @@ pub mod AsciiFronts
 pub mod Quotes
 pub mod ShorterFronts
 pub mod ReadTokens
+pub mod ReaderRules
+pub mod ReaderLoops

@@ -6,6 +6,7 @@
 mod front;
 mod lexer;
 mod quote;
+mod reader;
 mod run;
 
 pub use lexer::tokens;
