@@ -1,7 +1,7 @@
 -- Canonical texts are read as their trees. Serves the laws on reading what was printed.
 use Rattle.std.proofs.Common.{◌≡◌, refl, ℕ, List, Option, Some}
 use Rattle.cell_addr.specs.Sheets.{AreApart, id_in, name_in}
-use Rattle.cell_addr.proofs.Listed.{sheets-are-found, found-sheets-are-listed}
+use Rattle.cell_addr.proofs.Listed.{id_in-listed, name_in-listed, listed-id_in}
 use Rattle.formula_tree.specs.Proper.{AreNamed}
 use Rattle.formula_tree.proofs.Exact.{text_reader-exact}
 use Rattle.formula_tree.proofs.CanonicalText.{canonical-spells}
@@ -16,9 +16,8 @@ canonical-is-read home find names t proper listed depth =
 -- in a list without a name twice, each sheet that is found has a name by which it is found
 named-apart : (sheets : List (ℕ × List ℕ)) → AreApart sheets → AreNamed (name_in sheets) (id_in sheets)
 named-apart sheets apart v sheet found =
-    let listed = (found-sheets-are-listed sheets sheet v).0 found in
-    let both = sheets-are-found sheets sheet listed.0 listed.0 apart listed.1.0 refl in
-    (listed.0, both.1, both.0)
+    let (w, (listed, same)) = listed-id_in sheets v sheet found in
+    (w, name_in-listed sheets (sheet, w) apart listed, id_in-listed sheets (sheet, w) w apart listed refl)
 
 pub read-again : ReadAgain
 read-again home sheets text t apart read =
