@@ -4,3 +4,5 @@ pub mod ShorterFronts
 pub mod ReadTokens
 pub mod ReaderRules
 pub mod ReaderLoops
+pub mod ReadTexts
+pub mod CanonicalRead
