@@ -1,5 +1,5 @@
 -- A proper tree is clipped already. Serves the canonical text of proper trees.
-use Rattle.std.proofs.Common.{◌≡◌, ap, refl, arith, ℕ, ◌<◌, ◌≤◌, ◌-◌, min}
+use Rattle.std.proofs.Common.{◌≡◌, ap, refl, arith, ◌-◌, min}
 use Rattle.cell_addr.specs.Place as places
 use Rattle.cell_addr.specs.declared.place.TheConstants.{COLS}
 use Rattle.formula_tree.specs.declared.plain.Corner.{Corner}
@@ -8,7 +8,7 @@ use Rattle.formula_tree.specs.Proper.{IsProper, AreProper}
 use Rattle.formula_print.specs.Clipped.{clipped_corner, clipped, clipped_all}
 
 inside-corner : (c : Corner) → places.IsInside c.at → clipped_corner c ≡ c
-inside-corner c h = 
+inside-corner c h =
     let e : min c.at.col (COLS - 1) ≡ c.at.col = omega arith in
     ap (λ n. record { at = record { sheet = c.at.sheet; row = c.at.row; col = n }; row_fixed = c.row_fixed; col_fixed = c.col_fixed }) e
 

@@ -1,6 +1,5 @@
 -- Quotes doubled, piece by piece. Serves the writing of contents between quotes.
 use Rattle.std.proofs.Common.{◌≡◌, ◌∙◌, sym, ap, append_assoc, refl, ℕ, Bool, true, false, cond, eqb, List, [], ◌∷◌, ◌++◌, Option, Some, None}
-use Rattle.std.proofs.lemmas.Bool.{eqb-true}
 use Rattle.cell_addr.specs.SheetName.{with_byte, split_first}
 use Rattle.formula_tree.specs.Canonical.{doubled, between_quotes}
 

@@ -11,7 +11,9 @@ ghost use Rattle.formula_tree.specs.declared.plain.Corner.{Corner};
 ghost use Rattle.formula_print.specs.Writes.{Writes};
 ghost use Rattle.formula_print.specs.Clipped.{clipped, clipped_all};
 
-use crate::pieces::{op_text, push_corner, push_quoted, push_sheet, sheet_of, sign_text, truth_text};
+use crate::pieces::{
+    op_text, push_corner, push_quoted, push_sheet, sheet_of, sign_text, truth_text,
+};
 use cell_addr::{SheetNames, Text};
 use formula_tree::{Home, Plain, PlainList, Tree};
 use std::alloc::{AllocError, Global};

@@ -1,4 +1,4 @@
-use Rattle.std.proofs.Common.{◌≡◌, ◌∙◌, ap, arith, [], ◌∷◌, ◌++◌, drop, string_bytes}
+use Rattle.std.proofs.Common.{◌≡◌, ◌∙◌, ap, arith, [], ◌++◌, drop, string_bytes}
 use Rattle.std.proofs.lemmas.List.{drop_all}
 use Rattle.cell_addr.specs.Sheets.{name_in}
 use Rattle.formula_tree.specs.Canonical.{printed_all}
