@@ -14,7 +14,7 @@ use crate::line::line;
 use crate::refusal::Refusal;
 use crate::sheet::{read_tree, tree_text};
 use cell_addr::{Place, Spot, Text};
-use cell_value::truth_text;
+use cell_value::Scalar;
 use cell_values::{Cell, Workbook, value};
 use formula_tree::Plain;
 use std::alloc::{AllocError, Global};
@@ -147,7 +147,10 @@ fn shown_content(alloc: Global, workbook: &Workbook, at: Place) -> Result<Vec<u8
             let text = number.text(alloc)?;
             line(alloc, text.as_str())
         }
-        Some(Cell::Truth(truth)) => line(alloc, truth_text(*truth)),
+        Some(Cell::Truth(truth)) => {
+            let text = Scalar::Truth(*truth).shown(alloc)?;
+            line(alloc, text.as_str())
+        }
         Some(Cell::Text(text)) => {
             let given = given_text(alloc, text)?;
             line(alloc, given.as_str())

@@ -6,11 +6,10 @@ ghost use Rattle.std.specs.Prelude.{◌≡◌, ◌<◌};
 
 use sheet_cli::outside::{StdSink, StdSource};
 use sheet_cli::run;
-use std::env;
-use std::io;
 use std::marker::Brand;
 use std::process::ExitCode;
 use std::sync::ledger::{Blank, Ledger};
+use std::{env, io};
 use steps::Steps;
 
 /// The status of a program that has no memory for its words.
