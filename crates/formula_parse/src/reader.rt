@@ -15,12 +15,15 @@ use fix_num::Fixed;
 use formula_tree::{Address, Corner, Op, Plain, PlainList, Sign, Token};
 use std::alloc::{AllocError, Global};
 
+// The most levels that the tree of a formula has.
+const MAX_LEVELS: u32 = 64;
+
 // How strongly `%` and signs bind.
 const PERCENT_LEVEL: u32 = 5;
 
 const SIGN_LEVEL: u32 = 6;
 
-/// A tree that was read, and the tokens behind it; `None` where none was.
+// A tree that was read, and the tokens behind it; `None` where none was.
 type Read<'t> = Option<(Plain, &'t [Token])>;
 
 // The first token, and those behind it.
@@ -421,9 +424,6 @@ fn percent(alloc: Global, part: Plain) -> Result<Plain, AllocError>
     let part = Box::new(alloc, part)?;
     Ok(Plain::Percent(part))
 }
-
-/// The most levels that the tree of a formula has.
-pub const MAX_LEVELS: u32 = 64;
 
 // The tree that the tokens spell, for a formula on the sheet `home`. `None` where they spell no tree of at
 // most [`MAX_LEVELS`] levels.
