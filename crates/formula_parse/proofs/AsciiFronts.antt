@@ -1,5 +1,5 @@
 -- The ASCII bytes that a text begins with: a text may be cut behind them. Serves the lexer.
-use Rattle.std.proofs.Common.{◌≡◌, sym, ◌∙◌, ap, subst, refl, arith, add-one, ℕ, zero, suc, ◌+◌, ◌<◌, ◌≤◌, Bool, true, false, ◌&&◌, ◌||◌, ◌==◌, eqb, cond, if◌then◌else◌, List, [], ◌∷◌, length, take, drop, map, Option, Some, None}
+use Rattle.std.proofs.Common.{◌≡◌, sym, ◌∙◌, ap, subst, refl, arith, add-one, ℕ, zero, suc, ◌+◌, ◌≤◌, Bool, true, false, ◌&&◌, ◌==◌, eqb, cond, if◌then◌else◌, List, [], ◌∷◌, length, take, drop, Some, None}
 use Rattle.std.specs.List.{list_all, prefix_len, find}
 use Rattle.std.specs.Char.{is_ascii, to_ascii_lowercase}
 use Rattle.std.specs.Str.{IsUtf8, IsCharBoundary}
@@ -12,7 +12,7 @@ use Rattle.digits.specs.Digits.{is_digit}
 use Rattle.cell_addr.specs.Text.{folded}
 use Rattle.cell_value.specs.declared.fault.FaultKind.{FaultKind}
 use Rattle.cell_value.specs.declared.fault.FaultKind.TheVariants as kinds
-use Rattle.cell_value.specs.Fault.{fault_text, faults, spells}
+use Rattle.cell_value.specs.Fault.{fault_text, faults}
 use Rattle.formula_tree.specs.declared.plain.Op.{Op}
 use Rattle.formula_tree.specs.declared.token.Token.{Token}
 use Rattle.formula_tree.specs.Run.{is_run_byte, begins_with, begins_with_any, behind, is_sheet_behind}

@@ -1,5 +1,5 @@
 -- Canonical texts are read as their trees. Serves the laws on reading what was printed.
-use Rattle.std.proofs.Common.{◌≡◌, refl, ℕ, List, Option, Some}
+use Rattle.std.proofs.Common.{refl, ℕ, List}
 use Rattle.cell_addr.specs.Sheets.{AreApart, id_in, name_in}
 use Rattle.cell_addr.proofs.Listed.{id_in-listed, name_in-listed, listed-id_in}
 use Rattle.formula_tree.specs.Proper.{AreNamed}

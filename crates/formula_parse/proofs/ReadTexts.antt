@@ -1,5 +1,5 @@
 -- Texts and their trees. Serves the reading of texts.
-use Rattle.std.proofs.Common.{◌≡◌, ◌∙◌, sym, refl, arith, ltb, ℕ, ◌<◌, ◌≤◌, Bool, true, false, List, [], ◌∷◌, drop, Option, Some, None}
+use Rattle.std.proofs.Common.{◌≡◌, refl, ltb, ℕ, ◌<◌, true, false, List, [], ◌∷◌, drop, Option, Some, None}
 use Rattle.std.proofs.lemmas.Bool.{ltb-false}
 use borrow.Author.Tests.{ltb-true}
 use Rattle.formula_tree.specs.declared.plain.Corner.{Corner}

@@ -1,18 +1,18 @@
 -- What stands behind a token is shorter than the text. Serves the lexer, whose loop ends by it.
-use Rattle.std.proofs.Common.{◌≡◌, sym, ◌∙◌, ap, refl, arith, ℕ, zero, suc, ◌+◌, ◌-◌, ◌<◌, ◌≤◌, Bool, true, false, not, ◌&&◌, ◌||◌, ◌==◌, cond, if◌then◌else◌, List, [], ◌∷◌, ◌++◌, length, take, drop, Option, Some, None, option_map, length-drop}
+use Rattle.std.proofs.Common.{◌≡◌, refl, arith, ℕ, ◌+◌, ◌≤◌, Bool, true, false, ◌==◌, cond, if◌then◌else◌, List, [], ◌∷◌, length, take, drop, Option, Some, None, option_map, length-drop}
 use Rattle.std.specs.Option.{option_and_then}
 use Rattle.std.specs.List.{prefix_len, take_while, find}
 use Rattle.std.proofs.lemmas.Bool.Decides.{nat_tests}
 use Rattle.digits.specs.Digits.{is_digit}
-use Rattle.cell_addr.specs.SheetName.{is_bare_name, with_byte}
+use Rattle.cell_addr.specs.SheetName.{with_byte}
 use Rattle.cell_value.specs.declared.fault.FaultKind.{FaultKind}
 use Rattle.cell_value.specs.declared.fault.FaultKind.TheVariants as kinds
 use Rattle.cell_value.specs.Fault.{fault_text, faults}
 use Rattle.formula_tree.specs.declared.plain.Op.{Op}
 use Rattle.formula_tree.specs.declared.token.Token.{Token}
 use Rattle.formula_tree.specs.declared.token.Token.TheVariants as tok
-use Rattle.formula_tree.specs.Run.{is_blank, begins_run, is_run_byte, begins_with, begins_with_any, behind, is_word, corner_of, lone_token, is_sheet_behind, is_sheet_run, run_token}
-use Rattle.formula_tree.specs.Tokens.{Front, decimals_length, number_length, begins_number, quoted, text_token, sheet_token, begins_with_fault, fault_token, byte_token, pair_op, sign_token, token_at}
+use Rattle.formula_tree.specs.Run.{is_blank, begins_run, is_run_byte, begins_with, behind, is_word, corner_of, lone_token, is_sheet_behind, is_sheet_run, run_token}
+use Rattle.formula_tree.specs.Tokens.{Front, number_length, begins_number, quoted, text_token, sheet_token, begins_with_fault, fault_token, byte_token, pair_op, sign_token, token_at}
 use Rattle.formula_tree.proofs.TokenSteps.{chosen}
 
 -- what stands behind a token is no longer than this

@@ -1,5 +1,5 @@
 -- The token that a text begins with. Source: this project's own.
-use Rattle.std.specs.Prelude.{ℕ, List, [], ◌∷◌, take, drop, Option, Some, None}
+use Rattle.std.specs.Prelude.{ℕ, List, [], ◌∷◌, take, drop, Some, None}
 use Rattle.formula_tree.specs.declared.token.Token.TheVariants as tok
 use Rattle.formula_tree.specs.Tokens.{Front, number_length, pair_op, sign_token, token_at}
 

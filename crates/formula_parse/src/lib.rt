@@ -17,6 +17,8 @@ mod reader;
 mod run;
 #[cfg(test)]
 mod token_tests;
+#[cfg(test)]
+mod tree_tests;
 
 pub use formula::{ParseError, parse, read_plain};
 pub use lexer::tokens;

@@ -15,11 +15,15 @@ use fix_num::Fixed;
 use formula_tree::{Address, Corner, Op, Plain, PlainList, Sign, Token};
 use std::alloc::{AllocError, Global};
 
+// The most levels that the tree of a formula has.
+const MAX_LEVELS: u32 = 64;
+
 // How strongly `%` and signs bind.
 const PERCENT_LEVEL: u32 = 5;
+
 const SIGN_LEVEL: u32 = 6;
 
-/// A tree that was read, and the tokens behind it; `None` where none was.
+// A tree that was read, and the tokens behind it; `None` where none was.
 type Read<'t> = Option<(Plain, &'t [Token])>;
 
 // The first token, and those behind it.
@@ -126,8 +130,16 @@ fn first_of(a: Address, b: Address) -> Address
     Address {
         row: if b.row < a.row { b.row } else { a.row },
         col: if b.col < a.col { b.col } else { a.col },
-        row_fixed: if b.row < a.row { b.row_fixed } else { a.row_fixed },
-        col_fixed: if b.col < a.col { b.col_fixed } else { a.col_fixed },
+        row_fixed: if b.row < a.row {
+            b.row_fixed
+        } else {
+            a.row_fixed
+        },
+        col_fixed: if b.col < a.col {
+            b.col_fixed
+        } else {
+            a.col_fixed
+        },
     }
 }
 
@@ -138,8 +150,16 @@ fn last_of(a: Address, b: Address) -> Address
     Address {
         row: if b.row < a.row { a.row } else { b.row },
         col: if b.col < a.col { a.col } else { b.col },
-        row_fixed: if b.row < a.row { a.row_fixed } else { b.row_fixed },
-        col_fixed: if b.col < a.col { a.col_fixed } else { b.col_fixed },
+        row_fixed: if b.row < a.row {
+            a.row_fixed
+        } else {
+            b.row_fixed
+        },
+        col_fixed: if b.col < a.col {
+            a.col_fixed
+        } else {
+            b.col_fixed
+        },
     }
 }
 
@@ -232,13 +252,20 @@ impl<'a, S: SheetNames> Reader<'a, S> {
                 let found = self.paren(levels, rest)?;
                 Ok(found)
             }
-            Token::Other(_) | Token::Percent | Token::Colon | Token::Comma | Token::Close => Ok(None),
+            Token::Other(_) | Token::Percent | Token::Colon | Token::Comma | Token::Close => Ok(
+                None,
+            ),
         }
     }
 
     // A sign's operand.
     #[cycle(tree)]
-    fn signed<'t>(&self, levels: u32, sign: Option<Sign>, tokens: &'t [Token]) -> Result<Read<'t>, AllocError>
+    fn signed<'t>(
+        &self,
+        levels: u32,
+        sign: Option<Sign>,
+        tokens: &'t [Token],
+    ) -> Result<Read<'t>, AllocError>
         ensures { IfOk result (λ found. option_map (λ p. (seen p.0, p.1.now)) found
             ≡ signed (read self.now.home (id_in (S.sheets self.now.sheets.now)) levels) sign tokens.now) }
     {
@@ -270,7 +297,12 @@ impl<'a, S: SheetNames> Reader<'a, S> {
 
     // A call behind its word.
     #[cycle(tree)]
-    fn call<'t>(&self, levels: u32, word: &Text, tokens: &'t [Token]) -> Result<Read<'t>, AllocError>
+    fn call<'t>(
+        &self,
+        levels: u32,
+        word: &Text,
+        tokens: &'t [Token],
+    ) -> Result<Read<'t>, AllocError>
         ensures { IfOk result (λ found. option_map (λ p. (seen p.0, p.1.now)) found
             ≡ call_front (read self.now.home (id_in (S.sheets self.now.sheets.now)) levels) word.now tokens.now) }
     {
@@ -287,7 +319,12 @@ impl<'a, S: SheetNames> Reader<'a, S> {
 
     // The arguments of a call, one at least, and the closing parenthesis.
     #[cycle(tree)]
-    fn arguments<'t>(&self, levels: u32, word: &Text, tokens: &'t [Token]) -> Result<Read<'t>, AllocError>
+    fn arguments<'t>(
+        &self,
+        levels: u32,
+        word: &Text,
+        tokens: &'t [Token],
+    ) -> Result<Read<'t>, AllocError>
         ensures { IfOk result (λ found. option_map (λ p. (seen p.0, p.1.now)) found
             ≡ arguments (read self.now.home (id_in (S.sheets self.now.sheets.now)) levels) word.now (length tokens.now) [] tokens.now) }
     {
@@ -387,9 +424,6 @@ fn percent(alloc: Global, part: Plain) -> Result<Plain, AllocError>
     let part = Box::new(alloc, part)?;
     Ok(Plain::Percent(part))
 }
-
-/// The most levels that the tree of a formula has.
-pub const MAX_LEVELS: u32 = 64;
 
 // The tree that the tokens spell, for a formula on the sheet `home`. `None` where they spell no tree of at
 // most [`MAX_LEVELS`] levels.

@@ -4,7 +4,7 @@ use std::alloc::{AllocError, Global};
 use std::fmt::Write;
 use std::test::Fail;
 
-fn sign(op: Op) -> &'static str {
+pub(crate) fn sign(op: Op) -> &'static str {
     match op {
         Op::Add => "+",
         Op::Sub => "-",

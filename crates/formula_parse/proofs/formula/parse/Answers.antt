@@ -1,4 +1,4 @@
-use Rattle.std.proofs.Common.{◌≡◌, sym, rules, Some, None}
+use Rattle.std.proofs.Common.{◌≡◌, rules, Some, None}
 use Rattle.cell_addr.specs.Sheets.{id_in}
 use Rattle.formula_tree.specs.Grammar.{sheet_of}
 use Rattle.formula_tree.specs.Reader.{tree_of_text}

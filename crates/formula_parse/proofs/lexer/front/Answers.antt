@@ -1,6 +1,5 @@
-use Rattle.std.proofs.Common.{◌≡◌, ◌∙◌, sym, ap, Some}
-use Rattle.formula_tree.specs.Run.{begins_run, begins_with_any, run_token}
-use Rattle.formula_parse.specs.Front.{front_of}
+use Rattle.std.proofs.Common.{◌∙◌, sym, ap}
+use Rattle.formula_tree.specs.Run.{begins_run, begins_with_any}
 use Rattle.formula_parse.proofs.ReadTokens.{front_of-run}
 use Rattle.formula_parse.proofs.lexer.front.Goals as goal
 

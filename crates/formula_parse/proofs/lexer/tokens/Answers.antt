@@ -1,8 +1,7 @@
-use Rattle.std.proofs.Common.{◌≡◌, ◌∙◌, sym, ap, arith, rules, Some, None, ◌++◌, ◌∷◌, []}
+use Rattle.std.proofs.Common.{◌∙◌, sym, ap, arith, rules, Some}
 use Rattle.std.proofs.lemmas.List.{append-nil}
 use Rattle.formula_tree.specs.Tokens.{tokens_of}
-use Rattle.formula_parse.specs.Front.{front_of}
-use Rattle.formula_parse.proofs.ReadTokens.{with_tokens, with_tokens-one, blank-front, tokens-blank, drop-shorter, tokens-token, token-shorter, tokens-none, tokens-end}
+use Rattle.formula_parse.proofs.ReadTokens.{with_tokens, with_tokens-one, tokens-blank, tokens-token, token-shorter, tokens-none, tokens-end}
 use Rattle.formula_parse.proofs.lexer.tokens.Goals as goal
 
 pub tokens-preserved-then-is_blank : goal.tokens-preserved-then-is_blank
