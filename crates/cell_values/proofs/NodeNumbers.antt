@@ -66,9 +66,9 @@ module _ (nodes : Nodes) where
     found = λ q j h is. ⊎_elim (λ p. two.kept j (one.found q j p is)) (λ p. two.found q j p is) (or_cases (first q) (second q) (sym (split q) ∙ h));
     only = λ j h. ⊎_elim
         (λ before. ⊎_elim
-            (λ at_first. inl at_first)
-            (λ in_one. inr (in_one.0, split in_one.0 ∙ or_left (first in_one.0) (second in_one.0) in_one.1, in_one.2))
-            (one.only j before))
+        (λ at_first. inl at_first)
+        (λ in_one. inr (in_one.0, split in_one.0 ∙ or_left (first in_one.0) (second in_one.0) in_one.1, in_one.2))
+        (one.only j before))
         (λ in_two. inr (in_two.0, split in_two.0 ∙ or_right (first in_two.0) (second in_two.0) in_two.1, in_two.2))
         (two.only j h);
   }
@@ -175,9 +175,9 @@ module _ (test : Place → Bool) (old new : List ℕ) where
           (among_more done e q j is);
       only = λ j h. ⊎_elim
           (λ before. ⊎_elim
-              (λ at_first. inl at_first)
-              (λ in_one. inr (in_one.0, in_one.1, among_kept done e in_one.0 j in_one.2))
-              (adds.only j before))
+          (λ at_first. inl at_first)
+          (λ in_one. inr (in_one.0, in_one.1, among_kept done e in_one.0 j in_one.2))
+          (adds.only j before))
           (λ same. inr (e.0, passes, among_last done rest e sorted ∙ ap Some (sym same)))
           (has_last_cases j e.1 new h);
     }
@@ -219,10 +219,13 @@ module _ (b : Book) (nodes : Nodes) (needs : List (Vec ℕ Global)) where
   -- one list more
   pub says_more : (n : ℕ) (list : Vec ℕ Global) → length needs ≡ n → ((i : ℕ) → i < n → SaysNeedsAt b nodes needs i) → AddsNeeds (needs_place (get b (get_or nodes.places.items n origin))) nodes [] list.items
       → (length (needs ++ list ∷ []) ≡ n + 1) × ((i : ℕ) → i < n + 1 → SaysNeedsAt b nodes (needs ++ list ∷ []) i)
-  says_more n list count each next = (length_push needs list ∙ ap (λ k. k + 1) count, λ i inside. ⊎_elim
-      (λ before. subst (AddsNeeds (needs_place (get b (get_or nodes.places.items i origin))) nodes []) (sym (list_at-first needs list i (subst (λ k. i < k) (sym count) before))) (each i before))
-      (λ past. last i (omega (arith, inside, past)))
-      (cases_lt i n))
+  says_more n list count each next = (
+    length_push needs list ∙ ap (λ k. k + 1) count,
+    λ i inside. ⊎_elim
+        (λ before. subst (AddsNeeds (needs_place (get b (get_or nodes.places.items i origin))) nodes []) (sym (list_at-first needs list i (subst (λ k. i < k) (sym count) before))) (each i before))
+        (λ past. last i (omega (arith, inside, past)))
+        (cases_lt i n),
+  )
     where
       last : (i : ℕ) → n ≡ i → SaysNeedsAt b nodes (needs ++ list ∷ []) i
       last i is = subst (SaysNeedsAt b nodes (needs ++ list ∷ [])) is

@@ -32,10 +32,15 @@ module _ (needs : List (Vec ℕ Global)) where
     -- a node that was covered stays so when another is tried
     pub covered_after : (released : List ℕ) (i : ℕ) → IsCovered needs s released i → IsCovered needs t released i
     covered_after released i (inl h) = inl (kept i h)
-    covered_after released i (inr (j, need, out, waits)) = inr (j, need, out, ⊎_elim
-        (λ (h : has i (list_at s.waiting.items j) ≡ true). or_left (has i (list_at t.waiting.items j)) (nat_le (length needs) j) (tried.waiting i j h))
-        (λ (h : nat_le (length needs) j ≡ true). or_right (has i (list_at t.waiting.items j)) (nat_le (length needs) j) h)
-        (or_cases (has i (list_at s.waiting.items j)) (nat_le (length needs) j) waits))
+    covered_after released i (inr (j, need, out, waits)) = inr (
+      j,
+      need,
+      out,
+      ⊎_elim
+          (λ (h : has i (list_at s.waiting.items j) ≡ true). or_left (has i (list_at t.waiting.items j)) (nat_le (length needs) j) (tried.waiting i j h))
+          (λ (h : nat_le (length needs) j ≡ true). or_right (has i (list_at t.waiting.items j)) (nat_le (length needs) j) h)
+          (or_cases (has i (list_at s.waiting.items j)) (nat_le (length needs) j) waits),
+    )
 
     -- and the tried one is covered
     pub covered_tried : (released : List ℕ) → Within released t.order.items → node < length needs → IsCovered needs t released node

@@ -90,9 +90,12 @@ module _ (needs : List (Vec ℕ Global)) (node : ℕ) (s : Progress) (sound : Is
       };
       grows = ([], ap (λ v. v.items) order ∙ sym (append-nil s.order.items));
       waiting = λ i j h. ap (has i) (waits j) ∙ still i j (nat_eq j need && nat_lt need (length s.waiting.items)) h;
-      covered = λ _. inr (need, ap (has need) at ∙ subst (λ k. has k list ≡ true) is (has_at list found within),
-          ap (λ v. has need v.items) order ∙ sym (sound.marked need) ∙ ap (λ k. get_or s.done.items k false) (sym is) ∙ open_at.1 within,
-          known (nat_lt need (length s.waiting.items)) refl);
+      covered = λ _. inr (
+        need,
+        ap (has need) at ∙ subst (λ k. has k list ≡ true) is (has_at list found within),
+        ap (λ v. has need v.items) order ∙ sym (sound.marked need) ∙ ap (λ k. get_or s.done.items k false) (sym is) ∙ open_at.1 within,
+        known (nat_lt need (length s.waiting.items)) refl,
+      );
     }
       where
         inside_passed : node < length s.passed.items

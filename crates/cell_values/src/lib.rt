@@ -14,8 +14,6 @@ pub mod laws;
 mod nodes;
 mod operator;
 mod order;
-#[cfg(test)]
-mod tests;
 mod workbook;
 
 pub use evaluate::value;

@@ -192,11 +192,8 @@ fn is_reference(tree: &Plain) -> bool
 {
     match tree {
         Plain::Cell(_) | Plain::Area(_, _) => true,
-        Plain::Number(_)
-        | Plain::Text(_)
-        | Plain::Truth(_)
-        | Plain::Fault(_)
-        | Plain::Name(_) => false,
+        Plain::Number(_) | Plain::Text(_) | Plain::Truth(_) | Plain::Fault(_) | Plain::Name(_) =>
+            false,
         Plain::Prefix(_, _) | Plain::Percent(_) | Plain::Paren(_) => false,
         Plain::Binary(_, _, _) | Plain::Call(_, _) => false,
     }

@@ -69,7 +69,12 @@ impl Progress {
     }
 
     /// Tries each node that waits for this one, which is done.
-    fn release(&mut self, alloc: Global, needs: &[Vec<usize>], node: usize) -> Result<(), AllocError>
+    fn release(
+        &mut self,
+        alloc: Global,
+        needs: &[Vec<usize>],
+        node: usize,
+    ) -> Result<(), AllocError>
         requires { IsSound needs.now self.old }
         ensures { OnOk result (Releases needs.now node self.old self.new) }
     {

@@ -14,9 +14,9 @@ nodes-preserved c =
     let inside : node < length needs = search rules in (
       tried.sound,
       λ i below. ⊎_elim
-      (λ (before : i < node). covered_after needs node c.nodes.progress c.attempt.new.self tried [] i (c.nodes.invariant.1 i before))
-      (λ (behind : node ≤ i). let same : node ≡ i = omega (arith, behind, below) in subst (λ k. IsCovered needs c.attempt.new.self [] k) same (covered_tried needs node c.nodes.progress c.attempt.new.self tried [] (λ j h. absurd (false≢true h)) inside))
-      (cases_lt i node),
+          (λ (before : i < node). covered_after needs node c.nodes.progress c.attempt.new.self tried [] i (c.nodes.invariant.1 i before))
+          (λ (behind : node ≤ i). let same : node ≡ i = omega (arith, behind, below) in subst (λ k. IsCovered needs c.attempt.new.self [] k) same (covered_tried needs node c.nodes.progress c.attempt.new.self tried [] (λ j h. absurd (false≢true h)) inside))
+          (cases_lt i node),
     )
 
 pub released-preserved : goal.released-preserved

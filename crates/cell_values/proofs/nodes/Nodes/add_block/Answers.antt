@@ -13,7 +13,7 @@ numbers-preserved-in-Continue-1 g c =
       done ++ e ∷ [],
       append_assoc done (e ∷ []) c.next.new.self ∙ is,
       subst (AddsAmong (covers c.args.block) (done ++ e ∷ []) c.args.needs.now.items) (sym c.in_ok-push.ensures.items)
-        (among_adds (covers c.args.block) c.args.needs.now.items c.numbers.needs.items done c.next.new.self e c.numbers.invariant.2 sorted (sym c.if-covers.ensures)),
+          (among_adds (covers c.args.block) c.args.needs.now.items c.numbers.needs.items done c.next.new.self e c.numbers.invariant.2 sorted (sym c.if-covers.ensures)),
     )
 
 pub numbers-preserved : goal.numbers-preserved

@@ -33,7 +33,7 @@ places-preserved g c =
           (subst (λ o. AddsNeeds (needs_place o) c.args.self.now [] []) (sym (ap (option_map (λ k. content k.now)) none) ∙ c.cell.ensures ∙ ap (get book) place) (adds_no_place c.args.self.now []))
     ] in
     subst (λ xs. (length xs ≡ n + 1) × ((i : ℕ) → i < n + 1 → SaysNeedsAt (book_of c.args.workbook.now) c.args.self.now xs i)) (sym c.in_ok-push.ensures.items)
-      (says_more (book_of c.args.workbook.now) c.args.self.now c.places.needs.items n c.match-cell.list c.places.invariant.0 c.places.invariant.1 next)
+    (says_more (book_of c.args.workbook.now) c.args.self.now c.places.needs.items n c.match-cell.list c.places.invariant.0 c.places.invariant.1 next)
 
 pub returns : goal.returns
 returns g c =

@@ -16,12 +16,12 @@ cells-preserved c =
       done ++ e ∷ [],
       append_assoc done (e ∷ []) c.next.new.self ∙ is,
       subst (λ places. NumbersDone (done ++ e ∷ []) places (get place_cmp c.insert.new.self)) (sym c.in_ok-push.ensures.items)
-        (numbers_more done c.cells.places.items (get place_cmp c.cells.numbers) (get place_cmp c.insert.new.self) e c.len.result count c.cells.invariant.2 c.in_ok-insert.ensures.updates.0),
+          (numbers_more done c.cells.places.items (get place_cmp c.cells.numbers) (get place_cmp c.insert.new.self) e c.len.result count c.cells.invariant.2 c.in_ok-insert.ensures.updates.0),
     )
 
 pub returns : goal.returns
 returns c =
     let done = c.cells.invariant.0 in
     numbers_all c.args.workbook.now record { places = c.cells.places; numbers = c.cells.numbers }
-      (subst (λ es. NumbersDone es c.cells.places.items (get place_cmp c.cells.numbers))
-      (sym (append-nil done) ∙ ap (λ rest. done ++ rest) (sym c.in-None.ensures.steps.0) ∙ c.cells.invariant.1) c.cells.invariant.2)
+    (subst (λ es. NumbersDone es c.cells.places.items (get place_cmp c.cells.numbers))
+    (sym (append-nil done) ∙ ap (λ rest. done ++ rest) (sym c.in-None.ensures.steps.0) ∙ c.cells.invariant.1) c.cells.invariant.2)
