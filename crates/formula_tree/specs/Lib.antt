@@ -1,2 +1,13 @@
+pub mod Arguments
 pub mod Term
 pub mod Seen
+pub mod Level
+pub mod Run
+pub mod Tokens
+pub mod Grammar
+pub mod Reader
+pub mod Canonical
+pub mod Proper
+pub mod Laws
+pub mod StandsFor
+pub mod Links

@@ -1,14 +1,4 @@
-pub mod Outcomes
 pub mod Fields
-pub mod BackwardBooks
-pub mod Books
-pub mod FormulaParts
-pub mod FormulaTerms
-pub mod FormulaSums
-pub mod FormulaTrees
-pub mod FormulaSteps
-pub mod FormulaTexts
-pub mod KeptValues
-pub mod NextBooks
+pub mod Outcomes
 pub mod RecordSteps
 pub mod StreamFacts

@@ -12,12 +12,10 @@ use Rattle.std.specs.Io.KnownBytes.{Appends}
 use Rattle.sheet_cli.specs.declared.command.Command.{Command}
 use Rattle.sheet_cli.specs.declared.command.ScriptError.{ScriptError}
 use Rattle.sheet_cli.specs.Command.{command_of}
-use Rattle.sheet_cli.specs.Workbook.{Book}
+use Rattle.cell_values.specs.Workbook.{Book}
 use Rattle.sheet_cli.specs.Outside.{Loses}
 use Rattle.sheet_cli.specs.Session.{next, reply}
-use Rattle.sheet_cli.specs.Values.{IsBackward}
 use Rattle.sheet_cli.specs.Run.{Did, WasRead, Outcome, outcome_of, outcome_from, behind, record_line, script_outcome}
-use Rattle.sheet_cli.proofs.NextBooks.{next_is_backward}
 
 -- what was taken since an old moment, and then the rest, is the whole
 abbrev pub Completes : Option (List ℕ) → Option (List ℕ) → List ℕ → List ℕ → Type 0
@@ -69,11 +67,6 @@ pub outcome-ends : (said : Result Command ScriptError) (k : ℕ) (before after :
     → (line : List ℕ) × Appends old new line × (outcome_of before k said rest ≡ (line, 3))
 outcome-ends (Ok command) k before after old new rest did = absurd did
 outcome-ends (Err e) k before after old new rest did = (record_line k e, did, refl)
-
--- a command keeps every formula referring to earlier places
-pub stays_backward : (said : Result Command ScriptError) (k : ℕ) (before after : Book) (old new : Option (List ℕ)) → Did said k false before after old new → IsBackward before → IsBackward after
-stays_backward (Ok command) k before after old new did backward = let P : Book → Type 0 = IsBackward in subst P (sym did.1) (next_is_backward command before backward)
-stays_backward (Err e) k before after old new did backward = absurd did
 
 -- a record that doesn't end the run: what was written and the rest still make the whole
 pub goes_on : (old now new : Option (List ℕ)) (before after : Book) (k : ℕ) (left rest : List (List (List ℕ))) (fields : List (List ℕ)) (whole : Outcome) → left ≡ fields ∷ rest → Did (command_of fields) k false before after now new

@@ -6,7 +6,7 @@ use Rattle.csv.specs.Records.{field_at}
 use Rattle.cell_addr.specs.Address.{spot_of}
 use Rattle.cell_addr.specs.declared.spot.Spot.{Spot}
 use Rattle.sheet_cli.specs.declared.command.Command.{Command}
-use Rattle.sheet_cli.specs.declared.command.Command.TheVariants.{Set, Value, Formula}
+use Rattle.sheet_cli.specs.declared.command.Command.TheVariants.{Set, Value, Formula, Content}
 use Rattle.sheet_cli.specs.declared.script.Word.{Word}
 use Rattle.sheet_cli.specs.declared.script.Word.TheVariants as word
 use Rattle.sheet_cli.specs.declared.command.ScriptError.{ScriptError}
@@ -32,13 +32,15 @@ abbrev pub word_of : List ℕ → Option Word
 word_of text = if bytes_eq text (codes "set") then Some word.Set
     else (if bytes_eq text (codes "value") then Some word.Value
     else (if bytes_eq text (codes "formula") then Some word.Formula
-    else None))
+    else (if bytes_eq text (codes "content") then Some word.Content
+    else None)))
 
 -- how many fields stand behind a word
 abbrev pub arguments_of : Word → ℕ
 arguments_of word.Set = 2
 arguments_of word.Value = 1
 arguments_of word.Formula = 1
+arguments_of word.Content = 1
 
 -- the command that sets a place to a text; the first bad field counts
 abbrev pub set_command : Option Spot → Option (List ℕ) → Result Command ScriptError
@@ -60,6 +62,7 @@ abbrev pub command_with : Word → List (List ℕ) → Result Command ScriptErro
 command_with word.Set fields = set_command (place_field (field fields 1)) (text_field (field fields 2))
 command_with word.Value fields = place_command Value (place_field (field fields 1))
 command_with word.Formula fields = place_command Formula (place_field (field fields 1))
+command_with word.Content fields = place_command Content (place_field (field fields 1))
 
 -- the same, where the number of fields is tested first
 abbrev pub counted_command : Option Word → List (List ℕ) → Result Command ScriptError

@@ -1,12 +1,6 @@
 pub mod Command
 pub mod Content
-pub mod Formula
-pub mod FormulaLaws
 pub mod Outside
 pub mod Records
 pub mod Run
 pub mod Session
-pub mod Shown
-pub mod ValueLaws
-pub mod Values
-pub mod Workbook

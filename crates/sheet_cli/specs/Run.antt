@@ -12,7 +12,7 @@ use Rattle.sheet_cli.specs.declared.outside.error.WriteError.TheVariants as writ
 use Rattle.sheet_cli.specs.declared.program.Stop.{Stop}
 use Rattle.sheet_cli.specs.declared.program.Stop.TheVariants as stop
 use Rattle.sheet_cli.specs.Command.{command_of}
-use Rattle.sheet_cli.specs.Workbook.{Book}
+use Rattle.cell_values.specs.Workbook.{Book}
 use Rattle.sheet_cli.specs.Session.{next, reply, line_of}
 
 -- the bytes that a run prints, and its status

@@ -14,6 +14,8 @@ pub enum Command {
     Value(Spot),
     /// Asks for the text of a cell's formula.
     Formula(Spot),
+    /// Asks for the text that gives a cell its content.
+    Content(Spot),
 }
 
 /// Why a record of a script is no command.

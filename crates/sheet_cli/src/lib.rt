@@ -15,8 +15,6 @@
 
 mod command;
 pub mod content;
-mod evaluate;
-mod formula;
 mod line;
 pub mod outside;
 mod program;
@@ -24,12 +22,8 @@ mod records;
 mod refusal;
 mod script;
 mod session;
-mod workbook;
+mod sheet;
 
-pub use evaluate::{formulas_stay_backward, nothing_else_unfolds, values_unfold};
-pub use formula::{
-    canonical_text_spells, formulas_are_read, formulas_refer_back, no_text_spells_two,
-};
 pub use program::run;
 
 #[cfg(test)]

@@ -1,11 +1,10 @@
 // The call that the program makes: the words and the script come in, lines and a status go out.
 ghost use Rattle.std.specs.Prelude.{◌≡◌, ◌≢◌, ◌⊎◌, ◌<◌, ◌≤◌, ◌↔◌, length, IfOk, OnOk, IsErrOf, string_bytes};
 ghost use Rattle.std.specs.Io.KnownBytes.{Appends};
+ghost use Rattle.cell_values.specs.Workbook.{book_of};
 ghost use Rattle.csv.specs.Records.{fields_of};
 ghost use Rattle.sheet_cli.specs.Outside.{Rose};
 ghost use Rattle.sheet_cli.specs.Command.{command_of};
-ghost use Rattle.sheet_cli.specs.Workbook.{book_of};
-ghost use Rattle.sheet_cli.specs.Values.{IsBackward};
 ghost use Rattle.sheet_cli.specs.Session.{line_of};
 ghost use Rattle.sheet_cli.specs.Run.{Did, IsEndStatus, IsStatus, PrintsFor, WasRead, cause_text, outcome, record_text, script_outcome};
 
@@ -15,7 +14,7 @@ use crate::outside::{LoadError, MAX_INPUT, Sink, Source, WriteError, read_all};
 use crate::records::Records;
 use crate::script::command;
 use crate::session::execute;
-use crate::workbook::Workbook;
+use cell_values::Workbook;
 use csv::ByteRecord;
 use std::alloc::{AllocError, Global};
 use std::sync::ledger::Ledger;
@@ -179,7 +178,6 @@ fn run_record<O: Sink, L: Ledger>(
     out: &mut O,
     steps: &mut Steps<L>,
 ) -> Result<bool, Stop>
-    requires { IsBackward (book_of workbook.old) }
     ensures did { IfOk result (λ ends. Did (command_of (fields_of fields.now)) number ends (book_of workbook.old) (book_of workbook.new) (O.taken out.old) (O.taken out.new)) }
     ensures no_read_fault { IsErrOf result Stop.ReadFault → ⊥ }
     ensures write_fault { IsErrOf result Stop.WriteFault → Rose (O.faults out.old) (O.faults out.new) }

@@ -16,6 +16,7 @@ enum Word {
     Set,
     Value,
     Formula,
+    Content,
 }
 
 impl Word {
@@ -29,6 +30,8 @@ impl Word {
             Some(Word::Value)
         } else if text == b"formula".as_slice() {
             Some(Word::Formula)
+        } else if text == b"content".as_slice() {
+            Some(Word::Content)
         } else {
             None
         }
@@ -40,7 +43,7 @@ impl Word {
     {
         match self {
             Word::Set => 2,
-            Word::Value | Word::Formula => 1,
+            Word::Value | Word::Formula | Word::Content => 1,
         }
     }
 }
@@ -64,6 +67,7 @@ pub fn command(alloc: Global, fields: &ByteRecord) -> Result<Command, ScriptErro
         Word::Set => set(alloc, argument(fields, 1), argument(fields, 2)),
         Word::Value => value(alloc, argument(fields, 1)),
         Word::Formula => formula(alloc, argument(fields, 1)),
+        Word::Content => content(alloc, argument(fields, 1)),
     }
 }
 
@@ -108,6 +112,16 @@ fn formula(alloc: Global, place: &[u8]) -> Result<Command, ScriptError>
         return Err(ScriptError::BadField(1));
     };
     Ok(Command::Formula(spot))
+}
+
+/// The command `content` of a place.
+fn content(alloc: Global, place: &[u8]) -> Result<Command, ScriptError>
+    ensures { Says result (place_command said.Content (place_field place.now)) }
+{
+    let Some(spot) = read_spot(alloc, place)? else {
+        return Err(ScriptError::BadField(1));
+    };
+    Ok(Command::Content(spot))
 }
 
 /// The place that a field names: one address without a sheet's name.

@@ -8,3 +8,4 @@ pub mod Values
 pub mod Orders
 pub mod Rows
 pub mod Alike
+pub mod LeftOver

@@ -27,7 +27,7 @@ module _ {K V : Type 0} (net : Network K V) (bad : K → Bool) where
   round-good shown a h = cond-false (bad a) net.cycle (net.own shown a) h
 
   -- no chain of n needs leads from the node over good nodes alone: fewer than n rounds settle what it needs
-  Settled : ℕ → K → Type 0
+  unfoldable pub Settled : ℕ → K → Type 0
   Settled zero a = ⊥
   Settled (suc n) a = (bad a ≡ true) ⊎ ((b : K) → net.needs a b ≡ true → Settled n b)
 
@@ -109,7 +109,7 @@ module _ {K V : Type 0} (net : Network K V) (sound : IsNetwork net) (bad : K →
       (λ falls b need. settled_below n b (a ∷ path) (path_grows a b path above need) (omega (arith, few, falls)) (omega (arith, within, falls)))
 
   -- one round more than there are formulas settles every node
-  settled : (a : K) → Settled net bad (suc (length net.formulas)) a
+  pub settled : (a : K) → Settled net bad (suc (length net.formulas)) a
   settled a = settled_below (length net.formulas) a [] (λ x h. absurd (false≢true h)) (omega (arith, none)) (omega (arith, none))
     where
       none : unvisited [] ≡ length net.formulas

@@ -1,7 +1,6 @@
 -- Each record that is answered takes the output one step further, and the last one completes it.
 use Rattle.std.proofs.Common.{◌≡◌, sym, ◌∙◌, ap, refl, arith, ◌≤◌, length, Ok}
-use Rattle.sheet_cli.proofs.NextBooks.{empty_is_backward}
-use Rattle.sheet_cli.proofs.Outcomes.{completes-start, goes_on, stops, ends, stays_backward, short_script, few_records}
+use Rattle.sheet_cli.proofs.Outcomes.{completes-start, goes_on, stops, ends, short_script, few_records}
 use Rattle.sheet_cli.proofs.program.run_script.Goals as goal
 
 pub records-init : goal.records-init
@@ -10,7 +9,6 @@ records-init g c =
     rw (c.new-workbook.ensures, c.open-records.ensures) (record {
       written = completes-start _ _;
       status = refl;
-      backward = empty_is_backward;
       counted = omega (arith, few, c.requires);
       later = omega arith;
     })
@@ -25,7 +23,6 @@ records-preserved g c =
     record {
       written = on.0;
       status = on.1;
-      backward = stays_backward _ _ _ _ _ _ did inv.backward;
       counted = omega (arith, shorter, inv.counted);
       later = omega (arith, inv.later, c.in_ok-run_record.ensures.later);
     }

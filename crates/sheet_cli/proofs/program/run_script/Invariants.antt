@@ -2,8 +2,7 @@
 use Rattle.std.proofs.Common.{◌≡◌, ◌+◌, ◌≤◌, length}
 use Rattle.csv.specs.Reading.{records, default_config, strip_bom}
 use Rattle.std.specs.FinMap as map
-use Rattle.sheet_cli.specs.Workbook.{book_of}
-use Rattle.sheet_cli.specs.Values.{IsBackward}
+use Rattle.cell_values.specs.Workbook.{book_of}
 use Rattle.sheet_cli.specs.Run.{outcome_from}
 use Rattle.sheet_cli.proofs.Outcomes.{Completes}
 use Rattle.sheet_cli.proofs.program.run_script.Given as goal
@@ -15,7 +14,6 @@ invariant-records g l =
     record {
       written : Completes (g.O.Sink.taken l.fn.out) (g.O.Sink.taken l.out) left.0 whole.0;
       status : left.1 ≡ whole.1;
-      backward : IsBackward (book_of l.workbook);
       counted : l.number + length l.records.left ≤ 67108865;
       later : g.O.Sink.faults l.fn.out ≤ g.O.Sink.faults l.out;
     }

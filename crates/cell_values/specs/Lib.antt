@@ -1,0 +1,8 @@
+pub mod Workbook
+pub mod Meaning
+pub mod Needs
+pub mod Values
+pub mod Laws
+pub mod Order
+pub mod Shown
+pub mod Progress

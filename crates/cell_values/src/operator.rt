@@ -1,0 +1,147 @@
+// What operators make of values.
+ghost use Rattle.std.specs.Prelude.{◌≡◌, IfOk};
+ghost use Rattle.std.specs.String.{string_bytes};
+ghost use Rattle.cell_values.specs.Meaning.{combined, hundredth, joined, made_text, signed_value, truth_or_fault};
+ghost use Rattle.formula_tree.specs.declared.plain.Op.TheVariants.{Add, Sub, Mul, Div, Power};
+
+use cell_addr::Text;
+use cell_value::{FaultKind, Scalar};
+use fix_num::Fixed;
+use formula_tree::{Op, Sign};
+use std::alloc::{AllocError, Global};
+
+/// The most bytes of a text that `&` makes. This project's own limit.
+const MAX_TEXT: usize = 32_768;
+
+/// The value of a sign and its operand: plus leaves the operand as it is, minus takes it from 0.
+/// Source: OpenFormula, the prefix operators.
+pub(crate) fn signed(sign: Sign, operand: Scalar) -> Scalar
+    ensures { result ≡ signed_value sign operand }
+{
+    match sign {
+        Sign::Plus => operand,
+        Sign::Minus => match operand.as_number() {
+            Ok(number) => Fixed::ZERO.sub(number).into(),
+            Err(fault) => Scalar::Fault(fault),
+        },
+    }
+}
+
+/// The value of an operand with a percent sign. Source: OpenFormula, the postfix operator `%`.
+pub(crate) fn percent(operand: &Scalar) -> Scalar
+    ensures { result ≡ hundredth operand.now }
+{
+    match (operand.as_number(), Fixed::from_int(100)) {
+        (Ok(number), Ok(hundred)) => number.div(hundred).into(),
+        (Err(fault), _) => Scalar::Fault(fault),
+        (_, Err(error)) => Scalar::Fault(error.into()),
+    }
+}
+
+/// The value of an operator between two values. Numbers are wanted by `+ - * / ^` and texts by `&`;
+/// of two faults the left one comes first. Source: OpenFormula, the infix operators.
+pub(crate) fn combined(
+    alloc: Global,
+    op: Op,
+    left: &Scalar,
+    right: &Scalar,
+) -> Result<Scalar, AllocError>
+    ensures { IfOk result (λ scalar. scalar ≡ combined op left.now right.now) }
+{
+    match op {
+        Op::Add => Ok(sum(left, right)),
+        Op::Sub => Ok(difference(left, right)),
+        Op::Mul => Ok(product(left, right)),
+        Op::Div => Ok(quotient(left, right)),
+        Op::Power => Ok(power(left, right)),
+        Op::Join => joined(alloc, left, right),
+        Op::Equal => Ok(compared(left.compare(right).map(|order| order.is_eq()))),
+        Op::Unequal => Ok(compared(left.compare(right).map(|order| order.is_ne()))),
+        Op::Less => Ok(compared(left.compare(right).map(|order| order.is_lt()))),
+        Op::Greater => Ok(compared(left.compare(right).map(|order| order.is_gt()))),
+        Op::AtMost => Ok(compared(left.compare(right).map(|order| order.is_le()))),
+        Op::AtLeast => Ok(compared(left.compare(right).map(|order| order.is_ge()))),
+    }
+}
+
+fn sum(left: &Scalar, right: &Scalar) -> Scalar
+    ensures { result ≡ combined Add left.now right.now }
+{
+    match (left.as_number(), right.as_number()) {
+        (Ok(left), Ok(right)) => left.add(right).into(),
+        (Err(fault), _) | (_, Err(fault)) => Scalar::Fault(fault),
+    }
+}
+
+fn difference(left: &Scalar, right: &Scalar) -> Scalar
+    ensures { result ≡ combined Sub left.now right.now }
+{
+    match (left.as_number(), right.as_number()) {
+        (Ok(left), Ok(right)) => left.sub(right).into(),
+        (Err(fault), _) | (_, Err(fault)) => Scalar::Fault(fault),
+    }
+}
+
+fn product(left: &Scalar, right: &Scalar) -> Scalar
+    ensures { result ≡ combined Mul left.now right.now }
+{
+    match (left.as_number(), right.as_number()) {
+        (Ok(left), Ok(right)) => left.mul(right).into(),
+        (Err(fault), _) | (_, Err(fault)) => Scalar::Fault(fault),
+    }
+}
+
+fn quotient(left: &Scalar, right: &Scalar) -> Scalar
+    ensures { result ≡ combined Div left.now right.now }
+{
+    match (left.as_number(), right.as_number()) {
+        (Ok(left), Ok(right)) => left.div(right).into(),
+        (Err(fault), _) | (_, Err(fault)) => Scalar::Fault(fault),
+    }
+}
+
+fn power(left: &Scalar, right: &Scalar) -> Scalar
+    ensures { result ≡ combined Power left.now right.now }
+{
+    match (left.as_number(), right.as_number()) {
+        (Ok(left), Ok(right)) => left.power(right).into(),
+        (Err(fault), _) | (_, Err(fault)) => Scalar::Fault(fault),
+    }
+}
+
+/// The answer of a comparison, or the fault that decided it.
+fn compared(answer: Result<bool, FaultKind>) -> Scalar
+    ensures { result ≡ truth_or_fault answer }
+{
+    match answer {
+        Ok(truth) => Scalar::Truth(truth),
+        Err(fault) => Scalar::Fault(fault),
+    }
+}
+
+/// The texts of two values, one behind the other, where they have no more than 32,768 bytes.
+fn joined(alloc: Global, left: &Scalar, right: &Scalar) -> Result<Scalar, AllocError>
+    ensures { IfOk result (λ scalar. scalar ≡ joined left.now right.now) }
+{
+    match (left, right) {
+        (Scalar::Fault(fault), _) => Ok(Scalar::Fault(*fault)),
+        (_, Scalar::Fault(fault)) => Ok(Scalar::Fault(*fault)),
+        _ => {
+            let mut text = String::new(alloc);
+            text.push_str(left.shown(alloc)?.as_str())?;
+            text.push_str(right.shown(alloc)?.as_str())?;
+            Ok(made_text(text))
+        }
+    }
+}
+
+/// A text as a value, where it has no more than 32,768 bytes.
+fn made_text(text: String) -> Scalar
+    ensures { result ≡ made_text (string_bytes text) }
+{
+    if text.len() <= MAX_TEXT {
+        Scalar::Text(Text::new(text))
+    } else {
+        Scalar::Fault(FaultKind::Value)
+    }
+}

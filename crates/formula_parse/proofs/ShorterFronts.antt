@@ -1,0 +1,121 @@
+-- What stands behind a token is shorter than the text. Serves the lexer, whose loop ends by it.
+use Rattle.std.proofs.Common.{◌≡◌, refl, arith, ℕ, ◌+◌, ◌≤◌, Bool, true, false, ◌==◌, cond, if◌then◌else◌, List, [], ◌∷◌, length, take, drop, Option, Some, None, option_map, length-drop}
+use Rattle.std.specs.Option.{option_and_then}
+use Rattle.std.specs.List.{prefix_len, take_while, find}
+use Rattle.std.proofs.lemmas.Bool.Decides.{nat_tests}
+use Rattle.digits.specs.Digits.{is_digit}
+use Rattle.cell_addr.specs.SheetName.{with_byte}
+use Rattle.cell_value.specs.declared.fault.FaultKind.{FaultKind}
+use Rattle.cell_value.specs.declared.fault.FaultKind.TheVariants as kinds
+use Rattle.cell_value.specs.Fault.{fault_text, faults}
+use Rattle.formula_tree.specs.declared.plain.Op.{Op}
+use Rattle.formula_tree.specs.declared.token.Token.{Token}
+use Rattle.formula_tree.specs.declared.token.Token.TheVariants as tok
+use Rattle.formula_tree.specs.Run.{is_blank, begins_run, is_run_byte, begins_with, behind, is_word, corner_of, lone_token, is_sheet_behind, is_sheet_run, run_token}
+use Rattle.formula_tree.specs.Tokens.{Front, number_length, begins_number, quoted, text_token, sheet_token, begins_with_fault, fault_token, byte_token, pair_op, sign_token, token_at}
+use Rattle.formula_tree.proofs.TokenSteps.{chosen}
+
+-- what stands behind a token is no longer than this
+abbrev pub Short : ℕ → Front → Type 0
+Short n None = Unit {0}
+Short n (Some p) = length p.1 ≤ n
+
+short-cond : (n : ℕ) (b : Bool) (x y : Front) → (b ≡ true → Short n x) → (b ≡ false → Short n y) → Short n (cond b x y)
+short-cond n true x y h g = h refl
+short-cond n false x y h g = g refl
+
+run-goes_on : (c : ℕ) → begins_run c ≡ true → is_run_byte c ≡ true
+run-goes_on c h = grind (arith, nat_tests)
+
+behind-shorter : (p : ℕ → Bool) (c : ℕ) (cs : List ℕ) → p c ≡ true → length (behind p (c ∷ cs)) ≤ length cs
+behind-shorter p c cs h = rw h (omega (arith, length-drop (1 + prefix_len p cs) (c ∷ cs)))
+
+chosen-shorter : (b d e : Bool) (sheet word other lone : Token) (cs : List ℕ) → length (chosen b d e sheet word other lone cs).1 ≤ length cs
+chosen-shorter true d e sheet word other lone cs = omega (arith, length-drop 1 cs)
+chosen-shorter false true true sheet word other lone cs = omega arith
+chosen-shorter false true false sheet word other lone cs = omega arith
+chosen-shorter false false e sheet word other lone cs = omega arith
+
+run_token-shorter : (w cs : List ℕ) → length (run_token w cs).1 ≤ length cs
+run_token-shorter w cs =
+    chosen-shorter (is_sheet_run w cs) (begins_with 40 (behind is_blank cs)) (is_word w) (tok.Sheet w) (tok.Word w) (tok.Other w) (lone_token w (corner_of w)) cs
+
+short-run : (c : ℕ) (cs : List ℕ) → begins_run c ≡ true → Short (length cs) (Some (run_token (take_while is_run_byte (c ∷ cs)) (behind is_run_byte (c ∷ cs))))
+short-run c cs h =
+    let a = run_token-shorter (take_while is_run_byte (c ∷ cs)) (behind is_run_byte (c ∷ cs)) in
+    let b = behind-shorter is_run_byte c cs (run-goes_on c h) in
+    omega (arith, a, b)
+
+number_length-by : (c : ℕ) (cs : List ℕ) (b d : Bool) → is_digit c ≡ b → (c == 46) ≡ d → begins_number (c ∷ cs) ≡ true → 1 ≤ number_length (c ∷ cs)
+number_length-by c cs true d e f h = rw e (omega arith)
+number_length-by c cs false true e f h = rw (e, f) (omega arith)
+number_length-by c cs false false e f h = let k : begins_number (c ∷ cs) ≡ false = rw (e, f) refl in cc
+
+short-number : (c : ℕ) (cs : List ℕ) (token : Token) → begins_number (c ∷ cs) ≡ true → Short (length cs) (Some (token, drop (number_length (c ∷ cs)) (c ∷ cs)))
+short-number c cs token h =
+    let some = number_length-by c cs (is_digit c) (c == 46) refl refl h in
+    omega (arith, some, length-drop (number_length (c ∷ cs)) (c ∷ cs))
+
+-- what stands behind quotes
+abbrev ShortParts : ℕ → Option (List ℕ × List ℕ) → Type 0
+ShortParts n None = Unit {0}
+ShortParts n (Some p) = length p.1 ≤ n
+
+parts-byte : (n m c : ℕ) (parts : Option (List ℕ × List ℕ)) → n ≤ m → ShortParts n parts → ShortParts m (with_byte c parts)
+parts-byte n m c None h s = tt
+parts-byte n m c (Some p) h s = omega arith
+
+parts-cond : (n : ℕ) (b : Bool) (x y : Option (List ℕ × List ℕ)) → ShortParts n x → ShortParts n y → ShortParts n (cond b x y)
+parts-cond n true x y h g = h
+parts-cond n false x y h g = g
+
+quoted-shorter : (q : ℕ) (cs : List ℕ) → ShortParts (length cs) (quoted q cs)
+quoted-shorter q [] = tt
+quoted-shorter q (c ∷ []) = parts-cond 1 (c == q) (Some ([], [])) None (omega arith) tt
+quoted-shorter q (c ∷ d ∷ cs) =
+    parts-cond (length (c ∷ d ∷ cs)) (c == q) _ _
+    (parts-cond (length (c ∷ d ∷ cs)) (d == q) _ _ (parts-byte (length cs) (length (c ∷ d ∷ cs)) q (quoted q cs) (omega arith) (quoted-shorter q cs)) (omega arith))
+    (parts-byte (length (d ∷ cs)) (length (c ∷ d ∷ cs)) c (quoted q (d ∷ cs)) (omega arith) (quoted-shorter q (d ∷ cs)))
+
+short-text : (n : ℕ) (parts : Option (List ℕ × List ℕ)) → ShortParts n parts → Short n (option_map text_token parts)
+short-text n None s = tt
+short-text n (Some p) s = s
+
+sheet_token-shorter : (n : ℕ) (b : Bool) (token : Token) (cs : List ℕ) → length cs ≤ n → Short n (if b then Some (token, drop 1 cs) else None)
+sheet_token-shorter n true token cs h = omega (arith, length-drop 1 cs)
+sheet_token-shorter n false token cs h = tt
+
+short-sheet : (n : ℕ) (parts : Option (List ℕ × List ℕ)) → ShortParts n parts → Short n (option_and_then sheet_token parts)
+short-sheet n None s = tt
+short-sheet n (Some (content, cs)) s = sheet_token-shorter n (is_sheet_behind cs) _ cs s
+
+fault_text-some : (f : FaultKind) → 1 ≤ length (fault_text f)
+fault_text-some kinds.Div0 = omega arith
+fault_text-some kinds.Name = omega arith
+fault_text-some kinds.Value = omega arith
+fault_text-some kinds.Num = omega arith
+fault_text-some kinds.Na = omega arith
+fault_text-some kinds.Cycle = omega arith
+fault_text-some kinds.Ref = omega arith
+fault_text-some kinds.Error = omega arith
+
+short-fault : (c : ℕ) (cs : List ℕ) (r : Option FaultKind) → Short (length cs) (option_map (fault_token (c ∷ cs)) r)
+short-fault c cs None = tt
+short-fault c cs (Some f) = omega (arith, fault_text-some f, length-drop (length (fault_text f)) (c ∷ cs))
+
+short-byte : (cs : List ℕ) (r : Option Token) → Short (length cs) (option_map (λ token. (token, cs)) r)
+short-byte cs None = tt
+short-byte cs (Some token) = omega arith
+
+short-sign : (o : Option Op) (c : ℕ) (cs : List ℕ) → Short (length cs) (sign_token o c cs)
+short-sign (Some o) c cs = omega (arith, length-drop 1 cs)
+short-sign None c cs = short-byte cs (byte_token c)
+
+-- a token takes a byte or more
+pub token_at-shorter : (c : ℕ) (cs : List ℕ) → Short (length cs) (token_at c cs)
+token_at-shorter c cs =
+    short-cond (length cs) (begins_run c) _ _ (λ h. short-run c cs h) (λ _.
+    short-cond (length cs) (begins_number (c ∷ cs)) _ _ (λ h. short-number c cs (tok.Number (take (number_length (c ∷ cs)) (c ∷ cs))) h) (λ _.
+    short-cond (length cs) (c == 34) _ _ (λ _. short-text (length cs) (quoted 34 cs) (quoted-shorter 34 cs)) (λ _.
+    short-cond (length cs) (c == 39) _ _ (λ _. short-sheet (length cs) (quoted 39 cs) (quoted-shorter 39 cs)) (λ _.
+    short-cond (length cs) (c == 35) _ _ (λ _. short-fault c cs (find (begins_with_fault (c ∷ cs)) faults)) (λ _. short-sign (pair_op c cs) c cs)))))

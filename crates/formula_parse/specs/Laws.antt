@@ -1,0 +1,19 @@
+-- What holds of every formula's text: reading gives back what was printed.
+use Rattle.std.specs.Prelude.{◌≡◌, ℕ, ◌≤◌, List, Option, Some}
+use Rattle.cell_addr.specs.Sheets.{AreApart, id_in, name_in}
+use Rattle.formula_tree.specs.declared.plain.Corner.{Corner}
+use Rattle.formula_tree.specs.Term.{Term, depth_of}
+use Rattle.formula_tree.specs.Canonical.{formula_text}
+use Rattle.formula_tree.specs.Proper.{IsProper, SheetsAreListed}
+use Rattle.formula_tree.specs.Reader.{tree_of_text, max_levels}
+
+-- the canonical text of a proper tree, of no more levels than it may have and whose sheets are listed, is
+-- read as that tree
+abbrev pub CanonicalIsRead : Type 0
+CanonicalIsRead = (home : ℕ) (find : List ℕ → Option ℕ) (names : ℕ → Option (List ℕ)) (t : Term Corner) → IsProper t → SheetsAreListed home names find t → depth_of t ≤ max_levels
+    → tree_of_text home find (formula_text home names t) ≡ Some t
+
+-- the tree that a text is read as is read again from its canonical text
+abbrev pub ReadAgain : Type 0
+ReadAgain = (home : ℕ) (sheets : List (ℕ × List ℕ)) (text : List ℕ) (t : Term Corner) → AreApart sheets → tree_of_text home (id_in sheets) text ≡ Some t
+    → tree_of_text home (id_in sheets) (formula_text home (name_in sheets) t) ≡ Some t

@@ -1,0 +1,56 @@
+-- Arguments from some place on. Serves the writing of arguments.
+use Rattle.std.proofs.Common.{◌≡◌, ◌∙◌, sym, ap, append_assoc, refl, ℕ, ◌+◌, ◌<◌, Bool, true, false, if◌then◌else◌, List, [], ◌∷◌, ◌++◌, Option, length, map, drop, get_or}
+use Rattle.formula_tree.specs.declared.plain.Corner.{Corner}
+use Rattle.formula_tree.specs.declared.plain.Plain.{Plain}
+use Rattle.formula_tree.specs.Term.{Term, Terms, no_terms, term, terms_of}
+use Rattle.formula_tree.specs.Canonical.{printed, printed_all, printed_more}
+use Rattle.formula_tree.specs.Seen.{seen}
+use Rattle.formula_tree.proofs.Once.{drop-item}
+use Rattle.formula_print.specs.Clipped.{clipped, clipped_all}
+use Rattle.formula_print.specs.Writes.{Writes}
+
+-- the first arguments, or those behind a comma
+abbrev pub printed_from : Bool → ℕ → (ℕ → Option (List ℕ)) → Terms Corner → List ℕ → List ℕ
+printed_from true home names ts rest = printed_all home names ts rest
+printed_from false home names ts rest = printed_more home names ts rest
+
+-- the comma in front of an argument that isn't the first
+abbrev pub comma : Bool → List ℕ
+comma is_first = if is_first then [] else 44 ∷ []
+
+printed_from-item : (b : Bool) (home : ℕ) (names : ℕ → Option (List ℕ)) (t : Term Corner) (ts : Terms Corner) (rest : List ℕ)
+    → printed_from b home names (term t ts) rest ≡ comma b ++ printed home names t (printed_from false home names ts rest)
+printed_from-item true home names t ts rest = refl
+printed_from-item false home names t ts rest = refl
+
+printed_from-none : (b : Bool) (home : ℕ) (names : ℕ → Option (List ℕ)) (rest : List ℕ) → printed_from b home names no_terms rest ≡ 41 ∷ rest
+printed_from-none true home names rest = refl
+printed_from-none false home names rest = refl
+
+-- the terms of the arguments from an index on
+abbrev pub terms_from : List Plain → ℕ → Terms Corner
+terms_from items i = clipped_all (terms_of (map seen (drop i items)))
+
+-- one argument more is written
+pub argument-written : (b : Bool) (home : ℕ) (names : ℕ → Option (List ℕ)) (items : List Plain) (i : ℕ) (item : Plain) (old mid new all cs : List ℕ)
+    → i < length items → item ≡ get_or items i item → mid ≡ old ++ comma b → Writes mid new (printed home names (clipped (seen item)))
+    → old ++ printed_from b home names (terms_from items i) cs ≡ all → new ++ printed_from false home names (terms_from items (i + 1)) cs ≡ all
+argument-written b home names items i item old mid new all cs h is m w before =
+    let more : List ℕ = printed_from false home names (terms_from items (i + 1)) cs in
+    let t : Term Corner = clipped (seen item) in
+    w more
+    ∙ ap (λ xs. xs ++ printed home names t more) m
+    ∙ append_assoc old (comma b) (printed home names t more)
+    ∙ ap (λ xs. old ++ xs) (sym (printed_from-item b home names t (terms_from items (i + 1)) cs))
+    ∙ ap (λ xs. old ++ printed_from b home names (clipped_all (terms_of (map seen xs))) cs) (sym (drop-item items i item h is))
+    ∙ before
+
+-- the closing parenthesis is written
+pub all-written : (b : Bool) (home : ℕ) (names : ℕ → Option (List ℕ)) (items : List Plain) (i : ℕ) (old new all cs : List ℕ)
+    → drop i items ≡ [] → new ≡ old ++ 41 ∷ [] → old ++ printed_from b home names (terms_from items i) cs ≡ all → new ++ cs ≡ all
+all-written b home names items i old new all cs past n before =
+    ap (λ xs. xs ++ cs) n
+    ∙ append_assoc old (41 ∷ []) cs
+    ∙ ap (λ xs. old ++ xs) (sym (printed_from-none b home names cs))
+    ∙ ap (λ xs. old ++ printed_from b home names (clipped_all (terms_of (map seen xs))) cs) (sym past)
+    ∙ before

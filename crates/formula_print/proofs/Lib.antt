@@ -1,0 +1,3 @@
+pub mod Clips
+pub mod Doubled
+pub mod Commas

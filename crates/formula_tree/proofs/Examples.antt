@@ -1,0 +1,95 @@
+-- What the definitions say of single texts, by computation alone: the expected trees are OpenFormula's for
+-- the operators, and this project's own for the rest.
+use Rattle.std.proofs.Common.{◌≡◌, refl, ℕ, pos, ◌*◌, Bool, true, false, List, [], ◌∷◌, Option, Some, None}
+use Rattle.std.specs.Prelude.{codes}
+use Rattle.std.specs.Fmt.{digits}
+use Rattle.cell_addr.specs.Sheets.{id_in, name_in}
+use Rattle.cell_value.specs.declared.fault.FaultKind.TheVariants as kinds
+use Rattle.fix_num.specs.Text.{decimals_of}
+use Rattle.formula_tree.specs.declared.plain.Corner.{Corner}
+use Rattle.formula_tree.specs.declared.plain.Op.TheVariants as op
+use Rattle.formula_tree.specs.declared.plain.Sign.TheVariants as sign
+use Rattle.formula_tree.specs.Term.{Term, number, truth, fault, cell, area, name, prefix, percent, binary, call, no_terms, term}
+use Rattle.formula_tree.specs.Reader.{climb, arguments, read, tree_of_text}
+use Rattle.formula_tree.specs.Tokens.{tokens_in}
+use Rattle.formula_tree.specs.Canonical.{formula_text}
+
+-- two sheets, of which the home is the first
+abbrev sheets : List (ℕ × List ℕ)
+sheets = (0, codes "Sheet1") ∷ (1, codes "My Plan") ∷ []
+
+abbrev Reads : List ℕ → Option (Term Corner) → Type 0
+Reads text tree = tree_of_text 0 (id_in sheets) text ≡ tree
+
+abbrev Prints : Term Corner → List ℕ → Type 0
+Prints tree text = formula_text 0 (name_in sheets) tree ≡ text
+
+abbrev whole : ℕ → Term Corner
+whole n = number (pos (n * 1000000))
+
+abbrev corner : ℕ → ℕ → ℕ → Bool → Bool → Corner
+corner sheet row col row_fixed col_fixed = record { at = record { sheet = sheet; row = row; col = col }; row_fixed = row_fixed; col_fixed = col_fixed }
+
+product_first : Reads (codes "=1+2*3") (Some (binary op.Add (whole 1) (binary op.Mul (whole 2) (whole 3))))
+unfolding tokens_in climb arguments read
+product_first = refl
+
+leftward : Reads (codes "=2^3^2") (Some (binary op.Power (binary op.Power (whole 2) (whole 3)) (whole 2)))
+unfolding tokens_in climb arguments read
+leftward = refl
+
+sign_first : Reads (codes "=-2^-1%") (Some (binary op.Power (prefix sign.Minus (whole 2)) (percent (prefix sign.Minus (whole 1)))))
+unfolding tokens_in climb arguments read
+sign_first = refl
+
+comparisons_last : Reads (codes "=1&2=3<>4") (Some (binary op.Unequal (binary op.Equal (binary op.Join (whole 1) (whole 2)) (whole 3)) (whole 4)))
+unfolding tokens_in climb arguments read
+comparisons_last = refl
+
+word_before_address : Reads (codes "=a1 (1)") (Some (call (codes "A1") (term (whole 1) no_terms)))
+unfolding tokens_in climb arguments read
+word_before_address = refl
+
+address_within_limits : Reads (codes "=A40000+A40001") (Some (binary op.Add (cell (corner 0 39999 0 false false)) (name (codes "A40001"))))
+unfolding tokens_in climb arguments read
+address_within_limits = refl
+
+corners_in_order : Reads (codes "=B$1:$A2") (Some (area (corner 0 0 0 true true) (corner 0 1 1 false false)))
+unfolding tokens_in climb arguments read
+corners_in_order = refl
+
+quoted_sheet : Reads (codes "='my plan'!a1") (Some (cell (corner 1 0 0 false false)))
+unfolding tokens_in climb arguments read
+quoted_sheet = refl
+
+unknown_sheet : Reads (codes "=Nope!A1:B2") (Some (fault kinds.Ref))
+unfolding tokens_in climb arguments read
+unknown_sheet = refl
+
+blank_at_sheet : Reads (codes "=Sheet1! A1") None
+unfolding tokens_in climb arguments read
+blank_at_sheet = refl
+
+no_exponent : Reads (codes "=1e3") None
+unfolding tokens_in climb arguments read
+no_exponent = refl
+
+out_of_range : Reads (codes "=1000000000000") None
+unfolding tokens_in climb arguments read
+out_of_range = refl
+
+name_at_colon : Reads (codes "=A1:RATE") None
+unfolding tokens_in climb arguments read
+name_at_colon = refl
+
+no_tree : Reads (codes "=") None
+unfolding tokens_in climb arguments read
+no_tree = refl
+
+prints_sheet : Prints (binary op.Add (cell (corner 1 4 27 true false)) (number (pos 500000))) (codes "='My Plan'!AB$5+0.5")
+unfolding decimals_of digits
+prints_sheet = refl
+
+prints_block : Prints (call (codes "SUM") (term (area (corner 0 0 0 true true) (corner 0 1 1 false false)) (term (truth true) no_terms))) (codes "=SUM($A$1:B2,TRUE)")
+unfolding decimals_of digits
+prints_block = refl

@@ -1,0 +1,16 @@
+pub mod ReaderSteps
+pub mod Complete
+pub mod Sound
+pub mod Exact
+pub mod Written
+pub mod Fronts
+pub mod Lexes
+pub mod LexedNumbers
+pub mod LexedRuns
+pub mod CanonicalText
+pub mod Once
+pub mod SeenNodes
+pub mod TokenSteps
+pub mod FitTokens
+pub mod ProperTrees
+pub mod Examples

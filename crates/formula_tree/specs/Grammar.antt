@@ -1,0 +1,110 @@
+-- The grammar of formulas: which tokens spell which tree, one case for each production. The second
+-- list of tokens is what stands behind the spelling. Source: OpenFormula for the operators and their
+-- leftward grouping; the spelling of the rest is this project's own.
+use Rattle.std.specs.Prelude.{◌≡◌, ℕ, ℤ, suc, Bool, if◌then◌else◌, nat_lt, List, [], ◌∷◌, Option, Some, None, Ok}
+use Rattle.cell_addr.specs.Text.{capitals}
+use Rattle.cell_value.specs.declared.fault.FaultKind.{FaultKind}
+use Rattle.cell_value.specs.declared.fault.FaultKind.TheVariants as faults
+use Rattle.fix_num.specs.Text.{number_of}
+use Rattle.formula_tree.specs.declared.plain.Corner.{Corner}
+use Rattle.formula_tree.specs.declared.plain.Home.{Home}
+use Rattle.formula_tree.specs.declared.plain.Home.TheVariants as homes
+use Rattle.formula_tree.specs.declared.plain.Op.{Op}
+use Rattle.formula_tree.specs.declared.plain.Sign.{Sign}
+use Rattle.formula_tree.specs.declared.token.Address.{Address}
+use Rattle.formula_tree.specs.declared.token.Token.{Token}
+use Rattle.formula_tree.specs.declared.token.Token.TheVariants as tok
+use Rattle.formula_tree.specs.Term.{Term, number, text, truth, fault, cell, area, name, prefix, percent, binary, call, paren, Terms, no_terms, term}
+use Rattle.formula_tree.specs.Level.{level_of, percent_level, sign_level, atom_level, op_of}
+use Rattle.formula_tree.specs.Tokens.{tokens_of}
+
+-- the sheet that a formula stands on; references without a sheet's name are on it
+abbrev pub sheet_of : Home → ℕ
+sheet_of (homes.Cell at) = at.sheet
+sheet_of (homes.Name sheet) = sheet
+
+-- the corner of an address on a sheet
+abbrev pub placed : ℕ → Address → Corner
+placed sheet a = record { at = record { sheet = sheet; row = a.row; col = a.col }; row_fixed = a.row_fixed; col_fixed = a.col_fixed }
+
+-- of two addresses the lower row and the lower column, each with its `$`; equal ones stay
+abbrev pub first_of : Address → Address → Address
+first_of a b = record {
+  row = if nat_lt b.row a.row then b.row else a.row;
+  col = if nat_lt b.col a.col then b.col else a.col;
+  row_fixed = if nat_lt b.row a.row then b.row_fixed else a.row_fixed;
+  col_fixed = if nat_lt b.col a.col then b.col_fixed else a.col_fixed;
+}
+
+-- and the other row and the other column
+abbrev pub last_of : Address → Address → Address
+last_of a b = record {
+  row = if nat_lt b.row a.row then a.row else b.row;
+  col = if nat_lt b.col a.col then a.col else b.col;
+  row_fixed = if nat_lt b.row a.row then a.row_fixed else b.row_fixed;
+  col_fixed = if nat_lt b.col a.col then a.col_fixed else b.col_fixed;
+}
+
+-- a reference on a sheet, or the fault #REF! where there is no such sheet
+abbrev pub cell_on : Option ℕ → Address → Term Corner
+cell_on (Some sheet) a = cell (placed sheet a)
+cell_on None a = fault faults.Ref
+
+-- a block between two addresses on a sheet, its corners in order
+abbrev pub area_on : Option ℕ → Address → Address → Term Corner
+area_on (Some sheet) a b = area (placed sheet (first_of a b)) (placed sheet (last_of a b))
+area_on None a b = fault faults.Ref
+
+-- atoms without parts: a number, a text, a truth value, a fault, a name, a reference or a block, these two
+-- with a sheet's name in front or without; home is the formula's sheet, and find gives the sheet of a name
+pub data Leaf (home : ℕ) (find : List ℕ → Option ℕ) : List Token → Term Corner → List Token → Type 0 where
+  a_number : {w : List ℕ} {m : ℤ} {zs : List Token} → number_of w ≡ Ok m → Leaf home find (tok.Number w ∷ zs) (number m) zs
+  a_text : {w : List ℕ} {zs : List Token} → Leaf home find (tok.Text w ∷ zs) (text w) zs
+  a_truth : {b : Bool} {zs : List Token} → Leaf home find (tok.Truth b ∷ zs) (truth b) zs
+  a_fault : {f : FaultKind} {zs : List Token} → Leaf home find (tok.Fault f ∷ zs) (fault f) zs
+  a_name : {w : List ℕ} {zs : List Token} → Leaf home find (tok.Name w ∷ zs) (name w) zs
+  a_corner : {a : Address} {zs : List Token} → Leaf home find (tok.Corner a ∷ zs) (cell_on (Some home) a) zs
+  a_range : {a b : Address} {zs : List Token} → Leaf home find (tok.Corner a ∷ tok.Colon ∷ tok.Corner b ∷ zs) (area_on (Some home) a b) zs
+  a_sheet_corner : {s : List ℕ} {a : Address} {zs : List Token} → Leaf home find (tok.Sheet s ∷ tok.Corner a ∷ zs) (cell_on (find s) a) zs
+  a_sheet_range : {s : List ℕ} {a b : Address} {zs : List Token} → Leaf home find (tok.Sheet s ∷ tok.Corner a ∷ tok.Colon ∷ tok.Corner b ∷ zs) (area_on (find s) a b) zs
+
+mutual
+  -- the tokens spell the tree at a level of the grammar: all its operators outside parentheses and
+  -- arguments are of this level or a higher one
+  pub data Spells (home : ℕ) (find : List ℕ → Option ℕ) : ℕ → List Token → Term Corner → List Token → Type 0 where
+    -- what is spelt at a level is spelt at the one below
+    lower : {k : ℕ} {xs : List Token} {t : Term Corner} {zs : List Token} → Spells home find (suc k) xs t zs → Spells home find k xs t zs
+    -- operators of one level group to the left
+    between : (o : Op) {xs : List Token} {l : Term Corner} {ys : List Token} {r : Term Corner} {zs : List Token}
+        → Spells home find (level_of o) xs l (tok.Operator o ∷ ys) → Spells home find (suc (level_of o)) ys r zs → Spells home find (level_of o) xs (binary o l r) zs
+    -- `%` behind an operand, as often as wanted
+    behind : {xs : List Token} {t : Term Corner} {zs : List Token}
+        → Spells home find percent_level xs t (tok.Percent ∷ zs) → Spells home find percent_level xs (percent t) zs
+    -- a sign in front of an operand, as often as wanted
+    before : (s : Sign) {xs : List Token} {t : Term Corner} {zs : List Token}
+        → Spells home find sign_level xs t zs → Spells home find sign_level (tok.Operator (op_of s) ∷ xs) (prefix s t) zs
+    -- an atom without parts
+    leaf : {xs : List Token} {t : Term Corner} {zs : List Token} → Leaf home find xs t zs → Spells home find atom_level xs t zs
+    -- a formula in parentheses
+    inside : {xs : List Token} {t : Term Corner} {zs : List Token}
+        → Spells home find 0 xs t (tok.Close ∷ zs) → Spells home find atom_level (tok.Open ∷ xs) (paren t) zs
+    -- a function without arguments
+    alone : {w : List ℕ} {zs : List Token} → Spells home find atom_level (tok.Word w ∷ tok.Open ∷ tok.Close ∷ zs) (call (capitals w) no_terms) zs
+    -- a function with arguments
+    called : {w : List ℕ} {xs : List Token} {ts : Terms Corner} {zs : List Token}
+        → SpellsAll home find xs ts zs → Spells home find atom_level (tok.Word w ∷ tok.Open ∷ xs) (call (capitals w) ts) zs
+
+  -- the tokens spell one argument or more, with commas between them, and the closing parenthesis
+  pub data SpellsAll (home : ℕ) (find : List ℕ → Option ℕ) : List Token → Terms Corner → List Token → Type 0 where
+    last : {xs : List Token} {t : Term Corner} {zs : List Token} → Spells home find 0 xs t (tok.Close ∷ zs) → SpellsAll home find xs (term t no_terms) zs
+    more : {xs : List Token} {t : Term Corner} {ys : List Token} {ts : Terms Corner} {zs : List Token}
+        → Spells home find 0 xs t (tok.Comma ∷ ys) → SpellsAll home find ys ts zs → SpellsAll home find xs (term t ts) zs
+
+-- a whole list of tokens spells a tree
+abbrev pub SpellsTokens : ℕ → (List ℕ → Option ℕ) → List Token → Term Corner → Type 0
+SpellsTokens home find tokens t = Spells home find 0 tokens t []
+
+-- a text spells a tree: it begins with `=`, and the tokens behind that spell the tree
+abbrev pub SpellsText : ℕ → (List ℕ → Option ℕ) → List ℕ → Term Corner → Type 0
+SpellsText home find [] t = ⊥
+SpellsText home find (c ∷ cs) t = (tokens : List Token) × ((c ≡ 61) × (tokens_of cs ≡ Some tokens) × SpellsTokens home find tokens t)

@@ -1,0 +1,92 @@
+-- Runs: sequences of letters, digits, `_`, `.` and `$`, and what they are. Source: this project's own.
+use Rattle.std.specs.Prelude.{ℕ, Bool, true, false, not, ◌&&◌, ◌||◌, if◌then◌else◌, nat_lt, ◌==◌, List, [], ◌∷◌, drop, Option, Some, None, option_and_then}
+use Rattle.std.specs.List.{list_all, prefix_len}
+use Rattle.std.specs.Char.{is_ascii_alphabetic, is_ascii_alphanumeric}
+use Rattle.cell_addr.specs.declared.place.TheConstants.{ROWS, COLS}
+use Rattle.cell_addr.specs.SheetName.{is_bare_name}
+use Rattle.cell_addr.specs.Address.{letters, behind_letters, column_of, row_of, both}
+use Rattle.cell_value.specs.Fault.{spells}
+use Rattle.cell_value.specs.Scalar.{truth_text}
+use Rattle.formula_tree.specs.declared.token.Address.{Address}
+use Rattle.formula_tree.specs.declared.token.Token.{Token}
+use Rattle.formula_tree.specs.declared.token.Token.TheVariants as tok
+
+-- blanks: space, tab, line feed and carriage return
+abbrev pub is_blank : ℕ → Bool
+is_blank c = (c == 32 || c == 9) || (c == 10 || c == 13)
+
+-- a run begins with a letter, `_` or `$`
+abbrev pub begins_run : ℕ → Bool
+begins_run c = is_ascii_alphabetic c || (c == 95 || c == 36)
+
+-- and goes on with letters, digits, `_`, `.` and `$`
+abbrev pub is_run_byte : ℕ → Bool
+is_run_byte c = is_ascii_alphanumeric c || ((c == 95 || c == 46) || c == 36)
+
+-- the text begins with this byte
+abbrev pub begins_with : ℕ → List ℕ → Bool
+begins_with b [] = false
+begins_with b (c ∷ cs) = c == b
+
+-- the text begins with a byte that passes the test
+abbrev pub begins_with_any : (ℕ → Bool) → List ℕ → Bool
+begins_with_any p [] = false
+begins_with_any p (c ∷ cs) = p c
+
+-- what stands behind the first bytes of a text that pass the test
+abbrev pub behind : (ℕ → Bool) → List ℕ → List ℕ
+behind p cs = drop (prefix_len p cs) cs
+
+-- the form of names and of functions' words: a letter or `_`, and behind it letters, digits, `_` and `.`
+abbrev pub is_word : List ℕ → Bool
+is_word [] = false
+is_word (c ∷ cs) = (is_ascii_alphabetic c || c == 95) && list_all (λ d. is_ascii_alphanumeric d || (d == 95 || d == 46)) cs
+
+-- what stands behind a `$`, or the whole text where it begins with none
+abbrev pub behind_dollar : List ℕ → List ℕ
+behind_dollar cs = if begins_with 36 cs then drop 1 cs else cs
+
+-- the address of a row and a column, where they lie within the limits
+abbrev pub address_at : Bool → Bool → ℕ × ℕ → Option Address
+address_at col_fixed row_fixed (row, col) = if nat_lt row ROWS && nat_lt col COLS
+    then Some (record { row = row; col = col; row_fixed = row_fixed; col_fixed = col_fixed })
+    else None
+
+-- the address that a run is: letters and digits, each with a `$` in front or without
+abbrev pub corner_behind : Bool → List ℕ → Option Address
+corner_behind col_fixed cs = option_and_then
+    (address_at col_fixed (begins_with 36 (behind_letters cs)))
+    (both (row_of (behind_dollar (behind_letters cs))) (column_of (letters cs)))
+
+abbrev pub corner_of : List ℕ → Option Address
+corner_of run = corner_behind (begins_with 36 run) (behind_dollar run)
+
+-- the truth value that a run is, in letters of any case
+abbrev pub truth_of : List ℕ → Option Bool
+truth_of run = if spells run (truth_text true) then Some true else (if spells run (truth_text false) then Some false else None)
+
+-- a run that is no address is a truth value, or a name where it has the form of one, or neither
+abbrev pub word_token : List ℕ → Option Bool → Token
+word_token run (Some b) = tok.Truth b
+word_token run None = if is_word run then tok.Name run else tok.Other run
+
+-- a run that stands alone is an address before it is anything else
+abbrev pub lone_token : List ℕ → Option Address → Token
+lone_token run (Some a) = tok.Corner a
+lone_token run None = word_token run (truth_of run)
+
+-- `!` follows at once, and no blank follows that
+abbrev pub is_sheet_behind : List ℕ → Bool
+is_sheet_behind cs = begins_with 33 cs && not (begins_with_any is_blank (drop 1 cs))
+
+-- the run is a sheet's name
+abbrev pub is_sheet_run : List ℕ → List ℕ → Bool
+is_sheet_run run cs = is_bare_name run && is_sheet_behind cs
+
+-- what a run is, and what stands behind it: before `!` a sheet's name, before `(` a function's word,
+-- then an address, a truth value, a name
+abbrev pub run_token : List ℕ → List ℕ → Token × List ℕ
+run_token run cs = if is_sheet_run run cs then (tok.Sheet run, drop 1 cs)
+    else (if begins_with 40 (behind is_blank cs)
+    then (if is_word run then (tok.Word run, cs) else (tok.Other run, cs))
+    else (lone_token run (corner_of run), cs))

@@ -1,0 +1,35 @@
+//! What holds of every formula: laws, with nothing to run.
+
+ghost use Rattle.formula_tree.specs.Laws.{ReaderIsExact, TextReaderIsExact, OneTree, CanonicalSpells, SpelledIsProper, SpelledIsListed};
+
+/// Reading by operator precedence answers a tree exactly where the tokens spell it and it has at most
+/// 64 levels.
+pub fn reader_is_exact()
+    ensures { ReaderIsExact }
+{}
+
+/// Reading a text answers a tree exactly where the text spells it and it has at most 64 levels.
+pub fn text_reader_is_exact()
+    ensures { TextReaderIsExact }
+{}
+
+/// No text spells two trees.
+pub fn no_text_spells_two()
+    ensures { OneTree }
+{}
+
+/// The canonical text of a proper tree whose sheets are listed spells that tree.
+pub fn canonical_text_spells()
+    ensures { CanonicalSpells }
+{}
+
+/// The tree that a text spells is proper.
+pub fn a_texts_tree_is_proper()
+    ensures { SpelledIsProper }
+{}
+
+/// The sheets of a tree that a text spells are listed, where each sheet that a name finds has a name by
+/// which it is found.
+pub fn a_texts_sheets_are_listed()
+    ensures { SpelledIsListed }
+{}

@@ -1,0 +1,233 @@
+// The names of a tree, and the places and blocks that its value depends on.
+ghost use Rattle.std.specs.Prelude.{◌≡◌, ◌&&◌, ◌++◌, [], ◌∷◌, if◌then◌else◌, IfOk, OnOk};
+ghost use Rattle.std.specs.List.{list_any};
+ghost use Rattle.cell_addr.specs.Sheets.{same_name};
+ghost use Rattle.formula_tree.specs.Links.{once, names_in, links_in, same_link, block_of, is_place_word};
+ghost use Rattle.formula_tree.specs.Term.{Term};
+ghost use Rattle.formula_tree.specs.Seen.{seen, seen_list};
+ghost use Rattle.formula_tree.specs.StandsFor.{StandsFor};
+ghost use Rattle.formula_tree.specs.declared.plain.Corner.{Corner};
+
+use crate::plain::{Corner, Home, Plain, PlainList};
+use crate::tree::Tree;
+use cell_addr::{Block, Place, Text, same_folded};
+use std::alloc::{AllocError, Global};
+
+/// What the value of a formula depends on.
+#[derive(Drop, Debug)]
+pub enum Link {
+    /// A cell.
+    Cell(Place),
+    /// A block of cells.
+    Area(Block),
+    /// A named expression, by its scope and its name: the number of a sheet, or none for the global
+    /// scope.
+    Name(Option<u32>, Text),
+}
+
+impl Link {
+    ghost use Rattle.formula_tree.specs.Links.{same_link};
+
+    /// Whether both are the same cell, block or name; names are the same in any case of their ASCII
+    /// letters. A cell and the block of it alone are two links.
+    pub fn same(&self, other: &Link) -> bool
+        ensures { result ≡ same_link self.now other.now }
+    {
+        match (self, other) {
+            (Link::Cell(place), Link::Cell(second)) => *place == *second,
+            (Link::Area(block), Link::Area(second)) => *block == *second,
+            (Link::Name(scope, name), Link::Name(second_scope, second)) => {
+                *scope == *second_scope && same_folded(name.as_str(), second.as_str())
+            }
+            _ => false,
+        }
+    }
+}
+
+impl Plain {
+    ghost use Rattle.formula_tree.specs.Links.{once_behind, names_in, links_in, is_reference};
+
+    /// Puts the names of the tree behind the others, but for those that stand there already.
+    #[cycle(names)]
+    fn add_names(&self, alloc: Global, names: &mut Vec<Text>) -> Result<(), AllocError>
+        ensures { OnOk result (names.new.items ≡ once_behind same_name names.old.items (names_in (seen self.now))) }
+    {
+        match self {
+            Plain::Name(name) => add_name(alloc, name, names)?,
+            Plain::Prefix(_, part) => part.add_names(alloc, names)?,
+            Plain::Percent(part) => part.add_names(alloc, names)?,
+            Plain::Paren(part) => part.add_names(alloc, names)?,
+            Plain::Binary(_, left, right) => {
+                left.add_names(alloc, names)?;
+                right.add_names(alloc, names)?;
+            }
+            Plain::Call(_, list) => list.add_names(alloc, names)?,
+            Plain::Number(_) | Plain::Text(_) | Plain::Truth(_) | Plain::Fault(_) => {}
+            Plain::Cell(_) | Plain::Area(_, _) => {}
+        }
+        Ok(())
+    }
+
+    /// Puts the places and blocks of the tree behind the others, but for those that stand there already.
+    #[cycle(links)]
+    fn add_links(&self, links: &mut Vec<Link>) -> Result<(), AllocError>
+        ensures { OnOk result (links.new.items ≡ once_behind same_link links.old.items (links_in (seen self.now))) }
+    {
+        match self {
+            Plain::Cell(corner) => add_link(Link::Cell(corner.at), links)?,
+            Plain::Area(first, last) => add_link(Link::Area(block_between(*first, *last)), links)?,
+            Plain::Prefix(_, part) => part.add_links(links)?,
+            Plain::Percent(part) => part.add_links(links)?,
+            Plain::Paren(part) => part.add_links(links)?,
+            Plain::Binary(_, left, right) => {
+                left.add_links(links)?;
+                right.add_links(links)?;
+            }
+            Plain::Call(word, list) => list.add_links(is_place_word(word), links)?,
+            Plain::Number(_)
+            | Plain::Text(_)
+            | Plain::Truth(_)
+            | Plain::Fault(_)
+            | Plain::Name(_) => {}
+        }
+        Ok(())
+    }
+
+    /// Whether arguments that are themselves references are skipped, and the tree is one.
+    fn is_skipped(&self, skip: bool) -> bool
+        ensures { result ≡ (skip && is_reference (seen self.now)) }
+    {
+        skip && self.is_reference()
+    }
+
+    /// Whether the tree is a reference or a block.
+    fn is_reference(&self) -> bool
+        ensures { result ≡ is_reference (seen self.now) }
+    {
+        match self {
+            Plain::Cell(_) | Plain::Area(_, _) => true,
+            Plain::Number(_)
+            | Plain::Text(_)
+            | Plain::Truth(_)
+            | Plain::Fault(_)
+            | Plain::Name(_) => false,
+            Plain::Prefix(_, _) | Plain::Percent(_) | Plain::Paren(_) => false,
+            Plain::Binary(_, _, _) | Plain::Call(_, _) => false,
+        }
+    }
+}
+
+impl PlainList {
+    ghost use Rattle.formula_tree.specs.Links.{once_behind, names_in_all, links_in_all};
+
+    /// Puts the names of all arguments behind the others.
+    #[cycle(names)]
+    fn add_names(&self, alloc: Global, names: &mut Vec<Text>) -> Result<(), AllocError>
+        ensures { OnOk result (names.new.items ≡ once_behind same_name names.old.items (names_in_all (seen_list self.now))) }
+    {
+        'arguments: for argument in self.items() {
+            argument.add_names(alloc, names)?;
+        }
+        Ok(())
+    }
+
+    /// Puts the places and blocks of all arguments behind the others; where asked, arguments that are
+    /// themselves references are skipped.
+    #[cycle(links)]
+    fn add_links(&self, skip: bool, links: &mut Vec<Link>) -> Result<(), AllocError>
+        ensures { OnOk result (links.new.items ≡ once_behind same_link links.old.items (links_in_all skip (seen_list self.now))) }
+    {
+        'arguments: for argument in self.items() {
+            if argument.is_skipped(skip) {
+                continue;
+            }
+            argument.add_links(links)?;
+        }
+        Ok(())
+    }
+}
+
+// Puts a link behind the others, unless it stands there already.
+fn add_link(link: Link, links: &mut Vec<Link>) -> Result<(), AllocError>
+    ensures { OnOk result (links.new.items ≡ (if list_any (same_link link) links.old.items then links.old.items else links.old.items ++ link ∷ [])) }
+{
+    if !has_link(links, &link) {
+        links.push(link)?;
+    }
+    Ok(())
+}
+
+// Whether one of the links is the same.
+fn has_link(links: &[Link], link: &Link) -> bool
+    ensures { result ≡ list_any (same_link link.now) links.now }
+{
+    links.iter().any(|known| link.same(known))
+}
+
+// The block between two corners.
+fn block_between(first: Corner, last: Corner) -> Block
+    ensures { result ≡ block_of first last }
+{
+    Block {
+        sheet: first.at.sheet,
+        top: first.at.row,
+        left: first.at.col,
+        bottom: last.at.row,
+        right: last.at.col,
+    }
+}
+
+// Whether the function asks where a reference is, and not what its cells show.
+fn is_place_word(word: &Text) -> bool
+    ensures { result ≡ is_place_word word.now }
+{
+    word.as_str() == "ROW"
+        || word.as_str() == "COLUMN"
+        || word.as_str() == "ROWS"
+        || word.as_str() == "COLUMNS"
+}
+
+// Puts a name behind the others, unless it stands there already.
+fn add_name(alloc: Global, name: &Text, names: &mut Vec<Text>) -> Result<(), AllocError>
+    ensures { OnOk result (names.new.items ≡ (if list_any (same_name name.now) names.old.items then names.old.items else names.old.items ++ name.now ∷ [])) }
+{
+    if !has_name(names, name) {
+        names.push(name.copy(alloc)?)?;
+    }
+    Ok(())
+}
+
+// Whether one of the names is the same.
+fn has_name(names: &[Text], name: &Text) -> bool
+    ensures { result ≡ list_any (same_name name.now) names.now }
+{
+    names.iter().any(|known| is_same_name(name, known))
+}
+
+// Whether the names are the same in any case of their ASCII letters.
+fn is_same_name(a: &Text, b: &Text) -> bool
+    ensures { result ≡ same_name a.now b.now }
+{
+    same_folded(a.as_str(), b.as_str())
+}
+
+/// The names of the tree in the order of first occurrence, each once. Names are the same in any case
+/// of their ASCII letters; each is spelled as where it first occurs.
+pub fn names_of(alloc: Global, tree: &Tree) -> Result<Vec<Text>, AllocError>
+    ensures { IfOk result (λ names. (home : Home) (t : Term Corner) → StandsFor tree.now home t → names.items ≡ once same_name (names_in t)) }
+{
+    let mut names = Vec::new(alloc);
+    tree.add_names(alloc, &mut names)?;
+    Ok(names)
+}
+
+/// The places and blocks of the tree in the order of first occurrence, each once, with every reference
+/// as the place that it names in a formula at the home. A reference or block that is itself the argument
+/// of ROW, COLUMN, ROWS or COLUMNS is not among them.
+pub fn places_of(alloc: Global, tree: &Tree, home: Home) -> Result<Vec<Link>, AllocError>
+    ensures { IfOk result (λ places. (t : Term Corner) → StandsFor tree.now home t → places.items ≡ once same_link (links_in t)) }
+{
+    let mut links = Vec::new(alloc);
+    tree.add_links(&mut links)?;
+    Ok(links)
+}

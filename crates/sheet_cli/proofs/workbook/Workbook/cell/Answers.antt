@@ -1,9 +1,0 @@
-use Rattle.std.proofs.Common.{◌∙◌, sym, ap, option_map}
-use Rattle.sheet_cli.specs.Workbook.{content}
-use Rattle.sheet_cli.proofs.Books.{seen_content, get-contents}
-use Rattle.sheet_cli.proofs.workbook.Workbook.cell.Goals as goal
-
-pub returns : goal.returns
-returns c =
-    seen_content c.get.result ∙ ap (option_map content) c.get.ensures.value
-    ∙ sym (get-contents c.args.self.now.cells.entries c.args.at)
