@@ -1,5 +1,5 @@
 // The values of a block's cells.
-ghost use Rattle.std.specs.Prelude.{◌*◌, ◌<◌, ◌≡◌, true, length, OnOk, OnErr, unwrap_or};
+ghost use Rattle.std.specs.Prelude.{◌*◌, ◌<◌, ◌≡◌, true, length, OnOk, OnErr, slice_index_or, unwrap_or};
 ghost use Rattle.std.specs.Option.{option_copied};
 ghost use Rattle.cell_value.specs.Cells.{Cells, empty_cells, index_of, value_at, with_value, IsEmptyFrom};
 ghost use Rattle.cell_value.specs.declared.scalar.Scalar.TheVariants.{Empty};
@@ -89,14 +89,24 @@ impl Area {
         u64::from(row) * u64::from(self.cols) + u64::from(col)
     }
 
-    /// The value of the cell in this row and column, or `None` where it is empty. It takes as many
-    /// steps as the number of filled cells has binary digits.
+    /// The value of the cell in this row and column, or `None` where it is empty.
+    ///
+    /// It takes as many steps as the number of filled cells has binary digits.
     pub fn value(&self, row: u32, col: u32) -> Option<&Scalar>
         requires row { row < self.now.rows }
         requires col { col < self.now.cols }
         ensures { unwrap_or (option_copied result) Empty ≡ value_at self.now row col }
     {
-        let index = self.index(row, col);
+        self.get(self.index(row, col))
+    }
+
+    /// The value of the cell before which so many others stand, row by row, or `None` where it is
+    /// empty or there is none.
+    ///
+    /// It takes as many steps as the number of filled cells has binary digits.
+    pub fn get(&self, index: u64) -> Option<&Scalar>
+        ensures { unwrap_or (option_copied result) Empty ≡ slice_index_or self.now.values index Empty }
+    {
         match self.filled.binary_search_by_key(&index, |cell| cell.index) {
             Ok(found) => Some(&self.filled[found].value),
             Err(_) => None,
