@@ -28,8 +28,8 @@ use Rattle.cell_values.specs.declared.workbook.Workbook.{Workbook}
 use Rattle.cell_values.specs.Workbook.{Book, Content, content, book_of}
 use Rattle.cell_values.specs.Workbook as content
 use Rattle.cell_values.specs.Needs.{mentions, mentions_any, needs_place}
-use Rattle.cell_values.specs.Order.{has, list_at}
-use Rattle.cell_values.specs.Shown.{number_at, AddsNeeds, SaysNeeds, NumbersAll}
+use Rattle.cell_values.specs.internal.Order.{has, list_at}
+use Rattle.cell_values.specs.internal.Shown.{number_at, AddsNeeds, SaysNeeds, NumbersAll}
 use Rattle.cell_values.specs.declared.nodes.Nodes.{Nodes}
 use Rattle.std.specs.Cmp.{eq_by_cmp_equiv}
 use Rattle.cell_values.proofs.Books.{get-contents}

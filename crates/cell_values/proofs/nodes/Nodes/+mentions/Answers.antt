@@ -6,7 +6,7 @@ use Rattle.formula_tree.specs.Term.{terms_of}
 use Rattle.formula_tree.proofs.Once.{drop-item}
 use Rattle.formula_tree.proofs.SeenNodes.{seen-Binary}
 use Rattle.cell_values.specs.Needs.{mentions, mentions_any}
-use Rattle.cell_values.specs.Shown.{AddsNeeds}
+use Rattle.cell_values.specs.internal.Shown.{AddsNeeds}
 use Rattle.cell_values.proofs.NodeNumbers.{adds_both, adds_no_place, adds_skipped, adds_argument}
 use Rattle.cell_values.proofs.nodes.Nodes.+mentions.Goals as goal
 use Rattle.cell_values.proofs.nodes.Nodes.+mentions.Goals.{add_list-else-skip-via-then-skip+else-is_reference, add_list-else-skip-via-else-skip}

@@ -2,7 +2,7 @@ use Rattle.std.proofs.Common.{List, ℕ, map, drop}
 use Rattle.formula_tree.specs.Term.{terms_of}
 use Rattle.formula_tree.specs.Seen.{seen, seen_list}
 use Rattle.cell_values.specs.Needs.{mentions_any}
-use Rattle.cell_values.specs.Shown.{AddsNeeds}
+use Rattle.cell_values.specs.internal.Shown.{AddsNeeds}
 use Rattle.cell_values.proofs.nodes.Nodes.+mentions.Given as goal
 
 -- what the arguments that are left add to the numbers so far, all of them add to those at first

@@ -6,7 +6,7 @@ use Rattle.cell_values.specs.declared.workbook.Cell.{Cell}
 use Rattle.cell_values.specs.declared.workbook.Cell.TheVariants as cell
 use Rattle.formula_tree.specs.declared.plain.Plain.{Plain}
 use Rattle.cell_values.specs.Needs.{mentions, needs_place}
-use Rattle.cell_values.specs.Shown.{AddsNeeds}
+use Rattle.cell_values.specs.internal.Shown.{AddsNeeds}
 use Rattle.cell_values.proofs.ValueSteps.{origin}
 use Rattle.cell_values.proofs.NodeNumbers.{SaysNeedsAt, says_more, says_all, no_formula_adds, formula_behind, adds_no_place}
 use Rattle.cell_values.proofs.nodes.Nodes.needs.Goals as goal
