@@ -47,12 +47,12 @@ impl Link {
 }
 
 impl Node {
-    ghost use Rattle.formula_tree.specs.Links.{once_behind, names_in, links_in, is_reference};
+    ghost use Rattle.formula_tree.specs.Links.{once_after, names_in, links_in, is_reference};
 
     /// Puts the names of the tree behind the others, but for those that stand there already.
     #[cycle(names)]
     fn add_names(&self, alloc: Global, names: &mut Vec<Text>) -> Result<(), AllocError>
-        ensures { OnOk result (names.new.items ≡ once_behind same_name names.old.items (names_in (relative self.now))) }
+        ensures { OnOk result (names.new.items ≡ once_after same_name names.old.items (names_in (relative self.now))) }
     {
         match self {
             Node::Name(name) => add_name(alloc, name, names)?,
@@ -73,7 +73,7 @@ impl Node {
     /// Puts the places and blocks of the tree behind the others, but for those that stand there already.
     #[cycle(links)]
     fn add_links(&self, home: Home, links: &mut Vec<Link>) -> Result<(), AllocError>
-        ensures { OnOk result (links.new.items ≡ once_behind same_link links.old.items (links_in (at_home home (relative self.now)))) }
+        ensures { OnOk result (links.new.items ≡ once_after same_link links.old.items (links_in (at_home home (relative self.now)))) }
     {
         match self {
             Node::Cell(corner) => add_link(Link::Cell(corner.at(home).at), links)?,
@@ -116,12 +116,12 @@ impl Node {
 }
 
 impl TreeList {
-    ghost use Rattle.formula_tree.specs.Links.{once_behind, names_in_all, links_in_all};
+    ghost use Rattle.formula_tree.specs.Links.{once_after, names_in_all, links_in_all};
 
     /// Puts the names of all arguments behind the others.
     #[cycle(names)]
     fn add_names(&self, alloc: Global, names: &mut Vec<Text>) -> Result<(), AllocError>
-        ensures { OnOk result (names.new.items ≡ once_behind same_name names.old.items (names_in_all (relative_list self.now))) }
+        ensures { OnOk result (names.new.items ≡ once_after same_name names.old.items (names_in_all (relative_list self.now))) }
     {
         'arguments: for argument in self.items() {
             argument.add_names(alloc, names)?;
@@ -133,7 +133,7 @@ impl TreeList {
     /// themselves references are skipped.
     #[cycle(links)]
     fn add_links(&self, home: Home, skip: bool, links: &mut Vec<Link>) -> Result<(), AllocError>
-        ensures { OnOk result (links.new.items ≡ once_behind same_link links.old.items (links_in_all skip (each_corner_all (corner_at (base_of home)) (relative_list self.now)))) }
+        ensures { OnOk result (links.new.items ≡ once_after same_link links.old.items (links_in_all skip (each_corner_all (corner_at (base_of home)) (relative_list self.now)))) }
     {
         'arguments: for argument in self.items() {
             if argument.is_skipped(skip) {
