@@ -13,7 +13,7 @@ use Rattle.cell_addr.proofs.Places.{place_cmp-IsAntisymmetric}
 use Rattle.cell_value.specs.declared.scalar.Scalar.{Scalar}
 use Rattle.cell_value.specs.declared.scalar.Scalar.TheVariants.{Empty}
 use Rattle.formula_tree.specs.Term.{Term, number, text, truth, fault, cell, area, name, prefix, percent, binary, call, paren}
-use Rattle.formula_tree.specs.Links.{same_place}
+use Rattle.cell_addr.specs.Place.{same_place}
 use Rattle.formula_tree.specs.declared.reference.Corner.{Corner}
 use Rattle.value_network.specs.Network.{IsNetwork}
 use Rattle.value_network.proofs.LeftOver.{free_by_needs}

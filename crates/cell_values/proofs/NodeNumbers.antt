@@ -14,18 +14,19 @@ use Rattle.std.proofs.lemmas.List.{length_push, get_or_push, get_or_append_left}
 use Rattle.cell_addr.specs.Order.{place_cmp}
 use Rattle.cell_addr.specs.declared.place.Place.{Place}
 use Rattle.cell_addr.proofs.Places.{place_cmp-IsTotalOrder, place_cmp-IsAntisymmetric}
-use Rattle.formula_tree.specs.Links.{same_place}
+use Rattle.cell_addr.specs.Place.{same_place}
 use Rattle.std.specs.FinMap.{get}
 use Rattle.std.specs.declared.alloc.Global.{Global}
 use Rattle.std.specs.declared.vec.Vec.{Vec}
 use Rattle.formula_tree.specs.Links.{is_reference}
 use Rattle.formula_tree.specs.Term.{Term, Terms, term}
 use Rattle.formula_tree.specs.declared.reference.Corner.{Corner}
-use Rattle.formula_tree.specs.declared.plain.Plain.{Plain}
+use Rattle.formula_tree.specs.declared.node.Node.{Node}
+use Rattle.std.specs.declared.rc.Rc.{Rc}
 use Rattle.cell_values.specs.declared.workbook.Cell.{Cell}
 use Rattle.cell_values.specs.declared.workbook.Cell.TheVariants as cell
 use Rattle.cell_values.specs.declared.workbook.Workbook.{Workbook}
-use Rattle.cell_values.specs.Workbook.{Book, Content, content, book_of}
+use Rattle.cell_values.specs.Workbook.{Book, Content, content_at, book_of}
 use Rattle.cell_values.specs.Workbook as content
 use Rattle.cell_values.specs.Needs.{mentions, mentions_any, needs_place}
 use Rattle.cell_values.specs.internal.Order.{has, list_at}
@@ -248,18 +249,18 @@ no_formula_adds nodes (Some (content.formula t)) list plain = absurd (plain t re
 no_formula_adds nodes (Some (content.unreadable w)) list plain = adds_no_place nodes list
 
 -- only a cell with a formula holds one
-holds_formula : (k : Cell) (t : Term Corner) → content k ≡ content.formula t → (tree : Plain) × (k ≡ cell.Formula tree)
-holds_formula (cell.Number m) t h = cc
-holds_formula (cell.Truth b) t h = cc
-holds_formula (cell.Text w) t h = cc
-holds_formula (cell.Formula tree) t h = (tree, refl)
-holds_formula (cell.Broken w) t h = cc
+holds_formula : (at : Place) (k : Cell) (t : Term Corner) → content_at at k ≡ content.formula t → (tree : Rc Node Global) × (k ≡ cell.Formula tree)
+holds_formula at (cell.Number m) t h = cc
+holds_formula at (cell.Truth b) t h = cc
+holds_formula at (cell.Text w) t h = cc
+holds_formula at (cell.Formula tree) t h = (tree, refl)
+holds_formula at (cell.Broken w) t h = cc
 
-pub formula_behind : (r : Option (Bor Cell)) (t : Term Corner) → option_map (λ k. content k.now) r ≡ Some (content.formula t) → (x : Bor Cell) × (tree : Plain) × (r ≡ Some x) × (x.now ≡ cell.Formula tree)
-formula_behind None t h = cc
-formula_behind (Some x) t h =
-    let same : content x.now ≡ content.formula t = cc in
-    let held = holds_formula x.now t same in
+pub formula_there : (at : Place) (r : Option (Bor Cell)) (t : Term Corner) → option_map (λ k. content_at at k.now) r ≡ Some (content.formula t) → (x : Bor Cell) × (tree : Rc Node Global) × (r ≡ Some x) × (x.now ≡ cell.Formula tree)
+formula_there at None t h = cc
+formula_there at (Some x) t h =
+    let same : content_at at x.now ≡ content.formula t = cc in
+    let held = holds_formula at x.now t same in
     (x, held.0, refl, held.1)
 
 -- the cells gone by have their numbers
@@ -301,5 +302,5 @@ numbers_more done places old new e n count numbers changed = record {
 pub numbers_all : (w : Workbook) (nodes : Nodes) → NumbersDone w.cells.entries nodes.places.items (number_at nodes) → NumbersAll (book_of w) nodes
 numbers_all w nodes numbers = record {
   numbered = numbers.numbered;
-  filled = λ q none. get-contents w.cells.entries q ∙ ap (option_map content) (numbers.filled q none);
+  filled = λ q none. get-contents w.cells.entries q ∙ ap (option_map (content_at q)) (numbers.filled q none);
 }

@@ -1,14 +1,16 @@
 // The filled cells of a workbook, by number, and which of them each needs.
 ghost use Rattle.std.specs.Prelude.{◌≡◌, IfOk, OnOk};
 ghost use Rattle.cell_addr.specs.Place.{covers, same_place};
-ghost use Rattle.formula_tree.specs.StandsFor.{at_home, at_home_all};
+ghost use Rattle.formula_tree.specs.Reference.{base_of, corner_at};
+ghost use Rattle.formula_tree.specs.StandsFor.{at_home};
+ghost use Rattle.formula_tree.specs.Term.{each_corner_all};
 ghost use Rattle.formula_tree.specs.Relative.{relative, relative_list};
 ghost use Rattle.cell_values.specs.Needs.{mentions, mentions_any};
 ghost use Rattle.cell_values.specs.Workbook.{book_of};
 
 use crate::workbook::{Cell, Workbook};
 use cell_addr::{Block, Place};
-use formula_tree::{Home, Node, TreeList, block_between, is_place_word, is_reference};
+use formula_tree::{Home, Node, TreeList, block_between, is_place_word};
 use std::alloc::{AllocError, Global};
 use std::collections::BTreeMap;
 use std::sync::ledger::Ledger;
@@ -115,10 +117,10 @@ impl Nodes {
         needs: &mut Vec<usize>,
         steps: &mut Steps<L>,
     ) -> Result<(), AllocError>
-        ensures { OnOk result (AddsNeeds (mentions_any skip (at_home_all home (relative_list list.now))) self.now needs.old.items needs.new.items) }
+        ensures { OnOk result (AddsNeeds (mentions_any skip (each_corner_all (corner_at (base_of home)) (relative_list list.now))) self.now needs.old.items needs.new.items) }
     {
         'arguments: for argument in list.items() {
-            if skip && is_reference(argument) {
+            if skip && argument.is_reference() {
                 continue;
             }
             self.add_tree(argument, home, needs, steps)?;

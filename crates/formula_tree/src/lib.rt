@@ -23,7 +23,7 @@ mod tests;
 mod token;
 
 pub use absolute::to_absolute;
-pub use link::{Link, names_of, places_of};
+pub use link::{Link, block_between, is_place_word, names_of, places_of};
 pub use node::{Node, Tree, TreeList, depth};
 pub use operator::{Op, Sign};
 pub use plain::{Plain, PlainList};

@@ -102,7 +102,7 @@ impl Node {
     }
 
     /// Whether the tree is a reference or a block.
-    fn is_reference(&self) -> bool
+    pub fn is_reference(&self) -> bool
         ensures { result ≡ is_reference (relative self.now) }
     {
         match self {
@@ -163,7 +163,7 @@ fn has_link(links: &[Link], link: &Link) -> bool
 }
 
 // The block between two corners.
-fn block_between(first: Corner, last: Corner) -> Block
+pub fn block_between(first: Corner, last: Corner) -> Block
     ensures { result ≡ block_of first last }
 {
     Block {
@@ -176,7 +176,7 @@ fn block_between(first: Corner, last: Corner) -> Block
 }
 
 // Whether the function asks where a reference is, and not what its cells show.
-fn is_place_word(word: &Text) -> bool
+pub fn is_place_word(word: &Text) -> bool
     ensures { result ≡ is_place_word word.now }
 {
     word.as_str() == "ROW"
