@@ -29,7 +29,7 @@ is_eq-Equal Equal h = refl
 is_eq-Equal Greater h = cc
 
 -- places that compare as equal are one
-same_at : (p q : Place) → is_at (place_cmp p) q ≡ true → p ≡ q
+pub same_at : (p q : Place) → is_at (place_cmp p) q ≡ true → p ≡ q
 same_at p q here = place_cmp-IsAntisymmetric p q (is_eq-Equal (place_cmp p q) here)
 
 -- the entry of a place is looked up by the place itself

@@ -33,7 +33,7 @@ use Rattle.cell_values.specs.internal.Order.{has, list_at}
 use Rattle.cell_values.specs.internal.Shown.{number_at, AddsNeeds, SaysNeeds, NumbersAll}
 use Rattle.cell_values.specs.declared.nodes.Nodes.{Nodes}
 use Rattle.std.specs.Cmp.{eq_by_cmp_equiv}
-use Rattle.cell_values.proofs.Books.{get-contents}
+use Rattle.cell_values.proofs.Books.{same_at, get-contents}
 use Rattle.cell_values.proofs.Lists.{has-append, has-append_left, has-append_right, has_first, nat_eq_equal, list_at-first, list_at-last}
 use Rattle.cell_values.proofs.Networks.{same_place_equal, same_place_self}
 use Rattle.cell_values.proofs.ValueSteps.{origin}
@@ -101,11 +101,6 @@ pub record AddsAmong (test : Place → Bool) (es : List (Place × ℕ)) (old new
   pub found : (q : Place) (j : ℕ) → test q ≡ true → lookup (is_at (place_cmp q)) es ≡ Some j → has j new ≡ true
   pub only : (j : ℕ) → has j new ≡ true → (has j old ≡ true) ⊎ ((q : Place) × (test q ≡ true) × (lookup (is_at (place_cmp q)) es ≡ Some j))
 
-equal : (r : Ordering) → is_eq r ≡ true → r ≡ Equal
-equal Less h = absurd (false≢true h)
-equal Equal h = refl
-equal Greater h = absurd (false≢true h)
-
 not_at_above : (q p : Place) → place_cmp p q ≡ Less → is_at (place_cmp q) p ≡ false
 not_at_above q p above = ap is_eq (place_cmp-IsTotalOrder.antisymm q p ∙ ap ordering_reverse above)
 
@@ -132,7 +127,7 @@ module _ {X : Type 0} where
       last : (b : Bool) → is_at (place_cmp q) e.0 ≡ b → cond b (Some e.1) None ≡ Some x → (None ≡ Some x) ⊎ ((q ≡ e.0) × (e.1 ≡ x))
       last true is k =
           let value : e.1 ≡ x = cc in
-          inr (place_cmp-IsAntisymmetric q e.0 (equal (place_cmp q e.0) is), value)
+          inr (same_at q e.0 is, value)
       last false is k = inl k
   among_more (d ∷ es) e q x h = later (is_at (place_cmp q) d.0) (among_more es e q x) h
     where
@@ -283,7 +278,7 @@ numbers_more done places old new e n count numbers changed = record {
       let number : Some n ≡ Some i = sym (ap (λ b. cond b (Some n) (old q)) here) ∙ sym (changed q) ∙ is in
       let same : n ≡ i = cc in
       let longer = length_push places e.0 in
-      (omega (arith, same, count, longer), λ d. get_or_push places e.0 d i (count ∙ same) ∙ place_cmp-IsAntisymmetric e.0 q (equal (place_cmp e.0 q) here)))
+      (omega (arith, same, count, longer), λ d. get_or_push places e.0 d i (count ∙ same) ∙ same_at e.0 q here))
       (λ (there : is_at (place_cmp e.0) q ≡ false).
       let before = numbers.numbered q i (sym (changed q ∙ ap (λ b. cond b (Some n) (old q)) there) ∙ is) in
       let inside = before.0 in

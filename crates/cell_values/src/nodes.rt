@@ -97,11 +97,7 @@ impl Nodes {
                 self.add_tree(right, home, needs, steps)?;
             }
             Node::Call(word, list) => self.add_list(list, home, is_place_word(word), needs, steps)?,
-            Node::Number(_)
-            | Node::Text(_)
-            | Node::Truth(_)
-            | Node::Fault(_)
-            | Node::Name(_) => {}
+            Node::Number(_) | Node::Text(_) | Node::Truth(_) | Node::Fault(_) | Node::Name(_) => {}
         }
         Ok(())
     }
