@@ -13,7 +13,7 @@ use Rattle.cell_value.specs.declared.fault.FaultKind.TheVariants as fault
 use Rattle.cell_values.specs.Workbook.{Book}
 use Rattle.cell_values.specs.Needs.{needs_place}
 use Rattle.cell_values.specs.Values.{worked_out}
-use Rattle.cell_values.specs.Order.{has, list_at}
+use Rattle.cell_values.specs.internal.Order.{has, list_at}
 use Rattle.cell_values.specs.declared.nodes.Nodes.{Nodes}
 use Rattle.cell_values.specs.declared.evaluate.Shown.{Shown}
 

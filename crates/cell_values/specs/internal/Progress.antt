@@ -2,7 +2,7 @@
 use Rattle.std.specs.Prelude.{◌≡◌, ◌⊎◌, ◌+◌, ◌<◌, ◌≤◌, ◌||◌, ◌++◌, ℕ, Bool, true, false, List, [], ◌∷◌, length, filter, not, nat_le, slice_index, slice_index_or}
 use Rattle.std.specs.declared.alloc.Global.{Global}
 use Rattle.std.specs.declared.vec.Vec.{Vec}
-use Rattle.cell_values.specs.Order.{has, list_at, ComesBehindNeeds, AreNodes}
+use Rattle.cell_values.specs.internal.Order.{has, list_at, ComesBehindNeeds, AreNodes}
 use Rattle.cell_values.specs.declared.order.Progress.{Progress}
 
 -- from the place on, all nodes of the list before the found one are done, and the found one isn't
