@@ -1,5 +1,6 @@
 -- The books that commands reach hold proper trees alone: a tree comes into a book only from a text.
 use Rattle.std.proofs.Common.{◌≡◌, ◌∙◌, sym, ap, refl, ℕ, Bool, true, false, cond, List, Option, Some, None}
+use Rattle.std.specs.Prelude.{codes}
 use Rattle.std.specs.FinMap as map
 use Rattle.std.specs.FinMap.{get-empty, get-insert, get-remove}
 use Rattle.std.specs.Ordering.{eq_by_cmp}
@@ -28,7 +29,7 @@ use Rattle.sheet_cli.specs.Session.{sheets, tree_given, formula_content, content
 read_proper : (w : List ℕ) (t : Term Corner) → tree_given w ≡ Some t → IsProperHere t
 read_proper w t read =
     let spelt = (text_reader-exact 0 (id_in sheets) w t).0 read in
-    (spelled-proper 0 (id_in sheets) w t spelt.0, spelled-listed 0 (id_in sheets) (name_in sheets) w t (named-apart sheets (AreSheets-one 0 _ _).1) spelt.0)
+    (spelled-proper 0 (id_in sheets) w t spelt.0, spelled-listed 0 (id_in sheets) (name_in sheets) w t (named-apart sheets (AreSheets-one (codes "Sheet1")).0) spelt.0)
 
 formula_proper : (found : Option (Term Corner)) (w : List ℕ) (t : Term Corner) → tree_given w ≡ found → formula_content found w ≡ content.formula t → IsProperHere t
 formula_proper None w t read is = cc
@@ -65,7 +66,7 @@ unless_proper None after before new old = new
 unless_proper (Some r) after before new old = old
 
 pub empty_proper : HoldsProperTrees map.empty
-empty_proper q t is = let never : None ≡ Some (content.formula t) = sym (get-empty q) ∙ is in cc
+empty_proper q t is = let never : None ≡ Some (content.formula t) = sym (get-empty place_cmp q) ∙ is in cc
 
 pub books_hold_proper_trees : BooksHoldProperTrees
 books_hold_proper_trees = (
