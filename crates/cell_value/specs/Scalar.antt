@@ -9,9 +9,11 @@ use Rattle.std.specs.Cmp.Lexicographic.{slice_cmp}
 use Rattle.cell_addr.specs.Text.{folded}
 use Rattle.fix_num.specs.declared.error.NumError.{NumError}
 use Rattle.fix_num.specs.Text.{number_of, text_of}
+use Rattle.fix_num.specs.declared.number.TheConstants.{ONE}
 use Rattle.cell_value.specs.declared.fault.FaultKind.{FaultKind}
 use Rattle.cell_value.specs.declared.fault.FaultKind.TheVariants as fault
 use Rattle.cell_value.specs.declared.scalar.Scalar.{Scalar}
+use Rattle.cell_value.specs.declared.scalar.TheConstants.{MAX_MADE_TEXT}
 use Rattle.cell_value.specs.declared.scalar.Scalar.TheVariants.{Empty, Number, Text, Truth, Fault}
 use Rattle.cell_value.specs.Fault.{fault_of_error, fault_text, spells}
 
@@ -22,7 +24,7 @@ is_empty _ = false
 
 -- TRUE as a number is 1 and FALSE 0, in millionths
 abbrev pub truth_number : Bool → ℤ
-truth_number true = pos 1000000
+truth_number true = pos ONE
 truth_number false = pos 0
 
 -- the value of a calculation: its number, or the fault that it failed by
@@ -76,13 +78,9 @@ abbrev pub to_text : Scalar → Scalar
 to_text (Fault fault) = Fault fault
 to_text x = Text (shown_text x)
 
--- the most bytes of a text that a formula makes
-abbrev pub greatest_made_text : ℕ
-greatest_made_text = 32768
-
 -- a text that a formula made, as a value: a longer one is #VALUE!
 abbrev pub made_text : List ℕ → Scalar
-made_text text = if nat_le (length text) greatest_made_text then Text text else Fault fault.Value
+made_text text = if nat_le (length text) MAX_MADE_TEXT then Text text else Fault fault.Value
 
 -- what a value counts as beside another: nothing is 0, beside a text the text of no characters, and
 -- beside a truth value FALSE

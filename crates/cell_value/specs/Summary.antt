@@ -2,6 +2,7 @@
 use Rattle.std.specs.Prelude.{◌≡◌, ◌+◌, ◌*◌, ◌≤◌, ℤ, pos, ◌+ℤ◌, unsigned_abs, List, [], ◌∷◌, ◌++◌, Option, Some, None}
 use Rattle.std.specs.Option.{option_or}
 use Rattle.std.specs.Int.{int_min, int_max}
+use Rattle.fix_num.specs.declared.number.TheConstants.{LIMIT}
 use Rattle.cell_value.specs.declared.scalar.Scalar.{Scalar}
 use Rattle.cell_value.specs.declared.scalar.Scalar.TheVariants.{Number, Fault}
 use Rattle.cell_value.specs.declared.summary.Summary.{Summary}
@@ -49,4 +50,4 @@ SummariesJoin = (xs ys : List Scalar) → summary_of (xs ++ ys) ≡ joined (summ
 
 -- the sum is no further from 0 than so many of the greatest numbers
 abbrev pub IsBounded : Summary → Type 0
-IsBounded s = unsigned_abs s.sum ≤ s.count * 1000000000000000000
+IsBounded s = unsigned_abs s.sum ≤ s.count * LIMIT

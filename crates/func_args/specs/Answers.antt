@@ -3,6 +3,7 @@
 use Rattle.std.specs.Prelude.{ℕ, ℤ, pos, ◌*ℤ◌, Bool, Result, Ok, Err}
 use Rattle.fix_num.specs.declared.error.NumError.{NumError}
 use Rattle.fix_num.specs.Number.{within}
+use Rattle.fix_num.specs.declared.number.TheConstants.{ONE}
 use Rattle.cell_value.specs.declared.fault.FaultKind.{FaultKind}
 use Rattle.cell_value.specs.declared.scalar.Scalar.{Scalar}
 use Rattle.cell_value.specs.declared.scalar.Scalar.TheVariants.{Number, Truth, Fault}
@@ -24,7 +25,7 @@ gives millionths = calculated (within millionths)
 
 -- so many as a number
 abbrev pub counted : ℕ → Result ℤ FaultKind
-counted count = gives (pos count *ℤ pos 1000000)
+counted count = gives (pos count *ℤ pos ONE)
 
 -- a number as a value, or the fault in its place
 abbrev pub number_value : Result ℤ FaultKind → Scalar

@@ -1,6 +1,7 @@
 -- One argument, read as what a function takes. Source: OpenFormula's conversions; that a block isn't
 -- one value is this project's own.
 use Rattle.std.specs.Prelude.{ℤ, pos, Bool, Result, Ok, Err, int_div}
+use Rattle.fix_num.specs.declared.number.TheConstants.{ONE}
 use Rattle.cell_value.specs.declared.argument.Arg.{Arg}
 use Rattle.cell_value.specs.declared.argument.Arg.TheVariants.{One, Many}
 use Rattle.cell_value.specs.declared.fault.FaultKind.{FaultKind}
@@ -18,7 +19,7 @@ number (Many _) = Err Value
 
 -- a number cut toward zero
 abbrev pub whole_part : ℤ → ℤ
-whole_part number = int_div number (pos 1000000)
+whole_part number = int_div number (pos ONE)
 
 -- a number cut toward zero, as counts, positions and dates are
 abbrev pub whole : Arg → Result ℤ FaultKind

@@ -3,10 +3,7 @@ ghost use Rattle.std.specs.Prelude.{◌≡◌, MatchResult, Ok, Err};
 ghost use Rattle.func_args.specs.Arguments.{block, number, truth, value, whole, whole_part};
 
 use cell_value::{Area, Arg, FaultKind, Scalar};
-use fix_num::Fixed;
-
-/// How many millionths one has.
-const ONE: i64 = 1_000_000;
+use fix_num::{Fixed, ONE};
 
 /// The number that the argument is. A block is `Value`.
 pub fn number_of(argument: &Arg) -> Result<Fixed, FaultKind>
@@ -30,7 +27,7 @@ pub fn whole_of(argument: &Arg) -> Result<i64, FaultKind>
 fn whole_part(number: Fixed) -> i64
     ensures { result ≡ whole_part number }
 {
-    number.millionths() / ONE
+    number.millionths() / ONE as i64
 }
 
 /// The truth value that the argument is. A block is `Value`.
