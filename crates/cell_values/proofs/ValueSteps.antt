@@ -17,8 +17,8 @@ use Rattle.value_network.proofs.Values.{works_in_place, value-bad}
 use Rattle.cell_values.specs.Workbook.{Book}
 use Rattle.cell_values.specs.Needs.{needs_place}
 use Rattle.cell_values.specs.Values.{worked_out, network, is_bad, value_at}
-use Rattle.cell_values.specs.Order.{has, list_at, ComesBehindNeeds, OthersNeedOthers, AreNodes}
-use Rattle.cell_values.specs.Shown.{number_at, IsNumberOf, NumbersAll, SaysNeeds, value_numbered, shown_by, WorksOut, ShowsCycles}
+use Rattle.cell_values.specs.internal.Order.{has, list_at, ComesBehindNeeds, OthersNeedOthers, AreNodes}
+use Rattle.cell_values.specs.internal.Shown.{number_at, IsNumberOf, NumbersAll, SaysNeeds, value_numbered, shown_by, WorksOut, ShowsCycles}
 use Rattle.cell_values.specs.declared.nodes.Nodes.{Nodes}
 use Rattle.cell_values.specs.declared.evaluate.Shown.{Shown}
 use Rattle.cell_values.proofs.Networks.{book_is_network, empty_is_good, value_of_empty}

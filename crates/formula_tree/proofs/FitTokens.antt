@@ -12,7 +12,7 @@ use Rattle.std.specs.Option.{option_zip}
 use Rattle.cell_value.specs.declared.fault.FaultKind.{FaultKind}
 use Rattle.cell_value.specs.Fault.{faults}
 use Rattle.fix_num.specs.Text.{has_minus}
-use Rattle.formula_tree.specs.declared.plain.Op.{Op}
+use Rattle.formula_tree.specs.declared.operator.Op.{Op}
 use Rattle.formula_tree.specs.declared.token.Address.{Address}
 use Rattle.formula_tree.specs.declared.token.Token.{Token}
 use Rattle.formula_tree.specs.declared.token.Token.TheVariants as tok

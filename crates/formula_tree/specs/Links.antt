@@ -4,19 +4,19 @@ use Rattle.std.specs.List.{list_any}
 use Rattle.cell_addr.specs.declared.place.Place.{Place}
 use Rattle.cell_addr.specs.declared.place.Block.{Block}
 use Rattle.cell_addr.specs.Sheets.{same_name}
-use Rattle.formula_tree.specs.declared.plain.Corner.{Corner}
+use Rattle.formula_tree.specs.declared.reference.Corner.{Corner}
 use Rattle.formula_tree.specs.declared.link.Link.{Link}
 use Rattle.formula_tree.specs.declared.link.Link.TheVariants as links
 use Rattle.formula_tree.specs.Term.{Term, cell, area, name, prefix, percent, binary, call, paren, Terms, no_terms, term}
 
 -- the items behind those done, without each that is the same as an earlier one
-abbrev pub once_behind : {X : Type 0} → (X → X → Bool) → List X → List X → List X
-once_behind same done [] = done
-once_behind same done (x ∷ xs) = once_behind same (if list_any (same x) done then done else done ++ x ∷ []) xs
+abbrev pub once_after : {X : Type 0} → (X → X → Bool) → List X → List X → List X
+once_after same done [] = done
+once_after same done (x ∷ xs) = once_after same (if list_any (same x) done then done else done ++ x ∷ []) xs
 
 -- each item once, in the order of first occurrence
 abbrev pub once : {X : Type 0} → (X → X → Bool) → List X → List X
-once same xs = once_behind same [] xs
+once same xs = once_after same [] xs
 
 abbrev mutual
   -- the names of a tree, in order

@@ -1,5 +1,5 @@
 // The tokens of formulas' texts.
-use crate::plain::Op;
+use crate::operator::Op;
 use cell_addr::Text;
 use cell_value::FaultKind;
 
