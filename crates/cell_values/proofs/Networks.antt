@@ -15,7 +15,7 @@ use Rattle.cell_value.specs.declared.scalar.Scalar.TheVariants.{Empty}
 use Rattle.formula_tree.specs.Term.{Term, number, text, truth, fault, cell, area, name, prefix, percent, binary, call, paren}
 use Rattle.cell_addr.specs.Place.{same_place}
 use Rattle.formula_tree.specs.declared.reference.Corner.{Corner}
-use Rattle.value_network.specs.Network.{IsNetwork}
+use Rattle.value_network.specs.Network.{IsNetwork, at_once}
 use Rattle.value_network.proofs.LeftOver.{free_by_needs}
 use Rattle.value_network.proofs.Stuck.{stuck_covers}
 use Rattle.value_network.proofs.Values.{unfolds, unique_everywhere, value-good}
@@ -113,7 +113,7 @@ book_is_network b = record {
   same_equal = same_place_equal;
   same_self = same_place_self;
   needs_formula = λ p q h. let f = needing (get b p) q h in listed (entries b) p f.0 (sym (get-entries b p) ∙ f.1) f.2;
-  reads_needs = λ p v w alike. worked_out_reads (get b p) v w alike;
+  reads_needs = λ p v w alike. worked_out_reads (get b p) v w (λ q need. alike q (at_once need));
 }
 
 -- each cell shows what it works out from what the others show, or that it is on a cycle or behind one

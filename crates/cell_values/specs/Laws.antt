@@ -12,7 +12,7 @@ use Rattle.formula_tree.specs.Term.{Term}
 use Rattle.formula_tree.specs.declared.link.Link.{Link}
 use Rattle.formula_tree.specs.declared.link.Link.TheVariants as links
 use Rattle.formula_tree.specs.declared.reference.Corner.{Corner}
-use Rattle.value_network.specs.Laws.{LeadsTo}
+use Rattle.value_network.specs.Network.{LeadsTo}
 use Rattle.cell_values.specs.Workbook.{Book}
 use Rattle.cell_values.specs.Needs.{mentions}
 use Rattle.cell_values.specs.Values.{network, worked_out, value_at, is_bad}
