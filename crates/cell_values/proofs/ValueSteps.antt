@@ -13,7 +13,7 @@ use Rattle.cell_value.specs.declared.scalar.Scalar.TheVariants as scalar
 use Rattle.cell_value.specs.declared.fault.FaultKind.TheVariants as fault
 use Rattle.value_network.proofs.LeftOver.{free_by_needs, left_over_is_stuck}
 use Rattle.value_network.proofs.Stuck.{stuck_covers}
-use Rattle.value_network.proofs.Values.{works_in_place, value-bad}
+use Rattle.value_network.proofs.Values.{value-good, value-bad}
 use Rattle.cell_values.specs.Workbook.{Book}
 use Rattle.cell_values.specs.Needs.{needs_place}
 use Rattle.cell_values.specs.Values.{worked_out, network, is_bad, value_at}
@@ -21,7 +21,7 @@ use Rattle.cell_values.specs.internal.Order.{has, list_at, ComesBehindNeeds, Oth
 use Rattle.cell_values.specs.internal.Shown.{number_at, IsNumberOf, NumbersAll, SaysNeeds, value_numbered, shown_by, WorksOut, ShowsCycles}
 use Rattle.cell_values.specs.declared.nodes.Nodes.{Nodes}
 use Rattle.cell_values.specs.declared.evaluate.Shown.{Shown}
-use Rattle.cell_values.proofs.Networks.{book_is_network, empty_is_good, value_of_empty}
+use Rattle.cell_values.proofs.Networks.{worked_out_reads, book_is_network, empty_is_good, value_of_empty}
 
 -- the cells done show their values, and are on no cycle nor behind one; all others show #CYCLE!
 pub record KeepsValues (b : Book) (nodes : Nodes) (values : List Scalar) (done : List ℕ) : Type 0 where
@@ -60,8 +60,9 @@ module _ (b : Book) (nodes : Nodes) (needs : List (Vec ℕ Global)) (numbers : N
     next_is_good = free_by_needs (network b) (book_is_network b) p (λ q need. needed_good q need (number_at nodes q) refl)
 
     next_value : worked_out (λ q. value_numbered values (number_at nodes q)) (get b p) ≡ value_at b p
-    next_value = works_in_place (network b) (book_is_network b) (is_bad b) (stuck_covers (network b) (book_is_network b)) p
-        (λ q. value_numbered values (number_at nodes q)) next_is_good (λ q need. needed_value q need (number_at nodes q) refl)
+    next_value =
+        worked_out_reads (get b p) (λ q. value_numbered values (number_at nodes q)) (value_at b) (λ q need. needed_value q need (number_at nodes q) refl)
+        ∙ sym (value-good (network b) (book_is_network b) (is_bad b) (stuck_covers (network b) (book_is_network b)) p next_is_good)
 
   -- where the next cell is worked out behind all that it needs, one cell more is done
   module _ (old new : List Scalar) (done : List ℕ) (keeps : KeepsValues b nodes old done) (i : ℕ) (inside : i < length nodes.places.items) (count : length old ≡ length nodes.places.items)
