@@ -15,7 +15,7 @@ use Rattle.cell_value.specs.declared.scalar.Scalar.TheVariants.{Empty}
 use Rattle.formula_tree.specs.Term.{Term, number, text, truth, fault, cell, area, name, prefix, percent, binary, call, paren}
 use Rattle.cell_addr.specs.Place.{same_place}
 use Rattle.formula_tree.specs.declared.reference.Corner.{Corner}
-use Rattle.value_network.specs.Network.{IsNetwork}
+use Rattle.value_network.specs.Network.{IsNetwork, at_once}
 use Rattle.value_network.proofs.LeftOver.{free_by_needs}
 use Rattle.value_network.proofs.Stuck.{stuck_covers}
 use Rattle.value_network.proofs.Values.{unfolds, unique_everywhere, value-good}
