@@ -66,7 +66,7 @@ meaning_reads (binary o l r) v w alike = ap₂ (combined o)
 meaning_reads (call s ts) v w alike = refl
 meaning_reads (paren t) v w alike = meaning_reads t v w alike
 
-pub worked_out_reads : (c : Option Content) (v w : Place → Scalar) → ((q : Place) → needs_place c q ≡ true → v q ≡ w q) → worked_out v c ≡ worked_out w c
+worked_out_reads : (c : Option Content) (v w : Place → Scalar) → ((q : Place) → needs_place c q ≡ true → v q ≡ w q) → worked_out v c ≡ worked_out w c
 worked_out_reads None v w alike = refl
 worked_out_reads (Some (content.number m)) v w alike = refl
 worked_out_reads (Some (content.truth b)) v w alike = refl
