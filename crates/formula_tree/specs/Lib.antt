@@ -3,6 +3,7 @@ pub mod Term
 pub mod Seen
 pub mod Level
 pub mod Run
+pub mod Token
 pub mod Tokens
 pub mod Grammar
 pub mod Reader

@@ -2,23 +2,23 @@
 //!
 //! A [`Plain`] is the tree of a formula, with every reference as the place that it names. Contracts
 //! see it as a `Term`, one inductive type with the kind of references as a parameter, and never its
-//! boxes: `seen tree` is the term of a tree. A [`Token`] is a piece of a formula's text. The
-//! relation `Spells` of the specs says which tokens spell which term, one case for each production
+//! boxes: `seen tree` is the term of a tree. A `Token` of the specs is a piece of a formula's text. The
+//! relation `Spells` says which tokens spell which term, one case for each production
 //! of the grammar, and `formula_text` is the canonical text of a term.
 //!
 //! The formula `=A1+0.5` has the tokens A1, `+` and 0.5. It spells `Plain::Binary(Op::Add, a, b)`,
 //! where `a` is the cell A1 and `b` the number 0.5; its depth is 2.
 #![tactic(auto)]
 
+mod address;
 pub mod laws;
 mod link;
 mod plain;
 #[cfg(test)]
 mod tests;
-mod token;
 mod tree;
 
+pub use address::Address;
 pub use link::{Link, names_of, places_of};
 pub use plain::{Corner, Home, Op, Plain, PlainList, Sign};
-pub use token::{Address, Token};
 pub use tree::{Pool, Tree, depth, to_absolute};
