@@ -14,7 +14,7 @@ use Rattle.cell_value.specs.declared.scalar.Scalar.{Scalar}
 use Rattle.cell_value.specs.declared.scalar.Scalar.TheVariants.{Empty}
 use Rattle.formula_tree.specs.Term.{Term, number, text, truth, fault, cell, area, name, prefix, percent, binary, call, paren}
 use Rattle.formula_tree.specs.Links.{same_place}
-use Rattle.formula_tree.specs.declared.plain.Corner.{Corner}
+use Rattle.formula_tree.specs.declared.reference.Corner.{Corner}
 use Rattle.value_network.specs.Network.{IsNetwork}
 use Rattle.value_network.proofs.LeftOver.{free_by_needs}
 use Rattle.value_network.proofs.Stuck.{stuck_covers}

@@ -20,7 +20,7 @@ use Rattle.std.specs.declared.alloc.Global.{Global}
 use Rattle.std.specs.declared.vec.Vec.{Vec}
 use Rattle.formula_tree.specs.Links.{is_reference}
 use Rattle.formula_tree.specs.Term.{Term, Terms, term}
-use Rattle.formula_tree.specs.declared.plain.Corner.{Corner}
+use Rattle.formula_tree.specs.declared.reference.Corner.{Corner}
 use Rattle.formula_tree.specs.declared.plain.Plain.{Plain}
 use Rattle.cell_values.specs.declared.workbook.Cell.{Cell}
 use Rattle.cell_values.specs.declared.workbook.Cell.TheVariants as cell

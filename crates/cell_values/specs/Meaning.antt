@@ -12,11 +12,11 @@ use Rattle.cell_value.specs.declared.fault.FaultKind.{FaultKind}
 use Rattle.cell_value.specs.declared.fault.FaultKind.TheVariants as fault
 use Rattle.cell_value.specs.Scalar.{to_number, shown_text, order_of, scalar_of}
 use Rattle.formula_tree.specs.Term.{Term, number, text, truth, fault, cell, area, name, prefix, percent, binary, call, paren}
-use Rattle.formula_tree.specs.declared.plain.Corner.{Corner}
-use Rattle.formula_tree.specs.declared.plain.Op.{Op}
-use Rattle.formula_tree.specs.declared.plain.Op.TheVariants.{Add, Sub, Mul, Div, Power, Join, Equal, Unequal, Less, Greater, AtMost, AtLeast}
-use Rattle.formula_tree.specs.declared.plain.Sign.{Sign}
-use Rattle.formula_tree.specs.declared.plain.Sign.TheVariants.{Plus, Minus}
+use Rattle.formula_tree.specs.declared.reference.Corner.{Corner}
+use Rattle.formula_tree.specs.declared.operator.Op.{Op}
+use Rattle.formula_tree.specs.declared.operator.Op.TheVariants.{Add, Sub, Mul, Div, Power, Join, Equal, Unequal, Less, Greater, AtMost, AtLeast}
+use Rattle.formula_tree.specs.declared.operator.Sign.{Sign}
+use Rattle.formula_tree.specs.declared.operator.Sign.TheVariants.{Plus, Minus}
 
 -- a calculation with one number; a value that is no number gives its fault
 abbrev pub computed : (ℤ → Result ℤ NumError) → Result ℤ FaultKind → Scalar

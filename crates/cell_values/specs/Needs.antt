@@ -4,7 +4,7 @@ use Rattle.cell_addr.specs.declared.place.Place.{Place}
 use Rattle.cell_addr.specs.declared.place.Block.{Block}
 use Rattle.formula_tree.specs.Term.{Term, cell, area, prefix, percent, binary, call, paren, Terms, no_terms, term}
 use Rattle.formula_tree.specs.Links.{same_place, block_of, is_place_word, is_reference}
-use Rattle.formula_tree.specs.declared.plain.Corner.{Corner}
+use Rattle.formula_tree.specs.declared.reference.Corner.{Corner}
 use Rattle.cell_values.specs.Workbook.{Content, formula}
 
 -- whether a block covers a place

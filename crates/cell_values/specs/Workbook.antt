@@ -5,7 +5,7 @@ use Rattle.std.specs.FinMap as map
 use Rattle.cell_addr.specs.Order.{place_cmp}
 use Rattle.formula_tree.specs.Term.{Term}
 use Rattle.formula_tree.specs.Seen.{seen}
-use Rattle.formula_tree.specs.declared.plain.Corner.{Corner}
+use Rattle.formula_tree.specs.declared.reference.Corner.{Corner}
 use Rattle.cell_values.specs.declared.workbook.Cell.{Cell}
 use Rattle.cell_values.specs.declared.workbook.Cell.TheVariants as cell
 use Rattle.cell_values.specs.declared.workbook.Workbook.{Workbook}

@@ -2,7 +2,7 @@
 ghost use Rattle.std.specs.Prelude.{◌≡◌, IfOk};
 ghost use Rattle.std.specs.String.{string_bytes};
 ghost use Rattle.cell_values.specs.Meaning.{combined, hundredth, joined, made_text, signed_value, truth_or_fault};
-ghost use Rattle.formula_tree.specs.declared.plain.Op.TheVariants.{Add, Sub, Mul, Div, Power};
+ghost use Rattle.formula_tree.specs.declared.operator.Op.TheVariants.{Add, Sub, Mul, Div, Power};
 
 use cell_addr::Text;
 use cell_value::{FaultKind, Scalar};

@@ -1,7 +1,7 @@
 -- One turn of the loops over the arguments of a call and over operators. Serves the reader of tokens.
 use Rattle.std.proofs.Common.{◌≡◌, ◌∙◌, sym, ap, refl, arith, ℕ, ◌+◌, ◌-◌, ◌<◌, ◌≤◌, List, [], ◌∷◌, ◌++◌, map, Some, None}
 use Rattle.cell_addr.specs.Text.{capitals}
-use Rattle.formula_tree.specs.declared.plain.Corner.{Corner}
+use Rattle.formula_tree.specs.declared.reference.Corner.{Corner}
 use Rattle.formula_tree.specs.declared.token.Token.{Token}
 use Rattle.formula_tree.specs.Term.{Term, call, terms_of}
 use Rattle.formula_tree.specs.declared.plain.Plain.TheVariants as plain

@@ -1,7 +1,7 @@
 -- What holds of every formula's text: reading gives back what was printed.
 use Rattle.std.specs.Prelude.{◌≡◌, ℕ, ◌≤◌, List, Option, Some}
 use Rattle.cell_addr.specs.Sheets.{AreApart, id_in, name_in}
-use Rattle.formula_tree.specs.declared.plain.Corner.{Corner}
+use Rattle.formula_tree.specs.declared.reference.Corner.{Corner}
 use Rattle.formula_tree.specs.Term.{Term, depth_of}
 use Rattle.formula_tree.specs.Canonical.{formula_text}
 use Rattle.formula_tree.specs.Proper.{IsProper, SheetsAreListed}

@@ -7,7 +7,7 @@ ghost use Rattle.formula_tree.specs.Grammar.{sheet_of, SpellsText};
 ghost use Rattle.formula_tree.specs.Reader.{tree_of_text, max_levels};
 ghost use Rattle.formula_tree.specs.Seen.{seen};
 ghost use Rattle.formula_tree.specs.StandsFor.{StandsFor};
-ghost use Rattle.formula_tree.specs.declared.plain.Corner.{Corner};
+ghost use Rattle.formula_tree.specs.declared.reference.Corner.{Corner};
 
 use crate::front::{begins_with, behind_byte};
 use crate::lexer::tokens;

@@ -2,7 +2,7 @@
 use Rattle.std.proofs.Common.{◌≡◌, ap, refl, arith, ◌-◌, min}
 use Rattle.cell_addr.specs.Place as places
 use Rattle.cell_addr.specs.declared.place.TheConstants.{COLS}
-use Rattle.formula_tree.specs.declared.plain.Corner.{Corner}
+use Rattle.formula_tree.specs.declared.reference.Corner.{Corner}
 use Rattle.formula_tree.specs.Term.{Term, number, text, truth, fault, cell, area, name, prefix, percent, binary, call, paren, Terms, no_terms, term}
 use Rattle.formula_tree.specs.Proper.{IsProper, AreProper}
 use Rattle.formula_print.specs.Clipped.{clipped_corner, clipped, clipped_all}

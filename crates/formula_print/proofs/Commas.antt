@@ -1,6 +1,6 @@
 -- Arguments from some place on. Serves the writing of arguments.
 use Rattle.std.proofs.Common.{◌≡◌, ◌∙◌, sym, ap, append_assoc, refl, ℕ, ◌+◌, ◌<◌, Bool, true, false, if◌then◌else◌, List, [], ◌∷◌, ◌++◌, Option, length, map, drop, get_or}
-use Rattle.formula_tree.specs.declared.plain.Corner.{Corner}
+use Rattle.formula_tree.specs.declared.reference.Corner.{Corner}
 use Rattle.formula_tree.specs.declared.plain.Plain.{Plain}
 use Rattle.formula_tree.specs.Term.{Term, Terms, no_terms, term, terms_of}
 use Rattle.formula_tree.specs.Canonical.{printed, printed_all, printed_more}

@@ -1,7 +1,7 @@
 -- Trees with every column within a sheet: what has letters. Source: this project's own.
 use Rattle.std.specs.Prelude.{◌≡◌, ◌-◌, min}
 use Rattle.cell_addr.specs.declared.place.TheConstants.{COLS}
-use Rattle.formula_tree.specs.declared.plain.Corner.{Corner}
+use Rattle.formula_tree.specs.declared.reference.Corner.{Corner}
 use Rattle.formula_tree.specs.Proper.{IsProper}
 use Rattle.formula_tree.specs.Term.{Term, cell, area, prefix, percent, binary, call, paren, Terms, no_terms, term}
 

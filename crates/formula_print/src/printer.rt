@@ -7,7 +7,7 @@ ghost use Rattle.formula_tree.specs.Proper.{IsProper};
 ghost use Rattle.formula_tree.specs.Seen.{seen, seen_list};
 ghost use Rattle.formula_tree.specs.StandsFor.{StandsFor};
 ghost use Rattle.formula_tree.specs.Term.{Term};
-ghost use Rattle.formula_tree.specs.declared.plain.Corner.{Corner};
+ghost use Rattle.formula_tree.specs.declared.reference.Corner.{Corner};
 ghost use Rattle.formula_print.specs.Writes.{Writes};
 ghost use Rattle.formula_print.specs.Clipped.{clipped, clipped_all};
 

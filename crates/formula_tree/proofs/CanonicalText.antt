@@ -11,9 +11,9 @@ use Rattle.cell_value.specs.declared.fault.FaultKind.TheVariants as kinds
 use Rattle.cell_value.specs.Fault.{fault_text}
 use Rattle.cell_value.specs.Scalar.{truth_text}
 use Rattle.fix_num.specs.Text.{text_of}
-use Rattle.formula_tree.specs.declared.plain.Corner.{Corner}
-use Rattle.formula_tree.specs.declared.plain.Sign.{Sign}
-use Rattle.formula_tree.specs.declared.plain.Sign.TheVariants as sign
+use Rattle.formula_tree.specs.declared.reference.Corner.{Corner}
+use Rattle.formula_tree.specs.declared.operator.Sign.{Sign}
+use Rattle.formula_tree.specs.declared.operator.Sign.TheVariants as sign
 use Rattle.formula_tree.specs.Token.{Token}
 use Rattle.formula_tree.specs.Token as tok
 use Rattle.formula_tree.specs.Term.{Term, number, text, truth, fault, cell, area, name, prefix, percent, binary, call, paren, Terms, no_terms, term}

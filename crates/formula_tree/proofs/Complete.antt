@@ -2,11 +2,11 @@
 use Rattle.std.proofs.Common.{◌≡◌, ◌∙◌, ap, refl, arith, ℕ, zero, suc, ◌+◌, ◌-◌, ◌<◌, ◌≤◌, List, [], ◌∷◌, ◌++◌, length, Option, Some, None, append_assoc}
 use Rattle.std.proofs.lemmas.Bool.{lt-ltb, le-ltb}
 use Rattle.cell_addr.specs.Text.{capitals}
-use Rattle.formula_tree.specs.declared.plain.Corner.{Corner}
-use Rattle.formula_tree.specs.declared.plain.Op.{Op}
-use Rattle.formula_tree.specs.declared.plain.Op.TheVariants as op
-use Rattle.formula_tree.specs.declared.plain.Sign.{Sign}
-use Rattle.formula_tree.specs.declared.plain.Sign.TheVariants as sign
+use Rattle.formula_tree.specs.declared.reference.Corner.{Corner}
+use Rattle.formula_tree.specs.declared.operator.Op.{Op}
+use Rattle.formula_tree.specs.declared.operator.Op.TheVariants as op
+use Rattle.formula_tree.specs.declared.operator.Sign.{Sign}
+use Rattle.formula_tree.specs.declared.operator.Sign.TheVariants as sign
 use Rattle.formula_tree.specs.declared.address.Address.{Address}
 use Rattle.formula_tree.specs.Token.{Token}
 use Rattle.formula_tree.specs.Token as tok

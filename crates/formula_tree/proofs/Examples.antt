@@ -6,9 +6,9 @@ use Rattle.std.specs.Fmt.{digits}
 use Rattle.cell_addr.specs.Sheets.{id_in, name_in}
 use Rattle.cell_value.specs.declared.fault.FaultKind.TheVariants as kinds
 use Rattle.fix_num.specs.Text.{decimals_of}
-use Rattle.formula_tree.specs.declared.plain.Corner.{Corner}
-use Rattle.formula_tree.specs.declared.plain.Op.TheVariants as op
-use Rattle.formula_tree.specs.declared.plain.Sign.TheVariants as sign
+use Rattle.formula_tree.specs.declared.reference.Corner.{Corner}
+use Rattle.formula_tree.specs.declared.operator.Op.TheVariants as op
+use Rattle.formula_tree.specs.declared.operator.Sign.TheVariants as sign
 use Rattle.formula_tree.specs.Term.{Term, number, truth, fault, cell, area, name, prefix, percent, binary, call, no_terms, term}
 use Rattle.formula_tree.specs.Reader.{climb, arguments, read, tree_of_text}
 use Rattle.formula_tree.specs.Tokens.{tokens_in}

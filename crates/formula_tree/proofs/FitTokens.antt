@@ -11,7 +11,7 @@ use Rattle.cell_addr.specs.Address.{letters, behind_letters, column_of, row_of, 
 use Rattle.cell_value.specs.declared.fault.FaultKind.{FaultKind}
 use Rattle.cell_value.specs.Fault.{faults}
 use Rattle.fix_num.specs.Text.{has_minus}
-use Rattle.formula_tree.specs.declared.plain.Op.{Op}
+use Rattle.formula_tree.specs.declared.operator.Op.{Op}
 use Rattle.formula_tree.specs.declared.address.Address.{Address}
 use Rattle.formula_tree.specs.Token.{Token}
 use Rattle.formula_tree.specs.Token as tok

@@ -4,10 +4,10 @@ use Rattle.digits.specs.Digits.{is_digit}
 use Rattle.cell_value.specs.declared.fault.FaultKind.{FaultKind}
 use Rattle.cell_value.specs.declared.fault.FaultKind.TheVariants as kinds
 use Rattle.cell_value.specs.Fault.{fault_text}
-use Rattle.formula_tree.specs.declared.plain.Op.{Op}
-use Rattle.formula_tree.specs.declared.plain.Op.TheVariants as op
-use Rattle.formula_tree.specs.declared.plain.Sign.{Sign}
-use Rattle.formula_tree.specs.declared.plain.Sign.TheVariants as sign
+use Rattle.formula_tree.specs.declared.operator.Op.{Op}
+use Rattle.formula_tree.specs.declared.operator.Op.TheVariants as op
+use Rattle.formula_tree.specs.declared.operator.Sign.{Sign}
+use Rattle.formula_tree.specs.declared.operator.Sign.TheVariants as sign
 use Rattle.formula_tree.specs.Token.{Token}
 use Rattle.formula_tree.specs.Token as tok
 use Rattle.formula_tree.specs.Level.{op_of}

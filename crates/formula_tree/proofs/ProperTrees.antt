@@ -10,7 +10,7 @@ use Rattle.cell_addr.specs.Text.{capitals}
 use Rattle.fix_num.specs.declared.error.NumError.TheVariants.{Range, NotANumber}
 use Rattle.fix_num.specs.Number as numbers
 use Rattle.fix_num.specs.Text.{has_minus, behind_sign, is_unsigned, magnitude, number_of}
-use Rattle.formula_tree.specs.declared.plain.Corner.{Corner}
+use Rattle.formula_tree.specs.declared.reference.Corner.{Corner}
 use Rattle.formula_tree.specs.declared.address.Address.{Address}
 use Rattle.formula_tree.specs.Token.{Token}
 use Rattle.formula_tree.specs.Term.{Term, number, Terms}

@@ -1,9 +1,9 @@
 -- The terms of trees, one equation for each variant. Serves whatever walks through trees.
 use Rattle.std.proofs.Common.{◌≡◌, ◌∙◌, sym, ap, ℕ, ℤ, Bool, List, map, Box, Global}
 use Rattle.cell_value.specs.declared.fault.FaultKind.{FaultKind}
-use Rattle.formula_tree.specs.declared.plain.Corner.{Corner}
-use Rattle.formula_tree.specs.declared.plain.Op.{Op}
-use Rattle.formula_tree.specs.declared.plain.Sign.{Sign}
+use Rattle.formula_tree.specs.declared.reference.Corner.{Corner}
+use Rattle.formula_tree.specs.declared.operator.Op.{Op}
+use Rattle.formula_tree.specs.declared.operator.Sign.{Sign}
 use Rattle.formula_tree.specs.declared.plain.Plain.{Plain}
 use Rattle.formula_tree.specs.declared.plain.Plain.TheVariants as plain
 use Rattle.formula_tree.specs.declared.plain.Plain.TheVariants.{rolls-Number, rolls-Text, rolls-Truth, rolls-Fault, rolls-Cell, rolls-Area, rolls-Name, rolls-Prefix, rolls-Percent, rolls-Binary, rolls-Call, rolls-Paren}

@@ -4,11 +4,11 @@ use Rattle.std.specs.Prelude.{option_and_then}
 use Rattle.cell_addr.specs.Text.{capitals}
 use Rattle.fix_num.specs.declared.error.NumError.{NumError}
 use Rattle.fix_num.specs.Text.{number_of}
-use Rattle.formula_tree.specs.declared.plain.Corner.{Corner}
-use Rattle.formula_tree.specs.declared.plain.Op.{Op}
-use Rattle.formula_tree.specs.declared.plain.Op.TheVariants as op
-use Rattle.formula_tree.specs.declared.plain.Sign.{Sign}
-use Rattle.formula_tree.specs.declared.plain.Sign.TheVariants as sign
+use Rattle.formula_tree.specs.declared.reference.Corner.{Corner}
+use Rattle.formula_tree.specs.declared.operator.Op.{Op}
+use Rattle.formula_tree.specs.declared.operator.Op.TheVariants as op
+use Rattle.formula_tree.specs.declared.operator.Sign.{Sign}
+use Rattle.formula_tree.specs.declared.operator.Sign.TheVariants as sign
 use Rattle.formula_tree.specs.declared.address.Address.{Address}
 use Rattle.formula_tree.specs.Token.{Token}
 use Rattle.formula_tree.specs.Token as tok

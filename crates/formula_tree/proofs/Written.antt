@@ -5,7 +5,7 @@ use Rattle.std.proofs.lemmas.Bool.{le-ltb, eqb-true, eq-eqb, both_ways}
 use Rattle.cell_addr.specs.Text.{capitals}
 use Rattle.fix_num.specs.Text.{text_of}
 use Rattle.fix_num.proofs.PlainTexts.{number_of-text_of}
-use Rattle.formula_tree.specs.declared.plain.Corner.{Corner}
+use Rattle.formula_tree.specs.declared.reference.Corner.{Corner}
 use Rattle.formula_tree.specs.declared.address.Address.{Address}
 use Rattle.formula_tree.specs.Token.{Token}
 use Rattle.formula_tree.specs.Token as tok

@@ -6,22 +6,15 @@ use Rattle.cell_addr.specs.Text.{capitals}
 use Rattle.cell_value.specs.declared.fault.FaultKind.{FaultKind}
 use Rattle.cell_value.specs.declared.fault.FaultKind.TheVariants as faults
 use Rattle.fix_num.specs.Text.{number_of}
-use Rattle.formula_tree.specs.declared.plain.Corner.{Corner}
-use Rattle.formula_tree.specs.declared.plain.Home.{Home}
-use Rattle.formula_tree.specs.declared.plain.Home.TheVariants as homes
-use Rattle.formula_tree.specs.declared.plain.Op.{Op}
-use Rattle.formula_tree.specs.declared.plain.Sign.{Sign}
+use Rattle.formula_tree.specs.declared.reference.Corner.{Corner}
+use Rattle.formula_tree.specs.declared.operator.Op.{Op}
+use Rattle.formula_tree.specs.declared.operator.Sign.{Sign}
 use Rattle.formula_tree.specs.declared.address.Address.{Address}
 use Rattle.formula_tree.specs.Token.{Token}
 use Rattle.formula_tree.specs.Token as tok
 use Rattle.formula_tree.specs.Term.{Term, number, text, truth, fault, cell, area, name, prefix, percent, binary, call, paren, Terms, no_terms, term}
 use Rattle.formula_tree.specs.Level.{level_of, percent_level, sign_level, atom_level, op_of}
 use Rattle.formula_tree.specs.Tokens.{tokens_of}
-
--- the sheet that a formula stands on; references without a sheet's name are on it
-abbrev pub sheet_of : Home → ℕ
-sheet_of (homes.Cell at) = at.sheet
-sheet_of (homes.Name sheet) = sheet
 
 -- the corner of an address on a sheet
 abbrev pub placed : ℕ → Address → Corner

@@ -1,7 +1,7 @@
 -- What holds of every formula: the reader and the grammar agree, a text has one tree at most, which is
 -- proper, and the canonical text of a proper tree spells it.
 use Rattle.std.specs.Prelude.{◌≡◌, ℕ, ◌≤◌, ◌↔◌, List, Option, Some}
-use Rattle.formula_tree.specs.declared.plain.Corner.{Corner}
+use Rattle.formula_tree.specs.declared.reference.Corner.{Corner}
 use Rattle.formula_tree.specs.Token.{Token}
 use Rattle.formula_tree.specs.Term.{Term, depth_of}
 use Rattle.formula_tree.specs.Grammar.{SpellsTokens, SpellsText}

@@ -1,9 +1,9 @@
 -- The levels of the grammar: how strongly operators bind. Source: OpenFormula.
 use Rattle.std.specs.Prelude.{ℕ, Option, Some, None}
-use Rattle.formula_tree.specs.declared.plain.Op.{Op}
-use Rattle.formula_tree.specs.declared.plain.Op.TheVariants.{Add, Sub, Mul, Div, Power, Join, Equal, Unequal, Less, Greater, AtMost, AtLeast}
-use Rattle.formula_tree.specs.declared.plain.Sign.{Sign}
-use Rattle.formula_tree.specs.declared.plain.Sign.TheVariants.{Plus, Minus}
+use Rattle.formula_tree.specs.declared.operator.Op.{Op}
+use Rattle.formula_tree.specs.declared.operator.Op.TheVariants.{Add, Sub, Mul, Div, Power, Join, Equal, Unequal, Less, Greater, AtMost, AtLeast}
+use Rattle.formula_tree.specs.declared.operator.Sign.{Sign}
+use Rattle.formula_tree.specs.declared.operator.Sign.TheVariants.{Plus, Minus}
 use Rattle.formula_tree.specs.Term.{Term, prefix, percent, binary}
 
 -- the level of an operator between two operands: comparisons bind least, and ^ most

@@ -1,6 +1,8 @@
 pub mod Arguments
 pub mod Term
 pub mod Seen
+pub mod Reference
+pub mod Relative
 pub mod Level
 pub mod Run
 pub mod Token

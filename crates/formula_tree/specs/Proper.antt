@@ -4,7 +4,7 @@ use Rattle.std.specs.Prelude.{◌≡◌, ℕ, ◌<◌, ◌≤◌, false, List, O
 use Rattle.cell_addr.specs.Text.{capitals}
 use Rattle.cell_addr.specs.Place as places
 use Rattle.fix_num.specs.Number as numbers
-use Rattle.formula_tree.specs.declared.plain.Corner.{Corner}
+use Rattle.formula_tree.specs.declared.reference.Corner.{Corner}
 use Rattle.formula_tree.specs.Term.{Term, number, text, truth, fault, cell, area, name, prefix, percent, binary, call, paren, Terms, no_terms, term}
 use Rattle.formula_tree.specs.Level.{level, level_of, percent_level, sign_level}
 use Rattle.formula_tree.specs.Run.{is_word, corner_of, truth_of}

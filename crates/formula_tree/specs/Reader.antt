@@ -5,8 +5,8 @@ use Rattle.std.specs.Option.{option_map}
 use Rattle.cell_addr.specs.Text.{capitals}
 use Rattle.fix_num.specs.declared.error.NumError.{NumError}
 use Rattle.fix_num.specs.Text.{number_of}
-use Rattle.formula_tree.specs.declared.plain.Corner.{Corner}
-use Rattle.formula_tree.specs.declared.plain.Sign.{Sign}
+use Rattle.formula_tree.specs.declared.reference.Corner.{Corner}
+use Rattle.formula_tree.specs.declared.operator.Sign.{Sign}
 use Rattle.formula_tree.specs.declared.address.Address.{Address}
 use Rattle.formula_tree.specs.Token.{Token, same_mark}
 use Rattle.formula_tree.specs.Token as tok

@@ -1,6 +1,6 @@
 -- What a tree of the program stands for: its term, without boxes.
 use Rattle.formula_tree.specs.Term.{Term, number, text, truth, fault, cell, area, name, prefix, percent, binary, call, paren, Terms, terms_of}
-use Rattle.formula_tree.specs.declared.plain.Corner.{Corner}
+use Rattle.formula_tree.specs.declared.reference.Corner.{Corner}
 use Rattle.formula_tree.specs.declared.plain.Plain.{Plain}
 use Rattle.formula_tree.specs.declared.plain.PlainList.{PlainList}
 use Rattle.formula_tree.specs.declared.plain.Plain.TheOpen.{Plain-F, PlainList-F}

@@ -1,8 +1,8 @@
 -- Trees of formulas, with the kind of their references as a parameter.
 use Rattle.std.specs.Prelude.{ℕ, ℤ, ◌+◌, max, Bool, List, [], ◌∷◌}
 use Rattle.cell_value.specs.declared.fault.FaultKind.{FaultKind}
-use Rattle.formula_tree.specs.declared.plain.Op.{Op}
-use Rattle.formula_tree.specs.declared.plain.Sign.{Sign}
+use Rattle.formula_tree.specs.declared.operator.Op.{Op}
+use Rattle.formula_tree.specs.declared.operator.Sign.{Sign}
 
 -- a formula's tree, whose references are of type R; a call has its word and its arguments
 mutual
@@ -42,3 +42,46 @@ abbrev mutual
   pub depth_of_all : {R : Type 0} → Terms R → ℕ
   depth_of_all no_terms = 0
   depth_of_all (term t ts) = max (depth_of t) (depth_of_all ts)
+
+abbrev mutual
+  -- the tree with each reference and each block replaced by the tree that a rule gives for it
+  pub mapped : {R S : Type 0} → (R → Term S) → (R → R → Term S) → Term R → Term S
+  mapped on_cell on_area (number m) = number m
+  mapped on_cell on_area (text w) = text w
+  mapped on_cell on_area (truth b) = truth b
+  mapped on_cell on_area (fault f) = fault f
+  mapped on_cell on_area (cell r) = on_cell r
+  mapped on_cell on_area (area r q) = on_area r q
+  mapped on_cell on_area (name w) = name w
+  mapped on_cell on_area (prefix s t) = prefix s (mapped on_cell on_area t)
+  mapped on_cell on_area (percent t) = percent (mapped on_cell on_area t)
+  mapped on_cell on_area (binary o l r) = binary o (mapped on_cell on_area l) (mapped on_cell on_area r)
+  mapped on_cell on_area (call w ts) = call w (mapped_all on_cell on_area ts)
+  mapped on_cell on_area (paren t) = paren (mapped on_cell on_area t)
+
+  pub mapped_all : {R S : Type 0} → (R → Term S) → (R → R → Term S) → Terms R → Terms S
+  mapped_all on_cell on_area no_terms = no_terms
+  mapped_all on_cell on_area (term t ts) = term (mapped on_cell on_area t) (mapped_all on_cell on_area ts)
+
+-- the tree with each corner replaced by another one
+abbrev pub each_corner : {R S : Type 0} → (R → S) → Term R → Term S
+each_corner f = mapped (λ r. cell (f r)) (λ r q. area (f r) (f q))
+
+abbrev pub each_corner_all : {R S : Type 0} → (R → S) → Terms R → Terms S
+each_corner_all f = mapped_all (λ r. cell (f r)) (λ r q. area (f r) (f q))
+
+abbrev mutual
+  -- each corner of the tree passes a test
+  pub EachCorner : {R : Type 0} → (R → Type 0) → Term R → Type 0
+  EachCorner P (cell r) = P r
+  EachCorner P (area r q) = P r × P q
+  EachCorner P (prefix s t) = EachCorner P t
+  EachCorner P (percent t) = EachCorner P t
+  EachCorner P (binary o l r) = EachCorner P l × EachCorner P r
+  EachCorner P (call w ts) = EachCornerOfAll P ts
+  EachCorner P (paren t) = EachCorner P t
+  EachCorner P t = Unit {0}
+
+  pub EachCornerOfAll : {R : Type 0} → (R → Type 0) → Terms R → Type 0
+  EachCornerOfAll P no_terms = Unit {0}
+  EachCornerOfAll P (term t ts) = EachCorner P t × EachCornerOfAll P ts

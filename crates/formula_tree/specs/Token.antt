@@ -2,7 +2,7 @@
 use Rattle.std.specs.Prelude.{ℕ, Bool, true, false, List}
 use Rattle.cell_value.specs.declared.fault.FaultKind.{FaultKind}
 use Rattle.formula_tree.specs.declared.address.Address.{Address}
-use Rattle.formula_tree.specs.declared.plain.Op.{Op}
+use Rattle.formula_tree.specs.declared.operator.Op.{Op}
 
 -- a piece of a formula's text
 pub data Token : Type 0 where

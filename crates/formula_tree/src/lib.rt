@@ -10,15 +10,23 @@
 //! where `a` is the cell A1 and `b` the number 0.5; its depth is 2.
 #![tactic(auto)]
 
+mod absolute;
 mod address;
 pub mod laws;
 mod link;
+mod node;
+mod operator;
 mod plain;
+mod pool;
+mod reference;
 #[cfg(test)]
 mod tests;
-mod tree;
 
+pub use absolute::to_absolute;
 pub use address::Address;
 pub use link::{Link, names_of, places_of};
-pub use plain::{Corner, Home, Op, Plain, PlainList, Sign};
-pub use tree::{Pool, Tree, depth, to_absolute};
+pub use node::{Node, Tree, TreeList, depth};
+pub use operator::{Op, Sign};
+pub use plain::{Plain, PlainList};
+pub use pool::Pool;
+pub use reference::{Corner, Home, NO_LINE, Part, Ref, SheetPart};

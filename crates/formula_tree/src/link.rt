@@ -3,13 +3,15 @@ ghost use Rattle.std.specs.Prelude.{◌≡◌, ◌&&◌, ◌++◌, [], ◌∷◌
 ghost use Rattle.std.specs.List.{list_any};
 ghost use Rattle.cell_addr.specs.Sheets.{same_name};
 ghost use Rattle.formula_tree.specs.Links.{once, names_in, links_in, same_link, block_of, is_place_word};
-ghost use Rattle.formula_tree.specs.Term.{Term};
-ghost use Rattle.formula_tree.specs.Seen.{seen, seen_list};
-ghost use Rattle.formula_tree.specs.StandsFor.{StandsFor};
-ghost use Rattle.formula_tree.specs.declared.plain.Corner.{Corner};
+ghost use Rattle.formula_tree.specs.Term.{Term, each_corner_all};
+ghost use Rattle.formula_tree.specs.Relative.{relative, relative_list};
+ghost use Rattle.formula_tree.specs.Reference.{base_of, corner_at};
+ghost use Rattle.formula_tree.specs.StandsFor.{StandsFor, at_home};
+ghost use Rattle.formula_tree.specs.declared.reference.Corner.{Corner};
+ghost use Rattle.formula_tree.specs.declared.reference.Home.{Home};
 
-use crate::plain::{Corner, Home, Plain, PlainList};
-use crate::tree::Tree;
+use crate::node::{Node, Tree, TreeList};
+use crate::reference::{Corner, Home};
 use cell_addr::{Block, Place, Text, same_folded};
 use std::alloc::{AllocError, Global};
 
@@ -44,86 +46,82 @@ impl Link {
     }
 }
 
-impl Plain {
+impl Node {
     ghost use Rattle.formula_tree.specs.Links.{once_behind, names_in, links_in, is_reference};
 
     /// Puts the names of the tree behind the others, but for those that stand there already.
     #[cycle(names)]
     fn add_names(&self, alloc: Global, names: &mut Vec<Text>) -> Result<(), AllocError>
-        ensures { OnOk result (names.new.items ≡ once_behind same_name names.old.items (names_in (seen self.now))) }
+        ensures { OnOk result (names.new.items ≡ once_behind same_name names.old.items (names_in (relative self.now))) }
     {
         match self {
-            Plain::Name(name) => add_name(alloc, name, names)?,
-            Plain::Prefix(_, part) => part.add_names(alloc, names)?,
-            Plain::Percent(part) => part.add_names(alloc, names)?,
-            Plain::Paren(part) => part.add_names(alloc, names)?,
-            Plain::Binary(_, left, right) => {
+            Node::Name(name) => add_name(alloc, name, names)?,
+            Node::Prefix(_, part) => part.add_names(alloc, names)?,
+            Node::Percent(part) => part.add_names(alloc, names)?,
+            Node::Paren(part) => part.add_names(alloc, names)?,
+            Node::Binary(_, left, right) => {
                 left.add_names(alloc, names)?;
                 right.add_names(alloc, names)?;
             }
-            Plain::Call(_, list) => list.add_names(alloc, names)?,
-            Plain::Number(_) | Plain::Text(_) | Plain::Truth(_) | Plain::Fault(_) => {}
-            Plain::Cell(_) | Plain::Area(_, _) => {}
+            Node::Call(_, list) => list.add_names(alloc, names)?,
+            Node::Number(_) | Node::Text(_) | Node::Truth(_) | Node::Fault(_) => {}
+            Node::Cell(_) | Node::Area(_, _) => {}
         }
         Ok(())
     }
 
     /// Puts the places and blocks of the tree behind the others, but for those that stand there already.
     #[cycle(links)]
-    fn add_links(&self, links: &mut Vec<Link>) -> Result<(), AllocError>
-        ensures { OnOk result (links.new.items ≡ once_behind same_link links.old.items (links_in (seen self.now))) }
+    fn add_links(&self, home: Home, links: &mut Vec<Link>) -> Result<(), AllocError>
+        ensures { OnOk result (links.new.items ≡ once_behind same_link links.old.items (links_in (at_home home (relative self.now)))) }
     {
         match self {
-            Plain::Cell(corner) => add_link(Link::Cell(corner.at), links)?,
-            Plain::Area(first, last) => add_link(Link::Area(block_between(*first, *last)), links)?,
-            Plain::Prefix(_, part) => part.add_links(links)?,
-            Plain::Percent(part) => part.add_links(links)?,
-            Plain::Paren(part) => part.add_links(links)?,
-            Plain::Binary(_, left, right) => {
-                left.add_links(links)?;
-                right.add_links(links)?;
+            Node::Cell(corner) => add_link(Link::Cell(corner.at(home).at), links)?,
+            Node::Area(first, last) => add_link(
+                Link::Area(block_between(first.at(home), last.at(home))),
+                links,
+            )?,
+            Node::Prefix(_, part) => part.add_links(home, links)?,
+            Node::Percent(part) => part.add_links(home, links)?,
+            Node::Paren(part) => part.add_links(home, links)?,
+            Node::Binary(_, left, right) => {
+                left.add_links(home, links)?;
+                right.add_links(home, links)?;
             }
-            Plain::Call(word, list) => list.add_links(is_place_word(word), links)?,
-            Plain::Number(_)
-            | Plain::Text(_)
-            | Plain::Truth(_)
-            | Plain::Fault(_)
-            | Plain::Name(_) => {}
+            Node::Call(word, list) => list.add_links(home, is_place_word(word), links)?,
+            Node::Number(_) | Node::Text(_) | Node::Truth(_) | Node::Fault(_) | Node::Name(_) => {}
         }
         Ok(())
     }
 
     /// Whether arguments that are themselves references are skipped, and the tree is one.
     fn is_skipped(&self, skip: bool) -> bool
-        ensures { result ≡ (skip && is_reference (seen self.now)) }
+        ensures { result ≡ (skip && is_reference (relative self.now)) }
     {
         skip && self.is_reference()
     }
 
     /// Whether the tree is a reference or a block.
     fn is_reference(&self) -> bool
-        ensures { result ≡ is_reference (seen self.now) }
+        ensures { result ≡ is_reference (relative self.now) }
     {
         match self {
-            Plain::Cell(_) | Plain::Area(_, _) => true,
-            Plain::Number(_)
-            | Plain::Text(_)
-            | Plain::Truth(_)
-            | Plain::Fault(_)
-            | Plain::Name(_) => false,
-            Plain::Prefix(_, _) | Plain::Percent(_) | Plain::Paren(_) => false,
-            Plain::Binary(_, _, _) | Plain::Call(_, _) => false,
+            Node::Cell(_) | Node::Area(_, _) => true,
+            Node::Number(_) | Node::Text(_) | Node::Truth(_) | Node::Fault(_) | Node::Name(_) =>
+                false,
+            Node::Prefix(_, _) | Node::Percent(_) | Node::Paren(_) => false,
+            Node::Binary(_, _, _) | Node::Call(_, _) => false,
         }
     }
 }
 
-impl PlainList {
+impl TreeList {
     ghost use Rattle.formula_tree.specs.Links.{once_behind, names_in_all, links_in_all};
 
     /// Puts the names of all arguments behind the others.
     #[cycle(names)]
     fn add_names(&self, alloc: Global, names: &mut Vec<Text>) -> Result<(), AllocError>
-        ensures { OnOk result (names.new.items ≡ once_behind same_name names.old.items (names_in_all (seen_list self.now))) }
+        ensures { OnOk result (names.new.items ≡ once_behind same_name names.old.items (names_in_all (relative_list self.now))) }
     {
         'arguments: for argument in self.items() {
             argument.add_names(alloc, names)?;
@@ -134,14 +132,14 @@ impl PlainList {
     /// Puts the places and blocks of all arguments behind the others; where asked, arguments that are
     /// themselves references are skipped.
     #[cycle(links)]
-    fn add_links(&self, skip: bool, links: &mut Vec<Link>) -> Result<(), AllocError>
-        ensures { OnOk result (links.new.items ≡ once_behind same_link links.old.items (links_in_all skip (seen_list self.now))) }
+    fn add_links(&self, home: Home, skip: bool, links: &mut Vec<Link>) -> Result<(), AllocError>
+        ensures { OnOk result (links.new.items ≡ once_behind same_link links.old.items (links_in_all skip (each_corner_all (corner_at (base_of home)) (relative_list self.now)))) }
     {
         'arguments: for argument in self.items() {
             if argument.is_skipped(skip) {
                 continue;
             }
-            argument.add_links(links)?;
+            argument.add_links(home, links)?;
         }
         Ok(())
     }
@@ -228,6 +226,6 @@ pub fn places_of(alloc: Global, tree: &Tree, home: Home) -> Result<Vec<Link>, Al
     ensures { IfOk result (λ places. (t : Term Corner) → StandsFor tree.now home t → places.items ≡ once same_link (links_in t)) }
 {
     let mut links = Vec::new(alloc);
-    tree.add_links(&mut links)?;
+    tree.add_links(home, &mut links)?;
     Ok(links)
 }

@@ -21,7 +21,7 @@ fn name(alloc: Global, word: &str) -> Result<Plain, AllocError> {
 
 /// The tree of a call with two arguments.
 fn call(alloc: Global, word: &str, first: Plain, second: Plain) -> Result<Plain, AllocError> {
-    let mut list = PlainList::new(alloc);
+    let mut list = PlainList::new(alloc)?;
     list.push(first)?;
     list.push(second)?;
     Ok(Plain::Call(Text::from_str(alloc, word)?, list))
@@ -50,9 +50,9 @@ fn what_a_tree_names(rt: HostRuntime) -> Result<(), Fail> {
     let mut pool = Pool::new(alloc)?;
     let home = Home::Name { sheet: NO_SHEET };
     let tree = pool.intern(&plain, home)?;
-    assert!(rt; plain.depth() == 5);
     assert!(rt; depth(&tree) == 5);
-    assert!(rt; to_absolute(alloc, &tree, home)?.depth() == 5);
+    let again = pool.intern(&to_absolute(alloc, &tree, home)?, home)?;
+    assert!(rt; depth(&again) == 5);
 
     let names = names_of(alloc, &tree)?;
     assert!(rt; names.len() == 1);

@@ -16,7 +16,7 @@ use Rattle.formula_print.specs.Clipped.{clipped}
 use Rattle.formula_tree.specs.Canonical.{formula_text}
 use Rattle.formula_tree.specs.Reader.{tree_of_text}
 use Rattle.formula_tree.specs.Term.{Term}
-use Rattle.formula_tree.specs.declared.plain.Corner.{Corner}
+use Rattle.formula_tree.specs.declared.reference.Corner.{Corner}
 use Rattle.sheet_cli.specs.declared.command.Command.{Command}
 use Rattle.sheet_cli.specs.declared.command.Command.TheVariants.{Set, Value, Formula, Content}
 use Rattle.sheet_cli.specs.declared.content.ContentText.{ContentText}
