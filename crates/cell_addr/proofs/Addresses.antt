@@ -1,6 +1,7 @@
 -- An address by its two parts, the letters and the digits. Serves the laws of reading and printing.
 use Rattle.std.proofs.Common.{◌≡◌, sym, ap, refl, arith, ℕ, Bool, true, false, cond, List, [], ◌∷◌, ◌++◌, length, Option, Some, None}
 use Rattle.std.specs.List.{list_all, prefix_len}
+use Rattle.std.specs.Option.{option_zip}
 use Rattle.std.specs.Char.{is_ascii_alphabetic}
 use Rattle.std.proofs.lemmas.Bool.{and_parts}
 use Rattle.std.proofs.lemmas.Bool.Decides.{nat_tests}
@@ -8,7 +9,7 @@ use Rattle.std.proofs.lemmas.List.{take-append-drop}
 use Rattle.std.proofs.Math.Seq.{take-append_seam, drop-append_seam}
 use Rattle.digits.specs.Digits.{is_digit}
 use Rattle.digits.proofs.Numerals.{is_digit-bounds}
-use Rattle.cell_addr.specs.Address.{is_column, is_row, column_of, row_of, letters, behind_letters, both, address_of}
+use Rattle.cell_addr.specs.Address.{is_column, is_row, column_of, row_of, letters, after_letters, address_of}
 
 some_if : (b : Bool) (n m : ℕ) → cond b (Some n) None ≡ Some m → b ≡ true
 some_if true n m e = refl
@@ -35,19 +36,19 @@ prefix_len-letters (x ∷ xs) ys h g =
     let rest = prefix_len-letters xs ys p.1 g in
     rw (p.0, rest) (omega arith)
 
--- a row's digits behind a column's letters are an address
+-- a row's digits after a column's letters are an address
 pub address_of-append : (xs ys : List ℕ) (row col : ℕ) → row_of ys ≡ Some row → column_of xs ≡ Some col → address_of (xs ++ ys) ≡ Some (row, col)
 address_of-append xs ys row col r c =
     let cut = prefix_len-letters xs ys (letters_of_column xs col c) (digits_of_row ys row r) in
     rw (cut, take-append_seam xs ys, drop-append_seam xs ys, r, c) refl
 
-both-Some : (x y : Option ℕ) (a b : ℕ) → both x y ≡ Some (a, b) → (x ≡ Some a) × (y ≡ Some b)
-both-Some None y a b e = cc
-both-Some (Some x) None a b e = cc
-both-Some (Some x) (Some y) a b e = let same : ◌≡◌ {A = ℕ × ℕ} (x, y) (a, b) = cc in (ap (λ p. Some p.0) same, ap (λ p. Some p.1) same)
+zip-Some : (x y : Option ℕ) (a b : ℕ) → option_zip x y ≡ Some (a, b) → (x ≡ Some a) × (y ≡ Some b)
+zip-Some None y a b e = cc
+zip-Some (Some x) None a b e = cc
+zip-Some (Some x) (Some y) a b e = let same : ◌≡◌ {A = ℕ × ℕ} (x, y) (a, b) = cc in (ap (λ p. Some p.0) same, ap (λ p. Some p.1) same)
 
--- an address is a row's digits behind a column's letters
+-- an address is a row's digits after a column's letters
 pub address_of-parts : (text : List ℕ) (row col : ℕ) → address_of text ≡ Some (row, col) → (xs : List ℕ) × (ys : List ℕ) × ((text ≡ xs ++ ys) × (column_of xs ≡ Some col) × (row_of ys ≡ Some row))
 address_of-parts text row col e =
-    let parts = both-Some (row_of (behind_letters text)) (column_of (letters text)) row col e in
-    (letters text, behind_letters text, (sym (take-append-drop (prefix_len is_ascii_alphabetic text) text), parts.1, parts.0))
+    let parts = zip-Some (row_of (after_letters text)) (column_of (letters text)) row col e in
+    (letters text, after_letters text, (sym (take-append-drop (prefix_len is_ascii_alphabetic text) text), parts.1, parts.0))

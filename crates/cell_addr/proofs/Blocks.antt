@@ -2,7 +2,8 @@
 use Rattle.std.proofs.Common.{max, arith, sym, ◌∙◌, refl}
 use Rattle.cell_addr.specs.declared.place.Place.{Place}
 use Rattle.cell_addr.specs.declared.place.Block.{Block}
-use Rattle.cell_addr.specs.Place.{Covers, CoverOne, CoversAllOf, IsInOrder, Overlap, Spans}
+use Rattle.cell_addr.specs.Place.{Covers, CoverOne, CoversAllOf}
+use Rattle.cell_addr.specs.internal.Blocks.{IsInOrder, Overlap, Encloses}
 
 pub CoverOne-from_overlap : (a b : Block) → Overlap a b → CoverOne a b
 CoverOne-from_overlap a b o =
@@ -15,12 +16,12 @@ CoverOne-from_overlap a b o =
 pub Overlap-from_place : (a b : Block) → CoverOne a b → Overlap a b
 Overlap-from_place a b (p, (i, j)) = (i.0 ∙ sym j.0, omega arith, omega arith)
 
-pub CoversAllOf-from_ends : (a b : Block) → Spans a b → CoversAllOf a b
+pub CoversAllOf-from_ends : (a b : Block) → Encloses a b → CoversAllOf a b
 CoversAllOf-from_ends a b s p c = (s.0 ∙ c.0, omega arith, omega arith, omega arith, omega arith)
 
 -- a block whose ends are in order covers its corners
-pub Spans-from_places : (a b : Block) → IsInOrder b → CoversAllOf a b → Spans a b
-Spans-from_places a b o all =
+pub Encloses-from_places : (a b : Block) → IsInOrder b → CoversAllOf a b → Encloses a b
+Encloses-from_places a b o all =
     let first : Place = record { sheet = b.sheet; row = b.top; col = b.left } in
     let last : Place = record { sheet = b.sheet; row = b.bottom; col = b.right } in
     let x = all first (refl, omega arith, omega arith, omega arith, omega arith) in

@@ -13,7 +13,8 @@ use Rattle.digits.proofs.Printed.{value-decimal, list_all-decimal}
 use Rattle.digits.proofs.Numerals.{is_digit-bounds}
 use Rattle.cell_addr.proofs.Addresses.{address_of-append}
 use Rattle.cell_addr.specs.Address.{letter_number, letters_number, capital, column_letters, place_letters, is_column, is_row, column_of, row_of, address_of, is_colon, spot_at, area_of, on_sheet, area_on_sheet, spot_of}
-use Rattle.cell_addr.specs.SheetName.{split_first, behind_first, bare_sheet, sheet_by_start, sheet_and_rest}
+use Rattle.cell_addr.specs.Parts.{split_once, strip_prefix}
+use Rattle.cell_addr.specs.SheetName.{bare_sheet, sheet_by_start, sheet_and_rest}
 
 letter_number-capital : (n : ℕ) → n < 26 → letter_number (capital n) ≡ n + 1
 letter_number-capital n h = grind (arith, nat_tests)
@@ -137,23 +138,23 @@ list_any-absent c (x ∷ xs) n h =
     let parts = and_parts (is_ascii_alphanumeric x) (list_all is_ascii_alphanumeric xs) h in
     or_from _ _ (other_byte x c parts.0 n) (list_any-absent c xs n parts.1)
 
-split_first-absent : (c : ℕ) (xs : List ℕ) → is_ascii_alphanumeric c ≡ false → list_all is_ascii_alphanumeric xs ≡ true → split_first c xs ≡ None
-split_first-absent c [] n h = refl
-split_first-absent c (x ∷ xs) n h =
+split_once-absent : (c : ℕ) (xs : List ℕ) → is_ascii_alphanumeric c ≡ false → list_all is_ascii_alphanumeric xs ≡ true → split_once c xs ≡ None
+split_once-absent c [] n h = refl
+split_once-absent c (x ∷ xs) n h =
     let parts = and_parts (is_ascii_alphanumeric x) (list_all is_ascii_alphanumeric xs) h in
-    rw (other_byte x c parts.0 n, split_first-absent c xs n parts.1) refl
+    rw (other_byte x c parts.0 n, split_once-absent c xs n parts.1) refl
 
-behind_first-absent : (c : ℕ) (xs : List ℕ) → is_ascii_alphanumeric c ≡ false → list_all is_ascii_alphanumeric xs ≡ true → behind_first c xs ≡ None
-behind_first-absent c [] n h = refl
-behind_first-absent c (x ∷ xs) n h =
+strip_prefix-absent : (c : ℕ) (xs : List ℕ) → is_ascii_alphanumeric c ≡ false → list_all is_ascii_alphanumeric xs ≡ true → strip_prefix c xs ≡ None
+strip_prefix-absent c [] n h = refl
+strip_prefix-absent c (x ∷ xs) n h =
     let parts = and_parts (is_ascii_alphanumeric x) (list_all is_ascii_alphanumeric xs) h in
     rw (other_byte x c parts.0 n) refl
 
 -- an address of letters and digits alone is the spot of one corner on no sheet
 pub spot_of-address : (text : List ℕ) (at : ℕ × ℕ) → list_all is_ascii_alphanumeric text ≡ true → address_of text ≡ Some at → spot_of text ≡ Some (spot_at at)
 spot_of-address text at h e =
-    let no_quote : sheet_and_rest text ≡ sheet_by_start text None = ap (sheet_by_start text) (behind_first-absent 39 text refl h) in
-    let no_sheet : sheet_by_start text None ≡ Some (None, text) = ap (bare_sheet text) (split_first-absent 33 text refl h) in
+    let no_quote : sheet_and_rest text ≡ sheet_by_start text None = ap (sheet_by_start text) (strip_prefix-absent 39 text refl h) in
+    let no_sheet : sheet_by_start text None ≡ Some (None, text) = ap (bare_sheet text) (split_once-absent 33 text refl h) in
     let no_colon : area_of text ≡ option_map spot_at (address_of text) = cond-false (list_any is_colon text) _ _ (list_any-absent 58 text refl h) in
     ap (option_and_then area_on_sheet) (no_quote ∙ no_sheet) ∙ ap (option_map (on_sheet None)) (no_colon ∙ ap (option_map spot_at) e)
 

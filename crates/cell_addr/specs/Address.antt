@@ -1,12 +1,13 @@
 -- Addresses of cells as texts: what they name, and how a place is written. Source: OpenFormula's
 -- references without `$`, and this project's own limits on letters and digits.
 use Rattle.std.specs.Prelude.{◌≡◌, ℕ, ◌+◌, ◌-◌, ◌*◌, ◌/◌, ◌%◌, Bool, true, false, not, ◌&&◌, if◌then◌else◌, nat_lt, nat_le, ◌==◌, List, [], ◌∷◌, ◌++◌, length, take, drop, slice_index, Option, Some, None, option_and_then, IsSome, Result, Ok, Err, min, max}
-use Rattle.std.specs.Option.{option_map}
+use Rattle.std.specs.Option.{option_map, option_zip}
 use Rattle.std.specs.List.{list_all, list_any, prefix_len, before_first, after_first}
 use Rattle.std.specs.Char.{is_ascii_alphabetic, to_ascii_uppercase}
 use Rattle.std.specs.Fmt.{decimal}
 use Rattle.digits.specs.Digits.{is_digit, value}
 use Rattle.cell_addr.specs.SheetName.{sheet_and_rest}
+use Rattle.cell_addr.specs.declared.address.TheConstants.{COLUMN_LETTERS, ROW_DIGITS}
 use Rattle.cell_addr.specs.declared.spot.Spot.{Spot}
 use Rattle.cell_addr.specs.declared.spot.AddrError.{AddrError}
 use Rattle.cell_addr.specs.declared.spot.AddrError.TheVariants.{NotAnAddress, NoMemory}
@@ -15,7 +16,7 @@ use Rattle.cell_addr.specs.declared.spot.AddrError.TheVariants.{NotAnAddress, No
 abbrev pub letter_number : ℕ → ℕ
 letter_number c = to_ascii_uppercase c - 64
 
--- the number that letters spell behind those that spell n
+-- the number that letters spell after those that spell n
 abbrev pub letters_number_from : ℕ → List ℕ → ℕ
 letters_number_from n [] = n
 letters_number_from n (c ∷ cs) = letters_number_from (26 * n + letter_number c) cs
@@ -26,11 +27,11 @@ letters_number cs = letters_number_from 0 cs
 
 -- one to three letters
 abbrev pub is_column : List ℕ → Bool
-is_column cs = (nat_le 1 (length cs) && nat_le (length cs) 3) && list_all is_ascii_alphabetic cs
+is_column cs = (nat_le 1 (length cs) && nat_le (length cs) COLUMN_LETTERS) && list_all is_ascii_alphabetic cs
 
--- one to seven digits, the first of them no 0
+-- one to seven digits, the first of them no 0; 48 is `0`
 abbrev pub is_row : List ℕ → Bool
-is_row cs = (nat_le 1 (length cs) && nat_le (length cs) 7) && (not (slice_index cs 0 == 48) && list_all is_digit cs)
+is_row cs = (nat_le 1 (length cs) && nat_le (length cs) ROW_DIGITS) && (not (slice_index cs 0 == 48) && list_all is_digit cs)
 
 -- the column that a text names, counted from 0
 abbrev pub column_of : List ℕ → Option ℕ
@@ -40,23 +41,18 @@ column_of cs = if is_column cs then Some (letters_number cs - 1) else None
 abbrev pub row_of : List ℕ → Option ℕ
 row_of cs = if is_row cs then Some (value cs - 1) else None
 
--- the letters that a text begins with, and what stands behind them
+-- the letters that a text begins with, and what follows them
 abbrev pub letters : List ℕ → List ℕ
 letters text = take (prefix_len is_ascii_alphabetic text) text
 
-abbrev pub behind_letters : List ℕ → List ℕ
-behind_letters text = drop (prefix_len is_ascii_alphabetic text) text
+abbrev pub after_letters : List ℕ → List ℕ
+after_letters text = drop (prefix_len is_ascii_alphabetic text) text
 
--- both values, where there are both
-abbrev pub both : {X Y : Type 0} → Option X → Option Y → Option (X × Y)
-both None y = None
-both (Some x) None = None
-both (Some x) (Some y) = Some (x, y)
-
--- the row and the column that an address names: letters, and behind them digits
+-- the row and the column that an address names: letters followed by digits
 abbrev pub address_of : List ℕ → Option (ℕ × ℕ)
-address_of text = both (row_of (behind_letters text)) (column_of (letters text))
+address_of text = option_zip (row_of (after_letters text)) (column_of (letters text))
 
+-- 58 is `:`
 abbrev pub is_colon : ℕ → Bool
 is_colon c = c == 58
 
@@ -71,14 +67,14 @@ spot_between (a, b) = record { sheet = None; top = min a.0 b.0; left = min a.1 b
 -- an address, or two with a colon between them
 abbrev pub area_of : List ℕ → Option Spot
 area_of text = if list_any is_colon text
-    then option_map spot_between (both (address_of (before_first is_colon text)) (address_of (after_first is_colon text)))
+    then option_map spot_between (option_zip (address_of (before_first is_colon text)) (address_of (after_first is_colon text)))
     else option_map spot_at (address_of text)
 
 -- the spot on this sheet
 abbrev pub on_sheet : Option (List ℕ) → Spot → Spot
 on_sheet name spot = record spot { sheet = name }
 
--- an area behind a sheet's name, or behind none
+-- an area after a sheet's name, or after none
 abbrev pub area_on_sheet : Option (List ℕ) × List ℕ → Option Spot
 area_on_sheet (name, area) = option_map (on_sheet name) (area_of area)
 
@@ -88,12 +84,12 @@ spot_of text = option_and_then area_on_sheet (sheet_and_rest text)
 
 -- what a reading answers where the text names this spot, or none: that spot, or that it is no address;
 -- want of memory only where there is a spot
-abbrev pub Reads : Result Spot AddrError → Option Spot → Type 0
-Reads (Ok spot) named = named ≡ Some spot
-Reads (Err NotAnAddress) named = named ≡ None
-Reads (Err NoMemory) named = IsSome named
+abbrev pub ReadsAs : Result Spot AddrError → Option Spot → Type 0
+ReadsAs (Ok spot) named = named ≡ Some spot
+ReadsAs (Err NotAnAddress) named = named ≡ None
+ReadsAs (Err NoMemory) named = IsSome named
 
--- the capital of a number from 0 for A to 25 for Z
+-- the capital of a number from 0 for A, which is 65, to 25 for Z
 abbrev pub capital : ℕ → ℕ
 capital n = 65 + n
 

@@ -3,11 +3,13 @@ use Rattle.std.specs.Prelude.{◌≡◌, ◌<◌, ◌≤◌, ◌↔◌, ℕ, tru
 use Rattle.std.specs.List.{list_all}
 use Rattle.std.specs.Char.{is_ascii_uppercase}
 use Rattle.cell_addr.specs.declared.place.Place.{Place}
+use Rattle.cell_addr.specs.declared.place.Block.{Block}
 use Rattle.cell_addr.specs.declared.place.TheConstants.{COLS}
-use Rattle.cell_addr.specs.Place.{IsInside}
+use Rattle.cell_addr.specs.Place.{IsInside, Covers, covers, same_place, same_block}
 use Rattle.cell_addr.specs.Text.{folded}
 use Rattle.cell_addr.specs.Address.{column_letters, column_of, row_of, place_letters, is_row, address_of, spot_at, spot_of}
-use Rattle.cell_addr.specs.SheetName.{behind_first, doubled, quoted}
+use Rattle.cell_addr.specs.Parts.{strip_prefix}
+use Rattle.cell_addr.specs.Quoted.{doubled, quoted}
 use Rattle.cell_addr.specs.Sheets.{id_in, name_in, AreApart}
 
 -- the letters of a column are read back as that column
@@ -28,15 +30,24 @@ abbrev pub PlacesAreWritten : Type 0
 PlacesAreWritten = (p : Place) → IsInside p → (letters : List ℕ) × (digits : List ℕ)
     × ((place_letters p.row p.col ≡ letters ++ digits) × (1 ≤ length letters) × (length letters ≤ 3) × (list_all is_ascii_uppercase letters ≡ true) × (is_row digits ≡ true))
 
--- a name is read behind an apostrophe exactly where it is written there doubled and closed by an
--- apostrophe, and what follows doesn't begin with one
-abbrev pub NamesAreRead : Type 0
-NamesAreRead = (text name rest : List ℕ) → (quoted text ≡ Some (name, rest)) ↔ ((text ≡ doubled name ++ (39 ∷ rest)) × (behind_first 39 rest ≡ None))
+-- a content is read after an opening quote exactly where it is written there doubled and closed by a quote,
+-- and what follows doesn't begin with one
+abbrev pub ContentsAreRead : Type 0
+ContentsAreRead = (quote : ℕ) (text content rest : List ℕ)
+    → (quoted quote text ≡ Some (content, rest)) ↔ ((text ≡ doubled quote content ++ (quote ∷ rest)) × (strip_prefix quote rest ≡ None))
 
--- an address is read exactly where it is a column's letters and behind them a row's digits
+-- an address is read exactly where it is a column's letters followed by a row's digits
 abbrev pub AddressesAreRead : Type 0
 AddressesAreRead = (text : List ℕ) (row col : ℕ)
     → (address_of text ≡ Some (row, col)) ↔ ((letters : List ℕ) × (digits : List ℕ) × ((text ≡ letters ++ digits) × (column_of letters ≡ Some col) × (row_of digits ≡ Some row)))
+
+-- the test and the relation agree on which places a block covers
+abbrev pub BlocksCover : Type 0
+BlocksCover = (b : Block) (p : Place) → (covers b p ≡ true) ↔ Covers b p
+
+-- places and blocks are the same exactly where they are equal
+abbrev pub SameIsEqual : Type 0
+SameIsEqual = ((p q : Place) → (same_place p q ≡ true) ↔ (p ≡ q)) × ((b c : Block) → (same_block b c ≡ true) ↔ (b ≡ c))
 
 -- the number and the name of a listed sheet are found by each other, the name in any case of its letters
 abbrev pub SheetsAreFound : Type 0

@@ -1,7 +1,11 @@
 pub mod Address
+pub mod Axis
 pub mod Laws
 pub mod Order
+pub mod Parts
 pub mod Place
+pub mod Quoted
 pub mod SheetName
 pub mod Sheets
 pub mod Text
+pub mod internal

@@ -1,5 +1,5 @@
 -- Places and blocks of a sheet. Source: this project's own limits.
-use Rattle.std.specs.Prelude.{◌≡◌, ◌<◌, ◌≤◌, min, max}
+use Rattle.std.specs.Prelude.{◌≡◌, ◌<◌, ◌≤◌, Bool, ◌&&◌, ◌==◌, nat_le}
 use Rattle.cell_addr.specs.declared.place.Place.{Place}
 use Rattle.cell_addr.specs.declared.place.Block.{Block}
 use Rattle.cell_addr.specs.declared.place.TheConstants.{ROWS, COLS}
@@ -16,6 +16,11 @@ IsBlockInside b = (b.top ≤ b.bottom) × (b.bottom < ROWS) × (b.left ≤ b.rig
 abbrev pub Covers : Block → Place → Type 0
 Covers b p = (b.sheet ≡ p.sheet) × (b.top ≤ p.row) × (p.row ≤ b.bottom) × (b.left ≤ p.col) × (p.col ≤ b.right)
 
+-- the same as a test
+abbrev pub covers : Block → Place → Bool
+covers b p =
+    b.sheet == p.sheet && (nat_le b.top p.row && (nat_le p.row b.bottom && (nat_le b.left p.col && nat_le p.col b.right)))
+
 -- some place is covered by both blocks
 abbrev pub CoverOne : Block → Block → Type 0
 CoverOne a b = (p : Place) × (Covers a p × Covers b p)
@@ -24,14 +29,9 @@ CoverOne a b = (p : Place) × (Covers a p × Covers b p)
 abbrev pub CoversAllOf : Block → Block → Type 0
 CoversAllOf a b = (p : Place) → Covers b p → Covers a p
 
--- the ends of the second block lie within those of the first
-abbrev pub Spans : Block → Block → Type 0
-Spans a b = (a.sheet ≡ b.sheet) × (a.top ≤ b.top) × (b.bottom ≤ a.bottom) × (a.left ≤ b.left) × (b.right ≤ a.right)
+-- tests whether two places, or two blocks, are the same
+abbrev pub same_place : Place → Place → Bool
+same_place p q = p.sheet == q.sheet && (p.row == q.row && p.col == q.col)
 
--- the first ends of the block don't lie behind its last ones
-abbrev pub IsInOrder : Block → Type 0
-IsInOrder b = (b.top ≤ b.bottom) × (b.left ≤ b.right)
-
--- on one sheet, the later of the first ends doesn't lie behind the earlier of the last ends
-abbrev pub Overlap : Block → Block → Type 0
-Overlap a b = (a.sheet ≡ b.sheet) × (max a.top b.top ≤ min a.bottom b.bottom) × (max a.left b.left ≤ min a.right b.right)
+abbrev pub same_block : Block → Block → Bool
+same_block b c = b.sheet == c.sheet && ((b.top == c.top && b.left == c.left) && (b.bottom == c.bottom && b.right == c.right))

@@ -1,8 +1,8 @@
 -- Lists of sheets: what number and name belong together. Source: this project's own; names are compared
 -- with ASCII letters folded.
-use Rattle.std.specs.Prelude.{◌≢◌, ℕ, Bool, if◌then◌else◌, ◌==◌, List, [], ◌∷◌, Option, Some, None, bytes_eq, AllPairs}
-use Rattle.std.proofs.Common.{arith}
+use Rattle.std.specs.Prelude.{◌≢◌, ℕ, Bool, if◌then◌else◌, ◌==◌, List, [], ◌∷◌, Option, Some, None, bytes_eq, All, AllPairs}
 use Rattle.cell_addr.specs.Text.{folded}
+use Rattle.cell_addr.specs.declared.place.TheConstants.{NO_SHEET}
 
 -- the names are the same but for the case of ASCII letters
 abbrev pub same_name : List ℕ → List ℕ → Bool
@@ -22,5 +22,6 @@ name_in (sheet ∷ rest) id = if sheet.0 == id then Some sheet.1 else name_in re
 abbrev pub AreApart : List (ℕ × List ℕ) → Type 0
 AreApart sheets = AllPairs (λ s t. (s.0 ≢ t.0) × (folded s.1 ≢ folded t.1)) sheets
 
-pub AreApart-one : (id : ℕ) (name : List ℕ) → AreApart ((id, name) ∷ [])
-AreApart-one id name i j d h k = absurd (omega arith)
+-- a proper list of sheets: none stands twice, and none has the number that is no sheet's
+abbrev pub AreSheets : List (ℕ × List ℕ) → Type 0
+AreSheets sheets = AreApart sheets × All (λ s. s.0 ≢ NO_SHEET) sheets

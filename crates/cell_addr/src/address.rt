@@ -2,12 +2,21 @@
 ghost use Rattle.std.specs.Prelude.{◌≡◌, ◌≤◌, length};
 ghost use Rattle.std.specs.List.{prefix_len, list_all};
 ghost use Rattle.std.specs.Char.{is_ascii_alphabetic};
-ghost use Rattle.cell_addr.specs.Address.{is_column, letter_number, letters_number, column_of, is_row, row_of, address_of, spot_at, spot_between, area_of, spot_of, Reads};
+ghost use Rattle.cell_addr.specs.Address.{is_column, letter_number, letters_number, column_of, is_row, row_of, address_of, spot_at, spot_between, area_of, spot_of, ReadsAs};
 
 use crate::sheet_name::{area_part, sheet_part};
 use crate::spot::{AddrError, Spot};
 use digits::{after_byte, all_digits, before_byte, has_byte, value_at_most};
 use std::alloc::Global;
+
+/// How many letters the name of a column has at most.
+pub const COLUMN_LETTERS: usize = 3;
+
+/// How many digits the number of a row has at most. This project's own limit.
+pub const ROW_DIGITS: usize = 7;
+
+// The greatest number of so many digits.
+const MOST_ROWS: u64 = 9_999_999;
 
 /// The column, counted from 0, that one to three letters of either case name: `A` is 0 and `ZZZ` is
 /// 18,277. `None` where the text has another form. Source: OpenFormula.
@@ -27,15 +36,15 @@ pub fn read_row(text: &[u8]) -> Option<u32>
     ensures { result ≡ row_of text.now }
 {
     if is_row(text) {
-        let number = value_at_most(text, 9_999_999) as u32;
+        let number = value_at_most(text, MOST_ROWS) as u32;
         Some(number.saturating_sub(1))
     } else {
         None
     }
 }
 
-/// The row and the column, counted from 0, that an address such as `b3` names: column letters, and
-/// at once behind them a row's digits. `None` where the text has another form.
+/// The row and the column, counted from 0, that an address such as `b3` names: column letters,
+/// followed at once by a row's digits. `None` where the text has another form.
 pub fn read_address(text: &[u8]) -> Option<(u32, u32)>
     ensures { result ≡ address_of text.now }
 {
@@ -69,7 +78,7 @@ pub fn read_area(text: &[u8]) -> Option<Spot>
 ///
 /// Source: OpenFormula's references without `$`, and this project's own limits on letters and digits.
 pub fn read_place(alloc: Global, text: &str) -> Result<Spot, AddrError>
-    ensures { Reads result (spot_of text.now) }
+    ensures { ReadsAs result (spot_of text.now) }
 {
     let Some(area) = area_part(text) else {
         return Err(AddrError::NotAnAddress);
@@ -87,7 +96,7 @@ pub fn read_place(alloc: Global, text: &str) -> Result<Spot, AddrError>
 fn is_column(text: &[u8]) -> bool
     ensures { result ≡ is_column text.now }
 {
-    1 <= text.len() && text.len() <= 3 && all_letters(text)
+    1 <= text.len() && text.len() <= COLUMN_LETTERS && all_letters(text)
 }
 
 // Whether each byte is a letter.
@@ -99,7 +108,7 @@ fn all_letters(text: &[u8]) -> bool
 
 // The number that one to three letters spell, where A is 1.
 fn letters_number(text: &[u8]) -> u32
-    requires { length text.now ≤ 3 }
+    requires { length text.now ≤ COLUMN_LETTERS }
     ensures { result ≡ letters_number text.now }
 {
     let mut number = 0;
@@ -121,7 +130,7 @@ fn letter_number(c: u8) -> u32
 fn is_row(text: &[u8]) -> bool
     ensures { result ≡ is_row text.now }
 {
-    1 <= text.len() && text.len() <= 7 && text[0] != b'0' && all_digits(text)
+    1 <= text.len() && text.len() <= ROW_DIGITS && text[0] != b'0' && all_digits(text)
 }
 
 // How many letters the text begins with.

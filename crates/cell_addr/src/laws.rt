@@ -1,5 +1,5 @@
 // Laws of the definitions: each function states one, and does nothing.
-ghost use Rattle.cell_addr.specs.Laws.{ColumnsAreReadBack, ColumnsDiffer, PlacesAreReadBack, PlacesAreWritten, NamesAreRead, AddressesAreRead, SheetsAreFound, FoundSheetsAreListed};
+ghost use Rattle.cell_addr.specs.Laws.{ColumnsAreReadBack, ColumnsDiffer, PlacesAreReadBack, PlacesAreWritten, ContentsAreRead, AddressesAreRead, BlocksCover, SameIsEqual, SheetsAreFound, FoundSheetsAreListed};
 
 /// What [`crate::column_text`] writes of a column is read back as that column.
 pub fn columns_are_read_back()
@@ -22,15 +22,24 @@ pub fn places_are_written()
     ensures { PlacesAreWritten }
 {}
 
-/// A name is read between apostrophes exactly where it is written there, with its own apostrophes
-/// doubled.
-pub fn names_are_read()
-    ensures { NamesAreRead }
+/// A content is read between quotes exactly where it is written there, with its own quotes doubled.
+pub fn contents_are_read()
+    ensures { ContentsAreRead }
 {}
 
-/// An address is read exactly where it is a column's letters and behind them a row's digits.
+/// An address is read exactly where it is a column's letters followed by a row's digits.
 pub fn addresses_are_read()
     ensures { AddressesAreRead }
+{}
+
+/// The test whether a block covers a place says what the relation says.
+pub fn blocks_cover()
+    ensures { BlocksCover }
+{}
+
+/// The tests whether two places or two blocks are the same say that they are equal.
+pub fn same_is_equal()
+    ensures { SameIsEqual }
 {}
 
 /// In a list of sheets the number and the name of each are found by each other.

@@ -1,6 +1,7 @@
 // Places and blocks, and the limits of a sheet.
 ghost use Rattle.std.specs.Prelude.{◌≡◌, ◌<◌, ◌≤◌, ◌↔◌, IsTrue};
-ghost use Rattle.cell_addr.specs.Place.{IsInside, IsBlockInside, Covers, CoverOne, CoversAllOf, IsInOrder, Overlap, Spans};
+ghost use Rattle.cell_addr.specs.Place.{IsInside, IsBlockInside, Covers, CoverOne, CoversAllOf, covers};
+ghost use Rattle.cell_addr.specs.internal.Blocks.{IsInOrder, Overlap, Encloses};
 
 /// How many rows a sheet has. This project's own limit.
 pub const ROWS: u32 = 40_000;
@@ -51,7 +52,8 @@ impl Block {
 
     /// Whether the block covers the place.
     pub fn holds(self, p: Place) -> bool
-        ensures { IsTrue result ↔ Covers self p }
+        ensures covers { IsTrue result ↔ Covers self p }
+        ensures test { result ≡ covers self p }
     {
         self.sheet == p.sheet
             && self.top <= p.row
@@ -71,7 +73,7 @@ impl Block {
     pub fn contains(self, b: Block) -> bool
         ensures { IsTrue result ↔ CoversAllOf self b }
     {
-        !b.in_order() || self.spans(b)
+        !b.in_order() || self.encloses(b)
     }
 
     // Whether the ends are in order, so that the block covers a place.
@@ -91,8 +93,8 @@ impl Block {
     }
 
     // Whether the ends of `b` lie within this block's.
-    fn spans(self, b: Block) -> bool
-        ensures { IsTrue result ↔ Spans self b }
+    fn encloses(self, b: Block) -> bool
+        ensures { IsTrue result ↔ Encloses self b }
     {
         self.sheet == b.sheet
             && self.top <= b.top

@@ -1,6 +1,6 @@
 use crate::{
-    AddrError, Block, COLS, OneSheet, Place, ROWS, SheetNames, Spot, Text, behind_quoted, capitals,
-    column_text, fold_byte, is_bare_name, place_text, quoted_name, read_address, read_area,
+    AddrError, Block, COLS, OneSheet, Place, ROWS, SheetNames, Spot, Text, after_quoted, capitals,
+    column_text, fold_byte, is_bare_name, place_text, quoted_text, read_address, read_area,
     read_column, read_place, read_row, same_folded,
 };
 use std::alloc::AllocError;
@@ -100,7 +100,9 @@ fn parts_of_addresses(rt: HostRuntime) {
     assert!(rt; read_address(b"C7:D8") == None);
     assert!(rt; read_area(b"D8:C7").is_some_and(|spot| spot.top == 6));
     assert!(rt; is_bare_name(b"Two_2") && !is_bare_name(b"2_Two") && !is_bare_name(b""));
-    assert!(rt; behind_quoted("a''b'!A1") == Some("!A1") && behind_quoted("a''b") == None);
+    assert!(rt;
+        after_quoted("a''b'!A1", '\'') == Some("!A1") && after_quoted("a''b", '\'') == None
+    );
 }
 
 #[test]
@@ -168,7 +170,9 @@ fn texts_and_sheets(rt: HostRuntime) -> Result<(), AllocError> {
     assert!(rt; text.copy(rt.alloc())? == text && !text.is_empty());
     assert!(rt; Text::from_utf8(rt.alloc(), "ä".as_bytes())?.is_some());
     assert!(rt; Text::from_utf8(rt.alloc(), &[0xC3])?.is_none());
-    assert!(rt; quoted_name(rt.alloc(), "a''b'!A1")?.is_some_and(|name| name.as_str() == "a'b"));
+    assert!(rt;
+        quoted_text(rt.alloc(), "a\"\"b'\"!A1", '"')?.is_some_and(|name| name.as_str() == "a\"b'")
+    );
     let sheets = OneSheet {
         name: Text::from_str(rt.alloc(), "My Plan")?,
     };

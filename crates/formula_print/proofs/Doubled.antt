@@ -1,6 +1,6 @@
 -- Quotes doubled, piece by piece. Serves the writing of contents between quotes.
 use Rattle.std.proofs.Common.{◌≡◌, ◌∙◌, sym, ap, append_assoc, refl, ℕ, Bool, true, false, cond, eqb, List, [], ◌∷◌, ◌++◌, Option, Some, None}
-use Rattle.cell_addr.specs.SheetName.{with_byte, split_first}
+use Rattle.cell_addr.specs.Parts.{with_byte, split_once}
 use Rattle.formula_tree.specs.Canonical.{doubled, between_quotes}
 
 -- a content without the quote stays as it is
@@ -10,9 +10,9 @@ none-by true q c cs parts h e = cc
 none-by false q c cs None h e = ap (λ xs. c ∷ xs) (h refl)
 none-by false q c cs (Some p) h e = cc
 
-pub doubled-none : (q : ℕ) (xs : List ℕ) → split_first q xs ≡ None → doubled q xs ≡ xs
+pub doubled-none : (q : ℕ) (xs : List ℕ) → split_once q xs ≡ None → doubled q xs ≡ xs
 doubled-none q [] e = refl
-doubled-none q (c ∷ cs) e = none-by (eqb c q) q c cs (split_first q cs) (doubled-none q cs) e
+doubled-none q (c ∷ cs) e = none-by (eqb c q) q c cs (split_once q cs) (doubled-none q cs) e
 
 -- a content with the quote is its first piece, two quotes, and what is behind
 some-by : (b : Bool) (q c : ℕ) (cs piece behind : List ℕ) (parts : Option (List ℕ × List ℕ))
@@ -26,12 +26,12 @@ some-by false q c cs piece behind (Some r) h e =
     let same : ◌≡◌ {A = List ℕ × List ℕ} (c ∷ r.0, r.1) (piece, behind) = cc in
     rw (← ap (λ x. x.0) same, ← ap (λ x. x.1) same) (ap (λ xs. c ∷ xs) (h r.0 r.1 refl))
 
-pub doubled-some : (q : ℕ) (xs piece behind : List ℕ) → split_first q xs ≡ Some (piece, behind) → doubled q xs ≡ piece ++ (q ∷ q ∷ doubled q behind)
+pub doubled-some : (q : ℕ) (xs piece behind : List ℕ) → split_once q xs ≡ Some (piece, behind) → doubled q xs ≡ piece ++ (q ∷ q ∷ doubled q behind)
 doubled-some q [] piece behind e = cc
-doubled-some q (c ∷ cs) piece behind e = some-by (eqb c q) q c cs piece behind (split_first q cs) (doubled-some q cs) e
+doubled-some q (c ∷ cs) piece behind e = some-by (eqb c q) q c cs piece behind (split_once q cs) (doubled-some q cs) e
 
 -- one piece more is written, and two quotes
-pub piece-written : (q : ℕ) (content rest piece behind start out one two three cs : List ℕ) → split_first q rest ≡ Some (piece, behind)
+pub piece-written : (q : ℕ) (content rest piece behind start out one two three cs : List ℕ) → split_once q rest ≡ Some (piece, behind)
     → one ≡ out ++ piece → two ≡ one ++ q ∷ [] → three ≡ two ++ q ∷ [] → out ++ (doubled q rest ++ cs) ≡ start ++ (doubled q content ++ cs)
     → three ++ (doubled q behind ++ cs) ≡ start ++ (doubled q content ++ cs)
 piece-written q content rest piece behind start out one two three cs e a b c before =
@@ -45,7 +45,7 @@ piece-written q content rest piece behind start out one two three cs e a b c bef
     ∙ before
 
 -- the last piece is written, and the closing quote
-pub last-written : (q : ℕ) (content rest old start out one two cs : List ℕ) → split_first q rest ≡ None
+pub last-written : (q : ℕ) (content rest old start out one two cs : List ℕ) → split_once q rest ≡ None
     → start ≡ old ++ q ∷ [] → one ≡ out ++ rest → two ≡ one ++ q ∷ [] → out ++ (doubled q rest ++ (q ∷ cs)) ≡ start ++ (doubled q content ++ (q ∷ cs))
     → two ++ cs ≡ old ++ between_quotes q content cs
 last-written q content rest old start out one two cs e s a b before =

@@ -1,14 +1,12 @@
 // Writes the pieces of formulas that have no parts.
 ghost use Rattle.std.specs.Prelude.{◌≡◌, ◌<◌, ◌++◌, Some, [], IfOk, OnOk, string_bytes};
-ghost use Rattle.std.specs.Option.{option_map};
-ghost use Rattle.cell_addr.specs.SheetName.{split_first};
 ghost use Rattle.cell_value.specs.Scalar.{truth_text};
 ghost use Rattle.formula_tree.specs.Canonical.{op_text, sign_text, dollar, between_quotes, corner_text, sheet_text};
 ghost use Rattle.formula_tree.specs.Grammar.{sheet_of};
 ghost use Rattle.formula_print.specs.Writes.{Writes};
 ghost use Rattle.formula_print.specs.Clipped.{clipped_corner};
 
-use cell_addr::{COLS, Text, column_text, is_bare_name};
+use cell_addr::{COLS, Text, column_text, is_bare_name, split_once};
 use formula_tree::{Corner, Home, Op, Sign};
 use std::alloc::{AllocError, Global};
 
@@ -102,7 +100,7 @@ pub(crate) fn push_quoted(out: &mut String, quote: char, content: &str) -> Resul
 {
     out.push(quote)?;
     let mut rest = content;
-    'pieces: while let Some((piece, behind)) = split_first(rest, quote) {
+    'pieces: while let Some((piece, behind)) = split_once(rest, quote) {
         out.push_str(piece)?;
         out.push(quote)?;
         out.push(quote)?;
@@ -111,12 +109,4 @@ pub(crate) fn push_quoted(out: &mut String, quote: char, content: &str) -> Resul
     out.push_str(rest)?;
     out.push(quote)?;
     Ok(())
-}
-
-// What stands before and behind the first such character, where there is one.
-fn split_first(text: &str, c: char) -> Option<(&str, &str)>
-    requires { c < 128 }
-    ensures { option_map (λ p. (p.0.now, p.1.now)) result ≡ split_first c text.now }
-{
-    text.split_once(c)
 }

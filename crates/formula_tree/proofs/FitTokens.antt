@@ -7,7 +7,8 @@ use Rattle.std.proofs.lemmas.Bool.{and_parts, ltb-true}
 use Rattle.std.proofs.lemmas.Bool.Decides.{nat_tests}
 use Rattle.digits.specs.Digits.{is_digit}
 use Rattle.cell_addr.specs.declared.place.TheConstants.{ROWS, COLS}
-use Rattle.cell_addr.specs.Address.{letters, behind_letters, column_of, row_of, both}
+use Rattle.cell_addr.specs.Address.{letters, after_letters, column_of, row_of}
+use Rattle.std.specs.Option.{option_zip}
 use Rattle.cell_value.specs.declared.fault.FaultKind.{FaultKind}
 use Rattle.cell_value.specs.Fault.{faults}
 use Rattle.fix_num.specs.Text.{has_minus}
@@ -60,8 +61,8 @@ fit-both f g (Some p) = fit-address f g p.0 p.1
 
 fit-corner_of : (w : List ℕ) → FitCorner (corner_of w)
 fit-corner_of w =
-    let rest = behind_letters (behind_dollar w) in
-    fit-both (begins_with 36 w) (begins_with 36 rest) (both (row_of (behind_dollar rest)) (column_of (letters (behind_dollar w))))
+    let rest = after_letters (behind_dollar w) in
+    fit-both (begins_with 36 w) (begins_with 36 rest) (option_zip (row_of (behind_dollar rest)) (column_of (letters (behind_dollar w))))
 
 -- runs
 fit-named : (b : Bool) (w : List ℕ) → is_word w ≡ b → corner_of w ≡ None → truth_of w ≡ None → IsFit (if b then tok.Name w else tok.Other w)

@@ -9,7 +9,7 @@ use Rattle.std.proofs.Math.Seq.{take-append_seam, drop-append_seam}
 use Rattle.std.proofs.lemmas.List.{append-nil}
 use Rattle.digits.specs.Digits.{is_digit}
 use Rattle.digits.proofs.Numerals.{is_digit-bounds}
-use Rattle.cell_addr.specs.SheetName.{with_byte}
+use Rattle.cell_addr.specs.Parts.{with_byte}
 use Rattle.fix_num.specs.Number as numbers
 use Rattle.fix_num.specs.Text.{text_of}
 use Rattle.fix_num.specs.Laws.{IsWholePart, AreDecimals, HasPlainForm}

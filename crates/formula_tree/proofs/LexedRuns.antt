@@ -14,7 +14,8 @@ use Rattle.digits.proofs.Numerals.{is_digit-bounds}
 use Rattle.digits.proofs.Printed.{list_all-decimal}
 use Rattle.cell_addr.specs.declared.place.TheConstants.{ROWS, COLS}
 use Rattle.cell_addr.specs.Place as places
-use Rattle.cell_addr.specs.Address.{column_letters, column_of, row_of, letters, behind_letters, both}
+use Rattle.cell_addr.specs.Address.{column_letters, column_of, row_of, letters, after_letters}
+use Rattle.std.specs.Option.{option_zip}
 use Rattle.cell_addr.specs.SheetName.{is_bare_name, is_name_start, is_name_byte}
 use Rattle.cell_addr.proofs.Printed.{column_letters-spell, row_of-decimal, column_of-column_letters}
 use Rattle.cell_value.specs.Scalar.{truth_text}
@@ -177,14 +178,14 @@ corner_behind-parts : (col_fixed row_fixed : Bool) (ls ds : List ℕ) (row col :
 corner_behind-parts col_fixed row_fixed ls ds row col l d e f r c =
     let stop = letters-stop row_fixed ds d in
     let front : letters (ls ++ dollar row_fixed ds) ≡ ls = take_while-append is_ascii_alphabetic ls (dollar row_fixed ds) l.1 stop in
-    let back : behind_letters (ls ++ dollar row_fixed ds) ≡ dollar row_fixed ds = behind-append is_ascii_alphabetic ls (dollar row_fixed ds) l.1 stop in
+    let back : after_letters (ls ++ dollar row_fixed ds) ≡ dollar row_fixed ds = behind-append is_ascii_alphabetic ls (dollar row_fixed ds) l.1 stop in
     let no_dollar = begins_with-digits ds d in
-    ap (λ x. option_and_then (address_at col_fixed (begins_with 36 x)) (both (row_of (behind_dollar x)) (column_of (letters (ls ++ dollar row_fixed ds))))) back
-    ∙ ap (λ x. option_and_then (address_at col_fixed (begins_with 36 (dollar row_fixed ds))) (both (row_of (behind_dollar (dollar row_fixed ds))) (column_of x))) front
-    ∙ ap (λ b. option_and_then (address_at col_fixed b) (both (row_of (behind_dollar (dollar row_fixed ds))) (column_of ls))) (dollar-is row_fixed ds no_dollar)
-    ∙ ap (λ x. option_and_then (address_at col_fixed row_fixed) (both (row_of x) (column_of ls))) (behind_dollar-dollar row_fixed ds no_dollar)
-    ∙ ap (λ x. option_and_then (address_at col_fixed row_fixed) (both x (column_of ls))) f
-    ∙ ap (λ x. option_and_then (address_at col_fixed row_fixed) (both (Some row) x)) e
+    ap (λ x. option_and_then (address_at col_fixed (begins_with 36 x)) (option_zip (row_of (behind_dollar x)) (column_of (letters (ls ++ dollar row_fixed ds))))) back
+    ∙ ap (λ x. option_and_then (address_at col_fixed (begins_with 36 (dollar row_fixed ds))) (option_zip (row_of (behind_dollar (dollar row_fixed ds))) (column_of x))) front
+    ∙ ap (λ b. option_and_then (address_at col_fixed b) (option_zip (row_of (behind_dollar (dollar row_fixed ds))) (column_of ls))) (dollar-is row_fixed ds no_dollar)
+    ∙ ap (λ x. option_and_then (address_at col_fixed row_fixed) (option_zip (row_of x) (column_of ls))) (behind_dollar-dollar row_fixed ds no_dollar)
+    ∙ ap (λ x. option_and_then (address_at col_fixed row_fixed) (option_zip x (column_of ls))) f
+    ∙ ap (λ x. option_and_then (address_at col_fixed row_fixed) (option_zip (Some row) x)) e
     ∙ address_at-inside col_fixed row_fixed row col r c
 
 -- the bytes of an address

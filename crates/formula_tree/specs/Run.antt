@@ -4,7 +4,8 @@ use Rattle.std.specs.List.{list_all, prefix_len}
 use Rattle.std.specs.Char.{is_ascii_alphabetic, is_ascii_alphanumeric}
 use Rattle.cell_addr.specs.declared.place.TheConstants.{ROWS, COLS}
 use Rattle.cell_addr.specs.SheetName.{is_bare_name}
-use Rattle.cell_addr.specs.Address.{letters, behind_letters, column_of, row_of, both}
+use Rattle.cell_addr.specs.Address.{letters, after_letters, column_of, row_of}
+use Rattle.std.specs.Option.{option_zip}
 use Rattle.cell_value.specs.Fault.{spells}
 use Rattle.cell_value.specs.Scalar.{truth_text}
 use Rattle.formula_tree.specs.declared.address.Address.{Address}
@@ -55,8 +56,8 @@ address_at col_fixed row_fixed (row, col) = if nat_lt row ROWS && nat_lt col COL
 -- the address that a run is: letters and digits, each with a `$` in front or without
 abbrev pub corner_behind : Bool → List ℕ → Option Address
 corner_behind col_fixed cs = option_and_then
-    (address_at col_fixed (begins_with 36 (behind_letters cs)))
-    (both (row_of (behind_dollar (behind_letters cs))) (column_of (letters cs)))
+    (address_at col_fixed (begins_with 36 (after_letters cs)))
+    (option_zip (row_of (behind_dollar (after_letters cs))) (column_of (letters cs)))
 
 abbrev pub corner_of : List ℕ → Option Address
 corner_of run = corner_behind (begins_with 36 run) (behind_dollar run)

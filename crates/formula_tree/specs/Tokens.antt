@@ -3,7 +3,7 @@ use Rattle.std.specs.Prelude.{ℕ, zero, suc, ◌+◌, Bool, ◌&&◌, ◌||◌,
 use Rattle.std.specs.List.{prefix_len, take_while, find}
 use Rattle.std.specs.Option.{option_map}
 use Rattle.digits.specs.Digits.{is_digit}
-use Rattle.cell_addr.specs.SheetName.{with_byte}
+use Rattle.cell_addr.specs.Parts.{with_byte}
 use Rattle.cell_value.specs.declared.fault.FaultKind.{FaultKind}
 use Rattle.cell_value.specs.Fault.{fault_text, faults, spells}
 use Rattle.formula_tree.specs.declared.operator.Op.{Op}

@@ -1,7 +1,7 @@
 -- What the text given to a cell says. Source: this project's own.
 use Rattle.std.specs.Prelude.{◌==◌, if◌then◌else◌, ℤ, Bool, List, [], ◌∷◌, ℕ, Result, Ok, Err}
 use Rattle.std.specs.Option.{unwrap_or}
-use Rattle.cell_addr.specs.SheetName.{behind_first}
+use Rattle.cell_addr.specs.Parts.{strip_prefix}
 use Rattle.cell_value.specs.Scalar.{read_truth}
 use Rattle.cell_value.specs.declared.fault.FaultKind.{FaultKind}
 use Rattle.fix_num.specs.Text.{number_of}
@@ -11,7 +11,7 @@ use Rattle.sheet_cli.specs.declared.content.ContentText.TheVariants.{Clear, Form
 
 -- a text that is no truth value either: the text behind an apostrophe, or itself
 abbrev pub text_content : List ℕ → ContentText
-text_content text = Text (unwrap_or (behind_first 39 text) text)
+text_content text = Text (unwrap_or (strip_prefix 39 text) text)
 
 -- a text that is no formula and no number: a truth value in any case, or a text
 abbrev pub word_content : Result Bool FaultKind → List ℕ → ContentText

@@ -1,7 +1,7 @@
 use Rattle.std.proofs.Common.{◌≡◌, ◌∙◌, sym, ap, arith, rules, Some, ◌++◌, ◌∷◌, [], append_assoc}
 use Rattle.std.proofs.lemmas.Str.{encode_ascii}
 use Rattle.std.specs.String.{string_bytes}
-use Rattle.cell_addr.proofs.Splits.{length-split_first, length-behind_first}
+use Rattle.cell_addr.proofs.Splits.{length-split_once, length-strip_prefix}
 use Rattle.cell_addr.proofs.Quoted.{with_bytes, with_bytes-with_bytes}
 use Rattle.formula_tree.specs.Tokens.{quoted}
 use Rattle.formula_parse.proofs.Quotes.{quoted-unclosed, quoted-closed, quoted_more}
@@ -9,21 +9,21 @@ use Rattle.formula_parse.proofs.quote.quoted.Goals as goal
 
 pub pieces-smaller : goal.pieces-smaller
 pieces-smaller c =
-    let a = length-split_first c.args.quote c.pieces.rest.now _ (sym c.in-Some.ensures) in
-    let b = length-behind_first c.args.quote c.in-Some.behind.now c.in-Some-behind_first.more.now (sym c.in-Some-behind_first.ensures) in
+    let a = length-split_once c.args.quote c.pieces.rest.now _ (sym c.in-Some.ensures) in
+    let b = length-strip_prefix c.args.quote c.in-Some.behind.now c.in-Some-strip_prefix.more.now (sym c.in-Some-strip_prefix.ensures) in
     omega (arith, a, b)
 
 pub pieces-preserved : goal.pieces-preserved
 pieces-preserved c =
     let q = c.args.quote in
-    let more = quoted_more q c.pieces.rest.now _ _ _ c.in-Some.ensures c.in-Some-behind_first.ensures in
+    let more = quoted_more q c.pieces.rest.now _ _ _ c.in-Some.ensures c.in-Some-strip_prefix.ensures in
     let bytes : string_bytes c.push.new.self ≡ string_bytes c.pieces.content ++ (c.in-Some.piece.now ++ q ∷ []) =
-    c.in_ok-push-in-Some-behind_first.ensures.bytes ∙ ap (λ xs. string_bytes c.push_str.new.self ++ xs) (encode_ascii q c.requires)
+    c.in_ok-push-in-Some-strip_prefix.ensures.bytes ∙ ap (λ xs. string_bytes c.push_str.new.self ++ xs) (encode_ascii q c.requires)
     ∙ ap (λ xs. xs ++ q ∷ []) c.in_ok-push_str.ensures.bytes ∙ append_assoc _ c.in-Some.piece.now (q ∷ []) in
     let before = c.pieces.invariant.1 in (
       search rules,
-      before ∙ ap (with_bytes (string_bytes c.pieces.content)) more ∙ with_bytes-with_bytes _ _ (quoted q c.in-Some-behind_first.more.now)
-          ∙ ap (λ xs. with_bytes xs (quoted q c.in-Some-behind_first.more.now)) (sym bytes),
+      before ∙ ap (with_bytes (string_bytes c.pieces.content)) more ∙ with_bytes-with_bytes _ _ (quoted q c.in-Some-strip_prefix.more.now)
+          ∙ ap (λ xs. with_bytes xs (quoted q c.in-Some-strip_prefix.more.now)) (sym bytes),
     )
 
 pub returns-in-None : goal.returns-in-None

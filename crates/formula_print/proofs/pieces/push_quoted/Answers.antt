@@ -1,11 +1,11 @@
 use Rattle.std.proofs.Common.{◌∙◌, sym, ap, arith, rules, ◌++◌, ◌∷◌, string_bytes}
-use Rattle.cell_addr.proofs.Splits.{length-split_first}
+use Rattle.cell_addr.proofs.Splits.{length-split_once}
 use Rattle.formula_print.proofs.Doubled.{piece-written, last-written}
 use Rattle.formula_print.proofs.pieces.push_quoted.Goals as goal
 
 pub pieces-smaller : goal.pieces-smaller
 pieces-smaller c =
-    let a = length-split_first c.args.quote c.pieces.rest.now _ (sym c.in-Some.ensures) in
+    let a = length-split_once c.args.quote c.pieces.rest.now _ (sym c.in-Some.ensures) in
     omega (arith, a)
 
 pub pieces-preserved : goal.pieces-preserved

@@ -1,12 +1,12 @@
 -- A text that doesn't begin with an apostrophe has nothing behind one.
 use Rattle.std.proofs.Common.{◌≡◌, lit<, ap, List, ℕ, Option, None}
 use Rattle.std.proofs.lemmas.Str.Pattern.{strip_prefix_char}
-use Rattle.cell_addr.proofs.Splits.{behind_first-is}
-use Rattle.cell_addr.specs.SheetName.{behind_first}
+use Rattle.cell_addr.proofs.Splits.{strip_prefix-is}
+use Rattle.cell_addr.specs.Parts.{strip_prefix}
 use Rattle.sheet_cli.specs.declared.content.ContentText.TheVariants.{Text}
 use Rattle.sheet_cli.proofs.content.read_text.Goals as goal
 
 pub returns-in_ok-from_str-in-None : goal.returns-in_ok-from_str-in-None
 returns-in_ok-from_str-in-None c =
-    let bare = behind_first-is 39 c.args.text.now None (strip_prefix_char 39 c.args.text.now None c.in-None.ensures.cases (lit< tt)) in
+    let bare = strip_prefix-is 39 c.args.text.now None (strip_prefix_char 39 c.args.text.now None c.in-None.ensures.cases (lit< tt)) in
     rw (← bare) (ap Text c.in_ok-from_str-in-None.ensures)
