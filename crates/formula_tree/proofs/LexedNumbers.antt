@@ -14,8 +14,8 @@ use Rattle.fix_num.specs.Number as numbers
 use Rattle.fix_num.specs.Text.{text_of}
 use Rattle.fix_num.specs.Laws.{IsWholePart, AreDecimals, HasPlainForm}
 use Rattle.fix_num.proofs.PlainTexts.{plain-unsigned_text}
-use Rattle.formula_tree.specs.declared.token.Token.{Token}
-use Rattle.formula_tree.specs.declared.token.Token.TheVariants as tok
+use Rattle.formula_tree.specs.Token.{Token}
+use Rattle.formula_tree.specs.Token as tok
 use Rattle.formula_tree.specs.Run.{is_blank, begins_run, begins_with, begins_with_any, behind}
 use Rattle.formula_tree.specs.Tokens.{decimals_length, number_length, begins_number, quoted, text_token, sheet_token, token_at}
 use Rattle.formula_tree.specs.Canonical.{doubled, between_quotes}

@@ -20,8 +20,8 @@ use Rattle.cell_addr.specs.SheetName.{is_bare_name, is_name_start, is_name_byte}
 use Rattle.cell_addr.proofs.Printed.{column_letters-spell, row_of-decimal, column_of-column_letters}
 use Rattle.cell_value.specs.Scalar.{truth_text}
 use Rattle.formula_tree.specs.declared.reference.Corner.{Corner}
-use Rattle.formula_tree.specs.declared.token.Token.{Token}
-use Rattle.formula_tree.specs.declared.token.Token.TheVariants as tok
+use Rattle.formula_tree.specs.Token.{Token}
+use Rattle.formula_tree.specs.Token as tok
 use Rattle.formula_tree.specs.Run.{is_blank, begins_run, is_run_byte, begins_with, begins_with_any, behind, is_word, behind_dollar, address_at, corner_behind, corner_of, word_token, lone_token, is_sheet_behind, is_sheet_run, run_token}
 use Rattle.formula_tree.specs.Tokens.{token_at}
 use Rattle.formula_tree.specs.Canonical.{dollar, corner_text}

@@ -8,8 +8,8 @@ use Rattle.formula_tree.specs.declared.operator.Op.{Op}
 use Rattle.formula_tree.specs.declared.operator.Op.TheVariants as op
 use Rattle.formula_tree.specs.declared.operator.Sign.{Sign}
 use Rattle.formula_tree.specs.declared.operator.Sign.TheVariants as sign
-use Rattle.formula_tree.specs.declared.token.Token.{Token}
-use Rattle.formula_tree.specs.declared.token.Token.TheVariants as tok
+use Rattle.formula_tree.specs.Token.{Token}
+use Rattle.formula_tree.specs.Token as tok
 use Rattle.formula_tree.specs.Level.{op_of}
 use Rattle.formula_tree.specs.Run.{is_blank, is_run_byte, begins_with, begins_with_any, behind}
 use Rattle.formula_tree.specs.Tokens.{token_at, tokens_in}

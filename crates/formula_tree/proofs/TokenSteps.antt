@@ -10,8 +10,8 @@ use Rattle.cell_value.specs.declared.fault.FaultKind.{FaultKind}
 use Rattle.cell_value.specs.declared.fault.FaultKind.TheVariants as kinds
 use Rattle.cell_value.specs.Fault.{fault_text, faults}
 use Rattle.formula_tree.specs.declared.operator.Op.{Op}
-use Rattle.formula_tree.specs.declared.token.Token.{Token}
-use Rattle.formula_tree.specs.declared.token.Token.TheVariants as tok
+use Rattle.formula_tree.specs.Token.{Token}
+use Rattle.formula_tree.specs.Token as tok
 use Rattle.formula_tree.specs.Run.{is_blank, begins_run, is_run_byte, begins_with, behind, is_word, corner_of, lone_token, is_sheet_behind, is_sheet_run, run_token}
 use Rattle.formula_tree.specs.Tokens.{Front, number_length, begins_number, quoted, text_token, sheet_token, begins_with_fault, fault_token, byte_token, pair_op, sign_token, token_at, and_tokens, tokens_step, tokens_in, tokens_of}
 

@@ -5,6 +5,7 @@ pub mod Reference
 pub mod Relative
 pub mod Level
 pub mod Run
+pub mod Token
 pub mod Tokens
 pub mod Grammar
 pub mod Reader

@@ -8,9 +8,9 @@ use Rattle.cell_addr.specs.Address.{letters, after_letters, column_of, row_of}
 use Rattle.std.specs.Option.{option_zip}
 use Rattle.cell_value.specs.Fault.{spells}
 use Rattle.cell_value.specs.Scalar.{truth_text}
-use Rattle.formula_tree.specs.declared.token.Address.{Address}
-use Rattle.formula_tree.specs.declared.token.Token.{Token}
-use Rattle.formula_tree.specs.declared.token.Token.TheVariants as tok
+use Rattle.formula_tree.specs.declared.address.Address.{Address}
+use Rattle.formula_tree.specs.Token.{Token}
+use Rattle.formula_tree.specs.Token as tok
 
 -- blanks: space, tab, line feed and carriage return
 abbrev pub is_blank : ℕ → Bool
