@@ -18,3 +18,4 @@ pub mod TokenSteps
 pub mod FitTokens
 pub mod ProperTrees
 pub mod Examples
+pub mod Decoded

@@ -11,6 +11,7 @@
 #![tactic(auto)]
 
 mod absolute;
+mod code;
 mod address;
 pub mod laws;
 mod link;
