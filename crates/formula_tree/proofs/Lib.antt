@@ -19,3 +19,4 @@ pub mod FitTokens
 pub mod ProperTrees
 pub mod Examples
 pub mod Decoded
+pub mod PooledTrees

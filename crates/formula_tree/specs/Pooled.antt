@@ -1,5 +1,5 @@
 -- The trees that a pool holds. Source: this project's own.
-use Rattle.std.specs.Prelude.{◌≡◌, ◌⊎◌, ℕ, ◌<◌, List, [], ◌∷◌, ◌++◌, map, length, slice_get, Contains, Option, Some}
+use Rattle.std.specs.Prelude.{◌≡◌, ◌⊎◌, List, [], ◌∷◌, ◌++◌, map, Contains}
 use Rattle.formula_tree.specs.Term.{Term}
 use Rattle.formula_tree.specs.Relative.{relative}
 use Rattle.formula_tree.specs.declared.pool.Pool.{Pool}
@@ -15,4 +15,5 @@ HoldsToo old t new = (Contains old t × (new ≡ old)) ⊎ ((¬ Contains old t) 
 
 -- no two of the trees are equal
 abbrev pub AreDistinct : List (Term Ref) → Type 0
-AreDistinct ts = (i j : ℕ) (t : Term Ref) → slice_get ts i ≡ Some t → slice_get ts j ≡ Some t → i ≡ j
+AreDistinct [] = Unit {0}
+AreDistinct (t ∷ ts) = (¬ Contains ts t) × AreDistinct ts

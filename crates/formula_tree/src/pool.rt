@@ -1,6 +1,7 @@
 // Where trees are shared.
-ghost use Rattle.std.specs.Prelude.{◌≡◌, ◌↔◌, [], length, IsTrue, IfOk, OnOk, OnErr};
-ghost use Rattle.formula_tree.specs.internal.Coded.{AreCoded};
+ghost use Rattle.std.specs.Prelude.{◌≡◌, ◌↔◌, [], ◌∷◌, ◌++◌, None, length, IsTrue, IfOk, OnOk, OnErr};
+ghost use Rattle.indexmap.specs.IndexMap.{get};
+ghost use Rattle.formula_tree.specs.internal.Coded.{AreCoded, same_words};
 ghost use Rattle.formula_tree.specs.Seen.{seen};
 ghost use Rattle.formula_tree.specs.Reference.{IsHomeInside};
 ghost use Rattle.formula_tree.specs.Relative.{relative};
@@ -62,7 +63,7 @@ impl Pool {
             return Ok(shared.clone()?);
         }
         let own = tree.clone()?;
-        self.trees.insert(words, own)?;
+        add_new(words, own, &mut self.trees)?;
         Ok(tree)
     }
 
@@ -81,4 +82,18 @@ impl Pool {
         let shared = self.share(own)?;
         Ok(shared)
     }
+}
+
+// Adds a tree with its code, which no other one has.
+fn add_new(
+    words: Vec<u32>,
+    tree: Tree,
+    trees: &mut IndexMap<Vec<u32>, Tree>,
+) -> Result<(), AllocError>
+    requires { get same_words trees.old words ≡ None }
+    ensures ok { OnOk result (trees.new.entries ≡ trees.old.entries ++ (words, tree) ∷ []) }
+    ensures err { OnErr result (trees.new.entries ≡ trees.old.entries) }
+{
+    trees.insert(words, tree)?;
+    Ok(())
 }
