@@ -1,6 +1,6 @@
 -- A tree is read back from its code, so two trees have one code exactly where they are equal. Serves the
 -- pool, which finds trees by their codes.
-use Rattle.std.proofs.Common.{◌≡◌, ◌∙◌, sym, ap, refl, arith, ℕ, ℤ, pos, negsuc, neg_ℤ, zero, suc, ◌+◌, ◌*◌, ◌<◌, ◌≤◌, max, Bool, true, false, if◌then◌else◌, ◌==◌, List, [], ◌∷◌, ◌++◌, length, take, drop, Option, Some, None}
+use Rattle.std.proofs.Common.{◌≡◌, ◌∙◌, sym, ap, refl, arith, ℕ, ℤ, pos, negsuc, neg_ℤ, zero, suc, ◌+◌, ◌*◌, ◌≤◌, max, Bool, true, false, if◌then◌else◌, ◌==◌, List, [], ◌∷◌, ◌++◌, length, take, drop, Option, Some, None}
 use Rattle.std.specs.Prelude.{slice_get, unsigned_abs}
 use Rattle.std.proofs.lemmas.Bool.Decides.{nat_tests}
 use Rattle.std.proofs.Math.Seq.{take-append_seam, drop-append_seam}
@@ -183,6 +183,7 @@ mutual
 
 mutual
   unfolding read_tree height
+
   tree-read : (t : Term Ref) (n : ℕ) (rest : List ℕ) → height t ≤ n → read_tree (suc n) (code t rest) ≡ Some (t, rest)
   tree-read (number m) n rest h = ap (made (λ x. number x)) (signed-read m rest)
   tree-read (text w) n rest h = ap (made (λ x. text x)) (text-read w rest)

@@ -1,16 +1,16 @@
 -- Trees by their codes: what is found, what is missing and what is added. Serves the pool.
-use Rattle.std.proofs.Common.{◌≡◌, ◌∙◌, sym, ap, subst, refl, arith, ℕ, zero, suc, ◌<◌, Bool, true, false, cond, nat_eq, List, [], ◌∷◌, ◌++◌, map, length, inl, inr, ◌⊎◌, Some, None}
+use Rattle.std.proofs.Common.{◌≡◌, ◌∙◌, sym, ap, subst, refl, arith, ℕ, zero, suc, Bool, true, false, cond, nat_eq, List, [], ◌∷◌, ◌++◌, map, inl, inr, ◌⊎◌, Some, None}
 use Rattle.std.proofs.lemmas.Bool.{both_ways}
 use Rattle.std.proofs.lemmas.List.{map-append}
 use Rattle.std.specs.List.{Contains, IsDistinct, AllByRecursion}
 use Rattle.std.specs.Map.{lookup}
+use Rattle.std.specs.Map.Calls.{RetainsPairs}
 use Rattle.std.proofs.lemmas.Slice.Eq.{bytes_eq-Decides}
 use lib.Pointwise.{pointwise}
 use Rattle.formula_tree.specs.Term.{Term}
-use Rattle.formula_tree.specs.Pooled.{AreDistinct}
+use Rattle.formula_tree.specs.Pooled.{AreDistinct, IsPart, no_trees, kept, left_out}
 use Rattle.formula_tree.specs.declared.reference.Ref.{Ref}
 use Rattle.formula_tree.specs.internal.Code.{code}
-use Rattle.formula_tree.proofs.Decoded.{code-equal}
 
 contains-here : {X : Type 0} (x : X) (xs : List X) → Contains (x ∷ xs) x
 contains-here x xs = (0, omega arith, refl)
@@ -75,8 +75,9 @@ module _ {K V : Type 0} (words : K → List ℕ) (tree : V → Term Ref) where
   apart ws t [] k w d (n, lt, is) = omega arith
   apart ws t (x ∷ es) k w d c =
       elim (contains-split (tree x.1) t (trees_in es) c) [
-        inl is ↦ both_ways (test ws x.0) d.0 (equal-test ws x.0 (w ∙ ap (λ u. code u []) (sym is) ∙ sym (coded-first x es k)))
-        | inr more ↦ apart ws t es (coded-rest x es k) w d.1 more ]
+        | inl is ↦ both_ways (test ws x.0) d.0 (equal-test ws x.0 (w ∙ ap (λ u. code u []) (sym is) ∙ sym (coded-first x es k)))
+        | inr more ↦ apart ws t es (coded-rest x es k) w d.1 more
+      ]
 
   -- distinct codes are those of distinct trees
   pub distinct : (es : List (K × V)) → Coded es → IsDistinct (λ j k. test (words j) k) (map (λ e. e.0) es) → AreDistinct (trees_in es)
@@ -87,3 +88,23 @@ module _ {K V : Type 0} (words : K → List ℕ) (tree : V → Term Ref) where
   -- the trees of the entries and one more
   pub trees_in-more : (es : List (K × V)) (k : K) (v : V) → trees_in (es ++ (k, v) ∷ []) ≡ trees_in es ++ tree v ∷ []
   trees_in-more es k v = map-append (λ e. tree e.1) es ((k, v) ∷ [])
+
+  kept-by : (b : Bool) (x : K × V) (es rest left : List (K × V)) → left ≡ cond b (x ∷ rest) rest → IsPart (trees_in rest) (trees_in es) → IsPart (trees_in left) (trees_in (x ∷ es))
+  kept-by true x es rest left e p = rw e (kept p)
+  kept-by false x es rest left e p = rw e (left_out p)
+
+  coded-by : (b : Bool) (x : K × V) (es rest left : List (K × V)) → left ≡ cond b (x ∷ rest) rest → Coded (x ∷ es) → Coded rest → Coded left
+  coded-by true x es rest left e k h = rw e (ap (λ w. w ∷ map (λ e. words e.0) rest) (coded-first x es k) ∙ ap (λ ws. code (tree x.1) [] ∷ ws) h)
+  coded-by false x es rest left e k h = rw e h
+
+  module _ {F : Type 0} (T : F → K → V → Bool → V → F → Type 0) (same : (f : F) (k : K) (v : V) (b : Bool) (w : V) (g : F) → T f k v b w g → w ≡ v) where
+    -- what is left where a closure chooses, and leaves each tree as it was
+    pub part-RetainsPairs : (f : F) (es left : List (K × V)) → RetainsPairs T f es left → IsPart (trees_in left) (trees_in es)
+    part-RetainsPairs f [] left h = rw h no_trees
+    part-RetainsPairs f (x ∷ es) left (b, w, g, rest, said, more, e) =
+        kept-by b x es rest left (rw (← same f x.0 x.1 b w g said) e) (part-RetainsPairs g es rest more)
+
+    pub coded-RetainsPairs : (f : F) (es left : List (K × V)) → RetainsPairs T f es left → Coded es → Coded left
+    coded-RetainsPairs f [] left h k = rw h refl
+    coded-RetainsPairs f (x ∷ es) left (b, w, g, rest, said, more, e) k =
+        coded-by b x es rest left (rw (← same f x.0 x.1 b w g said) e) k (coded-RetainsPairs g es rest more (coded-rest x es k))

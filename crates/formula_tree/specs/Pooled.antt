@@ -17,3 +17,9 @@ HoldsToo old t new = (Contains old t × (new ≡ old)) ⊎ ((¬ Contains old t) 
 abbrev pub AreDistinct : List (Term Ref) → Type 0
 AreDistinct [] = Unit {0}
 AreDistinct (t ∷ ts) = (¬ Contains ts t) × AreDistinct ts
+
+-- the first trees are part of the second ones, in the same order
+pub data IsPart : List (Term Ref) → List (Term Ref) → Type 0 where
+  no_trees : IsPart [] []
+  kept : {t : Term Ref} {ts us : List (Term Ref)} → IsPart ts us → IsPart (t ∷ ts) (t ∷ us)
+  left_out : {t : Term Ref} {ts us : List (Term Ref)} → IsPart ts us → IsPart ts (t ∷ us)

@@ -11,8 +11,8 @@
 #![tactic(auto)]
 
 mod absolute;
-mod code;
 mod address;
+mod code;
 pub mod laws;
 mod link;
 mod node;

@@ -24,7 +24,7 @@ pub struct Pool {
 }
 
 impl Pool {
-    ghost use Rattle.formula_tree.specs.Pooled.{held, HoldsToo, AreDistinct};
+    ghost use Rattle.formula_tree.specs.Pooled.{held, HoldsToo, AreDistinct, IsPart};
 
     /// A pool of no trees.
     pub fn new(alloc: Global) -> Result<Pool, AllocError>
@@ -81,6 +81,18 @@ impl Pool {
         let own = Rc::new(self.alloc, node)?;
         let shared = self.share(own)?;
         Ok(shared)
+    }
+
+    /// Forgets the trees that nothing but the pool holds; the others stay, in their order. Costs about
+    /// the number of trees.
+    pub fn sweep(&mut self)
+        ensures { IsPart (held self.new) (held self.old) }
+    {
+        self.trees.retain(
+            |_words: &Vec<u32>, tree: &mut Tree| -> bool
+                ensures { tree.new ≡ tree.old }
+            { Rc::strong_count(tree) > 1 },
+        );
     }
 }
 

@@ -1,7 +1,7 @@
 -- The code of a tree: numbers from which the tree can be read back, so that two trees have one code
 -- exactly where they are equal. A pool finds trees by their codes. Each definition puts a code in front
 -- of what follows it.
-use Rattle.std.specs.Prelude.{◌≡◌, ℕ, ℤ, pos, ◌/◌, ◌%◌, Bool, if◌then◌else◌, int_lt, unsigned_abs, List, [], ◌∷◌, ◌++◌, length}
+use Rattle.std.specs.Prelude.{◌≡◌, ℕ, ℤ, pos, ◌/◌, ◌%◌, Bool, if◌then◌else◌, int_lt, unsigned_abs, List, ◌∷◌, ◌++◌, length}
 use Rattle.cell_value.specs.declared.fault.FaultKind.{FaultKind}
 use Rattle.cell_value.specs.declared.fault.FaultKind.TheVariants as kinds
 use Rattle.formula_tree.specs.Term.{Term, number, text, truth, fault, cell, area, name, prefix, percent, binary, call, paren, Terms, no_terms, term}

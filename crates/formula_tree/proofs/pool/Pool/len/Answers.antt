@@ -1,4 +1,3 @@
-use Rattle.std.proofs.Common.{◌≡◌}
 use Rattle.formula_tree.specs.Relative.{relative}
 use Rattle.formula_tree.proofs.PooledTrees.{distinct}
 use Rattle.formula_tree.proofs.pool.Pool.len.Goals as goal

@@ -1,4 +1,4 @@
-use Rattle.std.proofs.Common.{◌≡◌, ◌∙◌, sym, ap, subst, [], ◌∷◌, ◌++◌, inl, inr, map, refl}
+use Rattle.std.proofs.Common.{◌∙◌, sym, ap, subst, [], ◌∷◌, ◌++◌, inl, inr, map, refl}
 use Rattle.std.specs.List.{Contains}
 use Rattle.formula_tree.specs.Pooled.{held}
 use Rattle.formula_tree.specs.Relative.{relative}
@@ -25,8 +25,9 @@ returns-clause-held c =
     let words = c.in_ok-words.ensures ∙ ap (λ node. code (relative node) []) c.deref.ensures in
     let none = missing (λ k. k.items) (λ t. relative t.value) c.in_ok-words.words.items (relative c.args.tree.value) c.args.self.now.trees.entries c.args.self.now.coded words (sym c.in_default.ensures.value) in
     let entries = c.args.self.now.trees.entries in
-    inr
-    (none,
-    ap (λ es. map (λ e. relative e.1.value) es) c.in_ok-add_new.ensures.ok
-    ∙ trees_in-more (λ k. k.items) (λ t. relative t.value) entries c.in_ok-words.words c.in_ok-own.own
-    ∙ ap (λ node. map (λ e. relative e.1.value) entries ++ relative node ∷ []) c.in_ok-own.ensures.cases)
+    inr (
+      none,
+      ap (λ es. map (λ e. relative e.1.value) es) c.in_ok-add_new.ensures.ok
+          ∙ trees_in-more (λ k. k.items) (λ t. relative t.value) entries c.in_ok-words.words c.in_ok-own.own
+          ∙ ap (λ node. map (λ e. relative e.1.value) entries ++ relative node ∷ []) c.in_ok-own.ensures.cases,
+    )
