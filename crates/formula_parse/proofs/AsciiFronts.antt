@@ -14,7 +14,7 @@ use Rattle.cell_value.specs.declared.fault.FaultKind.{FaultKind}
 use Rattle.cell_value.specs.declared.fault.FaultKind.TheVariants as kinds
 use Rattle.cell_value.specs.Fault.{fault_text, faults}
 use Rattle.formula_tree.specs.declared.operator.Op.{Op}
-use Rattle.formula_tree.specs.declared.token.Token.{Token}
+use Rattle.formula_tree.specs.Token.{Token}
 use Rattle.formula_tree.specs.Run.{is_run_byte, begins_with, begins_with_any, behind, is_sheet_behind}
 use Rattle.formula_tree.specs.Tokens.{decimals_length, number_length, begins_with_fault, byte_token, pair_op}
 

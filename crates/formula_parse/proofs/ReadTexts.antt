@@ -3,7 +3,7 @@ use Rattle.std.proofs.Common.{◌≡◌, refl, ltb, ℕ, ◌<◌, true, false, L
 use Rattle.std.proofs.lemmas.Bool.{ltb-false}
 use borrow.Author.Tests.{ltb-true}
 use Rattle.formula_tree.specs.declared.reference.Corner.{Corner}
-use Rattle.formula_tree.specs.declared.token.Token.{Token}
+use Rattle.formula_tree.specs.Token.{Token}
 use Rattle.formula_tree.specs.Term.{Term, depth_of}
 use Rattle.formula_tree.specs.Run.{begins_with}
 use Rattle.formula_tree.specs.Tokens.{tokens_of}

@@ -4,7 +4,7 @@ use Rattle.std.specs.List.{slice_get, take_while}
 use Rattle.std.specs.Char.{is_ascii}
 use Rattle.std.proofs.lemmas.Bool.Decides.{nat_tests}
 use Rattle.std.proofs.lemmas.Bool.{cond-true, cond-false}
-use Rattle.formula_tree.specs.declared.token.Token.{Token}
+use Rattle.formula_tree.specs.Token.{Token}
 use Rattle.formula_tree.specs.Run.{is_blank, begins_run, is_run_byte, begins_with_any, behind, run_token}
 use Rattle.formula_tree.specs.Tokens.{token_at, and_tokens, tokens_of}
 use Rattle.formula_tree.proofs.TokenSteps.{tokens_of-nil, tokens_of-step}

@@ -2,13 +2,13 @@
 use Rattle.std.proofs.Common.{◌≡◌, ◌∙◌, sym, ap, refl, arith, ℕ, ◌+◌, ◌-◌, ◌<◌, ◌≤◌, List, [], ◌∷◌, ◌++◌, map, Some, None}
 use Rattle.cell_addr.specs.Text.{capitals}
 use Rattle.formula_tree.specs.declared.reference.Corner.{Corner}
-use Rattle.formula_tree.specs.declared.token.Token.{Token}
+use Rattle.formula_tree.specs.Token.{Token}
 use Rattle.formula_tree.specs.Term.{Term, call, terms_of}
 use Rattle.formula_tree.specs.declared.plain.Plain.TheVariants as plain
 use Rattle.formula_tree.specs.declared.plain.PlainList.{PlainList}
 use Rattle.formula_tree.specs.Arguments as trees
 use Rattle.formula_tree.specs.Seen.{seen}
-use Rattle.formula_tree.specs.Reader.{Read, after_comma, after_close, climb, arguments}
+use Rattle.formula_tree.specs.Reader.{Read, after, climb, arguments}
 use Rattle.formula_tree.proofs.SeenNodes.{seen-Call, seen_list-arguments}
 use Rattle.formula_tree.proofs.ReaderSteps.{climb_none, arguments_none, arguments_more}
 
@@ -26,7 +26,7 @@ arguments-ended R w n i done tokens all h e =
 
 -- an argument with a comma behind it
 pub arguments-comma : (R : ℕ → List Token → Read) (w : List ℕ) (n i : ℕ) (done : List (Term Corner)) (t : Term Corner) (tokens behind rest : List Token) (all : Read)
-    → i < n → Some (t, behind) ≡ R 0 tokens → Some rest ≡ after_comma behind → arguments R w (n - i) done tokens ≡ all
+    → i < n → Some (t, behind) ≡ R 0 tokens → Some rest ≡ after tok.Comma behind → arguments R w (n - i) done tokens ≡ all
     → arguments R w (n - (i + 1)) (done ++ t ∷ []) rest ≡ all
 arguments-comma R w n i done t tokens behind rest all h tree comma e =
     let less : n - (i + 1) ≡ n - i - 1 = omega arith in
@@ -35,7 +35,7 @@ arguments-comma R w n i done t tokens behind rest all h tree comma e =
 
 -- an argument with the closing parenthesis behind it
 pub arguments-close : (R : ℕ → List Token → Read) (w : List ℕ) (n i : ℕ) (done : List (Term Corner)) (t : Term Corner) (tokens behind rest : List Token) (all : Read)
-    → i < n → Some (t, behind) ≡ R 0 tokens → None ≡ after_comma behind → Some rest ≡ after_close behind → arguments R w (n - i) done tokens ≡ all
+    → i < n → Some (t, behind) ≡ R 0 tokens → None ≡ after tok.Comma behind → Some rest ≡ after tok.Close behind → arguments R w (n - i) done tokens ≡ all
     → Some (call (capitals w) (terms_of (done ++ t ∷ [])), rest) ≡ all
 arguments-close R w n i done t tokens behind rest all h tree comma close e =
     let some : 0 < n - i = omega arith in

@@ -1,0 +1,58 @@
+-- The token that a text begins with, and the tokens that the program's own stand for.
+use Rattle.std.specs.Prelude.{ℕ, List, [], ◌∷◌, take, drop, Option, Some, None}
+use Rattle.cell_addr.specs.Quoted.{quoted}
+use Rattle.formula_tree.specs.Token.{Token}
+use Rattle.formula_tree.specs.Token as tok
+use Rattle.formula_tree.specs.Tokens.{Front, number_length, pair_op, sign_token, token_at}
+use Rattle.formula_parse.specs.declared.token.Mark.{Mark}
+use Rattle.formula_parse.specs.declared.token.Mark.TheVariants as marks
+use Rattle.formula_parse.specs.declared.token.Token as program
+use Rattle.formula_parse.specs.declared.token.Token.TheVariants as pieces
+
+-- the token of a mark
+abbrev pub mark_token : Mark → Token
+mark_token marks.Colon = tok.Colon
+mark_token marks.Comma = tok.Comma
+mark_token marks.Open = tok.Open
+mark_token marks.Close = tok.Close
+
+-- a text, or a sheet's name, by its content between quotes and what follows; a token that no production
+-- takes where no quote closes the content
+abbrev pub text_of_parts : Option (List ℕ × List ℕ) → Token
+text_of_parts None = tok.Other []
+text_of_parts (Some (content, rest)) = tok.Text content
+
+abbrev pub sheet_of_parts : Option (List ℕ × List ℕ) → Token
+sheet_of_parts None = tok.Other []
+sheet_of_parts (Some (name, rest)) = tok.Sheet name
+
+-- the token that the program's own stands for
+abbrev pub token_of : program.Token → Token
+token_of (pieces.Number digits) = tok.Number digits.now
+token_of (pieces.Text after_quote) = text_of_parts (quoted 34 after_quote.now)
+token_of (pieces.Truth b) = tok.Truth b
+token_of (pieces.Fault f) = tok.Fault f
+token_of (pieces.Sheet name) = tok.Sheet name.now
+token_of (pieces.QuotedSheet after_quote) = sheet_of_parts (quoted 39 after_quote.now)
+token_of (pieces.Corner a) = tok.Corner a
+token_of (pieces.Name name) = tok.Name name.now
+token_of (pieces.Word word) = tok.Word word.now
+token_of (pieces.Other run) = tok.Other run.now
+token_of pieces.Stray = tok.Other []
+token_of (pieces.Operator o) = tok.Operator o
+token_of pieces.Percent = tok.Percent
+token_of (pieces.Mark m) = mark_token m
+
+-- the token that a text begins with, and what follows it
+abbrev pub front_of : List ℕ → Front
+front_of [] = None
+front_of (c ∷ cs) = token_at c cs
+
+-- the operator, or the other sign, that a text begins with, and what follows it
+abbrev pub sign_of : List ℕ → Front
+sign_of [] = None
+sign_of (c ∷ cs) = sign_token (pair_op c cs) c cs
+
+-- the number that a text begins with, and what follows it
+abbrev pub number_front : List ℕ → Front
+number_front cs = Some (tok.Number (take (number_length cs) cs), drop (number_length cs) cs)
