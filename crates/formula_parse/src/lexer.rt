@@ -7,15 +7,15 @@ ghost use Rattle.cell_addr.specs.declared.place.TheConstants.{ROWS, COLS};
 ghost use Rattle.cell_value.specs.Fault.{faults};
 ghost use Rattle.formula_tree.specs.Tokens.{decimals_length, number_length, begins_number, text_token, sheet_token, begins_with_fault, fault_token, byte_token, pair_op};
 ghost use Rattle.formula_tree.specs.Reader.{after, corner_front};
-ghost use Rattle.formula_parse.specs.internal.Front.{token_of, mark_token, front_of, sign_of, number_front};
-ghost use Rattle.formula_parse.specs.internal.Stream.{stream, sign_front};
+ghost use Rattle.formula_parse.specs.internal.Front.{token_of, symbol_token, mark_token, front_of, symbol_of, number_front};
+ghost use Rattle.formula_parse.specs.internal.Stream.{stream, symbol_front};
 
 use crate::front::{
     after_blanks, after_byte, begins_with, begins_with_digit, begins_with_run, digits_count,
     first_bytes, split_front, split_run,
 };
 use crate::run::{ends_sheet_name, run_token};
-use crate::token::{Mark, Token};
+use crate::token::{Mark, Symbol, Token};
 use cell_addr::after_quoted;
 use cell_value::FaultKind;
 use formula_tree::{Address, Op};
@@ -29,26 +29,26 @@ pub(crate) fn first_token(text: &str) -> Option<(Token<'_>, &str)>
         return None;
     }
     match front(text) {
-        Some(found) => Some(found),
+        Some((token, rest)) => Some((token, rest)),
         None => Some((Token::Stray, "")),
     }
 }
 
-// The sign that is the first token of the text, and what follows it.
-pub(crate) fn first_sign(text: &str) -> Option<(Token<'_>, &str)>
-    ensures { option_map (λ p. (token_of p.0, stream p.1.now)) result ≡ sign_front (stream text.now) }
+// The symbol that is the first token of the text, and what follows it. The text is read no further than
+// that, so this may be asked again where another token comes first.
+pub(crate) fn first_symbol(text: &str) -> Option<(Symbol, &str)>
+    ensures { option_map (λ p. (symbol_token p.0, stream p.1.now)) result ≡ symbol_front (stream text.now) }
 {
-    sign_token(after_blanks(text))
+    symbol(after_blanks(text))
 }
 
 // What follows the mark, where it is the first token of the text.
+#[tactic(auto, using(crate::proofs::Symbols::after_by_symbol))]
 pub(crate) fn after(mark: Mark, text: &str) -> Option<&str>
     ensures { option_map (λ rest. stream rest.now) result ≡ after (mark_token mark) (stream text.now) }
 {
-    match first_sign(text) {
-        Some((Token::Mark(found), rest)) if found == mark => Some(rest),
-        _ => None,
-    }
+    let (symbol, rest) = first_symbol(text)?;
+    if symbol.is(mark) { Some(rest) } else { None }
 }
 
 // The address that is the first token of the text, and what follows it.
@@ -80,7 +80,8 @@ fn front(text: &str) -> Option<(Token<'_>, &str)>
     } else if begins_with(bytes, b'#') {
         fault_token(text)
     } else {
-        sign_token(text)
+        let (symbol, rest) = symbol(text)?;
+        Some((Token::Symbol(symbol), rest))
     }
 }
 
@@ -180,15 +181,15 @@ fn begins_with_fault(text: &[u8], fault: FaultKind) -> bool
     first_bytes(text, spelling.len()).eq_ignore_ascii_case(spelling)
 }
 
-// The operator or the other sign that the text begins with; the longest operator is taken.
-fn sign_token(text: &str) -> Option<(Token<'_>, &str)>
-    ensures { option_map (λ p. (token_of p.0, p.1.now)) result ≡ sign_of text.now }
+// The symbol that the text begins with; the longest operator is taken.
+fn symbol(text: &str) -> Option<(Symbol, &str)>
+    ensures { option_map (λ p. (symbol_token p.0, p.1.now)) result ≡ symbol_of text.now }
 {
     match text.as_bytes() {
         [first, rest @ ..] => match pair_op(*first, rest) {
-            Some(op) => Some((Token::Operator(op), split_front(text, 2).1)),
-            None => match byte_token(*first) {
-                Some(token) => Some((token, after_byte(text))),
+            Some(op) => Some((Symbol::Operator(op), split_front(text, 2).1)),
+            None => match byte_symbol(*first) {
+                Some(symbol) => Some((symbol, after_byte(text))),
                 None => None,
             },
         },
@@ -211,25 +212,25 @@ fn pair_op(first: u8, rest: &[u8]) -> Option<Op>
     }
 }
 
-// The token that a byte is by itself, where it is one.
-fn byte_token(first: u8) -> Option<Token<'static>>
-    ensures { option_map token_of result ≡ byte_token first }
+// The symbol that a byte is by itself, where it is one.
+fn byte_symbol(first: u8) -> Option<Symbol>
+    ensures { option_map symbol_token result ≡ byte_token first }
 {
     match first {
-        b'=' => Some(Token::Operator(Op::Equal)),
-        b'<' => Some(Token::Operator(Op::Less)),
-        b'>' => Some(Token::Operator(Op::Greater)),
-        b'&' => Some(Token::Operator(Op::Join)),
-        b'+' => Some(Token::Operator(Op::Add)),
-        b'-' => Some(Token::Operator(Op::Sub)),
-        b'*' => Some(Token::Operator(Op::Mul)),
-        b'/' => Some(Token::Operator(Op::Div)),
-        b'^' => Some(Token::Operator(Op::Power)),
-        b'%' => Some(Token::Percent),
-        b':' => Some(Token::Mark(Mark::Colon)),
-        b',' => Some(Token::Mark(Mark::Comma)),
-        b'(' => Some(Token::Mark(Mark::Open)),
-        b')' => Some(Token::Mark(Mark::Close)),
+        b'=' => Some(Symbol::Operator(Op::Equal)),
+        b'<' => Some(Symbol::Operator(Op::Less)),
+        b'>' => Some(Symbol::Operator(Op::Greater)),
+        b'&' => Some(Symbol::Operator(Op::Join)),
+        b'+' => Some(Symbol::Operator(Op::Add)),
+        b'-' => Some(Symbol::Operator(Op::Sub)),
+        b'*' => Some(Symbol::Operator(Op::Mul)),
+        b'/' => Some(Symbol::Operator(Op::Div)),
+        b'^' => Some(Symbol::Operator(Op::Power)),
+        b'%' => Some(Symbol::Percent),
+        b':' => Some(Symbol::Mark(Mark::Colon)),
+        b',' => Some(Symbol::Mark(Mark::Comma)),
+        b'(' => Some(Symbol::Mark(Mark::Open)),
+        b')' => Some(Symbol::Mark(Mark::Close)),
         _ => None,
     }
 }

@@ -6,7 +6,6 @@ ghost use Rattle.cell_addr.specs.Quoted.{quoted};
 ghost use Rattle.cell_addr.specs.declared.place.TheConstants.{ROWS, COLS};
 ghost use Rattle.fix_num.specs.Text.{number_of};
 ghost use Rattle.formula_tree.specs.Term.{binary, percent};
-ghost use Rattle.formula_tree.specs.Level.{level_of, sign_of};
 ghost use Rattle.formula_tree.specs.Reference.{base_of, sheet_of, corner_at, IsHomeInside};
 ghost use Rattle.formula_tree.specs.Grammar.{placed, first_of, last_of, cell_on, area_on};
 ghost use Rattle.formula_tree.specs.Reader.{corner_front, number_then, reference, signed, closed, call_front, arguments, and_then, first, climb, read, tree_of};
@@ -16,49 +15,20 @@ ghost use Rattle.formula_tree.specs.declared.reference.Home.{Home};
 ghost use Rattle.formula_parse.specs.internal.Stream.{stream};
 ghost use Rattle.formula_parse.specs.internal.Tree.{tree_at, text_then, sheet_then};
 
-use crate::lexer::{after, first_corner, first_sign, first_token};
-use crate::token::{Mark, Token};
+use crate::lexer::{after, first_corner, first_symbol, first_token};
+use crate::token::{Mark, Symbol, Token};
 use cell_addr::{Place, SheetNames, Text, capitals, quoted_text};
 use cell_value::FaultKind;
 use fix_num::Fixed;
-use formula_tree::{Address, Corner, Home, Node, Op, Ref, Sign, Tree, TreeList, depth};
+use formula_tree::{
+    Address, Corner, Home, MAX_LEVELS, Node, Op, PERCENT_LEVEL, Ref, SIGN_LEVEL, Sign, Tree, TreeList,
+    depth,
+};
 use std::alloc::{AllocError, Global};
 use std::rc::Rc;
 
-// The most levels that the tree of a formula has.
-const MAX_LEVELS: u32 = 64;
-
-// How strongly `%` and signs bind.
-const PERCENT_LEVEL: u32 = 5;
-
-const SIGN_LEVEL: u32 = 6;
-
 // A tree that was read, and the text after it; `None` where none was.
 type Read<'t> = Option<(Node, &'t str)>;
-
-// The level of an operator: how strongly it binds.
-fn level_of(op: Op) -> u32
-    ensures { result ≡ level_of op }
-{
-    match op {
-        Op::Equal | Op::Unequal | Op::Less | Op::Greater | Op::AtMost | Op::AtLeast => 0,
-        Op::Join => 1,
-        Op::Add | Op::Sub => 2,
-        Op::Mul | Op::Div => 3,
-        Op::Power => 4,
-    }
-}
-
-// The sign that is written like an operator.
-fn sign_of(op: Op) -> Option<Sign>
-    ensures { result ≡ sign_of op }
-{
-    match op {
-        Op::Add => Some(Sign::Plus),
-        Op::Sub => Some(Sign::Minus),
-        _ => None,
-    }
-}
 
 // The corner of an address on a sheet.
 fn placed(sheet: u32, address: Address) -> Corner
@@ -125,7 +95,6 @@ struct Reader<'a, S: SheetNames> {
     ghost inside: { IsHomeInside home },
 }
 
-#[tactic(auto, using(crate::proofs::ReaderRules::reader_rules))]
 impl<'a, S: SheetNames> Reader<'a, S> {
     // A tree of a level of the grammar in front, of at most so many levels.
     #[cycle(tree)]
@@ -165,15 +134,15 @@ impl<'a, S: SheetNames> Reader<'a, S> {
                 let found = self.call(levels, word, rest)?;
                 Ok(found)
             }
-            Token::Operator(op) => {
-                let found = self.signed(levels, sign_of(op), rest)?;
+            Token::Symbol(Symbol::Operator(op)) => {
+                let found = self.signed(levels, op.sign(), rest)?;
                 Ok(found)
             }
-            Token::Mark(Mark::Open) => {
+            Token::Symbol(Symbol::Mark(Mark::Open)) => {
                 let found = self.paren(levels, rest)?;
                 Ok(found)
             }
-            Token::Mark(_) | Token::Percent | Token::Other(_) | Token::Stray => Ok(None),
+            Token::Symbol(_) | Token::Other(_) | Token::Stray => Ok(None),
         }
     }
 
@@ -283,19 +252,19 @@ impl<'a, S: SheetNames> Reader<'a, S> {
         let mut left = first;
         let mut rest = text;
         'operators: for _ in 0..operators {
-            match first_sign(rest) {
-                Some((Token::Operator(op), after)) => {
-                    if level_of(op) < level {
+            match first_symbol(rest) {
+                Some((Symbol::Operator(op), after)) => {
+                    if op.level() < level {
                         return Ok(Some((left, rest)));
                     }
-                    let Some((right, after)) = self.tree(levels, level_of(op) + 1, after)? else {
+                    let Some((right, after)) = self.tree(levels, op.level() + 1, after)? else {
                         return Ok(None);
                     };
                     left = binary(self.alloc, op, left, right)?;
                     rest = after;
                     continue;
                 }
-                Some((Token::Percent, after)) => {
+                Some((Symbol::Percent, after)) => {
                     if PERCENT_LEVEL < level {
                         return Ok(Some((left, rest)));
                     }

@@ -1,9 +1,8 @@
 // Runs: sequences of letters, digits, `_`, `.` and `$`, and what they are.
-ghost use Rattle.std.specs.Prelude.{◌≡◌, ◌≤◌, ◌||◌, ◌==◌, if◌then◌else◌, length};
+ghost use Rattle.std.specs.Prelude.{◌≡◌, ◌≤◌, ◌||◌, ◌==◌, length};
 ghost use Rattle.std.specs.List.{list_all, prefix_len};
 ghost use Rattle.std.specs.Char.{is_ascii_alphabetic, is_ascii_alphanumeric};
 ghost use Rattle.formula_tree.specs.Run.{is_word, after_dollar, address_at, corner_after, corner_of, truth_of, word_token, lone_token, ends_sheet_name, is_sheet_run, run_token};
-ghost use Rattle.formula_tree.specs.Token as tok;
 ghost use Rattle.formula_parse.specs.internal.Front.{token_of};
 
 use crate::front::{after_blanks, after_byte, begins_with, begins_with_blank};
@@ -19,7 +18,11 @@ pub(crate) fn run_token<'t>(run: &'t str, rest: &'t str) -> (Token<'t>, &'t str)
     if is_sheet_run(run.as_bytes(), rest.as_bytes()) {
         (Token::Sheet(run), after_byte(rest))
     } else if begins_with(after_blanks(rest).as_bytes(), b'(') {
-        (call_word(run), rest)
+        if is_word(run.as_bytes()) {
+            (Token::Word(run), rest)
+        } else {
+            (Token::Other(run), rest)
+        }
     } else {
         (lone_token(run), rest)
     }
@@ -40,17 +43,6 @@ fn is_sheet_run(run: &[u8], rest: &[u8]) -> bool
     ensures { result ≡ is_sheet_run run.now rest.now }
 {
     is_bare_name(run) && ends_sheet_name(rest)
-}
-
-// What a run is that `(` follows: a function's word where it has the form of one.
-fn call_word(run: &str) -> Token<'_>
-    ensures { token_of result ≡ (if is_word run.now then tok.Word run.now else tok.Other run.now) }
-{
-    if is_word(run.as_bytes()) {
-        Token::Word(run)
-    } else {
-        Token::Other(run)
-    }
 }
 
 // What a run is that stands alone: an address before it is anything else.

@@ -1,4 +1,8 @@
 // The tokens of formulas' texts, as they are read.
+ghost use Rattle.std.specs.Prelude.{◌≡◌};
+ghost use Rattle.formula_tree.specs.Token.{same_mark};
+ghost use Rattle.formula_parse.specs.internal.Front.{mark_token, symbol_token};
+
 use cell_value::FaultKind;
 use formula_tree::{Address, Op};
 
@@ -27,6 +31,13 @@ pub(crate) enum Token<'t> {
     Other(&'t str),
     /// What begins no token: nothing after it is read.
     Stray,
+    /// An operator, `%` or a mark.
+    Symbol(Symbol),
+}
+
+/// A token that is always written the same.
+#[derive(Clone, Copy, Debug)]
+pub(crate) enum Symbol {
     /// An operator; `+` and `-` may be signs too.
     Operator(Op),
     /// `%`
@@ -46,4 +57,16 @@ pub(crate) enum Mark {
     Open,
     /// `)`
     Close,
+}
+
+impl Symbol {
+    // Whether the symbol is this mark.
+    pub(crate) fn is(self, mark: Mark) -> bool
+        ensures { result ≡ same_mark (mark_token mark) (symbol_token self) }
+    {
+        match self {
+            Symbol::Mark(found) => found == mark,
+            Symbol::Operator(_) | Symbol::Percent => false,
+        }
+    }
 }

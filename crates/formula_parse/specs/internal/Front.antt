@@ -6,15 +6,22 @@ use Rattle.formula_tree.specs.Token as tok
 use Rattle.formula_tree.specs.Tokens.{Front, number_length, pair_op, sign_token, token_at}
 use Rattle.formula_parse.specs.declared.token.Mark.{Mark}
 use Rattle.formula_parse.specs.declared.token.Mark.TheVariants as marks
+use Rattle.formula_parse.specs.declared.token.Symbol.{Symbol}
+use Rattle.formula_parse.specs.declared.token.Symbol.TheVariants as symbols
 use Rattle.formula_parse.specs.declared.token.Token as program
 use Rattle.formula_parse.specs.declared.token.Token.TheVariants as pieces
 
--- the token of a mark
+-- the token that a mark or another symbol is
 abbrev pub mark_token : Mark → Token
 mark_token marks.Colon = tok.Colon
 mark_token marks.Comma = tok.Comma
 mark_token marks.Open = tok.Open
 mark_token marks.Close = tok.Close
+
+abbrev pub symbol_token : Symbol → Token
+symbol_token (symbols.Operator o) = tok.Operator o
+symbol_token symbols.Percent = tok.Percent
+symbol_token (symbols.Mark m) = mark_token m
 
 -- a text, or a sheet's name, by its content between quotes and what follows; a token that no production
 -- takes where no quote closes the content
@@ -39,19 +46,17 @@ token_of (pieces.Name name) = tok.Name name.now
 token_of (pieces.Word word) = tok.Word word.now
 token_of (pieces.Other run) = tok.Other run.now
 token_of pieces.Stray = tok.Other []
-token_of (pieces.Operator o) = tok.Operator o
-token_of pieces.Percent = tok.Percent
-token_of (pieces.Mark m) = mark_token m
+token_of (pieces.Symbol s) = symbol_token s
 
 -- the token that a text begins with, and what follows it
 abbrev pub front_of : List ℕ → Front
 front_of [] = None
 front_of (c ∷ cs) = token_at c cs
 
--- the operator, or the other sign, that a text begins with, and what follows it
-abbrev pub sign_of : List ℕ → Front
-sign_of [] = None
-sign_of (c ∷ cs) = sign_token (pair_op c cs) c cs
+-- the symbol that a text begins with, and what follows it
+abbrev pub symbol_of : List ℕ → Front
+symbol_of [] = None
+symbol_of (c ∷ cs) = sign_token (pair_op c cs) c cs
 
 -- the number that a text begins with, and what follows it
 abbrev pub number_front : List ℕ → Front

@@ -23,16 +23,16 @@ abbrev pub stream : List ℕ → List Token
 stream cs = stream_in (length cs + 1) cs
 
 -- an operator, or one of `%`, `:`, `,`, `(` and `)`
-abbrev pub is_sign : Token → Bool
-is_sign (tok.Operator o) = true
-is_sign tok.Percent = true
-is_sign tok.Colon = true
-is_sign tok.Comma = true
-is_sign tok.Open = true
-is_sign tok.Close = true
-is_sign token = false
+abbrev pub is_symbol : Token → Bool
+is_symbol (tok.Operator o) = true
+is_symbol tok.Percent = true
+is_symbol tok.Colon = true
+is_symbol tok.Comma = true
+is_symbol tok.Open = true
+is_symbol tok.Close = true
+is_symbol token = false
 
--- the sign in front, and the tokens after it
-abbrev pub sign_front : List Token → Option (Token × List Token)
-sign_front [] = None
-sign_front (token ∷ rest) = if is_sign token then Some (token, rest) else None
+-- the symbol in front, and the tokens after it
+abbrev pub symbol_front : List Token → Option (Token × List Token)
+symbol_front [] = None
+symbol_front (token ∷ rest) = if is_symbol token then Some (token, rest) else None
