@@ -34,7 +34,7 @@ abbrev pub AreFit : List Token → Type 0
 AreFit [] = Unit {0}
 AreFit (token ∷ tokens) = IsFit token × AreFit tokens
 
-abbrev FitFront : Front → Type 0
+abbrev pub FitFront : Front → Type 0
 FitFront None = Unit {0}
 FitFront (Some p) = IsFit p.0
 
@@ -138,7 +138,7 @@ front-cond : (b : Bool) (x y : Front) → (b ≡ true → FitFront x) → FitFro
 front-cond true x y h g = h refl
 front-cond false x y h g = g
 
-fit-token_at : (c : ℕ) (cs : List ℕ) → FitFront (token_at c cs)
+pub fit-token_at : (c : ℕ) (cs : List ℕ) → FitFront (token_at c cs)
 fit-token_at c cs =
     front-cond (begins_run c) _ _ (λ _. fit-run (take_while is_run_byte (c ∷ cs)) (after_while is_run_byte (c ∷ cs)))
     (front-cond (begins_number (c ∷ cs)) _ _ (λ h. fit-number c cs (number_length (c ∷ cs)) h)

@@ -10,6 +10,10 @@ pub mod LexedRuns
 pub mod CanonicalText
 pub mod Once
 pub mod SeenNodes
+pub mod ArgumentLists
+pub mod RelativeNodes
+pub mod EachCorner
+pub mod SeenFromHome
 pub mod TokenSteps
 pub mod FitTokens
 pub mod ProperTrees

@@ -5,6 +5,7 @@ use Rattle.std.specs.Option.{option_map}
 use Rattle.cell_addr.specs.Text.{capitals}
 use Rattle.fix_num.specs.declared.error.NumError.{NumError}
 use Rattle.fix_num.specs.Text.{number_of}
+use Rattle.formula_tree.specs.declared.operator.TheConstants.{MAX_LEVELS}
 use Rattle.formula_tree.specs.declared.reference.Corner.{Corner}
 use Rattle.formula_tree.specs.declared.operator.Sign.{Sign}
 use Rattle.formula_tree.specs.declared.address.Address.{Address}
@@ -125,7 +126,7 @@ read home find (suc levels) k tokens = and_then (first home find (read home find
 
 -- how many levels a formula's tree may have
 abbrev pub max_levels : ℕ
-max_levels = 64
+max_levels = MAX_LEVELS
 
 -- nothing stands behind the tree, and it has no more levels than it may
 abbrev pub whole_then : Term Corner → List Token → Option (Term Corner)

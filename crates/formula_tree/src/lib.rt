@@ -24,9 +24,9 @@ mod tests;
 
 pub use absolute::to_absolute;
 pub use address::Address;
-pub use link::{Link, names_of, places_of};
+pub use link::{Link, is_place_word, names_of, places_of};
 pub use node::{Node, Tree, TreeList, depth};
-pub use operator::{Op, Sign};
+pub use operator::{MAX_LEVELS, Op, PERCENT_LEVEL, SIGN_LEVEL, Sign};
 pub use plain::{Plain, PlainList};
 pub use pool::Pool;
 pub use reference::{Corner, Home, NO_LINE, Part, Ref, SheetPart};

@@ -39,7 +39,8 @@ impl Pool {
         ensures stands_for { IfOk result (λ shared. StandsFor shared home (seen tree.now)) }
     {
         let node = tree.seen_from(self.alloc, home)?;
-        let shared = Rc::new(self.alloc, node)?;
-        self.share(shared)
+        let own = Rc::new(self.alloc, node)?;
+        let shared = self.share(own)?;
+        Ok(shared)
     }
 }

@@ -25,6 +25,3 @@ mod session;
 mod sheet;
 
 pub use program::run;
-
-#[cfg(test)]
-mod tests;

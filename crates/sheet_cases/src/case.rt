@@ -1,0 +1,37 @@
+// Cases as files of TOML hold them.
+use serde::Deserialize;
+
+/// A file of cases.
+#[derive(Debug, Drop, Deserialize)]
+#[serde(deny_unknown_fields)]
+pub struct CaseFile {
+    pub case: Vec<Case>,
+}
+
+/// What a run is given, and what it must print.
+#[derive(Debug, Drop, Deserialize)]
+#[serde(deny_unknown_fields)]
+pub struct Case {
+    /// What the case shows.
+    pub shows: String,
+    /// The words of the command line.
+    #[serde(default)]
+    pub words: Vec<String>,
+    /// The text of the script.
+    pub script: String,
+    /// Whether the script's characters, none of them beyond U+00FF, are its bytes; else its bytes are
+    /// those of UTF-8.
+    #[serde(default)]
+    pub latin1: bool,
+    /// The numbers of the source's calls that fail, counted from 1.
+    #[serde(default)]
+    pub failing_reads: Vec<u64>,
+    /// The numbers of the sink's calls that fail, counted from 1.
+    #[serde(default)]
+    pub failing_writes: Vec<u64>,
+    /// What the run must print.
+    pub prints: String,
+    /// The status that the run must answer.
+    #[serde(default)]
+    pub status: u8,
+}

@@ -1,0 +1,136 @@
+//! Runs cases that are data: each has words, a script, what is printed and the status. The program
+//! takes the names of files of cases, runs each case through `sheet_cli::run` over streams in memory,
+//! and prints a line a case, each difference, and at the end how many cases it ran.
+//!
+//! ```toml
+//! [[case]]
+//! shows = "tenths add exactly"
+//! script = '''
+//! set,A1,=0.1+0.2
+//! value,A1
+//! '''
+//! prints = '''
+//! ok
+//! 0.3
+//! '''
+//! ```
+//!
+//! The status is 0 where every file could be read and no case differs, and else 1.
+#![tactic(auto)]
+
+mod case;
+mod tally;
+
+ghost use Rattle.std.specs.Prelude.{◌≡◌, ◌<◌};
+
+use case::{Case, CaseFile};
+use sheet_cli::outside::{MemSink, MemSource};
+use std::marker::Brand;
+use std::process::ExitCode;
+use std::sync::ledger::{Blank, Ledger};
+use std::{env, fs, io};
+use steps::Steps;
+use tally::Tally;
+
+fn main(rt: HostRuntime) -> ExitCode {
+    match run_files::<Brand>(&rt, Blank::new(1)) {
+        Ok(tally) if tally.is_clean() => ExitCode::SUCCESS,
+        Ok(_) => ExitCode::from(1),
+        Err(_) => ExitCode::from(2),
+    }
+}
+
+// Runs the cases of the files that the words behind the program's name name.
+fn run_files<L: Ledger>(rt: &HostRuntime, blank: Blank) -> io::Result<Tally>
+    requires name { blank.name ≡ L.name }
+    requires parts { blank.parts ≡ L.parts }
+    requires some { 0 < blank.parts }
+{
+    let mut steps = Steps::<L>::new(blank);
+    let mut tally = Tally::default();
+    let mut names = env::args(rt)?;
+    let _program = names.next();
+    'files: for name in names {
+        println!(rt; "{name}")?;
+        match cases_of(rt, &name) {
+            Ok(cases) => {
+                'cases: for case in cases {
+                    run_case(rt, case, &mut tally, &mut steps)?;
+                }
+            }
+            Err(cause) => {
+                tally.unreadable_files = tally.unreadable_files.saturating_add(1);
+                println!(rt; "    UNREADABLE: {cause}")?;
+            }
+        }
+    }
+    println!(rt; "{tally}")?;
+    Ok(tally)
+}
+
+// The cases of a file.
+fn cases_of(rt: &HostRuntime, name: &str) -> anyhow::Result<Vec<Case>> {
+    let text = fs::read_to_string(rt, name)?;
+    let file: CaseFile = toml::from_str(rt.alloc(), &text)?;
+    Ok(file.case)
+}
+
+// Runs a case, and prints whether it differs and where.
+fn run_case<L: Ledger>(
+    rt: &HostRuntime,
+    case: Case,
+    tally: &mut Tally,
+    steps: &mut Steps<L>,
+) -> io::Result<()> {
+    tally.cases = tally.cases.saturating_add(1);
+    let script = match script_bytes(rt, &case) {
+        Ok(script) => script,
+        Err(cause) => {
+            tally.differ = tally.differ.saturating_add(1);
+            return println!(rt; "    UNREADABLE: {}: {cause}", case.shows);
+        }
+    };
+    let mut input = MemSource::new(script, case.failing_reads);
+    let mut out = MemSink::new(rt.alloc(), case.failing_writes)?;
+    let status = sheet_cli::run(rt.alloc(), &case.words, &mut input, &mut out, steps);
+    if status == case.status && out.bytes() == case.prints.as_bytes() {
+        return println!(rt; "    {}", case.shows);
+    }
+    tally.differ = tally.differ.saturating_add(1);
+    println!(rt; "    DIFFERS: {}", case.shows)?;
+    if status != case.status {
+        println!(rt; "        status {status}, wanted {}", case.status)?;
+    }
+    match str::from_utf8(out.bytes()) {
+        Ok(printed) => print_differences(rt, printed, case.prints.as_str()),
+        Err(_) => println!(rt; "        what was printed isn't UTF-8"),
+    }
+}
+
+// The bytes of a case's script. An error where it should be one byte a character, and a character is
+// beyond U+00FF.
+fn script_bytes(rt: &HostRuntime, case: &Case) -> anyhow::Result<Vec<u8>> {
+    if !case.latin1 {
+        return Ok(Vec::from_slice(rt.alloc(), case.script.as_bytes())?);
+    }
+    let mut bytes = Vec::new(rt.alloc());
+    'characters: for c in case.script.chars() {
+        bytes.push(u8::try_from(u32::from(c))?)?;
+    }
+    Ok(bytes)
+}
+
+// Prints each line that isn't the wanted one, and those that are too many.
+fn print_differences(rt: &HostRuntime, printed: &str, wanted: &str) -> io::Result<()> {
+    let mut printed = printed.lines();
+    'lines: for (i, line) in wanted.lines().enumerate() {
+        let shown = printed.next().unwrap_or("(nothing)");
+        if shown != line {
+            println!(rt; "        line {i} is {shown}, wanted {line}")?;
+        }
+    }
+    'rest: for line in printed {
+        println!(rt; "        one line too many: {line}")?;
+    }
+    Ok(())
+}
