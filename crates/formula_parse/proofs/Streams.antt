@@ -1,5 +1,5 @@
 -- The tokens that are read from a text, one step at a time, with no count of steps. Serves the lexer.
-use Rattle.std.proofs.Common.{◌≡◌, ◌∙◌, sym, ap, refl, arith, ℕ, zero, suc, ◌+◌, ◌<◌, ◌≤◌, Bool, true, false, cond, ◌==◌, List, [], ◌∷◌, length, drop, Option, Some, None, option_map}
+use Rattle.std.proofs.Common.{◌≡◌, ◌∙◌, sym, ap, refl, arith, subst, ℕ, zero, suc, ◌+◌, ◌<◌, ◌≤◌, Bool, true, false, cond, ◌==◌, List, [], ◌∷◌, length, drop, Option, Some, None, option_map}
 use Rattle.std.specs.List.{prefix_len, take_while}
 use Rattle.std.proofs.lemmas.Bool.{cond-true, cond-false, eqb-true}
 use Rattle.formula_tree.specs.Token.{Token}
@@ -7,7 +7,8 @@ use Rattle.formula_tree.specs.Token as tok
 use Rattle.formula_tree.specs.Run.{is_blank, begins_run, is_run_byte, begins_with_any, after_while, run_token}
 use Rattle.formula_tree.specs.Tokens.{Front, token_at, and_tokens, tokens_of}
 use Rattle.formula_tree.proofs.TokenSteps.{Short, token_at-shorter, tokens_of-nil, tokens_of-step}
-use Rattle.formula_parse.specs.internal.Front.{front_of}
+use Rattle.formula_tree.proofs.FitTokens.{IsFit, FitFront, fit-token_at}
+use Rattle.formula_parse.specs.internal.Front.{HasAddressInside, front_of}
 use Rattle.formula_parse.specs.internal.Stream.{and_stream, stream_step, stream_in, stream}
 
 -- two ways of reading on that agree on shorter texts
@@ -85,6 +86,23 @@ stream-blank text rest r none = sym (stream-after_blanks text) ∙ ap stream (sy
 pub front_of-run : (cs run rest : List ℕ) → begins_with_any begins_run cs ≡ true → run ≡ take_while is_run_byte cs → rest ≡ after_while is_run_byte cs → front_of cs ≡ Some (run_token run rest)
 front_of-run [] run rest h e f = cc
 front_of-run (c ∷ cs) run rest h e f = rw (h, e, f) refl
+
+-- its address lies within the limits
+abbrev FrontInside : Front → Type 0
+FrontInside None = Unit {0}
+FrontInside (Some p) = HasAddressInside p.0
+
+fit-inside : (token : Token) → IsFit token → HasAddressInside token
+fit-inside (tok.Corner a) f = f
+fit-inside token f = tt
+
+front-inside : (front : Front) → FitFront front → FrontInside front
+front-inside None f = tt
+front-inside (Some p) f = fit-inside p.0 f
+
+pub front_of-inside : (cs : List ℕ) (token : Token) (rest : List ℕ) → Some (token, rest) ≡ front_of cs → HasAddressInside token
+front_of-inside [] token rest e = absurd (cc)
+front_of-inside (c ∷ cs) token rest e = subst FrontInside (sym e) (front-inside (token_at c cs) (fit-token_at c cs))
 
 -- a token that no production takes
 abbrev pub has_other : List Token → Bool

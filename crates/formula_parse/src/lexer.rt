@@ -1,13 +1,12 @@
 // The tokens of formulas' texts, read one at a time.
-ghost use Rattle.std.specs.Prelude.{◌≡◌, ◌≤◌, ◌<◌, ◌∷◌, [], Some, MatchOption, IfSome, length, take, drop};
+ghost use Rattle.std.specs.Prelude.{◌≡◌, ◌≤◌, ◌∷◌, [], Some, MatchOption, IfSome, length, take, drop};
 ghost use Rattle.std.specs.Option.{option_map, option_and_then};
 ghost use Rattle.std.specs.List.{find};
 ghost use Rattle.cell_addr.specs.Quoted.{quoted};
-ghost use Rattle.cell_addr.specs.declared.place.TheConstants.{ROWS, COLS};
 ghost use Rattle.cell_value.specs.Fault.{faults};
 ghost use Rattle.formula_tree.specs.Tokens.{decimals_length, number_length, begins_number, text_token, sheet_token, begins_with_fault, fault_token, byte_token, pair_op};
 ghost use Rattle.formula_tree.specs.Reader.{after, corner_front};
-ghost use Rattle.formula_parse.specs.internal.Front.{token_of, symbol_token, mark_token, front_of, symbol_of, number_front};
+ghost use Rattle.formula_parse.specs.internal.Front.{IsAddressInside, HasAddressInside, token_of, symbol_token, mark_token, front_of, symbol_of, number_front};
 ghost use Rattle.formula_parse.specs.internal.Stream.{stream, symbol_front};
 
 use crate::front::{
@@ -22,7 +21,8 @@ use formula_tree::{Address, Op};
 
 // The first token of the text, and what follows it; none where the text is blank.
 pub(crate) fn first_token(text: &str) -> Option<(Token<'_>, &str)>
-    ensures { MatchOption result (stream text.now ≡ []) (λ p. stream text.now ≡ token_of p.0 ∷ stream p.1.now) }
+    ensures token { MatchOption result (stream text.now ≡ []) (λ p. stream text.now ≡ token_of p.0 ∷ stream p.1.now) }
+    ensures inside { IfSome result (λ p. HasAddressInside (token_of p.0)) }
 {
     let text = after_blanks(text);
     if text.is_empty() {
@@ -52,13 +52,17 @@ pub(crate) fn after(mark: Mark, text: &str) -> Option<&str>
 }
 
 // The address that is the first token of the text, and what follows it.
+#[tactic(auto, using(crate::proofs::Corners::corner_rules))]
 pub(crate) fn first_corner(text: &str) -> Option<(Address, &str)>
     ensures front { option_map (λ p. (p.0, stream p.1.now)) result ≡ corner_front (stream text.now) }
-    ensures inside { IfSome result (λ p. (p.0.row < ROWS) × (p.0.col < COLS)) }
+    ensures inside { IfSome result (λ p. IsAddressInside p.0) }
 {
-    match first_token(text) {
-        Some((Token::Corner(address), rest)) => Some((address, rest)),
-        _ => None,
+    let (token, rest) = first_token(text)?;
+    match token {
+        Token::Corner(address) => Some((address, rest)),
+        Token::Number(_) | Token::Text(_) | Token::Truth(_) | Token::Fault(_) => None,
+        Token::Sheet(_) | Token::QuotedSheet(_) | Token::Name(_) | Token::Word(_) => None,
+        Token::Symbol(_) | Token::Other(_) | Token::Stray => None,
     }
 }
 

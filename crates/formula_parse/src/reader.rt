@@ -1,9 +1,7 @@
 // Trees read from texts, by operator precedence.
-ghost use Rattle.std.specs.Prelude.{◌≡◌, ◌<◌, [], length, IfOk};
+ghost use Rattle.std.specs.Prelude.{◌≡◌, [], length, IfOk};
 ghost use Rattle.std.specs.Option.{option_map, option_and_then};
 ghost use Rattle.cell_addr.specs.Sheets.{id_in};
-ghost use Rattle.cell_addr.specs.Quoted.{quoted};
-ghost use Rattle.cell_addr.specs.declared.place.TheConstants.{ROWS, COLS};
 ghost use Rattle.fix_num.specs.Text.{number_of};
 ghost use Rattle.formula_tree.specs.Term.{binary, percent};
 ghost use Rattle.formula_tree.specs.Reference.{base_of, sheet_of, corner_at, IsHomeInside};
@@ -12,6 +10,7 @@ ghost use Rattle.formula_tree.specs.Reader.{corner_front, number_then, reference
 ghost use Rattle.formula_tree.specs.Relative.{relative};
 ghost use Rattle.formula_tree.specs.StandsFor.{at_home};
 ghost use Rattle.formula_tree.specs.declared.reference.Home.{Home};
+ghost use Rattle.formula_parse.specs.internal.Front.{content_after, IsAddressInside};
 ghost use Rattle.formula_parse.specs.internal.Stream.{stream};
 ghost use Rattle.formula_parse.specs.internal.Tree.{tree_at, text_then, sheet_then};
 
@@ -95,6 +94,7 @@ struct Reader<'a, S: SheetNames> {
     ghost inside: { IsHomeInside home },
 }
 
+#[tactic(auto, using(crate::proofs::ReaderRules::reader_rules))]
 impl<'a, S: SheetNames> Reader<'a, S> {
     // A tree of a level of the grammar in front, of at most so many levels.
     #[cycle(tree)]
@@ -272,7 +272,7 @@ impl<'a, S: SheetNames> Reader<'a, S> {
                     rest = after;
                     continue;
                 }
-                _ => return Ok(Some((left, rest))),
+                Some((Symbol::Mark(_), _)) | None => return Ok(Some((left, rest))),
             }
         }
         Ok(None)
@@ -283,7 +283,7 @@ impl<'a, S: SheetNames> Reader<'a, S> {
     // A text between double quotes, by what follows the opening one.
     fn quoted<'t>(&self, after_quote: &str, rest: &'t str) -> Result<Read<'t>, AllocError>
         ensures { IfOk result (λ found. option_map (λ p. (tree_at self.now.home p.0, stream p.1.now)) found
-            ≡ text_then (quoted 34 after_quote.now) (stream rest.now)) }
+            ≡ text_then (content_after 34 after_quote.now) (stream rest.now)) }
     {
         let Some(content) = quoted_text(self.alloc, after_quote, '"')? else {
             return Ok(None);
@@ -298,7 +298,7 @@ impl<'a, S: SheetNames> Reader<'a, S> {
         rest: &'t str,
     ) -> Result<Read<'t>, AllocError>
         ensures { IfOk result (λ found. option_map (λ p. (tree_at self.now.home p.0, stream p.1.now)) found
-            ≡ sheet_then (id_in (S.sheets self.now.sheets.now)) (quoted 39 after_quote.now) (stream rest.now)) }
+            ≡ sheet_then (id_in (S.sheets self.now.sheets.now)) (content_after 39 after_quote.now) (stream rest.now)) }
     {
         let Some(name) = quoted_text(self.alloc, after_quote, '\'')? else {
             return Ok(None);
@@ -316,7 +316,7 @@ impl<'a, S: SheetNames> Reader<'a, S> {
 
     // A reference, or a block where a colon follows.
     fn reference<'t>(&self, sheet: Option<u32>, a: Address, text: &'t str) -> Read<'t>
-        requires { (a.row < ROWS) × (a.col < COLS) }
+        requires { IsAddressInside a }
         ensures { option_map (λ p. (tree_at self.now.home p.0, stream p.1.now)) result ≡ reference sheet (a, stream text.now) }
     {
         match after(Mark::Colon, text) {
@@ -330,7 +330,7 @@ impl<'a, S: SheetNames> Reader<'a, S> {
 
     // A reference to a cell on a sheet, or the fault `#REF!` where there is no such sheet.
     fn cell_on(&self, sheet: Option<u32>, a: Address) -> Node
-        requires { (a.row < ROWS) × (a.col < COLS) }
+        requires { IsAddressInside a }
         ensures { tree_at self.now.home result ≡ cell_on sheet a }
     {
         match sheet {
@@ -341,8 +341,8 @@ impl<'a, S: SheetNames> Reader<'a, S> {
 
     // A block between two addresses on a sheet, its corners in order.
     fn area_on(&self, sheet: Option<u32>, a: Address, b: Address) -> Node
-        requires first { (a.row < ROWS) × (a.col < COLS) }
-        requires last { (b.row < ROWS) × (b.col < COLS) }
+        requires first { IsAddressInside a }
+        requires last { IsAddressInside b }
         ensures { tree_at self.now.home result ≡ area_on sheet a b }
     {
         match sheet {
@@ -355,7 +355,7 @@ impl<'a, S: SheetNames> Reader<'a, S> {
 
     // How the address on a sheet is seen from the home.
     fn seen(&self, sheet: u32, a: Address) -> Ref
-        requires { (a.row < ROWS) × (a.col < COLS) }
+        requires { IsAddressInside a }
         ensures { corner_at (base_of self.now.home) result ≡ placed sheet a }
     {
         Ref::of(placed(sheet, a), self.home)

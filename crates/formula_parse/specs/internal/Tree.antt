@@ -14,11 +14,11 @@ abbrev pub tree_at : Home → Node → Term Corner
 tree_at home node = at_home home (relative node)
 
 -- a text, by its content between quotes
-abbrev pub text_then : Option (List ℕ × List ℕ) → List Token → Read
+abbrev pub text_then : Option (List ℕ) → List Token → Read
 text_then None rest = None
-text_then (Some (content, after)) rest = Some (text content, rest)
+text_then (Some content) rest = Some (text content, rest)
 
 -- a reference after a sheet's name, by the name between apostrophes
-abbrev pub sheet_then : (List ℕ → Option ℕ) → Option (List ℕ × List ℕ) → List Token → Read
+abbrev pub sheet_then : (List ℕ → Option ℕ) → Option (List ℕ) → List Token → Read
 sheet_then find None rest = None
-sheet_then find (Some (name, after)) rest = option_and_then (reference (find name)) (corner_front rest)
+sheet_then find (Some name) rest = option_and_then (reference (find name)) (corner_front rest)
