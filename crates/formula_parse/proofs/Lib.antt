@@ -4,4 +4,6 @@ pub mod Symbols
 pub mod Corners
 pub mod ReaderRules
 pub mod ReaderLoops
+pub mod SpeltTokens
+pub mod ReadTexts
 pub mod CanonicalRead

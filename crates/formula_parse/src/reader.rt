@@ -406,7 +406,7 @@ pub(crate) fn tree_of<S: SheetNames>(
     let Some((tree, rest)) = reader.tree(MAX_LEVELS, 0, text)? else {
         return Ok(None);
     };
-    if first_token(rest).is_some() {
+    if let Some((_, _)) = first_token(rest) {
         return Ok(None);
     }
     let tree = Rc::new(alloc, tree)?;
