@@ -24,7 +24,7 @@ use Rattle.cell_values.specs.Workbook as content
 use Rattle.cell_values.specs.Meaning.{combined, hundredth, meaning, signed_value}
 use Rattle.cell_values.specs.Needs.{mentions, needs_place}
 use Rattle.cell_values.specs.Values.{worked_out, is_formula, network, is_bad, value_at}
-use Rattle.value_network.proofs.FollowedNeeds.{cycles_return, stuck_leads_to_cycle}
+use Rattle.value_network.proofs.FollowedNeeds.{stuck_returns}
 use Rattle.cell_values.proofs.Books.{same_at}
 use Rattle.cell_values.specs.Laws.{BadPlacesLeadToCycles, ValuesUnfold, NothingElseUnfolds}
 
@@ -126,12 +126,7 @@ nothing_else_unfolds b shown unfold_there p = unique_everywhere (network b) (boo
 
 -- the places that show #CYCLE! by themselves lead to one on a cycle
 pub bad_places_lead_to_cycles : BadPlacesLeadToCycles
-bad_places_lead_to_cycles b p =
-    let stuck = stuck_leads_to_cycle (network b) (book_is_network b) p in
-    let returns = cycles_return (network b) (book_is_network b) in (
-      λ bad. let s = stuck.0 bad in (s.0, (returns s.0).0 s.1, s.2),
-      λ s. stuck.1 (s.0, (returns s.0).1 s.1, s.2),
-    )
+bad_places_lead_to_cycles b p = stuck_returns (network b) (book_is_network b) p
 
 -- a place without a cell isn't bad, and shows nothing
 pub empty_is_good : (b : Book) (p : Place) → get b p ≡ None → is_bad b p ≡ false
