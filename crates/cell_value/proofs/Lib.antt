@@ -1,1 +1,3 @@
+pub mod Spread
+pub mod Summaries
 pub mod TotalOrder

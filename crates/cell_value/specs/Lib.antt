@@ -1,4 +1,7 @@
+pub mod Cells
 pub mod Fault
+pub mod Filled
 pub mod Laws
-pub mod Same
 pub mod Scalar
+pub mod Summary
+pub mod internal

@@ -1,7 +1,7 @@
 -- The values of cells: how a value of one kind becomes another kind, what a person sees of it, and
 -- the order of all values. Source: OpenFormula's conversions and comparisons; that texts fold ASCII
 -- letters alone, and that numbers stand before texts before truth values, is this project's own.
-use Rattle.std.specs.Prelude.{ℕ, ℤ, pos, Bool, true, false, not, if◌then◌else◌, List, [], Result, Ok, Err, codes, bytes_eq}
+use Rattle.std.specs.Prelude.{ℕ, ◌==◌, nat_le, length, ℤ, pos, Bool, true, false, not, if◌then◌else◌, List, [], Result, Ok, Err, codes, bytes_eq}
 use Rattle.std.specs.declared.cmp.Ordering.{Ordering}
 use Rattle.std.specs.Bool.{beq}
 use Rattle.std.specs.Ordering.{nat_cmp, int_cmp, int_eq, bool_cmp}
@@ -9,15 +9,22 @@ use Rattle.std.specs.Cmp.Lexicographic.{slice_cmp}
 use Rattle.cell_addr.specs.Text.{folded}
 use Rattle.fix_num.specs.declared.error.NumError.{NumError}
 use Rattle.fix_num.specs.Text.{number_of, text_of}
+use Rattle.fix_num.specs.declared.number.TheConstants.{ONE}
 use Rattle.cell_value.specs.declared.fault.FaultKind.{FaultKind}
 use Rattle.cell_value.specs.declared.fault.FaultKind.TheVariants as fault
 use Rattle.cell_value.specs.declared.scalar.Scalar.{Scalar}
+use Rattle.cell_value.specs.declared.scalar.TheConstants.{MAX_MADE_TEXT}
 use Rattle.cell_value.specs.declared.scalar.Scalar.TheVariants.{Empty, Number, Text, Truth, Fault}
 use Rattle.cell_value.specs.Fault.{fault_of_error, fault_text, spells}
 
+-- the value is that of a cell without content
+abbrev pub is_empty : Scalar → Bool
+is_empty Empty = true
+is_empty _ = false
+
 -- TRUE as a number is 1 and FALSE 0, in millionths
 abbrev pub truth_number : Bool → ℤ
-truth_number true = pos 1000000
+truth_number true = pos ONE
 truth_number false = pos 0
 
 -- the value of a calculation: its number, or the fault that it failed by
@@ -71,6 +78,10 @@ abbrev pub to_text : Scalar → Scalar
 to_text (Fault fault) = Fault fault
 to_text x = Text (shown_text x)
 
+-- a text that a formula made, as a value: a longer one is #VALUE!
+abbrev pub made_text : List ℕ → Scalar
+made_text text = if nat_le (length text) MAX_MADE_TEXT then Text text else Fault fault.Value
+
 -- what a value counts as beside another: nothing is 0, beside a text the text of no characters, and
 -- beside a truth value FALSE
 abbrev pub beside : Scalar → Scalar → Scalar
@@ -88,6 +99,10 @@ kind_rank (Number _) = 1
 kind_rank (Text _) = 2
 kind_rank (Truth _) = 3
 kind_rank (Fault _) = 4
+
+-- the two values are of one kind
+abbrev pub same_kind : Scalar → Scalar → Bool
+same_kind a b = kind_rank a == kind_rank b
 
 -- the order of texts: by their bytes, with ASCII capitals made small
 abbrev pub text_order : List ℕ → List ℕ → Ordering

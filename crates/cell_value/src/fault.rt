@@ -29,6 +29,18 @@ pub enum FaultKind {
 }
 
 impl FaultKind {
+    /// All faults.
+    pub const ALL: [FaultKind; 8] = [
+        FaultKind::Div0,
+        FaultKind::Name,
+        FaultKind::Value,
+        FaultKind::Num,
+        FaultKind::Na,
+        FaultKind::Cycle,
+        FaultKind::Ref,
+        FaultKind::Error,
+    ];
+
     /// The spelling, as `#DIV/0!`. Source: OpenFormula; `#CYCLE!` and `#ERROR!` are HyperFormula's.
     pub fn text(self) -> &'static str
         ensures { result.now ≡ fault_text self }
@@ -49,17 +61,7 @@ impl FaultKind {
     pub fn named(text: &str) -> Option<FaultKind>
         ensures { result ≡ fault_named text.now }
     {
-        let faults = [
-            FaultKind::Div0,
-            FaultKind::Name,
-            FaultKind::Value,
-            FaultKind::Num,
-            FaultKind::Na,
-            FaultKind::Cycle,
-            FaultKind::Ref,
-            FaultKind::Error,
-        ];
-        faults
+        FaultKind::ALL
             .iter()
             .copied()
             .find(|fault| same_folded(text, fault.text()))

@@ -1,6 +1,7 @@
-// Laws of the order of values and of their coercions. The functions do nothing: what each ensures
+// Laws of the order of values, of their coercions and of their summaries. The functions do nothing: what each ensures
 // is the law.
 ghost use Rattle.cell_value.specs.Laws.{ValuesAreOrdered, EachTwoCompare, EmptyIsOrderedInAKind, EmptyIsInNoOrder, NotAllAreOrdered, NumbersCompareBySize, TextsAreEqualWhenFolded, KindsAreInOrder, FaultsDecide, SameAreEqual, FaultsAreNamedBySpelling, NumbersAreReadBack, TruthsAreReadBack};
+ghost use Rattle.cell_value.specs.Summary.{SummariesJoin};
 
 /// Numbers, texts and truth values together are in one total order.
 pub fn values_are_ordered()
@@ -52,6 +53,11 @@ pub fn same_are_equal()
 /// A text names a fault exactly where it is its spelling, with letters in any case.
 pub fn faults_are_named_by_spelling()
     ensures { FaultsAreNamedBySpelling }
+{}
+
+/// The summary of two lists of values after each other joins those of both.
+pub fn summaries_join()
+    ensures { SummariesJoin }
 {}
 
 /// The text of a number or of a truth value is read back as what it was.

@@ -1,6 +1,6 @@
 // How texts compare, and values of all kinds.
 ghost use Rattle.std.specs.Prelude.{◌≡◌};
-ghost use Rattle.cell_value.specs.Scalar.{counted_order, kind_rank, order_of, text_order};
+ghost use Rattle.cell_value.specs.Scalar.{counted_order, kind_rank, order_of, same_kind, text_order};
 
 use crate::fault::FaultKind;
 use crate::scalar::Scalar;
@@ -38,7 +38,7 @@ impl Scalar {
         }
     }
 
-    /// How the values compare where neither is a fault.
+    // How the values compare where neither is a fault.
     fn order(&self, other: &Scalar) -> Ordering
         ensures { result ≡ counted_order self.now other.now }
     {
@@ -56,7 +56,15 @@ impl Scalar {
         }
     }
 
-    /// The place of the value's kind in the order.
+    /// Whether the values are of one kind: both numbers, both texts, both truth values, both faults
+    /// or both empty.
+    pub fn is_same_kind(&self, other: &Scalar) -> bool
+        ensures { result ≡ same_kind self.now other.now }
+    {
+        self.kind_rank() == other.kind_rank()
+    }
+
+    // The place of the value's kind in the order.
     fn kind_rank(&self) -> u8
         ensures { result ≡ kind_rank self.now }
     {

@@ -1,13 +1,16 @@
 // The values of cells, their coercions and their order.
 ghost use Rattle.std.specs.Prelude.{◌≡◌, IfOk};
 ghost use Rattle.std.specs.Cmp.{partial_equiv_from_equiv};
-ghost use Rattle.cell_value.specs.Scalar.{read_truth, same_value, scalar_of, shown_text, to_number, to_text, to_truth, truth_text};
-ghost use Rattle.cell_value.specs.Same.{same_value_equiv};
+ghost use Rattle.cell_value.specs.Scalar.{is_empty, made_text, read_truth, same_value, scalar_of, shown_text, to_number, to_text, to_truth, truth_text};
+ghost use Rattle.cell_value.specs.internal.Same.{same_value_equiv};
 
 use crate::fault::FaultKind;
 use cell_addr::{Text, same_folded};
 use fix_num::{Fixed, NumError};
 use std::alloc::{AllocError, Global};
+
+/// The most bytes of a text that a formula makes. This project's own limit.
+pub const MAX_MADE_TEXT: usize = 32_768;
 
 /// The value of a cell, or of a part of a formula.
 #[derive(Drop, Debug)]
@@ -25,6 +28,13 @@ pub enum Scalar {
 }
 
 impl Scalar {
+    /// Whether the value is that of a cell without content.
+    pub fn is_empty(&self) -> bool
+        ensures { result ≡ is_empty self.now }
+    {
+        matches!(self, Scalar::Empty)
+    }
+
     /// The value as a number: nothing is 0, TRUE is 1 and FALSE 0, and a text is the number that it
     /// spells.
     ///
@@ -82,6 +92,17 @@ impl Scalar {
         }
     }
 
+    /// A text that a formula made as a value, or `Value` where it has more than 32,768 bytes.
+    pub fn made_text(text: Text) -> Scalar
+        ensures { result ≡ made_text text }
+    {
+        if text.as_bytes().len() <= MAX_MADE_TEXT {
+            Scalar::Text(text)
+        } else {
+            Scalar::Fault(FaultKind::Value)
+        }
+    }
+
     /// An equal value.
     pub fn copy(&self, alloc: Global) -> Result<Scalar, AllocError>
         ensures { IfOk result (λ copy. copy ≡ self.now) }
@@ -96,14 +117,14 @@ impl Scalar {
     }
 }
 
-/// How a truth value is spelled.
+// How a truth value is spelled.
 fn truth_text(truth: bool) -> &'static str
     ensures { result.now ≡ truth_text truth }
 {
     if truth { "TRUE" } else { "FALSE" }
 }
 
-/// The truth value that the text spells, with letters in any case, or else `Value`.
+// The truth value that the text spells, with letters in any case, or else `Value`.
 fn read_truth(text: &str) -> Result<bool, FaultKind>
     ensures { result ≡ read_truth text.now }
 {

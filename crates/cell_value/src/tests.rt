@@ -1,4 +1,4 @@
-use crate::{FaultKind, Scalar, compare_texts};
+use crate::{Area, FaultKind, MAX_MADE_TEXT, Scalar, Summary, compare_texts};
 use cell_addr::Text;
 use fix_num::{Fixed, NumError};
 use std::alloc::{AllocError, Global};
@@ -248,5 +248,41 @@ fn faults_before_orders(rt: HostRuntime) -> Result<(), Fail> {
         let right = value(rt.alloc(), b)?;
         assert!(rt; left.compare(&right) == Err(*fault), "{a} and {b}");
     }
+    Ok(())
+}
+
+#[test]
+fn cells_of_areas(rt: HostRuntime) -> Result<(), Fail> {
+    let mut area = Area::new(rt.alloc(), 2, 3);
+    area.push(0, 1, value(rt.alloc(), "-2")?)?;
+    area.push(1, 2, value(rt.alloc(), "'7")?)?;
+    assert!(rt; area.filled().len() == 2);
+    assert!(rt; area.value(0, 1) == Some(&value(rt.alloc(), "-2")?));
+    assert!(rt; area.value(1, 1) == None);
+    assert!(rt; area.value(1, 2) == Some(&value(rt.alloc(), "'7")?));
+    Ok(())
+}
+
+#[test]
+fn summaries_of_values(rt: HostRuntime) -> Result<(), Fail> {
+    let least = Summary::of(&value(rt.alloc(), "-2")?);
+    let fault = Summary::of(&value(rt.alloc(), "#N/A")?);
+    let both = least.join(&fault);
+    assert!(rt; both.count == 1 && both.sum == -2_000_000);
+    assert!(rt; both.fault == Some(FaultKind::Na));
+    assert!(rt; both.least == both.greatest);
+    Ok(())
+}
+
+#[test]
+fn made_texts(rt: HostRuntime) -> Result<(), Fail> {
+    let mut content = String::new(rt.alloc());
+    for _ in 0..MAX_MADE_TEXT {
+        content.push('x')?;
+    }
+    let most = Scalar::made_text(Text::from_str(rt.alloc(), content.as_str())?);
+    assert!(rt; most.shown(rt.alloc())?.as_bytes().len() == MAX_MADE_TEXT);
+    content.push('x')?;
+    assert!(rt; Scalar::made_text(Text::new(content)) == Scalar::Fault(FaultKind::Value));
     Ok(())
 }

@@ -6,3 +6,4 @@ pub mod Waits
 pub mod Releases
 pub mod ValueSteps
 pub mod NodeNumbers
+pub mod LinkedPlaces

@@ -8,8 +8,8 @@ use Rattle.std.proofs.lemmas.Bool.Decides.{nat_tests, eqb_tells}
 use Rattle.std.proofs.lemmas.List.{map-set, map-append, length-map, get_or-set_same, get_or-set_other, get_or_append_left}
 use Rattle.std.proofs.lemmas.List.Folds.{list_any-append, list_any_at}
 use Rattle.std.proofs.Math.Seq.{get_or-append_seam}
-use Rattle.cell_values.specs.Order.{has, list_at, ComesBehindNeeds}
-use Rattle.cell_values.specs.Progress.{left}
+use Rattle.cell_values.specs.internal.Order.{has, list_at, ComesBehindNeeds}
+use Rattle.cell_values.specs.internal.Progress.{left}
 
 -- a list has what either part has
 pub has-append : (i : ℕ) (xs ys : List ℕ) → has i (xs ++ ys) ≡ (has i xs || has i ys)

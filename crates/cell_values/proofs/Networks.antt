@@ -13,9 +13,9 @@ use Rattle.cell_addr.proofs.Places.{place_cmp-IsAntisymmetric}
 use Rattle.cell_value.specs.declared.scalar.Scalar.{Scalar}
 use Rattle.cell_value.specs.declared.scalar.Scalar.TheVariants.{Empty}
 use Rattle.formula_tree.specs.Term.{Term, number, text, truth, fault, cell, area, name, prefix, percent, binary, call, paren}
-use Rattle.formula_tree.specs.Links.{same_place}
+use Rattle.cell_addr.specs.Place.{same_place}
 use Rattle.formula_tree.specs.declared.reference.Corner.{Corner}
-use Rattle.value_network.specs.Network.{IsNetwork}
+use Rattle.value_network.specs.Network.{IsNetwork, at_once}
 use Rattle.value_network.proofs.LeftOver.{free_by_needs}
 use Rattle.value_network.proofs.Stuck.{stuck_covers}
 use Rattle.value_network.proofs.Values.{unfolds, unique_everywhere, value-good}
@@ -24,7 +24,9 @@ use Rattle.cell_values.specs.Workbook as content
 use Rattle.cell_values.specs.Meaning.{combined, hundredth, meaning, signed_value}
 use Rattle.cell_values.specs.Needs.{mentions, needs_place}
 use Rattle.cell_values.specs.Values.{worked_out, is_formula, network, is_bad, value_at}
-use Rattle.cell_values.specs.Laws.{ValuesUnfold, NothingElseUnfolds}
+use Rattle.value_network.proofs.FollowedNeeds.{stuck_returns}
+use Rattle.cell_values.proofs.Books.{same_at}
+use Rattle.cell_values.specs.Laws.{BadPlacesLeadToCycles, ValuesUnfold, NothingElseUnfolds}
 
 all_three : (a b c : Bool) → (a && (b && c)) ≡ true → (a ≡ true) × (b ≡ true) × (c ≡ true)
 all_three true true true h = (refl, refl, refl)
@@ -81,11 +83,6 @@ needing (Some (content.text t)) q h = absurd (false≢true h)
 needing (Some (content.formula t)) q h = (content.formula t, refl, refl)
 needing (Some (content.unreadable t)) q h = absurd (false≢true h)
 
-equal : (r : Ordering) → is_eq r ≡ true → r ≡ Equal
-equal Less h = absurd (false≢true h)
-equal Equal h = refl
-equal Greater h = absurd (false≢true h)
-
 -- the places with formulas among these entries
 abbrev formula_places : List (Place × Content) → List Place
 formula_places es = map (λ e. e.0) (filter (λ e. is_formula e.1) es)
@@ -107,7 +104,7 @@ listed (e ∷ es) p c found f = ⊎_elim
     (λ (here : is_eq (place_cmp p e.0) ≡ true).
     let first : Some e.1 ≡ Some c = sym (ap (λ b. cond b (Some e.1) (find place_cmp p es)) here) ∙ found in
     let is : e.1 ≡ c = cc in
-    listed_first p e es (place_cmp-IsAntisymmetric p e.0 (equal (place_cmp p e.0) here)) (ap is_formula is ∙ f))
+    listed_first p e es (same_at p e.0 here) (ap is_formula is ∙ f))
     (λ (there : is_eq (place_cmp p e.0) ≡ false). listed_later p e es (is_formula e.1) (listed es p c (sym (ap (λ b. cond b (Some e.1) (find place_cmp p es)) there) ∙ found) f))
     (cases_Bool (is_eq (place_cmp p e.0)))
 
@@ -116,7 +113,7 @@ book_is_network b = record {
   same_equal = same_place_equal;
   same_self = same_place_self;
   needs_formula = λ p q h. let f = needing (get b p) q h in listed (entries b) p f.0 (sym (get-entries b p) ∙ f.1) f.2;
-  reads_needs = λ p v w alike. worked_out_reads (get b p) v w alike;
+  reads_needs = λ p v w alike. worked_out_reads (get b p) v w (λ q need. alike q (at_once need));
 }
 
 -- each cell shows what it works out from what the others show, or that it is on a cycle or behind one
@@ -126,6 +123,10 @@ values_unfold b p = unfolds (network b) (book_is_network b) (is_bad b) (stuck_co
 -- and nothing else does
 pub nothing_else_unfolds : NothingElseUnfolds
 nothing_else_unfolds b shown unfold_there p = unique_everywhere (network b) (book_is_network b) (is_bad b) (stuck_covers (network b) (book_is_network b)) shown unfold_there p
+
+-- the places that show #CYCLE! by themselves lead to one on a cycle
+pub bad_places_lead_to_cycles : BadPlacesLeadToCycles
+bad_places_lead_to_cycles b p = stuck_returns (network b) (book_is_network b) p
 
 -- a place without a cell isn't bad, and shows nothing
 pub empty_is_good : (b : Book) (p : Place) → get b p ≡ None → is_bad b p ≡ false

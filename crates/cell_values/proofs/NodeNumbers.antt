@@ -14,25 +14,25 @@ use Rattle.std.proofs.lemmas.List.{length_push, get_or_push, get_or_append_left}
 use Rattle.cell_addr.specs.Order.{place_cmp}
 use Rattle.cell_addr.specs.declared.place.Place.{Place}
 use Rattle.cell_addr.proofs.Places.{place_cmp-IsTotalOrder, place_cmp-IsAntisymmetric}
-use Rattle.formula_tree.specs.Links.{same_place}
+use Rattle.cell_addr.specs.Place.{same_place}
 use Rattle.std.specs.FinMap.{get}
 use Rattle.std.specs.declared.alloc.Global.{Global}
 use Rattle.std.specs.declared.vec.Vec.{Vec}
-use Rattle.formula_tree.specs.Links.{is_reference}
-use Rattle.formula_tree.specs.Term.{Term, Terms, term}
+use Rattle.formula_tree.specs.Term.{Term, Terms, term, is_reference}
 use Rattle.formula_tree.specs.declared.reference.Corner.{Corner}
-use Rattle.formula_tree.specs.declared.plain.Plain.{Plain}
+use Rattle.formula_tree.specs.declared.node.Node.{Node}
+use Rattle.std.specs.declared.rc.Rc.{Rc}
 use Rattle.cell_values.specs.declared.workbook.Cell.{Cell}
 use Rattle.cell_values.specs.declared.workbook.Cell.TheVariants as cell
 use Rattle.cell_values.specs.declared.workbook.Workbook.{Workbook}
-use Rattle.cell_values.specs.Workbook.{Book, Content, content, book_of}
+use Rattle.cell_values.specs.Workbook.{Book, Content, content_at, book_of}
 use Rattle.cell_values.specs.Workbook as content
 use Rattle.cell_values.specs.Needs.{mentions, mentions_any, needs_place}
-use Rattle.cell_values.specs.Order.{has, list_at}
-use Rattle.cell_values.specs.Shown.{number_at, AddsNeeds, SaysNeeds, NumbersAll}
+use Rattle.cell_values.specs.internal.Order.{has, list_at}
+use Rattle.cell_values.specs.internal.Shown.{number_at, AddsNeeds, SaysNeeds, NumbersAll}
 use Rattle.cell_values.specs.declared.nodes.Nodes.{Nodes}
 use Rattle.std.specs.Cmp.{eq_by_cmp_equiv}
-use Rattle.cell_values.proofs.Books.{get-contents}
+use Rattle.cell_values.proofs.Books.{same_at, get-contents}
 use Rattle.cell_values.proofs.Lists.{has-append, has-append_left, has-append_right, has_first, nat_eq_equal, list_at-first, list_at-last}
 use Rattle.cell_values.proofs.Networks.{same_place_equal, same_place_self}
 use Rattle.cell_values.proofs.ValueSteps.{origin}
@@ -100,11 +100,6 @@ pub record AddsAmong (test : Place → Bool) (es : List (Place × ℕ)) (old new
   pub found : (q : Place) (j : ℕ) → test q ≡ true → lookup (is_at (place_cmp q)) es ≡ Some j → has j new ≡ true
   pub only : (j : ℕ) → has j new ≡ true → (has j old ≡ true) ⊎ ((q : Place) × (test q ≡ true) × (lookup (is_at (place_cmp q)) es ≡ Some j))
 
-equal : (r : Ordering) → is_eq r ≡ true → r ≡ Equal
-equal Less h = absurd (false≢true h)
-equal Equal h = refl
-equal Greater h = absurd (false≢true h)
-
 not_at_above : (q p : Place) → place_cmp p q ≡ Less → is_at (place_cmp q) p ≡ false
 not_at_above q p above = ap is_eq (place_cmp-IsTotalOrder.antisymm q p ∙ ap ordering_reverse above)
 
@@ -131,7 +126,7 @@ module _ {X : Type 0} where
       last : (b : Bool) → is_at (place_cmp q) e.0 ≡ b → cond b (Some e.1) None ≡ Some x → (None ≡ Some x) ⊎ ((q ≡ e.0) × (e.1 ≡ x))
       last true is k =
           let value : e.1 ≡ x = cc in
-          inr (place_cmp-IsAntisymmetric q e.0 (equal (place_cmp q e.0) is), value)
+          inr (same_at q e.0 is, value)
       last false is k = inl k
   among_more (d ∷ es) e q x h = later (is_at (place_cmp q) d.0) (among_more es e q x) h
     where
@@ -248,18 +243,18 @@ no_formula_adds nodes (Some (content.formula t)) list plain = absurd (plain t re
 no_formula_adds nodes (Some (content.unreadable w)) list plain = adds_no_place nodes list
 
 -- only a cell with a formula holds one
-holds_formula : (k : Cell) (t : Term Corner) → content k ≡ content.formula t → (tree : Plain) × (k ≡ cell.Formula tree)
-holds_formula (cell.Number m) t h = cc
-holds_formula (cell.Truth b) t h = cc
-holds_formula (cell.Text w) t h = cc
-holds_formula (cell.Formula tree) t h = (tree, refl)
-holds_formula (cell.Broken w) t h = cc
+holds_formula : (at : Place) (k : Cell) (t : Term Corner) → content_at at k ≡ content.formula t → (tree : Rc Node Global) × (k ≡ cell.Formula tree)
+holds_formula at (cell.Number m) t h = cc
+holds_formula at (cell.Truth b) t h = cc
+holds_formula at (cell.Text w) t h = cc
+holds_formula at (cell.Formula tree) t h = (tree, refl)
+holds_formula at (cell.Broken w) t h = cc
 
-pub formula_behind : (r : Option (Bor Cell)) (t : Term Corner) → option_map (λ k. content k.now) r ≡ Some (content.formula t) → (x : Bor Cell) × (tree : Plain) × (r ≡ Some x) × (x.now ≡ cell.Formula tree)
-formula_behind None t h = cc
-formula_behind (Some x) t h =
-    let same : content x.now ≡ content.formula t = cc in
-    let held = holds_formula x.now t same in
+pub formula_there : (at : Place) (r : Option (Bor Cell)) (t : Term Corner) → option_map (λ k. content_at at k.now) r ≡ Some (content.formula t) → (x : Bor Cell) × (tree : Rc Node Global) × (r ≡ Some x) × (x.now ≡ cell.Formula tree)
+formula_there at None t h = cc
+formula_there at (Some x) t h =
+    let same : content_at at x.now ≡ content.formula t = cc in
+    let held = holds_formula at x.now t same in
     (x, held.0, refl, held.1)
 
 -- the cells gone by have their numbers
@@ -282,7 +277,7 @@ numbers_more done places old new e n count numbers changed = record {
       let number : Some n ≡ Some i = sym (ap (λ b. cond b (Some n) (old q)) here) ∙ sym (changed q) ∙ is in
       let same : n ≡ i = cc in
       let longer = length_push places e.0 in
-      (omega (arith, same, count, longer), λ d. get_or_push places e.0 d i (count ∙ same) ∙ place_cmp-IsAntisymmetric e.0 q (equal (place_cmp e.0 q) here)))
+      (omega (arith, same, count, longer), λ d. get_or_push places e.0 d i (count ∙ same) ∙ same_at e.0 q here))
       (λ (there : is_at (place_cmp e.0) q ≡ false).
       let before = numbers.numbered q i (sym (changed q ∙ ap (λ b. cond b (Some n) (old q)) there) ∙ is) in
       let inside = before.0 in
@@ -301,5 +296,5 @@ numbers_more done places old new e n count numbers changed = record {
 pub numbers_all : (w : Workbook) (nodes : Nodes) → NumbersDone w.cells.entries nodes.places.items (number_at nodes) → NumbersAll (book_of w) nodes
 numbers_all w nodes numbers = record {
   numbered = numbers.numbered;
-  filled = λ q none. get-contents w.cells.entries q ∙ ap (option_map content) (numbers.filled q none);
+  filled = λ q none. get-contents w.cells.entries q ∙ ap (option_map (content_at q)) (numbers.filled q none);
 }

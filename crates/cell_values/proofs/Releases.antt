@@ -8,8 +8,8 @@ use Rattle.std.proofs.lemmas.Bool.Decides.{nat_tests}
 use Rattle.std.proofs.lemmas.List.{append-nil, append_assoc, take-append-le, take-append-drop, take_all}
 use Rattle.std.proofs.lemmas.List.Folds.{list_any_more}
 use Rattle.cell_values.specs.declared.order.Progress.{Progress}
-use Rattle.cell_values.specs.Order.{has, list_at, OthersNeedOthers}
-use Rattle.cell_values.specs.Progress.{IsSound, Waits, IsCovered, Tries, Releases}
+use Rattle.cell_values.specs.internal.Order.{has, list_at, OthersNeedOthers}
+use Rattle.cell_values.specs.internal.Progress.{IsSound, Waits, IsCovered, Tries, Releases}
 use Rattle.cell_values.proofs.Lists.{has-append_left, has_cases, has_first, has_at, nat_eq_equal}
 
 -- the first list has only nodes that the second has

@@ -7,8 +7,8 @@ use Rattle.std.proofs.lemmas.Bool.{cases_lt, cases_Bool, or_cases, or_left, or_r
 use Rattle.std.proofs.lemmas.Bool.Decides.{nat_tests}
 use Rattle.std.proofs.lemmas.List.{append-nil, append_assoc, length-append, length-set}
 use Rattle.cell_values.specs.declared.order.Progress.{Progress}
-use Rattle.cell_values.specs.Order.{has, list_at, ComesBehindNeeds, AreNodes}
-use Rattle.cell_values.specs.Progress.{FirstOpen, IsSound, Waits, IsCovered, Tries, left}
+use Rattle.cell_values.specs.internal.Order.{has, list_at, ComesBehindNeeds, AreNodes}
+use Rattle.cell_values.specs.internal.Progress.{FirstOpen, IsSound, Waits, IsCovered, Tries, left}
 use Rattle.cell_values.proofs.Lists.{has-append, has-append_left, has-append_right, has_first, has_cases, has_at, at_has, nat_eq_equal, nat_eq_self, get_or-set, left-set, behind-append}
 
 -- the list that a look-up finds

@@ -3,7 +3,7 @@ use Rattle.std.proofs.Common.{◌≡◌, ◌∙◌, sym, ap, refl, arith, ℕ, �
 use Rattle.std.specs.declared.alloc.Global.{Global}
 use Rattle.std.specs.declared.vec.Vec.{Vec}
 use Rattle.std.proofs.lemmas.Bool.Decides.{nat_tests}
-use Rattle.cell_values.specs.Order.{list_at}
+use Rattle.cell_values.specs.internal.Order.{list_at}
 use Rattle.cell_values.proofs.Lists.{list_at-set, nat_eq_equal}
 use Rattle.cell_values.proofs.Tries.{list_at-found}
 

@@ -3,6 +3,4 @@ pub mod Meaning
 pub mod Needs
 pub mod Values
 pub mod Laws
-pub mod Order
-pub mod Shown
-pub mod Progress
+pub mod internal

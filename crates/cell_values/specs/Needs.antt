@@ -1,15 +1,12 @@
 -- Which places a formula needs. Source: this project's own.
-use Rattle.std.specs.Prelude.{Bool, false, not, ◌==◌, ◌&&◌, ◌||◌, nat_le, Option, Some}
+use Rattle.std.specs.Prelude.{Bool, false, not, ◌&&◌, ◌||◌, Option, Some}
 use Rattle.cell_addr.specs.declared.place.Place.{Place}
-use Rattle.cell_addr.specs.declared.place.Block.{Block}
-use Rattle.formula_tree.specs.Term.{Term, cell, area, prefix, percent, binary, call, paren, Terms, no_terms, term}
-use Rattle.formula_tree.specs.Links.{same_place, block_of, is_place_word, is_reference}
+use Rattle.cell_addr.specs.Place.{covers, same_place}
+use Rattle.formula_tree.specs.Term.{Term, cell, area, prefix, percent, binary, call, paren, Terms, no_terms, term, is_reference}
+use Rattle.formula_tree.specs.Links.{is_place_word}
+use Rattle.formula_tree.specs.Reference.{block_of}
 use Rattle.formula_tree.specs.declared.reference.Corner.{Corner}
 use Rattle.cell_values.specs.Workbook.{Content, formula}
-
--- whether a block covers a place
-abbrev pub covers : Block → Place → Bool
-covers b p = b.sheet == p.sheet && (nat_le b.top p.row && (nat_le p.row b.bottom && (nat_le b.left p.col && nat_le p.col b.right)))
 
 abbrev mutual
   -- whether a tree mentions a place: by a reference to it or a block that covers it. The argument of a function

@@ -5,7 +5,7 @@ use Rattle.cell_addr.specs.declared.place.Place.{Place}
 use Rattle.cell_value.specs.declared.scalar.Scalar.{Scalar}
 use Rattle.cell_value.specs.declared.scalar.Scalar.TheVariants as scalar
 use Rattle.cell_value.specs.declared.fault.FaultKind.TheVariants as fault
-use Rattle.formula_tree.specs.Links.{same_place}
+use Rattle.cell_addr.specs.Place.{same_place}
 use Rattle.value_network.specs.Network.{Network, stuck, value}
 use Rattle.cell_values.specs.Workbook.{Content, Book}
 use Rattle.cell_values.specs.Workbook as content

@@ -3,9 +3,12 @@ use Rattle.std.specs.Prelude as std
 use Rattle.std.specs.Prelude.{ℤ, ℕ, Bool, List}
 use Rattle.std.specs.FinMap as map
 use Rattle.cell_addr.specs.Order.{place_cmp}
+use Rattle.cell_addr.specs.declared.place.Place.{Place}
 use Rattle.formula_tree.specs.Term.{Term}
-use Rattle.formula_tree.specs.Seen.{seen}
+use Rattle.formula_tree.specs.Relative.{relative}
+use Rattle.formula_tree.specs.StandsFor.{at_home}
 use Rattle.formula_tree.specs.declared.reference.Corner.{Corner}
+use Rattle.formula_tree.specs.declared.reference.Home.TheVariants as homes
 use Rattle.cell_values.specs.declared.workbook.Cell.{Cell}
 use Rattle.cell_values.specs.declared.workbook.Cell.TheVariants as cell
 use Rattle.cell_values.specs.declared.workbook.Workbook.{Workbook}
@@ -24,14 +27,14 @@ pub data Content : Type 0 where
 abbrev pub Book : Type 0
 Book = map.FinMap place_cmp Content
 
--- the content of a cell of the program
-abbrev pub content : Cell → Content
-content (cell.Number m) = number m
-content (cell.Truth b) = truth b
-content (cell.Text w) = text w
-content (cell.Formula t) = formula (seen t)
-content (cell.Broken w) = unreadable w
+-- the content that a cell of the program has at a place, which is the home of its formula
+abbrev pub content_at : Place → Cell → Content
+content_at at (cell.Number m) = number m
+content_at at (cell.Truth b) = truth b
+content_at at (cell.Text w) = text w
+content_at at (cell.Formula tree) = formula (at_home (homes.Cell at) (relative tree.value))
+content_at at (cell.Broken w) = unreadable w
 
 -- the book that a workbook of the program stands for
 abbrev pub book_of : Workbook → Book
-book_of w = map.from_entries (std.map (λ e. (e.0, content e.1)) w.cells.entries)
+book_of w = map.from_entries (std.map (λ e. (e.0, content_at e.0 e.1)) w.cells.entries)

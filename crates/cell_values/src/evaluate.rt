@@ -1,9 +1,10 @@
 // What the places of a workbook show.
 ghost use Rattle.std.specs.Prelude.{◌≡◌, IfOk, OnOk, Some, slice_index_or};
 ghost use Rattle.cell_value.specs.declared.scalar.Scalar.TheVariants.{Empty};
-ghost use Rattle.formula_tree.specs.Seen.{seen};
+ghost use Rattle.formula_tree.specs.Relative.{relative};
+ghost use Rattle.formula_tree.specs.StandsFor.{at_home};
 ghost use Rattle.cell_values.specs.Meaning.{meaning};
-ghost use Rattle.cell_values.specs.Workbook.{content, book_of};
+ghost use Rattle.cell_values.specs.Workbook.{content_at, book_of};
 ghost use Rattle.cell_values.specs.Values.{value_at, worked_out};
 
 use crate::nodes::Nodes;
@@ -12,7 +13,7 @@ use crate::order::ready_order;
 use crate::workbook::{Cell, Workbook};
 use cell_addr::Place;
 use cell_value::{FaultKind, Scalar};
-use formula_tree::Plain;
+use formula_tree::{Home, Node};
 use std::alloc::{AllocError, Global};
 use std::sync::ledger::Ledger;
 use steps::Steps;
@@ -26,7 +27,7 @@ struct Shown {
 }
 
 impl Shown {
-    ghost use Rattle.cell_values.specs.Shown.{ShowsCycles, shown_by, SetsValue, WorksOut};
+    ghost use Rattle.cell_values.specs.internal.Shown.{ShowsCycles, shown_by, SetsValue, WorksOut};
 
     /// Every filled cell shows `#CYCLE!` at first.
     fn new(alloc: Global, nodes: Nodes) -> Result<Shown, AllocError>
@@ -72,16 +73,17 @@ impl Shown {
     fn worked_out<L: Ledger>(
         &self,
         alloc: Global,
+        at: Place,
         cell: &Cell,
         steps: &mut Steps<L>,
     ) -> Result<Scalar, AllocError>
-        ensures { IfOk result (λ scalar. scalar ≡ worked_out (shown_by self.now) (Some (content cell.now))) }
+        ensures { IfOk result (λ scalar. scalar ≡ worked_out (shown_by self.now) (Some (content_at at cell.now))) }
     {
         match cell {
             Cell::Number(number) => Ok(Scalar::Number(*number)),
             Cell::Truth(truth) => Ok(Scalar::Truth(*truth)),
             Cell::Text(text) => Ok(Scalar::Text(text.copy(alloc)?)),
-            Cell::Formula(tree) => self.meaning(alloc, tree, steps),
+            Cell::Formula(tree) => self.meaning(alloc, tree, Home::Cell(at), steps),
             Cell::Broken(_) => Ok(Scalar::Fault(FaultKind::Error)),
         }
     }
@@ -90,28 +92,29 @@ impl Shown {
     fn meaning<L: Ledger>(
         &self,
         alloc: Global,
-        tree: &Plain,
+        tree: &Node,
+        home: Home,
         steps: &mut Steps<L>,
     ) -> Result<Scalar, AllocError>
-        ensures { IfOk result (λ scalar. scalar ≡ meaning (shown_by self.now) (seen tree.now)) }
+        ensures { IfOk result (λ scalar. scalar ≡ meaning (shown_by self.now) (at_home home (relative tree.now))) }
     {
         steps.tick();
         match tree {
-            Plain::Number(number) => Ok(Scalar::Number(*number)),
-            Plain::Text(text) => Ok(Scalar::Text(text.copy(alloc)?)),
-            Plain::Truth(truth) => Ok(Scalar::Truth(*truth)),
-            Plain::Fault(fault) => Ok(Scalar::Fault(*fault)),
-            Plain::Cell(corner) => self.copy_at(alloc, corner.at),
-            Plain::Area(_, _) => Ok(Scalar::Fault(FaultKind::Value)),
-            Plain::Name(_) | Plain::Call(_, _) => Ok(Scalar::Fault(FaultKind::Name)),
-            Plain::Prefix(sign, part) => Ok(signed(*sign, self.meaning(alloc, part, steps)?)),
-            Plain::Percent(part) => Ok(percent(&self.meaning(alloc, part, steps)?)),
-            Plain::Binary(op, left, right) => {
-                let left = self.meaning(alloc, left, steps)?;
-                let right = self.meaning(alloc, right, steps)?;
+            Node::Number(number) => Ok(Scalar::Number(*number)),
+            Node::Text(text) => Ok(Scalar::Text(text.copy(alloc)?)),
+            Node::Truth(truth) => Ok(Scalar::Truth(*truth)),
+            Node::Fault(fault) => Ok(Scalar::Fault(*fault)),
+            Node::Cell(reference) => self.copy_at(alloc, reference.at(home).at),
+            Node::Area(_, _) => Ok(Scalar::Fault(FaultKind::Value)),
+            Node::Name(_) | Node::Call(_, _) => Ok(Scalar::Fault(FaultKind::Name)),
+            Node::Prefix(sign, part) => Ok(signed(*sign, self.meaning(alloc, part, home, steps)?)),
+            Node::Percent(part) => Ok(percent(&self.meaning(alloc, part, home, steps)?)),
+            Node::Binary(op, left, right) => {
+                let left = self.meaning(alloc, left, home, steps)?;
+                let right = self.meaning(alloc, right, home, steps)?;
                 combined(alloc, *op, &left, &right)
             }
-            Plain::Paren(part) => self.meaning(alloc, part, steps),
+            Node::Paren(part) => self.meaning(alloc, part, home, steps),
         }
     }
 
@@ -129,7 +132,7 @@ impl Shown {
             return Ok(());
         };
         let scalar = match workbook.cell(*place) {
-            Some(cell) => self.worked_out(alloc, cell, steps)?,
+            Some(cell) => self.worked_out(alloc, *place, cell, steps)?,
             None => Scalar::Empty,
         };
         self.keep(number, scalar);

@@ -1,13 +1,16 @@
 // The filled cells of a workbook, by number, and which of them each needs.
 ghost use Rattle.std.specs.Prelude.{◌≡◌, IfOk, OnOk};
-ghost use Rattle.formula_tree.specs.Links.{same_place, block_of, is_place_word, is_reference};
-ghost use Rattle.formula_tree.specs.Seen.{seen, seen_list};
-ghost use Rattle.cell_values.specs.Needs.{covers, mentions, mentions_any};
+ghost use Rattle.cell_addr.specs.Place.{covers, same_place};
+ghost use Rattle.formula_tree.specs.Reference.{base_of, corner_at};
+ghost use Rattle.formula_tree.specs.StandsFor.{at_home};
+ghost use Rattle.formula_tree.specs.Term.{each_corner_all};
+ghost use Rattle.formula_tree.specs.Relative.{relative, relative_list};
+ghost use Rattle.cell_values.specs.Needs.{mentions, mentions_any};
 ghost use Rattle.cell_values.specs.Workbook.{book_of};
 
 use crate::workbook::{Cell, Workbook};
-use cell_addr::{Block, Place, Text};
-use formula_tree::{Corner, Plain, PlainList};
+use cell_addr::{Block, Place};
+use formula_tree::{Home, Node, TreeList, is_place_word};
 use std::alloc::{AllocError, Global};
 use std::collections::BTreeMap;
 use std::sync::ledger::Ledger;
@@ -21,9 +24,9 @@ pub(crate) struct Nodes {
 }
 
 impl Nodes {
-    ghost use Rattle.cell_values.specs.Shown.{AddsNeeds, NumbersAll, SaysNeeds, number_at};
+    ghost use Rattle.cell_values.specs.internal.Shown.{AddsNeeds, NumbersAll, SaysNeeds, number_at};
 
-    /// The filled cells of a workbook, in the order of their places.
+    // The filled cells of a workbook, in the order of their places.
     pub(crate) fn new(alloc: Global, workbook: &Workbook) -> Result<Nodes, AllocError>
         ensures { IfOk result (λ nodes. NumbersAll (book_of workbook.now) nodes) }
     {
@@ -36,21 +39,21 @@ impl Nodes {
         Ok(Nodes { places, numbers })
     }
 
-    /// The places of the cells, by number.
+    // The places of the cells, by number.
     pub(crate) fn places(&self) -> &[Place]
         ensures { result.now ≡ self.now.places.items }
     {
         self.places.as_slice()
     }
 
-    /// The number of a place, where a filled cell stands.
+    // The number of a place, where a filled cell stands.
     pub(crate) fn number(&self, at: Place) -> Option<usize>
         ensures { result ≡ number_at self.now at }
     {
         self.numbers.get(&at).copied()
     }
 
-    /// The numbers of the cells that each cell needs. Each need is a step.
+    // The numbers of the cells that each cell needs. Each need is a step.
     pub(crate) fn needs<L: Ledger>(
         &self,
         alloc: Global,
@@ -63,65 +66,65 @@ impl Nodes {
         'places: for place in self.places.as_slice() {
             let mut list = Vec::new(alloc);
             if let Some(Cell::Formula(tree)) = workbook.cell(*place) {
-                self.add_tree(tree, &mut list, steps)?;
+                self.add_tree(tree, Home::Cell(*place), &mut list, steps)?;
             }
             needs.push(list)?;
         }
         Ok(needs)
     }
 
-    /// Adds the numbers of the cells that a tree mentions.
+    // Adds the numbers of the cells that a tree mentions.
     #[cycle(mentions)]
     fn add_tree<L: Ledger>(
         &self,
-        tree: &Plain,
+        tree: &Node,
+        home: Home,
         needs: &mut Vec<usize>,
         steps: &mut Steps<L>,
     ) -> Result<(), AllocError>
-        ensures { OnOk result (AddsNeeds (mentions (seen tree.now)) self.now needs.old.items needs.new.items) }
+        ensures { OnOk result (AddsNeeds (mentions (at_home home (relative tree.now))) self.now needs.old.items needs.new.items) }
     {
         match tree {
-            Plain::Cell(corner) => self.add_cell(corner.at, needs, steps)?,
-            Plain::Area(first, last) => self.add_block(block_between(*first, *last), needs, steps)?,
-            Plain::Prefix(_, part) => self.add_tree(part, needs, steps)?,
-            Plain::Percent(part) => self.add_tree(part, needs, steps)?,
-            Plain::Paren(part) => self.add_tree(part, needs, steps)?,
-            Plain::Binary(_, left, right) => {
-                self.add_tree(left, needs, steps)?;
-                self.add_tree(right, needs, steps)?;
+            Node::Cell(reference) => self.add_cell(reference.at(home).at, needs, steps)?,
+            Node::Area(first, last) => {
+                self.add_block(first.at(home).block_to(last.at(home)), needs, steps)?
+            },
+            Node::Prefix(_, part) => self.add_tree(part, home, needs, steps)?,
+            Node::Percent(part) => self.add_tree(part, home, needs, steps)?,
+            Node::Paren(part) => self.add_tree(part, home, needs, steps)?,
+            Node::Binary(_, left, right) => {
+                self.add_tree(left, home, needs, steps)?;
+                self.add_tree(right, home, needs, steps)?;
             }
-            Plain::Call(word, list) => self.add_list(list, is_place_word(word), needs, steps)?,
-            Plain::Number(_)
-            | Plain::Text(_)
-            | Plain::Truth(_)
-            | Plain::Fault(_)
-            | Plain::Name(_) => {}
+            Node::Call(word, list) => self.add_list(list, home, is_place_word(word.as_str()), needs, steps)?,
+            Node::Number(_) | Node::Text(_) | Node::Truth(_) | Node::Fault(_) | Node::Name(_) => {}
         }
         Ok(())
     }
 
-    /// Adds the numbers of the cells that the arguments of a call mention; where asked, arguments
-    /// that are themselves references are skipped.
+    // Adds the numbers of the cells that the arguments of a call mention; where asked, arguments
+    // that are themselves references are skipped.
     #[cycle(mentions)]
     fn add_list<L: Ledger>(
         &self,
-        list: &PlainList,
+        list: &TreeList,
+        home: Home,
         skip: bool,
         needs: &mut Vec<usize>,
         steps: &mut Steps<L>,
     ) -> Result<(), AllocError>
-        ensures { OnOk result (AddsNeeds (mentions_any skip (seen_list list.now)) self.now needs.old.items needs.new.items) }
+        ensures { OnOk result (AddsNeeds (mentions_any skip (each_corner_all (corner_at (base_of home)) (relative_list list.now))) self.now needs.old.items needs.new.items) }
     {
         'arguments: for argument in list.items() {
-            if skip && is_reference(argument) {
+            if skip && argument.is_reference() {
                 continue;
             }
-            self.add_tree(argument, needs, steps)?;
+            self.add_tree(argument, home, needs, steps)?;
         }
         Ok(())
     }
 
-    /// Adds the number of a place, where a filled cell stands.
+    // Adds the number of a place, where a filled cell stands.
     fn add_cell<L: Ledger>(
         &self,
         at: Place,
@@ -137,7 +140,7 @@ impl Nodes {
         Ok(())
     }
 
-    /// Adds the numbers of the filled cells that a block covers.
+    // Adds the numbers of the filled cells that a block covers.
     fn add_block<L: Ledger>(
         &self,
         block: Block,
@@ -147,54 +150,11 @@ impl Nodes {
         ensures { OnOk result (AddsNeeds (covers block) self.now needs.old.items needs.new.items) }
     {
         'numbers: for (place, number) in &self.numbers {
-            if covers(block, *place) {
+            if block.holds(*place) {
                 steps.tick();
                 needs.push(*number)?;
             }
         }
         Ok(())
-    }
-}
-
-/// Whether a block covers a place.
-fn covers(block: Block, place: Place) -> bool
-    ensures { result ≡ covers block place }
-{
-    block.holds(place)
-}
-
-/// The block between two corners.
-fn block_between(first: Corner, last: Corner) -> Block
-    ensures { result ≡ block_of first last }
-{
-    Block {
-        sheet: first.at.sheet,
-        top: first.at.row,
-        left: first.at.col,
-        bottom: last.at.row,
-        right: last.at.col,
-    }
-}
-
-/// Whether the function asks where a reference is, and not what its cells show.
-fn is_place_word(word: &Text) -> bool
-    ensures { result ≡ is_place_word word.now }
-{
-    word.as_str() == "ROW"
-        || word.as_str() == "COLUMN"
-        || word.as_str() == "ROWS"
-        || word.as_str() == "COLUMNS"
-}
-
-/// Whether the tree is a reference or a block, and no parenthesis round one.
-fn is_reference(tree: &Plain) -> bool
-    ensures { result ≡ is_reference (seen tree.now) }
-{
-    match tree {
-        Plain::Cell(_) | Plain::Area(_, _) => true,
-        Plain::Number(_) | Plain::Text(_) | Plain::Truth(_) | Plain::Fault(_) | Plain::Name(_) =>
-            false,
-        Plain::Prefix(_, _) | Plain::Percent(_) | Plain::Paren(_) => false,
-        Plain::Binary(_, _, _) | Plain::Call(_, _) => false,
     }
 }

@@ -2,7 +2,7 @@
 ghost use Rattle.std.specs.Prelude.{◌≡◌, IfOk};
 ghost use Rattle.std.specs.String.{string_bytes};
 ghost use Rattle.cell_values.specs.Meaning.{combined, hundredth, joined, made_text, signed_value, truth_or_fault};
-ghost use Rattle.formula_tree.specs.declared.operator.Op.TheVariants.{Add, Sub, Mul, Div, Power};
+ghost use Rattle.cell_values.specs.internal.Arithmetic.{IsArithmetic};
 
 use cell_addr::Text;
 use cell_value::{FaultKind, Scalar};
@@ -49,11 +49,7 @@ pub(crate) fn combined(
     ensures { IfOk result (λ scalar. scalar ≡ combined op left.now right.now) }
 {
     match op {
-        Op::Add => Ok(sum(left, right)),
-        Op::Sub => Ok(difference(left, right)),
-        Op::Mul => Ok(product(left, right)),
-        Op::Div => Ok(quotient(left, right)),
-        Op::Power => Ok(power(left, right)),
+        Op::Add | Op::Sub | Op::Mul | Op::Div | Op::Power => Ok(calculated(op, left, right)),
         Op::Join => joined(alloc, left, right),
         Op::Equal => Ok(compared(left.compare(right).map(|order| order.is_eq()))),
         Op::Unequal => Ok(compared(left.compare(right).map(|order| order.is_ne()))),
@@ -64,52 +60,27 @@ pub(crate) fn combined(
     }
 }
 
-fn sum(left: &Scalar, right: &Scalar) -> Scalar
-    ensures { result ≡ combined Add left.now right.now }
+// What an operator of arithmetic makes of two values: the numbers are computed with, and of two
+// faults the left one counts.
+fn calculated(op: Op, left: &Scalar, right: &Scalar) -> Scalar
+    requires { IsArithmetic op }
+    ensures { result ≡ combined op left.now right.now }
 {
-    match (left.as_number(), right.as_number()) {
-        (Ok(left), Ok(right)) => left.add(right).into(),
-        (Err(fault), _) | (_, Err(fault)) => Scalar::Fault(fault),
+    let (left, right) = match (left.as_number(), right.as_number()) {
+        (Ok(left), Ok(right)) => (left, right),
+        (Err(fault), _) | (_, Err(fault)) => return Scalar::Fault(fault),
+    };
+    match op {
+        Op::Add => left.add(right).into(),
+        Op::Sub => left.sub(right).into(),
+        Op::Mul => left.mul(right).into(),
+        Op::Div => left.div(right).into(),
+        Op::Power => left.power(right).into(),
+        _ => unreachable!(),
     }
 }
 
-fn difference(left: &Scalar, right: &Scalar) -> Scalar
-    ensures { result ≡ combined Sub left.now right.now }
-{
-    match (left.as_number(), right.as_number()) {
-        (Ok(left), Ok(right)) => left.sub(right).into(),
-        (Err(fault), _) | (_, Err(fault)) => Scalar::Fault(fault),
-    }
-}
-
-fn product(left: &Scalar, right: &Scalar) -> Scalar
-    ensures { result ≡ combined Mul left.now right.now }
-{
-    match (left.as_number(), right.as_number()) {
-        (Ok(left), Ok(right)) => left.mul(right).into(),
-        (Err(fault), _) | (_, Err(fault)) => Scalar::Fault(fault),
-    }
-}
-
-fn quotient(left: &Scalar, right: &Scalar) -> Scalar
-    ensures { result ≡ combined Div left.now right.now }
-{
-    match (left.as_number(), right.as_number()) {
-        (Ok(left), Ok(right)) => left.div(right).into(),
-        (Err(fault), _) | (_, Err(fault)) => Scalar::Fault(fault),
-    }
-}
-
-fn power(left: &Scalar, right: &Scalar) -> Scalar
-    ensures { result ≡ combined Power left.now right.now }
-{
-    match (left.as_number(), right.as_number()) {
-        (Ok(left), Ok(right)) => left.power(right).into(),
-        (Err(fault), _) | (_, Err(fault)) => Scalar::Fault(fault),
-    }
-}
-
-/// The answer of a comparison, or the fault that decided it.
+// The answer of a comparison, or the fault that decided it.
 fn compared(answer: Result<bool, FaultKind>) -> Scalar
     ensures { result ≡ truth_or_fault answer }
 {
@@ -119,7 +90,7 @@ fn compared(answer: Result<bool, FaultKind>) -> Scalar
     }
 }
 
-/// The texts of two values, one behind the other, where they have no more than 32,768 bytes.
+// The texts of two values, one after the other, where they have no more than 32,768 bytes.
 fn joined(alloc: Global, left: &Scalar, right: &Scalar) -> Result<Scalar, AllocError>
     ensures { IfOk result (λ scalar. scalar ≡ joined left.now right.now) }
 {
@@ -135,7 +106,7 @@ fn joined(alloc: Global, left: &Scalar, right: &Scalar) -> Result<Scalar, AllocE
     }
 }
 
-/// A text as a value, where it has no more than 32,768 bytes.
+// A text as a value, where it has no more than 32,768 bytes.
 fn made_text(text: String) -> Scalar
     ensures { result ≡ made_text (string_bytes text) }
 {

@@ -1,7 +1,7 @@
 // An order of nodes in which each comes behind all that it needs.
 ghost use Rattle.std.specs.Prelude.{◌≡◌, ◌<◌, ◌≤◌, ◌&&◌, ◌++◌, ◌∷◌, [], ℕ, true, false, length, nat_eq, nat_lt, if◌then◌else◌, slice_index, slice_index_or, slice_set, IfOk, OnOk};
-ghost use Rattle.cell_values.specs.Order.{AreNodes, ComesBehindNeeds, OthersNeedOthers, list_at};
-ghost use Rattle.cell_values.specs.Progress.{FirstOpen};
+ghost use Rattle.cell_values.specs.internal.Order.{AreNodes, ComesBehindNeeds, OthersNeedOthers, list_at};
+ghost use Rattle.cell_values.specs.internal.Progress.{FirstOpen};
 
 use std::alloc::{AllocError, Global};
 use std::mem;
@@ -20,7 +20,7 @@ struct Progress {
 }
 
 impl Progress {
-    ghost use Rattle.cell_values.specs.Progress.{IsSound, IsCovered, Tries, Releases};
+    ghost use Rattle.cell_values.specs.internal.Progress.{IsSound, IsCovered, Tries, Releases};
 
     /// No node is done, and none waits.
     fn new(alloc: Global, needs: &[Vec<usize>]) -> Result<Progress, AllocError>

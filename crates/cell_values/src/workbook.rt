@@ -1,11 +1,11 @@
 // Workbooks, and what their cells hold.
 ghost use Rattle.std.specs.Prelude.{◌≡◌, OnOk, OnErr, option_map};
 ghost use Rattle.std.specs.FinMap as map;
-ghost use Rattle.cell_values.specs.Workbook.{content, book_of};
+ghost use Rattle.cell_values.specs.Workbook.{content_at, book_of};
 
 use cell_addr::{Place, Text};
 use fix_num::Fixed;
-use formula_tree::Plain;
+use formula_tree::Tree;
 use std::alloc::{AllocError, Global};
 use std::collections::BTreeMap;
 
@@ -18,8 +18,8 @@ pub enum Cell {
     Truth(bool),
     /// A text.
     Text(Text),
-    /// A formula that has a tree.
-    Formula(Plain),
+    /// A formula that has a tree, as seen from the cell.
+    Formula(Tree),
     /// The text of a formula that has no tree.
     Broken(Text),
 }
@@ -42,7 +42,7 @@ impl Workbook {
 
     /// What the cell holds, or `None` where it is empty.
     pub fn cell(&self, at: Place) -> Option<&Cell>
-        ensures { option_map (λ c. content c.now) result ≡ map.get (book_of self.now) at }
+        ensures { option_map (λ c. content_at at c.now) result ≡ map.get (book_of self.now) at }
     {
         self.cells.get(&at)
     }
@@ -56,7 +56,7 @@ impl Workbook {
 
     /// Fills the cell, in place of what it held.
     pub fn put(&mut self, at: Place, cell: Cell) -> Result<(), AllocError>
-        ensures ok { OnOk result (book_of self.new ≡ map.insert (book_of self.old) at (content cell)) }
+        ensures ok { OnOk result (book_of self.new ≡ map.insert (book_of self.old) at (content_at at cell)) }
         ensures err { OnErr result (book_of self.new ≡ book_of self.old) }
     {
         self.cells.insert(at, cell)?;

@@ -4,6 +4,7 @@ use Rattle.std.specs.List.{list_all}
 use Rattle.digits.specs.Digits.{is_digit}
 use Rattle.fix_num.specs.Number.{IsInside, near, rounded_to, floor_of}
 use Rattle.fix_num.specs.Text.{number_of, text_of}
+use Rattle.fix_num.specs.declared.number.TheConstants.{ONE}
 
 -- how far two numbers are apart
 abbrev pub distance : ℕ → ℕ → ℕ
@@ -19,7 +20,7 @@ RoundsAtEnds = (m places : ℤ) → IsInside m → (pos 6 ≤ℤ places → roun
 
 -- the floor is whole, not above the number, and less than one below it
 abbrev pub FloorIsGreatest : Type 0
-FloorIsGreatest = (m : ℤ) → (unsigned_abs (floor_of m) % 1000000 ≡ 0) × (floor_of m ≤ℤ m) × (m <ℤ (floor_of m +ℤ pos 1000000))
+FloorIsGreatest = (m : ℤ) → (unsigned_abs (floor_of m) % ONE ≡ 0) × (floor_of m ≤ℤ m) × (m <ℤ (floor_of m +ℤ pos ONE))
 
 -- the text of a number is read back as that number
 abbrev pub TextReadsBack : Type 0

@@ -6,6 +6,7 @@ use Rattle.digits.specs.Digits.{is_digit, value}
 use Rattle.fix_num.specs.declared.error.NumError.{NumError}
 use Rattle.fix_num.specs.declared.error.NumError.TheVariants.{NotANumber}
 use Rattle.fix_num.specs.Number.{within, is_negative, signed, near}
+use Rattle.fix_num.specs.declared.number.TheConstants.{ONE}
 
 -- the byte is a point
 abbrev pub is_point : ℕ → Bool
@@ -39,7 +40,7 @@ is_unsigned cs = are_parts (whole cs) (decimals cs)
 
 -- all the digits over ten to the number of decimals, rounded to a millionth
 abbrev pub magnitude : List ℕ → ℕ
-magnitude cs = near (1000000 * value (whole cs ++ decimals cs)) (10 ^ length (decimals cs))
+magnitude cs = near (ONE * value (whole cs ++ decimals cs)) (10 ^ length (decimals cs))
 
 -- the number that the text spells, NotANumber where it has another form, and Range where the number is outside
 abbrev pub number_of : List ℕ → Result ℤ NumError
@@ -59,7 +60,7 @@ fraction_of rest = if rest == 0 then [] else 46 ∷ decimals_of 6 rest
 
 -- the whole part of so many millionths, and their decimals
 abbrev pub unsigned_text : ℕ → List ℕ
-unsigned_text n = decimal (n / 1000000) ++ fraction_of (n % 1000000)
+unsigned_text n = decimal (n / ONE) ++ fraction_of (n % ONE)
 
 -- the text of a number: a minus sign where it is negative, and the text of its absolute value
 abbrev pub text_of : ℤ → List ℕ

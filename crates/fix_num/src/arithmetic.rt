@@ -81,7 +81,7 @@ impl Fixed {
 
     /// 1 multiplied so often by the number, each product rounded.
     fn multiplied(self, times: u64) -> Result<Fixed, NumError>
-        ensures { result ≡ multiplied (pos 1000000) self times }
+        ensures { result ≡ multiplied (pos ONE) self times }
     {
         let mut power = Fixed::ONE;
         'products: for done in 0..times {

@@ -16,7 +16,7 @@ mod reading;
 mod rounding;
 
 pub use error::NumError;
-pub use number::Fixed;
+pub use number::{Fixed, LIMIT, ONE};
 
 #[cfg(test)]
 mod tests;

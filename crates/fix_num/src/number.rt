@@ -5,11 +5,11 @@ ghost use Rattle.fix_num.specs.Number.{IsInside, within, is_negative, signed};
 use crate::error::NumError;
 use std::marker::Model;
 
-/// How many millionths one has.
-pub(crate) const ONE: u64 = 1_000_000;
+/// How many millionths 1 has.
+pub const ONE: u64 = 1_000_000;
 
 /// The least number of millionths that no number has.
-pub(crate) const LIMIT: u64 = 1_000_000_000_000_000_000;
+pub const LIMIT: u64 = 1_000_000_000_000_000_000;
 
 /// A whole number of millionths of absolute value below 10^18. This project's own range.
 ///
@@ -35,14 +35,14 @@ impl Fixed {
 
     /// The number 1.
     pub const ONE: Fixed = Fixed {
-        millionths: 1_000_000,
+        millionths: ONE as i64,
     };
 
     /// The whole number n.
     ///
     /// `Range` exactly where the absolute value of n is 10^12 or more.
     pub fn from_int(n: i64) -> Result<Fixed, NumError>
-        ensures { result ≡ within (n *ℤ pos 1000000) }
+        ensures { result ≡ within (n *ℤ pos ONE) }
     {
         Fixed::signed(n < 0, u128::from(n.unsigned_abs()) * u128::from(ONE))
     }
@@ -83,7 +83,7 @@ impl Fixed {
     }
 
     /// The absolute value, in millionths.
-    pub(crate) fn size(self) -> u64
+    pub fn size(self) -> u64
         ensures size { result ≡ unsigned_abs self }
         ensures inside { IsInside self }
     {
@@ -92,7 +92,7 @@ impl Fixed {
 
     /// The number of this absolute value in millionths, negative or not.
     pub(crate) fn of_size(negative: bool, size: u64) -> Fixed
-        requires { size < 1000000000000000000 }
+        requires { size < LIMIT }
         ensures { result ≡ signed negative size }
     {
         let millionths = size as i64;
@@ -104,7 +104,7 @@ impl Fixed {
     /// The number of this absolute value in millionths, negative or not.
     ///
     /// `Range` exactly where that is 10^18 or more.
-    pub(crate) fn signed(negative: bool, size: u128) -> Result<Fixed, NumError>
+    pub fn signed(negative: bool, size: u128) -> Result<Fixed, NumError>
         ensures { result ≡ within (signed negative size) }
     {
         if size < u128::from(LIMIT) {

@@ -29,7 +29,7 @@ impl Fixed {
 
 /// Writes the six decimals of so many millionths, without zeros at the end.
 fn push_decimals(text: &mut String, millionths: u64) -> Result<(), AllocError>
-    requires { millionths < 1000000 }
+    requires { millionths < ONE }
     ensures { OnOk result (string_bytes text.new ≡ string_bytes text.old ++ decimals_of 6 millionths) }
 {
     let mut rest = millionths;

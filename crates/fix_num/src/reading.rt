@@ -62,8 +62,8 @@ fn are_parts(whole: &[u8], decimals: &[u8]) -> bool
 /// The decimals in millionths, rounded by the seventh, a half going up.
 fn rounded(decimals: &[u8]) -> u64
     requires { list_all is_digit decimals.now ≡ true }
-    ensures rounded { result ≡ near (1000000 * value decimals.now) (10 ^ length decimals.now) }
-    ensures small { result ≤ 1000000 }
+    ensures rounded { result ≡ near (ONE * value decimals.now) (10 ^ length decimals.now) }
+    ensures small { result ≤ ONE }
 {
     let kept = &decimals[..decimals.len().min(7)];
     let tenths = value_at_most(kept, 10_000_000) * 10u64.pow(7 - kept.len() as u32);

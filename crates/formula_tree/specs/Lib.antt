@@ -13,4 +13,6 @@ pub mod Canonical
 pub mod Proper
 pub mod Laws
 pub mod StandsFor
+pub mod Pooled
 pub mod Links
+pub mod internal

@@ -12,6 +12,7 @@
 
 mod absolute;
 mod address;
+mod code;
 pub mod laws;
 mod link;
 mod node;

@@ -15,7 +15,8 @@ use Rattle.sheet_cli.specs.Command.{command_of}
 use Rattle.cell_values.specs.Workbook.{Book}
 use Rattle.sheet_cli.specs.Outside.{Loses}
 use Rattle.sheet_cli.specs.Session.{next, reply}
-use Rattle.sheet_cli.specs.Run.{Did, WasRead, Outcome, outcome_of, outcome_from, behind, record_line, script_outcome}
+use Rattle.sheet_cli.specs.internal.Answers.{AnswersRecord}
+use Rattle.sheet_cli.specs.Run.{WasRead, Outcome, outcome_of, outcome_from, followed_by, record_line, script_outcome}
 
 -- what was taken since an old moment, and then the rest, is the whole
 abbrev pub Completes : Option (List ℕ) → Option (List ℕ) → List ℕ → List ℕ → Type 0
@@ -51,35 +52,35 @@ pub outcome-none : (book : Book) (k : ℕ) → outcome_from book k [] ≡ ([], 0
 unfolding outcome_from
 outcome-none book k = refl
 
--- a record, and those behind it
+-- a record, and those after it
 pub outcome-more : (book : Book) (k : ℕ) (fields : List (List ℕ)) (rest : List (List (List ℕ))) → outcome_from book k (fields ∷ rest) ≡ outcome_of book k (command_of fields) (λ after. outcome_from after (k + 1) rest)
 unfolding outcome_from
 outcome-more book k fields rest = refl
 
 -- the outcome of a record that did this and doesn't end the run: its reply, and the rest over the next book
-pub outcome-goes : (said : Result Command ScriptError) (k : ℕ) (before after : Book) (old new : Option (List ℕ)) (rest : Book → Outcome) → Did said k false before after old new
-    → (line : List ℕ) × Appends old new line × (outcome_of before k said rest ≡ behind line (rest after))
+pub outcome-goes : (said : Result Command ScriptError) (k : ℕ) (before after : Book) (old new : Option (List ℕ)) (rest : Book → Outcome) → AnswersRecord said k false before after old new
+    → (line : List ℕ) × Appends old new line × (outcome_of before k said rest ≡ followed_by line (rest after))
 outcome-goes (Ok command) k before after old new rest did = (reply command before, did.0, rw did.1 refl)
 outcome-goes (Err e) k before after old new rest did = absurd did
 
 -- the outcome of a record that did this and ends the run: its line, and status 3
-pub outcome-ends : (said : Result Command ScriptError) (k : ℕ) (before after : Book) (old new : Option (List ℕ)) (rest : Book → Outcome) → Did said k true before after old new
+pub outcome-ends : (said : Result Command ScriptError) (k : ℕ) (before after : Book) (old new : Option (List ℕ)) (rest : Book → Outcome) → AnswersRecord said k true before after old new
     → (line : List ℕ) × Appends old new line × (outcome_of before k said rest ≡ (line, 3))
 outcome-ends (Ok command) k before after old new rest did = absurd did
 outcome-ends (Err e) k before after old new rest did = (record_line k e, did, refl)
 
 -- a record that doesn't end the run: what was written and the rest still make the whole
-pub goes_on : (old now new : Option (List ℕ)) (before after : Book) (k : ℕ) (left rest : List (List (List ℕ))) (fields : List (List ℕ)) (whole : Outcome) → left ≡ fields ∷ rest → Did (command_of fields) k false before after now new
+pub goes_on : (old now new : Option (List ℕ)) (before after : Book) (k : ℕ) (left rest : List (List (List ℕ))) (fields : List (List ℕ)) (whole : Outcome) → left ≡ fields ∷ rest → AnswersRecord (command_of fields) k false before after now new
     → Completes old now (outcome_from before k left).0 whole.0 → (outcome_from before k left).1 ≡ whole.1
     → Completes old new (outcome_from after (k + 1) rest).0 whole.0 × ((outcome_from after (k + 1) rest).1 ≡ whole.1)
 goes_on old now new before after k left rest fields whole is did written status =
     let g = outcome-goes (command_of fields) k before after now new (λ b. outcome_from b (k + 1) rest) did in
-    let e : outcome_from before k left ≡ behind g.0 (outcome_from after (k + 1) rest) = ap (λ l. outcome_from before k l) is ∙ outcome-more before k fields rest ∙ g.2 in
+    let e : outcome_from before k left ≡ followed_by g.0 (outcome_from after (k + 1) rest) = ap (λ l. outcome_from before k l) is ∙ outcome-more before k fields rest ∙ g.2 in
     let P : Outcome → Type 0 = λ o. Completes old now o.0 whole.0 in
     (completes-write old now new g.0 (outcome_from after (k + 1) rest).0 whole.0 (subst P e written) g.1, sym (ap (λ (o : Outcome). o.1) e) ∙ status)
 
 -- a record that is no command: what was written is the whole
-pub stops : (old now new : Option (List ℕ)) (before after : Book) (k : ℕ) (left rest : List (List (List ℕ))) (fields : List (List ℕ)) (whole : Outcome) → left ≡ fields ∷ rest → Did (command_of fields) k true before after now new
+pub stops : (old now new : Option (List ℕ)) (before after : Book) (k : ℕ) (left rest : List (List (List ℕ))) (fields : List (List ℕ)) (whole : Outcome) → left ≡ fields ∷ rest → AnswersRecord (command_of fields) k true before after now new
     → Completes old now (outcome_from before k left).0 whole.0 → (outcome_from before k left).1 ≡ whole.1
     → Appends old new whole.0 × (3 ≡ whole.1)
 stops old now new before after k left rest fields whole is did written status =

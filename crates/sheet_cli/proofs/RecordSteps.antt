@@ -7,7 +7,7 @@ use Rattle.csv.specs.Machine.{Read, next_record, step, is_end, ends_at_end, fiel
 use Rattle.std.specs.Prelude.{IsSome}
 use Rattle.csv.specs.Reading.{ReadRecord, Reached, default_config, records_from, records_next}
 use Rattle.csv.proofs.ReadFacts.{rows-end, rows-more}
-use Rattle.sheet_cli.specs.Records.{BytesReader, Fields, IsPlain, bytes_left, records_after, records_left}
+use Rattle.sheet_cli.specs.internal.Records.{BytesReader, Fields, IsPlain, bytes_left, records_after, records_left}
 
 -- a record leaves fewer bytes, or it was the last of none
 abbrev pub Shrinks : List ℕ → Read → Type 0

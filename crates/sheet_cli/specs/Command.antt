@@ -35,46 +35,55 @@ word_of text = if bytes_eq text (codes "set") then Some word.Set
     else (if bytes_eq text (codes "content") then Some word.Content
     else None)))
 
--- how many fields stand behind a word
+-- how many fields follow a word
 abbrev pub arguments_of : Word → ℕ
 arguments_of word.Set = 2
 arguments_of word.Value = 1
 arguments_of word.Formula = 1
 arguments_of word.Content = 1
 
--- the command that sets a place to a text; the first bad field counts
-abbrev pub set_command : Option Spot → Option (List ℕ) → Result Command ScriptError
-set_command None text = Err (BadField 1)
-set_command (Some at) None = Err (BadField 2)
-set_command (Some at) (Some text) = Ok (Set at text)
-
--- a command that takes a place alone
-abbrev pub place_command : (Spot → Command) → Option Spot → Result Command ScriptError
-place_command make None = Err (BadField 1)
-place_command make (Some at) = Ok (make at)
-
--- the field of this number, where the word has number 0; no bytes where there is none
+-- the field of this number, where the word has number 0 and the record has more fields than that
 abbrev pub field : List (List ℕ) → ℕ → List ℕ
 field fields j = unwrap_or (field_at fields j) []
 
+-- what a field says, or that this field is bad
+abbrev pub said_by : {X : Type 0} → ℕ → Option X → Result X ScriptError
+said_by j None = Err (BadField j)
+said_by j (Some x) = Ok x
+
+abbrev pub place_at : List (List ℕ) → ℕ → Result Spot ScriptError
+place_at fields j = said_by j (place_field (field fields j))
+
+abbrev pub text_at : List (List ℕ) → ℕ → Result (List ℕ) ScriptError
+text_at fields j = said_by j (text_field (field fields j))
+
+-- what is said, and then more; the first bad field counts
+abbrev pub and_said : {X Y : Type 0} → Result X ScriptError → (X → Result Y ScriptError) → Result Y ScriptError
+and_said (Ok x) next = next x
+and_said (Err e) next = Err e
+
 -- the command of a word and the right number of fields
 abbrev pub command_with : Word → List (List ℕ) → Result Command ScriptError
-command_with word.Set fields = set_command (place_field (field fields 1)) (text_field (field fields 2))
-command_with word.Value fields = place_command Value (place_field (field fields 1))
-command_with word.Formula fields = place_command Formula (place_field (field fields 1))
-command_with word.Content fields = place_command Content (place_field (field fields 1))
+command_with word.Set fields = and_said (place_at fields 1) (λ at. and_said (text_at fields 2) (λ text. Ok (Set at text)))
+command_with word.Value fields = and_said (place_at fields 1) (λ at. Ok (Value at))
+command_with word.Formula fields = and_said (place_at fields 1) (λ at. Ok (Formula at))
+command_with word.Content fields = and_said (place_at fields 1) (λ at. Ok (Content at))
 
 -- the same, where the number of fields is tested first
 abbrev pub counted_command : Option Word → List (List ℕ) → Result Command ScriptError
 counted_command None fields = Err UnknownCommand
 counted_command (Some word) fields = if length fields == arguments_of word + 1 then command_with word fields else Err FieldCount
 
+-- the word that the first field spells
+abbrev pub word_in : List (List ℕ) → Option Word
+word_in fields = option_and_then word_of (field_at fields 0)
+
 -- the command that the fields of a record say, or the cause why they say none
 abbrev pub command_of : List (List ℕ) → Result Command ScriptError
-command_of fields = counted_command (word_of (field fields 0)) fields
+command_of fields = counted_command (word_in fields) fields
 
--- what a reading answers where this is said: that command, or that cause. Want of memory is free.
-abbrev pub Says : Result Command ScriptError → Result Command ScriptError → Type 0
-Says (Ok command) said = said ≡ Ok command
+-- what a reading answers where this is said: that, or its cause. Want of memory is free.
+abbrev pub Says : {X : Type 0} → Result X ScriptError → Result X ScriptError → Type 0
+Says (Ok x) said = said ≡ Ok x
 Says (Err NoMemory) said = ⊤
 Says (Err e) said = said ≡ Err e

@@ -1,6 +1,7 @@
 pub mod Command
 pub mod Content
 pub mod Outside
-pub mod Records
 pub mod Run
+pub mod Proper
 pub mod Session
+pub mod internal

@@ -7,10 +7,7 @@ use Rattle.csv.specs.Reading.{records, default_config, strip_bom}
 use Rattle.sheet_cli.specs.declared.command.Command.{Command}
 use Rattle.sheet_cli.specs.declared.command.ScriptError.{ScriptError}
 use Rattle.sheet_cli.specs.declared.command.ScriptError.TheVariants.{UnknownCommand, FieldCount, BadField, NoMemory}
-use Rattle.sheet_cli.specs.declared.outside.error.WriteError.{WriteError}
-use Rattle.sheet_cli.specs.declared.outside.error.WriteError.TheVariants as write
-use Rattle.sheet_cli.specs.declared.program.Stop.{Stop}
-use Rattle.sheet_cli.specs.declared.program.Stop.TheVariants as stop
+use Rattle.sheet_cli.specs.declared.outside.input.TheConstants.{MAX_INPUT}
 use Rattle.sheet_cli.specs.Command.{command_of}
 use Rattle.cell_values.specs.Workbook.{Book}
 use Rattle.sheet_cli.specs.Session.{next, reply, line_of}
@@ -19,9 +16,9 @@ use Rattle.sheet_cli.specs.Session.{next, reply, line_of}
 abbrev pub Outcome : Type 0
 Outcome = List ℕ × ℕ
 
--- more bytes in front
-abbrev pub behind : List ℕ → Outcome → Outcome
-behind bytes rest = (bytes ++ rest.0, rest.1)
+-- these bytes, and then the rest of the run
+abbrev pub followed_by : List ℕ → Outcome → Outcome
+followed_by bytes rest = (bytes ++ rest.0, rest.1)
 
 -- why a record is no command, as a run says it
 abbrev pub cause_text : ScriptError → List ℕ
@@ -40,7 +37,7 @@ record_line k e = line_of (record_text k e)
 
 -- what a record does: its reply and then the rest of the run, or the end of the run where it is no command
 abbrev pub outcome_of : Book → ℕ → Result Command ScriptError → (Book → Outcome) → Outcome
-outcome_of book k (Ok command) rest = behind (reply command book) (rest (next command book))
+outcome_of book k (Ok command) rest = followed_by (reply command book) (rest (next command book))
 outcome_of book k (Err e) rest = (record_line k e, 3)
 
 -- the records from number k on, over a book; the end of the script ends a run with status 0
@@ -53,20 +50,13 @@ usage_line = line_of (codes "usage: sheetrun [--undo-limit N] [--strict] [--scri
 
 -- the outcome of a script: too long, or its records over an empty book
 abbrev pub script_outcome : List ℕ → Outcome
-script_outcome bytes = if nat_lt 67108864 (length bytes)
+script_outcome bytes = if nat_lt MAX_INPUT (length bytes)
     then (line_of (codes "input too long"), 8)
     else outcome_from map.empty 1 (records default_config (strip_bom bytes))
 
 -- the outcome of a run: every word is refused yet
 abbrev pub outcome : ℕ → List ℕ → Outcome
 outcome words bytes = if nat_lt 0 words then (usage_line, 2) else script_outcome bytes
-
--- what one record did to the book and to the sink: a command gave its reply and the next book, and
--- what is no command gave the last line
-abbrev pub Did : Result Command ScriptError → ℕ → Bool → Book → Book → Option (List ℕ) → Option (List ℕ) → Type 0
-Did (Ok command) k false before after old new = Appends old new (reply command before) × (after ≡ next command before)
-Did (Err e) k true before after old new = Appends old new (record_line k e)
-Did _ k ends before after old new = ⊥
 
 -- the statuses of a run that came to its end
 abbrev pub IsEndStatus : ℕ → Type 0
@@ -75,11 +65,6 @@ IsEndStatus status = (status ≡ 0) ⊎ (status ≡ 2) ⊎ (status ≡ 3) ⊎ (s
 -- the statuses of a run
 abbrev pub IsStatus : ℕ → Type 0
 IsStatus status = IsEndStatus status ⊎ ((status ≡ 5) ⊎ (status ≡ 6) ⊎ (status ≡ 7))
-
--- how a failed write stops a run
-abbrev pub stop_of_write : WriteError → Stop
-stop_of_write write.Failed = stop.WriteFault
-stop_of_write write.NoMemory = stop.NoMemory
 
 -- what a run prints where source and sink tell their bytes
 abbrev pub PrintsFor : Option (List ℕ) → Option (List ℕ) → Option (List ℕ) → ℕ → (List ℕ → Outcome) → Type 0
@@ -91,4 +76,4 @@ abbrev pub WasRead : ℕ → Option (List ℕ) → Option (List ℕ) → Type 0
 WasRead status None new = ⊤
 WasRead status (Some bytes) new = ((status ≡ 0) ⊎ (status ≡ 3) → new ≡ Some [])
     × (status ≡ 2 → new ≡ Some bytes)
-    × (status ≡ 8 → new ≡ Some (drop 67108865 bytes))
+    × (status ≡ 8 → new ≡ Some (drop (MAX_INPUT + 1) bytes))

@@ -12,7 +12,6 @@ use Rattle.cell_values.specs.Workbook.{Book}
 use Rattle.cell_values.specs.Workbook as content
 use Rattle.cell_values.specs.Values.{value_at}
 use Rattle.fix_num.specs.Text.{text_of}
-use Rattle.formula_print.specs.Clipped.{clipped}
 use Rattle.formula_tree.specs.Canonical.{formula_text}
 use Rattle.formula_tree.specs.Reader.{tree_of_text}
 use Rattle.formula_tree.specs.Term.{Term}
@@ -33,9 +32,9 @@ sheets = (0, codes "Sheet1") ∷ []
 abbrev pub tree_given : List ℕ → Option (Term Corner)
 tree_given text = tree_of_text 0 (id_in sheets) text
 
--- the canonical text of a cell's formula. Every tree that was read lies within the sheet, so it is clipped already.
+-- the canonical text of a cell's formula
 abbrev pub tree_shown : Term Corner → List ℕ
-tree_shown tree = formula_text 0 (name_in sheets) (clipped tree)
+tree_shown tree = formula_text 0 (name_in sheets) tree
 
 -- the place of an address on the only sheet
 abbrev pub place_of : Spot → Place

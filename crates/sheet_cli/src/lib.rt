@@ -15,6 +15,7 @@
 
 mod command;
 pub mod content;
+pub mod laws;
 mod line;
 pub mod outside;
 mod program;
@@ -22,6 +23,6 @@ mod records;
 mod refusal;
 mod script;
 mod session;
-mod sheet;
+
 
 pub use program::run;

@@ -5,16 +5,17 @@ ghost use Rattle.cell_values.specs.Workbook.{book_of};
 ghost use Rattle.csv.specs.Records.{fields_of};
 ghost use Rattle.sheet_cli.specs.Outside.{Rose};
 ghost use Rattle.sheet_cli.specs.Command.{command_of};
+ghost use Rattle.sheet_cli.specs.Proper.{HoldsProperTrees};
+ghost use Rattle.sheet_cli.specs.internal.Answers.{AnswersRecord};
 ghost use Rattle.sheet_cli.specs.Session.{line_of};
-ghost use Rattle.sheet_cli.specs.Run.{Did, IsEndStatus, IsStatus, PrintsFor, WasRead, cause_text, outcome, record_text, script_outcome};
+ghost use Rattle.sheet_cli.specs.Run.{IsEndStatus, IsStatus, PrintsFor, WasRead, cause_text, outcome, record_text, script_outcome};
 
 use crate::command::ScriptError;
 use crate::line::line;
 use crate::outside::{LoadError, MAX_INPUT, Sink, Source, WriteError, read_all};
 use crate::records::Records;
 use crate::script::command;
-use crate::session::execute;
-use cell_values::Workbook;
+use crate::session::Session;
 use csv::ByteRecord;
 use std::alloc::{AllocError, Global};
 use std::sync::ledger::Ledger;
@@ -38,7 +39,7 @@ const TOO_LONG: u8 = 8;
 const USAGE: &str =
     "usage: sheetrun [--undo-limit N] [--strict] [--script FILE] [--generate N] [BOOK.csv ...]";
 
-/// Why a run ends before its output is whole.
+// Why a run ends before its output is whole.
 #[derive(Clone, Copy, PartialEq, Eq, Debug)]
 enum Stop {
     ReadFault,
@@ -57,7 +58,7 @@ impl From<AllocError> for Stop {
 }
 
 impl From<WriteError> for Stop {
-    ghost use Rattle.sheet_cli.specs.Run.{stop_of_write};
+    ghost use Rattle.sheet_cli.specs.internal.Answers.{stop_of_write};
 
     ghost from_gives = { λ e stop. stop ≡ stop_of_write e };
 
@@ -110,7 +111,7 @@ pub fn run<I: Source, O: Sink, L: Ledger>(
     }
 }
 
-/// A run up to its status, or to a fault or want of memory.
+// A run up to its status, or to a fault or want of memory.
 fn run_to_end<I: Source, O: Sink, L: Ledger>(
     alloc: Global,
     words: &[String],
@@ -144,7 +145,7 @@ fn run_to_end<I: Source, O: Sink, L: Ledger>(
     }
 }
 
-/// Answers the records of a script in order, up to its end or to one that is no command.
+// Answers the records of a script in order, up to its end or to one that is no command.
 fn run_script<O: Sink, L: Ledger>(
     alloc: Global,
     script: &[u8],
@@ -157,35 +158,36 @@ fn run_script<O: Sink, L: Ledger>(
     ensures write_fault { IsErrOf result Stop.WriteFault → Rose (O.faults out.old) (O.faults out.new) }
     ensures status_range { IfOk result (λ status. (status ≡ 0) ⊎ (status ≡ 3)) }
 {
-    let mut workbook = Workbook::new(alloc);
+    let mut session = Session::new(alloc)?;
     let mut records = Records::open(alloc, script);
     let mut number: u64 = 0;
     'records: while records.advance()? {
         number += 1;
-        if run_record(alloc, &mut workbook, number, records.fields(), out, steps)? {
+        if run_record(alloc, &mut session, number, records.fields(), out, steps)? {
             return Ok(NO_COMMAND);
         }
     }
     Ok(ANSWERED)
 }
 
-/// Answers one record of a script. Whether it ends the run, since it is no command.
+// Answers one record of a script. Whether it ends the run, since it is no command.
 fn run_record<O: Sink, L: Ledger>(
     alloc: Global,
-    workbook: &mut Workbook,
+    session: &mut Session,
     number: u64,
     fields: &ByteRecord,
     out: &mut O,
     steps: &mut Steps<L>,
 ) -> Result<bool, Stop>
-    ensures did { IfOk result (λ ends. Did (command_of (fields_of fields.now)) number ends (book_of workbook.old) (book_of workbook.new) (O.taken out.old) (O.taken out.new)) }
+    requires { HoldsProperTrees (book_of session.old.workbook) }
+    ensures answered { IfOk result (λ ends. AnswersRecord (command_of (fields_of fields.now)) number ends (book_of session.old.workbook) (book_of session.new.workbook) (O.taken out.old) (O.taken out.new)) }
     ensures no_read_fault { IsErrOf result Stop.ReadFault → ⊥ }
     ensures write_fault { IsErrOf result Stop.WriteFault → Rose (O.faults out.old) (O.faults out.new) }
     ensures later { O.faults out.old ≤ O.faults out.new }
 {
     match command(alloc, fields) {
         Ok(command) => {
-            let reply = execute(alloc, workbook, &command, steps)?;
+            let reply = session.execute(command, steps)?;
             out.write(&reply)?;
             Ok(false)
         }
@@ -198,7 +200,7 @@ fn run_record<O: Sink, L: Ledger>(
     }
 }
 
-/// What a run says of a record that is no command.
+// What a run says of a record that is no command.
 fn record_text(alloc: Global, number: u64, cause: ScriptError) -> Result<String, AllocError>
     ensures { IfOk result (λ text. string_bytes text ≡ record_text number cause) }
 {

@@ -32,7 +32,7 @@ pub struct Records<'a> {
 impl<'a> Model for Records<'a> {
     ghost use Rattle.std.specs.Prelude.{◌≡◌, false};
     ghost use Rattle.csv.specs.Records.{fields_of};
-    ghost use Rattle.sheet_cli.specs.Records.{IsPlain, Reading, records_left};
+    ghost use Rattle.sheet_cli.specs.internal.Records.{IsPlain, Reading, records_left};
 
     ghost Value = { Reading };
 

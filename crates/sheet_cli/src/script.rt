@@ -1,16 +1,15 @@
 // How the records of a script say commands.
-ghost use Rattle.std.specs.Prelude.{◌≡◌, IfOk, option_and_then};
+ghost use Rattle.std.specs.Prelude.{◌≡◌, ◌+◌, ◌<◌, length, IfOk, option_and_then};
 ghost use Rattle.cell_addr.specs.Address.{spot_of};
 ghost use Rattle.csv.specs.Records.{fields_of};
-ghost use Rattle.sheet_cli.specs.Command.{Says, arguments_of, command_of, field, is_place, place_command, place_field, place_spot, set_command, text_field, word_of};
-ghost use Rattle.sheet_cli.specs.declared.command.Command.TheVariants as said;
+ghost use Rattle.sheet_cli.specs.Command.{Says, arguments_of, command_of, command_with, field, is_place, place_at, place_field, place_spot, text_at, word_in, word_of};
 
 use crate::command::{Command, ScriptError};
 use cell_addr::{AddrError, Spot, Text, read_place};
 use csv::ByteRecord;
 use std::alloc::{AllocError, Global};
 
-/// The word of a command.
+// The word of a command.
 #[derive(Clone, Copy, PartialEq, Eq, Debug)]
 enum Word {
     Set,
@@ -20,7 +19,7 @@ enum Word {
 }
 
 impl Word {
-    /// The word that a field spells, in small letters.
+    // The word that a field spells, in small letters.
     fn named(text: &[u8]) -> Option<Word>
         ensures { result ≡ word_of text.now }
     {
@@ -37,7 +36,7 @@ impl Word {
         }
     }
 
-    /// How many fields stand behind the word.
+    // How many fields follow the word.
     fn arguments(self) -> usize
         ensures { result ≡ arguments_of self }
     {
@@ -57,74 +56,74 @@ impl Word {
 pub fn command(alloc: Global, fields: &ByteRecord) -> Result<Command, ScriptError>
     ensures { Says result (command_of (fields_of fields.now)) }
 {
-    let Some(word) = Word::named(argument(fields, 0)) else {
+    let Some(word) = word(fields) else {
         return Err(ScriptError::UnknownCommand);
     };
     if fields.len() != word.arguments() + 1 {
         return Err(ScriptError::FieldCount);
     }
+    let command = command_with(alloc, word, fields)?;
+    Ok(command)
+}
+
+// The command of a word and the right number of fields.
+fn command_with(alloc: Global, word: Word, fields: &ByteRecord) -> Result<Command, ScriptError>
+    requires { length (fields_of fields.now) ≡ arguments_of word + 1 }
+    ensures { Says result (command_with word (fields_of fields.now)) }
+{
+    let at = place_at(alloc, fields, 1)?;
     match word {
-        Word::Set => set(alloc, argument(fields, 1), argument(fields, 2)),
-        Word::Value => value(alloc, argument(fields, 1)),
-        Word::Formula => formula(alloc, argument(fields, 1)),
-        Word::Content => content(alloc, argument(fields, 1)),
+        Word::Set => {
+            let text = text_at(alloc, fields, 2)?;
+            Ok(Command::Set(at, text))
+        }
+        Word::Value => Ok(Command::Value(at)),
+        Word::Formula => Ok(Command::Formula(at)),
+        Word::Content => Ok(Command::Content(at)),
     }
 }
 
-/// The field of this number, where the word has number 0; no bytes where there is none.
-fn argument(fields: &ByteRecord, number: usize) -> &[u8]
+// The word that the first field spells.
+fn word(fields: &ByteRecord) -> Option<Word>
+    ensures { result ≡ word_in (fields_of fields.now) }
+{
+    Word::named(fields.get(0)?)
+}
+
+// The field of this number, where the word has number 0.
+fn field(fields: &ByteRecord, number: u8) -> &[u8]
+    requires { number < length (fields_of fields.now) }
     ensures { result.now ≡ field (fields_of fields.now) number }
 {
-    match fields.get(number) {
+    match fields.get(usize::from(number)) {
         Some(field) => field,
-        None => b"",
+        None => unreachable!(),
     }
 }
 
-/// The command `set` of a place and a text.
-fn set(alloc: Global, place: &[u8], text: &[u8]) -> Result<Command, ScriptError>
-    ensures { Says result (set_command (place_field place.now) (text_field text.now)) }
+// The place that the field of this number names.
+fn place_at(alloc: Global, fields: &ByteRecord, number: u8) -> Result<Spot, ScriptError>
+    requires { number < length (fields_of fields.now) }
+    ensures { Says result (place_at (fields_of fields.now) number) }
 {
-    let Some(spot) = read_spot(alloc, place)? else {
-        return Err(ScriptError::BadField(1));
-    };
-    let Some(text) = Text::from_utf8(alloc, text)? else {
-        return Err(ScriptError::BadField(2));
-    };
-    Ok(Command::Set(spot, text))
+    match read_spot(alloc, field(fields, number))? {
+        Some(spot) => Ok(spot),
+        None => Err(ScriptError::BadField(number)),
+    }
 }
 
-/// The command `value` of a place.
-fn value(alloc: Global, place: &[u8]) -> Result<Command, ScriptError>
-    ensures { Says result (place_command said.Value (place_field place.now)) }
+// The text of the field of this number.
+fn text_at(alloc: Global, fields: &ByteRecord, number: u8) -> Result<Text, ScriptError>
+    requires { number < length (fields_of fields.now) }
+    ensures { Says result (text_at (fields_of fields.now) number) }
 {
-    let Some(spot) = read_spot(alloc, place)? else {
-        return Err(ScriptError::BadField(1));
-    };
-    Ok(Command::Value(spot))
+    match Text::from_utf8(alloc, field(fields, number))? {
+        Some(text) => Ok(text),
+        None => Err(ScriptError::BadField(number)),
+    }
 }
 
-/// The command `formula` of a place.
-fn formula(alloc: Global, place: &[u8]) -> Result<Command, ScriptError>
-    ensures { Says result (place_command said.Formula (place_field place.now)) }
-{
-    let Some(spot) = read_spot(alloc, place)? else {
-        return Err(ScriptError::BadField(1));
-    };
-    Ok(Command::Formula(spot))
-}
-
-/// The command `content` of a place.
-fn content(alloc: Global, place: &[u8]) -> Result<Command, ScriptError>
-    ensures { Says result (place_command said.Content (place_field place.now)) }
-{
-    let Some(spot) = read_spot(alloc, place)? else {
-        return Err(ScriptError::BadField(1));
-    };
-    Ok(Command::Content(spot))
-}
-
-/// The place that a field names: one address without a sheet's name.
+// The place that a field names: one address without a sheet's name.
 fn read_spot(alloc: Global, field: &[u8]) -> Result<Option<Spot>, AllocError>
     ensures { IfOk result (λ spot. spot ≡ place_field field.now) }
 {
@@ -134,7 +133,7 @@ fn read_spot(alloc: Global, field: &[u8]) -> Result<Option<Spot>, AllocError>
     }
 }
 
-/// The place that a text names.
+// The place that a text names.
 fn read_plain_spot(alloc: Global, text: &str) -> Result<Option<Spot>, AllocError>
     ensures { IfOk result (λ spot. spot ≡ option_and_then place_spot (spot_of text.now)) }
 {
@@ -151,7 +150,7 @@ fn read_plain_spot(alloc: Global, text: &str) -> Result<Option<Spot>, AllocError
     }
 }
 
-/// Whether an address is a place: one corner, on the only sheet, which needs no name.
+// Whether an address is a place: one corner, on the only sheet, which needs no name.
 fn is_place(spot: &Spot) -> bool
     ensures { result ≡ is_place spot.now }
 {

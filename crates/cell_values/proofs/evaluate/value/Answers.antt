@@ -1,8 +1,8 @@
 use Rattle.std.proofs.Common.{◌≡◌, sym, subst, drop, get_or, ◌+◌, [], IfOk}
 use Rattle.std.proofs.lemmas.List.{drop_more, drop_all}
 use Rattle.cell_values.specs.Workbook.{book_of}
-use Rattle.cell_values.specs.Order.{ComesBehindNeeds, OthersNeedOthers, AreNodes}
-use Rattle.cell_values.specs.Shown.{shown_by}
+use Rattle.cell_values.specs.internal.Order.{ComesBehindNeeds, OthersNeedOthers, AreNodes}
+use Rattle.cell_values.specs.internal.Shown.{shown_by}
 use Rattle.cell_values.specs.Values.{value_at}
 use Rattle.cell_values.proofs.ValueSteps.{IsUnderWay, starts, steps_on, finishes}
 use Rattle.cell_values.proofs.evaluate.value.Goals as goal

@@ -2,7 +2,7 @@ use Rattle.std.proofs.Common.{◌≡◌, ◌∙◌, sym, ap, refl, rules, arith,
 use Rattle.std.proofs.lemmas.Bool.{cases_lt, false≢true}
 use Rattle.std.proofs.lemmas.List.{length-append}
 use Rattle.std.proofs.lemmas.Grind.{get_or_default_zero}
-use Rattle.cell_values.specs.Progress.{IsCovered, Tries, Releases}
+use Rattle.cell_values.specs.internal.Progress.{IsCovered, Tries, Releases}
 use Rattle.cell_values.proofs.Releases.{covered_after, covered_tried, covered_released}
 use Rattle.cell_values.proofs.order.ready_order.Goals as goal
 

@@ -1,5 +1,5 @@
 use Rattle.std.proofs.Common.{ℕ, ◌-◌, ◌<◌, ◌≤◌, [], length, take}
-use Rattle.cell_values.specs.Progress.{IsSound, IsCovered}
+use Rattle.cell_values.specs.internal.Progress.{IsSound, IsCovered}
 use Rattle.cell_values.proofs.order.ready_order.Given as goal
 
 -- the nodes tried are done or wait

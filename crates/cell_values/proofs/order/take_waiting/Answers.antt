@@ -1,5 +1,5 @@
 use Rattle.std.proofs.Common.{◌∙◌, ap, cond, nat_eq, rules}
-use Rattle.cell_values.specs.Order.{list_at}
+use Rattle.cell_values.specs.internal.Order.{list_at}
 use Rattle.cell_values.proofs.Lists.{list_at-set}
 use Rattle.cell_values.proofs.order.take_waiting.Goals as goal
 

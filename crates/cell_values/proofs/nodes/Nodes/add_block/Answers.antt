@@ -1,6 +1,6 @@
 use Rattle.std.proofs.Common.{◌∙◌, sym, ap, subst, ℕ, [], ◌∷◌, ◌++◌, append_assoc}
 use Rattle.cell_addr.specs.declared.place.Place.{Place}
-use Rattle.cell_values.specs.Needs.{covers}
+use Rattle.cell_addr.specs.Place.{covers}
 use Rattle.cell_values.proofs.NodeNumbers.{AddsAmong, IsInOrder, among_adds, among_skips}
 use Rattle.cell_values.proofs.nodes.Nodes.add_block.Goals as goal
 
@@ -13,7 +13,7 @@ numbers-preserved-in-Continue-1 g c =
       done ++ e ∷ [],
       append_assoc done (e ∷ []) c.next.new.self ∙ is,
       subst (AddsAmong (covers c.args.block) (done ++ e ∷ []) c.args.needs.now.items) (sym c.in_ok-push.ensures.items)
-          (among_adds (covers c.args.block) c.args.needs.now.items c.numbers.needs.items done c.next.new.self e c.numbers.invariant.2 sorted (sym c.if-covers.ensures)),
+          (among_adds (covers c.args.block) c.args.needs.now.items c.numbers.needs.items done c.next.new.self e c.numbers.invariant.2 sorted (sym c.if-holds.ensures.test)),
     )
 
 pub numbers-preserved : goal.numbers-preserved
@@ -23,5 +23,5 @@ numbers-preserved g c =
     let is = ap (λ rest. done ++ rest) (sym c.in-Some.ensures.steps) ∙ c.numbers.invariant.1 in (
       done ++ e ∷ [],
       append_assoc done (e ∷ []) c.next.new.self ∙ is,
-      among_skips (covers c.args.block) c.args.needs.now.items c.numbers.needs.items done c.next.new.self e c.numbers.invariant.2 (sym c.if-covers.ensures),
+      among_skips (covers c.args.block) c.args.needs.now.items c.numbers.needs.items done c.next.new.self e c.numbers.invariant.2 (sym c.if-holds.ensures.test),
     )

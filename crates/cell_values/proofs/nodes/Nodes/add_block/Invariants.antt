@@ -1,6 +1,6 @@
 use Rattle.std.proofs.Common.{◌≡◌, ◌++◌, List, ℕ}
 use Rattle.cell_addr.specs.declared.place.Place.{Place}
-use Rattle.cell_values.specs.Needs.{covers}
+use Rattle.cell_addr.specs.Place.{covers}
 use Rattle.cell_values.proofs.NodeNumbers.{AddsAmong}
 use Rattle.cell_values.proofs.nodes.Nodes.add_block.Given as goal
 

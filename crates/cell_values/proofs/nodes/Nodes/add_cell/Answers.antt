@@ -1,6 +1,6 @@
 use Rattle.std.proofs.Common.{◌∙◌, sym, subst}
-use Rattle.formula_tree.specs.Links.{same_place}
-use Rattle.cell_values.specs.Shown.{AddsNeeds}
+use Rattle.cell_addr.specs.Place.{same_place}
+use Rattle.cell_values.specs.internal.Shown.{AddsNeeds}
 use Rattle.cell_values.proofs.NodeNumbers.{adds_cell, adds_no_cell}
 use Rattle.cell_values.proofs.nodes.Nodes.add_cell.Goals as goal
 

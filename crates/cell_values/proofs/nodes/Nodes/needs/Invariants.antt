@@ -2,8 +2,8 @@ use Rattle.std.proofs.Common.{◌≡◌, ◌<◌, ℕ, [], length, get_or}
 use Rattle.std.specs.FinMap.{get}
 use Rattle.cell_values.specs.Workbook.{book_of}
 use Rattle.cell_values.specs.Needs.{needs_place}
-use Rattle.cell_values.specs.Order.{list_at}
-use Rattle.cell_values.specs.Shown.{AddsNeeds}
+use Rattle.cell_values.specs.internal.Order.{list_at}
+use Rattle.cell_values.specs.internal.Shown.{AddsNeeds}
 use Rattle.cell_values.proofs.ValueSteps.{origin}
 use Rattle.cell_values.proofs.nodes.Nodes.needs.Given as goal
 

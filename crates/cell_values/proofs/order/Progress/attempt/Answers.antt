@@ -1,5 +1,5 @@
 use Rattle.std.proofs.Common.{◌≡◌, ◌∙◌, sym, ap, refl, rules, ◌<◌, ◌≤◌, length, get_or, false, arith}
-use Rattle.cell_values.specs.Progress.{FirstOpen}
+use Rattle.cell_values.specs.internal.Progress.{FirstOpen}
 use Rattle.cell_values.proofs.Tries.{list_at-found, tried_ready, tried_waiting}
 use Rattle.cell_values.proofs.order.Progress.attempt.Goals as goal
 

@@ -1,8 +1,8 @@
 use Rattle.std.proofs.Common.{◌≡◌, ◌∙◌, sym, ap, refl, rules, arith, ℕ, length, get_or, false, [], replicate, ◌+◌}
 use Rattle.std.proofs.lemmas.Bool.{false≢true}
 use Rattle.std.proofs.lemmas.List.{length-replicate}
-use Rattle.cell_values.specs.Progress.{left}
-use Rattle.cell_values.specs.Order.{has}
+use Rattle.cell_values.specs.internal.Progress.{left}
+use Rattle.cell_values.specs.internal.Order.{has}
 use Rattle.cell_values.proofs.Lists.{at-replicate, left-replicate}
 use Rattle.cell_values.proofs.order.Progress.new.Goals as goal
 

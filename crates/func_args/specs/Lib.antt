@@ -1,0 +1,4 @@
+pub mod Answers
+pub mod Arguments
+pub mod Lists
+pub mod Signatures
