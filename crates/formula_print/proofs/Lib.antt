@@ -1,3 +1,4 @@
-pub mod Clips
 pub mod Doubled
 pub mod Commas
+pub mod NodeRules
+pub mod Appends

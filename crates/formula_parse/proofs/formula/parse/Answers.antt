@@ -1,4 +1,4 @@
-use Rattle.std.proofs.Common.{◌≡◌, ◌∙◌, ap, rules, Some, None}
+use Rattle.std.proofs.Common.{◌≡◌, ap, rules, Some, None}
 use Rattle.cell_addr.specs.Sheets.{id_in}
 use Rattle.formula_tree.specs.Reference.{sheet_of}
 use Rattle.formula_tree.specs.Relative.{relative}
