@@ -23,7 +23,7 @@ pub once_after-two : {X : Type 0} (same : X → X → Bool) (old mid new xs ys z
 once_after-two same old mid new xs ys zs m n z =
     n ∙ ap (λ d. once_after same d ys) m ∙ sym (once_after-append same old xs ys) ∙ ap (once_after same old) (sym z)
 
--- the item at an index, and those behind it
+-- the item at an index, and those after it
 pub drop-item : {X : Type 0} (items : List X) (i : ℕ) (item : X) → i < length items → item ≡ get_or items i item → drop i items ≡ item ∷ drop (i + 1) items
 drop-item items i item h is = rw add-one (drop-cons items i item h ∙ ap (λ x. x ∷ drop (suc i) items) (sym is))
 

@@ -17,7 +17,7 @@ use Rattle.formula_tree.specs.Run.{is_blank, begins_run, is_run_byte, begins_wit
 use Rattle.cell_addr.specs.Quoted.{quoted}
 use Rattle.formula_tree.specs.Tokens.{Front, number_length, begins_number, text_token, sheet_token, begins_with_fault, fault_token, byte_token, pair_op, sign_token, token_at, and_tokens, tokens_step, tokens_in, tokens_of}
 
--- what stands behind a token is no longer than this
+-- what follows a token is no longer than this
 abbrev pub Short : ℕ → Front → Type 0
 Short n None = Unit {0}
 Short n (Some p) = length p.1 ≤ n
@@ -62,7 +62,7 @@ short-number c cs token h =
     let some = number_length-by c cs (is_digit c) (c == 46) refl refl h in
     omega (arith, some, length-drop (number_length (c ∷ cs)) (c ∷ cs))
 
--- what stands behind quotes
+-- what follows quotes
 abbrev ShortParts : ℕ → Option (List ℕ × List ℕ) → Type 0
 ShortParts n None = Unit {0}
 ShortParts n (Some p) = length p.1 ≤ n
