@@ -1,7 +1,7 @@
-use crate::{ParseError, parse, read_plain};
+use crate::{ParseError, parse};
 use cell_addr::{NO_SHEET, OneSheet, Place, Text};
 use fix_num::Fixed;
-use formula_tree::{Corner, Home, Plain, PlainList, Pool, Sign, depth};
+use formula_tree::{Corner, Home, Plain, PlainList, Pool, Sign, depth, to_absolute};
 use std::alloc::{AllocError, Global};
 use std::fmt::Write;
 use std::test::Fail;
@@ -97,10 +97,12 @@ fn shown(alloc: Global, text: &str) -> Result<String, Fail> {
         row: 4,
         col: 4,
     });
+    let mut pool = Pool::new(alloc)?;
     let mut shown = String::new(alloc);
-    match read_plain(alloc, text, home, &sheets)? {
-        Some(tree) => show(alloc, &mut shown, &tree, 10)?,
-        None => shown.push_str("none")?,
+    match parse(alloc, &mut pool, text, home, &sheets) {
+        Ok(tree) => show(alloc, &mut shown, &to_absolute(alloc, &tree, home)?, 10)?,
+        Err(ParseError::Bad) => shown.push_str("none")?,
+        Err(ParseError::NoMemory) => return Err(Fail::from(AllocError)),
     }
     Ok(shown)
 }
