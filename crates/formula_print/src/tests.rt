@@ -32,15 +32,51 @@ const NAME: Home = Home::Name { sheet: NO_SHEET };
 /// Homes, references and their texts: far corners, the home's own sheet by its number, a home on no sheet.
 const CELLS: [(Home, SheetPart, Part, Part, &str); 9] = [
     (HOME, SheetPart::Own, Part::Rel(1), Part::Rel(26), "=AA2"),
-    (HOME, SheetPart::Own, Part::Rel(39_999), Part::Rel(18_277), "=ZZZ40000"),
-    (LAST, SheetPart::Own, Part::Rel(-39_999), Part::Rel(-18_277), "=A1"),
-    (LAST, SheetPart::Own, Part::Abs(39_999), Part::Rel(0), "=ZZZ$40000"),
-    (LAST, SheetPart::Id(1), Part::Rel(0), Part::Abs(0), "=$A40000"),
-    (HOME, SheetPart::Id(0), Part::Rel(0), Part::Abs(0), "='O''Neil'!$A1"),
+    (
+        HOME,
+        SheetPart::Own,
+        Part::Rel(39_999),
+        Part::Rel(18_277),
+        "=ZZZ40000",
+    ),
+    (
+        LAST,
+        SheetPart::Own,
+        Part::Rel(-39_999),
+        Part::Rel(-18_277),
+        "=A1",
+    ),
+    (
+        LAST,
+        SheetPart::Own,
+        Part::Abs(39_999),
+        Part::Rel(0),
+        "=ZZZ$40000",
+    ),
+    (
+        LAST,
+        SheetPart::Id(1),
+        Part::Rel(0),
+        Part::Abs(0),
+        "=$A40000",
+    ),
+    (
+        HOME,
+        SheetPart::Id(0),
+        Part::Rel(0),
+        Part::Abs(0),
+        "='O''Neil'!$A1",
+    ),
     // A sheet that isn't listed has no name.
     (HOME, SheetPart::Id(7), Part::Abs(0), Part::Abs(0), "=$A$1"),
     (NAME, SheetPart::Own, Part::Rel(3), Part::Abs(1), "=$B4"),
-    (NAME, SheetPart::Id(0), Part::Abs(3), Part::Rel(1), "='O''Neil'!B$4"),
+    (
+        NAME,
+        SheetPart::Id(0),
+        Part::Abs(3),
+        Part::Rel(1),
+        "='O''Neil'!B$4",
+    ),
 ];
 
 /// Names of sheets as they are written in front of a reference.
@@ -66,7 +102,12 @@ const BLOCKS: [(SheetPart, [Part; 4], &str); 3] = [
     ),
     (
         SheetPart::Id(1),
-        [Part::Rel(0), Part::Rel(0), Part::Rel(39_999), Part::Rel(18_277)],
+        [
+            Part::Rel(0),
+            Part::Rel(0),
+            Part::Rel(39_999),
+            Part::Rel(18_277),
+        ],
         "=A1:ZZZ40000",
     ),
 ];
@@ -143,11 +184,7 @@ fn binary(alloc: Global, op: Op, left: Node, right: Node) -> Result<Node, AllocE
     requires right { (home : Home) → ArePlacesInside (at_home home (relative right)) }
     ensures { IfOk result (λ node. (home : Home) → ArePlacesInside (at_home home (relative node))) }
 {
-    Ok(Node::Binary(
-        op,
-        Rc::new(alloc, left)?,
-        Rc::new(alloc, right)?,
-    ))
+    Ok(Node::Binary(op, Rc::new(alloc, left)?, Rc::new(alloc, right)?))
 }
 
 /// The tree of `+"say ""hi"""`.
