@@ -10,16 +10,10 @@ mod count;
 mod criterion;
 mod division;
 mod function;
-mod math;
 mod product;
 mod rounding;
 mod sum;
-mod sum_if;
 
 pub use criterion::{Comparison, Criterion};
 pub use function::MathFn;
-pub use math::math;
 pub use sum::summarized;
-
-#[cfg(test)]
-mod tests;
