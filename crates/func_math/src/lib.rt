@@ -13,7 +13,10 @@ mod function;
 mod product;
 mod rounding;
 mod sum;
+mod sum_if;
+mod value;
 
 pub use criterion::{Comparison, Criterion};
 pub use function::MathFn;
 pub use sum::summarized;
+pub use value::math;

@@ -1,9 +1,9 @@
 // SUM, AVERAGE, MIN, MAX and COUNT: what the numbers of a list come to.
 ghost use Rattle.std.specs.Prelude.{◌≡◌, ◌<◌, ◌≤◌, ◌^◌, true};
 ghost use Rattle.fix_num.specs.Number.{near};
-ghost use Rattle.func_args.specs.Answers.{number_value};
+ghost use Rattle.func_args.specs.Answers.{and_then, number_value};
 ghost use Rattle.func_math.specs.Functions.{of_summary};
-ghost use Rattle.func_math.specs.Sums.{average_of, sum_of, summary_answer};
+ghost use Rattle.func_math.specs.Sums.{average_of, decided, sum_of, summary_answer};
 
 use crate::function::MathFn;
 use cell_value::{FaultKind, Scalar, Summary};
@@ -38,8 +38,18 @@ fn answer(f: MathFn, summary: &Summary) -> Result<Fixed, FaultKind>
     }
 }
 
+// The exact sum, tested for range at its end, or the first fault.
+pub(crate) fn decided_sum(summary: &Summary) -> Result<Fixed, FaultKind>
+    ensures { result ≡ and_then (decided summary.now) sum_of }
+{
+    match summary.fault {
+        Some(fault) => Err(fault),
+        None => sum_of(summary),
+    }
+}
+
 // The exact sum, tested for range at its end.
-pub(crate) fn sum_of(summary: &Summary) -> Result<Fixed, FaultKind>
+fn sum_of(summary: &Summary) -> Result<Fixed, FaultKind>
     ensures { result ≡ sum_of summary.now }
 {
     match i64::try_from(summary.sum) {
