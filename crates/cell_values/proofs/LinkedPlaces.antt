@@ -4,8 +4,9 @@ use Rattle.std.specs.List.{list_any}
 use Rattle.std.proofs.lemmas.List.Folds.{list_any-append}
 use Rattle.cell_addr.specs.declared.place.Place.{Place}
 use Rattle.cell_addr.specs.Place.{covers, same_place}
-use Rattle.formula_tree.specs.Links.{links_in, links_in_all, block_of, is_place_word, is_reference}
-use Rattle.formula_tree.specs.Term.{Term, number, text, truth, fault, cell, area, name, prefix, percent, binary, call, paren, Terms, no_terms, term}
+use Rattle.formula_tree.specs.Links.{links_in, links_in_all, is_place_word}
+use Rattle.formula_tree.specs.Reference.{block_of}
+use Rattle.formula_tree.specs.Term.{Term, number, text, truth, fault, cell, area, name, prefix, percent, binary, call, paren, Terms, no_terms, term, is_reference}
 use Rattle.formula_tree.specs.declared.link.Link.{Link}
 use Rattle.formula_tree.specs.declared.reference.Corner.{Corner}
 use Rattle.cell_values.specs.Laws.{is_link_to}

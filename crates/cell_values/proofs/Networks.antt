@@ -15,7 +15,7 @@ use Rattle.cell_value.specs.declared.scalar.Scalar.TheVariants.{Empty}
 use Rattle.formula_tree.specs.Term.{Term, number, text, truth, fault, cell, area, name, prefix, percent, binary, call, paren}
 use Rattle.cell_addr.specs.Place.{same_place}
 use Rattle.formula_tree.specs.declared.reference.Corner.{Corner}
-use Rattle.value_network.specs.Network.{IsNetwork}
+use Rattle.value_network.specs.Network.{IsNetwork, at_once}
 use Rattle.value_network.proofs.LeftOver.{free_by_needs}
 use Rattle.value_network.proofs.Stuck.{stuck_covers}
 use Rattle.value_network.proofs.Values.{unfolds, unique_everywhere, value-good}
@@ -24,7 +24,7 @@ use Rattle.cell_values.specs.Workbook as content
 use Rattle.cell_values.specs.Meaning.{combined, hundredth, meaning, signed_value}
 use Rattle.cell_values.specs.Needs.{mentions, needs_place}
 use Rattle.cell_values.specs.Values.{worked_out, is_formula, network, is_bad, value_at}
-use Rattle.value_network.proofs.FollowedNeeds.{cycles_return, stuck_leads_to_cycle}
+use Rattle.value_network.proofs.FollowedNeeds.{stuck_returns}
 use Rattle.cell_values.proofs.Books.{same_at}
 use Rattle.cell_values.specs.Laws.{BadPlacesLeadToCycles, ValuesUnfold, NothingElseUnfolds}
 
@@ -113,7 +113,7 @@ book_is_network b = record {
   same_equal = same_place_equal;
   same_self = same_place_self;
   needs_formula = λ p q h. let f = needing (get b p) q h in listed (entries b) p f.0 (sym (get-entries b p) ∙ f.1) f.2;
-  reads_needs = λ p v w alike. worked_out_reads (get b p) v w alike;
+  reads_needs = λ p v w alike. worked_out_reads (get b p) v w (λ q need. alike q (at_once need));
 }
 
 -- each cell shows what it works out from what the others show, or that it is on a cycle or behind one
@@ -126,12 +126,7 @@ nothing_else_unfolds b shown unfold_there p = unique_everywhere (network b) (boo
 
 -- the places that show #CYCLE! by themselves lead to one on a cycle
 pub bad_places_lead_to_cycles : BadPlacesLeadToCycles
-bad_places_lead_to_cycles b p =
-    let stuck = stuck_leads_to_cycle (network b) (book_is_network b) p in
-    let returns = cycles_return (network b) (book_is_network b) in (
-      λ bad. let s = stuck.0 bad in (s.0, (returns s.0).0 s.1, s.2),
-      λ s. stuck.1 (s.0, (returns s.0).1 s.1, s.2),
-    )
+bad_places_lead_to_cycles b p = stuck_returns (network b) (book_is_network b) p
 
 -- a place without a cell isn't bad, and shows nothing
 pub empty_is_good : (b : Book) (p : Place) → get b p ≡ None → is_bad b p ≡ false

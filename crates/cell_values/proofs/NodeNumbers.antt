@@ -18,8 +18,7 @@ use Rattle.cell_addr.specs.Place.{same_place}
 use Rattle.std.specs.FinMap.{get}
 use Rattle.std.specs.declared.alloc.Global.{Global}
 use Rattle.std.specs.declared.vec.Vec.{Vec}
-use Rattle.formula_tree.specs.Links.{is_reference}
-use Rattle.formula_tree.specs.Term.{Term, Terms, term}
+use Rattle.formula_tree.specs.Term.{Term, Terms, term, is_reference}
 use Rattle.formula_tree.specs.declared.reference.Corner.{Corner}
 use Rattle.formula_tree.specs.declared.node.Node.{Node}
 use Rattle.std.specs.declared.rc.Rc.{Rc}

@@ -13,7 +13,7 @@ use Rattle.cell_value.specs.declared.scalar.Scalar.TheVariants as scalar
 use Rattle.cell_value.specs.declared.fault.FaultKind.TheVariants as fault
 use Rattle.value_network.proofs.LeftOver.{free_by_needs, left_over_is_stuck}
 use Rattle.value_network.proofs.Stuck.{stuck_covers}
-use Rattle.value_network.proofs.Values.{works_in_place, value-bad}
+use Rattle.value_network.proofs.Values.{works_after, value-bad}
 use Rattle.cell_values.specs.Workbook.{Book}
 use Rattle.cell_values.specs.Needs.{needs_place}
 use Rattle.cell_values.specs.Values.{worked_out, network, is_bad, value_at}
@@ -23,10 +23,16 @@ use Rattle.cell_values.specs.declared.nodes.Nodes.{Nodes}
 use Rattle.cell_values.specs.declared.evaluate.Shown.{Shown}
 use Rattle.cell_values.proofs.Networks.{book_is_network, empty_is_good, value_of_empty}
 
--- the cells done show their values, and are on no cycle nor behind one; all others show #CYCLE!
+-- the number of the place, where it has one, is done
+abbrev pub IsDone : Nodes → List ℕ → Place → Type 0
+IsDone nodes done p = (i : ℕ) → number_at nodes p ≡ Some i → has i done ≡ true
+
+-- the cells done show their values, are on no cycle and lead to none, and all that they need is done; all others
+-- show #CYCLE!
 pub record KeepsValues (b : Book) (nodes : Nodes) (values : List Scalar) (done : List ℕ) : Type 0 where
   pub good : (p : Place) (i : ℕ) → number_at nodes p ≡ Some i → has i done ≡ true → is_bad b p ≡ false
   pub value : (p : Place) (i : ℕ) → number_at nodes p ≡ Some i → has i done ≡ true → get_or values i Empty ≡ value_at b p
+  pub closed : (p q : Place) (i : ℕ) → number_at nodes p ≡ Some i → has i done ≡ true → needs_place (get b p) q ≡ true → IsDone nodes done q
   pub others : (p : Place) (i : ℕ) → number_at nodes p ≡ Some i → has i done ≡ false → get_or values i Empty ≡ scalar.Fault fault.Cycle
 
 -- a place, where any will do
@@ -52,16 +58,21 @@ module _ (b : Book) (nodes : Nodes) (needs : List (Vec ℕ Global)) (numbers : N
     needed_good q need None none = empty_is_good b q (numbers.filled q none)
     needed_good q need (Some j) is = keeps.good q j is (needed_done q j need is)
 
-    needed_value : (q : Place) → needs_place (get b p) q ≡ true → (o : Option ℕ) → number_at nodes q ≡ o → value_numbered values o ≡ value_at b q
-    needed_value q need None none = sym (value_of_empty b q (numbers.filled q none))
-    needed_value q need (Some j) is = keeps.value q j is (needed_done q j need is)
+    done_value : (q : Place) → IsDone nodes done q → (o : Option ℕ) → number_at nodes q ≡ o → value_numbered values o ≡ value_at b q
+    done_value q is_done None none = sym (value_of_empty b q (numbers.filled q none))
+    done_value q is_done (Some j) is = keeps.value q j is (is_done j is)
+
+    done_closed : (q r : Place) → IsDone nodes done q → (o : Option ℕ) → number_at nodes q ≡ o → needs_place (get b q) r ≡ true → IsDone nodes done r
+    done_closed q r is_done None none need = absurd (false≢true (sym (ap (λ c. needs_place c r) (numbers.filled q none)) ∙ need))
+    done_closed q r is_done (Some j) is need = keeps.closed q r j is (is_done j is) need
 
     next_is_good : is_bad b p ≡ false
     next_is_good = free_by_needs (network b) (book_is_network b) p (λ q need. needed_good q need (number_at nodes q) refl)
 
     next_value : worked_out (λ q. value_numbered values (number_at nodes q)) (get b p) ≡ value_at b p
-    next_value = works_in_place (network b) (book_is_network b) (is_bad b) (stuck_covers (network b) (book_is_network b)) p
-        (λ q. value_numbered values (number_at nodes q)) next_is_good (λ q need. needed_value q need (number_at nodes q) refl)
+    next_value = works_after (network b) (book_is_network b) (is_bad b) (stuck_covers (network b) (book_is_network b)) (IsDone nodes done)
+        (λ q. value_numbered values (number_at nodes q)) (λ q r is_done need. done_closed q r is_done (number_at nodes q) refl need) (λ q is_done. done_value q is_done (number_at nodes q) refl)
+        p next_is_good (λ q need j is. needed_done q j need is)
 
   -- where the next cell is worked out behind all that it needs, one cell more is done
   module _ (old new : List Scalar) (done : List ℕ) (keeps : KeepsValues b nodes old done) (i : ℕ) (inside : i < length nodes.places.items) (count : length old ≡ length nodes.places.items)
@@ -98,6 +109,10 @@ module _ (b : Book) (nodes : Nodes) (needs : List (Vec ℕ Global)) (numbers : N
           (λ same. set_here j (eqb-true j i same) ∙ ap (value_at b) (is_here p j is same))
           (λ apart. set_else j apart ∙ keeps.value p j is (sym (ap (λ x. x || has j done) apart) ∙ inside_done))
           (cases_Bool (eqb j i));
+      closed = λ p q j is inside_done need k at_q. ⊎_elim
+          (λ same. or_right (eqb k i) (has k done) (needed_done old done keeps i here at_here ready q k (ap (λ x. needs_place (get b x) q) (is_here p j is same) ∙ need) at_q))
+          (λ before. or_right (eqb k i) (has k done) (keeps.closed p q j is before need k at_q))
+          (or_cases (eqb j i) (has j done) inside_done);
       others = λ p j is left. ⊎_elim
           (λ same. absurd (false≢true (sym left ∙ ap (λ x. x || has j done) same)))
           (λ apart. set_else j apart ∙ keeps.others p j is (sym (ap (λ x. x || has j done) apart) ∙ left))
@@ -158,6 +173,7 @@ module _ (b : Book) (needs : List (Vec ℕ Global)) (order : List ℕ) where
     keeps = record {
       good = λ p j is none. absurd (false≢true none);
       value = λ p j is none. absurd (false≢true none);
+      closed = λ p q j is none need. absurd (false≢true none);
       others = λ p j is left. cycles.2 j (numbers.numbered p j (ap (λ n. number_at n p) (sym cycles.0) ∙ is)).0;
     };
     behind = behind;

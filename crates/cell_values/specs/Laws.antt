@@ -1,5 +1,5 @@
 -- What holds of the values of a workbook.
-use Rattle.std.specs.Prelude.{◌≡◌, ◌↔◌, ◌⊎◌, if◌then◌else◌, Bool, true, false}
+use Rattle.std.specs.Prelude.{◌≡◌, ◌↔◌, if◌then◌else◌, Bool, true, false}
 use Rattle.std.specs.List.{list_any}
 use Rattle.std.specs.FinMap as map
 use Rattle.cell_addr.specs.declared.place.Place.{Place}
@@ -12,7 +12,7 @@ use Rattle.formula_tree.specs.Term.{Term}
 use Rattle.formula_tree.specs.declared.link.Link.{Link}
 use Rattle.formula_tree.specs.declared.link.Link.TheVariants as links
 use Rattle.formula_tree.specs.declared.reference.Corner.{Corner}
-use Rattle.value_network.specs.Laws.{LeadsTo}
+use Rattle.value_network.specs.Network.{LeadsTo}
 use Rattle.cell_values.specs.Workbook.{Book}
 use Rattle.cell_values.specs.Needs.{mentions}
 use Rattle.cell_values.specs.Values.{network, worked_out, value_at, is_bad}
@@ -29,10 +29,10 @@ ValuesUnfold = (b : Book) → UnfoldsIn b (value_at b)
 abbrev pub NothingElseUnfolds : Type 0
 NothingElseUnfolds = (b : Book) (shown : Place → Scalar) → UnfoldsIn b shown → (p : Place) → shown p ≡ value_at b p
 
--- a place that shows #CYCLE! by itself is one from which needs lead to a place, itself or another, from which they
--- come back to it
+-- the places that show #CYCLE! by themselves are those from which needs lead to a place from which they come back
+-- to it
 abbrev pub BadPlacesLeadToCycles : Type 0
-BadPlacesLeadToCycles = (b : Book) (p : Place) → (is_bad b p ≡ true) ↔ ((q : Place) × LeadsTo (network b) q q × ((p ≡ q) ⊎ LeadsTo (network b) p q))
+BadPlacesLeadToCycles = (b : Book) (p : Place) → (is_bad b p ≡ true) ↔ ((q : Place) × LeadsTo (network b) p q × LeadsTo (network b) q q)
 
 -- a link is to the place, or to a block that covers it; a name is no place
 abbrev pub is_link_to : Place → Link → Bool

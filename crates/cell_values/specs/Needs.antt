@@ -2,8 +2,9 @@
 use Rattle.std.specs.Prelude.{Bool, false, not, ◌&&◌, ◌||◌, Option, Some}
 use Rattle.cell_addr.specs.declared.place.Place.{Place}
 use Rattle.cell_addr.specs.Place.{covers, same_place}
-use Rattle.formula_tree.specs.Term.{Term, cell, area, prefix, percent, binary, call, paren, Terms, no_terms, term}
-use Rattle.formula_tree.specs.Links.{block_of, is_place_word, is_reference}
+use Rattle.formula_tree.specs.Term.{Term, cell, area, prefix, percent, binary, call, paren, Terms, no_terms, term, is_reference}
+use Rattle.formula_tree.specs.Links.{is_place_word}
+use Rattle.formula_tree.specs.Reference.{block_of}
 use Rattle.formula_tree.specs.declared.reference.Corner.{Corner}
 use Rattle.cell_values.specs.Workbook.{Content, formula}
 

@@ -12,8 +12,8 @@ pub fn nothing_else_unfolds()
     ensures { NothingElseUnfolds }
 {}
 
-/// A place shows `#CYCLE!` by itself exactly where needs lead from it, in any number of steps or none,
-/// to a place from which they come back to it.
+/// A place shows `#CYCLE!` by itself exactly where needs lead from it to a place from which they come
+/// back to that place.
 pub fn bad_places_lead_to_cycles()
     ensures { BadPlacesLeadToCycles }
 {}

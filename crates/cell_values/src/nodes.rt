@@ -10,7 +10,7 @@ ghost use Rattle.cell_values.specs.Workbook.{book_of};
 
 use crate::workbook::{Cell, Workbook};
 use cell_addr::{Block, Place};
-use formula_tree::{Home, Node, TreeList, block_between, is_place_word};
+use formula_tree::{Home, Node, TreeList, is_place_word};
 use std::alloc::{AllocError, Global};
 use std::collections::BTreeMap;
 use std::sync::ledger::Ledger;
@@ -87,7 +87,7 @@ impl Nodes {
         match tree {
             Node::Cell(reference) => self.add_cell(reference.at(home).at, needs, steps)?,
             Node::Area(first, last) => {
-                self.add_block(block_between(first.at(home), last.at(home)), needs, steps)?
+                self.add_block(first.at(home).block_to(last.at(home)), needs, steps)?
             },
             Node::Prefix(_, part) => self.add_tree(part, home, needs, steps)?,
             Node::Percent(part) => self.add_tree(part, home, needs, steps)?,
@@ -96,7 +96,7 @@ impl Nodes {
                 self.add_tree(left, home, needs, steps)?;
                 self.add_tree(right, home, needs, steps)?;
             }
-            Node::Call(word, list) => self.add_list(list, home, is_place_word(word), needs, steps)?,
+            Node::Call(word, list) => self.add_list(list, home, is_place_word(word.as_str()), needs, steps)?,
             Node::Number(_) | Node::Text(_) | Node::Truth(_) | Node::Fault(_) | Node::Name(_) => {}
         }
         Ok(())

@@ -1,4 +1,4 @@
--- The ASCII bytes that a text begins with: a text may be cut behind them. Serves the lexer.
+-- The ASCII bytes that a text begins with: a text may be cut after them. Serves the lexer.
 use Rattle.std.proofs.Common.{◌≡◌, sym, ◌∙◌, ap, subst, refl, arith, add-one, ℕ, zero, suc, ◌+◌, ◌≤◌, Bool, true, false, ◌&&◌, ◌==◌, eqb, cond, if◌then◌else◌, List, [], ◌∷◌, length, take, drop, Some, None}
 use Rattle.std.specs.List.{list_all, prefix_len, find}
 use Rattle.std.specs.Char.{is_ascii, to_ascii_lowercase}
@@ -14,11 +14,11 @@ use Rattle.cell_value.specs.declared.fault.FaultKind.{FaultKind}
 use Rattle.cell_value.specs.declared.fault.FaultKind.TheVariants as kinds
 use Rattle.cell_value.specs.Fault.{fault_text, faults}
 use Rattle.formula_tree.specs.declared.operator.Op.{Op}
-use Rattle.formula_tree.specs.declared.token.Token.{Token}
-use Rattle.formula_tree.specs.Run.{is_run_byte, begins_with, begins_with_any, behind, is_sheet_behind}
+use Rattle.formula_tree.specs.Token.{Token}
+use Rattle.formula_tree.specs.Run.{is_blank, is_run_byte, begins_with, begins_with_any, after_while, ends_sheet_name}
 use Rattle.formula_tree.specs.Tokens.{decimals_length, number_length, begins_with_fault, byte_token, pair_op}
 
--- a text may be cut behind ASCII bytes
+-- a text may be cut after ASCII bytes
 pub boundary : (cs : List ℕ) (n : ℕ) → IsUtf8 cs → n ≤ prefix_len is_ascii cs → IsCharBoundary cs n
 boundary cs zero u h = IsCharBoundary-start cs u
 boundary cs (suc n) u h =
@@ -35,7 +35,7 @@ pub prefix_len-weaker : (p q : ℕ → Bool) → ((c : ℕ) → p c ≡ true →
 prefix_len-weaker p q f [] = omega arith
 prefix_len-weaker p q f (c ∷ cs) = weaker-by p q (p c) c cs (f c) (prefix_len-weaker p q f cs)
 
--- bytes that pass a test, and more of them behind those
+-- bytes that pass a test, and more of them after those
 both-by : (q : ℕ → Bool) (a b : ℕ) (t : Bool) (cs : List ℕ) → (a ≤ prefix_len q cs → a + b ≤ prefix_len q cs) → suc a ≤ cond t (1 + prefix_len q cs) 0 → suc a + b ≤ cond t (1 + prefix_len q cs) 0
 both-by q a b true cs f h = let g = f (omega arith) in omega arith
 both-by q a b false cs f h = absurd (omega arith)
@@ -48,6 +48,12 @@ prefix_len-both q (suc a) b (c ∷ cs) h g = both-by q a b (q c) cs (λ k. prefi
 -- the bytes of runs and numbers
 pub run-ascii : (c : ℕ) → is_run_byte c ≡ true → is_ascii c ≡ true
 run-ascii c h = grind (arith, nat_tests)
+
+blank-ascii : (c : ℕ) → is_blank c ≡ true → is_ascii c ≡ true
+blank-ascii c h = grind (arith, nat_tests)
+
+pub ascii-blanks : (cs : List ℕ) → prefix_len is_blank cs ≤ prefix_len is_ascii cs
+ascii-blanks cs = prefix_len-weaker is_blank is_ascii blank-ascii cs
 
 digit-ascii : (c : ℕ) → is_digit c ≡ true → is_ascii c ≡ true
 digit-ascii c h = grind (arith, nat_tests)
@@ -70,7 +76,7 @@ ascii-decimals [] = omega arith
 ascii-decimals (c ∷ cs) = decimals-by (c == 46) c cs (point-ascii c)
 
 pub ascii-number : (cs : List ℕ) → number_length cs ≤ prefix_len is_ascii cs
-ascii-number cs = prefix_len-both is_ascii (prefix_len is_digit cs) (decimals_length (behind is_digit cs)) cs (ascii-digits cs) (ascii-decimals (behind is_digit cs))
+ascii-number cs = prefix_len-both is_ascii (prefix_len is_digit cs) (decimals_length (after_while is_digit cs)) cs (ascii-digits cs) (ascii-decimals (after_while is_digit cs))
 
 -- the byte in front
 pub byte-ascii : (q : ℕ) (cs : List ℕ) → is_ascii q ≡ true → begins_with q cs ≡ true → begins_with_any is_ascii cs ≡ true
@@ -81,7 +87,7 @@ pub ascii-byte : (cs : List ℕ) → begins_with_any is_ascii cs ≡ true → 1 
 ascii-byte [] h = cc
 ascii-byte (c ∷ cs) h = rw h (omega arith)
 
-pub sheet-ascii : (cs : List ℕ) → is_sheet_behind cs ≡ true → begins_with_any is_ascii cs ≡ true
+pub sheet-ascii : (cs : List ℕ) → ends_sheet_name cs ≡ true → begins_with_any is_ascii cs ≡ true
 sheet-ascii cs h = byte-ascii 33 cs refl (and_parts (begins_with 33 cs) _ h).0
 
 -- a text that spells ASCII letters is ASCII

@@ -1,8 +1,9 @@
 pub mod AsciiFronts
-pub mod Quotes
-pub mod ShorterFronts
-pub mod ReadTokens
+pub mod Streams
+pub mod Symbols
+pub mod Corners
 pub mod ReaderRules
 pub mod ReaderLoops
+pub mod SpeltTokens
 pub mod ReadTexts
 pub mod CanonicalRead

@@ -3,17 +3,17 @@ ghost use Rattle.std.specs.Prelude.{◌≡◌, ◌<◌, ◌≤◌, Some, None, I
 ghost use Rattle.std.specs.Option.{option_map};
 ghost use Rattle.cell_addr.specs.Sheets.{id_in};
 ghost use Rattle.formula_tree.specs.Term.{Term, depth_of};
-ghost use Rattle.formula_tree.specs.Grammar.{sheet_of, SpellsText};
+ghost use Rattle.formula_tree.specs.Reference.{sheet_of, IsHomeInside};
+ghost use Rattle.formula_tree.specs.Grammar.{SpellsText};
 ghost use Rattle.formula_tree.specs.Reader.{tree_of_text, max_levels};
 ghost use Rattle.formula_tree.specs.Seen.{seen};
-ghost use Rattle.formula_tree.specs.StandsFor.{StandsFor};
+ghost use Rattle.formula_tree.specs.Relative.{relative};
+ghost use Rattle.formula_tree.specs.StandsFor.{StandsFor, at_home};
 ghost use Rattle.formula_tree.specs.declared.reference.Corner.{Corner};
 
-use crate::front::{begins_with, behind_byte};
-use crate::lexer::tokens;
 use crate::reader::tree_of;
-use cell_addr::SheetNames;
-use formula_tree::{Home, Plain, Pool, Tree};
+use cell_addr::{SheetNames, strip_prefix};
+use formula_tree::{Home, Plain, Pool, Tree, to_absolute};
 use std::alloc::{AllocError, Global};
 use thiserror::Error;
 
@@ -39,14 +39,34 @@ impl From<AllocError> for ParseError {
     }
 }
 
-// The sheet that a formula stands on, which references without a sheet's name are on.
-fn sheet_of(home: Home) -> u32
-    ensures { result ≡ sheet_of home }
+/// The tree that the text spells, for a formula at this home, shared by the pool. The home lies within the
+/// limits of a sheet.
+///
+/// `Bad` exactly where no tree of at most 64 levels has this spelling: the text doesn't begin with `=`, or
+/// what follows isn't in the grammar, or nests deeper. A reference to a sheet that isn't listed is the
+/// fault `#REF!`. The text is read once, from left to right.
+pub fn parse<S: SheetNames>(
+    alloc: Global,
+    pool: &mut Pool,
+    text: &str,
+    home: Home,
+    sheets: &S,
+) -> Result<Tree, ParseError>
+    requires { IsHomeInside home }
+    ensures read { IfOk result (λ tree. (t : Term Corner) × StandsFor tree home t
+        × (tree_of_text (sheet_of home) (id_in (S.sheets sheets.now)) text.now ≡ Some t)) }
+    ensures spelt { IfOk result (λ tree. (t : Term Corner) × StandsFor tree home t
+        × SpellsText (sheet_of home) (id_in (S.sheets sheets.now)) text.now t × (depth_of t ≤ max_levels)) }
+    ensures bad { IsErrOf result ParseError.Bad
+        → tree_of_text (sheet_of home) (id_in (S.sheets sheets.now)) text.now ≡ None }
+    ensures unspelt { IsErrOf result ParseError.Bad → (t : Term Corner)
+        → SpellsText (sheet_of home) (id_in (S.sheets sheets.now)) text.now t → max_levels < depth_of t }
 {
-    match home {
-        Home::Cell(at) => at.sheet,
-        Home::Name { sheet } => sheet,
-    }
+    let Some(tree) = read_tree(alloc, text, home, sheets)? else {
+        return Err(ParseError::Bad);
+    };
+    let shared = pool.share(tree)?;
+    Ok(shared)
 }
 
 /// The plain tree that the text spells, for a formula at this home, with every reference as the place that
@@ -57,42 +77,30 @@ pub fn read_plain<S: SheetNames>(
     home: Home,
     sheets: &S,
 ) -> Result<Option<Plain>, AllocError>
+    requires { IsHomeInside home }
     ensures { IfOk result (λ found. option_map seen found ≡ tree_of_text (sheet_of home) (id_in (S.sheets sheets.now)) text.now) }
 {
-    if !begins_with(text.as_bytes(), b'=') {
-        return Ok(None);
-    }
-    let Some(tokens) = tokens(alloc, behind_byte(text))? else {
+    let Some(tree) = read_tree(alloc, text, home, sheets)? else {
         return Ok(None);
     };
-    let found = tree_of(alloc, sheet_of(home), sheets, &tokens)?;
-    Ok(found)
+    let plain = to_absolute(alloc, &tree, home)?;
+    Ok(Some(plain))
 }
 
-/// The tree that the text spells, for a formula at this home, shared by the pool.
-///
-/// `Bad` exactly where no tree of at most 64 levels has this spelling: the text doesn't begin with `=`, or
-/// what stands behind that isn't in the grammar, or nests deeper. A reference to a sheet that isn't listed
-/// is the fault `#REF!`.
-pub fn parse<S: SheetNames>(
+// The tree that the text spells, for a formula at this home; `None` where it spells none of at most 64
+// levels.
+fn read_tree<S: SheetNames>(
     alloc: Global,
-    pool: &mut Pool,
     text: &str,
     home: Home,
     sheets: &S,
-) -> Result<Tree, ParseError>
-    ensures read { IfOk result (λ tree. (t : Term Corner) × StandsFor tree home t
-        × (tree_of_text (sheet_of home) (id_in (S.sheets sheets.now)) text.now ≡ Some t)) }
-    ensures spelt { IfOk result (λ tree. (t : Term Corner) × StandsFor tree home t
-        × SpellsText (sheet_of home) (id_in (S.sheets sheets.now)) text.now t × (depth_of t ≤ max_levels)) }
-    ensures bad { IsErrOf result ParseError.Bad
-        → tree_of_text (sheet_of home) (id_in (S.sheets sheets.now)) text.now ≡ None }
-    ensures unspelt { IsErrOf result ParseError.Bad → (t : Term Corner)
-        → SpellsText (sheet_of home) (id_in (S.sheets sheets.now)) text.now t → max_levels < depth_of t }
+) -> Result<Option<Tree>, AllocError>
+    requires { IsHomeInside home }
+    ensures { IfOk result (λ found. option_map (λ tree. at_home home (relative tree.value)) found ≡ tree_of_text (sheet_of home) (id_in (S.sheets sheets.now)) text.now) }
 {
-    let Some(plain) = read_plain(alloc, text, home, sheets)? else {
-        return Err(ParseError::Bad);
+    let Some(formula) = strip_prefix(text, '=') else {
+        return Ok(None);
     };
-    let tree = pool.intern(&plain, home)?;
-    Ok(tree)
+    let found = tree_of(alloc, home, sheets, formula)?;
+    Ok(found)
 }

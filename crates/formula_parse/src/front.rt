@@ -1,20 +1,20 @@
-// Fronts of formulas' texts: the bytes that a text begins with, and where it is cut behind them.
+// Fronts of formulas' texts: the bytes that a text begins with, and where it is cut after them.
 ghost use Rattle.std.specs.Prelude.{◌≡◌, ◌≤◌, true, length, take, drop};
 ghost use Rattle.std.specs.List.{prefix_len, take_while};
 ghost use Rattle.std.specs.Char.{is_ascii};
 ghost use Rattle.digits.specs.Digits.{is_digit};
-ghost use Rattle.formula_tree.specs.Run.{is_blank, begins_with, begins_with_any, behind, begins_run, is_run_byte};
+ghost use Rattle.formula_tree.specs.Run.{is_blank, begins_with, begins_with_any, after_while, begins_run, is_run_byte};
 
 use digits::digit;
 
-/// Whether the byte is a blank: a space, a tab, a line feed or a carriage return.
+// Whether the byte is a blank: a space, a tab, a line feed or a carriage return.
 pub(crate) fn is_blank(c: u8) -> bool
     ensures { result ≡ is_blank c }
 {
     (c == b' ' || c == b'\t') || (c == b'\n' || c == b'\r')
 }
 
-/// Whether the text begins with this byte.
+// Whether the text begins with this byte.
 pub(crate) fn begins_with(text: &[u8], byte: u8) -> bool
     ensures { result ≡ begins_with byte text.now }
 {
@@ -24,7 +24,7 @@ pub(crate) fn begins_with(text: &[u8], byte: u8) -> bool
     }
 }
 
-/// Whether the text begins with a blank.
+// Whether the text begins with a blank.
 pub(crate) fn begins_with_blank(text: &[u8]) -> bool
     ensures { result ≡ begins_with_any is_blank text.now }
 {
@@ -34,7 +34,7 @@ pub(crate) fn begins_with_blank(text: &[u8]) -> bool
     }
 }
 
-/// Whether the text begins with a digit.
+// Whether the text begins with a digit.
 pub(crate) fn begins_with_digit(text: &[u8]) -> bool
     ensures { result ≡ begins_with_any is_digit text.now }
 {
@@ -44,7 +44,7 @@ pub(crate) fn begins_with_digit(text: &[u8]) -> bool
     }
 }
 
-/// Whether the text begins with a run.
+// Whether the text begins with a run.
 pub(crate) fn begins_with_run(text: &[u8]) -> bool
     ensures { result ≡ begins_with_any begins_run text.now }
 {
@@ -68,7 +68,7 @@ fn is_run_byte(c: u8) -> bool
     c.is_ascii_alphanumeric() || ((c == b'_' || c == b'.') || c == b'$')
 }
 
-/// How many digits the text begins with.
+// How many digits the text begins with.
 pub(crate) fn digits_count(text: &[u8]) -> usize
     ensures count { result ≡ prefix_len is_digit text.now }
     ensures within { result ≤ length text.now }
@@ -76,7 +76,7 @@ pub(crate) fn digits_count(text: &[u8]) -> usize
     text.iter().take_while(|c| digit(**c)).count()
 }
 
-/// The first bytes of the text, so many, or all where it has no more.
+// The first bytes of the text, so many, or all where it has no more.
 #[tactic(auto, using(std::proofs::lemmas::List::take_min))]
 pub(crate) fn first_bytes(text: &[u8], count: usize) -> &[u8]
     ensures { result.now ≡ take count text.now }
@@ -84,11 +84,11 @@ pub(crate) fn first_bytes(text: &[u8], count: usize) -> &[u8]
     &text[..count.min(text.len())]
 }
 
-/// What stands behind the blanks that the text begins with.
-pub(crate) fn behind_blanks(text: &[u8]) -> &[u8]
-    ensures { result.now ≡ behind is_blank text.now }
+// What follows the blanks that the text begins with.
+pub(crate) fn after_blanks(text: &str) -> &str
+    ensures { result.now ≡ after_while is_blank text.now }
 {
-    &text[blanks_count(text)..]
+    split_front(text, blanks_count(text.as_bytes())).1
 }
 
 // How many blanks the text begins with.
@@ -107,25 +107,25 @@ fn run_length(text: &[u8]) -> usize
     text.iter().take_while(|c| is_run_byte(**c)).count()
 }
 
-/// The bytes of runs that the text begins with, and what stands behind them.
+// The bytes of runs that the text begins with, and what follows them.
 pub(crate) fn split_run(text: &str) -> (&str, &str)
     ensures run { result.0.now ≡ take_while is_run_byte text.now }
-    ensures behind { result.1.now ≡ behind is_run_byte text.now }
+    ensures rest { result.1.now ≡ after_while is_run_byte text.now }
 {
     split_front(text, run_length(text.as_bytes()))
 }
 
-/// The first bytes of the text, so many and each of them ASCII, and what stands behind them.
+// The first bytes of the text, so many and each of them ASCII, and what follows them.
 pub(crate) fn split_front(text: &str, count: usize) -> (&str, &str)
     requires { count ≤ prefix_len is_ascii text.now }
     ensures front { result.0.now ≡ take count text.now }
-    ensures behind { result.1.now ≡ drop count text.now }
+    ensures rest { result.1.now ≡ drop count text.now }
 {
     text.split_at(count)
 }
 
-/// What stands behind the ASCII byte that the text begins with.
-pub(crate) fn behind_byte(text: &str) -> &str
+// What follows the ASCII byte that the text begins with.
+pub(crate) fn after_byte(text: &str) -> &str
     requires { begins_with_any is_ascii text.now ≡ true }
     ensures { result.now ≡ drop 1 text.now }
 {

@@ -1,74 +1,91 @@
-// The tokens of formulas' texts.
-ghost use Rattle.std.specs.Prelude.{◌≡◌, ◌≤◌, ◌<◌, Some, IfOk, length, take, drop, slice_get};
+// The tokens of formulas' texts, read one at a time.
+ghost use Rattle.std.specs.Prelude.{◌≡◌, ◌≤◌, ◌∷◌, [], Some, MatchOption, IfSome, length, take, drop};
 ghost use Rattle.std.specs.Option.{option_map, option_and_then};
 ghost use Rattle.std.specs.List.{find};
+ghost use Rattle.cell_addr.specs.Quoted.{quoted};
 ghost use Rattle.cell_value.specs.Fault.{faults};
-ghost use Rattle.formula_tree.specs.Tokens.{decimals_length, number_length, begins_number, quoted, text_token, sheet_token, begins_with_fault, fault_token, byte_token, pair_op, tokens_of};
-ghost use Rattle.formula_parse.specs.Front.{front_of, sign_of, number_front};
+ghost use Rattle.formula_tree.specs.Tokens.{decimals_length, number_length, begins_number, text_token, sheet_token, begins_with_fault, fault_token, byte_token, pair_op};
+ghost use Rattle.formula_tree.specs.Reader.{after, corner_front};
+ghost use Rattle.formula_parse.specs.internal.Front.{IsAddressInside, HasAddressInside, token_of, symbol_token, mark_token, front_of, symbol_of, number_front};
+ghost use Rattle.formula_parse.specs.internal.Stream.{stream, symbol_front};
 
 use crate::front::{
-    begins_with, begins_with_digit, begins_with_run, behind_byte, digits_count, first_bytes,
-    is_blank, split_front, split_run,
+    after_blanks, after_byte, begins_with, begins_with_digit, begins_with_run, digits_count,
+    first_bytes, split_front, split_run,
 };
-use crate::quote::quoted;
-use crate::run::{is_sheet_behind, run_token};
-use cell_addr::Text;
+use crate::run::{ends_sheet_name, run_token};
+use crate::token::{Mark, Symbol, Token};
+use cell_addr::after_quoted;
 use cell_value::FaultKind;
-use formula_tree::{Op, Token};
-use std::alloc::{AllocError, Global};
+use formula_tree::{Address, Op};
 
-/// The tokens of a formula's text, which is what stands behind its `=`, or `None` where the text isn't
-/// made of tokens: where a byte begins none, a quote isn't closed, or no `!` follows a sheet's name between
-/// apostrophes. Blanks between tokens mean nothing.
-///
-/// The time is linear in the text's length. Source: OpenFormula, and this project's own rules on runs.
-pub fn tokens(alloc: Global, text: &str) -> Result<Option<Vec<Token>>, AllocError>
-    ensures { IfOk result (λ read. option_map (λ v. v.items) read ≡ tokens_of text.now) }
+// The first token of the text, and what follows it; none where the text is blank.
+pub(crate) fn first_token(text: &str) -> Option<(Token<'_>, &str)>
+    ensures token { MatchOption result (stream text.now ≡ []) (λ p. stream text.now ≡ token_of p.0 ∷ stream p.1.now) }
+    ensures inside { IfSome result (λ p. HasAddressInside (token_of p.0)) }
 {
-    let mut found = Vec::new(alloc);
-    let mut rest = text;
-    'tokens: while let Some(first) = first_byte(rest) {
-        if is_blank(first) {
-            rest = behind_byte(rest);
-            continue;
-        }
-        match front(alloc, rest) {
-            Ok(Some((token, behind))) => {
-                found.push(token)?;
-                rest = behind;
-            }
-            Ok(None) => return Ok(None),
-            Err(error) => return Err(error),
-        }
+    let text = after_blanks(text);
+    if text.is_empty() {
+        return None;
     }
-    Ok(Some(found))
+    match front(text) {
+        Some((token, rest)) => Some((token, rest)),
+        None => Some((Token::Stray, "")),
+    }
 }
 
-// The byte that the text begins with.
-fn first_byte(text: &str) -> Option<u8>
-    ensures { result ≡ slice_get text.now 0 }
+// The symbol that is the first token of the text, and what follows it. The text is read no further than
+// that, so this may be asked again where another token comes first.
+pub(crate) fn first_symbol(text: &str) -> Option<(Symbol, &str)>
+    ensures { option_map (λ p. (symbol_token p.0, stream p.1.now)) result ≡ symbol_front (stream text.now) }
 {
-    text.as_bytes().first().copied()
+    symbol(after_blanks(text))
 }
 
-// The token that the text begins with, and what stands behind it. `None` where it begins with no token.
-fn front(alloc: Global, text: &str) -> Result<Option<(Token, &str)>, AllocError>
-    ensures { IfOk result (λ front. option_map (λ p. (p.0, p.1.now)) front ≡ front_of text.now) }
+// What follows the mark, where it is the first token of the text.
+#[tactic(auto, using(crate::proofs::Symbols::after_by_symbol))]
+pub(crate) fn after(mark: Mark, text: &str) -> Option<&str>
+    ensures { option_map (λ rest. stream rest.now) result ≡ after (mark_token mark) (stream text.now) }
+{
+    let (symbol, rest) = first_symbol(text)?;
+    if symbol.is(mark) { Some(rest) } else { None }
+}
+
+// The address that is the first token of the text, and what follows it.
+#[tactic(auto, using(crate::proofs::Corners::corner_rules))]
+pub(crate) fn first_corner(text: &str) -> Option<(Address, &str)>
+    ensures front { option_map (λ p. (p.0, stream p.1.now)) result ≡ corner_front (stream text.now) }
+    ensures inside { IfSome result (λ p. IsAddressInside p.0) }
+{
+    let (token, rest) = first_token(text)?;
+    match token {
+        Token::Corner(address) => Some((address, rest)),
+        Token::Number(_) | Token::Text(_) | Token::Truth(_) | Token::Fault(_) => None,
+        Token::Sheet(_) | Token::QuotedSheet(_) | Token::Name(_) | Token::Word(_) => None,
+        Token::Symbol(_) | Token::Other(_) | Token::Stray => None,
+    }
+}
+
+// The token that the text begins with, and what follows it. `None` where it begins with no token: with
+// a byte that begins none, a quote that isn't closed, or a name between apostrophes without its `!`.
+fn front(text: &str) -> Option<(Token<'_>, &str)>
+    ensures { option_map (λ p. (token_of p.0, p.1.now)) result ≡ front_of text.now }
 {
     let bytes = text.as_bytes();
     if begins_with_run(bytes) {
-        let (run, behind) = split_run(text);
-        run_token(alloc, run, behind)
+        let (run, rest) = split_run(text);
+        Some(run_token(run, rest))
     } else if begins_number(bytes) {
-        number_token(alloc, text)
+        Some(number_token(text))
     } else if begins_with(bytes, b'"') {
-        text_token(alloc, behind_byte(text))
+        text_token(after_byte(text))
     } else if begins_with(bytes, b'\'') {
-        sheet_token(alloc, behind_byte(text))
+        sheet_token(after_byte(text))
     } else if begins_with(bytes, b'#') {
-        Ok(fault_token(text))
+        fault_token(text)
     } else {
-        Ok(sign_token(text))
+        let (symbol, rest) = symbol(text)?;
+        Some((Token::Symbol(symbol), rest))
     }
 }
 
@@ -77,18 +94,17 @@ fn begins_number(text: &[u8]) -> bool
     ensures { result ≡ begins_number text.now }
 {
     match text {
-        [b'.', behind @ ..] => begins_with_digit(behind),
+        [b'.', rest @ ..] => begins_with_digit(rest),
         _ => begins_with_digit(text),
     }
 }
 
 // The number that the text begins with, as written.
-fn number_token(alloc: Global, text: &str) -> Result<Option<(Token, &str)>, AllocError>
-    ensures { IfOk result (λ front. option_map (λ p. (p.0, p.1.now)) front ≡ number_front text.now) }
+fn number_token(text: &str) -> (Token<'_>, &str)
+    ensures { Some (token_of result.0, result.1.now) ≡ number_front text.now }
 {
-    let (number, behind) = split_front(text, number_length(text.as_bytes()));
-    let number = Text::from_str(alloc, number)?;
-    Ok(Some((Token::Number(number), behind)))
+    let (number, rest) = split_front(text, number_length(text.as_bytes()));
+    (Token::Number(number), rest)
 }
 
 // How many bytes the number that the text begins with has.
@@ -96,57 +112,49 @@ fn number_length(text: &[u8]) -> usize
     ensures count { result ≡ number_length text.now }
     ensures within { result ≤ length text.now }
 {
-    let (_, behind) = text.split_at(digits_count(text));
-    digits_count(text) + decimals_length(behind)
+    let (_, rest) = text.split_at(digits_count(text));
+    digits_count(text) + decimals_length(rest)
 }
 
-// How many bytes the point and the digits behind it have.
+// How many bytes the point and the digits after it have.
 fn decimals_length(text: &[u8]) -> usize
     ensures count { result ≡ decimals_length text.now }
     ensures within { result ≤ length text.now }
 {
     match text {
-        [b'.', behind @ ..] => 1 + digits_count(behind),
+        [b'.', rest @ ..] => 1 + digits_count(rest),
         _ => 0,
     }
 }
 
-// The text between double quotes, of what stands behind the first of them.
-fn text_token(alloc: Global, text: &str) -> Result<Option<(Token, &str)>, AllocError>
-    ensures { IfOk result (λ front. option_map (λ p. (p.0, p.1.now)) front ≡ option_map text_token (quoted 34 text.now)) }
+// The text between double quotes, of what follows the first of them.
+fn text_token(text: &str) -> Option<(Token<'_>, &str)>
+    ensures { option_map (λ p. (token_of p.0, p.1.now)) result ≡ option_map text_token (quoted 34 text.now) }
 {
-    match quoted(alloc, text, '"') {
-        Ok(Some((content, behind))) => Ok(Some((Token::Text(content), behind))),
-        Ok(None) => Ok(None),
-        Err(error) => Err(error),
-    }
+    let rest = after_quoted(text, '"')?;
+    Some((Token::Text(text), rest))
 }
 
-// The sheet's name between apostrophes, of what stands behind the first of them, and behind the `!`
-// that follows it.
-fn sheet_token(alloc: Global, text: &str) -> Result<Option<(Token, &str)>, AllocError>
-    ensures { IfOk result (λ front. option_map (λ p. (p.0, p.1.now)) front ≡ option_and_then sheet_token (quoted 39 text.now)) }
+// The sheet's name between apostrophes, of what follows the first of them, and what follows the `!`
+// after it.
+fn sheet_token(text: &str) -> Option<(Token<'_>, &str)>
+    ensures { option_map (λ p. (token_of p.0, p.1.now)) result ≡ option_and_then sheet_token (quoted 39 text.now) }
 {
-    match quoted(alloc, text, '\'') {
-        Ok(Some((name, behind))) => {
-            if is_sheet_behind(behind.as_bytes()) {
-                Ok(Some((Token::Sheet(name), behind_byte(behind))))
-            } else {
-                Ok(None)
-            }
-        }
-        Ok(None) => Ok(None),
-        Err(error) => Err(error),
+    let rest = after_quoted(text, '\'')?;
+    if ends_sheet_name(rest.as_bytes()) {
+        Some((Token::QuotedSheet(text), after_byte(rest)))
+    } else {
+        None
     }
 }
 
 // The fault that the text begins with, in letters of any case.
-fn fault_token(text: &str) -> Option<(Token, &str)>
-    ensures { option_map (λ p. (p.0, p.1.now)) result ≡ option_map (fault_token text.now) (find (begins_with_fault text.now) faults) }
+fn fault_token(text: &str) -> Option<(Token<'_>, &str)>
+    ensures { option_map (λ p. (token_of p.0, p.1.now)) result ≡ option_map (fault_token text.now) (find (begins_with_fault text.now) faults) }
 {
     let fault = fault_in_front(text.as_bytes())?;
-    let (_, behind) = split_front(text, fault.text().len());
-    Some((Token::Fault(fault), behind))
+    let (_, rest) = split_front(text, fault.text().len());
+    Some((Token::Fault(fault), rest))
 }
 
 // The fault whose spelling stands in front.
@@ -177,15 +185,15 @@ fn begins_with_fault(text: &[u8], fault: FaultKind) -> bool
     first_bytes(text, spelling.len()).eq_ignore_ascii_case(spelling)
 }
 
-// The operator or the other sign that the text begins with; the longest operator is taken.
-fn sign_token(text: &str) -> Option<(Token, &str)>
-    ensures { option_map (λ p. (p.0, p.1.now)) result ≡ sign_of text.now }
+// The symbol that the text begins with; the longest operator is taken.
+fn symbol(text: &str) -> Option<(Symbol, &str)>
+    ensures { option_map (λ p. (symbol_token p.0, p.1.now)) result ≡ symbol_of text.now }
 {
     match text.as_bytes() {
-        [first, behind @ ..] => match pair_op(*first, behind) {
-            Some(op) => Some((Token::Operator(op), split_front(text, 2).1)),
-            None => match byte_token(*first) {
-                Some(token) => Some((token, behind_byte(text))),
+        [first, rest @ ..] => match pair_op(*first, rest) {
+            Some(op) => Some((Symbol::Operator(op), split_front(text, 2).1)),
+            None => match byte_symbol(*first) {
+                Some(symbol) => Some((symbol, after_byte(text))),
                 None => None,
             },
         },
@@ -193,40 +201,40 @@ fn sign_token(text: &str) -> Option<(Token, &str)>
     }
 }
 
-// The operator that the byte and the one behind it are, where they are one.
-fn pair_op(first: u8, behind: &[u8]) -> Option<Op>
-    ensures { result ≡ pair_op first behind.now }
+// The operator that the byte and the one after it are, where they are one.
+fn pair_op(first: u8, rest: &[u8]) -> Option<Op>
+    ensures { result ≡ pair_op first rest.now }
 {
-    if first == b'<' && begins_with(behind, b'>') {
+    if first == b'<' && begins_with(rest, b'>') {
         Some(Op::Unequal)
-    } else if first == b'<' && begins_with(behind, b'=') {
+    } else if first == b'<' && begins_with(rest, b'=') {
         Some(Op::AtMost)
-    } else if first == b'>' && begins_with(behind, b'=') {
+    } else if first == b'>' && begins_with(rest, b'=') {
         Some(Op::AtLeast)
     } else {
         None
     }
 }
 
-// The token that a byte is by itself, where it is one.
-fn byte_token(first: u8) -> Option<Token>
-    ensures { result ≡ byte_token first }
+// The symbol that a byte is by itself, where it is one.
+fn byte_symbol(first: u8) -> Option<Symbol>
+    ensures { option_map symbol_token result ≡ byte_token first }
 {
     match first {
-        b'=' => Some(Token::Operator(Op::Equal)),
-        b'<' => Some(Token::Operator(Op::Less)),
-        b'>' => Some(Token::Operator(Op::Greater)),
-        b'&' => Some(Token::Operator(Op::Join)),
-        b'+' => Some(Token::Operator(Op::Add)),
-        b'-' => Some(Token::Operator(Op::Sub)),
-        b'*' => Some(Token::Operator(Op::Mul)),
-        b'/' => Some(Token::Operator(Op::Div)),
-        b'^' => Some(Token::Operator(Op::Power)),
-        b'%' => Some(Token::Percent),
-        b':' => Some(Token::Colon),
-        b',' => Some(Token::Comma),
-        b'(' => Some(Token::Open),
-        b')' => Some(Token::Close),
+        b'=' => Some(Symbol::Operator(Op::Equal)),
+        b'<' => Some(Symbol::Operator(Op::Less)),
+        b'>' => Some(Symbol::Operator(Op::Greater)),
+        b'&' => Some(Symbol::Operator(Op::Join)),
+        b'+' => Some(Symbol::Operator(Op::Add)),
+        b'-' => Some(Symbol::Operator(Op::Sub)),
+        b'*' => Some(Symbol::Operator(Op::Mul)),
+        b'/' => Some(Symbol::Operator(Op::Div)),
+        b'^' => Some(Symbol::Operator(Op::Power)),
+        b'%' => Some(Symbol::Percent),
+        b':' => Some(Symbol::Mark(Mark::Colon)),
+        b',' => Some(Symbol::Mark(Mark::Comma)),
+        b'(' => Some(Symbol::Mark(Mark::Open)),
+        b')' => Some(Symbol::Mark(Mark::Close)),
         _ => None,
     }
 }

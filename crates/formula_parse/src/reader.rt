@@ -1,112 +1,33 @@
-// Lists of tokens read into trees, by operator precedence.
-ghost use Rattle.std.specs.Prelude.{◌≡◌, ◌∷◌, [], length, IfOk, MatchOption};
+// Trees read from texts, by operator precedence.
+ghost use Rattle.std.specs.Prelude.{◌≡◌, [], length, IfOk};
 ghost use Rattle.std.specs.Option.{option_map, option_and_then};
 ghost use Rattle.cell_addr.specs.Sheets.{id_in};
 ghost use Rattle.fix_num.specs.Text.{number_of};
 ghost use Rattle.formula_tree.specs.Term.{binary, percent};
-ghost use Rattle.formula_tree.specs.Level.{level_of, sign_of};
+ghost use Rattle.formula_tree.specs.Reference.{base_of, sheet_of, corner_at, IsHomeInside};
 ghost use Rattle.formula_tree.specs.Grammar.{placed, first_of, last_of, cell_on, area_on};
-ghost use Rattle.formula_tree.specs.Seen.{seen};
-ghost use Rattle.formula_tree.specs.Reader.{after_open, after_close, after_comma, after_colon, corner_front, number_then, reference, signed, closed, call_front, arguments, and_then, first, climb, read, tree_of};
+ghost use Rattle.formula_tree.specs.Reader.{corner_front, number_then, reference, signed, closed, call_front, arguments, and_then, first, climb, read, tree_of};
+ghost use Rattle.formula_tree.specs.Relative.{relative};
+ghost use Rattle.formula_tree.specs.StandsFor.{at_home};
+ghost use Rattle.formula_tree.specs.declared.reference.Home.{Home};
+ghost use Rattle.formula_parse.specs.internal.Front.{content_after, IsAddressInside};
+ghost use Rattle.formula_parse.specs.internal.Stream.{stream};
+ghost use Rattle.formula_parse.specs.internal.Tree.{tree_at, text_then, sheet_then};
 
-use cell_addr::{Place, SheetNames, Text, capitals};
+use crate::lexer::{after, first_corner, first_symbol, first_token};
+use crate::token::{Mark, Symbol, Token};
+use cell_addr::{Place, SheetNames, Text, capitals, quoted_text};
 use cell_value::FaultKind;
 use fix_num::Fixed;
-use formula_tree::{Address, Corner, Op, Plain, PlainList, Sign, Token};
+use formula_tree::{
+    Address, Corner, Home, MAX_LEVELS, Node, Op, PERCENT_LEVEL, Ref, SIGN_LEVEL, Sign, Tree, TreeList,
+    depth,
+};
 use std::alloc::{AllocError, Global};
+use std::rc::Rc;
 
-// The most levels that the tree of a formula has.
-const MAX_LEVELS: u32 = 64;
-
-// How strongly `%` and signs bind.
-const PERCENT_LEVEL: u32 = 5;
-
-const SIGN_LEVEL: u32 = 6;
-
-// A tree that was read, and the tokens behind it; `None` where none was.
-type Read<'t> = Option<(Plain, &'t [Token])>;
-
-// The first token, and those behind it.
-fn split(tokens: &[Token]) -> Option<(&Token, &[Token])>
-    ensures { MatchOption result (tokens.now ≡ []) (λ p. tokens.now ≡ p.0.now ∷ p.1.now) }
-{
-    let first = tokens.first()?;
-    Some((first, &tokens[1..]))
-}
-
-// The tokens behind an opening parenthesis.
-fn after_open(tokens: &[Token]) -> Option<&[Token]>
-    ensures { option_map (λ rest. rest.now) result ≡ after_open tokens.now }
-{
-    match split(tokens) {
-        Some((Token::Open, rest)) => Some(rest),
-        _ => None,
-    }
-}
-
-// The tokens behind a closing parenthesis.
-fn after_close(tokens: &[Token]) -> Option<&[Token]>
-    ensures { option_map (λ rest. rest.now) result ≡ after_close tokens.now }
-{
-    match split(tokens) {
-        Some((Token::Close, rest)) => Some(rest),
-        _ => None,
-    }
-}
-
-// The tokens behind a comma.
-fn after_comma(tokens: &[Token]) -> Option<&[Token]>
-    ensures { option_map (λ rest. rest.now) result ≡ after_comma tokens.now }
-{
-    match split(tokens) {
-        Some((Token::Comma, rest)) => Some(rest),
-        _ => None,
-    }
-}
-
-// The tokens behind a colon.
-fn after_colon(tokens: &[Token]) -> Option<&[Token]>
-    ensures { option_map (λ rest. rest.now) result ≡ after_colon tokens.now }
-{
-    match split(tokens) {
-        Some((Token::Colon, rest)) => Some(rest),
-        _ => None,
-    }
-}
-
-// The address in front, and the tokens behind it.
-fn corner_front(tokens: &[Token]) -> Option<(Address, &[Token])>
-    ensures { option_map (λ p. (p.0, p.1.now)) result ≡ corner_front tokens.now }
-{
-    match split(tokens) {
-        Some((Token::Corner(address), rest)) => Some((*address, rest)),
-        _ => None,
-    }
-}
-
-// The level of an operator: how strongly it binds.
-fn level_of(op: Op) -> u32
-    ensures { result ≡ level_of op }
-{
-    match op {
-        Op::Equal | Op::Unequal | Op::Less | Op::Greater | Op::AtMost | Op::AtLeast => 0,
-        Op::Join => 1,
-        Op::Add | Op::Sub => 2,
-        Op::Mul | Op::Div => 3,
-        Op::Power => 4,
-    }
-}
-
-// The sign that is written like an operator.
-fn sign_of(op: Op) -> Option<Sign>
-    ensures { result ≡ sign_of op }
-{
-    match op {
-        Op::Add => Some(Sign::Plus),
-        Op::Sub => Some(Sign::Minus),
-        _ => None,
-    }
-}
+// A tree that was read, and the text after it; `None` where none was.
+type Read<'t> = Option<(Node, &'t str)>;
 
 // The corner of an address on a sheet.
 fn placed(sheet: u32, address: Address) -> Corner
@@ -163,60 +84,28 @@ fn last_of(a: Address, b: Address) -> Address
     }
 }
 
-// A reference to a cell on a sheet, or the fault `#REF!` where there is no such sheet.
-fn cell_on(sheet: Option<u32>, address: Address) -> Plain
-    ensures { seen result ≡ cell_on sheet address }
-{
-    match sheet {
-        Some(sheet) => Plain::Cell(placed(sheet, address)),
-        None => Plain::Fault(FaultKind::Ref),
-    }
-}
-
-// A block between two addresses on a sheet, its corners in order.
-fn area_on(sheet: Option<u32>, a: Address, b: Address) -> Plain
-    ensures { seen result ≡ area_on sheet a b }
-{
-    match sheet {
-        Some(sheet) => Plain::Area(placed(sheet, first_of(a, b)), placed(sheet, last_of(a, b))),
-        None => Plain::Fault(FaultKind::Ref),
-    }
-}
-
-// A reference, or a block where a colon follows.
-fn reference(sheet: Option<u32>, a: Address, tokens: &[Token]) -> Read<'_>
-    ensures { option_map (λ p. (seen p.0, p.1.now)) result ≡ reference sheet (a, tokens.now) }
-{
-    match after_colon(tokens) {
-        None => Some((cell_on(sheet, a), tokens)),
-        Some(behind) => {
-            let (b, rest) = corner_front(behind)?;
-            Some((area_on(sheet, a, b), rest))
-        }
-    }
-}
-
-// What trees are read with: where their parts get memory, the sheet that the formula is on, and the
-// sheets that it may name.
+// What trees are read with: where their parts get memory, the home of the formula, and the sheets that it
+// may name.
 #[derive(Drop)]
 struct Reader<'a, S: SheetNames> {
     alloc: Global,
-    home: u32,
+    home: Home,
     sheets: &'a S,
+    ghost inside: { IsHomeInside home },
 }
 
 #[tactic(auto, using(crate::proofs::ReaderRules::reader_rules))]
 impl<'a, S: SheetNames> Reader<'a, S> {
     // A tree of a level of the grammar in front, of at most so many levels.
     #[cycle(tree)]
-    fn tree<'t>(&self, levels: u32, level: u32, tokens: &'t [Token]) -> Result<Read<'t>, AllocError>
-        ensures { IfOk result (λ found. option_map (λ p. (seen p.0, p.1.now)) found
-            ≡ read self.now.home (id_in (S.sheets self.now.sheets.now)) levels level tokens.now) }
+    fn tree<'t>(&self, levels: u32, level: u32, text: &'t str) -> Result<Read<'t>, AllocError>
+        ensures { IfOk result (λ found. option_map (λ p. (tree_at self.now.home p.0, stream p.1.now)) found
+            ≡ read (sheet_of self.now.home) (id_in (S.sheets self.now.sheets.now)) levels level (stream text.now)) }
     {
         if levels == 0 {
             return Ok(None);
         }
-        let Some((left, rest)) = self.first(levels - 1, tokens)? else {
+        let Some((left, rest)) = self.first(levels - 1, text)? else {
             return Ok(None);
         };
         let found = self.climb(levels - 1, levels, level, left, rest)?;
@@ -225,36 +114,35 @@ impl<'a, S: SheetNames> Reader<'a, S> {
 
     // A tree that no operator follows yet: an atom, or a sign and its operand.
     #[cycle(tree)]
-    fn first<'t>(&self, levels: u32, tokens: &'t [Token]) -> Result<Read<'t>, AllocError>
-        ensures { IfOk result (λ found. option_map (λ p. (seen p.0, p.1.now)) found
-            ≡ first self.now.home (id_in (S.sheets self.now.sheets.now)) (read self.now.home (id_in (S.sheets self.now.sheets.now)) levels) tokens.now) }
+    fn first<'t>(&self, levels: u32, text: &'t str) -> Result<Read<'t>, AllocError>
+        ensures { IfOk result (λ found. option_map (λ p. (tree_at self.now.home p.0, stream p.1.now)) found
+            ≡ first (sheet_of self.now.home) (id_in (S.sheets self.now.sheets.now)) (read (sheet_of self.now.home) (id_in (S.sheets self.now.sheets.now)) levels) (stream text.now)) }
     {
-        let Some((token, rest)) = split(tokens) else {
+        let Some((token, rest)) = first_token(text) else {
             return Ok(None);
         };
         match token {
             Token::Number(digits) => Ok(number(digits, rest)),
-            Token::Text(text) => Ok(Some((Plain::Text(text.copy(self.alloc)?), rest))),
-            Token::Truth(truth) => Ok(Some((Plain::Truth(*truth), rest))),
-            Token::Fault(fault) => Ok(Some((Plain::Fault(*fault), rest))),
-            Token::Sheet(name) => Ok(sheet_reference(self.sheets.id_of(name.as_str()), rest)),
-            Token::Corner(address) => Ok(reference(Some(self.home), *address, rest)),
-            Token::Name(name) => Ok(Some((Plain::Name(name.copy(self.alloc)?), rest))),
+            Token::Text(after_quote) => self.quoted(after_quote, rest),
+            Token::Truth(truth) => Ok(Some((Node::Truth(truth), rest))),
+            Token::Fault(fault) => Ok(Some((Node::Fault(fault), rest))),
+            Token::Sheet(name) => Ok(self.on_sheet(self.sheets.id_of(name), rest)),
+            Token::QuotedSheet(after_quote) => self.on_quoted_sheet(after_quote, rest),
+            Token::Corner(address) => Ok(self.reference(Some(self.home.sheet()), address, rest)),
+            Token::Name(name) => Ok(Some((Node::Name(Text::from_str(self.alloc, name)?), rest))),
             Token::Word(word) => {
                 let found = self.call(levels, word, rest)?;
                 Ok(found)
             }
-            Token::Operator(op) => {
-                let found = self.signed(levels, sign_of(*op), rest)?;
+            Token::Symbol(Symbol::Operator(op)) => {
+                let found = self.signed(levels, op.sign(), rest)?;
                 Ok(found)
             }
-            Token::Open => {
+            Token::Symbol(Symbol::Mark(Mark::Open)) => {
                 let found = self.paren(levels, rest)?;
                 Ok(found)
             }
-            Token::Other(_) | Token::Percent | Token::Colon | Token::Comma | Token::Close => Ok(
-                None,
-            ),
+            Token::Symbol(_) | Token::Other(_) | Token::Stray => Ok(None),
         }
     }
 
@@ -264,57 +152,57 @@ impl<'a, S: SheetNames> Reader<'a, S> {
         &self,
         levels: u32,
         sign: Option<Sign>,
-        tokens: &'t [Token],
+        text: &'t str,
     ) -> Result<Read<'t>, AllocError>
-        ensures { IfOk result (λ found. option_map (λ p. (seen p.0, p.1.now)) found
-            ≡ signed (read self.now.home (id_in (S.sheets self.now.sheets.now)) levels) sign tokens.now) }
+        ensures { IfOk result (λ found. option_map (λ p. (tree_at self.now.home p.0, stream p.1.now)) found
+            ≡ signed (read (sheet_of self.now.home) (id_in (S.sheets self.now.sheets.now)) levels) sign (stream text.now)) }
     {
         let Some(sign) = sign else {
             return Ok(None);
         };
-        let Some((operand, rest)) = self.tree(levels, SIGN_LEVEL, tokens)? else {
+        let Some((operand, rest)) = self.tree(levels, SIGN_LEVEL, text)? else {
             return Ok(None);
         };
-        let operand = Box::new(self.alloc, operand)?;
-        Ok(Some((Plain::Prefix(sign, operand), rest)))
+        let operand = Rc::new(self.alloc, operand)?;
+        Ok(Some((Node::Prefix(sign, operand), rest)))
     }
 
-    // A tree and the closing parenthesis, behind the opening one.
+    // A tree and the closing parenthesis, after the opening one.
     #[cycle(tree)]
-    fn paren<'t>(&self, levels: u32, tokens: &'t [Token]) -> Result<Read<'t>, AllocError>
-        ensures { IfOk result (λ found. option_map (λ p. (seen p.0, p.1.now)) found
-            ≡ and_then (read self.now.home (id_in (S.sheets self.now.sheets.now)) levels 0 tokens.now) closed) }
+    fn paren<'t>(&self, levels: u32, text: &'t str) -> Result<Read<'t>, AllocError>
+        ensures { IfOk result (λ found. option_map (λ p. (tree_at self.now.home p.0, stream p.1.now)) found
+            ≡ and_then (read (sheet_of self.now.home) (id_in (S.sheets self.now.sheets.now)) levels 0 (stream text.now)) closed) }
     {
-        let Some((inside, behind)) = self.tree(levels, 0, tokens)? else {
+        let Some((inside, rest)) = self.tree(levels, 0, text)? else {
             return Ok(None);
         };
-        let Some(rest) = after_close(behind) else {
+        let Some(rest) = after(Mark::Close, rest) else {
             return Ok(None);
         };
-        let inside = Box::new(self.alloc, inside)?;
-        Ok(Some((Plain::Paren(inside), rest)))
+        let inside = Rc::new(self.alloc, inside)?;
+        Ok(Some((Node::Paren(inside), rest)))
     }
 
-    // A call behind its word.
+    // A call after its word.
     #[cycle(tree)]
     fn call<'t>(
         &self,
         levels: u32,
-        word: &Text,
-        tokens: &'t [Token],
+        word: &str,
+        text: &'t str,
     ) -> Result<Read<'t>, AllocError>
-        ensures { IfOk result (λ found. option_map (λ p. (seen p.0, p.1.now)) found
-            ≡ call_front (read self.now.home (id_in (S.sheets self.now.sheets.now)) levels) word.now tokens.now) }
+        ensures { IfOk result (λ found. option_map (λ p. (tree_at self.now.home p.0, stream p.1.now)) found
+            ≡ call_front (read (sheet_of self.now.home) (id_in (S.sheets self.now.sheets.now)) levels) word.now (stream text.now)) }
     {
-        let Some(behind) = after_open(tokens) else {
+        let Some(inside) = after(Mark::Open, text) else {
             return Ok(None);
         };
-        let Some(rest) = after_close(behind) else {
-            let found = self.arguments(levels, word, behind)?;
+        let Some(rest) = after(Mark::Close, inside) else {
+            let found = self.arguments(levels, word, inside)?;
             return Ok(found);
         };
-        let word = capitals(self.alloc, word.as_str())?;
-        Ok(Some((Plain::Call(word, PlainList::new(self.alloc)), rest)))
+        let word = capitals(self.alloc, word)?;
+        Ok(Some((Node::Call(word, TreeList::new(self.alloc)?), rest)))
     }
 
     // The arguments of a call, one at least, and the closing parenthesis.
@@ -322,33 +210,32 @@ impl<'a, S: SheetNames> Reader<'a, S> {
     fn arguments<'t>(
         &self,
         levels: u32,
-        word: &Text,
-        tokens: &'t [Token],
+        word: &str,
+        text: &'t str,
     ) -> Result<Read<'t>, AllocError>
-        ensures { IfOk result (λ found. option_map (λ p. (seen p.0, p.1.now)) found
-            ≡ arguments (read self.now.home (id_in (S.sheets self.now.sheets.now)) levels) word.now (length tokens.now) [] tokens.now) }
+        ensures { IfOk result (λ found. option_map (λ p. (tree_at self.now.home p.0, stream p.1.now)) found
+            ≡ arguments (read (sheet_of self.now.home) (id_in (S.sheets self.now.sheets.now)) levels) word.now (length (stream text.now)) [] (stream text.now)) }
     {
-        let mut list = PlainList::new(self.alloc);
-        let mut rest = tokens;
-        'arguments: for _ in 0..tokens.len() {
-            let Some((argument, behind)) = self.tree(levels, 0, rest)? else {
+        let mut list = TreeList::new(self.alloc)?;
+        let mut next = text;
+        'arguments: loop {
+            let Some((argument, rest)) = self.tree(levels, 0, next)? else {
                 return Ok(None);
             };
-            list.push(argument)?;
-            if let Some(next) = after_comma(behind) {
-                rest = next;
+            list.push(Rc::new(self.alloc, argument)?)?;
+            if let Some(more) = after(Mark::Comma, rest) {
+                next = more;
                 continue;
             }
-            let Some(rest) = after_close(behind) else {
+            let Some(rest) = after(Mark::Close, rest) else {
                 return Ok(None);
             };
-            let word = capitals(self.alloc, word.as_str())?;
-            return Ok(Some((Plain::Call(word, list), rest)));
+            let word = capitals(self.alloc, word)?;
+            return Ok(Some((Node::Call(word, list), rest)));
         }
-        Ok(None)
     }
 
-    // Operators of a level or higher behind a tree, each of which takes the tree as its left operand; fewer
+    // Operators of a level or higher after a tree, each of which takes the tree as its left operand; fewer
     // than so many operators.
     #[cycle(tree)]
     fn climb<'t>(
@@ -356,94 +243,174 @@ impl<'a, S: SheetNames> Reader<'a, S> {
         levels: u32,
         operators: u32,
         level: u32,
-        first: Plain,
-        tokens: &'t [Token],
+        first: Node,
+        text: &'t str,
     ) -> Result<Read<'t>, AllocError>
-        ensures { IfOk result (λ found. option_map (λ p. (seen p.0, p.1.now)) found
-            ≡ climb (read self.now.home (id_in (S.sheets self.now.sheets.now)) levels) operators level (seen first) tokens.now) }
+        ensures { IfOk result (λ found. option_map (λ p. (tree_at self.now.home p.0, stream p.1.now)) found
+            ≡ climb (read (sheet_of self.now.home) (id_in (S.sheets self.now.sheets.now)) levels) operators level (tree_at self.now.home first) (stream text.now)) }
     {
         let mut left = first;
-        let mut rest = tokens;
+        let mut rest = text;
         'operators: for _ in 0..operators {
-            match split(rest) {
-                Some((Token::Operator(op), behind)) => {
-                    if level_of(*op) < level {
+            match first_symbol(rest) {
+                Some((Symbol::Operator(op), after)) => {
+                    if op.level() < level {
                         return Ok(Some((left, rest)));
                     }
-                    let Some((right, after)) = self.tree(levels, level_of(*op) + 1, behind)? else {
+                    let Some((right, after)) = self.tree(levels, op.level() + 1, after)? else {
                         return Ok(None);
                     };
-                    left = binary(self.alloc, *op, left, right)?;
+                    left = binary(self.alloc, op, left, right)?;
                     rest = after;
                     continue;
                 }
-                Some((Token::Percent, behind)) => {
+                Some((Symbol::Percent, after)) => {
                     if PERCENT_LEVEL < level {
                         return Ok(Some((left, rest)));
                     }
                     left = percent(self.alloc, left)?;
-                    rest = behind;
+                    rest = after;
                     continue;
                 }
-                _ => return Ok(Some((left, rest))),
+                Some((Symbol::Mark(_), _)) | None => return Ok(Some((left, rest))),
             }
         }
         Ok(None)
     }
 }
 
-// The number that the digits spell, where it is within the range.
-fn number<'t>(digits: &Text, tokens: &'t [Token]) -> Read<'t>
-    ensures { option_map (λ p. (seen p.0, p.1.now)) result ≡ number_then (number_of digits.now) tokens.now }
-{
-    let number = Fixed::from_text(digits.as_str()).ok()?;
-    Some((Plain::Number(number), tokens))
+impl<'a, S: SheetNames> Reader<'a, S> {
+    // A text between double quotes, by what follows the opening one.
+    fn quoted<'t>(&self, after_quote: &str, rest: &'t str) -> Result<Read<'t>, AllocError>
+        ensures { IfOk result (λ found. option_map (λ p. (tree_at self.now.home p.0, stream p.1.now)) found
+            ≡ text_then (content_after 34 after_quote.now) (stream rest.now)) }
+    {
+        let Some(content) = quoted_text(self.alloc, after_quote, '"')? else {
+            return Ok(None);
+        };
+        Ok(Some((Node::Text(content), rest)))
+    }
+
+    // A reference or a block after a sheet's name between apostrophes, by what follows the opening one.
+    fn on_quoted_sheet<'t>(
+        &self,
+        after_quote: &str,
+        rest: &'t str,
+    ) -> Result<Read<'t>, AllocError>
+        ensures { IfOk result (λ found. option_map (λ p. (tree_at self.now.home p.0, stream p.1.now)) found
+            ≡ sheet_then (id_in (S.sheets self.now.sheets.now)) (content_after 39 after_quote.now) (stream rest.now)) }
+    {
+        let Some(name) = quoted_text(self.alloc, after_quote, '\'')? else {
+            return Ok(None);
+        };
+        Ok(self.on_sheet(self.sheets.id_of(name.as_str()), rest))
+    }
+
+    // A reference or a block after a sheet's name.
+    fn on_sheet<'t>(&self, sheet: Option<u32>, text: &'t str) -> Read<'t>
+        ensures { option_map (λ p. (tree_at self.now.home p.0, stream p.1.now)) result ≡ option_and_then (reference sheet) (corner_front (stream text.now)) }
+    {
+        let (address, rest) = first_corner(text)?;
+        self.reference(sheet, address, rest)
+    }
+
+    // A reference, or a block where a colon follows.
+    fn reference<'t>(&self, sheet: Option<u32>, a: Address, text: &'t str) -> Read<'t>
+        requires { IsAddressInside a }
+        ensures { option_map (λ p. (tree_at self.now.home p.0, stream p.1.now)) result ≡ reference sheet (a, stream text.now) }
+    {
+        match after(Mark::Colon, text) {
+            None => Some((self.cell_on(sheet, a), text)),
+            Some(rest) => {
+                let (b, rest) = first_corner(rest)?;
+                Some((self.area_on(sheet, a, b), rest))
+            }
+        }
+    }
+
+    // A reference to a cell on a sheet, or the fault `#REF!` where there is no such sheet.
+    fn cell_on(&self, sheet: Option<u32>, a: Address) -> Node
+        requires { IsAddressInside a }
+        ensures { tree_at self.now.home result ≡ cell_on sheet a }
+    {
+        match sheet {
+            Some(sheet) => Node::Cell(self.seen(sheet, a)),
+            None => Node::Fault(FaultKind::Ref),
+        }
+    }
+
+    // A block between two addresses on a sheet, its corners in order.
+    fn area_on(&self, sheet: Option<u32>, a: Address, b: Address) -> Node
+        requires first { IsAddressInside a }
+        requires last { IsAddressInside b }
+        ensures { tree_at self.now.home result ≡ area_on sheet a b }
+    {
+        match sheet {
+            Some(sheet) => {
+                Node::Area(self.seen(sheet, first_of(a, b)), self.seen(sheet, last_of(a, b)))
+            }
+            None => Node::Fault(FaultKind::Ref),
+        }
+    }
+
+    // How the address on a sheet is seen from the home.
+    fn seen(&self, sheet: u32, a: Address) -> Ref
+        requires { IsAddressInside a }
+        ensures { corner_at (base_of self.now.home) result ≡ placed sheet a }
+    {
+        Ref::of(placed(sheet, a), self.home)
+    }
 }
 
-// A reference or a block behind a sheet's name.
-fn sheet_reference(sheet: Option<u32>, tokens: &[Token]) -> Read<'_>
-    ensures { option_map (λ p. (seen p.0, p.1.now)) result ≡ option_and_then (reference sheet) (corner_front tokens.now) }
+// The number that the digits spell, where it is within the range.
+fn number<'t>(digits: &str, text: &'t str) -> Read<'t>
+    ensures { (home : Home) → option_map (λ p. (tree_at home p.0, stream p.1.now)) result ≡ number_then (number_of digits.now) (stream text.now) }
 {
-    let (address, rest) = corner_front(tokens)?;
-    reference(sheet, address, rest)
+    let number = Fixed::from_text(digits).ok()?;
+    Some((Node::Number(number), text))
 }
 
 // An operator between two trees.
-fn binary(alloc: Global, op: Op, left: Plain, right: Plain) -> Result<Plain, AllocError>
-    ensures { IfOk result (λ tree. seen tree ≡ binary op (seen left) (seen right)) }
+fn binary(alloc: Global, op: Op, left: Node, right: Node) -> Result<Node, AllocError>
+    ensures { IfOk result (λ tree. (home : Home) → tree_at home tree ≡ binary op (tree_at home left) (tree_at home right)) }
 {
-    let left = Box::new(alloc, left)?;
-    let right = Box::new(alloc, right)?;
-    Ok(Plain::Binary(op, left, right))
+    let left = Rc::new(alloc, left)?;
+    let right = Rc::new(alloc, right)?;
+    Ok(Node::Binary(op, left, right))
 }
 
-// `%` behind a tree.
-fn percent(alloc: Global, part: Plain) -> Result<Plain, AllocError>
-    ensures { IfOk result (λ tree. seen tree ≡ percent (seen part)) }
+// `%` after a tree.
+fn percent(alloc: Global, part: Node) -> Result<Node, AllocError>
+    ensures { IfOk result (λ tree. (home : Home) → tree_at home tree ≡ percent (tree_at home part)) }
 {
-    let part = Box::new(alloc, part)?;
-    Ok(Plain::Percent(part))
+    let part = Rc::new(alloc, part)?;
+    Ok(Node::Percent(part))
 }
 
-// The tree that the tokens spell, for a formula on the sheet `home`. `None` where they spell no tree of at
+// The tree that the text after `=` spells, for a formula at the home. `None` where it spells no tree of at
 // most [`MAX_LEVELS`] levels.
 pub(crate) fn tree_of<S: SheetNames>(
     alloc: Global,
-    home: u32,
+    home: Home,
     sheets: &S,
-    tokens: &[Token],
-) -> Result<Option<Plain>, AllocError>
-    ensures { IfOk result (λ found. option_map seen found ≡ tree_of home (id_in (S.sheets sheets.now)) tokens.now) }
+    text: &str,
+) -> Result<Option<Tree>, AllocError>
+    requires { IsHomeInside home }
+    ensures { IfOk result (λ found. option_map (λ tree. at_home home (relative tree.value)) found ≡ tree_of (sheet_of home) (id_in (S.sheets sheets.now)) (stream text.now)) }
 {
     let reader = Reader {
         alloc,
         home,
         sheets,
     };
-    let Some((tree, rest)) = reader.tree(MAX_LEVELS, 0, tokens)? else {
+    let Some((tree, rest)) = reader.tree(MAX_LEVELS, 0, text)? else {
         return Ok(None);
     };
-    if !rest.is_empty() || tree.depth() > MAX_LEVELS {
+    if let Some((_, _)) = first_token(rest) {
+        return Ok(None);
+    }
+    let tree = Rc::new(alloc, tree)?;
+    if depth(&tree) > MAX_LEVELS {
         return Ok(None);
     }
     Ok(Some(tree))

@@ -1,80 +1,68 @@
 // Runs: sequences of letters, digits, `_`, `.` and `$`, and what they are.
-ghost use Rattle.std.specs.Prelude.{◌≡◌, ◌≤◌, Some, IfOk, ◌||◌, ◌==◌, length};
-ghost use Rattle.std.specs.Option.{option_map};
+ghost use Rattle.std.specs.Prelude.{◌≡◌, ◌≤◌, ◌||◌, ◌==◌, length};
 ghost use Rattle.std.specs.List.{list_all, prefix_len};
 ghost use Rattle.std.specs.Char.{is_ascii_alphabetic, is_ascii_alphanumeric};
-ghost use Rattle.formula_tree.specs.Run.{is_word, behind_dollar, address_at, corner_behind, corner_of, truth_of, word_token, lone_token, is_sheet_behind, is_sheet_run, run_token};
+ghost use Rattle.formula_tree.specs.Run.{is_word, after_dollar, address_at, corner_after, corner_of, truth_of, word_token, lone_token, ends_sheet_name, is_sheet_run, run_token};
+ghost use Rattle.formula_parse.specs.internal.Front.{token_of};
 
-use crate::front::{begins_with, begins_with_blank, behind_blanks, behind_byte};
-use cell_addr::{COLS, ROWS, Text, is_bare_name, read_column, read_row, same_folded};
-use formula_tree::{Address, Token};
-use std::alloc::{AllocError, Global};
+use crate::front::{after_blanks, after_byte, begins_with, begins_with_blank};
+use crate::token::Token;
+use cell_addr::{COLS, ROWS, is_bare_name, read_column, read_row, same_folded};
+use formula_tree::Address;
 
-/// What the run is, and what stands behind it: before `!` a sheet's name, before `(` a function's word,
-/// then an address, a truth value, a name.
-pub(crate) fn run_token<'a>(
-    alloc: Global,
-    run: &str,
-    behind: &'a str,
-) -> Result<Option<(Token, &'a str)>, AllocError>
-    ensures { IfOk result (λ front. option_map (λ p. (p.0, p.1.now)) front ≡ Some (run_token run.now behind.now)) }
+// What the run is, and what follows it: before `!` a sheet's name, before `(` a function's word, then an
+// address, a truth value, a name.
+pub(crate) fn run_token<'t>(run: &'t str, rest: &'t str) -> (Token<'t>, &'t str)
+    ensures { (token_of result.0, result.1.now) ≡ run_token run.now rest.now }
 {
-    if is_sheet_run(run.as_bytes(), behind.as_bytes()) {
-        let name = Text::from_str(alloc, run)?;
-        return Ok(Some((Token::Sheet(name), behind_byte(behind))));
-    }
-    if begins_with(behind_blanks(behind.as_bytes()), b'(') {
-        let word = Text::from_str(alloc, run)?;
+    if is_sheet_run(run.as_bytes(), rest.as_bytes()) {
+        (Token::Sheet(run), after_byte(rest))
+    } else if begins_with(after_blanks(rest).as_bytes(), b'(') {
         if is_word(run.as_bytes()) {
-            return Ok(Some((Token::Word(word), behind)));
+            (Token::Word(run), rest)
+        } else {
+            (Token::Other(run), rest)
         }
-        return Ok(Some((Token::Other(word), behind)));
+    } else {
+        (lone_token(run), rest)
     }
-    let token = lone_token(alloc, run)?;
-    Ok(Some((token, behind)))
 }
 
-/// Whether `!` stands in front of the text, and no blank behind that.
-pub(crate) fn is_sheet_behind(text: &[u8]) -> bool
-    ensures { result ≡ is_sheet_behind text.now }
+// Whether `!` stands in front of the text, and no blank after that.
+pub(crate) fn ends_sheet_name(text: &[u8]) -> bool
+    ensures { result ≡ ends_sheet_name text.now }
 {
     match text {
-        [b'!', behind @ ..] => !begins_with_blank(behind),
+        [b'!', rest @ ..] => !begins_with_blank(rest),
         _ => false,
     }
 }
 
 // Whether the run is a sheet's name.
-fn is_sheet_run(run: &[u8], behind: &[u8]) -> bool
-    ensures { result ≡ is_sheet_run run.now behind.now }
+fn is_sheet_run(run: &[u8], rest: &[u8]) -> bool
+    ensures { result ≡ is_sheet_run run.now rest.now }
 {
-    is_bare_name(run) && is_sheet_behind(behind)
+    is_bare_name(run) && ends_sheet_name(rest)
 }
 
 // What a run is that stands alone: an address before it is anything else.
-fn lone_token(alloc: Global, run: &str) -> Result<Token, AllocError>
-    ensures { IfOk result (λ token. token ≡ lone_token run.now (corner_of run.now)) }
+fn lone_token(run: &str) -> Token<'_>
+    ensures { token_of result ≡ lone_token run.now (corner_of run.now) }
 {
     match corner_of(run.as_bytes()) {
-        Some(address) => Ok(Token::Corner(address)),
-        None => word_token(alloc, run),
+        Some(address) => Token::Corner(address),
+        None => word_token(run),
     }
 }
 
 // What a run is that is no address: a truth value, or a name where it has the form of one, or neither.
-fn word_token(alloc: Global, run: &str) -> Result<Token, AllocError>
-    ensures { IfOk result (λ token. token ≡ word_token run.now (truth_of run.now)) }
+fn word_token(run: &str) -> Token<'_>
+    ensures { token_of result ≡ word_token run.now (truth_of run.now) }
 {
     match truth_of(run) {
-        Some(truth) => Ok(Token::Truth(truth)),
-        None => {
-            let word = Text::from_str(alloc, run)?;
-            if is_word(run.as_bytes()) {
-                Ok(Token::Name(word))
-            } else {
-                Ok(Token::Other(word))
-            }
-        }
+        Some(truth) => Token::Truth(truth),
+        None if is_word(run.as_bytes()) => Token::Name(run),
+        None => Token::Other(run),
     }
 }
 
@@ -91,13 +79,13 @@ fn truth_of(run: &str) -> Option<bool>
     }
 }
 
-// Whether the run has the form of a name: a letter or `_`, and behind it letters, digits, `_` and `.`.
+// Whether the run has the form of a name: a letter or `_`, followed by letters, digits, `_` and `.`.
 fn is_word(run: &[u8]) -> bool
     ensures { result ≡ is_word run.now }
 {
     match run {
-        [first, behind @ ..] => (first.is_ascii_alphabetic() || *first == b'_')
-            && all_word_bytes(behind),
+        [first, rest @ ..] => (first.is_ascii_alphabetic() || *first == b'_')
+            && all_word_bytes(rest),
         [] => false,
     }
 }
@@ -120,17 +108,17 @@ fn is_word_byte(c: u8) -> bool
 fn corner_of(run: &[u8]) -> Option<Address>
     ensures { result ≡ corner_of run.now }
 {
-    corner_behind(begins_with(run, b'$'), behind_dollar(run))
+    corner_after(begins_with(run, b'$'), after_dollar(run))
 }
 
-// The same, of what stands behind the `$` of the column.
-fn corner_behind(col_fixed: bool, text: &[u8]) -> Option<Address>
-    ensures { result ≡ corner_behind col_fixed text.now }
+// The same, of what follows the `$` of the column.
+fn corner_after(col_fixed: bool, text: &[u8]) -> Option<Address>
+    ensures { result ≡ corner_after col_fixed text.now }
 {
-    let (letters, behind) = text.split_at(letters_count(text));
-    let row = read_row(behind_dollar(behind))?;
+    let (letters, rest) = text.split_at(letters_count(text));
+    let row = read_row(after_dollar(rest))?;
     let col = read_column(letters)?;
-    address_at(col_fixed, begins_with(behind, b'$'), row, col)
+    address_at(col_fixed, begins_with(rest, b'$'), row, col)
 }
 
 // The address of the row and the column, where they lie within the limits.
@@ -149,12 +137,12 @@ fn address_at(col_fixed: bool, row_fixed: bool, row: u32, col: u32) -> Option<Ad
     }
 }
 
-// What stands behind a `$`, or the whole text where it begins with none.
-fn behind_dollar(text: &[u8]) -> &[u8]
-    ensures { result.now ≡ behind_dollar text.now }
+// What follows a `$`, or the whole text where it begins with none.
+fn after_dollar(text: &[u8]) -> &[u8]
+    ensures { result.now ≡ after_dollar text.now }
 {
     match text {
-        [b'$', behind @ ..] => behind,
+        [b'$', rest @ ..] => rest,
         _ => text,
     }
 }

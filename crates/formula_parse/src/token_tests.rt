@@ -1,70 +1,65 @@
-use crate::tokens;
-use formula_tree::{Op, Token};
+use crate::lexer::first_token;
+use crate::token::{Mark, Symbol, Token};
+use cell_addr::quoted_text;
 use std::alloc::{AllocError, Global};
 use std::fmt::Write;
 use std::test::Fail;
 
-pub(crate) fn sign(op: Op) -> &'static str {
-    match op {
-        Op::Add => "+",
-        Op::Sub => "-",
-        Op::Mul => "*",
-        Op::Div => "/",
-        Op::Power => "^",
-        Op::Join => "&",
-        Op::Equal => "=",
-        Op::Unequal => "<>",
-        Op::Less => "<",
-        Op::Greater => ">",
-        Op::AtMost => "<=",
-        Op::AtLeast => ">=",
-    }
-}
-
 // Writes what kind of token it is, and what it holds.
-fn show(shown: &mut String, token: &Token) -> Result<(), AllocError> {
+fn show(alloc: Global, shown: &mut String, token: Token<'_>) -> Result<(), AllocError> {
     match token {
-        Token::Number(digits) => write!(shown, "number {}", digits.as_str()),
-        Token::Text(content) => write!(shown, "text {}", content.as_str()),
+        Token::Number(digits) => write!(shown, "number {}", digits),
+        Token::Text(after_quote) => show_quoted(alloc, shown, "text", after_quote, '"'),
         Token::Truth(true) => write!(shown, "truth TRUE"),
         Token::Truth(false) => write!(shown, "truth FALSE"),
         Token::Fault(fault) => write!(shown, "fault {}", fault.text()),
-        Token::Sheet(name) => write!(shown, "sheet {}", name.as_str()),
+        Token::Sheet(name) => write!(shown, "sheet {}", name),
+        Token::QuotedSheet(after_quote) => show_quoted(alloc, shown, "sheet", after_quote, '\''),
         Token::Corner(at) => {
-            write!(shown, "corner {} {}", at.row, at.col)?;
-            if at.row_fixed {
-                write!(shown, " row")?;
-            }
-            if at.col_fixed {
-                write!(shown, " col")?;
-            }
-            Ok(())
+            let row = if at.row_fixed { " row" } else { "" };
+            let col = if at.col_fixed { " col" } else { "" };
+            write!(shown, "corner {} {}{}{}", at.row, at.col, row, col)
         }
-        Token::Name(name) => write!(shown, "name {}", name.as_str()),
-        Token::Word(word) => write!(shown, "word {}", word.as_str()),
-        Token::Other(run) => write!(shown, "other {}", run.as_str()),
-        Token::Operator(op) => write!(shown, "{}", sign(*op)),
-        Token::Percent => write!(shown, "%"),
-        Token::Colon => write!(shown, ":"),
-        Token::Comma => write!(shown, ","),
-        Token::Open => write!(shown, "("),
-        Token::Close => write!(shown, ")"),
+        Token::Name(name) => write!(shown, "name {}", name),
+        Token::Word(word) => write!(shown, "word {}", word),
+        Token::Other(run) => write!(shown, "other {}", run),
+        Token::Stray => write!(shown, "none"),
+        Token::Symbol(Symbol::Operator(op)) => write!(shown, "{}", op.text()),
+        Token::Symbol(Symbol::Percent) => write!(shown, "%"),
+        Token::Symbol(Symbol::Mark(Mark::Colon)) => write!(shown, ":"),
+        Token::Symbol(Symbol::Mark(Mark::Comma)) => write!(shown, ","),
+        Token::Symbol(Symbol::Mark(Mark::Open)) => write!(shown, "("),
+        Token::Symbol(Symbol::Mark(Mark::Close)) => write!(shown, ")"),
     }
 }
 
-// The tokens of the text, or `none`.
+// Writes a content between quotes, by what follows the opening one.
+fn show_quoted(
+    alloc: Global,
+    shown: &mut String,
+    kind: &str,
+    after_quote: &str,
+    quote: char,
+) -> Result<(), AllocError> {
+    match quoted_text(alloc, after_quote, quote)? {
+        Some(content) => write!(shown, "{} {}", kind, content.as_str()),
+        None => write!(shown, "none"),
+    }
+}
+
+// The tokens of the text, up to where none begins.
 fn shown(alloc: Global, text: &str) -> Result<String, Fail> {
     let mut shown = String::new(alloc);
-    match tokens(alloc, text)? {
-        Some(found) => {
-            for token in &found {
-                if !shown.is_empty() {
-                    shown.push('|')?;
-                }
-                show(&mut shown, token)?;
-            }
+    let mut rest = text;
+    for _ in 0..text.len() {
+        let Some((token, after)) = first_token(rest) else {
+            break;
+        };
+        if !shown.is_empty() {
+            shown.push('|')?;
         }
-        None => shown.push_str("none")?,
+        show(alloc, &mut shown, token)?;
+        rest = after;
     }
     Ok(shown)
 }
@@ -133,14 +128,25 @@ fn tokens_of_texts(rt: HostRuntime) -> Result<(), Fail> {
         ("-+%^*/&", "-|+|%|^|*|/|&"),
         ("(1,2):3", "(|number 1|,|number 2|)|:|number 3"),
         ("1+2*3^-4%", "number 1|+|number 2|*|number 3|^|-|number 4|%"),
+        // What begins no token ends the reading.
+        (".", "none"),
+        ("'a' !A1", "none"),
+        ("'a'! A1", "none"),
+        ("Two! A1", "name Two|none"),
+        ("Two !A1", "name Two|none"),
+        ("a.b!A1", "name a.b|none"),
+        ("!", "none"),
+        ("\"a", "none"),
+        ("'a", "none"),
+        ("'a'", "none"),
+        ("\"a\"b\"", "text a|name b|none"),
+        ("日", "none"),
+        ("#ref", "none"),
+        ("#", "none"),
+        ("{1}", "none"),
+        ("A1;B1", "corner 0 0|none"),
     ] {
         assert_eq!(rt; shown(rt.alloc(), text)?.as_str(), wanted, "at {text}");
-    }
-    for text in [
-        ".", "'a' !A1", "'a'! A1", "Two! A1", "Two !A1", "a.b!A1", "!", "\"a", "'a", "'a'",
-        "\"a\"b\"", "日", "#ref", "#", "{1}", "A1;B1",
-    ] {
-        assert_eq!(rt; shown(rt.alloc(), text)?.as_str(), "none", "at {text}");
     }
     Ok(())
 }

@@ -1,4 +1,3 @@
-use crate::token_tests::sign;
 use crate::{ParseError, parse, read_plain};
 use cell_addr::{NO_SHEET, OneSheet, Place, Text};
 use fix_num::Fixed;
@@ -54,7 +53,7 @@ fn show(alloc: Global, shown: &mut String, tree: &Plain, levels: u32) -> Result<
             shown.push(')')
         }
         Plain::Binary(op, left, right) => {
-            write!(shown, "({} ", sign(*op))?;
+            write!(shown, "({} ", op.text())?;
             show(alloc, shown, left, levels - 1)?;
             shown.push(' ')?;
             show(alloc, shown, right, levels - 1)?;

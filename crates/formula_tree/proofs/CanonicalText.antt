@@ -14,8 +14,8 @@ use Rattle.fix_num.specs.Text.{text_of}
 use Rattle.formula_tree.specs.declared.reference.Corner.{Corner}
 use Rattle.formula_tree.specs.declared.operator.Sign.{Sign}
 use Rattle.formula_tree.specs.declared.operator.Sign.TheVariants as sign
-use Rattle.formula_tree.specs.declared.token.Token.{Token}
-use Rattle.formula_tree.specs.declared.token.Token.TheVariants as tok
+use Rattle.formula_tree.specs.Token.{Token}
+use Rattle.formula_tree.specs.Token as tok
 use Rattle.formula_tree.specs.Term.{Term, number, text, truth, fault, cell, area, name, prefix, percent, binary, call, paren, Terms, no_terms, term}
 use Rattle.formula_tree.specs.Run.{is_blank, begins_run, begins_with_any}
 use Rattle.formula_tree.specs.Canonical.{op_text, sign_text, corner_text, sheet_text, printed, printed_all, printed_more}

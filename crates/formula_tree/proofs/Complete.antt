@@ -7,13 +7,13 @@ use Rattle.formula_tree.specs.declared.operator.Op.{Op}
 use Rattle.formula_tree.specs.declared.operator.Op.TheVariants as op
 use Rattle.formula_tree.specs.declared.operator.Sign.{Sign}
 use Rattle.formula_tree.specs.declared.operator.Sign.TheVariants as sign
-use Rattle.formula_tree.specs.declared.token.Address.{Address}
-use Rattle.formula_tree.specs.declared.token.Token.{Token}
-use Rattle.formula_tree.specs.declared.token.Token.TheVariants as tok
+use Rattle.formula_tree.specs.declared.address.Address.{Address}
+use Rattle.formula_tree.specs.Token.{Token}
+use Rattle.formula_tree.specs.Token as tok
 use Rattle.formula_tree.specs.Term.{Term, number, text, truth, fault, cell, area, name, prefix, percent, binary, call, paren, Terms, no_terms, term, terms_of, depth_of, depth_of_all}
 use Rattle.formula_tree.specs.Level.{level_of, percent_level, sign_level, op_of, sign_of}
 use Rattle.formula_tree.specs.Grammar.{Leaf, a_number, a_text, a_truth, a_fault, a_name, a_corner, a_range, a_sheet_corner, a_sheet_range, Spells, lower, between, behind, before, leaf, inside, alone, called, SpellsAll, last, more, cell_on, area_on}
-use Rattle.formula_tree.specs.Reader.{Read, and_then, after_close, after_colon, first, climb, arguments, read}
+use Rattle.formula_tree.specs.Reader.{Read, and_then, after, first, climb, arguments, read}
 use Rattle.formula_tree.proofs.ReaderSteps.{read_more, climb_more, arguments_more}
 
 -- what may stand behind a tree of level k: nothing, a parenthesis, a comma, or an operator below k
@@ -103,7 +103,7 @@ Stops-sign k (tok.Operator o ∷ zs) s = omega (arith, level_of-below o)
 Stops-sign k (tok.Percent ∷ zs) s = omega arith
 Stops-sign k (x ∷ zs) s = absurd s
 
-after_colon-stops : (k : ℕ) (zs : List Token) → Stops k zs → after_colon zs ≡ None
+after_colon-stops : (k : ℕ) (zs : List Token) → Stops k zs → after tok.Colon zs ≡ None
 after_colon-stops k [] s = refl
 after_colon-stops k (tok.Close ∷ zs) s = refl
 after_colon-stops k (tok.Comma ∷ zs) s = refl
@@ -148,7 +148,7 @@ module _ (home : ℕ) (find : List ℕ → Option ℕ) where
     shorter_all (last d) = omega (arith, shorter d)
     shorter_all (more d ds) = omega (arith, shorter d, shorter_all ds)
 
-  leaf-not_close : {xs : List Token} {t : Term Corner} {zs : List Token} → Leaf home find xs t zs → after_close xs ≡ None
+  leaf-not_close : {xs : List Token} {t : Term Corner} {zs : List Token} → Leaf home find xs t zs → after tok.Close xs ≡ None
   leaf-not_close (a_number e) = refl
   leaf-not_close a_text = refl
   leaf-not_close a_truth = refl
@@ -159,7 +159,7 @@ module _ (home : ℕ) (find : List ℕ → Option ℕ) where
   leaf-not_close a_sheet_corner = refl
   leaf-not_close a_sheet_range = refl
 
-  pub not_close : {k : ℕ} {xs : List Token} {t : Term Corner} {zs : List Token} → Spells home find k xs t zs → after_close xs ≡ None
+  pub not_close : {k : ℕ} {xs : List Token} {t : Term Corner} {zs : List Token} → Spells home find k xs t zs → after tok.Close xs ≡ None
   not_close (lower d) = not_close d
   not_close (between o d e) = not_close d
   not_close (behind d) = not_close d
@@ -169,7 +169,7 @@ module _ (home : ℕ) (find : List ℕ → Option ℕ) where
   not_close alone = refl
   not_close (called ds) = refl
 
-  all-not_close : {xs : List Token} {ts : Terms Corner} {zs : List Token} → SpellsAll home find xs ts zs → after_close xs ≡ None
+  all-not_close : {xs : List Token} {ts : Terms Corner} {zs : List Token} → SpellsAll home find xs ts zs → after tok.Close xs ≡ None
   all-not_close (last d) = not_close d
   all-not_close (more d ds) = not_close d
 
@@ -244,7 +244,7 @@ module _ (home : ℕ) (find : List ℕ → Option ℕ) where
       → R 0 xs ≡ Some (t, tok.Close ∷ zs) → first home find R (tok.Open ∷ xs) ≡ Some (paren t, zs)
   first-inside R xs t zs e = rw e refl
 
-  first-called : (R : ℕ → List Token → Read) (w : List ℕ) (xs : List Token) (ts : Terms Corner) (zs : List Token) → after_close xs ≡ None
+  first-called : (R : ℕ → List Token → Read) (w : List ℕ) (xs : List Token) (ts : Terms Corner) (zs : List Token) → after tok.Close xs ≡ None
       → arguments R w (length xs) [] xs ≡ Some (call (capitals w) (terms_of (trees_in ts)), zs)
       → first home find R (tok.Word w ∷ tok.Open ∷ xs) ≡ Some (call (capitals w) ts, zs)
   first-called R w xs ts zs c e = rw (c, e, terms_of-trees_in ts) refl

@@ -1,7 +1,7 @@
 -- Trees with each corner replaced by another one: what stays the same. Serves the walks over shared trees.
 use Rattle.std.proofs.Common.{◌≡◌, ap, refl, ◌∙◌, ◌+◌, max, ◌++◌}
-use Rattle.formula_tree.specs.Term.{Term, number, text, truth, fault, cell, area, name, prefix, percent, binary, call, paren, Terms, no_terms, term, depth_of, depth_of_all, each_corner, each_corner_all, EachCorner, EachCornerOfAll}
-use Rattle.formula_tree.specs.Links.{names_in, names_in_all, is_reference}
+use Rattle.formula_tree.specs.Term.{Term, number, text, truth, fault, cell, area, name, prefix, percent, binary, call, paren, Terms, no_terms, term, depth_of, depth_of_all, each_corner, each_corner_all, EachCorner, EachCornerOfAll, is_reference}
+use Rattle.formula_tree.specs.Links.{names_in, names_in_all}
 
 mutual
   pub depth_of-each_corner : {R S : Type 0} (f : R → S) (t : Term R) → depth_of (each_corner f t) ≡ depth_of t

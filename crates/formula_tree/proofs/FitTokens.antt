@@ -13,11 +13,12 @@ use Rattle.cell_value.specs.declared.fault.FaultKind.{FaultKind}
 use Rattle.cell_value.specs.Fault.{faults}
 use Rattle.fix_num.specs.Text.{has_minus}
 use Rattle.formula_tree.specs.declared.operator.Op.{Op}
-use Rattle.formula_tree.specs.declared.token.Address.{Address}
-use Rattle.formula_tree.specs.declared.token.Token.{Token}
-use Rattle.formula_tree.specs.declared.token.Token.TheVariants as tok
-use Rattle.formula_tree.specs.Run.{is_blank, begins_run, is_run_byte, begins_with, begins_with_any, behind, is_word, behind_dollar, address_at, corner_of, truth_of, word_token, lone_token, is_sheet_behind, is_sheet_run, run_token}
-use Rattle.formula_tree.specs.Tokens.{Front, number_length, begins_number, quoted, text_token, sheet_token, begins_with_fault, fault_token, byte_token, pair_op, sign_token, token_at, and_tokens, tokens_in}
+use Rattle.formula_tree.specs.declared.address.Address.{Address}
+use Rattle.formula_tree.specs.Token.{Token}
+use Rattle.formula_tree.specs.Token as tok
+use Rattle.formula_tree.specs.Run.{is_blank, begins_run, is_run_byte, begins_with, begins_with_any, after_while, is_word, after_dollar, address_at, corner_of, truth_of, word_token, lone_token, ends_sheet_name, is_sheet_run, run_token}
+use Rattle.cell_addr.specs.Quoted.{quoted}
+use Rattle.formula_tree.specs.Tokens.{Front, number_length, begins_number, text_token, sheet_token, begins_with_fault, fault_token, byte_token, pair_op, sign_token, token_at, and_tokens, tokens_in}
 use Rattle.formula_tree.specs.Proper.{IsName}
 use Rattle.formula_tree.proofs.TokenSteps.{chosen}
 
@@ -33,7 +34,7 @@ abbrev pub AreFit : List Token → Type 0
 AreFit [] = Unit {0}
 AreFit (token ∷ tokens) = IsFit token × AreFit tokens
 
-abbrev FitFront : Front → Type 0
+abbrev pub FitFront : Front → Type 0
 FitFront None = Unit {0}
 FitFront (Some p) = IsFit p.0
 
@@ -61,8 +62,8 @@ fit-both f g (Some p) = fit-address f g p.0 p.1
 
 fit-corner_of : (w : List ℕ) → FitCorner (corner_of w)
 fit-corner_of w =
-    let rest = after_letters (behind_dollar w) in
-    fit-both (begins_with 36 w) (begins_with 36 rest) (option_zip (row_of (behind_dollar rest)) (column_of (letters (behind_dollar w))))
+    let rest = after_letters (after_dollar w) in
+    fit-both (begins_with 36 w) (begins_with 36 rest) (option_zip (row_of (after_dollar rest)) (column_of (letters (after_dollar w))))
 
 -- runs
 fit-named : (b : Bool) (w : List ℕ) → is_word w ≡ b → corner_of w ≡ None → truth_of w ≡ None → IsFit (if b then tok.Name w else tok.Other w)
@@ -85,7 +86,7 @@ fit-chosen false false e w cs lone h f = f
 
 fit-run : (w cs : List ℕ) → FitFront (Some (run_token w cs))
 fit-run w cs =
-    fit-chosen (is_sheet_run w cs) (begins_with 40 (behind is_blank cs)) (is_word w) w cs (lone_token w (corner_of w)) refl (fit-lone w (corner_of w) refl (fit-corner_of w))
+    fit-chosen (is_sheet_run w cs) (begins_with 40 (after_while is_blank cs)) (is_word w) w cs (lone_token w (corner_of w)) refl (fit-lone w (corner_of w) refl (fit-corner_of w))
 
 -- numbers have no sign
 number-no_minus : (c : ℕ) (b : Bool) → (is_digit c || (c == 46 && b)) ≡ true → (c == 45) ≡ false
@@ -99,13 +100,13 @@ fit-text : (r : Option (List ℕ × List ℕ)) → FitFront (option_map text_tok
 fit-text None = tt
 fit-text (Some p) = tt
 
-fit-behind : (b : Bool) (content cs : List ℕ) → FitFront (if b then Some (tok.Sheet content, cs) else None)
-fit-behind true content cs = tt
-fit-behind false content cs = tt
+fit-sheet_name : (b : Bool) (content cs : List ℕ) → FitFront (if b then Some (tok.Sheet content, cs) else None)
+fit-sheet_name true content cs = tt
+fit-sheet_name false content cs = tt
 
 fit-sheet : (r : Option (List ℕ × List ℕ)) → FitFront (option_and_then sheet_token r)
 fit-sheet None = tt
-fit-sheet (Some (content, cs)) = fit-behind (is_sheet_behind cs) content (drop 1 cs)
+fit-sheet (Some (content, cs)) = fit-sheet_name (ends_sheet_name cs) content (drop 1 cs)
 
 fit-fault : (cs : List ℕ) (r : Option FaultKind) → FitFront (option_map (fault_token cs) r)
 fit-fault cs None = tt
@@ -137,9 +138,9 @@ front-cond : (b : Bool) (x y : Front) → (b ≡ true → FitFront x) → FitFro
 front-cond true x y h g = h refl
 front-cond false x y h g = g
 
-fit-token_at : (c : ℕ) (cs : List ℕ) → FitFront (token_at c cs)
+pub fit-token_at : (c : ℕ) (cs : List ℕ) → FitFront (token_at c cs)
 fit-token_at c cs =
-    front-cond (begins_run c) _ _ (λ _. fit-run (take_while is_run_byte (c ∷ cs)) (behind is_run_byte (c ∷ cs)))
+    front-cond (begins_run c) _ _ (λ _. fit-run (take_while is_run_byte (c ∷ cs)) (after_while is_run_byte (c ∷ cs)))
     (front-cond (begins_number (c ∷ cs)) _ _ (λ h. fit-number c cs (number_length (c ∷ cs)) h)
     (front-cond (c == 34) _ _ (λ _. fit-text (quoted 34 cs))
     (front-cond (c == 39) _ _ (λ _. fit-sheet (quoted 39 cs))

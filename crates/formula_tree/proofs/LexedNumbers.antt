@@ -14,12 +14,13 @@ use Rattle.fix_num.specs.Number as numbers
 use Rattle.fix_num.specs.Text.{text_of}
 use Rattle.fix_num.specs.Laws.{IsWholePart, AreDecimals, HasPlainForm}
 use Rattle.fix_num.proofs.PlainTexts.{plain-unsigned_text}
-use Rattle.formula_tree.specs.declared.token.Token.{Token}
-use Rattle.formula_tree.specs.declared.token.Token.TheVariants as tok
-use Rattle.formula_tree.specs.Run.{is_blank, begins_run, begins_with, begins_with_any, behind}
-use Rattle.formula_tree.specs.Tokens.{decimals_length, number_length, begins_number, quoted, text_token, sheet_token, token_at}
-use Rattle.formula_tree.specs.Canonical.{doubled, between_quotes}
-use Rattle.formula_tree.proofs.Fronts.{prefix_len-append, behind-append}
+use Rattle.formula_tree.specs.Token.{Token}
+use Rattle.formula_tree.specs.Token as tok
+use Rattle.formula_tree.specs.Run.{is_blank, begins_run, begins_with, begins_with_any, after_while}
+use Rattle.cell_addr.specs.Quoted.{doubled, quoted}
+use Rattle.formula_tree.specs.Tokens.{decimals_length, number_length, begins_number, text_token, sheet_token, token_at}
+use Rattle.formula_tree.specs.Canonical.{between_quotes}
+use Rattle.formula_tree.proofs.Fronts.{prefix_len-append, after_while-append}
 use Rattle.formula_tree.proofs.Lexes.{Lexes, lexes-token, Stopped}
 
 digit-not_run : (c : ℕ) → is_digit c ≡ true → begins_run c ≡ false
@@ -47,8 +48,8 @@ lexes-digits (c ∷ ws) cs tokens h e l =
 
 number_length-digits : (ws rest : List ℕ) → list_all is_digit ws ≡ true → begins_with_any is_digit rest ≡ false → number_length (ws ++ rest) ≡ length ws + decimals_length rest
 number_length-digits ws rest h g =
-    ap (λ n. n + decimals_length (behind is_digit (ws ++ rest))) (prefix_len-append is_digit ws rest h g)
-    ∙ ap (λ r. length ws + decimals_length r) (behind-append is_digit ws rest h g)
+    ap (λ n. n + decimals_length (after_while is_digit (ws ++ rest))) (prefix_len-append is_digit ws rest h g)
+    ∙ ap (λ r. length ws + decimals_length r) (after_while-append is_digit ws rest h g)
 
 decimals_length-none : (cs : List ℕ) → begins_with 46 cs ≡ false → decimals_length cs ≡ 0
 decimals_length-none cs h = cond-false (begins_with 46 cs) (1 + prefix_len is_digit (drop 1 cs)) 0 h
@@ -120,22 +121,22 @@ pub quoted-doubled : (q : ℕ) (content rest : List ℕ) → begins_with q rest 
 quoted-doubled q [] rest h = quoted-close q rest h
 quoted-doubled q (c ∷ cs) rest h = doubled-by q (c == q) c cs rest refl (quoted-doubled q cs rest h)
 
-behind_quotes-shorter : (q : ℕ) (content rest : List ℕ) → length rest ≤ length (doubled q content ++ (q ∷ rest))
-behind_quotes-shorter q content rest = omega (arith, length-append (doubled q content) (q ∷ rest))
+after_quotes-shorter : (q : ℕ) (content rest : List ℕ) → length rest ≤ length (doubled q content ++ (q ∷ rest))
+after_quotes-shorter q content rest = omega (arith, length-append (doubled q content) (q ∷ rest))
 
 -- a text between double quotes is one token
 pub lexes-text : (content cs : List ℕ) (tokens : List Token) → Stopped cs → Lexes cs tokens → Lexes (between_quotes 34 content cs) (tok.Text content ∷ tokens)
 lexes-text content cs tokens s l =
     lexes-token 34 (doubled 34 content ++ (34 ∷ cs)) (tok.Text content) cs tokens refl
-    (ap (option_map text_token) (quoted-doubled 34 content cs s.no_quote)) (behind_quotes-shorter 34 content cs) l
+    (ap (option_map text_token) (quoted-doubled 34 content cs s.no_quote)) (after_quotes-shorter 34 content cs) l
 
-sheet_token-behind : (content cs : List ℕ) → begins_with_any is_blank cs ≡ false → sheet_token (content, 33 ∷ cs) ≡ Some (tok.Sheet content, cs)
-sheet_token-behind content cs h = rw h refl
+sheet_token-ended : (content cs : List ℕ) → begins_with_any is_blank cs ≡ false → sheet_token (content, 33 ∷ cs) ≡ Some (tok.Sheet content, cs)
+sheet_token-ended content cs h = rw h refl
 
 -- a sheet's name between apostrophes with `!` behind it is one token
 pub lexes-quoted_sheet : (content cs : List ℕ) (tokens : List Token) → begins_with_any is_blank cs ≡ false → Lexes cs tokens
     → Lexes (between_quotes 39 content (33 ∷ cs)) (tok.Sheet content ∷ tokens)
 lexes-quoted_sheet content cs tokens h l =
     lexes-token 39 (doubled 39 content ++ (39 ∷ 33 ∷ cs)) (tok.Sheet content) cs tokens refl
-    (ap (option_and_then sheet_token) (quoted-doubled 39 content (33 ∷ cs) refl) ∙ sheet_token-behind content cs h)
+    (ap (option_and_then sheet_token) (quoted-doubled 39 content (33 ∷ cs) refl) ∙ sheet_token-ended content cs h)
     (omega (arith, length-append (doubled 39 content) (39 ∷ 33 ∷ cs))) l

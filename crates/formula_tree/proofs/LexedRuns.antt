@@ -20,13 +20,13 @@ use Rattle.cell_addr.specs.SheetName.{is_bare_name, is_name_start, is_name_byte}
 use Rattle.cell_addr.proofs.Printed.{column_letters-spell, row_of-decimal, column_of-column_letters}
 use Rattle.cell_value.specs.Scalar.{truth_text}
 use Rattle.formula_tree.specs.declared.reference.Corner.{Corner}
-use Rattle.formula_tree.specs.declared.token.Token.{Token}
-use Rattle.formula_tree.specs.declared.token.Token.TheVariants as tok
-use Rattle.formula_tree.specs.Run.{is_blank, begins_run, is_run_byte, begins_with, begins_with_any, behind, is_word, behind_dollar, address_at, corner_behind, corner_of, word_token, lone_token, is_sheet_behind, is_sheet_run, run_token}
+use Rattle.formula_tree.specs.Token.{Token}
+use Rattle.formula_tree.specs.Token as tok
+use Rattle.formula_tree.specs.Run.{is_blank, begins_run, is_run_byte, begins_with, begins_with_any, after_while, is_word, after_dollar, address_at, corner_after, corner_of, word_token, lone_token, ends_sheet_name, is_sheet_run, run_token}
 use Rattle.formula_tree.specs.Tokens.{token_at}
 use Rattle.formula_tree.specs.Canonical.{dollar, corner_text}
 use Rattle.formula_tree.specs.Proper.{IsName, IsCallWord}
-use Rattle.formula_tree.proofs.Fronts.{take_while-append, behind-append, all-weaker}
+use Rattle.formula_tree.proofs.Fronts.{take_while-append, after_while-append, all-weaker}
 use Rattle.formula_tree.proofs.Lexes.{Lexes, lexes-token, Stopped}
 use Rattle.formula_tree.proofs.Written.{address_of}
 
@@ -41,8 +41,8 @@ run-not_blank c h = grind (arith, nat_tests)
 run-front : (c : ℕ) (w cs : List ℕ) → IsRun (c ∷ w) → begins_with_any is_run_byte cs ≡ false → token_at c (w ++ cs) ≡ Some (run_token (c ∷ w) cs)
 run-front c w cs r h =
     cond-true (begins_run c) _ _ r.0
-    ∙ ap (λ x. Some (run_token x (behind is_run_byte ((c ∷ w) ++ cs)))) (take_while-append is_run_byte (c ∷ w) cs r.1 h)
-    ∙ ap (λ y. Some (run_token (c ∷ w) y)) (behind-append is_run_byte (c ∷ w) cs r.1 h)
+    ∙ ap (λ x. Some (run_token x (after_while is_run_byte ((c ∷ w) ++ cs)))) (take_while-append is_run_byte (c ∷ w) cs r.1 h)
+    ∙ ap (λ y. Some (run_token (c ∷ w) y)) (after_while-append is_run_byte (c ∷ w) cs r.1 h)
 
 -- a run with its token and what stands behind that
 pub lexes-run : (w cs : List ℕ) (token : Token) (rest : List ℕ) (tokens : List Token) → IsRun w → begins_with_any is_run_byte cs ≡ false
@@ -82,8 +82,8 @@ IsRun-bare (c ∷ cs) h =
 -- a run that stands alone
 run_token-lone : (w cs : List ℕ) → Stopped cs → run_token w cs ≡ (lone_token w (corner_of w), cs)
 run_token-lone w cs s =
-    cond-false (is_sheet_run w cs) _ _ (and_right (is_bare_name w) (is_sheet_behind cs) (and_left (begins_with 33 cs) (not (begins_with_any is_blank (drop 1 cs))) s.no_sheet))
-    ∙ cond-false (begins_with 40 (behind is_blank cs)) _ _ s.no_call
+    cond-false (is_sheet_run w cs) _ _ (and_right (is_bare_name w) (ends_sheet_name cs) (and_left (begins_with 33 cs) (not (begins_with_any is_blank (drop 1 cs))) s.no_sheet))
+    ∙ cond-false (begins_with 40 (after_while is_blank cs)) _ _ s.no_call
 
 run_token-name : (w cs : List ℕ) → IsName w → Stopped cs → run_token w cs ≡ (tok.Name w, cs)
 run_token-name w cs n s =
@@ -164,26 +164,26 @@ dollar-is : (fixed : Bool) (ds : List ℕ) → begins_with 36 ds ≡ false → b
 dollar-is true ds h = refl
 dollar-is false ds h = h
 
-behind_dollar-dollar : (fixed : Bool) (cs : List ℕ) → begins_with 36 cs ≡ false → behind_dollar (dollar fixed cs) ≡ cs
-behind_dollar-dollar true cs h = refl
-behind_dollar-dollar false cs h = cond-false (begins_with 36 cs) (drop 1 cs) cs h
+after_dollar-dollar : (fixed : Bool) (cs : List ℕ) → begins_with 36 cs ≡ false → after_dollar (dollar fixed cs) ≡ cs
+after_dollar-dollar true cs h = refl
+after_dollar-dollar false cs h = cond-false (begins_with 36 cs) (drop 1 cs) cs h
 
 address_at-inside : (col_fixed row_fixed : Bool) (row col : ℕ) → row < ROWS → col < COLS
     → address_at col_fixed row_fixed (row, col) ≡ Some (record { row = row; col = col; row_fixed = row_fixed; col_fixed = col_fixed })
 address_at-inside col_fixed row_fixed row col r c =
     cond-true (nat_lt row ROWS && nat_lt col COLS) _ _ (and_from (nat_lt row ROWS) (nat_lt col COLS) (lt-ltb row ROWS r) (lt-ltb col COLS c))
 
-corner_behind-parts : (col_fixed row_fixed : Bool) (ls ds : List ℕ) (row col : ℕ) → AreLetters ls → AreDigits ds → column_of ls ≡ Some col → row_of ds ≡ Some row → row < ROWS → col < COLS
-    → corner_behind col_fixed (ls ++ dollar row_fixed ds) ≡ Some (record { row = row; col = col; row_fixed = row_fixed; col_fixed = col_fixed })
-corner_behind-parts col_fixed row_fixed ls ds row col l d e f r c =
+corner_after-parts : (col_fixed row_fixed : Bool) (ls ds : List ℕ) (row col : ℕ) → AreLetters ls → AreDigits ds → column_of ls ≡ Some col → row_of ds ≡ Some row → row < ROWS → col < COLS
+    → corner_after col_fixed (ls ++ dollar row_fixed ds) ≡ Some (record { row = row; col = col; row_fixed = row_fixed; col_fixed = col_fixed })
+corner_after-parts col_fixed row_fixed ls ds row col l d e f r c =
     let stop = letters-stop row_fixed ds d in
     let front : letters (ls ++ dollar row_fixed ds) ≡ ls = take_while-append is_ascii_alphabetic ls (dollar row_fixed ds) l.1 stop in
-    let back : after_letters (ls ++ dollar row_fixed ds) ≡ dollar row_fixed ds = behind-append is_ascii_alphabetic ls (dollar row_fixed ds) l.1 stop in
+    let back : after_letters (ls ++ dollar row_fixed ds) ≡ dollar row_fixed ds = after_while-append is_ascii_alphabetic ls (dollar row_fixed ds) l.1 stop in
     let no_dollar = begins_with-digits ds d in
-    ap (λ x. option_and_then (address_at col_fixed (begins_with 36 x)) (option_zip (row_of (behind_dollar x)) (column_of (letters (ls ++ dollar row_fixed ds))))) back
-    ∙ ap (λ x. option_and_then (address_at col_fixed (begins_with 36 (dollar row_fixed ds))) (option_zip (row_of (behind_dollar (dollar row_fixed ds))) (column_of x))) front
-    ∙ ap (λ b. option_and_then (address_at col_fixed b) (option_zip (row_of (behind_dollar (dollar row_fixed ds))) (column_of ls))) (dollar-is row_fixed ds no_dollar)
-    ∙ ap (λ x. option_and_then (address_at col_fixed row_fixed) (option_zip (row_of x) (column_of ls))) (behind_dollar-dollar row_fixed ds no_dollar)
+    ap (λ x. option_and_then (address_at col_fixed (begins_with 36 x)) (option_zip (row_of (after_dollar x)) (column_of (letters (ls ++ dollar row_fixed ds))))) back
+    ∙ ap (λ x. option_and_then (address_at col_fixed (begins_with 36 (dollar row_fixed ds))) (option_zip (row_of (after_dollar (dollar row_fixed ds))) (column_of x))) front
+    ∙ ap (λ b. option_and_then (address_at col_fixed b) (option_zip (row_of (after_dollar (dollar row_fixed ds))) (column_of ls))) (dollar-is row_fixed ds no_dollar)
+    ∙ ap (λ x. option_and_then (address_at col_fixed row_fixed) (option_zip (row_of x) (column_of ls))) (after_dollar-dollar row_fixed ds no_dollar)
     ∙ ap (λ x. option_and_then (address_at col_fixed row_fixed) (option_zip x (column_of ls))) f
     ∙ ap (λ x. option_and_then (address_at col_fixed row_fixed) (option_zip (Some row) x)) e
     ∙ address_at-inside col_fixed row_fixed row col r c
@@ -216,9 +216,9 @@ corner_of-bytes c p =
     let d = row-digits c p in
     let rest : List ℕ = dollar c.row_fixed (decimal (c.at.row + 1)) in
     let no_dollar = begins_with-letters (column_letters c.at.col) rest l in
-    ap (λ b. corner_behind b (behind_dollar (corner_bytes c))) (dollar-is c.col_fixed (column_letters c.at.col ++ rest) no_dollar)
-    ∙ ap (corner_behind c.col_fixed) (behind_dollar-dollar c.col_fixed (column_letters c.at.col ++ rest) no_dollar)
-    ∙ corner_behind-parts c.col_fixed c.row_fixed (column_letters c.at.col) (decimal (c.at.row + 1)) c.at.row c.at.col l d
+    ap (λ b. corner_after b (after_dollar (corner_bytes c))) (dollar-is c.col_fixed (column_letters c.at.col ++ rest) no_dollar)
+    ∙ ap (corner_after c.col_fixed) (after_dollar-dollar c.col_fixed (column_letters c.at.col ++ rest) no_dollar)
+    ∙ corner_after-parts c.col_fixed c.row_fixed (column_letters c.at.col) (decimal (c.at.row + 1)) c.at.row c.at.col l d
     (column_of-column_letters c.at.col p.1) (row_of-decimal c.at.row (omega (arith, p.0))) p.0 p.1
 
 goes_on-dollar : (fixed : Bool) (cs : List ℕ) → list_all is_run_byte cs ≡ true → list_all is_run_byte (dollar fixed cs) ≡ true

@@ -8,10 +8,10 @@ use Rattle.formula_tree.specs.declared.operator.Op.{Op}
 use Rattle.formula_tree.specs.declared.operator.Op.TheVariants as op
 use Rattle.formula_tree.specs.declared.operator.Sign.{Sign}
 use Rattle.formula_tree.specs.declared.operator.Sign.TheVariants as sign
-use Rattle.formula_tree.specs.declared.token.Token.{Token}
-use Rattle.formula_tree.specs.declared.token.Token.TheVariants as tok
+use Rattle.formula_tree.specs.Token.{Token}
+use Rattle.formula_tree.specs.Token as tok
 use Rattle.formula_tree.specs.Level.{op_of}
-use Rattle.formula_tree.specs.Run.{is_blank, is_run_byte, begins_with, begins_with_any, behind}
+use Rattle.formula_tree.specs.Run.{is_blank, is_run_byte, begins_with, begins_with_any, after_while}
 use Rattle.formula_tree.specs.Tokens.{token_at, tokens_in}
 use Rattle.formula_tree.specs.Canonical.{op_text, sign_text}
 
@@ -37,7 +37,7 @@ pub record Stopped (cs : List ℕ) : Type 0 where
   pub no_digit : begins_with_any is_digit cs ≡ false
   pub no_point : begins_with 46 cs ≡ false
   pub no_sheet : begins_with 33 cs ≡ false
-  pub no_call : begins_with 40 (behind is_blank cs) ≡ false
+  pub no_call : begins_with 40 (after_while is_blank cs) ≡ false
   pub no_quote : begins_with 34 cs ≡ false
 
 pub stopped-nil : Stopped []

@@ -18,3 +18,5 @@ pub mod TokenSteps
 pub mod FitTokens
 pub mod ProperTrees
 pub mod Examples
+pub mod Decoded
+pub mod PooledTrees

@@ -11,8 +11,8 @@ use Rattle.fix_num.specs.declared.error.NumError.TheVariants.{Range, NotANumber}
 use Rattle.fix_num.specs.Number as numbers
 use Rattle.fix_num.specs.Text.{has_minus, behind_sign, is_unsigned, magnitude, number_of}
 use Rattle.formula_tree.specs.declared.reference.Corner.{Corner}
-use Rattle.formula_tree.specs.declared.token.Address.{Address}
-use Rattle.formula_tree.specs.declared.token.Token.{Token}
+use Rattle.formula_tree.specs.declared.address.Address.{Address}
+use Rattle.formula_tree.specs.Token.{Token}
 use Rattle.formula_tree.specs.Term.{Term, number, Terms}
 use Rattle.formula_tree.specs.Level.{level, atom_level}
 use Rattle.formula_tree.specs.Run.{is_word}

@@ -1,7 +1,7 @@
 -- The reader's recursions, one step at a time. Serves the laws of the reader, and the parser.
 use Rattle.std.proofs.Common.{◌≡◌, ap, refl, arith, ℕ, zero, suc, ◌-◌, ◌<◌, List, Option, None}
 use Rattle.formula_tree.specs.declared.reference.Corner.{Corner}
-use Rattle.formula_tree.specs.declared.token.Token.{Token}
+use Rattle.formula_tree.specs.Token.{Token}
 use Rattle.formula_tree.specs.Term.{Term}
 use Rattle.formula_tree.specs.Reader.{Read, and_then, first, climb, climb_step, arguments, arguments_step, read}
 

@@ -29,7 +29,7 @@ fixed-back : (base : ℕ) (fixed : Bool) (line : ℕ) → is_fixed (part_from ba
 fixed-back base true line = refl
 fixed-back base false line = refl
 
-corner-back : (base : Place) (c : Corner) → IsInside c.at → corner_at base (ref_from base c) ≡ c
+pub corner-back : (base : Place) (c : Corner) → IsInside c.at → corner_at base (ref_from base c) ≡ c
 corner-back base c p =
     let s = sheet-back (c.at.sheet == base.sheet) base.sheet c.at.sheet refl in
     let r = line-back base.row c.row_fixed c.at.row (omega (arith, p.0)) in

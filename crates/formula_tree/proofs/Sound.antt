@@ -9,13 +9,13 @@ use Rattle.formula_tree.specs.declared.operator.Op.{Op}
 use Rattle.formula_tree.specs.declared.operator.Op.TheVariants as op
 use Rattle.formula_tree.specs.declared.operator.Sign.{Sign}
 use Rattle.formula_tree.specs.declared.operator.Sign.TheVariants as sign
-use Rattle.formula_tree.specs.declared.token.Address.{Address}
-use Rattle.formula_tree.specs.declared.token.Token.{Token}
-use Rattle.formula_tree.specs.declared.token.Token.TheVariants as tok
+use Rattle.formula_tree.specs.declared.address.Address.{Address}
+use Rattle.formula_tree.specs.Token.{Token}
+use Rattle.formula_tree.specs.Token as tok
 use Rattle.formula_tree.specs.Term.{Term, prefix, percent, binary, call, Terms, no_terms, term, terms_of}
 use Rattle.formula_tree.specs.Level.{level_of, percent_level, sign_level, op_of, sign_of}
 use Rattle.formula_tree.specs.Grammar.{Leaf, a_number, a_text, a_truth, a_fault, a_name, a_corner, a_range, a_sheet_corner, a_sheet_range, Spells, lower, between, behind, before, leaf, inside, alone, called, SpellsAll, last, more}
-use Rattle.formula_tree.specs.Reader.{Read, and_then, after_close, after_comma, corner_front, number_then, reference, signed, closed, first, climb, arguments, argument_then, call_then, call_front, read}
+use Rattle.formula_tree.specs.Reader.{Read, and_then, after, corner_front, number_then, reference, signed, closed, first, climb, arguments, argument_then, call_then, call_front, read}
 use Rattle.formula_tree.proofs.Complete.{trees_in, terms_of-trees_in, level_of-below}
 use borrow.Author.Tests.{ltb-true}
 use Rattle.std.proofs.lemmas.Bool.{ltb-false}
@@ -165,7 +165,7 @@ module _ (home : ℕ) (find : List ℕ → Option ℕ) where
   argument-good : (w : List ℕ) (next : List (Term Corner) → List Token → Read)
       → ((done : List (Term Corner)) (xs : List Token) → ReadsArguments w done xs (next done xs))
       → (done : List (Term Corner)) (xs : List Token) (t : Term Corner) (zs : List Token) → Spells home find 0 xs t zs
-      → ReadsArguments w done xs (argument_then next w (done ++ t ∷ []) (after_comma zs) (after_close zs))
+      → ReadsArguments w done xs (argument_then next w (done ++ t ∷ []) (after tok.Comma zs) (after tok.Close zs))
   argument-good w next g done xs t [] d = tt
   argument-good w next g done xs t (tok.Comma ∷ zs) d = one-more w done xs t zs (next (done ++ t ∷ []) zs) d (g (done ++ t ∷ []) zs)
   argument-good w next g done xs t (tok.Close ∷ zs) d = (term t no_terms, (refl, last d))
@@ -174,7 +174,7 @@ module _ (home : ℕ) (find : List ℕ → Option ℕ) where
   after-argument : (w : List ℕ) (next : List (Term Corner) → List Token → Read)
       → ((done : List (Term Corner)) (xs : List Token) → ReadsArguments w done xs (next done xs))
       → (done : List (Term Corner)) (xs : List Token) (r : Read) → Reads 0 xs r
-      → ReadsArguments w done xs (and_then r (λ t rest. argument_then next w (done ++ t ∷ []) (after_comma rest) (after_close rest)))
+      → ReadsArguments w done xs (and_then r (λ t rest. argument_then next w (done ++ t ∷ []) (after tok.Comma rest) (after tok.Close rest)))
   after-argument w next g done xs None s = tt
   after-argument w next g done xs (Some r) s = argument-good w next g done xs r.0 r.1 s.0
 
@@ -192,7 +192,7 @@ module _ (home : ℕ) (find : List ℕ → Option ℕ) where
       subst (λ t. Spells home find sign_level (tok.Word w ∷ tok.Open ∷ xs) t r.1) f (lower (called ds))
 
   spelt-call_then : (R : ℕ → List Token → Read) → IsGood R → (w : List ℕ) (xs : List Token)
-      → Spelt sign_level (tok.Word w ∷ tok.Open ∷ xs) (call_then R w xs (after_close xs))
+      → Spelt sign_level (tok.Word w ∷ tok.Open ∷ xs) (call_then R w xs (after tok.Close xs))
   spelt-call_then R g w [] = call-good w [] (arguments R w 0 [] []) (arguments-good R g w 0 [] [])
   spelt-call_then R g w (tok.Close ∷ zs) = lower alone
   spelt-call_then R g w (x ∷ zs) = call-good w (x ∷ zs) (arguments R w (length (x ∷ zs)) [] (x ∷ zs)) (arguments-good R g w (length (x ∷ zs)) [] (x ∷ zs))

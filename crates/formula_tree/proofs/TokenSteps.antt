@@ -10,13 +10,14 @@ use Rattle.cell_value.specs.declared.fault.FaultKind.{FaultKind}
 use Rattle.cell_value.specs.declared.fault.FaultKind.TheVariants as kinds
 use Rattle.cell_value.specs.Fault.{fault_text, faults}
 use Rattle.formula_tree.specs.declared.operator.Op.{Op}
-use Rattle.formula_tree.specs.declared.token.Token.{Token}
-use Rattle.formula_tree.specs.declared.token.Token.TheVariants as tok
-use Rattle.formula_tree.specs.Run.{is_blank, begins_run, is_run_byte, begins_with, behind, is_word, corner_of, lone_token, is_sheet_behind, is_sheet_run, run_token}
-use Rattle.formula_tree.specs.Tokens.{Front, number_length, begins_number, quoted, text_token, sheet_token, begins_with_fault, fault_token, byte_token, pair_op, sign_token, token_at, and_tokens, tokens_step, tokens_in, tokens_of}
+use Rattle.formula_tree.specs.Token.{Token}
+use Rattle.formula_tree.specs.Token as tok
+use Rattle.formula_tree.specs.Run.{is_blank, begins_run, is_run_byte, begins_with, after_while, is_word, corner_of, lone_token, ends_sheet_name, is_sheet_run, run_token}
+use Rattle.cell_addr.specs.Quoted.{quoted}
+use Rattle.formula_tree.specs.Tokens.{Front, number_length, begins_number, text_token, sheet_token, begins_with_fault, fault_token, byte_token, pair_op, sign_token, token_at, and_tokens, tokens_step, tokens_in, tokens_of}
 
 -- what stands behind a token is no longer than this
-abbrev Short : ℕ → Front → Type 0
+abbrev pub Short : ℕ → Front → Type 0
 Short n None = Unit {0}
 Short n (Some p) = length p.1 ≤ n
 
@@ -27,8 +28,8 @@ short-cond n false x y h g = g refl
 run-goes_on : (c : ℕ) → begins_run c ≡ true → is_run_byte c ≡ true
 run-goes_on c h = grind (arith, nat_tests)
 
-behind-shorter : (p : ℕ → Bool) (c : ℕ) (cs : List ℕ) → p c ≡ true → length (behind p (c ∷ cs)) ≤ length cs
-behind-shorter p c cs h = rw h (omega (arith, length-drop (1 + prefix_len p cs) (c ∷ cs)))
+after_while-shorter : (p : ℕ → Bool) (c : ℕ) (cs : List ℕ) → p c ≡ true → length (after_while p (c ∷ cs)) ≤ length cs
+after_while-shorter p c cs h = rw h (omega (arith, length-drop (1 + prefix_len p cs) (c ∷ cs)))
 
 -- the choices of a run's token
 abbrev pub chosen : Bool → Bool → Bool → Token → Token → Token → Token → List ℕ → Token × List ℕ
@@ -42,12 +43,12 @@ chosen-shorter false false e sheet word other lone cs = omega arith
 
 run_token-shorter : (w cs : List ℕ) → length (run_token w cs).1 ≤ length cs
 run_token-shorter w cs =
-    chosen-shorter (is_sheet_run w cs) (begins_with 40 (behind is_blank cs)) (is_word w) (tok.Sheet w) (tok.Word w) (tok.Other w) (lone_token w (corner_of w)) cs
+    chosen-shorter (is_sheet_run w cs) (begins_with 40 (after_while is_blank cs)) (is_word w) (tok.Sheet w) (tok.Word w) (tok.Other w) (lone_token w (corner_of w)) cs
 
-short-run : (c : ℕ) (cs : List ℕ) → begins_run c ≡ true → Short (length cs) (Some (run_token (take_while is_run_byte (c ∷ cs)) (behind is_run_byte (c ∷ cs))))
+short-run : (c : ℕ) (cs : List ℕ) → begins_run c ≡ true → Short (length cs) (Some (run_token (take_while is_run_byte (c ∷ cs)) (after_while is_run_byte (c ∷ cs))))
 short-run c cs h =
-    let a = run_token-shorter (take_while is_run_byte (c ∷ cs)) (behind is_run_byte (c ∷ cs)) in
-    let b = behind-shorter is_run_byte c cs (run-goes_on c h) in
+    let a = run_token-shorter (take_while is_run_byte (c ∷ cs)) (after_while is_run_byte (c ∷ cs)) in
+    let b = after_while-shorter is_run_byte c cs (run-goes_on c h) in
     omega (arith, a, b)
 
 number_length-by : (c : ℕ) (cs : List ℕ) (b d : Bool) → is_digit c ≡ b → (c == 46) ≡ d → begins_number (c ∷ cs) ≡ true → 1 ≤ number_length (c ∷ cs)
@@ -91,7 +92,7 @@ sheet_token-shorter n false token cs h = tt
 
 short-sheet : (n : ℕ) (parts : Option (List ℕ × List ℕ)) → ShortParts n parts → Short n (option_and_then sheet_token parts)
 short-sheet n None s = tt
-short-sheet n (Some (content, cs)) s = sheet_token-shorter n (is_sheet_behind cs) _ cs s
+short-sheet n (Some (content, cs)) s = sheet_token-shorter n (ends_sheet_name cs) _ cs s
 
 fault_text-some : (f : FaultKind) → 1 ≤ length (fault_text f)
 fault_text-some kinds.Div0 = omega arith
@@ -116,7 +117,7 @@ short-sign (Some o) c cs = omega (arith, length-drop 1 cs)
 short-sign None c cs = short-byte cs (byte_token c)
 
 -- a token takes a byte or more
-token_at-shorter : (c : ℕ) (cs : List ℕ) → Short (length cs) (token_at c cs)
+pub token_at-shorter : (c : ℕ) (cs : List ℕ) → Short (length cs) (token_at c cs)
 token_at-shorter c cs =
     short-cond (length cs) (begins_run c) _ _ (λ h. short-run c cs h) (λ _.
     short-cond (length cs) (begins_number (c ∷ cs)) _ _ (λ h. short-number c cs (tok.Number (take (number_length (c ∷ cs)) (c ∷ cs))) h) (λ _.

@@ -6,9 +6,9 @@ use Rattle.cell_addr.specs.Text.{capitals}
 use Rattle.fix_num.specs.Text.{text_of}
 use Rattle.fix_num.proofs.PlainTexts.{number_of-text_of}
 use Rattle.formula_tree.specs.declared.reference.Corner.{Corner}
-use Rattle.formula_tree.specs.declared.token.Address.{Address}
-use Rattle.formula_tree.specs.declared.token.Token.{Token}
-use Rattle.formula_tree.specs.declared.token.Token.TheVariants as tok
+use Rattle.formula_tree.specs.declared.address.Address.{Address}
+use Rattle.formula_tree.specs.Token.{Token}
+use Rattle.formula_tree.specs.Token as tok
 use Rattle.formula_tree.specs.Term.{Term, number, text, truth, fault, cell, area, name, prefix, percent, binary, call, paren, Terms, no_terms, term}
 use Rattle.formula_tree.specs.Level.{level, level_of, percent_level, sign_level, atom_level, op_of}
 use Rattle.formula_tree.specs.Grammar.{Leaf, a_number, a_text, a_truth, a_fault, a_name, a_corner, a_range, a_sheet_corner, a_sheet_range, Spells, between, behind, before, leaf, inside, alone, called, SpellsAll, last, more, placed, first_of, last_of, cell_on, area_on}

@@ -3,6 +3,7 @@
 use Rattle.std.specs.Prelude.{ℕ, ◌+◌, Bool, if◌then◌else◌, ◌==◌, List, [], ◌∷◌, ◌++◌, Option, Some, None}
 use Rattle.std.specs.Fmt.{decimal}
 use Rattle.cell_addr.specs.Address.{column_letters}
+use Rattle.cell_addr.specs.Quoted.{doubled}
 use Rattle.cell_addr.specs.SheetName.{is_bare_name}
 use Rattle.cell_value.specs.Fault.{fault_text}
 use Rattle.cell_value.specs.Scalar.{truth_text}
@@ -34,11 +35,7 @@ abbrev pub sign_text : Sign → List ℕ
 sign_text sign.Plus = 43 ∷ []
 sign_text sign.Minus = 45 ∷ []
 
--- a content with each quote q inside written twice
-abbrev pub doubled : ℕ → List ℕ → List ℕ
-doubled q [] = []
-doubled q (c ∷ cs) = if c == q then q ∷ q ∷ doubled q cs else c ∷ doubled q cs
-
+-- a content between quotes, in front of what follows
 abbrev pub between_quotes : ℕ → List ℕ → List ℕ → List ℕ
 between_quotes q content rest = q ∷ (doubled q content ++ (q ∷ rest))
 

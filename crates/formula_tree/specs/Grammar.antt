@@ -9,9 +9,9 @@ use Rattle.fix_num.specs.Text.{number_of}
 use Rattle.formula_tree.specs.declared.reference.Corner.{Corner}
 use Rattle.formula_tree.specs.declared.operator.Op.{Op}
 use Rattle.formula_tree.specs.declared.operator.Sign.{Sign}
-use Rattle.formula_tree.specs.declared.token.Address.{Address}
-use Rattle.formula_tree.specs.declared.token.Token.{Token}
-use Rattle.formula_tree.specs.declared.token.Token.TheVariants as tok
+use Rattle.formula_tree.specs.declared.address.Address.{Address}
+use Rattle.formula_tree.specs.Token.{Token}
+use Rattle.formula_tree.specs.Token as tok
 use Rattle.formula_tree.specs.Term.{Term, number, text, truth, fault, cell, area, name, prefix, percent, binary, call, paren, Terms, no_terms, term}
 use Rattle.formula_tree.specs.Level.{level_of, percent_level, sign_level, atom_level, op_of}
 use Rattle.formula_tree.specs.Tokens.{tokens_of}

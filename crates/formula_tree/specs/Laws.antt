@@ -2,7 +2,7 @@
 -- proper, and the canonical text of a proper tree spells it.
 use Rattle.std.specs.Prelude.{◌≡◌, ℕ, ◌≤◌, ◌↔◌, List, Option, Some}
 use Rattle.formula_tree.specs.declared.reference.Corner.{Corner}
-use Rattle.formula_tree.specs.declared.token.Token.{Token}
+use Rattle.formula_tree.specs.Token.{Token}
 use Rattle.formula_tree.specs.Term.{Term, depth_of}
 use Rattle.formula_tree.specs.Grammar.{SpellsTokens, SpellsText}
 use Rattle.formula_tree.specs.Canonical.{formula_text}

@@ -1,5 +1,6 @@
 -- The levels of the grammar: how strongly operators bind. Source: OpenFormula.
 use Rattle.std.specs.Prelude.{ℕ, Option, Some, None}
+use Rattle.formula_tree.specs.declared.operator.TheConstants.{PERCENT_LEVEL, SIGN_LEVEL}
 use Rattle.formula_tree.specs.declared.operator.Op.{Op}
 use Rattle.formula_tree.specs.declared.operator.Op.TheVariants.{Add, Sub, Mul, Div, Power, Join, Equal, Unequal, Less, Greater, AtMost, AtLeast}
 use Rattle.formula_tree.specs.declared.operator.Sign.{Sign}
@@ -23,10 +24,10 @@ level_of Power = 4
 
 -- `%` binds more strongly than these, signs more strongly than `%`, and atoms are whole
 abbrev pub percent_level : ℕ
-percent_level = 5
+percent_level = PERCENT_LEVEL
 
 abbrev pub sign_level : ℕ
-sign_level = 6
+sign_level = SIGN_LEVEL
 
 abbrev pub atom_level : ℕ
 atom_level = 7

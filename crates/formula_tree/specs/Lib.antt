@@ -5,6 +5,7 @@ pub mod Reference
 pub mod Relative
 pub mod Level
 pub mod Run
+pub mod Token
 pub mod Tokens
 pub mod Grammar
 pub mod Reader
@@ -12,4 +13,6 @@ pub mod Canonical
 pub mod Proper
 pub mod Laws
 pub mod StandsFor
+pub mod Pooled
 pub mod Links
+pub mod internal

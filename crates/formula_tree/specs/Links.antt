@@ -1,13 +1,13 @@
 -- The names of a tree, and the places and blocks that its value depends on. Source: this project's own.
 use Rattle.std.specs.Prelude.{ℕ, Bool, true, false, ◌&&◌, ◌||◌, if◌then◌else◌, ◌==◌, List, [], ◌∷◌, ◌++◌, Option, Some, None, codes, bytes_eq}
 use Rattle.std.specs.List.{list_any}
-use Rattle.cell_addr.specs.declared.place.Place.{Place}
-use Rattle.cell_addr.specs.declared.place.Block.{Block}
+use Rattle.cell_addr.specs.Place.{same_place, same_block}
 use Rattle.cell_addr.specs.Sheets.{same_name}
 use Rattle.formula_tree.specs.declared.reference.Corner.{Corner}
 use Rattle.formula_tree.specs.declared.link.Link.{Link}
 use Rattle.formula_tree.specs.declared.link.Link.TheVariants as links
-use Rattle.formula_tree.specs.Term.{Term, cell, area, name, prefix, percent, binary, call, paren, Terms, no_terms, term}
+use Rattle.formula_tree.specs.Reference.{block_of}
+use Rattle.formula_tree.specs.Term.{Term, cell, area, name, prefix, percent, binary, call, paren, Terms, no_terms, term, is_reference}
 
 -- the items behind those done, without each that is the same as an earlier one
 abbrev pub once_after : {X : Type 0} → (X → X → Bool) → List X → List X → List X
@@ -33,13 +33,7 @@ abbrev mutual
   names_in_all no_terms = []
   names_in_all (term t ts) = names_in t ++ names_in_all ts
 
--- two places, two blocks
-abbrev pub same_place : Place → Place → Bool
-same_place p q = p.sheet == q.sheet && (p.row == q.row && p.col == q.col)
-
-abbrev pub same_block : Block → Block → Bool
-same_block b c = b.sheet == c.sheet && ((b.top == c.top && b.left == c.left) && (b.bottom == c.bottom && b.right == c.right))
-
+-- the same scope: a sheet, or all of the workbook
 abbrev pub same_scope : Option ℕ → Option ℕ → Bool
 same_scope None None = true
 same_scope (Some s) (Some t) = s == t
@@ -52,19 +46,9 @@ same_link (links.Area b) (links.Area c) = same_block b c
 same_link (links.Name s v) (links.Name t w) = same_scope s t && same_name v w
 same_link a b = false
 
--- the block between two corners
-abbrev pub block_of : Corner → Corner → Block
-block_of c d = record { sheet = c.at.sheet; top = c.at.row; left = c.at.col; bottom = d.at.row; right = d.at.col }
-
 -- functions that ask where a reference is, and not what its cells show
 abbrev pub is_place_word : List ℕ → Bool
 is_place_word w = (bytes_eq w (codes "ROW") || bytes_eq w (codes "COLUMN")) || (bytes_eq w (codes "ROWS") || bytes_eq w (codes "COLUMNS"))
-
--- a reference or a block, and no parenthesis round one
-abbrev pub is_reference : {R : Type 0} → Term R → Bool
-is_reference (cell c) = true
-is_reference (area c d) = true
-is_reference t = false
 
 abbrev mutual
   -- the places and blocks of a tree, in order; not those that are themselves the argument of a function

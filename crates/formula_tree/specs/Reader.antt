@@ -5,11 +5,12 @@ use Rattle.std.specs.Option.{option_map}
 use Rattle.cell_addr.specs.Text.{capitals}
 use Rattle.fix_num.specs.declared.error.NumError.{NumError}
 use Rattle.fix_num.specs.Text.{number_of}
+use Rattle.formula_tree.specs.declared.operator.TheConstants.{MAX_LEVELS}
 use Rattle.formula_tree.specs.declared.reference.Corner.{Corner}
 use Rattle.formula_tree.specs.declared.operator.Sign.{Sign}
-use Rattle.formula_tree.specs.declared.token.Address.{Address}
-use Rattle.formula_tree.specs.declared.token.Token.{Token}
-use Rattle.formula_tree.specs.declared.token.Token.TheVariants as tok
+use Rattle.formula_tree.specs.declared.address.Address.{Address}
+use Rattle.formula_tree.specs.Token.{Token, same_mark}
+use Rattle.formula_tree.specs.Token as tok
 use Rattle.formula_tree.specs.Term.{Term, number, text, truth, fault, name, prefix, percent, binary, call, paren, no_terms, terms_of, depth_of}
 use Rattle.formula_tree.specs.Level.{level_of, percent_level, sign_level, sign_of}
 use Rattle.formula_tree.specs.Grammar.{cell_on, area_on}
@@ -24,22 +25,10 @@ abbrev pub and_then : {X : Type 0} → Read → (Term Corner → List Token → 
 and_then None next = None
 and_then (Some read) next = next read.0 read.1
 
--- the tokens behind this one, where the list begins with it
-abbrev pub after_open : List Token → Option (List Token)
-after_open (tok.Open ∷ rest) = Some rest
-after_open tokens = None
-
-abbrev pub after_close : List Token → Option (List Token)
-after_close (tok.Close ∷ rest) = Some rest
-after_close tokens = None
-
-abbrev pub after_comma : List Token → Option (List Token)
-after_comma (tok.Comma ∷ rest) = Some rest
-after_comma tokens = None
-
-abbrev pub after_colon : List Token → Option (List Token)
-after_colon (tok.Colon ∷ rest) = Some rest
-after_colon tokens = None
+-- the tokens after this mark, where the list begins with it
+abbrev pub after : Token → List Token → Option (List Token)
+after mark [] = None
+after mark (token ∷ rest) = if same_mark mark token then Some rest else None
 
 -- the address in front, and the tokens behind it
 abbrev pub corner_front : List Token → Option (Address × List Token)
@@ -61,7 +50,7 @@ colon_then sheet a tokens None = Some (cell_on sheet a, tokens)
 colon_then sheet a tokens (Some rest) = option_and_then (area_then sheet a) (corner_front rest)
 
 abbrev pub reference : Option ℕ → Address × List Token → Read
-reference sheet (a, rest) = colon_then sheet a rest (after_colon rest)
+reference sheet (a, rest) = colon_then sheet a rest (after tok.Colon rest)
 
 -- a sign's operand
 abbrev pub signed : (ℕ → List Token → Read) → Option Sign → List Token → Read
@@ -70,7 +59,7 @@ signed R (Some s) rest = and_then (R sign_level rest) (λ t behind. Some (prefix
 
 -- a closing parenthesis behind a tree
 abbrev pub closed : Term Corner → List Token → Read
-closed t tokens = option_map (λ rest. (paren t, rest)) (after_close tokens)
+closed t tokens = option_map (λ rest. (paren t, rest)) (after tok.Close tokens)
 
 -- what stands behind an argument: a comma and more arguments, or the closing parenthesis
 abbrev pub argument_then : (List (Term Corner) → List Token → Read) → List ℕ → List (Term Corner) → Option (List Token) → Option (List Token) → Read
@@ -80,7 +69,7 @@ argument_then next word done None None = None
 
 abbrev pub arguments_step : (ℕ → List Token → Read) → (List (Term Corner) → List Token → Read) → List ℕ → List (Term Corner) → List Token → Read
 arguments_step R next word done tokens =
-    and_then (R 0 tokens) (λ t rest. argument_then next word (done ++ t ∷ []) (after_comma rest) (after_close rest))
+    and_then (R 0 tokens) (λ t rest. argument_then next word (done ++ t ∷ []) (after tok.Comma rest) (after tok.Close rest))
 
 -- the arguments of a call behind those done, so many at most
 unfoldable pub arguments : (ℕ → List Token → Read) → List ℕ → ℕ → List (Term Corner) → List Token → Read
@@ -93,7 +82,7 @@ call_then R word tokens (Some rest) = Some (call (capitals word) no_terms, rest)
 call_then R word tokens None = arguments R word (length tokens) [] tokens
 
 abbrev pub call_front : (ℕ → List Token → Read) → List ℕ → List Token → Read
-call_front R word tokens = option_and_then (λ rest. call_then R word rest (after_close rest)) (after_open tokens)
+call_front R word tokens = option_and_then (λ rest. call_then R word rest (after tok.Close rest)) (after tok.Open tokens)
 
 -- a tree that no operator follows yet: an atom, or a sign and its operand; home is the formula's sheet
 abbrev pub first_at : ℕ → (List ℕ → Option ℕ) → (ℕ → List Token → Read) → Token → List Token → Read
@@ -137,7 +126,7 @@ read home find (suc levels) k tokens = and_then (first home find (read home find
 
 -- how many levels a formula's tree may have
 abbrev pub max_levels : ℕ
-max_levels = 64
+max_levels = MAX_LEVELS
 
 -- nothing stands behind the tree, and it has no more levels than it may
 abbrev pub whole_then : Term Corner → List Token → Option (Term Corner)

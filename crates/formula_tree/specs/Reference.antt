@@ -2,6 +2,7 @@
 -- Source: this project's own.
 use Rattle.std.specs.Prelude.{ℕ, ℤ, pos, negsuc, ◌+ℤ◌, ◌-ℤ◌, min, Bool, true, false, if◌then◌else◌, ◌==◌}
 use Rattle.cell_addr.specs.declared.place.Place.{Place}
+use Rattle.cell_addr.specs.declared.place.Block.{Block}
 use Rattle.cell_addr.specs.Place as places
 use Rattle.formula_tree.specs.declared.reference.TheConstants.{NO_LINE}
 use Rattle.formula_tree.specs.declared.reference.Corner.{Corner}
@@ -68,3 +69,7 @@ ref_from base c = record {
   row = part_from base.row c.row_fixed c.at.row;
   col = part_from base.col c.col_fixed c.at.col;
 }
+
+-- the block between two corners
+abbrev pub block_of : Corner → Corner → Block
+block_of c d = record { sheet = c.at.sheet; top = c.at.row; left = c.at.col; bottom = d.at.row; right = d.at.col }

@@ -8,9 +8,9 @@ use Rattle.cell_addr.specs.Address.{letters, after_letters, column_of, row_of}
 use Rattle.std.specs.Option.{option_zip}
 use Rattle.cell_value.specs.Fault.{spells}
 use Rattle.cell_value.specs.Scalar.{truth_text}
-use Rattle.formula_tree.specs.declared.token.Address.{Address}
-use Rattle.formula_tree.specs.declared.token.Token.{Token}
-use Rattle.formula_tree.specs.declared.token.Token.TheVariants as tok
+use Rattle.formula_tree.specs.declared.address.Address.{Address}
+use Rattle.formula_tree.specs.Token.{Token}
+use Rattle.formula_tree.specs.Token as tok
 
 -- blanks: space, tab, line feed and carriage return
 abbrev pub is_blank : ℕ → Bool
@@ -35,8 +35,8 @@ begins_with_any p [] = false
 begins_with_any p (c ∷ cs) = p c
 
 -- what stands behind the first bytes of a text that pass the test
-abbrev pub behind : (ℕ → Bool) → List ℕ → List ℕ
-behind p cs = drop (prefix_len p cs) cs
+abbrev pub after_while : (ℕ → Bool) → List ℕ → List ℕ
+after_while p cs = drop (prefix_len p cs) cs
 
 -- the form of names and of functions' words: a letter or `_`, and behind it letters, digits, `_` and `.`
 abbrev pub is_word : List ℕ → Bool
@@ -44,8 +44,8 @@ is_word [] = false
 is_word (c ∷ cs) = (is_ascii_alphabetic c || c == 95) && list_all (λ d. is_ascii_alphanumeric d || (d == 95 || d == 46)) cs
 
 -- what stands behind a `$`, or the whole text where it begins with none
-abbrev pub behind_dollar : List ℕ → List ℕ
-behind_dollar cs = if begins_with 36 cs then drop 1 cs else cs
+abbrev pub after_dollar : List ℕ → List ℕ
+after_dollar cs = if begins_with 36 cs then drop 1 cs else cs
 
 -- the address of a row and a column, where they lie within the limits
 abbrev pub address_at : Bool → Bool → ℕ × ℕ → Option Address
@@ -54,13 +54,13 @@ address_at col_fixed row_fixed (row, col) = if nat_lt row ROWS && nat_lt col COL
     else None
 
 -- the address that a run is: letters and digits, each with a `$` in front or without
-abbrev pub corner_behind : Bool → List ℕ → Option Address
-corner_behind col_fixed cs = option_and_then
+abbrev pub corner_after : Bool → List ℕ → Option Address
+corner_after col_fixed cs = option_and_then
     (address_at col_fixed (begins_with 36 (after_letters cs)))
-    (option_zip (row_of (behind_dollar (after_letters cs))) (column_of (letters cs)))
+    (option_zip (row_of (after_dollar (after_letters cs))) (column_of (letters cs)))
 
 abbrev pub corner_of : List ℕ → Option Address
-corner_of run = corner_behind (begins_with 36 run) (behind_dollar run)
+corner_of run = corner_after (begins_with 36 run) (after_dollar run)
 
 -- the truth value that a run is, in letters of any case
 abbrev pub truth_of : List ℕ → Option Bool
@@ -77,17 +77,17 @@ lone_token run (Some a) = tok.Corner a
 lone_token run None = word_token run (truth_of run)
 
 -- `!` follows at once, and no blank follows that
-abbrev pub is_sheet_behind : List ℕ → Bool
-is_sheet_behind cs = begins_with 33 cs && not (begins_with_any is_blank (drop 1 cs))
+abbrev pub ends_sheet_name : List ℕ → Bool
+ends_sheet_name cs = begins_with 33 cs && not (begins_with_any is_blank (drop 1 cs))
 
 -- the run is a sheet's name
 abbrev pub is_sheet_run : List ℕ → List ℕ → Bool
-is_sheet_run run cs = is_bare_name run && is_sheet_behind cs
+is_sheet_run run cs = is_bare_name run && ends_sheet_name cs
 
 -- what a run is, and what stands behind it: before `!` a sheet's name, before `(` a function's word,
 -- then an address, a truth value, a name
 abbrev pub run_token : List ℕ → List ℕ → Token × List ℕ
 run_token run cs = if is_sheet_run run cs then (tok.Sheet run, drop 1 cs)
-    else (if begins_with 40 (behind is_blank cs)
+    else (if begins_with 40 (after_while is_blank cs)
     then (if is_word run then (tok.Word run, cs) else (tok.Other run, cs))
     else (lone_token run (corner_of run), cs))

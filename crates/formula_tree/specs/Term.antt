@@ -1,5 +1,5 @@
 -- Trees of formulas, with the kind of their references as a parameter.
-use Rattle.std.specs.Prelude.{ℕ, ℤ, ◌+◌, max, Bool, List, [], ◌∷◌}
+use Rattle.std.specs.Prelude.{ℕ, ℤ, ◌+◌, max, Bool, true, false, List, [], ◌∷◌}
 use Rattle.cell_value.specs.declared.fault.FaultKind.{FaultKind}
 use Rattle.formula_tree.specs.declared.operator.Op.{Op}
 use Rattle.formula_tree.specs.declared.operator.Sign.{Sign}
@@ -28,6 +28,12 @@ mutual
 abbrev pub terms_of : {R : Type 0} → List (Term R) → Terms R
 terms_of [] = no_terms
 terms_of (t ∷ ts) = term t (terms_of ts)
+
+-- a reference or a block, and no parenthesis round one
+abbrev pub is_reference : {R : Type 0} → Term R → Bool
+is_reference (cell c) = true
+is_reference (area c d) = true
+is_reference t = false
 
 -- the levels of a tree: 1 for a leaf, and 1 more than its deepest part for another node
 abbrev mutual

@@ -3,14 +3,14 @@ use Rattle.std.specs.Prelude.{ℕ, zero, suc, ◌+◌, Bool, ◌&&◌, ◌||◌,
 use Rattle.std.specs.List.{prefix_len, take_while, find}
 use Rattle.std.specs.Option.{option_map}
 use Rattle.digits.specs.Digits.{is_digit}
-use Rattle.cell_addr.specs.Parts.{with_byte}
+use Rattle.cell_addr.specs.Quoted.{quoted}
 use Rattle.cell_value.specs.declared.fault.FaultKind.{FaultKind}
 use Rattle.cell_value.specs.Fault.{fault_text, faults, spells}
 use Rattle.formula_tree.specs.declared.operator.Op.{Op}
 use Rattle.formula_tree.specs.declared.operator.Op.TheVariants as op
-use Rattle.formula_tree.specs.declared.token.Token.{Token}
-use Rattle.formula_tree.specs.declared.token.Token.TheVariants as tok
-use Rattle.formula_tree.specs.Run.{is_blank, begins_run, is_run_byte, begins_with, begins_with_any, behind, is_sheet_behind, run_token}
+use Rattle.formula_tree.specs.Token.{Token}
+use Rattle.formula_tree.specs.Token as tok
+use Rattle.formula_tree.specs.Run.{is_blank, begins_run, is_run_byte, begins_with, begins_with_any, after_while, ends_sheet_name, run_token}
 
 -- a token, and what stands behind it; nothing where the text begins with no token
 abbrev pub Front : Type 0
@@ -21,20 +21,11 @@ abbrev pub decimals_length : List ℕ → ℕ
 decimals_length cs = if begins_with 46 cs then 1 + prefix_len is_digit (drop 1 cs) else 0
 
 abbrev pub number_length : List ℕ → ℕ
-number_length cs = prefix_len is_digit cs + decimals_length (behind is_digit cs)
+number_length cs = prefix_len is_digit cs + decimals_length (after_while is_digit cs)
 
 -- a number begins with a digit, or with a point and a digit
 abbrev pub begins_number : List ℕ → Bool
 begins_number cs = begins_with_any is_digit cs || (begins_with 46 cs && begins_with_any is_digit (drop 1 cs))
-
--- of a text behind a quote q: the content up to the closing one, where two are one of the content, and
--- what stands behind the closing one; nothing where none closes it
-abbrev pub quoted : ℕ → List ℕ → Option (List ℕ × List ℕ)
-quoted q [] = None
-quoted q (c ∷ []) = if c == q then Some ([], []) else None
-quoted q (c ∷ d ∷ cs) = if c == q
-    then (if d == q then with_byte q (quoted q cs) else Some ([], d ∷ cs))
-    else with_byte c (quoted q (d ∷ cs))
 
 -- the text between double quotes
 abbrev pub text_token : List ℕ × List ℕ → Token × List ℕ
@@ -42,7 +33,7 @@ text_token (content, cs) = (tok.Text content, cs)
 
 -- the sheet's name between apostrophes, where `!` follows it at once, and no blank that
 abbrev pub sheet_token : List ℕ × List ℕ → Front
-sheet_token (content, cs) = if is_sheet_behind cs then Some (tok.Sheet content, drop 1 cs) else None
+sheet_token (content, cs) = if ends_sheet_name cs then Some (tok.Sheet content, drop 1 cs) else None
 
 -- the text begins with the spelling of this fault, in letters of any case
 abbrev pub begins_with_fault : List ℕ → FaultKind → Bool
@@ -83,7 +74,7 @@ sign_token None c cs = option_map (λ token. (token, cs)) (byte_token c)
 
 -- the token that a text begins with, by its first byte
 abbrev pub token_at : ℕ → List ℕ → Front
-token_at c cs = if begins_run c then Some (run_token (take_while is_run_byte (c ∷ cs)) (behind is_run_byte (c ∷ cs)))
+token_at c cs = if begins_run c then Some (run_token (take_while is_run_byte (c ∷ cs)) (after_while is_run_byte (c ∷ cs)))
     else if begins_number (c ∷ cs) then Some (tok.Number (take (number_length (c ∷ cs)) (c ∷ cs)), drop (number_length (c ∷ cs)) (c ∷ cs))
     else if c == 34 then option_map text_token (quoted 34 cs)
     else if c == 39 then option_and_then sheet_token (quoted 39 cs)

@@ -2,8 +2,8 @@
 ghost use Rattle.std.specs.Prelude.{◌≡◌, ◌&&◌, ◌++◌, [], ◌∷◌, if◌then◌else◌, IfOk, OnOk};
 ghost use Rattle.std.specs.List.{list_any};
 ghost use Rattle.cell_addr.specs.Sheets.{same_name};
-ghost use Rattle.formula_tree.specs.Links.{once, names_in, links_in, same_link, block_of, is_place_word};
-ghost use Rattle.formula_tree.specs.Term.{Term, each_corner_all};
+ghost use Rattle.formula_tree.specs.Links.{once, names_in, links_in, same_link, is_place_word};
+ghost use Rattle.formula_tree.specs.Term.{Term, each_corner_all, is_reference};
 ghost use Rattle.formula_tree.specs.Relative.{relative, relative_list};
 ghost use Rattle.formula_tree.specs.Reference.{base_of, corner_at};
 ghost use Rattle.formula_tree.specs.StandsFor.{StandsFor, at_home};
@@ -11,7 +11,7 @@ ghost use Rattle.formula_tree.specs.declared.reference.Corner.{Corner};
 ghost use Rattle.formula_tree.specs.declared.reference.Home.{Home};
 
 use crate::node::{Node, Tree, TreeList};
-use crate::reference::{Corner, Home};
+use crate::reference::Home;
 use cell_addr::{Block, Place, Text, same_folded};
 use std::alloc::{AllocError, Global};
 
@@ -47,9 +47,9 @@ impl Link {
 }
 
 impl Node {
-    ghost use Rattle.formula_tree.specs.Links.{once_after, names_in, links_in, is_reference};
+    ghost use Rattle.formula_tree.specs.Links.{once_after, names_in, links_in};
 
-    /// Puts the names of the tree behind the others, but for those that stand there already.
+    // Puts the names of the tree after the others, but for those that stand there already.
     #[cycle(names)]
     fn add_names(&self, alloc: Global, names: &mut Vec<Text>) -> Result<(), AllocError>
         ensures { OnOk result (names.new.items ≡ once_after same_name names.old.items (names_in (relative self.now))) }
@@ -70,7 +70,7 @@ impl Node {
         Ok(())
     }
 
-    /// Puts the places and blocks of the tree behind the others, but for those that stand there already.
+    // Puts the places and blocks of the tree after the others, but for those that stand there already.
     #[cycle(links)]
     fn add_links(&self, home: Home, links: &mut Vec<Link>) -> Result<(), AllocError>
         ensures { OnOk result (links.new.items ≡ once_after same_link links.old.items (links_in (at_home home (relative self.now)))) }
@@ -78,7 +78,7 @@ impl Node {
         match self {
             Node::Cell(corner) => add_link(Link::Cell(corner.at(home).at), links)?,
             Node::Area(first, last) => add_link(
-                Link::Area(block_between(first.at(home), last.at(home))),
+                Link::Area(first.at(home).block_to(last.at(home))),
                 links,
             )?,
             Node::Prefix(_, part) => part.add_links(home, links)?,
@@ -88,37 +88,24 @@ impl Node {
                 left.add_links(home, links)?;
                 right.add_links(home, links)?;
             }
-            Node::Call(word, list) => list.add_links(home, is_place_word(word), links)?,
+            Node::Call(word, list) => list.add_links(home, is_place_word(word.as_str()), links)?,
             Node::Number(_) | Node::Text(_) | Node::Truth(_) | Node::Fault(_) | Node::Name(_) => {}
         }
         Ok(())
     }
 
-    /// Whether arguments that are themselves references are skipped, and the tree is one.
+    // Whether arguments that are themselves references are skipped, and the tree is one.
     fn is_skipped(&self, skip: bool) -> bool
         ensures { result ≡ (skip && is_reference (relative self.now)) }
     {
         skip && self.is_reference()
-    }
-
-    /// Whether the tree is a reference or a block.
-    pub fn is_reference(&self) -> bool
-        ensures { result ≡ is_reference (relative self.now) }
-    {
-        match self {
-            Node::Cell(_) | Node::Area(_, _) => true,
-            Node::Number(_) | Node::Text(_) | Node::Truth(_) | Node::Fault(_) | Node::Name(_) =>
-                false,
-            Node::Prefix(_, _) | Node::Percent(_) | Node::Paren(_) => false,
-            Node::Binary(_, _, _) | Node::Call(_, _) => false,
-        }
     }
 }
 
 impl TreeList {
     ghost use Rattle.formula_tree.specs.Links.{once_after, names_in_all, links_in_all};
 
-    /// Puts the names of all arguments behind the others.
+    // Puts the names of all arguments after the others.
     #[cycle(names)]
     fn add_names(&self, alloc: Global, names: &mut Vec<Text>) -> Result<(), AllocError>
         ensures { OnOk result (names.new.items ≡ once_after same_name names.old.items (names_in_all (relative_list self.now))) }
@@ -129,8 +116,8 @@ impl TreeList {
         Ok(())
     }
 
-    /// Puts the places and blocks of all arguments behind the others; where asked, arguments that are
-    /// themselves references are skipped.
+    // Puts the places and blocks of all arguments after the others; where asked, arguments that are
+    // themselves references are skipped.
     #[cycle(links)]
     fn add_links(&self, home: Home, skip: bool, links: &mut Vec<Link>) -> Result<(), AllocError>
         ensures { OnOk result (links.new.items ≡ once_after same_link links.old.items (links_in_all skip (each_corner_all (corner_at (base_of home)) (relative_list self.now)))) }
@@ -145,7 +132,7 @@ impl TreeList {
     }
 }
 
-// Puts a link behind the others, unless it stands there already.
+// Puts a link after the others, unless it stands there already.
 fn add_link(link: Link, links: &mut Vec<Link>) -> Result<(), AllocError>
     ensures { OnOk result (links.new.items ≡ (if list_any (same_link link) links.old.items then links.old.items else links.old.items ++ link ∷ [])) }
 {
@@ -162,30 +149,15 @@ fn has_link(links: &[Link], link: &Link) -> bool
     links.iter().any(|known| link.same(known))
 }
 
-// The block between two corners.
-pub fn block_between(first: Corner, last: Corner) -> Block
-    ensures { result ≡ block_of first last }
-{
-    Block {
-        sheet: first.at.sheet,
-        top: first.at.row,
-        left: first.at.col,
-        bottom: last.at.row,
-        right: last.at.col,
-    }
-}
-
-// Whether the function asks where a reference is, and not what its cells show.
-pub fn is_place_word(word: &Text) -> bool
+/// Whether the function asks where a reference is, and not what its cells show: ROW, COLUMN, ROWS and
+/// COLUMNS.
+pub fn is_place_word(word: &str) -> bool
     ensures { result ≡ is_place_word word.now }
 {
-    word.as_str() == "ROW"
-        || word.as_str() == "COLUMN"
-        || word.as_str() == "ROWS"
-        || word.as_str() == "COLUMNS"
+    word == "ROW" || word == "COLUMN" || word == "ROWS" || word == "COLUMNS"
 }
 
-// Puts a name behind the others, unless it stands there already.
+// Puts a name after the others, unless it stands there already.
 fn add_name(alloc: Global, name: &Text, names: &mut Vec<Text>) -> Result<(), AllocError>
     ensures { OnOk result (names.new.items ≡ (if list_any (same_name name.now) names.old.items then names.old.items else names.old.items ++ name.now ∷ [])) }
 {

@@ -1,6 +1,6 @@
 // The trees of formulas as they are shared: seen from their homes.
 ghost use Rattle.std.specs.Prelude.{◌≡◌, min, [], ◌∷◌, ◌++◌, IfOk, OnOk, OnErr};
-ghost use Rattle.formula_tree.specs.Term.{Term, depth_of, depth_of_all};
+ghost use Rattle.formula_tree.specs.Term.{Term, is_reference, depth_of, depth_of_all};
 ghost use Rattle.formula_tree.specs.Relative.{relative, relative_list};
 ghost use Rattle.formula_tree.specs.StandsFor.{StandsFor};
 ghost use Rattle.formula_tree.specs.declared.reference.Corner.{Corner};
@@ -97,6 +97,19 @@ impl TreeList {
 }
 
 impl Node {
+    /// Whether the tree is a reference or a block, and no parenthesis round one.
+    pub fn is_reference(&self) -> bool
+        ensures { result ≡ is_reference (relative self.now) }
+    {
+        match self {
+            Node::Cell(_) | Node::Area(_, _) => true,
+            Node::Number(_) | Node::Text(_) | Node::Truth(_) | Node::Fault(_) | Node::Name(_) =>
+                false,
+            Node::Prefix(_, _) | Node::Percent(_) | Node::Paren(_) => false,
+            Node::Binary(_, _, _) | Node::Call(_, _) => false,
+        }
+    }
+
     // The levels of the tree, at most `u32::MAX`.
     #[cycle(depth)]
     fn depth(&self) -> u32

@@ -1,9 +1,9 @@
 // References: with the places that they name, and as they are seen from the home of a formula.
 ghost use Rattle.std.specs.Prelude.{◌≡◌, ◌<◌, ◌^◌};
 ghost use Rattle.cell_addr.specs.Place.{IsInside};
-ghost use Rattle.formula_tree.specs.Reference.{base_of, sheet_of, IsHomeInside, sheet_at, line_at, is_fixed, corner_at, sheet_from, part_from, ref_from};
+ghost use Rattle.formula_tree.specs.Reference.{base_of, sheet_of, IsHomeInside, sheet_at, line_at, is_fixed, corner_at, sheet_from, part_from, ref_from, block_of};
 
-use cell_addr::Place;
+use cell_addr::{Block, Place};
 
 /// Where a formula stands.
 #[derive(Clone, Copy, PartialEq, Eq, Debug)]
@@ -74,6 +74,21 @@ impl Home {
         ensures { result ≡ sheet_of self }
     {
         self.base().sheet
+    }
+}
+
+impl Corner {
+    /// The block from this corner to the last one, on this one's sheet.
+    pub fn block_to(self, last: Corner) -> Block
+        ensures { result ≡ block_of self last }
+    {
+        Block {
+            sheet: self.at.sheet,
+            top: self.at.row,
+            left: self.at.col,
+            bottom: last.at.row,
+            right: last.at.col,
+        }
     }
 }
 

@@ -7,6 +7,7 @@ use Rattle.csv.specs.Reading.{records, default_config, strip_bom}
 use Rattle.sheet_cli.specs.declared.command.Command.{Command}
 use Rattle.sheet_cli.specs.declared.command.ScriptError.{ScriptError}
 use Rattle.sheet_cli.specs.declared.command.ScriptError.TheVariants.{UnknownCommand, FieldCount, BadField, NoMemory}
+use Rattle.sheet_cli.specs.declared.outside.input.TheConstants.{MAX_INPUT}
 use Rattle.sheet_cli.specs.Command.{command_of}
 use Rattle.cell_values.specs.Workbook.{Book}
 use Rattle.sheet_cli.specs.Session.{next, reply, line_of}
@@ -49,7 +50,7 @@ usage_line = line_of (codes "usage: sheetrun [--undo-limit N] [--strict] [--scri
 
 -- the outcome of a script: too long, or its records over an empty book
 abbrev pub script_outcome : List ℕ → Outcome
-script_outcome bytes = if nat_lt 67108864 (length bytes)
+script_outcome bytes = if nat_lt MAX_INPUT (length bytes)
     then (line_of (codes "input too long"), 8)
     else outcome_from map.empty 1 (records default_config (strip_bom bytes))
 
@@ -75,4 +76,4 @@ abbrev pub WasRead : ℕ → Option (List ℕ) → Option (List ℕ) → Type 0
 WasRead status None new = ⊤
 WasRead status (Some bytes) new = ((status ≡ 0) ⊎ (status ≡ 3) → new ≡ Some [])
     × (status ≡ 2 → new ≡ Some bytes)
-    × (status ≡ 8 → new ≡ Some (drop 67108865 bytes))
+    × (status ≡ 8 → new ≡ Some (drop (MAX_INPUT + 1) bytes))

@@ -1,8 +1,7 @@
 pub mod LinesReturn
 pub mod SpanLaws
-pub mod BlockMoves
-pub mod RowRules
-pub mod ColRules
+pub mod Axes
+pub mod CellMoves
 pub mod PlaceLaws
 pub mod BlockLaws
 pub mod UnbentBlocks

@@ -1,12 +1,8 @@
 -- Places and blocks carried along with a block of cells. Source: this project's own.
-use Rattle.std.specs.Prelude.{Bool, ◌+◌, ◌-◌, ◌==◌, nat_le, ◌&&◌}
+use Rattle.std.specs.Prelude.{Bool, ◌+◌, ◌-◌, ◌&&◌}
 use Rattle.cell_addr.specs.declared.place.Place.{Place}
 use Rattle.cell_addr.specs.declared.place.Block.{Block}
-
--- the block covers the place
-abbrev pub holds : Block → Place → Bool
-holds b p =
-    b.sheet == p.sheet && nat_le b.top p.row && nat_le p.row b.bottom && nat_le b.left p.col && nat_le p.col b.right
+use Rattle.cell_addr.specs.Place.{covers}
 
 -- the corner with the least row and column
 abbrev pub first_place : Block → Place
@@ -16,9 +12,9 @@ first_place b = record { sheet = b.sheet; row = b.top; col = b.left }
 abbrev pub last_place : Block → Place
 last_place b = record { sheet = b.sheet; row = b.bottom; col = b.right }
 
--- every place of the second block is in the first
+-- both corners of the second block are in the first
 abbrev pub contains : Block → Block → Bool
-contains b part = holds b (first_place part) && holds b (last_place part)
+contains b part = covers b (first_place part) && covers b (last_place part)
 
 -- the place with the same offset from `to` as `p` has from the block's first place
 abbrev pub carried_place : Block → Place → Place → Place

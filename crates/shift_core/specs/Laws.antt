@@ -1,16 +1,22 @@
 -- What the tables of moved places and blocks have in common, in words of the places alone.
 use Rattle.std.specs.Prelude.{◌≡◌, ◌↔◌, ℕ, ◌+◌, ◌-◌, ◌<◌, ◌≤◌, ◌⊎◌, ⊤, ◌&&◌, if◌then◌else◌, Some, None, option_map}
+use Rattle.cell_addr.specs.declared.axis.Axis.{Axis}
+use Rattle.cell_addr.specs.declared.axis.Span.{Span}
 use Rattle.cell_addr.specs.declared.place.Place.{Place}
 use Rattle.cell_addr.specs.declared.place.Block.{Block}
+use Rattle.cell_addr.specs.Axis.{limit_of, line_of, span_of}
 use Rattle.cell_addr.specs.Place.{IsInside, IsBlockInside, Covers}
+use Rattle.shift_core.specs.declared.edit.Edit.{Edit}
+use Rattle.shift_core.specs.declared.edit.Edit.TheVariants.{Insert, Move}
+use Rattle.shift_core.specs.declared.form.Form.{Form}
+use Rattle.shift_core.specs.declared.form.Form.TheVariants.{Lines, Cells}
 use Rattle.shift_core.specs.declared.shift.Shift.{Shift}
-use Rattle.shift_core.specs.declared.shift.Shift.TheVariants.{InsertRows, InsertCols, MoveRows, MoveCols, MoveBlock}
-use Rattle.shift_core.specs.declared.span.Span.{Span}
-use Rattle.shift_core.specs.Lines.{is_among, line_after_move}
-use Rattle.shift_core.specs.Carried.{carried_place, first_place}
-use Rattle.shift_core.specs.Sound.{IsSound}
-use Rattle.shift_core.specs.Tables.{place_after, block_after, place_before, block_before, by_rows, by_cols}
 use Rattle.shift_core.specs.Bent.{IsBent, IsCut}
+use Rattle.shift_core.specs.Carried.{carried_place, first_place}
+use Rattle.shift_core.specs.Form.{form_of, opposite, across, IsWithin}
+use Rattle.shift_core.specs.Lines.{IsSoundEdit, is_among, line_after_move}
+use Rattle.shift_core.specs.Sound.{IsSound}
+use Rattle.shift_core.specs.Tables.{place_after, block_after, place_before, block_before, place_moved, place_returned, by_span}
 
 -- a place that isn't lost comes back to where it was
 abbrev pub PlacesComeBack : Type 0
@@ -38,28 +44,37 @@ BlocksStayInside =
     (s : Shift) (b c : Block) → IsSound s → IsBlockInside b → ((block_after s b ≡ Some c → IsBlockInside c) × (block_before s b ≡ Some c → IsBlockInside c))
 
 -- the operation leaves all lines in their order: it inserts or deletes some, or drops a sheet
+abbrev pub KeepsLineOrder : Edit → Type 0
+KeepsLineOrder (Move start count before) = ⊥
+KeepsLineOrder _ = ⊤
+
+abbrev pub OrderIsKept : Form → Type 0
+OrderIsKept (Lines sheet axis edit) = KeepsLineOrder edit
+OrderIsKept (Cells source to) = ⊥
+OrderIsKept _ = ⊤
+
 abbrev pub KeepsOrder : Shift → Type 0
-KeepsOrder (MoveRows sheet start count before) = ⊥
-KeepsOrder (MoveCols sheet start count before) = ⊥
-KeepsOrder (MoveBlock source to) = ⊥
-KeepsOrder _ = ⊤
+KeepsOrder s = OrderIsKept (form_of s)
 
 -- the operation moves a place of the block here
 abbrev pub ComesFrom : Shift → Block → Place → Type 0
 ComesFrom s b q = (p : Place) × Covers b p × (place_after s p ≡ Some q)
 
 -- one of the `count` lines that an insert puts between two lines of a block
-abbrev pub IsPutBetween : ℕ → ℕ → ℕ → ℕ → ℕ → Type 0
-IsPutBetween start count first last line =
-    (first < start) × (start ≤ last) × (start ≤ line) × (line < start + count)
+abbrev pub IsPutBetween : Edit → Span → ℕ → Type 0
+IsPutBetween (Insert start count) s line =
+    (s.first < start) × (start ≤ s.last) × (start ≤ line) × (line < start + count)
+IsPutBetween _ s line = ⊥
 
 -- the place lies on a line that an insert puts between two lines of the block
+abbrev pub LiesBetween : Form → Block → Place → Type 0
+LiesBetween (Lines sheet axis edit) b q =
+    (b.sheet ≡ sheet) × (q.sheet ≡ sheet) × IsPutBetween edit (span_of axis b) (line_of axis q)
+    × IsWithin (span_of (across axis) b) (line_of (across axis) q)
+LiesBetween _ b q = ⊥
+
 abbrev pub IsPutInside : Shift → Block → Place → Type 0
-IsPutInside (InsertRows sheet start count) b q =
-    (b.sheet ≡ sheet) × (q.sheet ≡ sheet) × IsPutBetween start count b.top b.bottom q.row × (b.left ≤ q.col) × (q.col ≤ b.right)
-IsPutInside (InsertCols sheet start count) b q =
-    (b.sheet ≡ sheet) × (q.sheet ≡ sheet) × IsPutBetween start count b.left b.right q.col × (b.top ≤ q.row) × (q.row ≤ b.bottom)
-IsPutInside _ b q = ⊥
+IsPutInside s b q = LiesBetween (form_of s) b q
 
 -- over an insert, a deletion or a dropped sheet, a block covers the places that its places move to, and what is
 -- inserted between them; of the sheet's places no others
@@ -74,7 +89,7 @@ BlocksAreLostWithTheirPlaces =
     (s : Shift) (b : Block) → IsSound s → KeepsOrder s → IsBlockInside b →
     (block_after s b ≡ None) ↔ ((p : Place) → Covers b p → place_after s p ≡ None)
 
--- the first line of a block that isn't among the moved ones, where the block ends behind them
+-- the first line of a block that isn't among the moved ones, where the block ends after them
 abbrev pub first_unmoved : ℕ → ℕ → ℕ → ℕ
 first_unmoved start count first = if is_among start count first then start + count else first
 
@@ -95,11 +110,9 @@ span_of_lines start count before s =
 -- a move of rows or columns loses no block: each ends where its outermost lines stand then
 abbrev pub MovedBlocksEndAtTheirLines : Type 0
 MovedBlocksEndAtTheirLines =
-    (sheet start count before : ℕ) (b : Block) → IsBlockInside b →
-    (IsSound (MoveRows sheet start count before) →
-    block_after (MoveRows sheet start count before) b ≡ by_rows sheet (λ rows. Some (span_of_lines start count before rows)) b)
-    × (IsSound (MoveCols sheet start count before) →
-    block_after (MoveCols sheet start count before) b ≡ by_cols sheet (λ cols. Some (span_of_lines start count before cols)) b)
+    (s : Shift) (sheet : ℕ) (axis : Axis) (start count before : ℕ) (b : Block) → IsSound s → IsBlockInside b →
+    form_of s ≡ Lines sheet axis (Move start count before) →
+    block_after s b ≡ by_span sheet axis (λ span. Some (span_of_lines start count before span)) b
 
 -- the block of one place
 abbrev pub one_cell : Place → Block
@@ -111,12 +124,27 @@ OneCellsMoveAlike =
     (s : Shift) (p : Place) → IsSound s → IsInside p → block_after s (one_cell p) ≡ option_map one_cell (place_after s p)
 
 -- the operation isn't the move of a block of cells
+abbrev pub NoCellsMove : Form → Type 0
+NoCellsMove (Cells source to) = ⊥
+NoCellsMove _ = ⊤
+
 abbrev pub MovesNoBlock : Shift → Type 0
-MovesNoBlock (MoveBlock source to) = ⊥
-MovesNoBlock _ = ⊤
+MovesNoBlock s = NoCellsMove (form_of s)
 
 -- unless the operation is a move of cells, the places of a block that is neither bent nor cut keep their offsets in it
 abbrev pub UnbentBlocksKeepOffsets : Type 0
 UnbentBlocksKeepOffsets =
     (s : Shift) (b after : Block) (p : Place) → IsSound s → MovesNoBlock s → IsBlockInside b → ¬ IsBent s b → ¬ IsCut s b →
     block_after s b ≡ Some after → Covers b p → place_after s p ≡ Some (carried_place b (first_place after) p)
+
+-- a block that is neither bent nor cut comes back to where it was
+abbrev pub UnbentBlocksComeBack : Type 0
+UnbentBlocksComeBack =
+    (s : Shift) (b after : Block) → IsSound s → IsBlockInside b → ¬ IsBent s b → ¬ IsCut s b →
+    block_after s b ≡ Some after → block_before s after ≡ Some b
+
+-- over an edit of lines, places go back by the opposite edit; and that of a sound edit has it as its own opposite
+abbrev pub OppositesGoBack : Type 0
+OppositesGoBack =
+    (sheet : ℕ) (axis : Axis) (edit : Edit) (p : Place) → IsSoundEdit (limit_of axis) edit →
+    (place_returned (Lines sheet axis edit) p ≡ place_moved (Lines sheet axis (opposite edit)) p) × (opposite (opposite edit) ≡ edit)

@@ -1,8 +1,9 @@
+pub mod Form
 pub mod Lines
-pub mod Ends
 pub mod Spans
 pub mod Carried
 pub mod Sound
 pub mod Tables
 pub mod Bent
 pub mod Laws
+pub mod internal

@@ -1,5 +1,5 @@
 // What the tables of moved places and blocks have in common, as laws over every operation.
-ghost use Rattle.shift_core.specs.Laws.{PlacesComeBack, PlacesGoForth, NoTwoMeet, PlacesStayInside, BlocksStayInside, BlocksCoverWhatMoves, BlocksAreLostWithTheirPlaces, MovedBlocksEndAtTheirLines, OneCellsMoveAlike, UnbentBlocksKeepOffsets};
+ghost use Rattle.shift_core.specs.Laws.{PlacesComeBack, PlacesGoForth, NoTwoMeet, PlacesStayInside, BlocksStayInside, BlocksCoverWhatMoves, BlocksAreLostWithTheirPlaces, MovedBlocksEndAtTheirLines, OneCellsMoveAlike, OppositesGoBack, UnbentBlocksComeBack, UnbentBlocksKeepOffsets};
 
 /// A place of the sheet that isn't lost comes back to where it was.
 pub fn places_come_back()
@@ -48,8 +48,18 @@ pub fn one_cells_move_alike()
     ensures { OneCellsMoveAlike }
 {}
 
-/// Unless a block of cells is place_after, the places of a block that is neither bent nor cut at the
+/// Unless a block of cells is moved, the places of a block that is neither bent nor cut at the
 /// sheet's end keep their offsets in it.
 pub fn unbent_blocks_keep_offsets()
     ensures { UnbentBlocksKeepOffsets }
+{}
+
+/// Over every sound operation, a block that is neither bent nor cut at the sheet's end comes back to where it was.
+pub fn unbent_blocks_come_back()
+    ensures { UnbentBlocksComeBack }
+{}
+
+/// Over an edit of lines, places go back by the opposite edit.
+pub fn opposites_go_back()
+    ensures { OppositesGoBack }
 {}

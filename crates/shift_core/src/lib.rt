@@ -2,7 +2,8 @@
 //!
 //! A [`Shift`] inserts, deletes or moves rows or columns, moves a block of cells, or drops a sheet.
 //! [`moved_place`] and [`moved_block`] say where a reference points afterwards; [`back_place`] and
-//! [`back_block`] say what it pointed at before. The laws say what these have in common, such as that
+//! [`back_block`] say what it pointed at before. Inside, a shift has one of three [`Form`]s, and what it does to
+//! rows and to columns is one [`Edit`] of the lines along an axis. The laws say what these have in common, such as that
 //! a place that isn't lost comes back. Two rows put before row 5 (counted from 0) move a
 //! place in row 7 to row 9, and back again:
 //!
@@ -13,16 +14,20 @@
 //! ```
 #![tactic(auto)]
 
+mod cells;
+mod edit;
+mod form;
 mod laws;
-mod line;
 mod shift;
-mod span;
 #[cfg(test)]
 mod tests;
 
+pub use edit::Edit;
+pub use form::Form;
 pub use laws::{
     blocks_are_lost_with_their_places, blocks_cover_what_moves, blocks_stay_inside,
-    moved_blocks_end_at_their_lines, no_two_meet, one_cells_move_alike, places_come_back,
-    places_go_forth, places_stay_inside, unbent_blocks_keep_offsets,
+    moved_blocks_end_at_their_lines, no_two_meet, one_cells_move_alike, opposites_go_back,
+    places_come_back, places_go_forth, places_stay_inside, unbent_blocks_come_back,
+    unbent_blocks_keep_offsets,
 };
-pub use shift::{Shift, back_block, back_place, is_bent, moved_block, moved_place, sound};
+pub use shift::{Shift, back_block, back_place, is_bent, is_cut, moved_block, moved_place, sound};

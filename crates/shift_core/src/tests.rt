@@ -1,142 +1,210 @@
 // Tables of places and blocks before and after operations, reckoned by hand and by another program.
-use crate::{Shift, back_block, back_place, is_bent, moved_block, moved_place, sound};
-use cell_addr::{Block, Place};
+use crate::{
+    Edit, Form, Shift, back_block, back_place, is_bent, is_cut, moved_block, moved_place, sound,
+};
+use cell_addr::{Axis, Block, Place, Span};
 use std::process::Abort;
 
 const SHEET: u32 = 1;
 
 type Ends = (u32, u32);
 
-// Rows inserted at a row, in a number; a row, where it goes, and which came there.
-const INSERTED_ROWS: [(u32, u32, u32, Option<u32>, Option<u32>); 10] = [
-    (5, 2, 4, Some(4), Some(4)),
-    (5, 2, 5, Some(7), None),
-    (5, 2, 6, Some(8), None),
-    (0, 1, 0, Some(1), None),
-    (0, 1, 39_999, None, Some(39_998)),
-    (39_999, 9_999_999, 39_998, Some(39_998), Some(39_998)),
-    (39_999, 9_999_999, 39_999, None, None),
-    (0, u32::MAX, 0, None, None),
-    (10, 39_989, 10, Some(39_999), None),
-    (10, 39_990, 10, None, None),
-];
-
-// The same of columns.
-const INSERTED_COLS: [(u32, u32, u32, Option<u32>, Option<u32>); 3] = [
-    (18_277, 1, 18_277, None, None),
-    (0, 1, 18_276, Some(18_277), Some(18_275)),
-    (3, u32::MAX, 2, Some(2), Some(2)),
-];
-
-// Rows deleted from a row, in a number; a row, where it goes, and which came there.
-const DELETED_ROWS: [(u32, u32, u32, Option<u32>, Option<u32>); 7] = [
-    (3, 2, 2, Some(2), Some(2)),
-    (3, 2, 4, None, Some(6)),
-    (3, 2, 5, Some(3), Some(7)),
-    (3, 2, 39_998, Some(39_996), None),
-    (39_999, 1, 39_998, Some(39_998), Some(39_998)),
-    (39_999, 1, 39_999, None, None),
-    (0, 40_000, 0, None, None),
-];
-
-// The same of columns.
-const DELETED_COLS: [(u32, u32, u32, Option<u32>, Option<u32>); 2] = [
-    (18_270, 8, 18_269, Some(18_269), Some(18_269)),
-    (0, 1, 18_277, Some(18_276), None),
-];
-
-// Rows moved from a row, in a number, before another; a row, where it goes, and which came there.
-const MOVED_ROWS: [(u32, u32, u32, u32, u32, u32); 8] = [
-    (2, 1, 4, 2, 3, 3),
-    (2, 1, 4, 3, 2, 2),
-    (2, 1, 4, 4, 4, 4),
-    (3, 1, 2, 2, 3, 3),
-    (3, 1, 2, 3, 2, 2),
-    (0, 3, 40_000, 0, 39_997, 3),
-    (0, 3, 40_000, 39_999, 39_996, 2),
-    (39_997, 3, 0, 39_997, 0, 39_994),
-];
-
-// The same of columns.
-const MOVED_COLS: [(u32, u32, u32, u32, u32, u32); 4] = [
-    (5, 2, 1, 6, 2, 4),
-    (5, 2, 1, 1, 3, 5),
-    (1, 1, 18_278, 1, 18_277, 2),
-    (1, 1, 18_278, 40, 39, 41),
-];
-
-// Rows inserted; the ends of a block, where they go, which came there, and whether it is bent.
-const ENDS_OVER_INSERTED_ROWS: [(u32, u32, Ends, Option<Ends>, Option<Ends>, bool); 9] = [
+// Lines inserted at a line, in a number; a line, where it goes, and which came there.
+const INSERTED_LINES: [(Axis, u32, u32, u32, Option<u32>, Option<u32>); 13] = [
+    (Axis::Rows, 5, 2, 4, Some(4), Some(4)),
+    (Axis::Rows, 5, 2, 5, Some(7), None),
+    (Axis::Rows, 5, 2, 6, Some(8), None),
+    (Axis::Rows, 0, 1, 0, Some(1), None),
+    (Axis::Rows, 0, 1, 39_999, None, Some(39_998)),
     (
+        Axis::Rows,
+        39_999,
+        9_999_999,
+        39_998,
+        Some(39_998),
+        Some(39_998),
+    ),
+    (Axis::Rows, 39_999, 9_999_999, 39_999, None, None),
+    (Axis::Rows, 0, u32::MAX, 0, None, None),
+    (Axis::Rows, 10, 39_989, 10, Some(39_999), None),
+    (Axis::Rows, 10, 39_990, 10, None, None),
+    (Axis::Cols, 18_277, 1, 18_277, None, None),
+    (Axis::Cols, 0, 1, 18_276, Some(18_277), Some(18_275)),
+    (Axis::Cols, 3, u32::MAX, 2, Some(2), Some(2)),
+];
+
+// Lines deleted from a line, in a number; a line, where it goes, and which came there.
+const DELETED_LINES: [(Axis, u32, u32, u32, Option<u32>, Option<u32>); 9] = [
+    (Axis::Rows, 3, 2, 2, Some(2), Some(2)),
+    (Axis::Rows, 3, 2, 4, None, Some(6)),
+    (Axis::Rows, 3, 2, 5, Some(3), Some(7)),
+    (Axis::Rows, 3, 2, 39_998, Some(39_996), None),
+    (Axis::Rows, 39_999, 1, 39_998, Some(39_998), Some(39_998)),
+    (Axis::Rows, 39_999, 1, 39_999, None, None),
+    (Axis::Rows, 0, 40_000, 0, None, None),
+    (Axis::Cols, 18_270, 8, 18_269, Some(18_269), Some(18_269)),
+    (Axis::Cols, 0, 1, 18_277, Some(18_276), None),
+];
+
+// Lines moved from a line, in a number, before another; a line, where it goes, and which came there.
+const MOVED_LINES: [(Axis, u32, u32, u32, u32, u32, u32); 12] = [
+    (Axis::Rows, 2, 1, 4, 2, 3, 3),
+    (Axis::Rows, 2, 1, 4, 3, 2, 2),
+    (Axis::Rows, 2, 1, 4, 4, 4, 4),
+    (Axis::Rows, 3, 1, 2, 2, 3, 3),
+    (Axis::Rows, 3, 1, 2, 3, 2, 2),
+    (Axis::Rows, 0, 3, 40_000, 0, 39_997, 3),
+    (Axis::Rows, 0, 3, 40_000, 39_999, 39_996, 2),
+    (Axis::Rows, 39_997, 3, 0, 39_997, 0, 39_994),
+    (Axis::Cols, 5, 2, 1, 6, 2, 4),
+    (Axis::Cols, 5, 2, 1, 1, 3, 5),
+    (Axis::Cols, 1, 1, 18_278, 1, 18_277, 2),
+    (Axis::Cols, 1, 1, 18_278, 40, 39, 41),
+];
+
+// Lines inserted; the ends of a block, where they go, which came there, whether it is bent, and whether it is cut.
+const ENDS_OVER_INSERTED: [(Axis, u32, u32, Ends, Option<Ends>, Option<Ends>, bool, bool); 11] = [
+    (
+        Axis::Rows,
         2,
         3,
         (0, 39_999),
         Some((0, 39_999)),
         Some((0, 39_996)),
         false,
+        true,
     ),
-    (39_999, 1, (39_999, 39_999), None, None, true),
-    (10, 39_985, (10, 20), Some((39_995, 39_999)), None, true),
-    (10, 39_990, (10, 20), None, None, true),
-    (0, u32::MAX, (0, 5), None, None, true),
-    (6, 4, (2, 5), Some((2, 5)), Some((2, 5)), false),
-    (5, 4, (2, 5), Some((2, 9)), None, true),
-    (2, 4, (2, 5), Some((6, 9)), None, false),
-    (6, 9_999_999, (2, 7), Some((2, 39_999)), None, true),
-];
-
-// The same of columns.
-const ENDS_OVER_INSERTED_COLS: [(u32, u32, Ends, Option<Ends>, Option<Ends>, bool); 2] = [
-    (4, u32::MAX, (3, 5), Some((3, 18_277)), None, true),
     (
+        Axis::Rows,
+        39_999,
+        1,
+        (39_999, 39_999),
+        None,
+        None,
+        true,
+        true,
+    ),
+    (
+        Axis::Rows,
+        10,
+        39_985,
+        (10, 20),
+        Some((39_995, 39_999)),
+        None,
+        true,
+        true,
+    ),
+    (Axis::Rows, 10, 39_990, (10, 20), None, None, true, true),
+    (Axis::Rows, 0, u32::MAX, (0, 5), None, None, true, true),
+    (
+        Axis::Rows,
+        6,
+        4,
+        (2, 5),
+        Some((2, 5)),
+        Some((2, 5)),
+        false,
+        false,
+    ),
+    (Axis::Rows, 5, 4, (2, 5), Some((2, 9)), None, true, false),
+    (Axis::Rows, 2, 4, (2, 5), Some((6, 9)), None, false, false),
+    (
+        Axis::Rows,
+        6,
+        9_999_999,
+        (2, 7),
+        Some((2, 39_999)),
+        None,
+        true,
+        true,
+    ),
+    (
+        Axis::Cols,
+        4,
+        u32::MAX,
+        (3, 5),
+        Some((3, 18_277)),
+        None,
+        true,
+        true,
+    ),
+    (
+        Axis::Cols,
         18_277,
         1,
         (18_276, 18_277),
         Some((18_276, 18_277)),
         None,
         false,
+        true,
     ),
 ];
 
-// Rows deleted; the ends of a block, where they go, which came there, and whether it is bent.
-const ENDS_OVER_DELETED_ROWS: [(u32, u32, Ends, Option<Ends>, Option<Ends>, bool); 9] = [
-    (8, 5, (5, 10), Some((5, 7)), Some((5, 15)), true),
-    (3, 4, (5, 10), Some((3, 6)), Some((9, 14)), true),
-    (5, 6, (5, 10), None, Some((11, 16)), true),
-    (0, 4, (0, 3), None, Some((4, 7)), true),
-    (0, 2, (0, 3), Some((0, 1)), Some((2, 5)), true),
-    (39_999, 1, (0, 39_999), Some((0, 39_998)), None, true),
-    (6, 2, (5, 10), Some((5, 8)), Some((5, 12)), true),
-    (11, 2, (5, 10), Some((5, 10)), Some((5, 10)), false),
-    (0, 40_000, (3, 4), None, None, true),
+// Lines deleted; the ends of a block, where they go, which came there, and whether it is bent.
+const ENDS_OVER_DELETED: [(Axis, u32, u32, Ends, Option<Ends>, Option<Ends>, bool); 11] = [
+    (Axis::Rows, 8, 5, (5, 10), Some((5, 7)), Some((5, 15)), true),
+    (Axis::Rows, 3, 4, (5, 10), Some((3, 6)), Some((9, 14)), true),
+    (Axis::Rows, 5, 6, (5, 10), None, Some((11, 16)), true),
+    (Axis::Rows, 0, 4, (0, 3), None, Some((4, 7)), true),
+    (Axis::Rows, 0, 2, (0, 3), Some((0, 1)), Some((2, 5)), true),
+    (
+        Axis::Rows,
+        39_999,
+        1,
+        (0, 39_999),
+        Some((0, 39_998)),
+        None,
+        true,
+    ),
+    (Axis::Rows, 6, 2, (5, 10), Some((5, 8)), Some((5, 12)), true),
+    (
+        Axis::Rows,
+        11,
+        2,
+        (5, 10),
+        Some((5, 10)),
+        Some((5, 10)),
+        false,
+    ),
+    (Axis::Rows, 0, 40_000, (3, 4), None, None, true),
+    (Axis::Cols, 18_277, 1, (18_277, 18_277), None, None, true),
+    (Axis::Cols, 2, 2, (1, 6), Some((1, 4)), Some((1, 8)), true),
 ];
 
-// The same of columns.
-const ENDS_OVER_DELETED_COLS: [(u32, u32, Ends, Option<Ends>, Option<Ends>, bool); 2] = [
-    (18_277, 1, (18_277, 18_277), None, None, true),
-    (2, 2, (1, 6), Some((1, 4)), Some((1, 8)), true),
-];
-
-// Rows moved; the ends of a bent block, where they go, and which came there.
-const ENDS_OVER_MOVED_ROWS: [(u32, u32, u32, Ends, Ends, Ends); 12] = [
-    (4, 1, 6, (2, 6), (2, 6), (2, 6)),
-    (4, 1, 9, (2, 6), (2, 5), (2, 7)),
-    (2, 1, 9, (2, 6), (2, 5), (3, 7)),
-    (6, 1, 2, (2, 6), (3, 6), (2, 5)),
-    (6, 1, 1, (2, 6), (3, 6), (1, 5)),
-    (2, 5, 0, (2, 6), (0, 4), (0, 1)),
-    (2, 5, 40_000, (3, 4), (39_996, 39_997), (8, 9)),
-    (8, 1, 4, (2, 6), (2, 7), (2, 5)),
-    (8, 1, 2, (2, 6), (3, 7), (2, 5)),
-    (0, 2, 39_999, (0, 39_999), (0, 39_999), (2, 39_999)),
-    (5, 3, 1, (2, 6), (5, 7), (1, 3)),
-    (3, 2, 9, (0, 3), (0, 2), (0, 5)),
-];
-
-// Columns moved; the ends of a block, where they go, which came there, and whether it is bent.
-const ENDS_OVER_MOVED_COLS: [(u32, u32, u32, Ends, Ends, Ends, bool); 2] = [
-    (1, 2, 6, (2, 5), (1, 3), (4, 5), true),
-    (9, 2, 12, (2, 5), (2, 5), (2, 5), false),
+// Lines moved; the ends of a block, where they go, which came there, and whether it is bent.
+const ENDS_OVER_MOVED: [(Axis, u32, u32, u32, Ends, Ends, Ends, bool); 14] = [
+    (Axis::Rows, 4, 1, 6, (2, 6), (2, 6), (2, 6), true),
+    (Axis::Rows, 4, 1, 9, (2, 6), (2, 5), (2, 7), true),
+    (Axis::Rows, 2, 1, 9, (2, 6), (2, 5), (3, 7), true),
+    (Axis::Rows, 6, 1, 2, (2, 6), (3, 6), (2, 5), true),
+    (Axis::Rows, 6, 1, 1, (2, 6), (3, 6), (1, 5), true),
+    (Axis::Rows, 2, 5, 0, (2, 6), (0, 4), (0, 1), true),
+    (
+        Axis::Rows,
+        2,
+        5,
+        40_000,
+        (3, 4),
+        (39_996, 39_997),
+        (8, 9),
+        true,
+    ),
+    (Axis::Rows, 8, 1, 4, (2, 6), (2, 7), (2, 5), true),
+    (Axis::Rows, 8, 1, 2, (2, 6), (3, 7), (2, 5), true),
+    (
+        Axis::Rows,
+        0,
+        2,
+        39_999,
+        (0, 39_999),
+        (0, 39_999),
+        (2, 39_999),
+        true,
+    ),
+    (Axis::Rows, 5, 3, 1, (2, 6), (5, 7), (1, 3), true),
+    (Axis::Rows, 3, 2, 9, (0, 3), (0, 2), (0, 5), true),
+    (Axis::Cols, 1, 2, 6, (2, 5), (1, 3), (4, 5), true),
+    (Axis::Cols, 9, 2, 12, (2, 5), (2, 5), (2, 5), false),
 ];
 
 // Three rows of two cells moved down by a row; a row and a column, where they go, and which came there.
@@ -157,22 +225,18 @@ const OVERWRITTEN_BLOCKS: [(u32, u32, Option<Ends>, Option<Ends>); 5] = [
     (5, 5, None, Some((4, 4))),
 ];
 
-// A row and a number; whether so many can be inserted there, and deleted from there.
-const FITTING_ROWS: [(u32, u32, bool, bool); 7] = [
-    (0, 0, false, false),
-    (0, 40_000, true, true),
-    (0, 40_001, true, false),
-    (39_999, 1, true, true),
-    (39_999, 2, true, false),
-    (39_999, u32::MAX, true, false),
-    (40_000, 1, false, false),
-];
-
-// The same of columns.
-const FITTING_COLS: [(u32, u32, bool, bool); 3] = [
-    (18_277, 1, true, true),
-    (18_277, 2, true, false),
-    (18_278, 1, false, false),
+// A line and a number; whether so many can be inserted there, and deleted from there.
+const FITTING_LINES: [(Axis, u32, u32, bool, bool); 10] = [
+    (Axis::Rows, 0, 0, false, false),
+    (Axis::Rows, 0, 40_000, true, true),
+    (Axis::Rows, 0, 40_001, true, false),
+    (Axis::Rows, 39_999, 1, true, true),
+    (Axis::Rows, 39_999, 2, true, false),
+    (Axis::Rows, 39_999, u32::MAX, true, false),
+    (Axis::Rows, 40_000, 1, false, false),
+    (Axis::Cols, 18_277, 1, true, true),
+    (Axis::Cols, 18_277, 2, true, false),
+    (Axis::Cols, 18_278, 1, false, false),
 ];
 
 // A line, a number and a line to move them to; whether rows can be moved so, and columns.
@@ -202,276 +266,175 @@ const FITTING_DESTINATIONS: [(u32, u32, u32, bool); 7] = [
     (1, u32::MAX, 1, false),
 ];
 
-// Compares where a row goes, and which row came there.
-fn expect_row<A: Abort>(rt: &A, s: Shift, row: u32, after: Option<u32>, before: Option<u32>) {
-    assert!(rt; sound(&s));
-    let p = Place {
-        sheet: SHEET,
-        row,
-        col: 4,
-    };
-    assert_eq!(rt;
-        moved_place(&s, p).map(|q| q.row),
-        after,
-        "row {row} after {s:?}"
-    );
-    assert_eq!(rt;
-        back_place(&s, p).map(|q| q.row),
-        before,
-        "row {row} before {s:?}"
-    );
+// The edit of the lines of the sheet as the operation that makes it.
+fn shift(axis: Axis, edit: Edit) -> Shift {
+    let sheet = SHEET;
+    match (axis, edit) {
+        (Axis::Rows, Edit::Insert { at, count }) => Shift::InsertRows { sheet, at, count },
+        (Axis::Cols, Edit::Insert { at, count }) => Shift::InsertCols { sheet, at, count },
+        (Axis::Rows, Edit::Delete { at, count }) => Shift::DeleteRows { sheet, at, count },
+        (Axis::Cols, Edit::Delete { at, count }) => Shift::DeleteCols { sheet, at, count },
+        (
+            Axis::Rows,
+            Edit::Move {
+                from,
+                count,
+                before,
+            },
+        ) => Shift::MoveRows {
+            sheet,
+            from,
+            count,
+            before,
+        },
+        (
+            Axis::Cols,
+            Edit::Move {
+                from,
+                count,
+                before,
+            },
+        ) => Shift::MoveCols {
+            sheet,
+            from,
+            count,
+            before,
+        },
+    }
 }
 
-// The same of a column.
-fn expect_col<A: Abort>(rt: &A, s: Shift, col: u32, after: Option<u32>, before: Option<u32>) {
+// Compares where a line goes, and which line came there.
+fn expect_line<A: Abort>(
+    rt: &A,
+    axis: Axis,
+    edit: Edit,
+    line: u32,
+    after: Option<u32>,
+    before: Option<u32>,
+) {
+    let s = shift(axis, edit);
+    assert!(rt;
+        s.form()
+            == Form::Lines {
+                sheet: SHEET,
+                axis,
+                edit
+            }
+    );
     assert!(rt; sound(&s));
     let p = Place {
         sheet: SHEET,
         row: 9,
-        col,
-    };
+        col: 4,
+    }
+    .with_line(axis, line);
     assert_eq!(rt;
-        moved_place(&s, p).map(|q| q.col),
+        moved_place(&s, p).map(|q| q.line(axis)),
         after,
-        "column {col} after {s:?}"
+        "line {line} after {s:?}"
     );
     assert_eq!(rt;
-        back_place(&s, p).map(|q| q.col),
+        back_place(&s, p).map(|q| q.line(axis)),
         before,
-        "column {col} before {s:?}"
+        "line {line} before {s:?}"
     );
 }
 
-// Compares where the first and last row of a block go, which came there, and whether the block is bent.
-fn expect_rows<A: Abort>(
+// Compares where the first and last line of a block go, which came there, and whether the block is bent or cut.
+fn expect_ends<A: Abort>(
     rt: &A,
-    s: Shift,
-    rows: Ends,
-    after: Option<Ends>,
-    before: Option<Ends>,
-    bent: bool,
+    axis: Axis,
+    edit: Edit,
+    ends: Ends,
+    expected: (Option<Ends>, Option<Ends>, bool, bool),
 ) {
-    assert!(rt; sound(&s));
-    let b = Block {
-        sheet: SHEET,
-        top: rows.0,
-        left: 3,
-        bottom: rows.1,
-        right: 5,
-    };
-    assert_eq!(rt;
-        moved_block(&s, b).map(|c| (c.top, c.bottom)),
-        after,
-        "{b:?} after {s:?}"
-    );
-    assert_eq!(rt;
-        back_block(&s, b).map(|c| (c.top, c.bottom)),
-        before,
-        "{b:?} before {s:?}"
-    );
-    assert_eq!(rt; is_bent(&s, b), bent, "{b:?} bent by {s:?}");
-}
-
-// The same of columns.
-fn expect_cols<A: Abort>(
-    rt: &A,
-    s: Shift,
-    cols: Ends,
-    after: Option<Ends>,
-    before: Option<Ends>,
-    bent: bool,
-) {
+    let (after, before, bent, cut) = expected;
+    let s = shift(axis, edit);
     assert!(rt; sound(&s));
     let b = Block {
         sheet: SHEET,
         top: 7,
-        left: cols.0,
+        left: 3,
         bottom: 8,
-        right: cols.1,
-    };
+        right: 5,
+    }
+    .with_span(
+        axis,
+        Span {
+            first: ends.0,
+            last: ends.1,
+        },
+    );
     assert_eq!(rt;
-        moved_block(&s, b).map(|c| (c.left, c.right)),
+        ends_of(moved_block(&s, b), axis),
         after,
         "{b:?} after {s:?}"
     );
     assert_eq!(rt;
-        back_block(&s, b).map(|c| (c.left, c.right)),
+        ends_of(back_block(&s, b), axis),
         before,
         "{b:?} before {s:?}"
     );
     assert_eq!(rt; is_bent(&s, b), bent, "{b:?} bent by {s:?}");
+    assert_eq!(rt; is_cut(&s, b), cut, "{b:?} cut by {s:?}");
+}
+
+// The first and last line of a block.
+fn ends_of(b: Option<Block>, axis: Axis) -> Option<Ends> {
+    b.map(|c| (c.span(axis).first, c.span(axis).last))
 }
 
 #[test]
 fn lines_move_as_in_the_tables(rt: HostRuntime) {
-    for (at, count, row, after, before) in INSERTED_ROWS {
-        expect_row(
-            &rt,
-            Shift::InsertRows {
-                sheet: SHEET,
-                at,
-                count,
-            },
-            row,
-            after,
-            before,
-        );
+    for (axis, at, count, line, after, before) in INSERTED_LINES {
+        expect_line(&rt, axis, Edit::Insert { at, count }, line, after, before);
     }
-    for (at, count, col, after, before) in INSERTED_COLS {
-        expect_col(
-            &rt,
-            Shift::InsertCols {
-                sheet: SHEET,
-                at,
-                count,
-            },
-            col,
-            after,
-            before,
-        );
+    for (axis, at, count, line, after, before) in DELETED_LINES {
+        expect_line(&rt, axis, Edit::Delete { at, count }, line, after, before);
     }
-    for (at, count, row, after, before) in DELETED_ROWS {
-        expect_row(
+    for (axis, from, count, before, line, goes, came) in MOVED_LINES {
+        expect_line(
             &rt,
-            Shift::DeleteRows {
-                sheet: SHEET,
-                at,
-                count,
-            },
-            row,
-            after,
-            before,
-        );
-    }
-    for (at, count, col, after, before) in DELETED_COLS {
-        expect_col(
-            &rt,
-            Shift::DeleteCols {
-                sheet: SHEET,
-                at,
-                count,
-            },
-            col,
-            after,
-            before,
-        );
-    }
-    for (from, count, before, row, goes, came) in MOVED_ROWS {
-        expect_row(
-            &rt,
-            Shift::MoveRows {
-                sheet: SHEET,
+            axis,
+            Edit::Move {
                 from,
                 count,
                 before,
             },
-            row,
+            line,
             Some(goes),
             Some(came),
         );
     }
-    for (from, count, before, col, goes, came) in MOVED_COLS {
-        expect_col(
+    for (axis, at, count, ends, after, before, bent, cut) in ENDS_OVER_INSERTED {
+        expect_ends(
             &rt,
-            Shift::MoveCols {
-                sheet: SHEET,
+            axis,
+            Edit::Insert { at, count },
+            ends,
+            (after, before, bent, cut),
+        );
+    }
+    for (axis, at, count, ends, after, before, bent) in ENDS_OVER_DELETED {
+        expect_ends(
+            &rt,
+            axis,
+            Edit::Delete { at, count },
+            ends,
+            (after, before, bent, false),
+        );
+    }
+    for (axis, from, count, before, ends, goes, came, bent) in ENDS_OVER_MOVED {
+        expect_ends(
+            &rt,
+            axis,
+            Edit::Move {
                 from,
                 count,
                 before,
             },
-            col,
-            Some(goes),
-            Some(came),
-        );
-    }
-}
-
-#[test]
-fn ends_of_blocks_move_as_in_the_tables(rt: HostRuntime) {
-    for (at, count, rows, after, before, bent) in ENDS_OVER_INSERTED_ROWS {
-        expect_rows(
-            &rt,
-            Shift::InsertRows {
-                sheet: SHEET,
-                at,
-                count,
-            },
-            rows,
-            after,
-            before,
-            bent,
-        );
-    }
-    for (at, count, cols, after, before, bent) in ENDS_OVER_INSERTED_COLS {
-        expect_cols(
-            &rt,
-            Shift::InsertCols {
-                sheet: SHEET,
-                at,
-                count,
-            },
-            cols,
-            after,
-            before,
-            bent,
-        );
-    }
-    for (at, count, rows, after, before, bent) in ENDS_OVER_DELETED_ROWS {
-        expect_rows(
-            &rt,
-            Shift::DeleteRows {
-                sheet: SHEET,
-                at,
-                count,
-            },
-            rows,
-            after,
-            before,
-            bent,
-        );
-    }
-    for (at, count, cols, after, before, bent) in ENDS_OVER_DELETED_COLS {
-        expect_cols(
-            &rt,
-            Shift::DeleteCols {
-                sheet: SHEET,
-                at,
-                count,
-            },
-            cols,
-            after,
-            before,
-            bent,
-        );
-    }
-    for (from, count, before, rows, goes, came) in ENDS_OVER_MOVED_ROWS {
-        expect_rows(
-            &rt,
-            Shift::MoveRows {
-                sheet: SHEET,
-                from,
-                count,
-                before,
-            },
-            rows,
-            Some(goes),
-            Some(came),
-            true,
-        );
-    }
-    for (from, count, before, cols, goes, came, bent) in ENDS_OVER_MOVED_COLS {
-        expect_cols(
-            &rt,
-            Shift::MoveCols {
-                sheet: SHEET,
-                from,
-                count,
-                before,
-            },
-            cols,
-            Some(goes),
-            Some(came),
-            bent,
+            ends,
+            (Some(goes), Some(came), bent, false),
         );
     }
 }
@@ -566,67 +529,26 @@ fn cells_move_over_others_and_sheets_go(rt: HostRuntime) {
 
 #[test]
 fn operations_that_fit_are_sound(rt: HostRuntime) {
-    for (at, count, insert, delete) in FITTING_ROWS {
+    for (axis, at, count, insert, delete) in FITTING_LINES {
         assert_eq!(rt;
-            sound(&Shift::InsertRows {
-                sheet: SHEET,
-                at,
-                count
-            }),
+            sound(&shift(axis, Edit::Insert { at, count })),
             insert,
             "{count} at {at}"
         );
         assert_eq!(rt;
-            sound(&Shift::DeleteRows {
-                sheet: SHEET,
-                at,
-                count
-            }),
-            delete,
-            "{count} at {at}"
-        );
-    }
-    for (at, count, insert, delete) in FITTING_COLS {
-        assert_eq!(rt;
-            sound(&Shift::InsertCols {
-                sheet: SHEET,
-                at,
-                count
-            }),
-            insert,
-            "{count} at {at}"
-        );
-        assert_eq!(rt;
-            sound(&Shift::DeleteCols {
-                sheet: SHEET,
-                at,
-                count
-            }),
+            sound(&shift(axis, Edit::Delete { at, count })),
             delete,
             "{count} at {at}"
         );
     }
     for (from, count, before, rows, cols) in FITTING_MOVES {
-        assert_eq!(rt;
-            sound(&Shift::MoveRows {
-                sheet: SHEET,
-                from,
-                count,
-                before
-            }),
-            rows,
-            "{from} to {before}"
-        );
-        assert_eq!(rt;
-            sound(&Shift::MoveCols {
-                sheet: SHEET,
-                from,
-                count,
-                before
-            }),
-            cols,
-            "{from} to {before}"
-        );
+        let edit = Edit::Move {
+            from,
+            count,
+            before,
+        };
+        assert_eq!(rt; sound(&shift(Axis::Rows, edit)), rows, "{from} to {before}");
+        assert_eq!(rt; sound(&shift(Axis::Cols, edit)), cols, "{from} to {before}");
     }
     let source = Block {
         sheet: SHEET,

@@ -1,8 +1,8 @@
 -- Chains by their tests and by following needs are one: serves the laws that say what cyclic and stuck mean.
 use Rattle.std.proofs.Common.{◌≡◌, ℕ, zero, suc, ◌⊎◌, true, false, [], ◌∷◌, length, filter, sym, refl, subst, inl, inr, ⊎_elim}
 use Rattle.std.proofs.lemmas.Bool.{or_cases, or_left}
-use Rattle.value_network.specs.Network.{Network, IsNetwork, has, leads, cyclic, stuck}
-use Rattle.value_network.specs.Laws.{LeadsTo, at_once, after, CyclesReturn, StuckLeadsToCycle}
+use Rattle.value_network.specs.Network.{Network, IsNetwork, LeadsTo, at_once, after, has, leads, cyclic, stuck}
+use Rattle.value_network.specs.Laws.{CyclesReturn, StuckLeadsToCycle, StuckReturns}
 use Rattle.value_network.proofs.ListTests.{has-from_Contains, has-filter_gives}
 use Rattle.value_network.proofs.Chains.{leads_at_once, leads_longer, leads_to_one, leads_carries}
 use Rattle.value_network.proofs.ShortChains.{chains_find_cycles}
@@ -10,9 +10,19 @@ use Rattle.value_network.proofs.Stuck.{cyclic_is_stuck, stuck_spreads}
 
 module _ {K V : Type 0} (net : Network K V) where
   -- following needs twice is following needs
-  LeadsTo-join : {a b c : K} → LeadsTo net a b → LeadsTo net b c → LeadsTo net a c
+  pub LeadsTo-join : {a b c : K} → LeadsTo net a b → LeadsTo net b c → LeadsTo net a c
   LeadsTo-join (at_once need) second = after need second
   LeadsTo-join (after need first) second = after need (LeadsTo-join first second)
+
+  -- following needs begins with one
+  pub first_need : {a b : K} → LeadsTo net a b → (c : K) × (net.needs a c ≡ true)
+  first_need (at_once {b = b} need) = (b, need)
+  first_need (after {b = b} need rest) = (b, need)
+
+  -- what has all that its nodes need has all that following their needs comes to
+  pub led_inside : (Inside : K → Type 0) → ((a b : K) → Inside a → net.needs a b ≡ true → Inside b) → {a b : K} → Inside a → LeadsTo net a b → Inside b
+  led_inside Inside closed inside (at_once {a = a} {b = b} need) = closed a b inside need
+  led_inside Inside closed inside (after {a = a} {b = b} need rest) = led_inside Inside closed (closed a b inside need) rest
 
   -- a chain is needs that are followed
   pub LeadsTo-from_leads : (n : ℕ) (a b : K) → leads net n a (b ∷ []) ≡ true → LeadsTo net a b
@@ -52,3 +62,13 @@ module _ {K V : Type 0} (net : Network K V) (sound : IsNetwork net) where
           let (b, inside, to_one) = leads_to_one net (length net.formulas) a (filter (cyclic net) net.formulas) chain in
           (b, (has-filter_gives net sound (cyclic net) net.formulas b (has-from_Contains net sound (filter (cyclic net) net.formulas) b inside)).1, inr (LeadsTo-from_leads net (length net.formulas) a b to_one)))
           (or_cases (has net a (filter (cyclic net) net.formulas)) (leads net (length net.formulas) a (filter (cyclic net) net.formulas)) h)
+
+  -- the stuck nodes are those from which following needs comes to a node on a cycle
+  pub stuck_returns : StuckReturns net
+  stuck_returns a = (
+    λ h.
+        let way = (stuck_leads_to_cycle a).0 h in
+        let back = (cycles_return way.0).0 way.1 in
+        (way.0, ⊎_elim (λ (same : a ≡ way.0). subst (λ x. LeadsTo net x way.0) (sym same) back) (λ far. far) way.2, back),
+    λ way. (stuck_leads_to_cycle a).1 (way.0, (cycles_return way.0).1 way.2, inr way.1),
+  )

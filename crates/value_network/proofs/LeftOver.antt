@@ -1,9 +1,8 @@
 -- Which nodes are stuck, by what they need alone: a stuck node needs a stuck one, and where each node that is left
 -- over needs one that is left over too, all of these are stuck. Serves whatever works nodes out behind their needs.
-use Rattle.std.proofs.Common.{◌≡◌, ℕ, zero, suc, ◌⊎◌, Bool, true, false, length, sym, ◌∙◌, subst, inl, inr, ⊎_elim}
+use Rattle.std.proofs.Common.{◌≡◌, ℕ, zero, suc, Bool, true, false, length, sym, ◌∙◌, subst, inl, inr, ⊎_elim}
 use Rattle.std.proofs.lemmas.Bool.{false_from_ne_true, false≢true}
-use Rattle.value_network.specs.Network.{Network, IsNetwork, cyclic, stuck}
-use Rattle.value_network.specs.Laws.{LeadsTo, at_once, after}
+use Rattle.value_network.specs.Network.{Network, IsNetwork, LeadsTo, at_once, after, cyclic, stuck}
 use Rattle.value_network.proofs.FollowedNeeds.{cycles_return, stuck_leads_to_cycle}
 use Rattle.value_network.proofs.Stuck.{stuck_spreads, stuck_covers, cyclic_is_stuck}
 use Rattle.value_network.proofs.Values.{Settled, settled}
@@ -35,7 +34,7 @@ module _ {K V : Type 0} (net : Network K V) (sound : IsNetwork net) where
   stuck_where_settled known others (suc n) x (inl h) unknown = h
   stuck_where_settled known others (suc n) x (inr s) unknown =
       let next = others x unknown in
-      stuck_spreads net sound x next.0 next.1 (stuck_where_settled known others n next.0 (s next.0 next.1) next.2)
+      stuck_spreads net sound x next.0 next.1 (stuck_where_settled known others n next.0 (s next.0 (at_once next.1)) next.2)
 
   -- where each node that is left over needs one that is left over, each of them is stuck
   pub left_over_is_stuck : (known : K → Bool) → ((a : K) → known a ≡ false → (b : K) × (net.needs a b ≡ true) × (known b ≡ false)) → (a : K) → known a ≡ false → stuck net a ≡ true

@@ -1,7 +1,7 @@
 -- Where needs go only to nodes of a lower rank, or to earlier nodes, no node is on a cycle.
 use Rattle.std.proofs.Common.{◌≡◌, ℕ, ◌<◌, Bool, true, [], ◌∷◌, length, sym, ◌∙◌, arith}
 use Rattle.std.proofs.lemmas.Bool.{false_from_ne_true, false≢true}
-use Rattle.value_network.specs.Network.{Network, leads, cyclic}
+use Rattle.value_network.specs.Network.{Network, LeadsTo, at_once, after, leads, cyclic}
 use Rattle.value_network.specs.Laws.{NeedsLower, NeedsEarlier, IsTransitive, RanksForbidCycles, OrdersForbidCycles}
 use Rattle.value_network.proofs.Chains.{leads_carries}
 
@@ -9,6 +9,14 @@ module _ {K V : Type 0} (net : Network K V) where
   -- a chain leads to a node of a lower rank
   pub leads_lower : (rank : K → ℕ) → NeedsLower net rank → (n : ℕ) (a b : K) → leads net n a (b ∷ []) ≡ true → rank b < rank a
   leads_lower rank lower n a b h = leads_carries net (λ x y. rank x < rank y) lower (λ x y z p q. omega (arith, p, q)) n a b h
+
+  -- following needs comes to nodes of a lower rank
+  pub led_lower : (rank : K → ℕ) → NeedsLower net rank → {a b : K} → LeadsTo net a b → rank b < rank a
+  led_lower rank lower (at_once {a = a} {b = b} need) = lower a b need
+  led_lower rank lower (after {a = a} {b = b} {c = c} need rest) =
+      let below = lower a b need in
+      let more = led_lower rank lower rest in
+      omega (arith, below, more)
 
   -- a chain leads to an earlier node
   pub leads_earlier : (earlier : K → K → Bool) → IsTransitive earlier → NeedsEarlier net earlier → (n : ℕ) (a b : K) → leads net n a (b ∷ []) ≡ true → earlier b a ≡ true

@@ -7,11 +7,11 @@ use Rattle.std.proofs.lemmas.Bool.{cases_lt, and_parts, and_from, or_left, or_ri
 use Rattle.std.proofs.lemmas.List.FromFn.{length-range_with_len, get_or-range_with_len, get_or-map-range_with_len, length-map-range_with_len, map-range_with_len_more}
 use Rattle.value_network.specs.declared.row.Slot.{Slot}
 use Rattle.value_network.specs.declared.row.Slot.TheVariants.{Number, Sum}
-use Rattle.value_network.specs.Network.{IsNetwork}
+use Rattle.value_network.specs.Network.{IsNetwork, at_once}
 use Rattle.value_network.specs.Laws.{HasNoCycle, CoversCycles}
 use Rattle.value_network.specs.Row.{number_before, number_of, mentions, slot_at, row_network, row_value}
 use Rattle.value_network.proofs.ListTests.{any_from}
-use Rattle.value_network.proofs.Orders.{no_cycle_by_rank}
+use Rattle.value_network.proofs.Orders.{no_cycle_by_rank, led_lower}
 use Rattle.value_network.proofs.Stuck.{no_cycle_covers}
 use Rattle.value_network.proofs.Values.{works_in_place}
 
@@ -47,7 +47,7 @@ row_is_network row = record {
   same_equal = λ a b h. eqb-true a b h;
   same_self = λ a. eq-eqb a a refl;
   needs_formula = λ a b h. let within = mentions_within row a b h in any_from (nat_eq a) (range_with_len 0 (length row)) a (a, subst (λ n. a < n) (sym (length-range_with_len 0 (length row))) within, get_or-range_with_len 0 (length row) a a within ∙ zero-add a) (eq-eqb a a refl);
-  reads_needs = λ a v w alike. number_of_reads a (slot_at row a) v w alike;
+  reads_needs = λ a v w alike. number_of_reads a (slot_at row a) v w (λ place h. alike place (at_once h));
 }
 
 -- sums look back alone, so no slot is on a cycle
@@ -60,7 +60,7 @@ covers row = no_cycle_covers (row_network row) (λ _. false) (row_has_no_cycle r
 -- over the values of the slots before it a slot works out its own
 pub number_in_order : (row : List Slot) (home : ℕ) (numbers : List ℕ) → numbers ≡ map (row_value row) (range_with_len 0 home) → number_of (λ place. slice_index numbers place) home (slot_at row home) ≡ row_value row home
 number_in_order row home numbers done = works_in_place (row_network row) (row_is_network row) (λ _. false) (covers row) home (λ place. slice_index numbers place) refl
-    (λ place need. ap (λ xs. slice_index xs place) done ∙ get_or-map-range_with_len (row_value row) 0 home place place 0 (mentions_before home (slot_at row home) place need) (zero-add place))
+    (λ place led. ap (λ xs. slice_index xs place) done ∙ get_or-map-range_with_len (row_value row) 0 home place place 0 (led_lower (row_network row) (λ a. a) (λ a b h. mentions_before a (slot_at row a) b h) led) (zero-add place))
 
 -- one value more in order
 pub numbers_more : (row : List Slot) (home : ℕ) (numbers : List ℕ) (number : ℕ) → numbers ≡ map (row_value row) (range_with_len 0 home) → number ≡ number_of (λ place. slice_index numbers place) (length numbers) (slot_at row home) → numbers ++ number ∷ [] ≡ map (row_value row) (range_with_len 0 (home + 1))

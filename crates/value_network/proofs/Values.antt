@@ -1,11 +1,11 @@
 -- The values of a network unfold, nothing else does, and enough rounds give them.
-use Rattle.std.proofs.Common.{◌≡◌, ℕ, zero, suc, ◌+◌, ◌<◌, ◌≤◌, ◌⊎◌, Bool, true, false, not, List, [], ◌∷◌, length, sym, refl, ap, ◌∙◌, subst, inl, inr, ⊎_elim, arith}
+use Rattle.std.proofs.Common.{◌≡◌, ℕ, zero, suc, ◌<◌, ◌≤◌, ◌⊎◌, Bool, true, false, not, List, [], ◌∷◌, length, sym, refl, ap, ◌∙◌, subst, inl, inr, ⊎_elim, arith}
 use Rattle.std.specs.Prelude.{⊤}
 use Rattle.std.proofs.lemmas.Bool.{cases_Bool, cases_lt, false≢true, or_left, or_cases, not-true, not_from_true, not_from_false, or_parts, cond-true, cond-false}
-use Rattle.value_network.specs.Network.{Network, IsNetwork, has, leads, round, rounds, value}
+use Rattle.value_network.specs.Network.{Network, IsNetwork, LeadsTo, at_once, after, has, round, rounds, value}
 use Rattle.value_network.specs.Laws.{CoversCycles, Unfolds, IsUnique, Settles, WorksInPlace}
 use Rattle.value_network.proofs.Counts.{passing, passing_rises, passing_all}
-use Rattle.value_network.proofs.Chains.{leads_within, leads_further, leads_at_once}
+use Rattle.value_network.proofs.FollowedNeeds.{LeadsTo-join, first_need, led_inside, cycles_return}
 
 module _ {K V : Type 0} (net : Network K V) (bad : K → Bool) where
   -- no round leaves what the nodes showed
@@ -26,16 +26,17 @@ module _ {K V : Type 0} (net : Network K V) (bad : K → Bool) where
   pub round-good : (shown : K → V) (a : K) → bad a ≡ false → round net bad shown a ≡ net.own shown a
   round-good shown a h = cond-false (bad a) net.cycle (net.own shown a) h
 
-  -- no chain of n needs leads from the node over good nodes alone: fewer than n rounds settle what it needs
+  -- among the nodes that following needs comes to, no n good ones lead to each other in a row from this one: fewer
+  -- than n rounds settle what it reads
   unfoldable pub Settled : ℕ → K → Type 0
   Settled zero a = ⊥
-  Settled (suc n) a = (bad a ≡ true) ⊎ ((b : K) → net.needs a b ≡ true → Settled n b)
+  Settled (suc n) a = (bad a ≡ true) ⊎ ((b : K) → LeadsTo net a b → Settled n b)
 
   settled_longer : (n : ℕ) (a : K) → Settled n a → Settled (suc n) a
   unfolding Settled
   settled_longer zero a s = absurd s
   settled_longer (suc n) a (inl h) = inl h
-  settled_longer (suc n) a (inr s) = inr λ b need. settled_longer n b (s b need)
+  settled_longer (suc n) a (inr s) = inr λ b led. settled_longer n b (s b led)
 
   settled_within : (m n : ℕ) (a : K) → n ≤ m → Settled n a → Settled m a
   settled_within zero n a le s = subst (λ k. Settled k a) (omega (arith, le)) s
@@ -45,8 +46,8 @@ module _ {K V : Type 0} (net : Network K V) (bad : K → Bool) where
       (cases_lt m n)
 
 module _ {K V : Type 0} (net : Network K V) (sound : IsNetwork net) (bad : K → Bool) where
-  -- a round shows the same at a node where what it needs shows the same
-  pub round_reads : (v w : K → V) (a : K) → (bad a ≡ false → (b : K) → net.needs a b ≡ true → v b ≡ w b) → round net bad v a ≡ round net bad w a
+  -- a round shows the same at a node where what following its needs comes to shows the same
+  pub round_reads : (v w : K → V) (a : K) → (bad a ≡ false → (b : K) → LeadsTo net a b → v b ≡ w b) → round net bad v a ≡ round net bad w a
   round_reads v w a alike = ⊎_elim
       (λ h. round-bad net bad v a h ∙ sym (round-bad net bad w a h))
       (λ h. round-good net bad v a h ∙ sound.reads_needs a v w (alike h) ∙ sym (round-good net bad w a h))
@@ -57,14 +58,14 @@ module _ {K V : Type 0} (net : Network K V) (sound : IsNetwork net) (bad : K →
   unfolding Settled
   unfolding_is_rounds Inside shown start closed unfolds zero a s inside = absurd s
   unfolding_is_rounds Inside shown start closed unfolds (suc n) a (inl h) inside = unfolds a inside ∙ round-bad net bad shown a h ∙ sym (round-bad net bad (rounds net bad n start) a h) ∙ sym (ap (λ f. f a) (rounds-suc net bad n start))
-  unfolding_is_rounds Inside shown start closed unfolds (suc n) a (inr s) inside = unfolds a inside ∙ round_reads shown (rounds net bad n start) a (λ _ b need. unfolding_is_rounds Inside shown start closed unfolds n b (s b need) (closed a b inside need)) ∙ sym (ap (λ f. f a) (rounds-suc net bad n start))
+  unfolding_is_rounds Inside shown start closed unfolds (suc n) a (inr s) inside = unfolds a inside ∙ round_reads shown (rounds net bad n start) a (λ _ b led. unfolding_is_rounds Inside shown start closed unfolds n b (s b led) (led_inside net Inside closed inside led)) ∙ sym (ap (λ f. f a) (rounds-suc net bad n start))
 
   -- where enough rounds have gone by, the start does not matter
   start_is_lost : (v w : K → V) (n : ℕ) (a : K) → Settled net bad n a → rounds net bad n v a ≡ rounds net bad n w a
   unfolding Settled
   start_is_lost v w zero a s = absurd s
   start_is_lost v w (suc n) a (inl h) = ap (λ f. f a) (rounds-suc net bad n v) ∙ round-bad net bad (rounds net bad n v) a h ∙ sym (round-bad net bad (rounds net bad n w) a h) ∙ sym (ap (λ f. f a) (rounds-suc net bad n w))
-  start_is_lost v w (suc n) a (inr s) = ap (λ f. f a) (rounds-suc net bad n v) ∙ round_reads (rounds net bad n v) (rounds net bad n w) a (λ _ b need. start_is_lost v w n b (s b need)) ∙ sym (ap (λ f. f a) (rounds-suc net bad n w))
+  start_is_lost v w (suc n) a (inr s) = ap (λ f. f a) (rounds-suc net bad n v) ∙ round_reads (rounds net bad n v) (rounds net bad n w) a (λ _ b led. start_is_lost v w n b (s b led)) ∙ sym (ap (λ f. f a) (rounds-suc net bad n w))
 
   -- a round before n rounds is a round after them
   round_before_is_after : (n : ℕ) (shown : K → V) → rounds net bad n (round net bad shown) ≡ round net bad (rounds net bad n shown)
@@ -84,33 +85,33 @@ module _ {K V : Type 0} (net : Network K V) (sound : IsNetwork net) (bad : K →
       (λ x same. (not_from_true (has net x (a ∷ path)) (or_left (net.same x a) (has net x path) (subst (λ y. net.same y a ≡ true) (sound.same_equal a x same) (sound.same_self a))), not_from_false (has net x path) (subst (λ y. has net y path ≡ false) (sound.same_equal a x same) new)))
       formula
 
-  -- the nodes of the path lead to what its last node needs
-  path_grows : (a b : K) (path : List K) → ((x : K) → has net x path ≡ true → leads net (length path) x (a ∷ []) ≡ true) → net.needs a b ≡ true → (x : K) → has net x (a ∷ path) ≡ true → leads net (suc (length path)) x (b ∷ []) ≡ true
-  path_grows a b path above need x h = ⊎_elim
-      (λ same. leads_at_once net (length path) x (b ∷ []) (or_left (net.needs x b) false (subst (λ y. net.needs y b ≡ true) (sym (sound.same_equal x a same)) need)))
-      (λ inside. leads_further net sound (length path) x a b (above x inside) need)
+  -- the nodes of the path lead where its last node does
+  path_grows : (a b : K) (path : List K) → ((x : K) → has net x path ≡ true → LeadsTo net x a) → LeadsTo net a b → (x : K) → has net x (a ∷ path) ≡ true → LeadsTo net x b
+  path_grows a b path above led x h = ⊎_elim
+      (λ same. subst (λ y. LeadsTo net y b) (sym (sound.same_equal x a same)) led)
+      (λ inside. LeadsTo-join net (above x inside) led)
       (or_cases (net.same x a) (has net x path) h)
 
-  -- at the end of a path of needs: a node met again is on a cycle, one without a formula needs nothing
-  settled_at_end : (n : ℕ) (a : K) (path : List K) → ((x : K) → has net x path ≡ true → leads net (length path) x (a ∷ []) ≡ true) → unvisited path + length path ≤ length net.formulas → (unvisited (a ∷ path) < unvisited path → (b : K) → net.needs a b ≡ true → Settled net bad n b) → Settled net bad (suc n) a
+  -- at the end of a path: a node met again is on a cycle, one without a formula needs nothing
+  settled_at_end : (n : ℕ) (a : K) (path : List K) → ((x : K) → has net x path ≡ true → LeadsTo net x a) → (unvisited (a ∷ path) < unvisited path → (b : K) → LeadsTo net a b → Settled net bad n b) → Settled net bad (suc n) a
   unfolding Settled
-  settled_at_end n a path above within on = ⊎_elim
-      (λ again. inl (covers a (leads_within net (length net.formulas) (length path) a (a ∷ []) (omega (arith, within)) (above a again))))
+  settled_at_end n a path above on = ⊎_elim
+      (λ again. inl (covers a ((cycles_return net sound a).1 (above a again))))
       (λ new. ⊎_elim
       (λ formula. inr (on (unvisited_falls a path new formula)))
-      (λ plain. inr λ b need. absurd (false≢true (sym plain ∙ sound.needs_formula a b need)))
+      (λ plain. inr λ b led. let need = first_need net led in absurd (false≢true (sym plain ∙ sound.needs_formula a need.0 need.1)))
       (cases_Bool (has net a net.formulas)))
       (cases_Bool (has net a path))
 
-  -- down a path of needs: where at most n formulas are not met yet, n + 1 rounds settle its last node
-  settled_below : (n : ℕ) (a : K) (path : List K) → ((x : K) → has net x path ≡ true → leads net (length path) x (a ∷ []) ≡ true) → unvisited path ≤ n → unvisited path + length path ≤ length net.formulas → Settled net bad (suc n) a
-  settled_below zero a path above few within = settled_at_end zero a path above within (λ falls. absurd (omega (arith, few, falls)))
-  settled_below (suc n) a path above few within = settled_at_end (suc n) a path above within
-      (λ falls b need. settled_below n b (a ∷ path) (path_grows a b path above need) (omega (arith, few, falls)) (omega (arith, within, falls)))
+  -- down a path: where at most n formulas are not met yet, n + 1 rounds settle its last node
+  settled_below : (n : ℕ) (a : K) (path : List K) → ((x : K) → has net x path ≡ true → LeadsTo net x a) → unvisited path ≤ n → Settled net bad (suc n) a
+  settled_below zero a path above few = settled_at_end zero a path above (λ falls. absurd (omega (arith, few, falls)))
+  settled_below (suc n) a path above few = settled_at_end (suc n) a path above
+      (λ falls b led. settled_below n b (a ∷ path) (path_grows a b path above led) (omega (arith, few, falls)))
 
   -- one round more than there are formulas settles every node
   pub settled : (a : K) → Settled net bad (suc (length net.formulas)) a
-  settled a = settled_below (length net.formulas) a [] (λ x h. absurd (false≢true h)) (omega (arith, none)) (omega (arith, none))
+  settled a = settled_below (length net.formulas) a [] (λ x h. absurd (false≢true h)) (omega (arith, none))
     where
       none : unvisited [] ≡ length net.formulas
       none = passing_all net.formulas
@@ -144,6 +145,17 @@ module _ {K V : Type 0} (net : Network K V) (sound : IsNetwork net) (bad : K →
   pub value-good : (a : K) → bad a ≡ false → value net bad a ≡ net.own (value net bad) a
   value-good a h = unfolds a ∙ round-good net bad (value net bad) a h
 
-  -- a good node whose needs already show their values works out its own
+  -- a good node works out its own value where the nodes that following its needs comes to already show theirs
   pub works_in_place : WorksInPlace net bad
   works_in_place a shown good ready = sound.reads_needs a shown (value net bad) ready ∙ sym (value-good a good)
+
+  -- so it does where all that it needs is in a set that has with each of its nodes all that this one needs, and whose
+  -- nodes already show their values
+  pub works_after : (Done : K → Type 0) (shown : K → V) → ((a b : K) → Done a → net.needs a b ≡ true → Done b) → ((a : K) → Done a → shown a ≡ value net bad a)
+      → (a : K) → bad a ≡ false → ((b : K) → net.needs a b ≡ true → Done b) → net.own shown a ≡ value net bad a
+  works_after Done shown closed ready a good needed =
+      works_in_place a shown good (λ b led. ready b (led_done led))
+    where
+      led_done : {b : K} → LeadsTo net a b → Done b
+      led_done (at_once {b = b} need) = needed b need
+      led_done (after {b = b} need rest) = led_inside net Done closed (needed b need) rest

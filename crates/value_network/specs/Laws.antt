@@ -1,11 +1,6 @@
 -- What holds of the values of a network, said of one network so that a contract can cite it. Source: this project's own.
 use Rattle.std.specs.Prelude.{◌≡◌, ◌<◌, ◌⊎◌, ◌↔◌, ℕ, Bool, true, false, List, length}
-use Rattle.value_network.specs.Network.{Network, IsNetwork, leads, cyclic, stuck, round, rounds, value}
-
--- following needs from the first node, one or more, comes to the second
-pub data LeadsTo {K V : Type 0} (net : Network K V) : K → K → Type 0 where
-  at_once : {a b : K} → net.needs a b ≡ true → LeadsTo net a b
-  after : {a b c : K} → net.needs a b ≡ true → LeadsTo net b c → LeadsTo net a c
+use Rattle.value_network.specs.Network.{Network, IsNetwork, LeadsTo, leads, cyclic, stuck, round, rounds, value}
 
 -- the nodes on a cycle are those from which following needs comes back to them
 abbrev pub CyclesReturn : {K V : Type 0} → Network K V → Type 0
@@ -14,6 +9,10 @@ CyclesReturn {K} net = (a : K) → (cyclic net a ≡ true) ↔ LeadsTo net a a
 -- the stuck nodes are those on a cycle, and those from which following needs comes to one
 abbrev pub StuckLeadsToCycle : {K V : Type 0} → Network K V → Type 0
 StuckLeadsToCycle {K} net = (a : K) → (stuck net a ≡ true) ↔ ((b : K) × (cyclic net b ≡ true) × ((a ≡ b) ⊎ LeadsTo net a b))
+
+-- the stuck nodes are those from which following needs comes to a node from which it comes back to that node
+abbrev pub StuckReturns : {K V : Type 0} → Network K V → Type 0
+StuckReturns {K} net = (a : K) → (stuck net a ≡ true) ↔ ((b : K) × LeadsTo net a b × LeadsTo net b b)
 
 -- every node on a cycle is bad
 abbrev pub CoversCycles : {K V : Type 0} → Network K V → (K → Bool) → Type 0
@@ -39,9 +38,9 @@ IsUnique {K} {V} net bad = (inside : K → Bool) (shown : K → V) → IsClosed 
 abbrev pub Settles : {K V : Type 0} → Network K V → (K → Bool) → Type 0
 Settles {K} {V} net bad = (n : ℕ) (shown : K → V) (a : K) → length net.formulas < n → rounds net bad n shown a ≡ value net bad a
 
--- a good node whose needs already show their values works out its own
+-- a good node works out its own value where the nodes that following its needs comes to already show theirs
 abbrev pub WorksInPlace : {K V : Type 0} → Network K V → (K → Bool) → Type 0
-WorksInPlace {K} {V} net bad = (a : K) (shown : K → V) → bad a ≡ false → ((b : K) → net.needs a b ≡ true → shown b ≡ value net bad b) → net.own shown a ≡ value net bad a
+WorksInPlace {K} {V} net bad = (a : K) (shown : K → V) → bad a ≡ false → ((b : K) → LeadsTo net a b → shown b ≡ value net bad b) → net.own shown a ≡ value net bad a
 
 -- a chain of any number of needs can be cut to no more links than there are formulas
 abbrev pub HasShortChains : {K V : Type 0} → Network K V → Type 0
@@ -87,6 +86,6 @@ OrdersForbidCycles {K} net = (earlier : K → K → Bool) → IsTransitive earli
 abbrev pub WhateverIsBad : {K V : Type 0} → (Network K V → (K → Bool) → Type 0) → Network K V → Type 0
 WhateverIsBad {K} Law net = (bad : K → Bool) → CoversCycles net bad → Law net bad
 
--- the law holds of every network whose nodes and values are numbers
-abbrev pub AtNumbers : (Network ℕ ℕ → Type 0) → Type 0
-AtNumbers Law = (net : Network ℕ ℕ) → IsNetwork net → Law net
+-- the law holds of every network of these nodes and values
+abbrev pub OfEach : (K V : Type 0) → (Network K V → Type 0) → Type 0
+OfEach K V Law = (net : Network K V) → IsNetwork net → Law net

@@ -19,6 +19,11 @@ pub record Network (K V : Type 0) : Type 0 where
 abbrev pub has : {K V : Type 0} → Network K V → K → List K → Bool
 has net a nodes = list_any (net.same a) nodes
 
+-- following needs from the first node, one or more, comes to the second
+pub data LeadsTo {K V : Type 0} (net : Network K V) : K → K → Type 0 where
+  at_once : {a b : K} → net.needs a b ≡ true → LeadsTo net a b
+  after : {a b c : K} → net.needs a b ≡ true → LeadsTo net b c → LeadsTo net a c
+
 -- a chain of 1 to n needs leads from the node to one of the list
 unfoldable pub leads : {K V : Type 0} → Network K V → ℕ → K → List K → Bool
 leads net zero a ends = false
@@ -59,5 +64,5 @@ pub record IsNetwork {K V : Type 0} (net : Network K V) : Type 0 where
   pub same_self : (a : K) → net.same a a ≡ true
   -- only a node with a formula needs others
   pub needs_formula : (a b : K) → net.needs a b ≡ true → has net a net.formulas ≡ true
-  -- what a node works out rests on the values of the nodes that it needs, and on no other
-  pub reads_needs : (a : K) (v w : K → V) → ((b : K) → net.needs a b ≡ true → v b ≡ w b) → net.own v a ≡ net.own w a
+  -- what a node works out rests on the values of the nodes that following its needs comes to, and on no other
+  pub reads_needs : (a : K) (v w : K → V) → ((b : K) → LeadsTo net a b → v b ≡ w b) → net.own v a ≡ net.own w a

@@ -1,8 +1,9 @@
-use Rattle.std.proofs.Common.{◌≡◌, rules, Some, None}
+use Rattle.std.proofs.Common.{◌≡◌, ◌∙◌, ap, rules, Some, None}
 use Rattle.cell_addr.specs.Sheets.{id_in}
-use Rattle.formula_tree.specs.Grammar.{sheet_of}
+use Rattle.formula_tree.specs.Reference.{sheet_of}
+use Rattle.formula_tree.specs.Relative.{relative}
+use Rattle.formula_tree.specs.StandsFor.{at_home}
 use Rattle.formula_tree.specs.Reader.{tree_of_text}
-use Rattle.formula_tree.specs.Seen.{seen}
 use Rattle.formula_tree.proofs.Exact.{text_reader-exact}
 use Rattle.formula_parse.proofs.ReadTexts.{unread-deep}
 use Rattle.formula_parse.proofs.formula.parse.Goals as goal
@@ -16,7 +17,7 @@ returns-in_default-clause-unspelt g c = λ _ t spelt.
 pub returns-clause-spelt : goal.returns-clause-spelt
 returns-clause-spelt g c =
     let find = id_in (g.S.SheetNames.sheets c.args.sheets.now) in
-    let t = seen c.in-Some.plain in
+    let t = at_home c.args.home (relative c.in-Some.tree.value) in
     let read : tree_of_text (sheet_of c.args.home) find c.args.text.now ≡ Some t = search rules in
     let spelt = (text_reader-exact (sheet_of c.args.home) find c.args.text.now t).0 read in
-    (t, c.in_ok-tree.ensures, spelt.0, spelt.1)
+    (t, ap (at_home c.args.home) c.in_ok-shared.ensures, spelt.0, spelt.1)

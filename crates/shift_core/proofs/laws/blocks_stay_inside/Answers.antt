@@ -1,5 +1,6 @@
-use Rattle.shift_core.proofs.BlockLaws.{block_after_inside, block_before_inside}
+use Rattle.shift_core.specs.Form.{form_of}
+use Rattle.shift_core.proofs.BlockLaws.{block_moved_inside, block_returned_inside}
 use Rattle.shift_core.proofs.laws.blocks_stay_inside.Goals as goal
 
 pub returns : goal.returns
-returns c s b after sound i = (block_after_inside s b after sound i, block_before_inside s b after sound i)
+returns c = λ s b after sound i. (block_moved_inside (form_of s) b after sound i, block_returned_inside (form_of s) b after sound i)

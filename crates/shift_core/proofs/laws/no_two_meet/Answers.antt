@@ -1,5 +1,6 @@
-use Rattle.shift_core.proofs.PlaceLaws.{place_after_apart}
+use Rattle.shift_core.specs.Form.{form_of}
+use Rattle.shift_core.proofs.PlaceLaws.{place_moved_apart}
 use Rattle.shift_core.proofs.laws.no_two_meet.Goals as goal
 
 pub returns : goal.returns
-returns c = place_after_apart
+returns c = λ s. place_moved_apart (form_of s)

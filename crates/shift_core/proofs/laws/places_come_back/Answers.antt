@@ -1,5 +1,6 @@
-use Rattle.shift_core.proofs.PlaceLaws.{place_after_returns}
+use Rattle.shift_core.specs.Form.{form_of}
+use Rattle.shift_core.proofs.PlaceLaws.{place_moved_returns}
 use Rattle.shift_core.proofs.laws.places_come_back.Goals as goal
 
 pub returns : goal.returns
-returns c = place_after_returns
+returns c = λ s. place_moved_returns (form_of s)

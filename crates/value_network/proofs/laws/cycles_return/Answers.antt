@@ -2,4 +2,4 @@ use Rattle.value_network.proofs.FollowedNeeds.{cycles_return}
 use Rattle.value_network.proofs.laws.cycles_return.Goals as goal
 
 pub returns : goal.returns
-returns c = λ net sound. cycles_return net sound
+returns g c = λ net sound. cycles_return net sound

@@ -2,4 +2,4 @@ use Rattle.value_network.proofs.Values.{unfolds}
 use Rattle.value_network.proofs.laws.values_unfold.Goals as goal
 
 pub returns : goal.returns
-returns c = λ net sound bad covers. unfolds net sound bad covers
+returns g c = λ net sound bad covers. unfolds net sound bad covers

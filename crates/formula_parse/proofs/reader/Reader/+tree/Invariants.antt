@@ -1,8 +1,12 @@
 use Rattle.std.proofs.Common.{◌≡◌, [], length, map, ◌+◌, ◌-◌, ◌*◌}
+use denote.Text.{Utf8}
+use denote.Shadow.{shadow}
 use Rattle.cell_addr.specs.Sheets.{id_in}
-use Rattle.formula_tree.specs.Arguments as trees
-use Rattle.formula_tree.specs.Seen.{seen}
+use Rattle.formula_tree.specs.Arguments.{trees}
 use Rattle.formula_tree.specs.Reader.{arguments, climb, read}
+use Rattle.formula_tree.specs.Reference.{sheet_of}
+use Rattle.formula_parse.specs.internal.Stream.{stream}
+use Rattle.formula_parse.specs.internal.Tree.{tree_at}
 use Rattle.formula_parse.proofs.reader.Reader.+tree.Given as goal
 
 abbrev pub decreases-tree : goal.decreases-tree
@@ -26,14 +30,17 @@ decreases-paren g l = 4 * l.levels + 1
 abbrev pub decreases-signed : goal.decreases-signed
 decreases-signed g l = 4 * l.levels + 1
 
--- behind the arguments so far, those that are left are the call's
+-- after the arguments so far, those that are left are the call's
 abbrev pub invariant-arguments-arguments : goal.invariant-arguments-arguments
 invariant-arguments-arguments g l =
-    let R = read l.self.home (id_in (g.S.SheetNames.sheets l.self.sheets.now)) l.levels in
-    arguments R l.word (length l.tokens - l.counter) (map seen (trees.arguments l.list)) l.rest ≡ arguments R l.word (length l.tokens) [] l.tokens
+    let R = read (sheet_of l.self.home) (id_in (g.S.SheetNames.sheets l.self.sheets.now)) l.levels in
+    shadow (Utf8 l.next) × (arguments R l.word (length (stream l.next)) (map (λ t. tree_at l.self.home t.value) (trees l.list)) (stream l.next) ≡ arguments R l.word (length (stream l.text)) [] (stream l.text))
 
--- behind the operators so far, those that are left make the tree
+abbrev pub decreases-arguments-arguments : goal.decreases-arguments-arguments
+decreases-arguments-arguments g l = length (stream l.next)
+
+-- after the operators so far, those that are left make the tree
 abbrev pub invariant-climb-operators : goal.invariant-climb-operators
 invariant-climb-operators g l =
-    let R = read l.self.home (id_in (g.S.SheetNames.sheets l.self.sheets.now)) l.levels in
-    climb R (l.operators - l.counter) l.level (seen l.left) l.rest ≡ climb R l.operators l.level (seen l.initial.left) l.tokens
+    let R = read (sheet_of l.self.home) (id_in (g.S.SheetNames.sheets l.self.sheets.now)) l.levels in
+    shadow (Utf8 l.rest) × (climb R (l.operators - l.counter) l.level (tree_at l.self.home l.left) (stream l.rest) ≡ climb R l.operators l.level (tree_at l.self.home l.initial.left) (stream l.text))

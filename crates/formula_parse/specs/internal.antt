@@ -1,0 +1,4 @@
+-- What only the proofs of bodies need.
+pub mod Front
+pub mod Stream
+pub mod Tree

@@ -1,0 +1,6 @@
+use Rattle.formula_tree.specs.Relative.{relative}
+use Rattle.formula_tree.proofs.PooledTrees.{distinct}
+use Rattle.formula_tree.proofs.pool.Pool.len.Goals as goal
+
+pub returns-clause-distinct : goal.returns-clause-distinct
+returns-clause-distinct c = distinct (λ k. k.items) (λ t. relative t.value) c.args.self.now.trees.entries c.args.self.now.coded c.len.ensures.unique
