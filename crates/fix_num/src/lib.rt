@@ -17,7 +17,6 @@ mod rounding;
 
 pub use error::NumError;
 pub use number::{Fixed, LIMIT, ONE};
-pub use rounding::unit;
 
 #[cfg(test)]
 mod tests;

@@ -16,7 +16,7 @@ pub(crate) fn near(p: u128, q: u128) -> u128
 }
 
 /// 10^(-places) in millionths, for a number of places that makes it one millionth to 10^12.
-pub fn unit(places: i32) -> u64
+fn unit(places: i32) -> u64
     requires most { places <ℤ pos 6 }
     requires least { negsuc 12 <ℤ places }
     ensures unit { result ≡ unit places }

@@ -1,11 +1,11 @@
 // Absolute values, signs, floors and rounding to places.
-ghost use Rattle.std.specs.Prelude.{◌≡◌};
+ghost use Rattle.std.specs.Prelude.{◌≡◌, ◌<◌, ◌<ℤ◌, pos, negsuc};
 ghost use Rattle.func_args.specs.Answers.{gives};
-ghost use Rattle.fix_num.specs.Number.{floor_of};
+ghost use Rattle.fix_num.specs.Number.{floor_of, unit};
 ghost use Rattle.func_math.specs.Rounding.{absolute, cut_to, is_even, raised_to, round_to, sign_of};
 
 use cell_value::FaultKind;
-use fix_num::{Fixed, unit};
+use fix_num::Fixed;
 use func_args::calculated;
 
 /// The decimal places of a number: with as many or more it stays as it is.
@@ -82,6 +82,16 @@ pub(crate) fn cut_to(number: Fixed, places: i64) -> Result<Fixed, FaultKind>
     let unit = unit(places as i32);
     let units = u128::from(size / unit);
     calculated(Fixed::signed(number.is_negative(), units * u128::from(unit)))
+}
+
+// 10^(-places) in millionths, for a number of places that makes it one millionth to 10^12.
+fn unit(places: i32) -> u64
+    requires most { places <ℤ pos 6 }
+    requires least { negsuc 12 <ℤ places }
+    ensures unit { result ≡ unit places }
+    ensures positive { 0 < result }
+{
+    10u64.pow((6 - places) as u32)
 }
 
 /// Whether the whole number is even.
