@@ -1,5 +1,5 @@
 -- Each record that is answered takes the output one step further, and the last one completes it.
-use Rattle.std.proofs.Common.{◌≡◌, sym, ◌∙◌, ap, refl, arith, ◌≤◌, length, Ok}
+use Rattle.std.proofs.Common.{ap, refl, arith, length, Ok}
 use Rattle.sheet_cli.proofs.Outcomes.{completes-start, goes_on, stops, ends, short_script, few_records}
 use Rattle.sheet_cli.proofs.ProperBooks.{empty_proper, answered_proper}
 use Rattle.sheet_cli.proofs.program.run_script.Goals as goal
