@@ -1,7 +1,7 @@
-use crate::{ParseError, parse, read_plain};
+use crate::{ParseError, parse};
 use cell_addr::{NO_SHEET, OneSheet, Place, Text};
 use fix_num::Fixed;
-use formula_tree::{Corner, Home, Plain, PlainList, Pool, Sign, depth};
+use formula_tree::{Corner, Home, Plain, PlainList, Pool, Sign, depth, to_absolute};
 use std::alloc::{AllocError, Global};
 use std::fmt::Write;
 use std::test::Fail;
@@ -72,7 +72,7 @@ fn show(alloc: Global, shown: &mut String, tree: &Plain, levels: u32) -> Result<
     }
 }
 
-// Writes the arguments of a call, each with a blank behind it.
+// Writes the arguments of a call, each followed by a blank.
 #[cycle(show)]
 fn show_arguments(
     alloc: Global,
@@ -97,10 +97,12 @@ fn shown(alloc: Global, text: &str) -> Result<String, Fail> {
         row: 4,
         col: 4,
     });
+    let mut pool = Pool::new(alloc)?;
     let mut shown = String::new(alloc);
-    match read_plain(alloc, text, home, &sheets)? {
-        Some(tree) => show(alloc, &mut shown, &tree, 10)?,
-        None => shown.push_str("none")?,
+    match parse(alloc, &mut pool, text, home, &sheets) {
+        Ok(tree) => show(alloc, &mut shown, &to_absolute(alloc, &tree, home)?, 10)?,
+        Err(ParseError::Bad) => shown.push_str("none")?,
+        Err(ParseError::NoMemory) => return Err(Fail::from(AllocError)),
     }
     Ok(shown)
 }
@@ -236,13 +238,13 @@ fn trees_of_references(rt: HostRuntime) -> Result<(), Fail> {
     Ok(())
 }
 
-// The text with so many of one part in front of the middle, and so many of another behind it.
+// The text with so many of one part in front of the middle, and so many of another after it.
 fn nested(
     alloc: Global,
     count: u32,
     front: &str,
     middle: &str,
-    behind: &str,
+    after: &str,
 ) -> Result<String, Fail> {
     let mut text = String::from_str(alloc, "=")?;
     for _ in 0..count {
@@ -250,7 +252,7 @@ fn nested(
     }
     text.push_str(middle)?;
     for _ in 0..count {
-        text.push_str(behind)?;
+        text.push_str(after)?;
     }
     Ok(text)
 }
@@ -271,7 +273,7 @@ fn levels_of(alloc: Global, text: &str) -> Result<u32, Fail> {
 
 #[test]
 fn levels_of_nested_texts(rt: HostRuntime) -> Result<(), Fail> {
-    for (count, front, middle, behind, wanted) in [
+    for (count, front, middle, after, wanted) in [
         (63, "(", "1", ")", 64),
         (64, "(", "1", ")", 0),
         (10_000, "(", "1", ")", 0),
@@ -295,11 +297,11 @@ fn levels_of_nested_texts(rt: HostRuntime) -> Result<(), Fail> {
         (31, "-(", "1%", ")", 64),
         (500, "", "SUM(1", ",1", 0),
     ] {
-        let text = nested(rt.alloc(), count, front, middle, behind)?;
+        let text = nested(rt.alloc(), count, front, middle, after)?;
         assert_eq!(rt;
             levels_of(rt.alloc(), text.as_str())?,
             wanted,
-            "at {count} of {front}{behind}"
+            "at {count} of {front}{after}"
         );
     }
     Ok(())

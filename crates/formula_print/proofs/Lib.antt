@@ -2,3 +2,4 @@ pub mod Doubled
 pub mod Commas
 pub mod NodeRules
 pub mod Appends
+pub mod ProperPlaces

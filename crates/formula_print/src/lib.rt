@@ -12,4 +12,4 @@ mod printer;
 #[cfg(test)]
 mod tests;
 
-pub use printer::{print, print_plain};
+pub use printer::print;

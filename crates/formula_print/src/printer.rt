@@ -3,16 +3,15 @@ ghost use Rattle.std.specs.Prelude.{◌≡◌, ◌++◌, [], ◌∷◌, if◌the
 ghost use Rattle.cell_addr.specs.Place.{IsInside};
 ghost use Rattle.cell_addr.specs.Sheets.{name_in};
 ghost use Rattle.formula_tree.specs.Canonical.{front_text, printed, printed_all, formula_text};
-ghost use Rattle.formula_tree.specs.Reference.{base_of, sheet_of, corner_at, IsHomeInside};
+ghost use Rattle.formula_tree.specs.Reference.{base_of, sheet_of, corner_at};
 ghost use Rattle.formula_tree.specs.Relative.{relative, relative_list};
-ghost use Rattle.formula_tree.specs.Seen.{seen};
 ghost use Rattle.formula_tree.specs.StandsFor.{ArePlacesInside, at_home};
 ghost use Rattle.formula_tree.specs.Term.{each_corner_all, EachCornerOfAll};
 ghost use Rattle.formula_print.specs.internal.Appends.{AppendsText};
 
 use crate::pieces::{push_corner, push_quoted, push_sheet, truth_text};
 use cell_addr::{SheetNames, Text};
-use formula_tree::{Home, Node, Plain, Pool, Tree, TreeList};
+use formula_tree::{Home, Node, Tree, TreeList};
 use std::alloc::{AllocError, Global};
 
 /// The canonical text of the tree of a formula at the home, where the list of sheets gives their names.
@@ -36,23 +35,6 @@ pub fn print<S: SheetNames>(
     let mut out = String::from_str(alloc, "=")?;
     printer.push_tree(&mut out, tree)?;
     Ok(Text::new(out))
-}
-
-/// The canonical text of a plain tree, as [`print`] writes it.
-pub fn print_plain<S: SheetNames>(
-    alloc: Global,
-    tree: &Plain,
-    home: Home,
-    sheets: &S,
-) -> Result<Text, AllocError>
-    requires places { ArePlacesInside (seen tree.now) }
-    requires home { IsHomeInside home }
-    ensures { IfOk result (λ text. text ≡ formula_text (sheet_of home) (name_in (S.sheets sheets.now)) (seen tree.now)) }
-{
-    let mut pool = Pool::new(alloc)?;
-    let tree = pool.intern(tree, home)?;
-    let text = print(alloc, &tree, home, sheets)?;
-    Ok(text)
 }
 
 // What trees are printed with: where pieces get memory, the home of the formula, and the names of sheets.

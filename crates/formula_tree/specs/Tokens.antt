@@ -16,7 +16,7 @@ use Rattle.formula_tree.specs.Run.{is_blank, begins_run, is_run_byte, begins_wit
 abbrev pub Front : Type 0
 Front = Option (Token × List ℕ)
 
--- how many bytes the digits, the point after them and the digits after that are
+-- how many bytes the point and the digits after it are, and all of a number
 abbrev pub decimals_length : List ℕ → ℕ
 decimals_length cs = if begins_with 46 cs then 1 + prefix_len is_digit (drop 1 cs) else 0
 
