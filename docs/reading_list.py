@@ -16,7 +16,6 @@ from pathlib import Path
 ROOT = Path(__file__).resolve().parent.parent
 START = ROOT / "crates/sheet_cli/src/program.rt"
 USE = re.compile(r"^\s*(?:pub )?(?:ghost )?use Rattle\.(\w+)\.specs\.([\w.]+?)(?:\.\{([^}]*)\})?(?: as (\w+))?;?\s*(?:--.*)?$")
-HEAD = re.compile(r"^(\s*)(?:abbrev )?(?:unfoldable )?(?:pub )?(?:data|record)?\s*([\w◌≡<+×⊎¬-]+)\s*(?:\{|\(|:|$)")
 WORD = re.compile(r"[\w-]+(?:\.[\w-]+)*")
 
 
