@@ -55,7 +55,7 @@ reference sheet (a, rest) = colon_then sheet a rest (after tok.Colon rest)
 -- a sign's operand
 abbrev pub signed : (ℕ → List Token → Read) → Option Sign → List Token → Read
 signed R None rest = None
-signed R (Some s) rest = and_then (R sign_level rest) (λ t after. Some (prefix s t, after))
+signed R (Some s) rest = and_then (R sign_level rest) (λ t after_t. Some (prefix s t, after_t))
 
 -- a closing parenthesis after a tree
 abbrev pub closed : Term Corner → List Token → Read
@@ -106,7 +106,7 @@ first home find R (token ∷ rest) = first_at home find R token rest
 abbrev pub climb_at : (ℕ → List Token → Read) → (Term Corner → List Token → Read) → ℕ → Term Corner → Token → List Token → Read
 climb_at R next k left (tok.Operator o) rest = if nat_lt (level_of o) k
     then Some (left, tok.Operator o ∷ rest)
-    else and_then (R (suc (level_of o)) rest) (λ right after. next (binary o left right) after)
+    else and_then (R (suc (level_of o)) rest) (λ right after_right. next (binary o left right) after_right)
 climb_at R next k left tok.Percent rest = if nat_lt percent_level k then Some (left, tok.Percent ∷ rest) else next (percent left) rest
 climb_at R next k left token rest = Some (left, token ∷ rest)
 

@@ -38,7 +38,7 @@ begins_with_any p (c ∷ cs) = p c
 abbrev pub after_while : (ℕ → Bool) → List ℕ → List ℕ
 after_while p cs = drop (prefix_len p cs) cs
 
--- the form of names and of functions' words: a letter or `_`, and after it letters, digits, `_` and `.`
+-- the form of names and of functions' words: a letter or `_`, followed by letters, digits, `_` and `.`
 abbrev pub is_word : List ℕ → Bool
 is_word [] = false
 is_word (c ∷ cs) = (is_ascii_alphabetic c || c == 95) && list_all (λ d. is_ascii_alphanumeric d || (d == 95 || d == 46)) cs

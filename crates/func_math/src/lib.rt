@@ -10,16 +10,13 @@ mod count;
 mod criterion;
 mod division;
 mod function;
-mod math;
 mod product;
 mod rounding;
 mod sum;
 mod sum_if;
+mod value;
 
 pub use criterion::{Comparison, Criterion};
 pub use function::MathFn;
-pub use math::math;
 pub use sum::summarized;
-
-#[cfg(test)]
-mod tests;
+pub use value::math;

@@ -66,7 +66,7 @@ impl Session {
         if !at.inside() {
             return refused(self.alloc, Refusal::Outside);
         }
-        match command {
+        match &command {
             Command::Set(_, text) => self.set(at, text.as_str()),
             Command::Value(_) => self.shown_value(at, steps),
             Command::Formula(_) => self.shown_formula(at),

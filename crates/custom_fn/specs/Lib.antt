@@ -1,0 +1,6 @@
+pub mod Pairs
+pub mod Answer
+pub mod Rule
+pub mod Word
+pub mod Custom
+pub mod Registry
