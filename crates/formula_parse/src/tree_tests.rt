@@ -79,7 +79,11 @@ const CALLS: [(&str, &str); 21] = [
 ];
 
 // Texts of references, and their trees.
-const REFERENCES: [(&str, &str); 40] = [
+const REFERENCES: [(&str, &str); 44] = [
+    ("=ZZZ40000:$A1", "1!R0$C0:R39999C18277"),
+    ("=A40001", "A40001"),
+    ("=AAAA1", "AAAA1"),
+    ("=ZZZ$40000", "1!$R39999C18277"),
     ("=TRUE!A1", "#REF!"),
     ("=A1:Two!B2", "none"),
     ("=''!A1", "#REF!"),
@@ -306,6 +310,30 @@ fn levels_of_nested_texts(rt: HostRuntime) -> Result<(), Fail> {
             wanted,
             "at {count} of {front}{after}"
         );
+    }
+    Ok(())
+}
+
+// Formulas that are equal as seen from their homes are one tree, and `$` makes another.
+#[test]
+fn equal_formulas_are_one_tree(rt: HostRuntime) -> Result<(), Fail> {
+    let alloc = rt.alloc();
+    let sheets = OneSheet {
+        name: Text::from_str(alloc, "Two")?,
+    };
+    let mut pool = Pool::new(alloc)?;
+    for row in 0..100 {
+        let home = Home::Cell(Place {
+            sheet: 0,
+            row,
+            col: 2,
+        });
+        let text = format!(in alloc; "=A{}*Two!$B$1", row + 1)?;
+        match parse(alloc, &mut pool, &text, home, &sheets) {
+            Ok(tree) => assert!(rt; depth(&tree) == 2),
+            Err(_) => return Err(Fail::from(AllocError)),
+        }
+        assert!(rt; pool.len() == 1);
     }
     Ok(())
 }
