@@ -12,7 +12,7 @@ use Rattle.cell_value.specs.Scalar.{is_empty}
 use Rattle.cell_value.proofs.Spread.{IsNext, next, length-spread}
 use Rattle.cell_value.specs.Cells.{Cells, value_at}
 use Rattle.func_look.specs.declared.taken.Line.{Line}
-use Rattle.func_look.specs.Lookups.{values_from, first_column, first_row}
+use Rattle.func_look.specs.Lookups.{values_from}
 use Rattle.func_look.specs.internal.Search.{line_values}
 
 -- the value of a cell among filled ones
@@ -229,7 +229,7 @@ line_more step count cells i cell h is z l =
     ap (line_cells step count) (drop_more cells i cell h ∙ ap (λ x. x ∷ drop (i + 1) cells) (sym is))
     ∙ ap (λ b. cond b (in_line step count cell ∷ line_cells step count (drop (i + 1) cells)) (line_cells step count (drop (i + 1) cells))) on
 
--- all cells are a line, and so are the first column and the first row
+-- all cells are a line
 pub all-line : (values : List Scalar) (l : Line) → l.step ≡ 1 → l.count ≡ length values → line_values values l ≡ values
 all-line values l s n =
     let f : ℕ → Scalar = λ i. get_or values (i * l.step) Empty in
@@ -244,18 +244,3 @@ all-line values l s n =
 
     at : (i : ℕ) → i < l.count → get_or (values_from (λ i. get_or values (i * l.step) Empty) 0 l.count) i Empty ≡ get_or values i Empty
     at i h = get-values_from (λ i. get_or values (i * l.step) Empty) l.count 0 i h ∙ ap (λ k. get_or values k Empty) (one i)
-
-pub column-line : (cells : Cells) (l : Line) → l.step ≡ cells.cols → l.count ≡ cells.rows → line_values cells.values l ≡ first_column cells
-column-line cells l s n =
-    ap (λ m. values_from (λ i. get_or cells.values (i * l.step) Empty) 0 m) n
-    ∙ values_from-same (λ i. get_or cells.values (i * l.step) Empty) (λ i. value_at cells i 0) cells.rows 0
-    (λ i a b. ap (λ k. get_or cells.values (i * k) Empty) s ∙ ap (λ k. get_or cells.values k Empty) (sym (add-zero (i * cells.cols))))
-
-pub row-line : (cells : Cells) (l : Line) → l.step ≡ 1 → l.count ≡ cells.cols → line_values cells.values l ≡ first_row cells
-row-line cells l s n =
-    ap (λ m. values_from (λ i. get_or cells.values (i * l.step) Empty) 0 m) n
-    ∙ values_from-same (λ i. get_or cells.values (i * l.step) Empty) (λ i. value_at cells 0 i) cells.cols 0
-    (λ i a b. ap (λ k. get_or cells.values (i * k) Empty) s ∙ ap (λ k. get_or cells.values k Empty) (same i cells.cols))
-  where
-    same : (i n : ℕ) → i * 1 ≡ 0 * n + i
-    same i n = omega arith
