@@ -1,6 +1,6 @@
 -- The book that the entries of a workbook stand for: look-ups, and changes at one place. Serves the workbook, and
 -- what works its values out.
-use Rattle.std.proofs.Common.{◌≡◌, ◌∙◌, sym, ap, subst, Bool, true, false, cond, refl, List, [], ◌∷◌, map, Option, Some, None, option_map, Bor}
+use Rattle.std.proofs.Common.{◌≡◌, ◌∙◌, sym, ap, Bool, true, false, cond, refl, List, [], ◌∷◌, map, Option, Some, None, option_map, Bor}
 use Rattle.std.specs.Option.{option_copied}
 use Rattle.std.specs.declared.cmp.Ordering.{Ordering}
 use Rattle.std.specs.declared.cmp.Ordering.TheVariants.{Less, Equal, Greater}

@@ -1,15 +1,15 @@
 -- What the release of a node leaves: each node done, or waiting for one that isn't released yet. Serves the order of
 -- nodes.
-use Rattle.std.proofs.Common.{◌≡◌, ◌∙◌, sym, ap, refl, arith, ℕ, zero, suc, ◌+◌, ◌<◌, ◌≤◌, ◌⊎◌, inl, inr, ⊎_elim, Bool, true, false, cond, ◌||◌, List, [], ◌∷◌, ◌++◌, length, get_or, take, drop, nat_eq, nat_lt, nat_le, subst}
+use Rattle.std.proofs.Common.{◌≡◌, ◌∙◌, sym, ap, refl, arith, ℕ, ◌+◌, ◌<◌, ◌≤◌, ◌⊎◌, inl, inr, ⊎_elim, Bool, true, false, cond, ◌||◌, List, [], ◌∷◌, ◌++◌, length, get_or, take, drop, nat_eq, nat_le, subst}
 use Rattle.std.specs.declared.alloc.Global.{Global}
 use Rattle.std.specs.declared.vec.Vec.{Vec}
-use Rattle.std.proofs.lemmas.Bool.{cases_Bool, or_cases, or_left, or_right, false≢true, false_from_ne_true}
+use Rattle.std.proofs.lemmas.Bool.{or_cases, or_left, or_right, false≢true, false_from_ne_true}
 use Rattle.std.proofs.lemmas.Bool.Decides.{nat_tests}
 use Rattle.std.proofs.lemmas.List.{append-nil, append_assoc, take-append-le, take-append-drop, take_all}
 use Rattle.std.proofs.lemmas.List.Folds.{list_any_more}
 use Rattle.cell_values.specs.declared.order.Progress.{Progress}
 use Rattle.cell_values.specs.internal.Order.{has, list_at, OthersNeedOthers}
-use Rattle.cell_values.specs.internal.Progress.{IsSound, Waits, IsCovered, Tries, Releases}
+use Rattle.cell_values.specs.internal.Progress.{IsSound, IsCovered, Tries, Releases}
 use Rattle.cell_values.proofs.Lists.{has-append_left, has_cases, has_first, has_at, nat_eq_equal}
 
 -- the first list has only nodes that the second has

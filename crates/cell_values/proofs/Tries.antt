@@ -1,14 +1,14 @@
 -- What the try of a node leaves: the node done behind all that it needs, or waiting for one that isn't done. Serves
 -- the order of nodes.
-use Rattle.std.proofs.Common.{◌≡◌, ◌∙◌, sym, ap, refl, arith, ℕ, zero, suc, ◌+◌, ◌<◌, ◌≤◌, ◌⊎◌, inl, inr, ⊎_elim, Bool, true, false, cond, ◌&&◌, ◌||◌, List, [], ◌∷◌, ◌++◌, length, get_or, set, nat_eq, nat_lt, nat_le, subst}
+use Rattle.std.proofs.Common.{◌≡◌, ◌∙◌, sym, ap, refl, arith, ℕ, zero, suc, ◌+◌, ◌<◌, ◌≤◌, inl, inr, ⊎_elim, Bool, true, false, cond, ◌&&◌, ◌||◌, List, [], ◌∷◌, ◌++◌, length, get_or, set, nat_eq, nat_lt, nat_le, subst}
 use Rattle.std.specs.declared.alloc.Global.{Global}
 use Rattle.std.specs.declared.vec.Vec.{Vec}
-use Rattle.std.proofs.lemmas.Bool.{cases_lt, cases_Bool, or_cases, or_left, or_right, false≢true, false_from_ne_true}
+use Rattle.std.proofs.lemmas.Bool.{cases_lt, or_cases, or_left, or_right, false≢true}
 use Rattle.std.proofs.lemmas.Bool.Decides.{nat_tests}
-use Rattle.std.proofs.lemmas.List.{append-nil, append_assoc, length-append, length-set}
+use Rattle.std.proofs.lemmas.List.{append-nil, length-append, length-set}
 use Rattle.cell_values.specs.declared.order.Progress.{Progress}
-use Rattle.cell_values.specs.internal.Order.{has, list_at, ComesBehindNeeds, AreNodes}
-use Rattle.cell_values.specs.internal.Progress.{FirstOpen, IsSound, Waits, IsCovered, Tries, left}
+use Rattle.cell_values.specs.internal.Order.{has, list_at, ComesBehindNeeds}
+use Rattle.cell_values.specs.internal.Progress.{FirstOpen, IsSound, Tries, left}
 use Rattle.cell_values.proofs.Lists.{has-append, has-append_left, has-append_right, has_first, has_cases, has_at, at_has, nat_eq_equal, nat_eq_self, get_or-set, left-set, behind-append}
 
 -- the list that a look-up finds

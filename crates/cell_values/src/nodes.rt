@@ -96,7 +96,13 @@ impl Nodes {
                 self.add_tree(left, home, needs, steps)?;
                 self.add_tree(right, home, needs, steps)?;
             }
-            Node::Call(word, list) => self.add_list(list, home, is_place_word(word.as_str()), needs, steps)?,
+            Node::Call(word, list) => self.add_list(
+                list,
+                home,
+                is_place_word(word.as_str()),
+                needs,
+                steps,
+            )?,
             Node::Number(_) | Node::Text(_) | Node::Truth(_) | Node::Fault(_) | Node::Name(_) => {}
         }
         Ok(())

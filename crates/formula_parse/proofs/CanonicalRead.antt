@@ -14,7 +14,7 @@ canonical-is-read home find names t proper listed depth =
     (text_reader-exact home find (formula_text home names t) t).1 (canonical-spells home find names t proper listed, depth)
 
 -- in a list without a name twice, each sheet that is found has a name by which it is found
-named-apart : (sheets : List (ℕ × List ℕ)) → AreApart sheets → AreNamed (name_in sheets) (id_in sheets)
+pub named-apart : (sheets : List (ℕ × List ℕ)) → AreApart sheets → AreNamed (name_in sheets) (id_in sheets)
 named-apart sheets apart v sheet found =
     let (w, (listed, same)) = listed-id_in sheets v sheet found in
     (w, name_in-listed sheets (sheet, w) apart listed, id_in-listed sheets (sheet, w) w apart listed refl)

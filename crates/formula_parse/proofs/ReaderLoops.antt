@@ -7,8 +7,8 @@ use Rattle.formula_tree.specs.Token.{Token, same_mark}
 use Rattle.formula_tree.specs.Token as tok
 use Rattle.formula_tree.specs.Term.{Term, binary, call, terms_of}
 use Rattle.formula_tree.specs.declared.operator.Op.{Op}
-use Rattle.formula_tree.specs.Level.{level_of, sign_level}
-use Rattle.formula_tree.specs.Reader.{Read, and_then, after, argument_then, arguments_step, climb, arguments, read}
+use Rattle.formula_tree.specs.Level.{level_of}
+use Rattle.formula_tree.specs.Reader.{Read, and_then, after, argument_then, climb, arguments, read}
 use Rattle.formula_tree.specs.Term.{each_corner_all}
 use Rattle.formula_tree.specs.Arguments.{trees}
 use Rattle.formula_tree.specs.Reference.{base_of, corner_at}
@@ -19,7 +19,7 @@ use Rattle.formula_tree.specs.declared.node.TreeList.{TreeList}
 use Rattle.formula_tree.specs.declared.reference.Home.{Home}
 use Rattle.formula_tree.proofs.ArgumentLists.{each_corner_all-terms_of}
 use Rattle.formula_tree.proofs.Complete.{shorter}
-use Rattle.formula_tree.proofs.ReaderSteps.{climb_none, climb_more, arguments_none, arguments_more}
+use Rattle.formula_tree.proofs.ReaderSteps.{climb_none, climb_more, arguments_more}
 use Rattle.formula_tree.proofs.RelativeNodes.{relative-Call, relative_list-trees}
 use Rattle.formula_tree.proofs.Sound.{spelt-read}
 use Rattle.formula_parse.specs.internal.Stream.{symbol_front}

@@ -1,10 +1,9 @@
 -- No production takes a token of another kind. Serves the reading of texts that aren't made of tokens.
-use Rattle.std.proofs.Common.{◌≡◌, ◌∙◌, sym, refl, ℕ, Bool, true, false, List, [], ◌∷◌, Option, Some, None}
+use Rattle.std.proofs.Common.{◌≡◌, ◌∙◌, sym, refl, ℕ, true, List, Option, Some, None}
 use Rattle.formula_tree.specs.declared.reference.Corner.{Corner}
-use Rattle.formula_tree.specs.declared.operator.Sign.{Sign}
 use Rattle.formula_tree.specs.Token.{Token}
 use Rattle.formula_tree.specs.Term.{Term, Terms}
-use Rattle.formula_tree.specs.Grammar.{Leaf, a_number, a_text, a_truth, a_fault, a_name, a_corner, a_range, a_sheet_corner, a_sheet_range, Spells, lower, between, behind, before, leaf, inside, alone, called, SpellsAll, last, more}
+use Rattle.formula_tree.specs.Grammar.{Leaf, a_number, a_text, a_truth, a_fault, a_name, a_corner, a_range, a_sheet_corner, a_sheet_range, Spells, lower, between, followed, before, leaf, inside, alone, called, SpellsAll, last, more}
 use Rattle.formula_tree.specs.Reader.{tree_of}
 use Rattle.formula_tree.proofs.Exact.{reader-exact}
 use Rattle.formula_parse.proofs.Streams.{has_other}
@@ -26,7 +25,7 @@ module _ (home : ℕ) (find : List ℕ → Option ℕ) where
     spelt-other : {k : ℕ} {xs : List Token} {t : Term Corner} {zs : List Token} → Spells home find k xs t zs → has_other xs ≡ has_other zs
     spelt-other (lower d) = spelt-other d
     spelt-other (between o d e) = spelt-other d ∙ spelt-other e
-    spelt-other (behind d) = spelt-other d
+    spelt-other (followed d) = spelt-other d
     spelt-other (before s d) = spelt-other d
     spelt-other (leaf l) = leaf-other l
     spelt-other (inside d) = spelt-other d

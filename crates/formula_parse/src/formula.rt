@@ -6,14 +6,13 @@ ghost use Rattle.formula_tree.specs.Term.{Term, depth_of};
 ghost use Rattle.formula_tree.specs.Reference.{sheet_of, IsHomeInside};
 ghost use Rattle.formula_tree.specs.Grammar.{SpellsText};
 ghost use Rattle.formula_tree.specs.Reader.{tree_of_text, max_levels};
-ghost use Rattle.formula_tree.specs.Seen.{seen};
 ghost use Rattle.formula_tree.specs.Relative.{relative};
 ghost use Rattle.formula_tree.specs.StandsFor.{StandsFor, at_home};
 ghost use Rattle.formula_tree.specs.declared.reference.Corner.{Corner};
 
 use crate::reader::tree_of;
 use cell_addr::{SheetNames, strip_prefix};
-use formula_tree::{Home, Plain, Pool, Tree, to_absolute};
+use formula_tree::{Home, Pool, Tree};
 use std::alloc::{AllocError, Global};
 use thiserror::Error;
 
@@ -67,24 +66,6 @@ pub fn parse<S: SheetNames>(
     };
     let shared = pool.share(tree)?;
     Ok(shared)
-}
-
-/// The plain tree that the text spells, for a formula at this home, with every reference as the place that
-/// it names. `None` exactly where no tree of at most 64 levels has this spelling.
-pub fn read_plain<S: SheetNames>(
-    alloc: Global,
-    text: &str,
-    home: Home,
-    sheets: &S,
-) -> Result<Option<Plain>, AllocError>
-    requires { IsHomeInside home }
-    ensures { IfOk result (λ found. option_map seen found ≡ tree_of_text (sheet_of home) (id_in (S.sheets sheets.now)) text.now) }
-{
-    let Some(tree) = read_tree(alloc, text, home, sheets)? else {
-        return Ok(None);
-    };
-    let plain = to_absolute(alloc, &tree, home)?;
-    Ok(Some(plain))
 }
 
 // The tree that the text spells, for a formula at this home; `None` where it spells none of at most 64

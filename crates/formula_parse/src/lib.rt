@@ -1,8 +1,8 @@
 //! Formulas' texts read into trees.
 //!
 //! [`parse`] is the tree that a text spells, and [`ParseError::Bad`] where no tree of at most 64 levels is
-//! spelt; [`read_plain`] answers it as a plain tree, which no pool shares. A text is read in one pass, by
-//! operator precedence, each token as it is wanted: no list of tokens is made.
+//! spelt. A text is read in one pass, by operator precedence, each token as it is wanted: no list of tokens
+//! is made, and references are seen from the home of the formula at once.
 //!
 //! `=-2^2` is read as `(-2)^2`, since signs bind more strongly than powers; its tree has 3 levels. The
 //! tokens of `A1+0.5` are A1, `+` and 0.5.
@@ -20,4 +20,4 @@ mod token_tests;
 #[cfg(test)]
 mod tree_tests;
 
-pub use formula::{ParseError, parse, read_plain};
+pub use formula::{ParseError, parse};

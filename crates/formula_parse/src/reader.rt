@@ -20,8 +20,8 @@ use cell_addr::{Place, SheetNames, Text, capitals, quoted_text};
 use cell_value::FaultKind;
 use fix_num::Fixed;
 use formula_tree::{
-    Address, Corner, Home, MAX_LEVELS, Node, Op, PERCENT_LEVEL, Ref, SIGN_LEVEL, Sign, Tree, TreeList,
-    depth,
+    Address, Corner, Home, MAX_LEVELS, Node, Op, PERCENT_LEVEL, Ref, SIGN_LEVEL, Sign, Tree,
+    TreeList, depth,
 };
 use std::alloc::{AllocError, Global};
 use std::rc::Rc;
@@ -185,12 +185,7 @@ impl<'a, S: SheetNames> Reader<'a, S> {
 
     // A call after its word.
     #[cycle(tree)]
-    fn call<'t>(
-        &self,
-        levels: u32,
-        word: &str,
-        text: &'t str,
-    ) -> Result<Read<'t>, AllocError>
+    fn call<'t>(&self, levels: u32, word: &str, text: &'t str) -> Result<Read<'t>, AllocError>
         ensures { IfOk result (λ found. option_map (λ p. (tree_at self.now.home p.0, stream p.1.now)) found
             ≡ call_front (read (sheet_of self.now.home) (id_in (S.sheets self.now.sheets.now)) levels) word.now (stream text.now)) }
     {
@@ -207,12 +202,7 @@ impl<'a, S: SheetNames> Reader<'a, S> {
 
     // The arguments of a call, one at least, and the closing parenthesis.
     #[cycle(tree)]
-    fn arguments<'t>(
-        &self,
-        levels: u32,
-        word: &str,
-        text: &'t str,
-    ) -> Result<Read<'t>, AllocError>
+    fn arguments<'t>(&self, levels: u32, word: &str, text: &'t str) -> Result<Read<'t>, AllocError>
         ensures { IfOk result (λ found. option_map (λ p. (tree_at self.now.home p.0, stream p.1.now)) found
             ≡ arguments (read (sheet_of self.now.home) (id_in (S.sheets self.now.sheets.now)) levels) word.now (length (stream text.now)) [] (stream text.now)) }
     {
@@ -292,11 +282,7 @@ impl<'a, S: SheetNames> Reader<'a, S> {
     }
 
     // A reference or a block after a sheet's name between apostrophes, by what follows the opening one.
-    fn on_quoted_sheet<'t>(
-        &self,
-        after_quote: &str,
-        rest: &'t str,
-    ) -> Result<Read<'t>, AllocError>
+    fn on_quoted_sheet<'t>(&self, after_quote: &str, rest: &'t str) -> Result<Read<'t>, AllocError>
         ensures { IfOk result (λ found. option_map (λ p. (tree_at self.now.home p.0, stream p.1.now)) found
             ≡ sheet_then (id_in (S.sheets self.now.sheets.now)) (content_after 39 after_quote.now) (stream rest.now)) }
     {
@@ -347,7 +333,10 @@ impl<'a, S: SheetNames> Reader<'a, S> {
     {
         match sheet {
             Some(sheet) => {
-                Node::Area(self.seen(sheet, first_of(a, b)), self.seen(sheet, last_of(a, b)))
+                Node::Area(
+                    self.seen(sheet, first_of(a, b)),
+                    self.seen(sheet, last_of(a, b)),
+                )
             }
             None => Node::Fault(FaultKind::Ref),
         }

@@ -1,7 +1,8 @@
 -- Quotes doubled, piece by piece. Serves the writing of contents between quotes.
 use Rattle.std.proofs.Common.{◌≡◌, ◌∙◌, sym, ap, append_assoc, refl, ℕ, Bool, true, false, cond, eqb, List, [], ◌∷◌, ◌++◌, Option, Some, None}
 use Rattle.cell_addr.specs.Parts.{with_byte, split_once}
-use Rattle.formula_tree.specs.Canonical.{doubled, between_quotes}
+use Rattle.cell_addr.specs.Quoted.{doubled}
+use Rattle.formula_tree.specs.Canonical.{between_quotes}
 
 -- a content without the quote stays as it is
 none-by : (b : Bool) (q c : ℕ) (cs : List ℕ) (parts : Option (List ℕ × List ℕ)) → (parts ≡ None → doubled q cs ≡ cs) → cond b (Some ([], cs)) (with_byte c parts) ≡ None
@@ -14,29 +15,29 @@ pub doubled-none : (q : ℕ) (xs : List ℕ) → split_once q xs ≡ None → do
 doubled-none q [] e = refl
 doubled-none q (c ∷ cs) e = none-by (eqb c q) q c cs (split_once q cs) (doubled-none q cs) e
 
--- a content with the quote is its first piece, two quotes, and what is behind
-some-by : (b : Bool) (q c : ℕ) (cs piece behind : List ℕ) (parts : Option (List ℕ × List ℕ))
-    → ((p b : List ℕ) → parts ≡ Some (p, b) → doubled q cs ≡ p ++ (q ∷ q ∷ doubled q b)) → cond b (Some ([], cs)) (with_byte c parts) ≡ Some (piece, behind)
-    → cond b (q ∷ q ∷ doubled q cs) (c ∷ doubled q cs) ≡ piece ++ (q ∷ q ∷ doubled q behind)
-some-by true q c cs piece behind parts h e =
-    let same : ◌≡◌ {A = List ℕ × List ℕ} ([], cs) (piece, behind) = cc in
+-- a content with the quote is its first piece, two quotes, and what follows
+some-by : (b : Bool) (q c : ℕ) (cs piece after : List ℕ) (parts : Option (List ℕ × List ℕ))
+    → ((p b : List ℕ) → parts ≡ Some (p, b) → doubled q cs ≡ p ++ (q ∷ q ∷ doubled q b)) → cond b (Some ([], cs)) (with_byte c parts) ≡ Some (piece, after)
+    → cond b (q ∷ q ∷ doubled q cs) (c ∷ doubled q cs) ≡ piece ++ (q ∷ q ∷ doubled q after)
+some-by true q c cs piece after parts h e =
+    let same : ◌≡◌ {A = List ℕ × List ℕ} ([], cs) (piece, after) = cc in
     rw (← ap (λ x. x.0) same, ← ap (λ x. x.1) same) refl
-some-by false q c cs piece behind None h e = cc
-some-by false q c cs piece behind (Some r) h e =
-    let same : ◌≡◌ {A = List ℕ × List ℕ} (c ∷ r.0, r.1) (piece, behind) = cc in
+some-by false q c cs piece after None h e = cc
+some-by false q c cs piece after (Some r) h e =
+    let same : ◌≡◌ {A = List ℕ × List ℕ} (c ∷ r.0, r.1) (piece, after) = cc in
     rw (← ap (λ x. x.0) same, ← ap (λ x. x.1) same) (ap (λ xs. c ∷ xs) (h r.0 r.1 refl))
 
-pub doubled-some : (q : ℕ) (xs piece behind : List ℕ) → split_once q xs ≡ Some (piece, behind) → doubled q xs ≡ piece ++ (q ∷ q ∷ doubled q behind)
-doubled-some q [] piece behind e = cc
-doubled-some q (c ∷ cs) piece behind e = some-by (eqb c q) q c cs piece behind (split_once q cs) (doubled-some q cs) e
+pub doubled-some : (q : ℕ) (xs piece after : List ℕ) → split_once q xs ≡ Some (piece, after) → doubled q xs ≡ piece ++ (q ∷ q ∷ doubled q after)
+doubled-some q [] piece after e = cc
+doubled-some q (c ∷ cs) piece after e = some-by (eqb c q) q c cs piece after (split_once q cs) (doubled-some q cs) e
 
 -- one piece more is written, and two quotes
-pub piece-written : (q : ℕ) (content rest piece behind start out one two three cs : List ℕ) → split_once q rest ≡ Some (piece, behind)
+pub piece-written : (q : ℕ) (content rest piece after start out one two three cs : List ℕ) → split_once q rest ≡ Some (piece, after)
     → one ≡ out ++ piece → two ≡ one ++ q ∷ [] → three ≡ two ++ q ∷ [] → out ++ (doubled q rest ++ cs) ≡ start ++ (doubled q content ++ cs)
-    → three ++ (doubled q behind ++ cs) ≡ start ++ (doubled q content ++ cs)
-piece-written q content rest piece behind start out one two three cs e a b c before =
-    let more : List ℕ = doubled q behind ++ cs in
-    let whole : doubled q rest ++ cs ≡ piece ++ (q ∷ q ∷ more) = ap (λ xs. xs ++ cs) (doubled-some q rest piece behind e) ∙ append_assoc piece (q ∷ q ∷ doubled q behind) cs in
+    → three ++ (doubled q after ++ cs) ≡ start ++ (doubled q content ++ cs)
+piece-written q content rest piece after start out one two three cs e a b c before =
+    let more : List ℕ = doubled q after ++ cs in
+    let whole : doubled q rest ++ cs ≡ piece ++ (q ∷ q ∷ more) = ap (λ xs. xs ++ cs) (doubled-some q rest piece after e) ∙ append_assoc piece (q ∷ q ∷ doubled q after) cs in
     ap (λ xs. xs ++ more) (c ∙ ap (λ xs. xs ++ q ∷ []) (b ∙ ap (λ xs. xs ++ q ∷ []) a))
     ∙ append_assoc ((out ++ piece) ++ q ∷ []) (q ∷ []) more
     ∙ append_assoc (out ++ piece) (q ∷ []) (q ∷ more)

@@ -1,3 +1,5 @@
-pub mod Clips
 pub mod Doubled
 pub mod Commas
+pub mod NodeRules
+pub mod Appends
+pub mod ProperPlaces

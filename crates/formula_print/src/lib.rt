@@ -7,11 +7,9 @@
 //! `=SUM(B2,'My Plan'!$B2)` for a home on that sheet, and as `=SUM(Two!B2,$B2)` for one on `My Plan`.
 #![tactic(auto)]
 
-mod laws;
 mod pieces;
 mod printer;
 #[cfg(test)]
 mod tests;
 
-pub use laws::proper_trees_are_clipped;
-pub use printer::{print, print_plain};
+pub use printer::print;

@@ -1,156 +1,237 @@
-use crate::{print, print_plain};
-use cell_addr::{OneSheet, Place, Text};
+ghost use Rattle.std.specs.Prelude.{◌↔◌, IsTrue, IfOk};
+ghost use Rattle.cell_addr.specs.Place.{IsInside};
+ghost use Rattle.formula_tree.specs.Reference.{base_of, corner_at};
+ghost use Rattle.formula_tree.specs.Relative.{relative};
+ghost use Rattle.formula_tree.specs.StandsFor.{ArePlacesInside, at_home};
+ghost use Rattle.formula_tree.specs.declared.reference.Home.{Home};
+
+use crate::print;
+use cell_addr::{COLS, NO_SHEET, OneSheet, Place, ROWS, Text};
 use cell_value::FaultKind;
 use fix_num::Fixed;
-use formula_tree::{Corner, Home, Op, Plain, PlainList, Pool, Sign};
+use formula_tree::{Home, Node, Op, Part, Ref, SheetPart, Sign, TreeList};
 use std::alloc::{AllocError, Global};
+use std::rc::Rc;
 use std::test::Fail;
 
-// The home's sheet is 1, and the listed one 0.
-const HOME: Home = Home::Name { sheet: 1 };
+// The listed sheet has the number 0.
+const HOME: Home = Home::Cell(Place {
+    sheet: 1,
+    row: 0,
+    col: 0,
+});
 
-/// A tree and its text.
-type Case = (Plain, &'static str);
+const LAST: Home = Home::Cell(Place {
+    sheet: 1,
+    row: 39_999,
+    col: 18_277,
+});
 
-/// A corner on a sheet, with a `$` in front of its row, of its column, or of both.
-fn corner(sheet: u32, row: u32, col: u32, row_fixed: bool, col_fixed: bool) -> Corner {
-    Corner {
-        at: Place { sheet, row, col },
-        row_fixed,
-        col_fixed,
-    }
-}
+const NAME: Home = Home::Name { sheet: NO_SHEET };
 
-fn number(text: &str) -> Plain {
-    Plain::Number(Fixed::from_text(text).unwrap_or(Fixed::ZERO))
-}
-
-fn name(alloc: Global, word: &str) -> Result<Plain, AllocError> {
-    Ok(Plain::Name(Text::from_str(alloc, word)?))
-}
-
-fn text(alloc: Global, content: &str) -> Result<Plain, AllocError> {
-    Ok(Plain::Text(Text::from_str(alloc, content)?))
-}
-
-fn prefix(alloc: Global, sign: Sign, part: Plain) -> Result<Plain, AllocError> {
-    Ok(Plain::Prefix(sign, Box::new(alloc, part)?))
-}
-
-fn binary(alloc: Global, op: Op, left: Plain, right: Plain) -> Result<Plain, AllocError> {
-    let left = Box::new(alloc, left)?;
-    let right = Box::new(alloc, right)?;
-    Ok(Plain::Binary(op, left, right))
-}
-
-fn call(alloc: Global, word: &str, list: PlainList) -> Result<Plain, AllocError> {
-    Ok(Plain::Call(Text::from_str(alloc, word)?, list))
-}
-
-fn three(
-    first: Plain,
-    second: Plain,
-    third: Plain,
-    alloc: Global,
-) -> Result<PlainList, AllocError> {
-    let mut list = PlainList::new(alloc);
-    list.push(first)?;
-    list.push(second)?;
-    list.push(third)?;
-    Ok(list)
-}
-
-/// Trees without parts.
-fn add_leaves(alloc: Global, cases: &mut Vec<Case>) -> Result<(), AllocError> {
-    cases.push((number("0.5"), "=0.5"))?;
-    cases.push((number("120"), "=120"))?;
-    cases.push((text(alloc, "say \"hi\"")?, "=\"say \"\"hi\"\"\""))?;
-    cases.push((text(alloc, "")?, "=\"\""))?;
-    cases.push((Plain::Truth(true), "=TRUE"))?;
-    cases.push((Plain::Fault(FaultKind::Div0), "=#DIV/0!"))?;
-    cases.push((name(alloc, "Rate_2")?, "=Rate_2"))?;
-    cases.push((Plain::Cell(corner(1, 1, 26, false, false)), "=AA2"))?;
-    cases.push((Plain::Cell(corner(0, 0, 0, false, true)), "='O''Neil'!$A1"))?;
-    cases.push((
-        Plain::Area(corner(1, 0, 0, true, false), corner(1, 4, 2, false, true)),
-        "=A$1:$C5",
-    ))?;
-    cases.push((
-        Plain::Area(corner(0, 0, 0, true, true), corner(0, 9, 0, false, false)),
-        "='O''Neil'!$A$1:A10",
-    ))?;
+/// Homes, references and their texts: far corners, the home's own sheet by its number, a home on no sheet.
+const CELLS: [(Home, SheetPart, Part, Part, &str); 9] = [
+    (HOME, SheetPart::Own, Part::Rel(1), Part::Rel(26), "=AA2"),
+    (
+        HOME,
+        SheetPart::Own,
+        Part::Rel(39_999),
+        Part::Rel(18_277),
+        "=ZZZ40000",
+    ),
+    (
+        LAST,
+        SheetPart::Own,
+        Part::Rel(-39_999),
+        Part::Rel(-18_277),
+        "=A1",
+    ),
+    (
+        LAST,
+        SheetPart::Own,
+        Part::Abs(39_999),
+        Part::Rel(0),
+        "=ZZZ$40000",
+    ),
+    (
+        LAST,
+        SheetPart::Id(1),
+        Part::Rel(0),
+        Part::Abs(0),
+        "=$A40000",
+    ),
+    (
+        HOME,
+        SheetPart::Id(0),
+        Part::Rel(0),
+        Part::Abs(0),
+        "='O''Neil'!$A1",
+    ),
     // A sheet that isn't listed has no name.
-    cases.push((Plain::Cell(corner(7, 0, 0, false, false)), "=A1"))?;
-    Ok(())
+    (HOME, SheetPart::Id(7), Part::Abs(0), Part::Abs(0), "=$A$1"),
+    (NAME, SheetPart::Own, Part::Rel(3), Part::Abs(1), "=$B4"),
+    (
+        NAME,
+        SheetPart::Id(0),
+        Part::Abs(3),
+        Part::Rel(1),
+        "='O''Neil'!B$4",
+    ),
+];
+
+/// Names of sheets as they are written in front of a reference.
+const NAMES: [(&str, &str); 5] = [
+    ("Two", "=Two!A1"),
+    ("_2", "=_2!A1"),
+    ("2nd", "='2nd'!A1"),
+    ("My Plan", "='My Plan'!A1"),
+    ("'", "=''''!A1"),
+];
+
+/// Blocks, whose second corner has no sheet's name, and their texts: the sheet and the parts of both.
+const BLOCKS: [(SheetPart, [Part; 4], &str); 3] = [
+    (
+        SheetPart::Own,
+        [Part::Abs(0), Part::Rel(0), Part::Rel(4), Part::Abs(2)],
+        "=A$1:$C5",
+    ),
+    (
+        SheetPart::Id(0),
+        [Part::Abs(0), Part::Abs(0), Part::Rel(9), Part::Rel(0)],
+        "='O''Neil'!$A$1:A10",
+    ),
+    (
+        SheetPart::Id(1),
+        [
+            Part::Rel(0),
+            Part::Rel(0),
+            Part::Rel(39_999),
+            Part::Rel(18_277),
+        ],
+        "=A1:ZZZ40000",
+    ),
+];
+
+/// Whether the reference names a place within the limits of a sheet.
+fn is_inside(reference: Ref, home: Home) -> bool
+    ensures { IsTrue result ↔ IsInside (corner_at (base_of home) reference).at }
+{
+    let at = reference.at(home).at;
+    at.row < ROWS && at.col < COLS
 }
 
-/// Trees with parts.
-fn add_nodes(alloc: Global, cases: &mut Vec<Case>) -> Result<(), AllocError> {
-    let minus = prefix(alloc, Sign::Minus, number("2"))?;
-    cases.push((prefix(alloc, Sign::Plus, minus)?, "=+-2"))?;
-    let percent = Plain::Percent(Box::new(alloc, number("5"))?);
-    cases.push((Plain::Percent(Box::new(alloc, percent)?), "=5%%"))?;
-    let sum = binary(alloc, Op::Add, number("1"), name(alloc, "x")?)?;
-    let paren = Plain::Paren(Box::new(alloc, sum)?);
-    cases.push((binary(alloc, Op::Mul, paren, number("2"))?, "=(1+x)*2"))?;
-    let unequal = binary(alloc, Op::Unequal, text(alloc, "a")?, text(alloc, "b")?)?;
-    cases.push((unequal, "=\"a\"<>\"b\""))?;
-    let at_most = binary(alloc, Op::AtMost, number("1"), number("2"))?;
-    cases.push((
-        binary(alloc, Op::AtLeast, at_most, number("3"))?,
-        "=1<=2>=3",
-    ))?;
-    let empty = PlainList::new(alloc);
-    cases.push((call(alloc, "PI", empty)?, "=PI()"))?;
-    let area = Plain::Area(corner(1, 0, 0, false, false), corner(1, 1, 1, false, false));
-    let cell = Plain::Cell(corner(0, 2, 2, false, false));
-    let list = three(area, cell, Plain::Truth(false), alloc)?;
-    cases.push((call(alloc, "SUM", list)?, "=SUM(A1:B2,'O''Neil'!C3,FALSE)"))?;
-    Ok(())
+/// The list of one sheet with this name, whose number is 0.
+fn sheets(alloc: Global, name: &str) -> Result<OneSheet, AllocError> {
+    Ok(OneSheet {
+        name: Text::from_str(alloc, name)?,
+    })
 }
 
 #[test]
-fn texts_of_trees(rt: HostRuntime) -> Result<(), Fail> {
+fn texts_of_references(rt: HostRuntime) -> Result<(), Fail> {
     let alloc = rt.alloc();
-    let sheets = OneSheet {
-        name: Text::from_str(alloc, "O'Neil")?,
-    };
-    let mut pool = Pool::new(alloc)?;
-    let mut cases = Vec::new(alloc);
-    add_leaves(alloc, &mut cases)?;
-    add_nodes(alloc, &mut cases)?;
-    for (plain, text) in &cases {
-        assert!(rt;
-            print_plain(alloc, plain, HOME, &sheets)?.as_str() == *text,
-            "{text}"
-        );
-        let tree = pool.intern(plain, HOME)?;
-        assert!(rt;
-            print(alloc, &tree, HOME, &sheets)?.as_str() == *text,
-            "{text}"
-        );
+    let sheets_of_home = sheets(alloc, "O'Neil")?;
+    for (home, sheet, row, col, text) in CELLS {
+        let reference = Ref { sheet, row, col };
+        assert!(rt; is_inside(reference, home), "{text}");
+        let tree = Rc::new(alloc, Node::Cell(reference))?;
+        assert_eq!(rt; print(alloc, &tree, home, &sheets_of_home)?.as_str(), text);
     }
-    Ok(())
-}
-
-#[test]
-fn names_of_sheets(rt: HostRuntime) -> Result<(), Fail> {
-    let alloc = rt.alloc();
-    let tree = Plain::Cell(corner(0, 0, 0, false, false));
-    for (sheet, text) in [
-        ("Two", "=Two!A1"),
-        ("_2", "=_2!A1"),
-        ("2nd", "='2nd'!A1"),
-        ("My Plan", "='My Plan'!A1"),
-        ("'", "=''''!A1"),
-    ] {
-        let sheets = OneSheet {
-            name: Text::from_str(alloc, sheet)?,
+    for (sheet, [top, left, bottom, right], text) in BLOCKS {
+        let first = Ref {
+            sheet,
+            row: top,
+            col: left,
         };
-        assert!(rt;
-            print_plain(alloc, &tree, HOME, &sheets)?.as_str() == text,
-            "{text}"
-        );
+        let last = Ref {
+            sheet,
+            row: bottom,
+            col: right,
+        };
+        assert!(rt; is_inside(first, HOME) && is_inside(last, HOME), "{text}");
+        let tree = Rc::new(alloc, Node::Area(first, last))?;
+        assert_eq!(rt; print(alloc, &tree, HOME, &sheets_of_home)?.as_str(), text);
     }
+    for (name, text) in NAMES {
+        let first = Ref {
+            sheet: SheetPart::Id(0),
+            row: Part::Rel(0),
+            col: Part::Rel(0),
+        };
+        assert!(rt; is_inside(first, HOME));
+        let tree = Rc::new(alloc, Node::Cell(first))?;
+        let named = sheets(alloc, name)?;
+        assert_eq!(rt; print(alloc, &tree, HOME, &named)?.as_str(), text);
+    }
+    Ok(())
+}
+
+fn number(text: &str) -> Node
+    ensures { (home : Home) → ArePlacesInside (at_home home (relative result)) }
+{
+    Node::Number(Fixed::from_text(text).unwrap_or(Fixed::ZERO))
+}
+
+fn prefix(alloc: Global, sign: Sign, part: Node) -> Result<Node, AllocError>
+    requires { (home : Home) → ArePlacesInside (at_home home (relative part)) }
+    ensures { IfOk result (λ node. (home : Home) → ArePlacesInside (at_home home (relative node))) }
+{
+    Ok(Node::Prefix(sign, Rc::new(alloc, part)?))
+}
+
+fn binary(alloc: Global, op: Op, left: Node, right: Node) -> Result<Node, AllocError>
+    requires left { (home : Home) → ArePlacesInside (at_home home (relative left)) }
+    requires right { (home : Home) → ArePlacesInside (at_home home (relative right)) }
+    ensures { IfOk result (λ node. (home : Home) → ArePlacesInside (at_home home (relative node))) }
+{
+    Ok(Node::Binary(op, Rc::new(alloc, left)?, Rc::new(alloc, right)?))
+}
+
+/// The tree of `+"say ""hi"""`.
+fn text(alloc: Global) -> Result<Node, AllocError>
+    ensures { IfOk result (λ node. (home : Home) → ArePlacesInside (at_home home (relative node))) }
+{
+    let content = Node::Text(Text::from_str(alloc, "say \"hi\"")?);
+    prefix(alloc, Sign::Plus, content)
+}
+
+/// The tree of `(1.5+rate_2)%`.
+fn percent(alloc: Global) -> Result<Node, AllocError>
+    ensures { IfOk result (λ node. (home : Home) → ArePlacesInside (at_home home (relative node))) }
+{
+    let rate = Node::Name(Text::from_str(alloc, "rate_2")?);
+    let sum = binary(alloc, Op::Add, number("1.50"), rate)?;
+    let inside = Rc::new(alloc, Node::Paren(Rc::new(alloc, sum)?))?;
+    Ok(Node::Percent(inside))
+}
+
+/// The tree of `F(TRUE,#DIV/0!,PI())`.
+fn call(alloc: Global) -> Result<Node, AllocError>
+    ensures { IfOk result (λ node. (home : Home) → ArePlacesInside (at_home home (relative node))) }
+{
+    let pi = Node::Call(Text::from_str(alloc, "PI")?, TreeList::new(alloc)?);
+    let mut list = TreeList::new(alloc)?;
+    list.push(Rc::new(alloc, Node::Truth(true))?)?;
+    list.push(Rc::new(alloc, Node::Fault(FaultKind::Div0))?)?;
+    list.push(Rc::new(alloc, pi)?)?;
+    Ok(Node::Call(Text::from_str(alloc, "F")?, list))
+}
+
+#[test]
+fn texts_of_nodes(rt: HostRuntime) -> Result<(), Fail> {
+    let alloc = rt.alloc();
+    let product = binary(
+        alloc,
+        Op::Mul,
+        prefix(alloc, Sign::Minus, number("2"))?,
+        percent(alloc)?,
+    )?;
+    let joined = binary(alloc, Op::Join, text(alloc)?, call(alloc)?)?;
+    let tree = Rc::new(alloc, binary(alloc, Op::AtLeast, product, joined)?)?;
+    let sheets = sheets(alloc, "Two")?;
+    assert_eq!(rt;
+        print(alloc, &tree, HOME, &sheets)?.as_str(),
+        "=-2*(1.5+rate_2)%>=+\"say \"\"hi\"\"\"&F(TRUE,#DIV/0!,PI())"
+    );
     Ok(())
 }

@@ -116,7 +116,7 @@ module _ (home : ℕ) (names : ℕ → Option (List ℕ)) where
   stopped-more (term t ts) cs = stopped-comma (printed home names t (printed_more home names ts cs))
 
   mutual
-    -- the canonical text of a proper tree has its tokens, whatever stops it behind
+    -- the canonical text of a proper tree has its tokens, whatever stops it
     pub lexes-printed : (t : Term Corner) → IsProper t → (cs : List ℕ) (zs : List Token) → Stopped cs → Lexes cs zs → Lexes (printed home names t cs) (written home names t zs)
     lexes-printed (number m) p cs zs s l = lexes-number m p.0 p.1 cs zs s l
     lexes-printed (text w) p cs zs s l = lexes-text w cs zs s l

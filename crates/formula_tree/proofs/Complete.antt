@@ -12,11 +12,11 @@ use Rattle.formula_tree.specs.Token.{Token}
 use Rattle.formula_tree.specs.Token as tok
 use Rattle.formula_tree.specs.Term.{Term, number, text, truth, fault, cell, area, name, prefix, percent, binary, call, paren, Terms, no_terms, term, terms_of, depth_of, depth_of_all}
 use Rattle.formula_tree.specs.Level.{level_of, percent_level, sign_level, op_of, sign_of}
-use Rattle.formula_tree.specs.Grammar.{Leaf, a_number, a_text, a_truth, a_fault, a_name, a_corner, a_range, a_sheet_corner, a_sheet_range, Spells, lower, between, behind, before, leaf, inside, alone, called, SpellsAll, last, more, cell_on, area_on}
+use Rattle.formula_tree.specs.Grammar.{Leaf, a_number, a_text, a_truth, a_fault, a_name, a_corner, a_range, a_sheet_corner, a_sheet_range, Spells, lower, between, followed, before, leaf, inside, alone, called, SpellsAll, last, more, cell_on, area_on}
 use Rattle.formula_tree.specs.Reader.{Read, and_then, after, first, climb, arguments, read}
 use Rattle.formula_tree.proofs.ReaderSteps.{read_more, climb_more, arguments_more}
 
--- what may stand behind a tree of level k: nothing, a parenthesis, a comma, or an operator below k
+-- what may follow a tree of level k: nothing, a parenthesis, a comma, or an operator below k
 abbrev pub Stops : ℕ → List Token → Type 0
 Stops k [] = Unit {0}
 Stops k (tok.Close ∷ zs) = Unit {0}
@@ -86,7 +86,7 @@ pub sign_of-op_of : (s : Sign) → sign_of (op_of s) ≡ Some s
 sign_of-op_of sign.Plus = refl
 sign_of-op_of sign.Minus = refl
 
--- each kind of front of what stands behind a tree
+-- each kind of front of what follows a tree
 Stops-higher : (k j : ℕ) (zs : List Token) → k ≤ j → Stops k zs → Stops j zs
 Stops-higher k j [] h s = tt
 Stops-higher k j (tok.Close ∷ zs) h s = tt
@@ -137,7 +137,7 @@ module _ (home : ℕ) (find : List ℕ → Option ℕ) where
     pub shorter : {k : ℕ} {xs : List Token} {t : Term Corner} {zs : List Token} → Spells home find k xs t zs → length zs < length xs
     shorter (lower d) = shorter d
     shorter (between o d e) = omega (arith, shorter d, shorter e)
-    shorter (behind d) = omega (arith, shorter d)
+    shorter (followed d) = omega (arith, shorter d)
     shorter (before s d) = omega (arith, shorter d)
     shorter (leaf l) = leaf-shorter l
     shorter (inside d) = omega (arith, shorter d)
@@ -162,7 +162,7 @@ module _ (home : ℕ) (find : List ℕ → Option ℕ) where
   pub not_close : {k : ℕ} {xs : List Token} {t : Term Corner} {zs : List Token} → Spells home find k xs t zs → after tok.Close xs ≡ None
   not_close (lower d) = not_close d
   not_close (between o d e) = not_close d
-  not_close (behind d) = not_close d
+  not_close (followed d) = not_close d
   not_close (before s d) = refl
   not_close (leaf l) = leaf-not_close l
   not_close (inside d) = refl
@@ -274,7 +274,7 @@ module _ (home : ℕ) (find : List ℕ → Option ℕ) where
         (read-climbs i (suc (level_of o)) ys r zs
         (λ n p. complete b n (suc (level_of o)) (omega arith) p (Stops-higher (suc (level_of o)) (suc (suc (level_of o))) zs (omega arith) s))
         (omega arith) s)
-    complete (behind {t = t} {zs = zs} d) i j h g s m c e =
+    complete (followed {t = t} {zs = zs} d) i j h g s m c e =
         complete d i j h (omega arith) (omega arith) (suc m) c (omega arith) ∙ climb-percent (read home find i) t zs j m h
     complete (before v {xs = xs} {t = t} {zs = zs} d) i j h g s m c e =
         climbs-first i j (tok.Operator (op_of v) ∷ xs) (prefix v t) zs

@@ -12,7 +12,7 @@ use Rattle.formula_tree.specs.Laws.{ReaderIsExact, TextReaderIsExact, OneTree}
 use Rattle.formula_tree.proofs.Complete.{read-spelt}
 use Rattle.formula_tree.proofs.Sound.{spelt-read}
 
--- a whole tree is one behind which nothing stands, and that has no more levels than it may
+-- a whole tree is one that nothing follows, and that has no more levels than it may
 whole-at : (u t : Term Corner) → whole_then u [] ≡ Some t → (◌≡◌ {A = List Token} [] []) × (u ≡ t) × (depth_of t ≤ max_levels)
 whole-at u t e =
     elim (nat_le (depth_of u) max_levels) as (λ b. nat_le (depth_of u) max_levels ≡ b → (if b then Some u else None) ≡ Some t → (◌≡◌ {A = List Token} [] []) × (u ≡ t) × (depth_of t ≤ max_levels)) [
@@ -41,7 +41,7 @@ reader-exact home find tokens t = (
       rw (e, le-leb (depth_of t) max_levels p.1) refl,
 )
 
--- a text, by its first byte and by the tokens behind it
+-- a text, by its first byte and by the tokens after it
 read-text : (home : ℕ) (find : List ℕ → Option ℕ) (c : ℕ) (cs : List ℕ) (t : Term Corner) (b : Bool) (r : Option (List Token)) → (c == 61) ≡ b → tokens_of cs ≡ r
     → (if b then option_and_then (tree_of home find) r else None) ≡ Some t → SpellsText home find (c ∷ cs) t × (depth_of t ≤ max_levels)
 read-text home find c cs t false r e f h = cc

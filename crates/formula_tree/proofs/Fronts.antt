@@ -1,4 +1,4 @@
--- Fronts of texts: the bytes that pass a test, and what stands behind them. Serves the law that the
+-- Fronts of texts: the bytes that pass a test, and what follows them. Serves the law that the
 -- canonical text spells its tree.
 use Rattle.std.proofs.Common.{◌≡◌, ◌∙◌, ap, refl, arith, ℕ, Bool, true, false, List, [], ◌∷◌, ◌++◌, length, take, drop}
 use Rattle.std.specs.List.{list_all, prefix_len, take_while}

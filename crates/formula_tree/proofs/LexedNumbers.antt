@@ -133,7 +133,7 @@ lexes-text content cs tokens s l =
 sheet_token-ended : (content cs : List ℕ) → begins_with_any is_blank cs ≡ false → sheet_token (content, 33 ∷ cs) ≡ Some (tok.Sheet content, cs)
 sheet_token-ended content cs h = rw h refl
 
--- a sheet's name between apostrophes with `!` behind it is one token
+-- a sheet's name between apostrophes followed by `!` is one token
 pub lexes-quoted_sheet : (content cs : List ℕ) (tokens : List Token) → begins_with_any is_blank cs ≡ false → Lexes cs tokens
     → Lexes (between_quotes 39 content (33 ∷ cs)) (tok.Sheet content ∷ tokens)
 lexes-quoted_sheet content cs tokens h l =

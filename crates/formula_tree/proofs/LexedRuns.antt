@@ -44,7 +44,7 @@ run-front c w cs r h =
     ∙ ap (λ x. Some (run_token x (after_while is_run_byte ((c ∷ w) ++ cs)))) (take_while-append is_run_byte (c ∷ w) cs r.1 h)
     ∙ ap (λ y. Some (run_token (c ∷ w) y)) (after_while-append is_run_byte (c ∷ w) cs r.1 h)
 
--- a run with its token and what stands behind that
+-- a run with its token and what follows that
 pub lexes-run : (w cs : List ℕ) (token : Token) (rest : List ℕ) (tokens : List Token) → IsRun w → begins_with_any is_run_byte cs ≡ false
     → run_token w cs ≡ (token, rest) → length rest ≤ length cs → Lexes rest tokens → Lexes (w ++ cs) (token ∷ tokens)
 lexes-run [] cs token rest tokens r h e s l = absurd r

@@ -89,7 +89,7 @@ pub lexes-sign : (s : Sign) (cs : List ℕ) (tokens : List Token) → Lexes cs t
 lexes-sign sign.Plus cs tokens l = lexes-token 43 cs (tok.Operator op.Add) cs tokens refl refl (omega arith) l
 lexes-sign sign.Minus cs tokens l = lexes-token 45 cs (tok.Operator op.Sub) cs tokens refl refl (omega arith) l
 
--- the text doesn't begin with `=` or `>`, which would go on behind `<` and `>`
+-- the text doesn't begin with `=` or `>`, which would go on after `<` and `>`
 abbrev pub IsApart : List ℕ → Type 0
 IsApart cs = (begins_with 61 cs ≡ false) × (begins_with 62 cs ≡ false)
 

@@ -20,3 +20,5 @@ pub mod ProperTrees
 pub mod Examples
 pub mod Decoded
 pub mod PooledTrees
+pub mod SameLinks
+pub mod SameTexts

@@ -16,7 +16,7 @@ use Rattle.formula_tree.specs.Token.{Token}
 use Rattle.formula_tree.specs.Term.{Term, number, Terms}
 use Rattle.formula_tree.specs.Level.{level, atom_level}
 use Rattle.formula_tree.specs.Run.{is_word}
-use Rattle.formula_tree.specs.Grammar.{Leaf, a_number, a_text, a_truth, a_fault, a_name, a_corner, a_range, a_sheet_corner, a_sheet_range, Spells, lower, between, behind, before, leaf, inside, alone, called, SpellsAll, last, more, cell_on, area_on}
+use Rattle.formula_tree.specs.Grammar.{Leaf, a_number, a_text, a_truth, a_fault, a_name, a_corner, a_range, a_sheet_corner, a_sheet_range, Spells, lower, between, followed, before, leaf, inside, alone, called, SpellsAll, last, more, cell_on, area_on}
 use Rattle.formula_tree.specs.Proper.{IsProper, AreProper, IsCallWord, IsListed, SheetsAreListed, AllSheetsAreListed, AreNamed}
 use Rattle.formula_tree.specs.Laws.{SpelledIsProper, SpelledIsListed}
 use Rattle.formula_tree.proofs.FitTokens.{AreFit, are-fit}
@@ -113,7 +113,7 @@ module _ (home : ℕ) (find : List ℕ → Option ℕ) where
         let p = proper d f in
         let q = proper e p.2.1 in
         (omega arith, (p.0, q.0, p.1, q.1), q.2)
-    proper (behind d) f = let p = proper d f in (omega arith, (p.0, p.1), p.2.1)
+    proper (followed d) f = let p = proper d f in (omega arith, (p.0, p.1), p.2.1)
     proper (before s d) f = let p = proper d f.1 in (omega arith, (p.0, p.1), p.2)
     proper (leaf l) f = let p = leaf-proper l f in (omega (arith, p.0), p.1, p.2)
     proper (inside d) f = let p = proper d f.1 in (omega arith, p.1, p.2.1)
@@ -151,7 +151,7 @@ module _ (home : ℕ) (find : List ℕ → Option ℕ) where
       listed : {k : ℕ} {xs : List Token} {t : Term Corner} {zs : List Token} → Spells home find k xs t zs → SheetsAreListed home names find t
       listed (lower d) = listed d
       listed (between o d e) = (listed d, listed e)
-      listed (behind d) = listed d
+      listed (followed d) = listed d
       listed (before s d) = listed d
       listed (leaf l) = leaf-listed l
       listed (inside d) = listed d

@@ -14,7 +14,7 @@ use Rattle.formula_tree.specs.Token.{Token}
 use Rattle.formula_tree.specs.Token as tok
 use Rattle.formula_tree.specs.Term.{Term, prefix, percent, binary, call, Terms, no_terms, term, terms_of}
 use Rattle.formula_tree.specs.Level.{level_of, percent_level, sign_level, op_of, sign_of}
-use Rattle.formula_tree.specs.Grammar.{Leaf, a_number, a_text, a_truth, a_fault, a_name, a_corner, a_range, a_sheet_corner, a_sheet_range, Spells, lower, between, behind, before, leaf, inside, alone, called, SpellsAll, last, more}
+use Rattle.formula_tree.specs.Grammar.{Leaf, a_number, a_text, a_truth, a_fault, a_name, a_corner, a_range, a_sheet_corner, a_sheet_range, Spells, lower, between, followed, before, leaf, inside, alone, called, SpellsAll, last, more}
 use Rattle.formula_tree.specs.Reader.{Read, and_then, after, corner_front, number_then, reference, signed, closed, first, climb, arguments, argument_then, call_then, call_front, read}
 use Rattle.formula_tree.proofs.Complete.{trees_in, terms_of-trees_in, level_of-below}
 use borrow.Author.Tests.{ltb-true}
@@ -26,7 +26,7 @@ Halts k (tok.Operator o ∷ zs) = level_of o < k
 Halts k (tok.Percent ∷ zs) = percent_level < k
 Halts k zs = Unit {0}
 
--- behind `%`, a sign's operand or an atom each operator may follow
+-- each operator may follow `%`, a sign's operand or an atom
 Halts-high : (k : ℕ) (zs : List Token) → percent_level < k → Halts k zs
 Halts-high k [] h = tt
 Halts-high k (tok.Operator o ∷ zs) h = omega (arith, level_of-below o)
@@ -99,7 +99,7 @@ module _ (home : ℕ) (find : List ℕ → Option ℕ) where
       → Reads k xs (if b then Some (left, tok.Percent ∷ zs) else climb R n k (percent left) zs)) [
         | true ↦ λ e. (lower-to k j h d, ltb-true percent_level k e)
         | false ↦ λ e. climb-good R g n k percent_level xs (percent left) zs (ltb-false percent_level k e)
-            (behind (lower-to percent_level j (omega arith) d)) (Halts-high (suc percent_level) zs (omega arith))
+            (followed (lower-to percent_level j (omega arith) d)) (Halts-high (suc percent_level) zs (omega arith))
       ] refl
   climb-good R g (suc n) k j xs left (x ∷ zs) h d s = (lower-to k j h d, tt)
 
@@ -151,7 +151,7 @@ module _ (home : ℕ) (find : List ℕ → Option ℕ) where
   spelt-inside xs None g = tt
   spelt-inside xs (Some r) g = spelt-closed xs r.0 r.1 g.0
 
-  -- what was read as arguments behind those done: a call of those and of more
+  -- what was read as arguments after those done: a call of those and of more
   abbrev ReadsArguments : List ℕ → List (Term Corner) → List Token → Read → Type 0
   ReadsArguments w done xs None = Unit {0}
   ReadsArguments w done xs (Some r) = (ts : Terms Corner) × ((r.0 ≡ call (capitals w) (terms_of (done ++ trees_in ts))) × SpellsAll home find xs ts r.1)

@@ -12,11 +12,12 @@ use Rattle.cell_value.specs.Fault.{fault_text, faults}
 use Rattle.formula_tree.specs.declared.operator.Op.{Op}
 use Rattle.formula_tree.specs.Token.{Token}
 use Rattle.formula_tree.specs.Token as tok
+use Rattle.formula_tree.specs.Laws.{TokensFollow}
 use Rattle.formula_tree.specs.Run.{is_blank, begins_run, is_run_byte, begins_with, after_while, is_word, corner_of, lone_token, ends_sheet_name, is_sheet_run, run_token}
 use Rattle.cell_addr.specs.Quoted.{quoted}
 use Rattle.formula_tree.specs.Tokens.{Front, number_length, begins_number, text_token, sheet_token, begins_with_fault, fault_token, byte_token, pair_op, sign_token, token_at, and_tokens, tokens_step, tokens_in, tokens_of}
 
--- what stands behind a token is no longer than this
+-- what follows a token is no longer than this
 abbrev pub Short : ℕ → Front → Type 0
 Short n None = Unit {0}
 Short n (Some p) = length p.1 ≤ n
@@ -61,7 +62,7 @@ short-number c cs token h =
     let some = number_length-by c cs (is_digit c) (c == 46) refl refl h in
     omega (arith, some, length-drop (number_length (c ∷ cs)) (c ∷ cs))
 
--- what stands behind quotes
+-- what follows quotes
 abbrev ShortParts : ℕ → Option (List ℕ × List ℕ) → Type 0
 ShortParts n None = Unit {0}
 ShortParts n (Some p) = length p.1 ≤ n
@@ -155,3 +156,14 @@ tokens_of-step c cs =
     let e : length (c ∷ cs) + 1 ≡ suc (length (c ∷ cs)) = omega arith in
     ap (λ n. tokens_in n (c ∷ cs)) e
     ∙ tokens_step-agree c cs (tokens_in (length (c ∷ cs))) tokens_of (λ ds k. tokens_in-enough (length (c ∷ cs)) (length ds + 1) ds (omega arith) (omega arith))
+
+-- each token stands in front of those of what follows it
+pub tokens_follow : TokensFollow
+tokens_follow = record {
+  none = tokens_of-nil;
+  blank = λ c cs b. tokens_of-step c cs ∙ ap (λ x. cond x (tokens_of cs) (and_tokens (token_at c cs) tokens_of)) b;
+  token = λ c cs token rest b e.
+      tokens_of-step c cs ∙ ap (λ x. cond x (tokens_of cs) (and_tokens (token_at c cs) tokens_of)) b ∙ ap (λ front. and_tokens front tokens_of) e;
+  other = λ c cs b e.
+      tokens_of-step c cs ∙ ap (λ x. cond x (tokens_of cs) (and_tokens (token_at c cs) tokens_of)) b ∙ ap (λ front. and_tokens front tokens_of) e;
+}

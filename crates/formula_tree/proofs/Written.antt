@@ -11,7 +11,7 @@ use Rattle.formula_tree.specs.Token.{Token}
 use Rattle.formula_tree.specs.Token as tok
 use Rattle.formula_tree.specs.Term.{Term, number, text, truth, fault, cell, area, name, prefix, percent, binary, call, paren, Terms, no_terms, term}
 use Rattle.formula_tree.specs.Level.{level, level_of, percent_level, sign_level, atom_level, op_of}
-use Rattle.formula_tree.specs.Grammar.{Leaf, a_number, a_text, a_truth, a_fault, a_name, a_corner, a_range, a_sheet_corner, a_sheet_range, Spells, between, behind, before, leaf, inside, alone, called, SpellsAll, last, more, placed, first_of, last_of, cell_on, area_on}
+use Rattle.formula_tree.specs.Grammar.{Leaf, a_number, a_text, a_truth, a_fault, a_name, a_corner, a_range, a_sheet_corner, a_sheet_range, Spells, between, followed, before, leaf, inside, alone, called, SpellsAll, last, more, placed, first_of, last_of, cell_on, area_on}
 use Rattle.formula_tree.specs.Proper.{IsProper, AreProper, AreOrdered, IsListed, SheetsAreListed, AllSheetsAreListed}
 use Rattle.formula_tree.proofs.Sound.{lower-to}
 
@@ -134,7 +134,7 @@ module _ (home : ℕ) (find : List ℕ → Option ℕ) (names : ℕ → Option (
     spelt-written (area c d) p l zs = spelt-area c d zs (c.at.sheet == home) refl l p.2
     spelt-written (name w) p l zs = leaf a_name
     spelt-written (prefix s t) p l zs = before s (lower-to home find sign_level (level t) p.0 (spelt-written t p.1 l zs))
-    spelt-written (percent t) p l zs = behind (lower-to home find percent_level (level t) p.0 (spelt-written t p.1 l (tok.Percent ∷ zs)))
+    spelt-written (percent t) p l zs = followed (lower-to home find percent_level (level t) p.0 (spelt-written t p.1 l (tok.Percent ∷ zs)))
     spelt-written (binary o a b) p l zs =
         between o
         (lower-to home find (level_of o) (level a) p.0 (spelt-written a p.2 l.0 (tok.Operator o ∷ written home names b zs)))

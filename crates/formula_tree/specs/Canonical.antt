@@ -12,7 +12,7 @@ use Rattle.formula_tree.specs.declared.reference.Corner.{Corner}
 use Rattle.formula_tree.specs.declared.operator.Op.{Op}
 use Rattle.formula_tree.specs.declared.operator.Op.TheVariants as op
 use Rattle.formula_tree.specs.declared.operator.Sign.{Sign}
-use Rattle.formula_tree.specs.declared.operator.Sign.TheVariants as sign
+use Rattle.formula_tree.specs.Level.{op_of}
 use Rattle.formula_tree.specs.Term.{Term, number, text, truth, fault, cell, area, name, prefix, percent, binary, call, paren, Terms, no_terms, term}
 
 -- how an operator is written
@@ -30,10 +30,9 @@ op_text op.Greater = 62 ∷ []
 op_text op.AtMost = 60 ∷ 61 ∷ []
 op_text op.AtLeast = 62 ∷ 61 ∷ []
 
--- how a sign is written
+-- how a sign is written: as the operator of the same name
 abbrev pub sign_text : Sign → List ℕ
-sign_text sign.Plus = 43 ∷ []
-sign_text sign.Minus = 45 ∷ []
+sign_text s = op_text (op_of s)
 
 -- a content between quotes, in front of what follows
 abbrev pub between_quotes : ℕ → List ℕ → List ℕ → List ℕ

@@ -1,5 +1,5 @@
 -- The grammar of formulas: which tokens spell which tree, one case for each production. The second
--- list of tokens is what stands behind the spelling. Source: OpenFormula for the operators and their
+-- list of tokens is what follows the spelling. Source: OpenFormula for the operators and their
 -- leftward grouping; the spelling of the rest is this project's own.
 use Rattle.std.specs.Prelude.{◌≡◌, ℕ, ℤ, suc, Bool, if◌then◌else◌, nat_lt, List, [], ◌∷◌, Option, Some, None, Ok}
 use Rattle.cell_addr.specs.Text.{capitals}
@@ -70,8 +70,8 @@ mutual
     -- operators of one level group to the left
     between : (o : Op) {xs : List Token} {l : Term Corner} {ys : List Token} {r : Term Corner} {zs : List Token}
         → Spells home find (level_of o) xs l (tok.Operator o ∷ ys) → Spells home find (suc (level_of o)) ys r zs → Spells home find (level_of o) xs (binary o l r) zs
-    -- `%` behind an operand, as often as wanted
-    behind : {xs : List Token} {t : Term Corner} {zs : List Token}
+    -- an operand followed by `%`, as often as wanted
+    followed : {xs : List Token} {t : Term Corner} {zs : List Token}
         → Spells home find percent_level xs t (tok.Percent ∷ zs) → Spells home find percent_level xs (percent t) zs
     -- a sign in front of an operand, as often as wanted
     before : (s : Sign) {xs : List Token} {t : Term Corner} {zs : List Token}
@@ -97,7 +97,7 @@ mutual
 abbrev pub SpellsTokens : ℕ → (List ℕ → Option ℕ) → List Token → Term Corner → Type 0
 SpellsTokens home find tokens t = Spells home find 0 tokens t []
 
--- a text spells a tree: it begins with `=`, and the tokens behind that spell the tree
+-- a text spells a tree: it begins with `=`, and the tokens after that spell the tree
 abbrev pub SpellsText : ℕ → (List ℕ → Option ℕ) → List ℕ → Term Corner → Type 0
 SpellsText home find [] t = ⊥
 SpellsText home find (c ∷ cs) t = (tokens : List Token) × ((c ≡ 61) × (tokens_of cs ≡ Some tokens) × SpellsTokens home find tokens t)

@@ -1,5 +1,5 @@
 -- The names of a tree, and the places and blocks that its value depends on. Source: this project's own.
-use Rattle.std.specs.Prelude.{ℕ, Bool, true, false, ◌&&◌, ◌||◌, if◌then◌else◌, ◌==◌, List, [], ◌∷◌, ◌++◌, Option, Some, None, codes, bytes_eq}
+use Rattle.std.specs.Prelude.{◌≡◌, ℕ, Bool, true, false, ◌&&◌, ◌||◌, if◌then◌else◌, ◌==◌, List, [], ◌∷◌, ◌++◌, Option, Some, None, codes, bytes_eq}
 use Rattle.std.specs.List.{list_any}
 use Rattle.cell_addr.specs.Place.{same_place, same_block}
 use Rattle.cell_addr.specs.Sheets.{same_name}
@@ -9,7 +9,7 @@ use Rattle.formula_tree.specs.declared.link.Link.TheVariants as links
 use Rattle.formula_tree.specs.Reference.{block_of}
 use Rattle.formula_tree.specs.Term.{Term, cell, area, name, prefix, percent, binary, call, paren, Terms, no_terms, term, is_reference}
 
--- the items behind those done, without each that is the same as an earlier one
+-- the items after those done, without each that is the same as an earlier one
 abbrev pub once_after : {X : Type 0} → (X → X → Bool) → List X → List X → List X
 once_after same done [] = done
 once_after same done (x ∷ xs) = once_after same (if list_any (same x) done then done else done ++ x ∷ []) xs
@@ -17,6 +17,11 @@ once_after same done (x ∷ xs) = once_after same (if list_any (same x) done the
 -- each item once, in the order of first occurrence
 abbrev pub once : {X : Type 0} → (X → X → Bool) → List X → List X
 once same xs = once_after same [] xs
+
+-- no item is the same as one after it
+abbrev pub AreApart : {X : Type 0} → (X → X → Bool) → List X → Type 0
+AreApart same [] = Unit {0}
+AreApart same (x ∷ xs) = (list_any (λ y. same y x) xs ≡ false) × AreApart same xs
 
 abbrev mutual
   -- the names of a tree, in order

@@ -9,7 +9,7 @@ use Rattle.formula_tree.specs.Term.{Term, number, text, truth, fault, cell, area
 use Rattle.formula_tree.specs.Level.{level, level_of, percent_level, sign_level}
 use Rattle.formula_tree.specs.Run.{is_word, corner_of, truth_of}
 
--- the corners of a block lie on one sheet, the first not behind the second
+-- the corners of a block lie on one sheet, the first not after the second
 abbrev pub AreOrdered : Corner → Corner → Type 0
 AreOrdered c d = (c.at.sheet ≡ d.at.sheet) × (c.at.row ≤ d.at.row) × (c.at.col ≤ d.at.col)
 

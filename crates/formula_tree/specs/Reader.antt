@@ -16,11 +16,11 @@ use Rattle.formula_tree.specs.Level.{level_of, percent_level, sign_level, sign_o
 use Rattle.formula_tree.specs.Grammar.{cell_on, area_on}
 use Rattle.formula_tree.specs.Tokens.{tokens_of}
 
--- a tree that was read, and the tokens behind it; nothing where none was
+-- a tree that was read, and the tokens after it; nothing where none was
 abbrev pub Read : Type 0
 Read = Option (Term Corner × List Token)
 
--- what reads on behind a tree that was read
+-- what reads on after a tree that was read
 abbrev pub and_then : {X : Type 0} → Read → (Term Corner → List Token → Option X) → Option X
 and_then None next = None
 and_then (Some read) next = next read.0 read.1
@@ -30,7 +30,7 @@ abbrev pub after : Token → List Token → Option (List Token)
 after mark [] = None
 after mark (token ∷ rest) = if same_mark mark token then Some rest else None
 
--- the address in front, and the tokens behind it
+-- the address in front, and the tokens after it
 abbrev pub corner_front : List Token → Option (Address × List Token)
 corner_front (tok.Corner a ∷ rest) = Some (a, rest)
 corner_front tokens = None
@@ -55,13 +55,13 @@ reference sheet (a, rest) = colon_then sheet a rest (after tok.Colon rest)
 -- a sign's operand
 abbrev pub signed : (ℕ → List Token → Read) → Option Sign → List Token → Read
 signed R None rest = None
-signed R (Some s) rest = and_then (R sign_level rest) (λ t behind. Some (prefix s t, behind))
+signed R (Some s) rest = and_then (R sign_level rest) (λ t after_t. Some (prefix s t, after_t))
 
--- a closing parenthesis behind a tree
+-- a closing parenthesis after a tree
 abbrev pub closed : Term Corner → List Token → Read
 closed t tokens = option_map (λ rest. (paren t, rest)) (after tok.Close tokens)
 
--- what stands behind an argument: a comma and more arguments, or the closing parenthesis
+-- what follows an argument: a comma and more arguments, or the closing parenthesis
 abbrev pub argument_then : (List (Term Corner) → List Token → Read) → List ℕ → List (Term Corner) → Option (List Token) → Option (List Token) → Read
 argument_then next word done (Some rest) closing = next done rest
 argument_then next word done None (Some rest) = Some (call (capitals word) (terms_of done), rest)
@@ -71,7 +71,7 @@ abbrev pub arguments_step : (ℕ → List Token → Read) → (List (Term Corner
 arguments_step R next word done tokens =
     and_then (R 0 tokens) (λ t rest. argument_then next word (done ++ t ∷ []) (after tok.Comma rest) (after tok.Close rest))
 
--- the arguments of a call behind those done, so many at most
+-- the arguments of a call after those done, so many at most
 unfoldable pub arguments : (ℕ → List Token → Read) → List ℕ → ℕ → List (Term Corner) → List Token → Read
 arguments R word zero done tokens = None
 arguments R word (suc most) done tokens = arguments_step R (arguments R word most) word done tokens
@@ -102,11 +102,11 @@ abbrev pub first : ℕ → (List ℕ → Option ℕ) → (ℕ → List Token →
 first home find R [] = None
 first home find R (token ∷ rest) = first_at home find R token rest
 
--- operators of level k or higher behind a tree: each takes the tree as its left operand
+-- operators of level k or higher after a tree: each takes the tree as its left operand
 abbrev pub climb_at : (ℕ → List Token → Read) → (Term Corner → List Token → Read) → ℕ → Term Corner → Token → List Token → Read
 climb_at R next k left (tok.Operator o) rest = if nat_lt (level_of o) k
     then Some (left, tok.Operator o ∷ rest)
-    else and_then (R (suc (level_of o)) rest) (λ right behind. next (binary o left right) behind)
+    else and_then (R (suc (level_of o)) rest) (λ right after_right. next (binary o left right) after_right)
 climb_at R next k left tok.Percent rest = if nat_lt percent_level k then Some (left, tok.Percent ∷ rest) else next (percent left) rest
 climb_at R next k left token rest = Some (left, token ∷ rest)
 
@@ -128,7 +128,7 @@ read home find (suc levels) k tokens = and_then (first home find (read home find
 abbrev pub max_levels : ℕ
 max_levels = MAX_LEVELS
 
--- nothing stands behind the tree, and it has no more levels than it may
+-- nothing follows the tree, and it has no more levels than it may
 abbrev pub whole_then : Term Corner → List Token → Option (Term Corner)
 whole_then t [] = if nat_le (depth_of t) max_levels then Some t else None
 whole_then t (token ∷ rest) = None

@@ -34,16 +34,16 @@ abbrev pub begins_with_any : (ℕ → Bool) → List ℕ → Bool
 begins_with_any p [] = false
 begins_with_any p (c ∷ cs) = p c
 
--- what stands behind the first bytes of a text that pass the test
+-- what follows the first bytes of a text that pass the test
 abbrev pub after_while : (ℕ → Bool) → List ℕ → List ℕ
 after_while p cs = drop (prefix_len p cs) cs
 
--- the form of names and of functions' words: a letter or `_`, and behind it letters, digits, `_` and `.`
+-- the form of names and of functions' words: a letter or `_`, followed by letters, digits, `_` and `.`
 abbrev pub is_word : List ℕ → Bool
 is_word [] = false
 is_word (c ∷ cs) = (is_ascii_alphabetic c || c == 95) && list_all (λ d. is_ascii_alphanumeric d || (d == 95 || d == 46)) cs
 
--- what stands behind a `$`, or the whole text where it begins with none
+-- what follows a `$`, or the whole text where it begins with none
 abbrev pub after_dollar : List ℕ → List ℕ
 after_dollar cs = if begins_with 36 cs then drop 1 cs else cs
 
@@ -84,7 +84,7 @@ ends_sheet_name cs = begins_with 33 cs && not (begins_with_any is_blank (drop 1 
 abbrev pub is_sheet_run : List ℕ → List ℕ → Bool
 is_sheet_run run cs = is_bare_name run && ends_sheet_name cs
 
--- what a run is, and what stands behind it: before `!` a sheet's name, before `(` a function's word,
+-- what a run is, and what follows it: before `!` a sheet's name, before `(` a function's word,
 -- then an address, a truth value, a name
 abbrev pub run_token : List ℕ → List ℕ → Token × List ℕ
 run_token run cs = if is_sheet_run run cs then (tok.Sheet run, drop 1 cs)

@@ -12,11 +12,11 @@ use Rattle.formula_tree.specs.Token.{Token}
 use Rattle.formula_tree.specs.Token as tok
 use Rattle.formula_tree.specs.Run.{is_blank, begins_run, is_run_byte, begins_with, begins_with_any, after_while, ends_sheet_name, run_token}
 
--- a token, and what stands behind it; nothing where the text begins with no token
+-- a token, and what follows it; nothing where the text begins with no token
 abbrev pub Front : Type 0
 Front = Option (Token × List ℕ)
 
--- how many bytes the digits, the point behind them and the digits behind that are
+-- how many bytes the point and the digits after it are, and all of a number
 abbrev pub decimals_length : List ℕ → ℕ
 decimals_length cs = if begins_with 46 cs then 1 + prefix_len is_digit (drop 1 cs) else 0
 
@@ -81,7 +81,7 @@ token_at c cs = if begins_run c then Some (run_token (take_while is_run_byte (c 
     else if c == 35 then option_map (fault_token (c ∷ cs)) (find (begins_with_fault (c ∷ cs)) faults)
     else sign_token (pair_op c cs) c cs
 
--- the token in front, and those behind it
+-- the token in front, and those after it
 abbrev pub and_tokens : Front → (List ℕ → Option (List Token)) → Option (List Token)
 and_tokens None rest = None
 and_tokens (Some front) rest = option_map (λ tokens. front.0 ∷ tokens) (rest front.1)

@@ -1,6 +1,8 @@
 //! What holds of every formula: laws, with nothing to run.
 
-ghost use Rattle.formula_tree.specs.Laws.{ReaderIsExact, TextReaderIsExact, OneTree, CanonicalSpells, SpelledIsProper, SpelledIsListed};
+ghost use Rattle.formula_tree.specs.Laws.{ReaderIsExact, TextReaderIsExact, OneTree, CanonicalSpells, SpelledIsProper, SpelledIsListed, TokensFollow, SameTextSameTree, ComesBack, ListsOnce};
+ghost use Rattle.cell_addr.specs.Sheets.{same_name};
+ghost use Rattle.formula_tree.specs.Links.{same_link};
 
 /// Reading by operator precedence answers a tree exactly where the tokens spell it and it has at most
 /// 64 levels.
@@ -32,4 +34,26 @@ pub fn a_texts_tree_is_proper()
 /// which it is found.
 pub fn a_texts_sheets_are_listed()
     ensures { SpelledIsListed }
+{}
+
+/// The tokens of a text are each token in front of those of what follows it; blanks mean nothing.
+pub fn tokens_follow()
+    ensures { TokensFollow }
+{}
+
+/// Formulas at one home have the same text exactly where they have the same tree as seen from there,
+/// which a pool holds once.
+pub fn same_text_is_same_tree()
+    ensures { SameTextSameTree }
+{}
+
+/// A tree comes back from how it is seen from a home.
+pub fn a_tree_comes_back()
+    ensures { ComesBack }
+{}
+
+/// Names, and places and blocks, are listed once each, in the order of first occurrence.
+pub fn each_is_listed_once()
+    ensures names { ListsOnce same_name }
+    ensures links { ListsOnce same_link }
 {}

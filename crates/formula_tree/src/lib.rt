@@ -1,13 +1,19 @@
 //! Formulas: their tokens, their trees, and the grammar that says which text spells which tree.
 //!
-//! A [`Plain`] is the tree of a formula, with every reference as the place that it names. Contracts
-//! see it as a `Term`, one inductive type with the kind of references as a parameter, and never its
-//! boxes: `seen tree` is the term of a tree. A `Token` of the specs is a piece of a formula's text. The
-//! relation `Spells` says which tokens spell which term, one case for each production
-//! of the grammar, and `formula_text` is the canonical text of a term.
+//! A formula's tree is shared: a [`Tree`] is a [`Node`] behind `Rc`, whose references are as they are
+//! seen from the home of the formula, so that a column of formulas like `=B2*C2`, `=B3*C3` has one. A
+//! [`Pool`] stands for a list of distinct trees and finds each in the time that its size takes. A
+//! [`Plain`] is the same tree with every reference as the place that it names.
 //!
-//! The formula `=A1+0.5` has the tokens A1, `+` and 0.5. It spells `Plain::Binary(Op::Add, a, b)`,
-//! where `a` is the cell A1 and `b` the number 0.5; its depth is 2.
+//! Contracts see a tree as a `Term`, one inductive type with the kind of references as a parameter, and
+//! never its boxes: `relative tree` is the term of a node, and `StandsFor tree home t` says that in a
+//! formula at the home it is the term t, whose references are places. The relation `Spells` of the
+//! specs says which tokens spell which term, one case for each production of the grammar, and
+//! `formula_text` is the canonical text of a term.
+//!
+//! The formula `=A1+0.5` of the cell C1 has the tokens A1, `+` and 0.5. It spells
+//! `Node::Binary(Op::Add, a, b)`, where `a` is the cell of this row two columns to the left and `b` the
+//! number 0.5; its depth is 2.
 #![tactic(auto)]
 
 mod absolute;

@@ -35,7 +35,7 @@ pub enum SheetPart {
 /// A row or a column of a reference, as seen from the home of its formula.
 #[derive(Clone, Copy, PartialEq, Eq, Hash, Debug)]
 pub enum Part {
-    /// So many lines behind the home's own, or in front of it where the number is negative.
+    /// So many lines after the home's own, or before it where the number is negative.
     Rel(i32),
     /// The line with this number, counted from 0, wherever the home is: a part with a `$`.
     Abs(u32),

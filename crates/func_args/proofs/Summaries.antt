@@ -8,6 +8,7 @@ use Rattle.cell_value.specs.declared.area.Filled.{Filled}
 use Rattle.cell_value.specs.declared.argument.Arg.{Arg}
 use Rattle.cell_value.specs.declared.fault.FaultKind.{FaultKind}
 use Rattle.cell_value.specs.declared.scalar.Scalar.{Scalar}
+use Rattle.cell_value.specs.declared.scalar.Scalar.TheVariants.{Empty}
 use Rattle.cell_value.specs.declared.summary.Summary.{Summary}
 use Rattle.cell_value.specs.Filled.{spread}
 use Rattle.cell_value.specs.Summary.{summary_of, joined, alone, no_values, lesser, greater}
@@ -86,3 +87,13 @@ list_summary-some (a ∷ args) h = refl
 pub summary_none : summary_of [] ≡ no_values
 unfolding summary_of
 summary_none = refl
+
+-- an empty cell in front
+pub summary_skip : (xs : List Scalar) → summary_of (Empty ∷ xs) ≡ summary_of xs
+unfolding summary_of
+summary_skip xs = none_joined (summary_of xs)
+
+-- the same value in front
+pub summary_follows : (x : Scalar) (xs ys : List Scalar) → summary_of xs ≡ summary_of ys → summary_of (x ∷ xs) ≡ summary_of (x ∷ ys)
+unfolding summary_of
+summary_follows x xs ys e = ap (joined (alone x)) e

@@ -32,7 +32,7 @@ module _ {A : Type 0} (f : List Scalar → A) (skips : (xs : List Scalar) → f 
       ∙ follows cell.value (spread (cell.index + 1) size rest) (map value_of rest) (of_filled (cell.index + 1) size rest)
 
 -- how many pass, of a list by its first value
-count_by-cons : (p : Scalar → Bool) (x : Scalar) (xs : List Scalar) → count_by p (x ∷ xs) ≡ cond (p x) 1 0 + count_by p xs
+pub count_by-cons : (p : Scalar → Bool) (x : Scalar) (xs : List Scalar) → count_by p (x ∷ xs) ≡ cond (p x) 1 0 + count_by p xs
 count_by-cons p x xs = sum_by-append (λ y. cond (p y) 1 0) (x ∷ []) xs ∙ ap (λ n. n + count_by p xs) (zero-add (cond (p x) 1 0))
 
 module _ (p : Scalar → Bool) (passes : p Empty ≡ true) where

@@ -1,4 +1,5 @@
 pub mod Answers
 pub mod Arguments
+pub mod Kinds
 pub mod Lists
 pub mod Signatures

@@ -1,9 +1,19 @@
-// The answers of functions as values.
+// The answers of calculations, and of functions as values.
 ghost use Rattle.std.specs.Prelude.{◌≡◌};
-ghost use Rattle.func_args.specs.Answers.{counted, number_value, truth_value};
+ghost use Rattle.func_args.specs.Answers.{calculated, counted, number_value, truth_value};
 
 use cell_value::{FaultKind, Scalar};
-use fix_num::Fixed;
+use fix_num::{Fixed, NumError};
+
+/// The number of a calculation, or the fault that it failed by.
+pub fn calculated(answer: Result<Fixed, NumError>) -> Result<Fixed, FaultKind>
+    ensures { result ≡ calculated answer }
+{
+    match answer {
+        Ok(number) => Ok(number),
+        Err(error) => Err(error.into()),
+    }
+}
 
 /// A number as a value, or the fault in its place.
 pub fn number_value(answer: Result<Fixed, FaultKind>) -> Scalar
@@ -30,7 +40,7 @@ pub fn counted(count: u64) -> Result<Fixed, FaultKind>
     ensures { result ≡ counted count }
 {
     match i64::try_from(count) {
-        Ok(count) => Ok(Fixed::from_int(count)?),
+        Ok(count) => calculated(Fixed::from_int(count)),
         Err(_) => Err(FaultKind::Num),
     }
 }

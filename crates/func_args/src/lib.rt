@@ -11,10 +11,12 @@
 
 mod answer;
 mod argument;
+mod kind;
 mod list;
 mod signature;
 
-pub use answer::{counted, number_value, truth_value};
+pub use answer::{calculated, counted, number_value, truth_value};
 pub use argument::{block_of, number_of, truth_of, value_of, whole_of};
+pub use kind::order_in_kind;
 pub use list::{area_summary, join_summaries, list_summary};
 pub use signature::{number_and_whole, one_number, one_whole, two_numbers};

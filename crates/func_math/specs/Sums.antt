@@ -43,6 +43,3 @@ summary_answer Min summary = and_then (decided summary) least_of
 summary_answer Max summary = and_then (decided summary) greatest_of
 summary_answer Count summary = counted summary.count
 summary_answer _ summary = Err Na
-
-abbrev pub summary_value : MathFn → Result Summary FaultKind → Scalar
-summary_value f summary = number_value (and_then summary (summary_answer f))

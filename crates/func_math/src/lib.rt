@@ -10,16 +10,16 @@ mod count;
 mod criterion;
 mod division;
 mod function;
-mod math;
 mod product;
 mod rounding;
 mod sum;
 mod sum_if;
+mod value;
 
 pub use criterion::{Comparison, Criterion};
 pub use function::MathFn;
-pub use math::math;
 pub use sum::summarized;
+pub use value::math;
 
 #[cfg(test)]
 mod tests;

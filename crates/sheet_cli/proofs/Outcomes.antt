@@ -1,5 +1,5 @@
 -- A run over the records of a script, one record at a time: what the call of the program promises rests on this.
-use Rattle.std.proofs.Common.{◌≡◌, ◌∙◌, sym, ap, subst, refl, arith, ℕ, zero, suc, ◌+◌, ◌<◌, ◌≤◌, nat_lt, Bool, true, false, cond, List, [], ◌∷◌, ◌++◌, length, drop, inl, inr, Option, Some, None, Result, Ok, Err, append_assoc}
+use Rattle.std.proofs.Common.{◌≡◌, ◌∙◌, sym, ap, subst, refl, arith, ℕ, zero, suc, ◌+◌, ◌≤◌, nat_lt, Bool, true, false, cond, List, [], ◌∷◌, ◌++◌, length, drop, inl, inr, Option, Some, None, Result, Ok, Err, append_assoc}
 use Rattle.std.specs.Prelude.{⊤}
 use Rattle.std.proofs.lemmas.Bool.Decides.{nat_tests}
 use Rattle.std.proofs.lemmas.List.{append-nil}
@@ -14,7 +14,7 @@ use Rattle.sheet_cli.specs.declared.command.ScriptError.{ScriptError}
 use Rattle.sheet_cli.specs.Command.{command_of}
 use Rattle.cell_values.specs.Workbook.{Book}
 use Rattle.sheet_cli.specs.Outside.{Loses}
-use Rattle.sheet_cli.specs.Session.{next, reply}
+use Rattle.sheet_cli.specs.Session.{reply}
 use Rattle.sheet_cli.specs.internal.Answers.{AnswersRecord}
 use Rattle.sheet_cli.specs.Run.{WasRead, Outcome, outcome_of, outcome_from, followed_by, record_line, script_outcome}
 

@@ -1,5 +1,5 @@
 -- What a record of a script says. Source: this project's own.
-use Rattle.std.specs.Prelude.{◌≡◌, ◌==◌, ◌&&◌, ◌+◌, if◌then◌else◌, Bool, not, ℕ, List, [], ◌∷◌, length, Option, Some, None, Result, Ok, Err, bytes_eq, codes, is_some, option_and_then, ⊤}
+use Rattle.std.specs.Prelude.{◌≡◌, ◌==◌, ◌&&◌, ◌+◌, if◌then◌else◌, Bool, not, ℕ, List, [], length, Option, Some, None, Result, Ok, Err, bytes_eq, codes, is_some, option_and_then, ⊤}
 use Rattle.std.specs.Option.{unwrap_or}
 use Rattle.std.specs.Str.{is_utf8}
 use Rattle.csv.specs.Records.{field_at}

@@ -24,5 +24,4 @@ mod refusal;
 mod script;
 mod session;
 
-
 pub use program::run;

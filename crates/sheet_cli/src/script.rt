@@ -56,7 +56,7 @@ impl Word {
 pub fn command(alloc: Global, fields: &ByteRecord) -> Result<Command, ScriptError>
     ensures { Says result (command_of (fields_of fields.now)) }
 {
-    let Some(word) = word(fields) else {
+    let Some(word) = first_word(fields) else {
         return Err(ScriptError::UnknownCommand);
     };
     if fields.len() != word.arguments() + 1 {
@@ -84,7 +84,7 @@ fn command_with(alloc: Global, word: Word, fields: &ByteRecord) -> Result<Comman
 }
 
 // The word that the first field spells.
-fn word(fields: &ByteRecord) -> Option<Word>
+fn first_word(fields: &ByteRecord) -> Option<Word>
     ensures { result ≡ word_in (fields_of fields.now) }
 {
     Word::named(fields.get(0)?)

@@ -66,7 +66,7 @@ impl Session {
         if !at.inside() {
             return refused(self.alloc, Refusal::Outside);
         }
-        match command {
+        match &command {
             Command::Set(_, text) => self.set(at, text.as_str()),
             Command::Value(_) => self.shown_value(at, steps),
             Command::Formula(_) => self.shown_formula(at),
@@ -117,7 +117,13 @@ impl Session {
         ensures tree { IfOk result (λ tree. option_map (λ t. at_home (homes.Cell at) (relative t.value)) tree ≡ tree_given text.now) }
         ensures kept { book_of self.new.workbook ≡ book_of self.old.workbook }
     {
-        match parse(self.alloc, &mut self.pool, text, Home::Cell(at), &self.sheet) {
+        match parse(
+            self.alloc,
+            &mut self.pool,
+            text,
+            Home::Cell(at),
+            &self.sheet,
+        ) {
             Ok(tree) => Ok(Some(tree)),
             Err(ParseError::Bad) => Ok(None),
             Err(ParseError::NoMemory) => Err(AllocError),
@@ -125,11 +131,7 @@ impl Session {
     }
 
     // The reply to `value`: what the cell shows.
-    fn shown_value<L: Ledger>(
-        &self,
-        at: Place,
-        steps: &mut Steps<L>,
-    ) -> Result<Vec<u8>, AllocError>
+    fn shown_value<L: Ledger>(&self, at: Place, steps: &mut Steps<L>) -> Result<Vec<u8>, AllocError>
         ensures { IfOk result (λ line. line.items ≡ line_of (shown_text (value_at (book_of self.now.workbook) at))) }
     {
         let scalar = value(self.alloc, &self.workbook, at, steps)?;

@@ -1,6 +1,4 @@
-use Rattle.std.proofs.Common.{◌≡◌, ◌∙◌, sym, ap, rules, ◌<◌, ◌++◌, ◌∷◌, [], length, nat_eq, nat_lt, cond}
-use Rattle.cell_values.specs.internal.Order.{list_at}
-use Rattle.cell_values.proofs.Lists.{list_at-set}
+use Rattle.std.proofs.Common.{rules}
 use Rattle.cell_values.proofs.Waits.{waits_there}
 use Rattle.cell_values.proofs.order.wait.Goals as goal
 

@@ -1,4 +1,4 @@
-use Rattle.std.proofs.Common.{◌≡◌, ◌∙◌, ap, rules, Some, None}
+use Rattle.std.proofs.Common.{◌≡◌, ap, rules, Some, None}
 use Rattle.cell_addr.specs.Sheets.{id_in}
 use Rattle.formula_tree.specs.Reference.{sheet_of}
 use Rattle.formula_tree.specs.Relative.{relative}
@@ -20,4 +20,4 @@ returns-clause-spelt g c =
     let t = at_home c.args.home (relative c.in-Some.tree.value) in
     let read : tree_of_text (sheet_of c.args.home) find c.args.text.now ≡ Some t = search rules in
     let spelt = (text_reader-exact (sheet_of c.args.home) find c.args.text.now t).0 read in
-    (t, ap (at_home c.args.home) c.in_ok-shared.ensures, spelt.0, spelt.1)
+    (t, ap (at_home c.args.home) c.in_ok-shared.ensures.tree, spelt.0, spelt.1)

@@ -1,4 +1,4 @@
-use Rattle.std.proofs.Common.{◌∙◌, sym, ap, rules}
+use Rattle.std.proofs.Common.{rules}
 use Rattle.formula_parse.proofs.Symbols.{stream-symbol}
 use Rattle.formula_parse.proofs.lexer.first_symbol.Goals as goal
 

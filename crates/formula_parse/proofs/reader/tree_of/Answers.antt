@@ -1,6 +1,5 @@
-use Rattle.std.proofs.Common.{◌≡◌, ◌∙◌, ◌<◌, ◌≤◌, sym, ap, refl, arith, rules, min, [], Some}
+use Rattle.std.proofs.Common.{◌≡◌, ◌∙◌, ap, arith, rules, [], Some}
 use Rattle.cell_addr.specs.Sheets.{id_in}
-use Rattle.formula_tree.specs.Term.{depth_of}
 use Rattle.formula_tree.specs.Reference.{sheet_of}
 use Rattle.formula_tree.specs.Relative.{relative}
 use Rattle.formula_tree.specs.StandsFor.{at_home}

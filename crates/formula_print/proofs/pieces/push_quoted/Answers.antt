@@ -11,7 +11,7 @@ pieces-smaller c =
 pub pieces-preserved : goal.pieces-preserved
 pieces-preserved c = (
   search rules,
-  λ cs. piece-written c.args.quote c.args.content.now c.pieces.rest.now c.in-Some.piece.now c.in-Some.behind.now
+  λ cs. piece-written c.args.quote c.args.content.now c.pieces.rest.now c.in-Some.piece.now c.in-Some.after.now
       (string_bytes c.push.new.self) (string_bytes c.pieces.out) (string_bytes c.push_str.new.self) (string_bytes c.push-in-Some.new.self) (string_bytes c.push-in-Some-2.new.self) cs
       (sym c.in-Some.ensures)
       c.in_ok-push_str.ensures.bytes

@@ -1,7 +1,7 @@
 use Rattle.std.proofs.Common.{◌≡◌, ℕ, List, ◌++◌, length, string_bytes}
 use denote.Text.{Utf8}
 use denote.Shadow.{shadow}
-use Rattle.formula_tree.specs.Canonical.{doubled}
+use Rattle.cell_addr.specs.Quoted.{doubled}
 use Rattle.formula_print.proofs.pieces.push_quoted.Given as goal
 
 -- what was written, and the rest of the content doubled, are the whole content doubled

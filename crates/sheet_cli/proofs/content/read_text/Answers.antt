@@ -1,8 +1,7 @@
 -- A text that doesn't begin with an apostrophe has nothing behind one.
-use Rattle.std.proofs.Common.{◌≡◌, lit<, ap, List, ℕ, Option, None}
+use Rattle.std.proofs.Common.{lit<, ap, None}
 use Rattle.std.proofs.lemmas.Str.Pattern.{strip_prefix_char}
 use Rattle.cell_addr.proofs.Splits.{strip_prefix-is}
-use Rattle.cell_addr.specs.Parts.{strip_prefix}
 use Rattle.sheet_cli.specs.declared.content.ContentText.TheVariants.{Text}
 use Rattle.sheet_cli.proofs.content.read_text.Goals as goal
 

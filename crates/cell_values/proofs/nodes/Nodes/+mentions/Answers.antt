@@ -3,7 +3,7 @@ use Rattle.cell_addr.specs.declared.place.Place.{Place}
 use Rattle.formula_tree.specs.declared.node.Node.{Node}
 use Rattle.std.proofs.lemmas.List.{drop_all}
 use Rattle.formula_tree.specs.Reference.{base_of, corner_at}
-use Rattle.formula_tree.specs.Relative.{relative, relative_list}
+use Rattle.formula_tree.specs.Relative.{relative}
 use Rattle.formula_tree.specs.StandsFor.{at_home}
 use Rattle.formula_tree.specs.Term.{is_reference, each_corner, each_corner_all}
 use Rattle.formula_tree.proofs.EachCorner.{is_reference-each_corner}

@@ -1,4 +1,4 @@
-use Rattle.std.proofs.Common.{◌≡◌, ◌∙◌, sym, ap, refl, rules, ◌<◌, ◌≤◌, length, get_or, false, arith}
+use Rattle.std.proofs.Common.{◌≡◌, refl, rules, ◌<◌, ◌≤◌, length, get_or, false}
 use Rattle.cell_values.specs.internal.Progress.{FirstOpen}
 use Rattle.cell_values.proofs.Tries.{list_at-found, tried_ready, tried_waiting}
 use Rattle.cell_values.proofs.order.Progress.attempt.Goals as goal

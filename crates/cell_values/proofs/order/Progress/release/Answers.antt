@@ -1,4 +1,4 @@
-use Rattle.std.proofs.Common.{◌≡◌, ◌+◌, ◌<◌, sym, rules, length, [], ◌∷◌, drop, get_or, subst}
+use Rattle.std.proofs.Common.{◌+◌, ◌<◌, sym, rules, length, drop, get_or, subst}
 use Rattle.std.proofs.lemmas.List.{drop_all}
 use Rattle.std.proofs.lemmas.Grind.{get_or_default_zero}
 use Rattle.formula_tree.proofs.Once.{drop-item}

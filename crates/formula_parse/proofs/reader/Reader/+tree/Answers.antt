@@ -1,4 +1,4 @@
-use Rattle.std.proofs.Common.{◌≡◌, ◌≤◌, ◌∙◌, sym, ap, rules, suc, map, [], ◌∷◌, ◌++◌, Some, None}
+use Rattle.std.proofs.Common.{◌≡◌, ◌≤◌, ◌∙◌, ap, rules, suc, map, [], ◌∷◌, ◌++◌, Some, None}
 use Rattle.std.proofs.lemmas.List.{map-append}
 use Rattle.cell_addr.specs.Sheets.{id_in}
 use Rattle.cell_addr.specs.Text.{capitals}
@@ -67,9 +67,8 @@ climb-operators-preserved-in-Some-Operator-default g t c =
     let op = c.in-Some-Operator-default.op in
     let symbol : Some (tok.Operator op, stream c.in-Some-Operator-default.after.now) ≡ symbol_front (stream c.operators.rest.now) = search rules in
     let low : c.args.level ≤ level_of op = search rules in
-    let operand : Some (tree_at c.args.self.now.home c.in-Some.right, stream c.in-Some.after.now) ≡ R (suc (level_of op)) (stream c.in-Some-Operator-default.after.now) = search rules in
-    (
+    let operand : Some (tree_at c.args.self.now.home c.in-Some.right, stream c.in-Some.after.now) ≡ R (suc (level_of op)) (stream c.in-Some-Operator-default.after.now) = search rules in (
       search rules,
       rw (c.in_ok-left-in-Some-Operator-default.ensures c.args.self.now.home)
-      (climb-operator R _ _ _ _ _ op _ _ _ _ c.operators-test.true symbol low operand c.operators.invariant.1),
+          (climb-operator R _ _ _ _ _ op _ _ _ _ c.operators-test.true symbol low operand c.operators.invariant.1),
     )
