@@ -29,7 +29,7 @@ abbrev pub computed_both : (ℤ → ℤ → Result ℤ NumError) → Result ℤ 
 computed_both calculate (Ok m) right = computed (calculate m) right
 computed_both calculate (Err k) right = scalar.Fault k
 
--- the texts of two values, one behind the other; the fault of the left one comes first
+-- the texts of two values, one after the other; the fault of the left one comes first
 abbrev pub joined : Scalar → Scalar → Scalar
 joined (scalar.Fault k) b = scalar.Fault k
 joined a (scalar.Fault k) = scalar.Fault k

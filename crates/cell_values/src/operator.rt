@@ -9,8 +9,8 @@ use fix_num::Fixed;
 use formula_tree::{Op, Sign};
 use std::alloc::{AllocError, Global};
 
-/// The value of a sign and its operand: plus leaves the operand as it is, minus takes it from 0.
-/// Source: OpenFormula, the prefix operators.
+// The value of a sign and its operand: plus leaves the operand as it is, minus takes it from 0.
+// Source: OpenFormula, the prefix operators.
 pub(crate) fn signed(sign: Sign, operand: Scalar) -> Scalar
     ensures { result ≡ signed_value sign operand }
 {
@@ -23,7 +23,7 @@ pub(crate) fn signed(sign: Sign, operand: Scalar) -> Scalar
     }
 }
 
-/// The value of an operand with a percent sign. Source: OpenFormula, the postfix operator `%`.
+// The value of an operand with a percent sign. Source: OpenFormula, the postfix operator `%`.
 pub(crate) fn percent(operand: &Scalar) -> Scalar
     ensures { result ≡ hundredth operand.now }
 {
@@ -34,8 +34,8 @@ pub(crate) fn percent(operand: &Scalar) -> Scalar
     }
 }
 
-/// The value of an operator between two values. Numbers are wanted by `+ - * / ^` and texts by `&`;
-/// of two faults the left one comes first. Source: OpenFormula, the infix operators.
+// The value of an operator between two values. Numbers are wanted by `+ - * / ^` and texts by `&`;
+// of two faults the left one comes first. Source: OpenFormula, the infix operators.
 pub(crate) fn combined(
     alloc: Global,
     op: Op,

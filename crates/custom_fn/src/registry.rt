@@ -50,7 +50,7 @@ impl Registry {
         first_named(&self.customs, name)
     }
 
-    /// Adds a function behind the others.
+    /// Adds a function after the others.
     ///
     /// # Errors
     /// `NameInvalid` exactly where the name hasn't the form of a function's word; `NameTaken` exactly where

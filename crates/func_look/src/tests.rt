@@ -7,8 +7,8 @@ use std::process::Abort;
 use std::test::Fail;
 
 // A function's word, its arguments, and what a person sees of its value. The arguments are parted by
-// `|`, and `()` stands for none. A text stands behind an apostrophe, and a block of cells, parted by `;`,
-// behind `{` for one row of three and behind `[` for two rows of two.
+// `|`, and `()` stands for none. A text stands after an apostrophe, and a block of cells, parted by `;`,
+// after `{` for one row of three and after `[` for two rows of two.
 const VALUES: &[(&str, &str, &str)] = &[
     ("MATCH", "6|{1;5;9", "2"),
     ("MATCH", "6|{1;5;9|0", "#N/A"),
