@@ -1,5 +1,5 @@
 // What each function of dates answers.
-ghost use Rattle.std.specs.Prelude.{◌≡◌, ◌<◌, ◌≤◌, ◌^◌, ◌-ℤ◌, ◌*ℤ◌, pos, IfOk, unsigned_abs};
+ghost use Rattle.std.specs.Prelude.{◌≡◌, ◌<◌, ◌≤◌, ◌^◌, ◌-ℤ◌, ◌*ℤ◌, Ok, pos, IfOk, unsigned_abs};
 ghost use Rattle.fix_num.specs.declared.number.TheConstants.{ONE};
 ghost use Rattle.func_args.specs.Answers.{gives};
 ghost use Rattle.func_date.specs.Dates.{counted_answer, date_answer, date_value, dated, day_answer, days_answer, edate_answer, eomonth_answer, month_answer, today_answer, weekday_answer, year_answer, day_months_on, end_months_on, length_of, month_number, month_of, months_on, place_in_month, serial_in, weekday_of, year_given};
@@ -10,6 +10,7 @@ use crate::signature::{one_whole, three_wholes, two_wholes, whole_and_kind};
 use cell_value::{Arg, FaultKind, Scalar};
 use fix_num::Fixed;
 use func_args::{counted, number_value};
+use std::alloc::AllocError;
 
 /// The serial number of the last date, 31 December 9999.
 pub const LAST_SERIAL: u64 = 2_958_465;
@@ -236,10 +237,10 @@ fn counted_answer(answer: Result<u64, FaultKind>) -> Result<Fixed, FaultKind>
 }
 
 /// The value of a function of dates of its arguments, where the day is the serial number of today.
-pub fn dates(function: DateFn, args: &[Arg], day: i32) -> Scalar
-    ensures { result ≡ date_value function args.now day }
+pub fn dates(function: DateFn, args: &[Arg], day: i32) -> Result<Scalar, AllocError>
+    ensures { result ≡ Ok (date_value function args.now day) }
 {
-    number_value(match function {
+    Ok(number_value(match function {
         DateFn::Date => counted_answer(date(args)),
         DateFn::Year => counted_answer(year(args)),
         DateFn::Month => counted_answer(month(args)),
@@ -249,5 +250,5 @@ pub fn dates(function: DateFn, args: &[Arg], day: i32) -> Scalar
         DateFn::EDate => counted_answer(edate(args)),
         DateFn::EoMonth => counted_answer(eomonth(args)),
         DateFn::Today => counted_answer(today(args, day)),
-    })
+    }))
 }

@@ -91,10 +91,15 @@ fn functions_of_dates_answer_as_in_the_table(rt: HostRuntime) -> Result<(), Allo
             return Ok(());
         };
         let args = arguments(alloc, texts)?;
-        let shown = dates(function, &args, TODAY).shown(alloc)?;
+        let shown = dates(function, &args, TODAY)?.shown(alloc)?;
         assert!(rt; shown.as_str() == expected, "{word} is {shown:?}");
     }
     assert!(rt; DateFn::named("date").is_none() && DateFn::EDate.word() == "EDATE");
-    assert!(rt; matches!(dates(DateFn::Today, &[], -1), Scalar::Fault(FaultKind::Num)));
+    assert!(rt;
+        matches!(
+            dates(DateFn::Today, &[], -1),
+            Ok(Scalar::Fault(FaultKind::Num))
+        )
+    );
     Ok(())
 }
