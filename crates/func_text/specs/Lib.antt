@@ -1,0 +1,9 @@
+pub mod Arguments
+pub mod Find
+pub mod Functions
+pub mod Join
+pub mod Parts
+pub mod Substitute
+pub mod Texts
+pub mod Trim
+pub mod internal
