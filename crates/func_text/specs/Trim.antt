@@ -1,5 +1,6 @@
 -- TRIM. Source: OpenFormula, of which the space U+0020 alone counts.
-use Rattle.std.specs.Prelude.{ℕ, ◌==◌, Bool, true, false, not, ◌&&◌, if◌then◌else◌, List, [], ◌∷◌, chars, list_any}
+use Rattle.std.specs.Prelude.{ℕ, ◌==◌, Bool, true, false, not, ◌&&◌, if◌then◌else◌, List, [], ◌∷◌, chars}
+use Rattle.std.specs.List.{list_any}
 use Rattle.cell_value.specs.declared.argument.Arg.{Arg}
 use Rattle.cell_value.specs.declared.scalar.Scalar.{Scalar}
 use Rattle.func_text.specs.Arguments.{made, one_text, then_value}

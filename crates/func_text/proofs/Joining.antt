@@ -1,0 +1,56 @@
+-- Texts one after another, and one text many times: for `concatenate_value`, `repeated` and `rept`.
+use Rattle.std.proofs.Common.{◌≡◌, ◌∙◌, sym, ap, refl, ℕ, zero, suc, ◌+◌, ◌*◌, ◌<◌, ◌≤◌, List, [], ◌∷◌, ◌++◌, Result, Ok, Err, length, drop, get_or, arith}
+use Rattle.std.proofs.lemmas.List.{append_assoc, append-nil, at_drop_more, at_drop_all, length-append}
+use Rattle.std.specs.List.{repeat}
+use Rattle.cell_value.specs.declared.argument.Arg.{Arg}
+use Rattle.cell_value.specs.declared.fault.FaultKind.{FaultKind}
+use Rattle.func_args.specs.Answers.{and_then}
+use Rattle.func_text.specs.Arguments.{text}
+use Rattle.func_text.specs.Join.{joined}
+
+-- a text and then the answer's
+abbrev pub with_rest : List ℕ → Result (List ℕ) FaultKind → Result (List ℕ) FaultKind
+with_rest s (Ok rest) = Ok (s ++ rest)
+with_rest s (Err fault) = Err fault
+
+with_rest-append : (s t : List ℕ) (r : Result (List ℕ) FaultKind) → with_rest s (and_then r (λ rest. Ok (t ++ rest))) ≡ with_rest (s ++ t) r
+with_rest-append s t (Ok rest) = ap Ok (sym (append_assoc s t rest))
+with_rest-append s t (Err fault) = refl
+
+pub with_rest-nil : (r : Result (List ℕ) FaultKind) → with_rest [] r ≡ r
+with_rest-nil (Ok rest) = refl
+with_rest-nil (Err fault) = refl
+
+-- one text more
+pub joined-step : (args : List Arg) (i : ℕ) (d : Arg) (s t : List ℕ) → i < length args → text (get_or args i d) ≡ Ok t
+    → with_rest s (joined (drop i args)) ≡ with_rest (s ++ t) (joined (drop (i + 1) args))
+joined-step args i d s t h e =
+    let rest = joined (drop (i + 1) args) in
+    at_drop_more (λ xs. with_rest s (joined xs)) args i d h
+    ∙ ap (λ r. with_rest s (and_then r (λ t. and_then rest (λ rest. Ok (t ++ rest))))) e
+    ∙ with_rest-append s t rest
+
+-- a fault ends it
+pub joined-fault : (args : List Arg) (i : ℕ) (d : Arg) (s : List ℕ) (fault : FaultKind) → i < length args → text (get_or args i d) ≡ Err fault
+    → with_rest s (joined (drop i args)) ≡ Err fault
+joined-fault args i d s fault h e =
+    let rest = joined (drop (i + 1) args) in
+    at_drop_more (λ xs. with_rest s (joined xs)) args i d h
+    ∙ ap (λ r. with_rest s (and_then r (λ t. and_then rest (λ rest. Ok (t ++ rest))))) e
+
+-- nothing is left
+pub joined-all : (args : List Arg) (i : ℕ) (s : List ℕ) → length args ≤ i → with_rest s (joined (drop i args)) ≡ Ok s
+joined-all args i s h = at_drop_all (λ xs. with_rest s (joined xs)) args i h ∙ ap Ok (append-nil s)
+
+-- once more
+pub repeat_more : (n : ℕ) (xs : List ℕ) → repeat (n + 1) xs ≡ repeat n xs ++ xs
+repeat_more zero xs = append-nil xs
+repeat_more (suc n) xs = ap (λ ys. xs ++ ys) (repeat_more n xs) ∙ sym (append_assoc xs (repeat n xs) xs)
+
+pub repeat-nil : (n : ℕ) → repeat n [] ≡ []
+repeat-nil zero = refl
+repeat-nil (suc n) = repeat-nil n
+
+pub length-repeated : (n : ℕ) (xs : List ℕ) → length (repeat n xs) ≡ n * length xs
+length-repeated zero xs = refl
+length-repeated (suc n) xs = length-append xs (repeat n xs) ∙ ap (λ k. length xs + k) (length-repeated n xs) ∙ omega arith
