@@ -1,12 +1,19 @@
 -- Texts one after another, and one text many times: for `concatenate_value`, `repeated` and `rept`.
-use Rattle.std.proofs.Common.{◌≡◌, ◌∙◌, sym, ap, refl, ℕ, zero, suc, ◌+◌, ◌*◌, ◌<◌, ◌≤◌, List, [], ◌∷◌, ◌++◌, Result, Ok, Err, length, drop, get_or, arith}
+use Rattle.std.proofs.Common.{◌≡◌, ◌∙◌, sym, ap, refl, ℕ, zero, suc, ◌+◌, ◌*◌, ◌/◌, ◌==◌, true, ◌<◌, ◌≤◌, nat_le, ℤ, pos, unsigned_abs, int_lt, Bool, false, cond, List, [], ◌∷◌, ◌++◌, Result, Ok, Err, length, drop, get_or, arith}
 use Rattle.std.proofs.lemmas.List.{append_assoc, append-nil, at_drop_more, at_drop_all, length-append}
+use Rattle.std.proofs.lemmas.Bool.Decides.{nat_tests}
+use Rattle.std.proofs.Math.Nat.{div-lt_iff_lt-mul, zero-mul, suc-mul}
 use Rattle.std.specs.List.{repeat}
 use Rattle.cell_value.specs.declared.argument.Arg.{Arg}
 use Rattle.cell_value.specs.declared.fault.FaultKind.{FaultKind}
+use Rattle.cell_value.specs.declared.fault.FaultKind.TheVariants.{Value}
+use Rattle.cell_value.specs.declared.scalar.Scalar.{Scalar}
+use Rattle.cell_value.specs.declared.scalar.Scalar.TheVariants.{Text, Fault}
+use Rattle.cell_value.specs.declared.scalar.TheConstants.{MAX_MADE_TEXT}
+use Rattle.cell_value.specs.Scalar.{made_text}
 use Rattle.func_args.specs.Answers.{and_then}
 use Rattle.func_text.specs.Arguments.{text}
-use Rattle.func_text.specs.Join.{joined}
+use Rattle.func_text.specs.Join.{joined, rept}
 
 -- a text and then the answer's
 abbrev pub with_rest : List ℕ → Result (List ℕ) FaultKind → Result (List ℕ) FaultKind
@@ -45,12 +52,38 @@ joined-all args i s h = at_drop_all (λ xs. with_rest s (joined xs)) args i h �
 -- once more
 pub repeat_more : (n : ℕ) (xs : List ℕ) → repeat (n + 1) xs ≡ repeat n xs ++ xs
 repeat_more zero xs = append-nil xs
-repeat_more (suc n) xs = ap (λ ys. xs ++ ys) (repeat_more n xs) ∙ sym (append_assoc xs (repeat n xs) xs)
+repeat_more (suc n) xs =
+    let e : suc n + 1 ≡ suc (n + 1) = omega arith in
+    ap (λ k. repeat k xs) e ∙ ap (λ ys. xs ++ ys) (repeat_more n xs) ∙ sym (append_assoc xs (repeat n xs) xs)
 
-pub repeat-nil : (n : ℕ) → repeat n [] ≡ []
+repeat-nil : (n : ℕ) → repeat {A = ℕ} n [] ≡ []
 repeat-nil zero = refl
 repeat-nil (suc n) = repeat-nil n
 
-pub length-repeated : (n : ℕ) (xs : List ℕ) → length (repeat n xs) ≡ n * length xs
-length-repeated zero xs = refl
-length-repeated (suc n) xs = length-append xs (repeat n xs) ∙ ap (λ k. length xs + k) (length-repeated n xs) ∙ omega arith
+length-repeat : (n : ℕ) (xs : List ℕ) → length (repeat n xs) ≡ n * length xs
+length-repeat zero xs = sym (zero-mul (length xs))
+length-repeat (suc n) xs =
+    let e : suc n * length xs ≡ n * length xs + length xs = suc-mul n (length xs) in
+    let l = length-repeat n xs in
+    let s = length-append xs (repeat n xs) in
+    omega arith
+
+-- a text of no characters stays that
+pub rept_nil : (t : List ℕ) (n : ℤ) → int_lt n (pos 0) ≡ false → (length t == 0) ≡ true → rept t n ≡ Text []
+rept_nil [] n h e =
+    ap (λ b. cond b (Fault Value) (made_text (repeat (unsigned_abs n) []))) h
+    ∙ ap made_text (repeat-nil (unsigned_abs n))
+rept_nil (x ∷ t) n h e = cc
+
+-- so many bytes are too many
+pub made_long : (t : List ℕ) → MAX_MADE_TEXT < length t → made_text t ≡ Fault Value
+made_long t h =
+    let long : nat_le (length t) MAX_MADE_TEXT ≡ false = grind (arith, nat_tests) in
+    ap (λ b. cond b (Text t) (Fault Value)) long
+
+-- so many times are too many
+pub rept_long : (t : List ℕ) (n : ℤ) → int_lt n (pos 0) ≡ false → 0 < length t → MAX_MADE_TEXT / length t < unsigned_abs n → rept t n ≡ Fault Value
+rept_long t n h l many =
+    let size : MAX_MADE_TEXT < unsigned_abs n * length t = (div-lt_iff_lt-mul l).0 many in
+    let long : MAX_MADE_TEXT < length (repeat (unsigned_abs n) t) = rw (length-repeat (unsigned_abs n) t) size in
+    ap (λ b. cond b (Fault Value) (made_text (repeat (unsigned_abs n) t))) h ∙ made_long (repeat (unsigned_abs n) t) long

@@ -40,6 +40,7 @@ pub(crate) fn rept_value(alloc: Global, args: &[Arg]) -> Result<Scalar, AllocErr
 }
 
 // The text so many times. What would be too long isn't made.
+#[tactic(auto, using(crate::proofs::Joining::rept_long))]
 fn rept(alloc: Global, text: &str, count: i64) -> Result<Scalar, AllocError>
     ensures { IfOk result (λ value. value ≡ rept text.now count) }
 {
@@ -57,6 +58,7 @@ fn rept(alloc: Global, text: &str, count: i64) -> Result<Scalar, AllocError>
 }
 
 // The text so many times.
+#[tactic(auto, using(crate::proofs::Joining::repeat_more))]
 fn repeated(alloc: Global, text: &str, count: u64) -> Result<String, AllocError>
     ensures { IfOk result (λ made. string_bytes made ≡ repeat count text.now) }
 {
