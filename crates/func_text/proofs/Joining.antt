@@ -1,5 +1,5 @@
 -- Texts one after another, and one text many times: for `concatenate_value`, `repeated` and `rept`.
-use Rattle.std.proofs.Common.{◌≡◌, ◌∙◌, sym, ap, refl, ℕ, zero, suc, ◌+◌, ◌*◌, ◌/◌, ◌==◌, true, ◌<◌, ◌≤◌, nat_le, ℤ, pos, unsigned_abs, int_lt, Bool, false, cond, List, [], ◌∷◌, ◌++◌, Result, Ok, Err, length, drop, get_or, arith}
+use Rattle.std.proofs.Common.{◌≡◌, ◌∙◌, sym, ap, refl, ℕ, zero, suc, ◌+◌, ◌*◌, ◌/◌,  ◌<◌, ◌≤◌, nat_le, Bool, false, cond, List, [], ◌∷◌, ◌++◌, Result, Ok, Err, length, drop, get_or, arith}
 use Rattle.std.proofs.lemmas.List.{append_assoc, append-nil, at_drop_more, at_drop_all, length-append}
 use Rattle.std.proofs.lemmas.Bool.Decides.{nat_tests}
 use Rattle.std.proofs.Math.Nat.{div-lt_iff_lt-mul, zero-mul, suc-mul}
@@ -13,7 +13,7 @@ use Rattle.cell_value.specs.declared.scalar.TheConstants.{MAX_MADE_TEXT}
 use Rattle.cell_value.specs.Scalar.{made_text}
 use Rattle.func_args.specs.Answers.{and_then}
 use Rattle.func_text.specs.Arguments.{text}
-use Rattle.func_text.specs.Join.{joined, rept}
+use Rattle.func_text.specs.Join.{joined}
 
 -- a text and then the answer's
 abbrev pub with_rest : List ℕ → Result (List ℕ) FaultKind → Result (List ℕ) FaultKind
@@ -69,11 +69,9 @@ length-repeat (suc n) xs =
     omega arith
 
 -- a text of no characters stays that
-pub rept_nil : (t : List ℕ) (n : ℤ) → int_lt n (pos 0) ≡ false → (length t == 0) ≡ true → rept t n ≡ Text []
-rept_nil [] n h e =
-    ap (λ b. cond b (Fault Value) (made_text (repeat (unsigned_abs n) []))) h
-    ∙ ap made_text (repeat-nil (unsigned_abs n))
-rept_nil (x ∷ t) n h e = cc
+pub rept_nil : (t : List ℕ) (n : ℕ) → length t ≡ 0 → made_text (repeat n t) ≡ Text []
+rept_nil [] n h = ap made_text (repeat-nil n)
+rept_nil (x ∷ t) n h = absurd (omega arith)
 
 -- so many bytes are too many
 pub made_long : (t : List ℕ) → MAX_MADE_TEXT < length t → made_text t ≡ Fault Value
@@ -82,8 +80,8 @@ made_long t h =
     ap (λ b. cond b (Text t) (Fault Value)) long
 
 -- so many times are too many
-pub rept_long : (t : List ℕ) (n : ℤ) → int_lt n (pos 0) ≡ false → 0 < length t → MAX_MADE_TEXT / length t < unsigned_abs n → rept t n ≡ Fault Value
-rept_long t n h l many =
-    let size : MAX_MADE_TEXT < unsigned_abs n * length t = (div-lt_iff_lt-mul l).0 many in
-    let long : MAX_MADE_TEXT < length (repeat (unsigned_abs n) t) = rw (length-repeat (unsigned_abs n) t) size in
-    ap (λ b. cond b (Fault Value) (made_text (repeat (unsigned_abs n) t))) h ∙ made_long (repeat (unsigned_abs n) t) long
+pub rept_long : (t : List ℕ) (n : ℕ) → 0 < length t → MAX_MADE_TEXT / length t < n → made_text (repeat n t) ≡ Fault Value
+rept_long t n l many =
+    let size : MAX_MADE_TEXT < n * length t = (div-lt_iff_lt-mul l).0 many in
+    let long : MAX_MADE_TEXT < length (repeat n t) = rw (length-repeat n t) size in
+    made_long (repeat n t) long

@@ -1,6 +1,7 @@
 // CONCATENATE and REPT.
 ghost use Rattle.std.specs.Prelude.{◌≡◌, IfOk, string_bytes};
 ghost use Rattle.std.specs.List.{repeat};
+ghost use Rattle.cell_value.specs.Scalar.{made_text};
 ghost use Rattle.func_text.specs.Join.{concatenate_value, rept, rept_value};
 
 use crate::argument::text_of;
@@ -39,18 +40,25 @@ pub(crate) fn rept_value(alloc: Global, args: &[Arg]) -> Result<Scalar, AllocErr
     }
 }
 
-// The text so many times. What would be too long isn't made.
-#[tactic(auto, using(crate::proofs::Joining::rept_long))]
+// The text so many times, as a value.
 fn rept(alloc: Global, text: &str, count: i64) -> Result<Scalar, AllocError>
     ensures { IfOk result (λ value. value ≡ rept text.now count) }
 {
     if count < 0 {
-        return Ok(Scalar::Fault(FaultKind::Value));
+        Ok(Scalar::Fault(FaultKind::Value))
+    } else {
+        made_times(alloc, text, count.unsigned_abs())
     }
+}
+
+// The text so many times as a value. What would be too long isn't made.
+#[tactic(auto, using(crate::proofs::Joining::rept_nil, crate::proofs::Joining::rept_long))]
+fn made_times(alloc: Global, text: &str, count: u64) -> Result<Scalar, AllocError>
+    ensures { IfOk result (λ value. value ≡ made_text (repeat count text.now)) }
+{
     if text.is_empty() {
         return Ok(Scalar::Text(Text::new(String::new(alloc))));
     }
-    let count = count.unsigned_abs();
     if count > (MAX_MADE_TEXT / text.len()) as u64 {
         return Ok(Scalar::Fault(FaultKind::Value));
     }
