@@ -1,11 +1,12 @@
 // SUBSTITUTE.
 ghost use Rattle.std.specs.Prelude.{◌≡◌, ◌<◌, ◌++◌, IfOk, OnOk, length};
+ghost use Rattle.func_text.specs.Arguments.{made};
 ghost use Rattle.func_text.specs.Substitute.{replaced, stands_for, substitute_value, substituted};
 
 use crate::argument::{characters, made, text_of};
 use crate::part::after;
 use cell_addr::Text;
-use cell_value::{Arg, FaultKind, Scalar};
+use cell_value::{Arg, FaultKind, MAX_MADE_TEXT, Scalar};
 use func_args::whole_of;
 use std::alloc::{AllocError, Global};
 
@@ -61,38 +62,41 @@ fn substituted(
     if old.is_empty() {
         return made(alloc, &text);
     }
-    let replaced = replaced(alloc, &text, &old, &new, which)?;
-    made(alloc, &replaced)
+    replaced(alloc, &text, &old, &new, which)
 }
 
-// The text with the new one in place of the occurrences that are meant.
+// The text with the new one in place of the occurrences that are meant, as a value. What is too long is
+// left off.
 fn replaced(
     alloc: Global,
     text: &[char],
     old: &[char],
     new: &[char],
     which: Option<u64>,
-) -> Result<Vec<char>, AllocError>
+) -> Result<Scalar, AllocError>
     requires { 0 < length old.now }
-    ensures { IfOk result (λ made. made.items ≡ replaced which old.now new.now 1 0 text.now) }
+    ensures { IfOk result (λ value. value ≡ made (replaced which old.now new.now 1 0 text.now)) }
 {
-    let mut made = Vec::new(alloc);
+    let mut kept = Vec::new(alloc);
     let mut number = 1u64;
-    let mut passed = 0usize;
+    let mut covered = 0usize;
     'places: for at in 0..text.len() {
-        if passed > 0 {
-            passed -= 1;
+        if covered > 0 {
+            covered -= 1;
             continue;
         }
         if after(text, at as u64).starts_with(old) {
-            append(&mut made, stands_for(which, number, old, new))?;
+            append(&mut kept, stands_for(which, number, old, new))?;
+            if kept.len() > MAX_MADE_TEXT {
+                return Ok(Scalar::Fault(FaultKind::Value));
+            }
             number += 1;
-            passed = old.len() - 1;
+            covered = old.len() - 1;
             continue;
         }
-        made.push(text[at])?;
+        kept.push(text[at])?;
     }
-    Ok(made)
+    made(alloc, &kept)
 }
 
 // What stands for the occurrence of this number: the new text where that is meant, else the old one.
@@ -106,8 +110,8 @@ fn stands_for<'a>(which: Option<u64>, number: u64, old: &'a [char], new: &'a [ch
 }
 
 // Adds the characters at the end.
-fn append(made: &mut Vec<char>, characters: &[char]) -> Result<(), AllocError>
-    ensures { OnOk result (made.new.items ≡ made.old.items ++ characters.now) }
+fn append(kept: &mut Vec<char>, characters: &[char]) -> Result<(), AllocError>
+    ensures { OnOk result (kept.new.items ≡ kept.old.items ++ characters.now) }
 {
-    made.extend_from_slice(characters)
+    kept.extend_from_slice(characters)
 }
