@@ -1,6 +1,6 @@
 -- The first occurrence, place after place: for `first_place`.
-use Rattle.std.proofs.Common.{◌≡◌, ◌∙◌, sym, ap, refl, ℕ, zero, suc, ◌+◌, ◌<◌, ◌≤◌, Bool, true, false, cond, List, [], ◌∷◌, Option, Some, None, length, drop, get_or, zero-add, add-zero, arith}
-use Rattle.std.proofs.lemmas.List.{drop_more, drop_all, at_drop_all}
+use Rattle.std.proofs.Common.{◌≡◌, ◌∙◌, sym, ap, refl, ℕ, suc, ◌+◌, ◌<◌, true, false, cond, List, ◌∷◌, Option, Some, None, length, drop, get_or, zero-add, arith}
+use Rattle.std.proofs.lemmas.List.{drop_more}
 use Rattle.std.specs.Option.{option_map}
 use Rattle.func_text.specs.Find.{begins, first_place}
 

@@ -1,5 +1,5 @@
 -- Texts one after another, and one text many times: for `concatenate_value`, `repeated` and `rept`.
-use Rattle.std.proofs.Common.{◌≡◌, ◌∙◌, sym, ap, refl, ℕ, zero, suc, ◌+◌, ◌*◌, ◌/◌,  ◌<◌, ◌≤◌, nat_le, Bool, false, cond, List, [], ◌∷◌, ◌++◌, Result, Ok, Err, length, drop, get_or, arith}
+use Rattle.std.proofs.Common.{◌≡◌, ◌∙◌, sym, ap, refl, ℕ, zero, suc, ◌+◌, ◌*◌, ◌/◌, ◌<◌, ◌≤◌, nat_le, false, cond, List, [], ◌∷◌, ◌++◌, Result, Ok, Err, length, drop, get_or, arith}
 use Rattle.std.proofs.lemmas.List.{append_assoc, append-nil, at_drop_more, at_drop_all, length-append}
 use Rattle.std.proofs.lemmas.Bool.Decides.{nat_tests}
 use Rattle.std.proofs.Math.Nat.{div-lt_iff_lt-mul, zero-mul, suc-mul}
@@ -7,7 +7,6 @@ use Rattle.std.specs.List.{repeat}
 use Rattle.cell_value.specs.declared.argument.Arg.{Arg}
 use Rattle.cell_value.specs.declared.fault.FaultKind.{FaultKind}
 use Rattle.cell_value.specs.declared.fault.FaultKind.TheVariants.{Value}
-use Rattle.cell_value.specs.declared.scalar.Scalar.{Scalar}
 use Rattle.cell_value.specs.declared.scalar.Scalar.TheVariants.{Text, Fault}
 use Rattle.cell_value.specs.declared.scalar.TheConstants.{MAX_MADE_TEXT}
 use Rattle.cell_value.specs.Scalar.{made_text}

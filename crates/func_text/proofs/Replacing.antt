@@ -1,5 +1,5 @@
 -- What is left of the replaced characters from a place on: for `replaced`.
-use Rattle.std.proofs.Common.{◌≡◌, ◌∙◌, sym, ap, refl, ℕ, zero, suc, ◌+◌, ◌-◌, ◌<◌, ◌≤◌, Bool, true, false, cond, List, [], ◌∷◌, ◌++◌, Option, length, drop, get_or, encode_utf8_all, arith}
+use Rattle.std.proofs.Common.{◌≡◌, ◌∙◌, sym, ap, ℕ, zero, suc, ◌+◌, ◌-◌, ◌<◌, ◌≤◌, true, false, cond, List, [], ◌∷◌, ◌++◌, Option, length, drop, get_or, encode_utf8_all, arith}
 use Rattle.std.proofs.lemmas.List.{append_assoc, drop_more, at_drop_all, length-append}
 use Rattle.std.proofs.lemmas.Str.{length-le-encodes}
 use Rattle.cell_value.specs.declared.fault.FaultKind.TheVariants.{Value}

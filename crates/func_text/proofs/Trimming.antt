@@ -1,7 +1,5 @@
 -- What stays of the characters from a place on, character after character: for `trimmed`.
-use Rattle.std.proofs.Common.{◌≡◌, ◌∙◌, sym, ap, refl, ℕ, ◌+◌, ◌<◌, ◌≤◌, ◌==◌, Bool, true, false, not, ◌&&◌, ◌||◌, cond, List, [], ◌∷◌, ◌++◌, length, drop, get_or, arith}
-use Rattle.std.proofs.lemmas.List.{drop_more, at_drop_all}
-use Rattle.std.specs.List.{list_any}
+use Rattle.std.proofs.Common.{◌≡◌, ap, refl, ℕ, ◌==◌, true, false, not, ◌&&◌, ◌||◌, cond, List, ◌∷◌}
 use Rattle.func_text.specs.Trim.{has_word, kept}
 use Rattle.func_text.specs.internal.Trim.{after_space, kept_after}
 use Rattle.func_text.specs.declared.trim.Reached.{Reached}

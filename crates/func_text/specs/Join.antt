@@ -1,5 +1,5 @@
 -- CONCATENATE and REPT. Source: OpenFormula.
-use Rattle.std.specs.Prelude.{ℕ, if◌then◌else◌, ℤ, pos, unsigned_abs, int_lt, List, [], ◌∷◌, ◌++◌, Result, Ok, Err}
+use Rattle.std.specs.Prelude.{ℕ, if◌then◌else◌, ℤ, pos, unsigned_abs, int_lt, List, [], ◌∷◌, ◌++◌, Result, Ok}
 use Rattle.std.specs.List.{repeat}
 use Rattle.cell_value.specs.declared.argument.Arg.{Arg}
 use Rattle.cell_value.specs.declared.fault.FaultKind.{FaultKind}

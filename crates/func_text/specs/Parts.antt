@@ -1,5 +1,5 @@
 -- LEN, LEFT, RIGHT and MID, which count characters from 1. Source: OpenFormula.
-use Rattle.std.specs.Prelude.{ℕ, ◌-◌, Bool, ◌||◌, if◌then◌else◌, ℤ, pos, unsigned_abs, int_lt, List, [], ◌∷◌, chars, drop, length, take}
+use Rattle.std.specs.Prelude.{ℕ, ◌-◌, ◌||◌, if◌then◌else◌, ℤ, pos, unsigned_abs, int_lt, List, [], ◌∷◌, chars, drop, length, take}
 use Rattle.cell_value.specs.declared.argument.Arg.{Arg}
 use Rattle.cell_value.specs.declared.fault.FaultKind.TheVariants.{Na, Value}
 use Rattle.cell_value.specs.declared.scalar.Scalar.{Scalar}

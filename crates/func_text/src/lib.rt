@@ -20,3 +20,6 @@ mod value;
 
 pub use function::TextFn;
 pub use value::texts;
+
+#[cfg(test)]
+mod tests;

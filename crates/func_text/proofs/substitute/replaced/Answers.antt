@@ -2,7 +2,6 @@ use Rattle.std.proofs.Common.{◌≡◌, ◌∙◌, ap, sym, subst, IfOk, [], �
 use Rattle.std.proofs.lemmas.List.{append-nil}
 use Rattle.func_text.specs.Arguments.{made}
 use Rattle.func_text.specs.Find.{begins}
-use Rattle.func_text.specs.Substitute.{replaced}
 use Rattle.func_text.proofs.Replacing.{made_too_long, replaced_covered, replaced_end, walk_here, walk_other}
 use Rattle.func_text.proofs.substitute.replaced.Goals as goal
 
