@@ -13,6 +13,7 @@ mod argument;
 mod find;
 mod function;
 mod join;
+pub mod laws;
 mod part;
 mod substitute;
 mod trim;

@@ -96,8 +96,8 @@ fn mid(alloc: Global, text: &str, start: i64, count: i64) -> Result<Scalar, Allo
     made(alloc, first(rest, count.unsigned_abs()))
 }
 
-/// The first so many characters, or all where there are no more.
-pub(crate) fn first(characters: &[char], count: u64) -> &[char]
+// The first so many characters, or all where there are no more.
+fn first(characters: &[char], count: u64) -> &[char]
     ensures { result.now ≡ take count characters.now }
 {
     if count < characters.len() as u64 {
