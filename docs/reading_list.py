@@ -3,7 +3,8 @@
 
     python3 docs/reading_list.py            the files, those that rest on no other first
     python3 docs/reading_list.py --names    and in each the names that the contract reaches
-    python3 docs/reading_list.py --check    status 1 where README.md names another list
+    python3 docs/reading_list.py --check    status 1 where README.md names another list, or its example of
+                                            embedding isn't the crate `embedding`, word for word
 
 It follows the `use` lines of the definitions, name by name, from the clauses of `run` in
 crates/sheet_cli/src/program.rt. What stands in a specs/internal/ is for the proofs of bodies alone: a clause
@@ -15,6 +16,7 @@ from pathlib import Path
 
 ROOT = Path(__file__).resolve().parent.parent
 START = ROOT / "crates/sheet_cli/src/program.rt"
+EXAMPLE = ROOT / "crates/embedding/src/main.rt"
 USE = re.compile(r"^\s*(?:pub )?(?:ghost )?use Rattle\.(\w+)\.specs\.([\w.]+?)(?:\.\{([^}]*)\})?(?: as (\w+))?;?\s*(?:--.*)?$")
 WORD = re.compile(r"[\w-]+(?:\.[\w-]+)*")
 
@@ -136,7 +138,10 @@ def main(words):
             print("README.md leaves out", name)
         for name in extra:
             print("README.md names without need", name)
-        sys.exit(1 if missing or extra else 0)
+        other = EXAMPLE.read_text().strip() not in (ROOT / "README.md").read_text()
+        if other:
+            print("README.md's example isn't", EXAMPLE.relative_to(ROOT))
+        sys.exit(1 if missing or extra or other else 0)
     for path, name in zip(order, listed):
         print(name + (": " + ", ".join(sorted(seen[path])) if "--names" in words else ""))
 

@@ -55,7 +55,7 @@ length-spread from size (cell ∷ rest) h =
     let e = length-spread (cell.index + 1) size rest n.rest in
     simp (length-append, length-replicate, e) (omega arith)
 
--- a cell behind all that are filled
+-- a cell after all that are filled
 empty_gap : (n : ℕ) → list_all is_empty (replicate n Empty) ≡ true
 empty_gap zero = refl
 empty_gap (suc n) = empty_gap n
@@ -74,24 +74,24 @@ set_gap m n v h =
     ap (λ xs. set xs m v) (replicate_split m n o ∙ ap (λ k. replicate m Empty ++ replicate k Empty) e)
     ∙ set_at (replicate m Empty) Empty (replicate (n - suc m) Empty) v m (length-replicate m Empty)
 
--- behind a gap
-set_behind : (m k : ℕ) (x : Scalar) (xs : List Scalar) (v : Scalar) → set (replicate m Empty ++ x ∷ xs) (m + suc k) v ≡ replicate m Empty ++ x ∷ set xs k v
-set_behind zero k x xs v = let e : zero + suc k ≡ suc k = omega arith in ap (λ n. set (x ∷ xs) n v) e
-set_behind (suc m) k x xs v =
+-- after a gap
+set_after : (m k : ℕ) (x : Scalar) (xs : List Scalar) (v : Scalar) → set (replicate m Empty ++ x ∷ xs) (m + suc k) v ≡ replicate m Empty ++ x ∷ set xs k v
+set_after zero k x xs v = let e : zero + suc k ≡ suc k = omega arith in ap (λ n. set (x ∷ xs) n v) e
+set_after (suc m) k x xs v =
     let e : suc m + suc k ≡ suc (m + suc k) = omega arith in
-    ap (λ n. set (replicate (suc m) Empty ++ x ∷ xs) n v) e ∙ ap (λ ys. Empty ∷ ys) (set_behind m k x xs v)
+    ap (λ n. set (replicate (suc m) Empty ++ x ∷ xs) n v) e ∙ ap (λ ys. Empty ∷ ys) (set_after m k x xs v)
 
-drop_behind : (m k : ℕ) (x : Scalar) (xs : List Scalar) → drop (m + suc k) (replicate m Empty ++ x ∷ xs) ≡ drop k xs
-drop_behind zero k x xs = let e : zero + suc k ≡ suc k = omega arith in ap (λ n. drop n (x ∷ xs)) e
-drop_behind (suc m) k x xs =
+drop_after : (m k : ℕ) (x : Scalar) (xs : List Scalar) → drop (m + suc k) (replicate m Empty ++ x ∷ xs) ≡ drop k xs
+drop_after zero k x xs = let e : zero + suc k ≡ suc k = omega arith in ap (λ n. drop n (x ∷ xs)) e
+drop_after (suc m) k x xs =
     let e : suc m + suc k ≡ suc (m + suc k) = omega arith in
-    ap (λ n. drop n (replicate (suc m) Empty ++ x ∷ xs)) e ∙ drop_behind m k x xs
+    ap (λ n. drop n (replicate (suc m) Empty ++ x ∷ xs)) e ∙ drop_after m k x xs
 
-get_behind : (m k : ℕ) (x : Scalar) (xs : List Scalar) → get_or (replicate m Empty ++ x ∷ xs) (m + suc k) Empty ≡ get_or xs k Empty
-get_behind zero k x xs = let e : zero + suc k ≡ suc k = omega arith in ap (λ n. get_or (x ∷ xs) n Empty) e
-get_behind (suc m) k x xs =
+get_after : (m k : ℕ) (x : Scalar) (xs : List Scalar) → get_or (replicate m Empty ++ x ∷ xs) (m + suc k) Empty ≡ get_or xs k Empty
+get_after zero k x xs = let e : zero + suc k ≡ suc k = omega arith in ap (λ n. get_or (x ∷ xs) n Empty) e
+get_after (suc m) k x xs =
     let e : suc m + suc k ≡ suc (m + suc k) = omega arith in
-    ap (λ n. get_or (replicate (suc m) Empty ++ x ∷ xs) n Empty) e ∙ get_behind m k x xs
+    ap (λ n. get_or (replicate (suc m) Empty ++ x ∷ xs) n Empty) e ∙ get_after m k x xs
 
 get_at : (m : ℕ) (x : Scalar) (xs : List Scalar) → get_or (replicate m Empty ++ x ∷ xs) m Empty ≡ x
 get_at zero x xs = refl
@@ -109,29 +109,29 @@ not_gap zero (suc k) x xs e h all = absurd (omega arith)
 not_gap (suc m) zero x xs e h all = not_gap m zero x xs e (omega arith) all
 not_gap (suc m) (suc k) x xs e h all = not_gap m k x xs e (omega arith) all
 
--- one more filled cell, behind which and at which all were empty
+-- one more filled cell, after which and at which all were empty
 pub record IsPushed (from size index : ℕ) (value : Scalar) (cells : List Filled) : Type 0 where
   pub filled : are_filled from size (cells ++ (record { index = index; value = value }) ∷ []) ≡ true
   pub values : spread from size (cells ++ (record { index = index; value = value }) ∷ []) ≡ set (spread from size cells) (index - from) value
 
-push_behind : (from size index : ℕ) (value : Scalar) (cell : Filled) (others : List Filled) → IsNext from size cell others → from ≤ index
+push_after : (from size index : ℕ) (value : Scalar) (cell : Filled) (others : List Filled) → IsNext from size cell others → from ≤ index
     → list_all is_empty (drop (index - from) (spread from size (cell ∷ others))) ≡ true → (cell.index + 1 ≤ index → list_all is_empty (drop (index - (cell.index + 1)) (spread (cell.index + 1) size others)) ≡ true → IsPushed (cell.index + 1) size index value others)
     → (cell.index < index) ⊎ (index ≤ cell.index) → IsPushed from size index value (cell ∷ others)
-push_behind from size index value cell others n above last pushed (inr o) =
+push_after from size index value cell others n above last pushed (inr o) =
     absurd (not_gap (cell.index - from) (index - from) cell.value (spread (cell.index + 1) size others) n.filled (omega arith) last)
-push_behind from size index value cell others n above last pushed (inl o) =
+push_after from size index value cell others n above last pushed (inl o) =
     let gap = cell.index - from in
     let k = index - (cell.index + 1) in
     let all = spread (cell.index + 1) size others in
     let e : index - from ≡ gap + suc k = omega arith in
     let above' : cell.index + 1 ≤ index = omega arith in
-    let dropped : drop (index - from) (replicate gap Empty ++ cell.value ∷ all) ≡ drop k all = ap (λ m. drop m (replicate gap Empty ++ cell.value ∷ all)) e ∙ drop_behind gap k cell.value all in
+    let dropped : drop (index - from) (replicate gap Empty ++ cell.value ∷ all) ≡ drop k all = ap (λ m. drop m (replicate gap Empty ++ cell.value ∷ all)) e ∙ drop_after gap k cell.value all in
     let p = pushed above' (ap (list_all is_empty) (sym dropped) ∙ last) in
     let x = n.above in
     let y = n.below in
     record {
       filled = rw (n.filled, p.filled) (grind (arith, nat_tests));
-      values = ap (λ xs. replicate gap Empty ++ cell.value ∷ xs) p.values ∙ sym (ap (λ m. set (replicate gap Empty ++ cell.value ∷ all) m value) e ∙ set_behind gap k cell.value all value);
+      values = ap (λ xs. replicate gap Empty ++ cell.value ∷ xs) p.values ∙ sym (ap (λ m. set (replicate gap Empty ++ cell.value ∷ all) m value) e ∙ set_after gap k cell.value all value);
     }
 
 pub spread-push : (from size index : ℕ) (value : Scalar) (cells : List Filled) → are_filled from size cells ≡ true → is_empty value ≡ false → from ≤ index → index < size
@@ -145,7 +145,7 @@ spread-push from size index value [] h filled above below last =
     }
 spread-push from size index value (cell ∷ others) h filled above below last =
     let n = next from size cell others h in
-    push_behind from size index value cell others n above last (λ a l. spread-push (cell.index + 1) size index value others n.rest filled a below l) (cases_lt cell.index index)
+    push_after from size index value cell others n above last (λ a l. spread-push (cell.index + 1) size index value others n.rest filled a below l) (cases_lt cell.index index)
 
 -- the value of a filled cell, where all cells stand
 pub value-filled : (from size : ℕ) (cells : List Filled) (i : ℕ) (d : Filled) → are_filled from size cells ≡ true → i < length cells
@@ -160,19 +160,19 @@ value-filled from size (cell ∷ others) (suc i) d h l =
     let e : (get_or others i d).index - from ≡ (cell.index - from) + suc ((get_or others i d).index - (cell.index + 1)) = omega arith in (
       omega arith,
       ap (λ m. get_or (replicate (cell.index - from) Empty ++ cell.value ∷ spread (cell.index + 1) size others) m Empty) e
-          ∙ get_behind (cell.index - from) ((get_or others i d).index - (cell.index + 1)) cell.value (spread (cell.index + 1) size others) ∙ v.1,
+          ∙ get_after (cell.index - from) ((get_or others i d).index - (cell.index + 1)) cell.value (spread (cell.index + 1) size others) ∙ v.1,
     )
 
-else_behind : (from size k : ℕ) (cell : Filled) (others : List Filled) → IsNext from size cell others → from ≤ k → cell.index ≢ k
+else_after : (from size k : ℕ) (cell : Filled) (others : List Filled) → IsNext from size cell others → from ≤ k → cell.index ≢ k
     → (cell.index + 1 ≤ k → get_or (spread (cell.index + 1) size others) (k - (cell.index + 1)) Empty ≡ Empty) → (k < cell.index) ⊎ (cell.index ≤ k)
     → get_or (spread from size (cell ∷ others)) (k - from) Empty ≡ Empty
-else_behind from size k cell others n o ne later (inl l) =
+else_after from size k cell others n o ne later (inl l) =
     get_gap (cell.index - from) (k - from) (cell.value ∷ spread (cell.index + 1) size others) (omega arith)
-else_behind from size k cell others n o ne later (inr l) =
+else_after from size k cell others n o ne later (inr l) =
     let a = n.above in
     let e : k - from ≡ (cell.index - from) + suc (k - (cell.index + 1)) = omega arith in
     ap (λ m. get_or (replicate (cell.index - from) Empty ++ cell.value ∷ spread (cell.index + 1) size others) m Empty) e
-    ∙ get_behind (cell.index - from) (k - (cell.index + 1)) cell.value (spread (cell.index + 1) size others) ∙ later (omega arith)
+    ∙ get_after (cell.index - from) (k - (cell.index + 1)) cell.value (spread (cell.index + 1) size others) ∙ later (omega arith)
 
 -- a cell that isn't among the filled ones is empty
 pub value_else : (from size k : ℕ) (cells : List Filled) → are_filled from size cells ≡ true → from ≤ k
@@ -186,7 +186,7 @@ value_else from size k [] h o none = gap_value (size - from) (k - from)
 value_else from size k (cell ∷ others) h o none =
     let n = next from size cell others h in
     let ne : cell.index ≢ k = none 0 cell (omega arith) in
-    else_behind from size k cell others n o ne (λ a. value_else (cell.index + 1) size k others n.rest a (λ i d l. none (suc i) d (omega arith))) (cases_lt k cell.index)
+    else_after from size k cell others n o ne (λ a. value_else (cell.index + 1) size k others n.rest a (λ i d l. none (suc i) d (omega arith))) (cases_lt k cell.index)
 
 -- filled cells stand in order
 pub index_rises : (from size : ℕ) (cells : List Filled) (i j : ℕ) (d : Filled) → are_filled from size cells ≡ true → i ≤ j → j < length cells

@@ -82,7 +82,7 @@ impl Area {
         self.filled.as_slice()
     }
 
-    /// Where the cell in this row and column stands among all, row by row.
+    // Where the cell in this row and column stands among all, row by row.
     fn index(&self, row: u32, col: u32) -> u64
         ensures { result ≡ index_of self.now row col }
     {

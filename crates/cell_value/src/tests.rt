@@ -125,7 +125,7 @@ const DECIDED: &[(&str, &str, FaultKind)] = &[
     ("'x", "#REF!", FaultKind::Ref),
 ];
 
-/// The value that the words describe; a text stands behind an apostrophe.
+/// The value that the words describe; a text stands after an apostrophe.
 fn value(alloc: Global, words: &str) -> Result<Scalar, AllocError> {
     if let Some(content) = words.strip_prefix('\'') {
         return Ok(Scalar::Text(Text::from_str(alloc, content)?));

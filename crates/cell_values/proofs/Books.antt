@@ -46,7 +46,7 @@ lookup-contents (e ∷ es) p = here-or p e (is_at (place_cmp p) e.0) (lookup (is
 pub get-contents : (es : List (Place × Cell)) (p : Place) → get (from_entries {R = place_cmp} (contents es)) p ≡ option_map (content_at p) (cell_at es p)
 get-contents es p = sym (lookup-from_entries place_cmp-IsTotalOrder (contents es) p) ∙ lookup-contents es p
 
--- what the cell behind a reference holds
+-- what a cell holds that is looked up
 pub seen_content : (at : Place) (cell : Option (Bor Cell)) → option_map (λ c. content_at at c.now) cell ≡ option_map (content_at at) (option_copied cell)
 seen_content at None = refl
 seen_content at (Some c) = refl

@@ -7,7 +7,7 @@ use Rattle.std.proofs.lemmas.Bool.Decides.{nat_tests, eqb_tells}
 use Rattle.std.proofs.lemmas.List.{map-set, map-append, length-map, get_or-set_same, get_or-set_other, get_or_append_left}
 use Rattle.std.proofs.lemmas.List.Folds.{list_any-append, list_any_at}
 use Rattle.std.proofs.Math.Seq.{get_or-append_seam}
-use Rattle.cell_values.specs.internal.Order.{has, list_at, ComesBehindNeeds}
+use Rattle.cell_values.specs.internal.Order.{has, list_at, ComesAfterNeeds}
 use Rattle.cell_values.specs.internal.Progress.{left}
 
 -- a list has what either part has
@@ -59,7 +59,7 @@ list_at-set lists i j list h =
     ap (λ xs. get_or xs j []) (map-set (λ l. l.items) lists i list)
     ∙ get_or-set (map (λ l. l.items) lists) i j list.items [] (omega (arith, h, length-map lists (λ (l : Vec ℕ Global). l.items)))
 
--- the lists at numbers, where one more list was put behind
+-- the lists at numbers, where one more list was put after
 pub list_at-first : (lists : List (Vec ℕ Global)) (list : Vec ℕ Global) (i : ℕ) → i < length lists → list_at (lists ++ list ∷ []) i ≡ list_at lists i
 list_at-first lists list i h =
     ap (λ xs. get_or xs i []) (map-append (λ l. l.items) lists (list ∷ []))
@@ -89,10 +89,10 @@ at-replicate zero i a = refl
 at-replicate (suc n) zero a = refl
 at-replicate (suc n) (suc i) a = at-replicate n i a
 
--- one node more, behind all that it needs
-pub behind-append : (needs : List (Vec ℕ Global)) (order before : List ℕ) (i : ℕ) → ComesBehindNeeds needs before order → ((j : ℕ) → has j (list_at needs i) ≡ true → (has j before || has j order) ≡ true) → ComesBehindNeeds needs before (order ++ i ∷ [])
-behind-append needs [] before i behind ready = (λ j h. ⊎_elim (λ b. b) (λ n. absurd (false≢true n)) (or_cases (has j before) false (ready j h)), tt)
-behind-append needs (x ∷ order) before i behind ready = (behind.0, behind-append needs order (x ∷ before) i behind.1 (λ j h. moved j (nat_eq j x) (has j before) (has j order) (ready j h)))
+-- one node more, after all that it needs
+pub after-append : (needs : List (Vec ℕ Global)) (order before : List ℕ) (i : ℕ) → ComesAfterNeeds needs before order → ((j : ℕ) → has j (list_at needs i) ≡ true → (has j before || has j order) ≡ true) → ComesAfterNeeds needs before (order ++ i ∷ [])
+after-append needs [] before i after ready = (λ j h. ⊎_elim (λ b. b) (λ n. absurd (false≢true n)) (or_cases (has j before) false (ready j h)), tt)
+after-append needs (x ∷ order) before i after ready = (after.0, after-append needs order (x ∷ before) i after.1 (λ j h. moved j (nat_eq j x) (has j before) (has j order) (ready j h)))
   where
     moved : (j : ℕ) (same first later : Bool) → (first || (same || later)) ≡ true → ((same || first) || later) ≡ true
     moved j true first later h = refl

@@ -113,7 +113,7 @@ book_is_network b = record {
   reads_needs = λ p v w alike. worked_out_reads (get b p) v w (λ q need. alike q (at_once need));
 }
 
--- each cell shows what it works out from what the others show, or that it is on a cycle or behind one
+-- each cell shows what it works out from what the others show, or that it is on a cycle or after one
 pub values_unfold : ValuesUnfold
 values_unfold b p = unfolds (network b) (book_is_network b) (is_bad b) (stuck_covers (network b) (book_is_network b)) p
 

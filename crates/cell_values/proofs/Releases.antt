@@ -62,7 +62,7 @@ module _ (needs : List (Vec ℕ Global)) where
       passed_count = ap (λ v. length v.items) passed ∙ sound.passed_count;
       waiting_count = count ∙ sound.waiting_count;
       nodes = rw order sound.nodes;
-      behind = rw order sound.behind;
+      after = rw order sound.after;
       few = rw (order, done) sound.few;
       passed = rw (order, passed) sound.passed;
     };

@@ -1,4 +1,4 @@
--- What the try of a node leaves: the node done behind all that it needs, or waiting for one that isn't done. Serves
+-- What the try of a node leaves: the node done after all that it needs, or waiting for one that isn't done. Serves
 -- the order of nodes.
 use Rattle.std.proofs.Common.{◌≡◌, ◌∙◌, sym, ap, refl, arith, ℕ, zero, suc, ◌+◌, ◌<◌, ◌≤◌, inl, inr, ⊎_elim, Bool, true, false, cond, ◌&&◌, ◌||◌, List, [], ◌∷◌, ◌++◌, length, get_or, set, nat_eq, nat_lt, nat_le, subst}
 use Rattle.std.specs.declared.alloc.Global.{Global}
@@ -7,9 +7,9 @@ use Rattle.std.proofs.lemmas.Bool.{cases_lt, or_cases, or_left, or_right, false�
 use Rattle.std.proofs.lemmas.Bool.Decides.{nat_tests}
 use Rattle.std.proofs.lemmas.List.{append-nil, length-append, length-set}
 use Rattle.cell_values.specs.declared.order.Progress.{Progress}
-use Rattle.cell_values.specs.internal.Order.{has, list_at, ComesBehindNeeds}
+use Rattle.cell_values.specs.internal.Order.{has, list_at, ComesAfterNeeds}
 use Rattle.cell_values.specs.internal.Progress.{FirstOpen, IsSound, Tries, left}
-use Rattle.cell_values.proofs.Lists.{has-append, has-append_left, has-append_right, has_first, has_cases, has_at, at_has, nat_eq_equal, nat_eq_self, get_or-set, left-set, behind-append}
+use Rattle.cell_values.proofs.Lists.{has-append, has-append_left, has-append_right, has_first, has_cases, has_at, at_has, nat_eq_equal, nat_eq_self, get_or-set, left-set, after-append}
 
 -- the list that a look-up finds
 pub list_at-found : (needs : List (Vec ℕ Global)) (i : ℕ) (v : Vec ℕ Global) → i < length needs → v ≡ get_or needs i v → list_at needs i ≡ v.items
@@ -22,7 +22,7 @@ module _ (needs : List (Vec ℕ Global)) (node : ℕ) (s : Progress) (sound : Is
   gone_by : (m : ℕ) → m < found → m < length list → has (get_or list m 0) s.order.items ≡ true
   gone_by m below within = ⊎_elim
       (λ (before : m < get_or s.passed.items node 0). subst (λ l. m < length l → has (get_or l m 0) s.order.items ≡ true) at (sound.passed node m before) within)
-      (λ (behind : get_or s.passed.items node 0 ≤ m). sym (sound.marked (get_or list m 0)) ∙ open_at.0 m behind below within)
+      (λ (after : get_or s.passed.items node 0 ≤ m). sym (sound.marked (get_or list m 0)) ∙ open_at.0 m after below within)
       (cases_lt m (get_or s.passed.items node 0))
 
   module _ (t : Progress) where
@@ -39,7 +39,7 @@ module _ (needs : List (Vec ℕ Global)) (node : ℕ) (s : Progress) (sound : Is
             (λ (old : has i s.order.items ≡ true). sound.nodes i old)
             (λ (here : has i (node ∷ []) ≡ true). ⊎_elim (λ (same : i ≡ node). subst (λ k. k < length needs) (sym same) inside) (λ never. absurd (false≢true never)) (has_cases i node [] here))
             (or_cases (has i s.order.items) (has i (node ∷ [])) (sym (has-append i s.order.items (node ∷ [])) ∙ ap (has i) (sym order) ∙ h));
-        behind = subst (λ xs. ComesBehindNeeds needs [] xs) (sym order) (behind-append needs s.order.items [] node sound.behind ready);
+        after = subst (λ xs. ComesAfterNeeds needs [] xs) (sym order) (after-append needs s.order.items [] node sound.after ready);
         few = counts;
         passed = λ i m below within. kept (get_or (list_at needs i) m 0) (sound.passed i m (subst (λ v. m < get_or v.items i 0) passed below) within);
       };
@@ -84,7 +84,7 @@ module _ (needs : List (Vec ℕ Global)) (node : ℕ) (s : Progress) (sound : Is
         passed_count = ap length passed ∙ length-set s.passed.items node found ∙ sound.passed_count;
         waiting_count = count ∙ sound.waiting_count;
         nodes = λ i h. sound.nodes i (ap (λ v. has i v.items) (sym order) ∙ h);
-        behind = subst (λ v. ComesBehindNeeds needs [] v.items) (sym order) sound.behind;
+        after = subst (λ v. ComesAfterNeeds needs [] v.items) (sym order) sound.after;
         few = subst (λ v. length v.items + left t.done.items ≡ length needs) (sym order) (subst (λ v. length s.order.items + left v.items ≡ length needs) (sym done) sound.few);
         passed = λ i m below inner. ap (λ v. has (get_or (list_at needs i) m 0) v.items) order ∙ by_node i m (nat_eq i node) refl (subst (λ n. m < n) (ap (λ xs. get_or xs i 0) passed ∙ get_or-set s.passed.items node i found 0 inside_passed) below) inner;
       };

@@ -1,4 +1,4 @@
--- The values that are shown while the cells of a book are worked out, each behind all that it needs: those of the
+-- The values that are shown while the cells of a book are worked out, each after all that it needs: those of the
 -- cells done, and #CYCLE! elsewhere. Serves what works the values out.
 use Rattle.std.proofs.Common.{◌≡◌, ◌∙◌, sym, ap, refl, ℕ, ◌<◌, ◌||◌, ◌&&◌, Bool, true, false, cond, eqb, ltb, get_or, List, [], ◌∷◌, length, Option, Some, None, subst, ⊎_elim, eqb-true, eq-eqb}
 use Rattle.std.specs.declared.alloc.Global.{Global}
@@ -17,7 +17,7 @@ use Rattle.value_network.proofs.Values.{works_after, value-bad}
 use Rattle.cell_values.specs.Workbook.{Book}
 use Rattle.cell_values.specs.Needs.{needs_place}
 use Rattle.cell_values.specs.Values.{worked_out, network, is_bad, value_at}
-use Rattle.cell_values.specs.internal.Order.{has, list_at, ComesBehindNeeds, OthersNeedOthers, AreNodes}
+use Rattle.cell_values.specs.internal.Order.{has, list_at, ComesAfterNeeds, OthersNeedOthers, AreNodes}
 use Rattle.cell_values.specs.internal.Shown.{number_at, IsNumberOf, NumbersAll, SaysNeeds, value_numbered, shown_by, WorksOut, ShowsCycles}
 use Rattle.cell_values.specs.declared.nodes.Nodes.{Nodes}
 use Rattle.cell_values.specs.declared.evaluate.Shown.{Shown}
@@ -74,7 +74,7 @@ module _ (b : Book) (nodes : Nodes) (needs : List (Vec ℕ Global)) (numbers : N
         (λ q. value_numbered values (number_at nodes q)) (λ q r is_done need. done_closed q r is_done (number_at nodes q) refl need) (λ q is_done. done_value q is_done (number_at nodes q) refl)
         p next_is_good (λ q need j is. needed_done q j need is)
 
-  -- where the next cell is worked out behind all that it needs, one cell more is done
+  -- where the next cell is worked out after all that it needs, one cell more is done
   module _ (old new : List Scalar) (done : List ℕ) (keeps : KeepsValues b nodes old done) (i : ℕ) (inside : i < length nodes.places.items) (count : length old ≡ length nodes.places.items)
       (ready : (j : ℕ) → has j (list_at needs i) ≡ true → has j done ≡ true)
       (sets : (j : ℕ) → get_or new j Empty ≡ cond (eqb j i && ltb i (length old)) (worked_out (λ q. value_numbered old (number_at nodes q)) (get b (get_or nodes.places.items i origin))) (get_or old j Empty)) where
@@ -150,22 +150,22 @@ module _ (b : Book) (nodes : Nodes) (needs : List (Vec ℕ Global)) (numbers : N
     pub all_show : (p : Place) → value_numbered values (number_at nodes p) ≡ value_at b p
     all_show p = shows p (number_at nodes p) refl
 
--- the numbers done and those that are left make up the order, each behind all that it needs
+-- the numbers done and those that are left make up the order, each after all that it needs
 pub record IsUnderWay (b : Book) (needs : List (Vec ℕ Global)) (order : List ℕ) (s : Shown) (rest : List ℕ) : Type 0 where
   pub done : List ℕ
   pub numbers : NumbersAll b s.nodes
   pub says : SaysNeeds b s.nodes needs
   pub count : length s.values.items ≡ length s.nodes.places.items
   pub keeps : KeepsValues b s.nodes s.values.items done
-  pub behind : ComesBehindNeeds needs done rest
+  pub after : ComesAfterNeeds needs done rest
   pub gone : (j : ℕ) → has j done ≡ true → has j order ≡ true
   pub left : (j : ℕ) → has j rest ≡ true → has j order ≡ true
   pub all : (j : ℕ) → has j order ≡ true → (has j done || has j rest) ≡ true
 
 module _ (b : Book) (needs : List (Vec ℕ Global)) (order : List ℕ) where
   -- at first no number is done
-  pub starts : (nodes : Nodes) (s : Shown) → NumbersAll b nodes → SaysNeeds b nodes needs → ShowsCycles nodes s → ComesBehindNeeds needs [] order → IsUnderWay b needs order s order
-  starts nodes s numbers says cycles behind = record {
+  pub starts : (nodes : Nodes) (s : Shown) → NumbersAll b nodes → SaysNeeds b nodes needs → ShowsCycles nodes s → ComesAfterNeeds needs [] order → IsUnderWay b needs order s order
+  starts nodes s numbers says cycles after = record {
     done = [];
     numbers = subst (NumbersAll b) (sym cycles.0) numbers;
     says = subst (λ n. SaysNeeds b n needs) (sym cycles.0) says;
@@ -176,7 +176,7 @@ module _ (b : Book) (needs : List (Vec ℕ Global)) (order : List ℕ) where
       closed = λ p q j is none need. absurd (false≢true none);
       others = λ p j is left. cycles.2 j (numbers.numbered p j (ap (λ n. number_at n p) (sym cycles.0) ∙ is)).0;
     };
-    behind = behind;
+    after = after;
     gone = λ j none. absurd (false≢true none);
     left = λ j h. h;
     all = λ j h. h;
@@ -193,8 +193,8 @@ module _ (b : Book) (needs : List (Vec ℕ Global)) (order : List ℕ) where
         says = subst (λ n. SaysNeeds b n needs) (sym set.0) way.says;
         count = set.1 ∙ way.count ∙ ap (λ n. length n.places.items) (sym set.0);
         keeps = subst (λ n. KeepsValues b n new.values.items (i ∷ way.done)) (sym set.0)
-            (keeps_more b old.nodes needs way.numbers way.says old.values.items new.values.items way.done way.keeps i inside way.count way.behind.0 set.2);
-        behind = way.behind.1;
+            (keeps_more b old.nodes needs way.numbers way.says old.values.items new.values.items way.done way.keeps i inside way.count way.after.0 set.2);
+        after = way.after.1;
         gone = λ j h. ⊎_elim
             (λ same. way.left j (or_left (eqb j i) (has j rest) same))
             (λ before. way.gone j before)

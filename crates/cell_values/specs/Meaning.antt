@@ -1,6 +1,6 @@
 -- What operators make of values, and what a formula's tree means. Source: OpenFormula's operators and conversions;
 -- the texts that are numbers, and the limit on joined texts, are this project's own.
-use Rattle.std.specs.Prelude.{ℕ, ℤ, pos, ◌+ℤ◌, ◌-ℤ◌, Bool, List, ◌++◌, length, nat_le, if◌then◌else◌, Result, Ok, Err}
+use Rattle.std.specs.Prelude.{ℕ, ℤ, pos, ◌+ℤ◌, ◌-ℤ◌, ◌*◌, Bool, List, ◌++◌, Result, Ok, Err}
 use Rattle.std.specs.declared.cmp.Ordering.{Ordering}
 use Rattle.std.specs.Ordering.{is_eq, is_ne, is_lt, is_gt, is_le, is_ge}
 use Rattle.cell_addr.specs.declared.place.Place.{Place}
@@ -10,7 +10,8 @@ use Rattle.cell_value.specs.declared.scalar.Scalar.{Scalar}
 use Rattle.cell_value.specs.declared.scalar.Scalar.TheVariants as scalar
 use Rattle.cell_value.specs.declared.fault.FaultKind.{FaultKind}
 use Rattle.cell_value.specs.declared.fault.FaultKind.TheVariants as fault
-use Rattle.cell_value.specs.Scalar.{to_number, shown_text, order_of, scalar_of}
+use Rattle.cell_value.specs.Scalar.{to_number, shown_text, order_of, scalar_of, made_text}
+use Rattle.fix_num.specs.declared.number.TheConstants.{ONE}
 use Rattle.formula_tree.specs.Term.{Term, number, text, truth, fault, cell, area, name, prefix, percent, binary, call, paren}
 use Rattle.formula_tree.specs.declared.reference.Corner.{Corner}
 use Rattle.formula_tree.specs.declared.operator.Op.{Op}
@@ -28,11 +29,7 @@ abbrev pub computed_both : (ℤ → ℤ → Result ℤ NumError) → Result ℤ 
 computed_both calculate (Ok m) right = computed (calculate m) right
 computed_both calculate (Err k) right = scalar.Fault k
 
--- a text as a value; one of more than 32,768 bytes is #VALUE!
-abbrev pub made_text : List ℕ → Scalar
-made_text w = if nat_le (length w) 32768 then scalar.Text w else scalar.Fault fault.Value
-
--- the texts of two values, one behind the other; the fault of the left one comes first
+-- the texts of two values, one after the other; the fault of the left one comes first
 abbrev pub joined : Scalar → Scalar → Scalar
 joined (scalar.Fault k) b = scalar.Fault k
 joined a (scalar.Fault k) = scalar.Fault k
@@ -70,7 +67,7 @@ signed_value Minus a = computed (λ m. within (pos 0 -ℤ m)) (to_number a)
 
 -- a percent sign divides by 100
 abbrev pub hundredth : Scalar → Scalar
-hundredth a = computed (λ m. quotient m (pos 100000000)) (to_number a)
+hundredth a = computed (λ m. quotient m (pos (100 * ONE))) (to_number a)
 
 -- what a tree means where every place shows the given value. A block where one value is wanted is #VALUE!; no
 -- function and no name is known yet.

@@ -18,8 +18,8 @@ use std::alloc::{AllocError, Global};
 use std::sync::ledger::Ledger;
 use steps::Steps;
 
-/// What the places of a workbook show so far: each filled cell the value at its number, and every
-/// other place nothing.
+// What the places of a workbook show so far: each filled cell the value at its number, and every
+// other place nothing.
 #[derive(Drop)]
 struct Shown {
     nodes: Nodes,
@@ -29,7 +29,7 @@ struct Shown {
 impl Shown {
     ghost use Rattle.cell_values.specs.internal.Shown.{ShowsCycles, shown_by, SetsValue, WorksOut};
 
-    /// Every filled cell shows `#CYCLE!` at first.
+    // Every filled cell shows `#CYCLE!` at first.
     fn new(alloc: Global, nodes: Nodes) -> Result<Shown, AllocError>
         ensures { IfOk result (λ shown. ShowsCycles nodes shown) }
     {
@@ -40,7 +40,7 @@ impl Shown {
         Ok(Shown { nodes, values })
     }
 
-    /// A copy of what a place shows.
+    // A copy of what a place shows.
     fn copy_at(&self, alloc: Global, at: Place) -> Result<Scalar, AllocError>
         ensures { IfOk result (λ scalar. scalar ≡ shown_by self.now at) }
     {
@@ -50,7 +50,7 @@ impl Shown {
         }
     }
 
-    /// A copy of the value at a number.
+    // A copy of the value at a number.
     fn copy_of(&self, alloc: Global, number: usize) -> Result<Scalar, AllocError>
         ensures { IfOk result (λ scalar. scalar ≡ slice_index_or self.now.values.items number Empty) }
     {
@@ -60,7 +60,7 @@ impl Shown {
         }
     }
 
-    /// Keeps the value of the cell with this number.
+    // Keeps the value of the cell with this number.
     fn keep(&mut self, number: usize, scalar: Scalar)
         ensures { SetsValue number scalar self.old self.new }
     {
@@ -69,7 +69,7 @@ impl Shown {
         }
     }
 
-    /// What a cell works out over what the places show.
+    // What a cell works out over what the places show.
     fn worked_out<L: Ledger>(
         &self,
         alloc: Global,
@@ -88,7 +88,7 @@ impl Shown {
         }
     }
 
-    /// What a tree means over what the places show.
+    // What a tree means over what the places show.
     fn meaning<L: Ledger>(
         &self,
         alloc: Global,
@@ -118,7 +118,7 @@ impl Shown {
         }
     }
 
-    /// Works out the cell with this number, and keeps its value.
+    // Works out the cell with this number, and keeps its value.
     fn work_out<L: Ledger>(
         &mut self,
         alloc: Global,
@@ -141,7 +141,7 @@ impl Shown {
 }
 
 /// What a place shows. Each cell that is on no cycle of needs, and needs none that is, directly or
-/// not, is worked out once, behind all cells that it needs; all others show `#CYCLE!`.
+/// not, is worked out once, after all cells that it needs; all others show `#CYCLE!`.
 pub fn value<L: Ledger>(
     alloc: Global,
     workbook: &Workbook,

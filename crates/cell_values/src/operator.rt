@@ -1,7 +1,6 @@
 // What operators make of values.
 ghost use Rattle.std.specs.Prelude.{◌≡◌, IfOk};
-ghost use Rattle.std.specs.String.{string_bytes};
-ghost use Rattle.cell_values.specs.Meaning.{combined, hundredth, joined, made_text, signed_value, truth_or_fault};
+ghost use Rattle.cell_values.specs.Meaning.{combined, hundredth, joined, signed_value, truth_or_fault};
 ghost use Rattle.cell_values.specs.internal.Arithmetic.{IsArithmetic};
 
 use cell_addr::Text;
@@ -10,11 +9,8 @@ use fix_num::Fixed;
 use formula_tree::{Op, Sign};
 use std::alloc::{AllocError, Global};
 
-/// The most bytes of a text that `&` makes. This project's own limit.
-const MAX_TEXT: usize = 32_768;
-
-/// The value of a sign and its operand: plus leaves the operand as it is, minus takes it from 0.
-/// Source: OpenFormula, the prefix operators.
+// The value of a sign and its operand: plus leaves the operand as it is, minus takes it from 0.
+// Source: OpenFormula, the prefix operators.
 pub(crate) fn signed(sign: Sign, operand: Scalar) -> Scalar
     ensures { result ≡ signed_value sign operand }
 {
@@ -27,7 +23,7 @@ pub(crate) fn signed(sign: Sign, operand: Scalar) -> Scalar
     }
 }
 
-/// The value of an operand with a percent sign. Source: OpenFormula, the postfix operator `%`.
+// The value of an operand with a percent sign. Source: OpenFormula, the postfix operator `%`.
 pub(crate) fn percent(operand: &Scalar) -> Scalar
     ensures { result ≡ hundredth operand.now }
 {
@@ -38,8 +34,8 @@ pub(crate) fn percent(operand: &Scalar) -> Scalar
     }
 }
 
-/// The value of an operator between two values. Numbers are wanted by `+ - * / ^` and texts by `&`;
-/// of two faults the left one comes first. Source: OpenFormula, the infix operators.
+// The value of an operator between two values. Numbers are wanted by `+ - * / ^` and texts by `&`;
+// of two faults the left one comes first. Source: OpenFormula, the infix operators.
 pub(crate) fn combined(
     alloc: Global,
     op: Op,
@@ -101,18 +97,7 @@ fn joined(alloc: Global, left: &Scalar, right: &Scalar) -> Result<Scalar, AllocE
             let mut text = String::new(alloc);
             text.push_str(left.shown(alloc)?.as_str())?;
             text.push_str(right.shown(alloc)?.as_str())?;
-            Ok(made_text(text))
+            Ok(Scalar::made_text(Text::new(text)))
         }
-    }
-}
-
-// A text as a value, where it has no more than 32,768 bytes.
-fn made_text(text: String) -> Scalar
-    ensures { result ≡ made_text (string_bytes text) }
-{
-    if text.len() <= MAX_TEXT {
-        Scalar::Text(Text::new(text))
-    } else {
-        Scalar::Fault(FaultKind::Value)
     }
 }

@@ -1,12 +1,12 @@
-// An order of nodes in which each comes behind all that it needs.
+// An order of nodes in which each comes after all that it needs.
 ghost use Rattle.std.specs.Prelude.{◌≡◌, ◌<◌, ◌≤◌, ◌&&◌, ◌++◌, ◌∷◌, [], ℕ, true, false, length, nat_eq, nat_lt, if◌then◌else◌, slice_index, slice_index_or, slice_set, IfOk, OnOk};
-ghost use Rattle.cell_values.specs.internal.Order.{AreNodes, ComesBehindNeeds, OthersNeedOthers, list_at};
+ghost use Rattle.cell_values.specs.internal.Order.{AreNodes, ComesAfterNeeds, OthersNeedOthers, list_at};
 ghost use Rattle.cell_values.specs.internal.Progress.{FirstOpen};
 
 use std::alloc::{AllocError, Global};
 use std::mem;
 
-/// How far an order has come.
+// How far an order has come.
 #[derive(Drop)]
 struct Progress {
     /// Which nodes are done.
@@ -15,14 +15,14 @@ struct Progress {
     passed: Vec<usize>,
     /// The nodes that wait for each node.
     waiting: Vec<Vec<usize>>,
-    /// The nodes that are done, each behind all that it needs.
+    /// The nodes that are done, each after all that it needs.
     order: Vec<usize>,
 }
 
 impl Progress {
     ghost use Rattle.cell_values.specs.internal.Progress.{IsSound, IsCovered, Tries, Releases};
 
-    /// No node is done, and none waits.
+    // No node is done, and none waits.
     fn new(alloc: Global, needs: &[Vec<usize>]) -> Result<Progress, AllocError>
         ensures { IfOk result (λ progress. IsSound needs.now progress) }
     {
@@ -42,8 +42,8 @@ impl Progress {
         })
     }
 
-    /// Tries a node: it is done where all that it needs is done, and else it waits for the first
-    /// need that isn't.
+    // Tries a node: it is done where all that it needs is done, and else it waits for the first
+    // need that isn't.
     fn attempt(&mut self, needs: &[Vec<usize>], node: usize) -> Result<(), AllocError>
         requires { IsSound needs.now self.old }
         ensures { OnOk result (Tries needs.now node self.old self.new) }
@@ -68,7 +68,7 @@ impl Progress {
         Ok(())
     }
 
-    /// Tries each node that waits for this one, which is done.
+    // Tries each node that waits for this one, which is done.
     fn release(
         &mut self,
         alloc: Global,
@@ -86,21 +86,21 @@ impl Progress {
     }
 }
 
-/// Whether a node is done.
+// Whether a node is done.
 fn is_done(done: &[bool], node: usize) -> bool
     ensures { result ≡ slice_index_or done.now node false }
 {
     done.get(node).copied().unwrap_or(false)
 }
 
-/// The count of a node, and 0 where it has none.
+// The count of a node, and 0 where it has none.
 fn count_at(counts: &[usize], node: usize) -> usize
     ensures { result ≡ slice_index counts.now node }
 {
     counts.get(node).copied().unwrap_or(0)
 }
 
-/// The place of the first node of the list that isn't done, from this place on.
+// The place of the first node of the list that isn't done, from this place on.
 fn first_open(list: &[usize], from: usize, done: &[bool]) -> usize
     ensures { FirstOpen list.now from done.now result }
 {
@@ -111,7 +111,7 @@ fn first_open(list: &[usize], from: usize, done: &[bool]) -> usize
     place
 }
 
-/// Marks a node as done.
+// Marks a node as done.
 fn mark(done: &mut Vec<bool>, node: usize)
     ensures marks { done.new.items ≡ slice_set done.old.items node true }
 {
@@ -120,7 +120,7 @@ fn mark(done: &mut Vec<bool>, node: usize)
     }
 }
 
-/// Puts the count of a node.
+// Puts the count of a node.
 fn put_count(counts: &mut Vec<usize>, node: usize, count: usize)
     ensures puts { counts.new.items ≡ slice_set counts.old.items node count }
 {
@@ -129,7 +129,7 @@ fn put_count(counts: &mut Vec<usize>, node: usize, count: usize)
     }
 }
 
-/// Lets a node wait for another.
+// Lets a node wait for another.
 fn wait(waiting: &mut Vec<Vec<usize>>, need: usize, node: usize) -> Result<(), AllocError>
     ensures count { OnOk result (length waiting.new.items ≡ length waiting.old.items) }
     ensures waits { OnOk result ((j : ℕ) → list_at waiting.new.items j ≡ (if nat_eq j need && nat_lt need (length waiting.old.items) then list_at waiting.old.items j ++ node ∷ [] else list_at waiting.old.items j)) }
@@ -140,7 +140,7 @@ fn wait(waiting: &mut Vec<Vec<usize>>, need: usize, node: usize) -> Result<(), A
     Ok(())
 }
 
-/// Takes out the nodes that wait for this one.
+// Takes out the nodes that wait for this one.
 fn take_waiting(alloc: Global, waiting: &mut Vec<Vec<usize>>, node: usize) -> Vec<usize>
     ensures taken { result.items ≡ list_at waiting.old.items node }
     ensures count { length waiting.new.items ≡ length waiting.old.items }
@@ -152,13 +152,13 @@ fn take_waiting(alloc: Global, waiting: &mut Vec<Vec<usize>>, node: usize) -> Ve
     }
 }
 
-/// An order of nodes in which each comes behind all that it needs, as long as it can be: each node
-/// that is left out needs one that is left out.
-///
-/// Nodes are the numbers below the length of the list, which says what each of them needs. A need
-/// that is no node is never done.
+// An order of nodes in which each comes after all that it needs, as long as it can be: each node
+// that is left out needs one that is left out.
+//
+// Nodes are the numbers below the length of the list, which says what each of them needs. A need
+// that is no node is never done.
 pub(crate) fn ready_order(alloc: Global, needs: &[Vec<usize>]) -> Result<Vec<usize>, AllocError>
-    ensures behind { IfOk result (λ order. ComesBehindNeeds needs.now [] order.items) }
+    ensures after { IfOk result (λ order. ComesAfterNeeds needs.now [] order.items) }
     ensures others { IfOk result (λ order. OthersNeedOthers needs.now order.items) }
     ensures nodes { IfOk result (λ order. AreNodes needs.now order.items) }
 {

@@ -1,5 +1,5 @@
 // The custom functions of a program, in the order in which they were added.
-ghost use Rattle.std.specs.Prelude.{◌≡◌, ◌++◌, ◌∷◌, [], OnOk, OnErr, find};
+ghost use Rattle.std.specs.Prelude.{◌≡◌, ◌++◌, ◌∷◌, [], IfOk, OnOk, OnErr, find};
 ghost use Rattle.std.specs.Option.{option_copied, option_map};
 ghost use Rattle.cell_addr.specs.Sheets.{same_name};
 ghost use Rattle.custom_fn.specs.Custom.{name_of};
@@ -35,12 +35,12 @@ impl Registry {
     ghost use Rattle.custom_fn.specs.Registry.{customs_of, custom_named, AnswersRefusal, refusal_of};
 
     /// No functions.
-    pub fn new(alloc: Global) -> Registry
-        ensures { customs_of result ≡ [] }
+    pub fn new(alloc: Global) -> Result<Registry, AllocError>
+        ensures { IfOk result (λ registry. customs_of registry ≡ []) }
     {
-        Registry {
+        Ok(Registry {
             customs: Vec::new(alloc),
-        }
+        })
     }
 
     /// The function of this name, in any case of its ASCII letters. The cost is the number of functions.
@@ -50,7 +50,7 @@ impl Registry {
         first_named(&self.customs, name)
     }
 
-    /// Adds a function behind the others.
+    /// Adds a function after the others.
     ///
     /// # Errors
     /// `NameInvalid` exactly where the name hasn't the form of a function's word; `NameTaken` exactly where

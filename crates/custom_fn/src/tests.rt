@@ -138,7 +138,7 @@ fn custom_functions_answer_their_rules(rt: HostRuntime) -> Result<(), AllocError
 #[test]
 fn functions_are_added_under_new_names(rt: HostRuntime) -> Result<(), AllocError> {
     let alloc = rt.alloc();
-    let mut registry = Registry::new(alloc);
+    let mut registry = Registry::new(alloc)?;
     for (name, refusal) in NAMES {
         let (Some(rule), Some(stored)) = (tiers(alloc, &LEVY)?, tiers(alloc, &LEVY)?) else {
             assert!(rt; false);

@@ -22,7 +22,7 @@ pub value_from-append : (n : ℕ) (xs ys : List ℕ) → value_from n (xs ++ ys)
 value_from-append n [] ys = refl
 value_from-append n (x ∷ xs) ys = value_from-append (10 * n + (x - 48)) xs ys
 
--- two runs of digits, one behind the other
+-- two runs of digits, one after the other
 pub value-append : (xs ys : List ℕ) → value (xs ++ ys) ≡ value xs * 10 ^ length ys + value ys
 value-append xs ys = value_from-append 0 xs ys ∙ value_from-split (value xs) ys
 

@@ -32,11 +32,11 @@ pub after_first-None : {X : Type 0} (p : X → Bool) (xs : List X) → position 
 after_first-None p xs e = sym (drop_all (position_or_len p xs + 1) xs (omega (arith, position_or_len-None p xs e)))
 
 -- ---- a text whose first part has no item that passes
-position_or_len_behind : {X : Type 0} (p : X → Bool) (xs : List X) (y : X) (ys : List X) → list_all (λ x. not (p x)) xs ≡ true → p y ≡ true → position_or_len p (xs ++ y ∷ ys) ≡ length xs
-position_or_len_behind p [] y ys h e = rw e refl
-position_or_len_behind p (x ∷ xs) y ys h e =
+position_or_len_after : {X : Type 0} (p : X → Bool) (xs : List X) (y : X) (ys : List X) → list_all (λ x. not (p x)) xs ≡ true → p y ≡ true → position_or_len p (xs ++ y ∷ ys) ≡ length xs
+position_or_len_after p [] y ys h e = rw e refl
+position_or_len_after p (x ∷ xs) y ys h e =
     let parts = and_parts (not (p x)) (list_all (λ z. not (p z)) xs) h in
-    rw (parts.0, position_or_len_behind p xs y ys parts.1 e) (omega arith)
+    rw (parts.0, position_or_len_after p xs y ys parts.1 e) (omega arith)
 
 position_or_len_none : {X : Type 0} (p : X → Bool) (xs : List X) → list_all (λ x. not (p x)) xs ≡ true → position_or_len p xs ≡ length xs
 position_or_len_none p [] h = refl
@@ -44,20 +44,20 @@ position_or_len_none p (x ∷ xs) h =
     let parts = and_parts (not (p x)) (list_all (λ z. not (p z)) xs) h in
     rw (parts.0, position_or_len_none p xs parts.1) (omega arith)
 
-behind_one : {X : Type 0} (xs : List X) (y : X) (ys : List X) → drop (suc (length xs)) (xs ++ y ∷ ys) ≡ ys
-behind_one [] y ys = refl
-behind_one (x ∷ xs) y ys = behind_one xs y ys
+after_one : {X : Type 0} (xs : List X) (y : X) (ys : List X) → drop (suc (length xs)) (xs ++ y ∷ ys) ≡ ys
+after_one [] y ys = refl
+after_one (x ∷ xs) y ys = after_one xs y ys
 
 -- round the first item that passes stand the parts that were put together
 pub before_first-append : {X : Type 0} (p : X → Bool) (xs : List X) (y : X) (ys : List X) → list_all (λ x. not (p x)) xs ≡ true → p y ≡ true → before_first p (xs ++ y ∷ ys) ≡ xs
-before_first-append p xs y ys h e = ap (λ n. take n (xs ++ y ∷ ys)) (position_or_len_behind p xs y ys h e) ∙ take_at xs (y ∷ ys) (length xs) refl
+before_first-append p xs y ys h e = ap (λ n. take n (xs ++ y ∷ ys)) (position_or_len_after p xs y ys h e) ∙ take_at xs (y ∷ ys) (length xs) refl
 
 pub after_first-append : {X : Type 0} (p : X → Bool) (xs : List X) (y : X) (ys : List X) → list_all (λ x. not (p x)) xs ≡ true → p y ≡ true → after_first p (xs ++ y ∷ ys) ≡ ys
 after_first-append p xs y ys h e =
-    ap (λ n. drop (n + 1) (xs ++ y ∷ ys)) (position_or_len_behind p xs y ys h e)
-    ∙ rw (add-one) (behind_one xs y ys)
+    ap (λ n. drop (n + 1) (xs ++ y ∷ ys)) (position_or_len_after p xs y ys h e)
+    ∙ rw (add-one) (after_one xs y ys)
 
--- where no item passes, all stands before it and nothing behind it
+-- where no item passes, all stands before it and nothing after it
 pub before_first-none : {X : Type 0} (p : X → Bool) (xs : List X) → list_all (λ x. not (p x)) xs ≡ true → before_first p xs ≡ xs
 before_first-none p xs h = take_all (position_or_len p xs) xs (omega (arith, position_or_len_none p xs h))
 

@@ -5,7 +5,7 @@ use Rattle.std.specs.Prelude.{ℕ, ◌+◌, ◌-◌, ◌*◌, Bool, ◌&&◌, na
 abbrev pub is_digit : ℕ → Bool
 is_digit c = nat_lt 47 c && nat_lt c 58
 
--- the number that digits spell behind those that spell n
+-- the number that digits spell after those that spell n
 abbrev pub value_from : ℕ → List ℕ → ℕ
 value_from n [] = n
 value_from n (c ∷ cs) = value_from (10 * n + (c - 48)) cs

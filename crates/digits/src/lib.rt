@@ -60,7 +60,7 @@ pub fn before_byte(text: &[u8], byte: u8) -> &[u8]
     }
 }
 
-/// The part of the text behind the first such byte, or nothing where there is none.
+/// The part of the text after the first such byte, or nothing where there is none.
 pub fn after_byte(text: &[u8], byte: u8) -> &[u8]
     ensures { result.now ≡ after_first (λ b. b == byte) text.now }
 {

@@ -11,7 +11,7 @@ use std::process::ExitCode;
 use std::sync::ledger::{Blank, Ledger};
 use steps::Steps;
 
-/// Two lines of a quantity and a price, what each and both come to, and the answer that is wanted.
+// Two lines of a quantity and a price, what each and both come to, and the answer that is wanted.
 const INVOICE: &str = "set,A1,2\nset,B1,10.5\nset,C1,=A1*B1\n\
     set,A2,3\nset,B2,120\nset,C2,=A2*B2\n\
     set,C3,=C1+C2\nvalue,C3\n";

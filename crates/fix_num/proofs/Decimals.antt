@@ -22,7 +22,7 @@ decimals_of-suc k rest h = let some : rest ≢ 0 = omega arith in rw (ne_eqb res
 pub ten_above : (k : ℕ) → 0 < 10 ^ k
 ten_above k = one-le-pow k 10 (omega arith)
 
--- the next place, and what is left behind it
+-- the next place, and what is left after it
 place_left : (p k : ℕ) → p < 6 → k ≡ 5 - p → 6 - p ≡ suc k
 place_left p k h e = omega arith
 

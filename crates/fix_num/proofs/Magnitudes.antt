@@ -10,7 +10,7 @@ use Rattle.digits.specs.Digits.{value, is_digit}
 use Rattle.digits.proofs.Numerals.{value-append, value_below}
 use Rattle.fix_num.specs.declared.error.NumError.TheVariants.{Range}
 use Rattle.fix_num.specs.Number.{near, within, signed}
-use Rattle.fix_num.specs.Text.{magnitude, whole, decimals, has_minus, behind_sign, are_parts, is_unsigned, number_of}
+use Rattle.fix_num.specs.Text.{magnitude, whole, decimals, has_minus, after_sign, are_parts, is_unsigned, number_of}
 
 -- few decimals: all of them count
 near_few : (k v : ℕ) → k ≤ 7 → (v * 10 ^ (7 - k) + 5) / 10 ≡ near (1000000 * v) (10 ^ k)
@@ -24,7 +24,7 @@ near_few (suc (suc (suc (suc (suc (suc zero)))))) v h = omega arith
 near_few (suc (suc (suc (suc (suc (suc (suc zero))))))) v h = omega arith
 near_few (suc (suc (suc (suc (suc (suc (suc (suc k)))))))) v h = absurd (omega arith)
 
--- many decimals: what stands behind the seventh doesn't count
+-- many decimals: what stands after the seventh doesn't count
 near_many : (m v r : ℕ) → 0 < m → r < m → (v + 5) / 10 ≡ near (1000000 * (v * m + r)) (10000000 * m)
 near_many m v r p h =
     let q = (v + 5) / 10 in
@@ -40,12 +40,12 @@ list_all_parts cs n h = and_parts _ _ (sym (list_all-append is_digit (take n cs)
 
 rounded_many : (cs : List ℕ) → list_all is_digit cs ≡ true → 7 ≤ length cs → (value (take 7 cs) + 5) / 10 ≡ near (1000000 * value cs) (10 ^ length cs)
 rounded_many cs h k =
-    let behind = drop 7 cs in
-    let n : length behind + 7 ≡ length cs = omega (arith, length-drop 7 cs) in
-    let p : 10 ^ length cs ≡ 10000000 * 10 ^ length behind = sym (ap (λ x. 10 ^ x) n) ∙ pow-add 10 (length behind) 7 ∙ omega arith in
-    let v : value cs ≡ value (take 7 cs) * 10 ^ length behind + value behind = sym (ap value (take-append-drop 7 cs)) ∙ value-append (take 7 cs) behind in
-    near_many (10 ^ length behind) (value (take 7 cs)) (value behind) (one-le-pow (length behind) 10 (omega arith)) (value_below behind ((list_all_parts cs 7 h).1))
-    ∙ ap (λ x. near (1000000 * x) (10000000 * 10 ^ length behind)) (sym v)
+    let after = drop 7 cs in
+    let n : length after + 7 ≡ length cs = omega (arith, length-drop 7 cs) in
+    let p : 10 ^ length cs ≡ 10000000 * 10 ^ length after = sym (ap (λ x. 10 ^ x) n) ∙ pow-add 10 (length after) 7 ∙ omega arith in
+    let v : value cs ≡ value (take 7 cs) * 10 ^ length after + value after = sym (ap value (take-append-drop 7 cs)) ∙ value-append (take 7 cs) after in
+    near_many (10 ^ length after) (value (take 7 cs)) (value after) (one-le-pow (length after) 10 (omega arith)) (value_below after ((list_all_parts cs 7 h).1))
+    ∙ ap (λ x. near (1000000 * x) (10000000 * 10 ^ length after)) (sym v)
     ∙ ap (λ x. near (1000000 * value cs) x) (sym p)
 
 min_of_less : (v m : ℕ) → v < m → min v m ≡ v
@@ -150,9 +150,9 @@ within_capped b v r = elim (cases_lt v 1000000000000) [
 ]
 
 -- what `from_bytes` computes of a text in the form of a number is the number that it spells
-pub number_of_parts : (text cs ws ds : List ℕ) (b : Bool) (w r : ℕ) → b ≡ has_minus text → cs ≡ behind_sign text → ws ≡ whole cs → ds ≡ decimals cs → are_parts ws ds ≡ true
+pub number_of_parts : (text cs ws ds : List ℕ) (b : Bool) (w r : ℕ) → b ≡ has_minus text → cs ≡ after_sign text → ws ≡ whole cs → ds ≡ decimals cs → are_parts ws ds ≡ true
     → w ≡ min (value ws) 1000000000000 → r ≡ near (1000000 * value ds) (10 ^ length ds) → within (signed b (w * 1000000 + r)) ≡ number_of text
 number_of_parts text cs ws ds b w r eb ec ew ed parts ev er =
-    let number : is_unsigned (behind_sign text) ≡ true = ap is_unsigned (sym ec) ∙ sym (ap (λ x. are_parts x (decimals cs)) ew) ∙ sym (ap (are_parts ws) ed) ∙ parts in
-    rw number (rw (er, ev, ed, ew, ec, eb) (within_capped (has_minus text) (value (whole (behind_sign text))) (near (1000000 * value (decimals (behind_sign text))) (10 ^ length (decimals (behind_sign text))))
-    ∙ ap (λ n. within (signed (has_minus text) n)) (sym (magnitude_of_parts (behind_sign text)))))
+    let number : is_unsigned (after_sign text) ≡ true = ap is_unsigned (sym ec) ∙ sym (ap (λ x. are_parts x (decimals cs)) ew) ∙ sym (ap (are_parts ws) ed) ∙ parts in
+    rw number (rw (er, ev, ed, ew, ec, eb) (within_capped (has_minus text) (value (whole (after_sign text))) (near (1000000 * value (decimals (after_sign text))) (10 ^ length (decimals (after_sign text))))
+    ∙ ap (λ n. within (signed (has_minus text) n)) (sym (magnitude_of_parts (after_sign text)))))

@@ -12,7 +12,7 @@ use Rattle.digits.proofs.Numerals.{is_digit-bounds}
 use Rattle.digits.proofs.Printed.{value-decimal, list_all-decimal}
 use Rattle.digits.proofs.Parts.{before_first-append, after_first-append, before_first-none, after_first-none, digits_without}
 use Rattle.fix_num.specs.Number.{IsInside, near, within}
-use Rattle.fix_num.specs.Text.{is_point, whole, decimals, has_minus, behind_sign, are_parts, is_unsigned, magnitude, number_of, decimals_of, fraction_of, unsigned_text, text_of}
+use Rattle.fix_num.specs.Text.{is_point, whole, decimals, has_minus, after_sign, are_parts, is_unsigned, magnitude, number_of, decimals_of, fraction_of, unsigned_text, text_of}
 use Rattle.fix_num.specs.Laws.{IsWholePart, AreDecimals, HasPlainForm}
 use Rattle.fix_num.proofs.Decimals.{decimals_of-zero, ten_above}
 use Rattle.fix_num.proofs.Magnitudes.{near_with_whole, magnitude_of_parts}
@@ -35,15 +35,15 @@ fraction_some f h = rw (ne_eqb f 0 h) refl
 no_point : (ds : List ℕ) → list_all is_digit ds ≡ true → list_all (λ d. not (d == 46)) ds ≡ true
 no_point ds h = digits_without 46 ds refl h
 
--- digits with the fraction of f behind them are split into the digits and the decimals of f
+-- digits with the fraction of f after them are split into the digits and the decimals of f
 whole_of : (ds : List ℕ) (f : ℕ) → list_all is_digit ds ≡ true → whole (ds ++ fraction_of f) ≡ ds
 whole_of ds f h = elim (cases_eq f 0) [
   | inl zero_left ↦ rw (fraction_none f zero_left, append-nil ds) (before_first-none is_point ds (no_point ds h))
   | inr some ↦ rw (fraction_some f some) (before_first-append is_point ds 46 (decimals_of 6 f) (no_point ds h) refl)
 ]
 
-decimals_behind : (ds : List ℕ) (f : ℕ) → list_all is_digit ds ≡ true → decimals (ds ++ fraction_of f) ≡ decimals_of 6 f
-decimals_behind ds f h = elim (cases_eq f 0) [
+decimals_after : (ds : List ℕ) (f : ℕ) → list_all is_digit ds ≡ true → decimals (ds ++ fraction_of f) ≡ decimals_of 6 f
+decimals_after ds f h = elim (cases_eq f 0) [
   | inl zero_left ↦ rw (fraction_none f zero_left, append-nil ds) (after_first-none is_point ds (no_point ds h) ∙ sym (ap (decimals_of 6) zero_left ∙ decimals_of-zero 6))
   | inr some ↦ rw (fraction_some f some) (after_first-append is_point ds 46 (decimals_of 6 f) (no_point ds h) refl)
 ]
@@ -52,7 +52,7 @@ pub whole-unsigned_text : (n : ℕ) → n < 1000000000000000000 → whole (unsig
 whole-unsigned_text n h = whole_of (decimal (n / 1000000)) (n % 1000000) (list_all-decimal (n / 1000000) (whole_inside n h))
 
 pub decimals-unsigned_text : (n : ℕ) → n < 1000000000000000000 → decimals (unsigned_text n) ≡ decimals_of 6 (n % 1000000)
-decimals-unsigned_text n h = decimals_behind (decimal (n / 1000000)) (n % 1000000) (list_all-decimal (n / 1000000) (whole_inside n h))
+decimals-unsigned_text n h = decimals_after (decimal (n / 1000000)) (n % 1000000) (list_all-decimal (n / 1000000) (whole_inside n h))
 
 parts_are : (ws ds : List ℕ) → list_all is_digit ws ≡ true → list_all is_digit ds ≡ true → 0 < length ws → are_parts ws ds ≡ true
 parts_are ws ds h k s =
@@ -91,7 +91,7 @@ not_sign : (c : ℕ) → is_digit c ≡ true → ((c == 45) ≡ false) × ((c ==
 not_sign c h = let b = is_digit-bounds c h in (ne_eqb c 45 (λ e. omega arith), ne_eqb c 43 (λ e. omega arith))
 
 -- a text that begins with a digit has no sign
-no_sign : (xs ys : List ℕ) → 0 < length xs → list_all is_digit xs ≡ true → (has_minus (xs ++ ys) ≡ false) × (behind_sign (xs ++ ys) ≡ xs ++ ys)
+no_sign : (xs ys : List ℕ) → 0 < length xs → list_all is_digit xs ≡ true → (has_minus (xs ++ ys) ≡ false) × (after_sign (xs ++ ys) ≡ xs ++ ys)
 no_sign [] ys s h = absurd (omega arith)
 no_sign (x ∷ xs) ys s h = let n = not_sign x ((and_parts (is_digit x) (list_all is_digit xs) h).0) in (n.0, rw (n.0, n.1) refl)
 

@@ -16,7 +16,7 @@ is_point c = c == 46
 abbrev pub whole : List ℕ → List ℕ
 whole cs = before_first is_point cs
 
--- what stands behind the first point
+-- what stands after the first point
 abbrev pub decimals : List ℕ → List ℕ
 decimals cs = after_first is_point cs
 
@@ -25,12 +25,12 @@ abbrev pub has_minus : List ℕ → Bool
 has_minus [] = false
 has_minus (c ∷ cs) = c == 45
 
--- the text behind its plus or minus sign, if it has one
-abbrev pub behind_sign : List ℕ → List ℕ
-behind_sign [] = []
-behind_sign (c ∷ cs) = if (c == 45) || (c == 43) then cs else c ∷ cs
+-- the text after its plus or minus sign, if it has one
+abbrev pub after_sign : List ℕ → List ℕ
+after_sign [] = []
+after_sign (c ∷ cs) = if (c == 45) || (c == 43) then cs else c ∷ cs
 
--- these bytes before a point and behind it make a number: digits alone, and one at least
+-- these bytes before a point and after it make a number: digits alone, and one at least
 abbrev pub are_parts : List ℕ → List ℕ → Bool
 are_parts ws ds = list_all is_digit ws && list_all is_digit ds && not (length ws == 0 && length ds == 0)
 
@@ -45,11 +45,11 @@ magnitude cs = near (ONE * value (whole cs ++ decimals cs)) (10 ^ length (decima
 -- the number that the text spells, NotANumber where it has another form, and Range where the number is outside
 abbrev pub number_of : List ℕ → Result ℤ NumError
 number_of text =
-    if is_unsigned (behind_sign text)
-    then within (signed (has_minus text) (magnitude (behind_sign text)))
+    if is_unsigned (after_sign text)
+    then within (signed (has_minus text) (magnitude (after_sign text)))
     else Err NotANumber
 
--- the digits of rest / 10^places behind a point, without zeros at the end
+-- the digits of rest / 10^places after a point, without zeros at the end
 unfoldable pub decimals_of : ℕ → ℕ → List ℕ
 decimals_of zero rest = []
 decimals_of (suc places) rest = if rest == 0 then [] else (48 + rest / 10 ^ places) ∷ decimals_of places (rest % 10 ^ places)

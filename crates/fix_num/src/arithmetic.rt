@@ -6,7 +6,7 @@ use crate::error::NumError;
 use crate::number::{Fixed, ONE};
 use crate::rounding::near;
 
-/// The greatest absolute value of an exponent.
+// The greatest absolute value of an exponent.
 const MAX_EXPONENT: u64 = 1_000;
 
 impl Fixed {
@@ -79,7 +79,7 @@ impl Fixed {
         }
     }
 
-    /// 1 multiplied so often by the number, each product rounded.
+    // 1 multiplied so often by the number, each product rounded.
     fn multiplied(self, times: u64) -> Result<Fixed, NumError>
         ensures { result ≡ multiplied (pos ONE) self times }
     {

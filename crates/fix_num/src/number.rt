@@ -90,7 +90,7 @@ impl Fixed {
         self.millionths.unsigned_abs()
     }
 
-    /// The number of this absolute value in millionths, negative or not.
+    // The number of this absolute value in millionths, negative or not.
     pub(crate) fn of_size(negative: bool, size: u64) -> Fixed
         requires { size < LIMIT }
         ensures { result ≡ signed negative size }

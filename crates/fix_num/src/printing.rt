@@ -27,7 +27,7 @@ impl Fixed {
     }
 }
 
-/// Writes the six decimals of so many millionths, without zeros at the end.
+// Writes the six decimals of so many millionths, without zeros at the end.
 fn push_decimals(text: &mut String, millionths: u64) -> Result<(), AllocError>
     requires { millionths < ONE }
     ensures { OnOk result (string_bytes text.new ≡ string_bytes text.old ++ decimals_of 6 millionths) }
@@ -44,7 +44,7 @@ fn push_decimals(text: &mut String, millionths: u64) -> Result<(), AllocError>
     Ok(())
 }
 
-/// Writes one digit.
+// Writes one digit.
 fn push_digit(text: &mut String, digit: u64) -> Result<(), AllocError>
     requires { digit < 10 }
     ensures { OnOk result (string_bytes text.new ≡ string_bytes text.old ++ (48 + digit) ∷ []) }

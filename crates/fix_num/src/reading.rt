@@ -3,13 +3,13 @@ ghost use Rattle.std.specs.Prelude.{◌≡◌, ◌*◌, ◌^◌, ◌≤◌, true
 ghost use Rattle.std.specs.List.{list_all};
 ghost use Rattle.digits.specs.Digits.{is_digit, value};
 ghost use Rattle.fix_num.specs.Number.{near};
-ghost use Rattle.fix_num.specs.Text.{number_of, has_minus, behind_sign, are_parts};
+ghost use Rattle.fix_num.specs.Text.{number_of, has_minus, after_sign, are_parts};
 
 use crate::error::NumError;
 use crate::number::{Fixed, ONE};
 use digits::{after_byte, all_digits, before_byte, value_at_most};
 
-/// A whole part that no number has: this and every greater one is outside.
+// A whole part that no number has: this and every greater one is outside.
 const MAX_WHOLE: u64 = 1_000_000_000_000;
 
 impl Fixed {
@@ -40,10 +40,10 @@ impl Fixed {
     }
 }
 
-/// Whether the text begins with a minus sign, and the text behind its sign.
+// Whether the text begins with a minus sign, and the text after its sign.
 fn split_sign(text: &[u8]) -> (bool, &[u8])
     ensures negative { result.0 ≡ has_minus text.now }
-    ensures behind { result.1.now ≡ behind_sign text.now }
+    ensures after { result.1.now ≡ after_sign text.now }
 {
     match text {
         [b'-', number @ ..] => (true, number),
@@ -52,14 +52,14 @@ fn split_sign(text: &[u8]) -> (bool, &[u8])
     }
 }
 
-/// Whether the bytes before a point and behind it make a number: digits alone, and one at least.
+// Whether the bytes before a point and after it make a number: digits alone, and one at least.
 fn are_parts(whole: &[u8], decimals: &[u8]) -> bool
     ensures { result ≡ are_parts whole.now decimals.now }
 {
     all_digits(whole) && all_digits(decimals) && !(whole.is_empty() && decimals.is_empty())
 }
 
-/// The decimals in millionths, rounded by the seventh, a half going up.
+// The decimals in millionths, rounded by the seventh, a half going up.
 fn rounded(decimals: &[u8]) -> u64
     requires { list_all is_digit decimals.now ≡ true }
     ensures rounded { result ≡ near (ONE * value decimals.now) (10 ^ length decimals.now) }

@@ -5,7 +5,7 @@ ghost use Rattle.fix_num.specs.Number.{near, within, rounded_to, floor_of, trunc
 use crate::error::NumError;
 use crate::number::{Fixed, ONE};
 
-/// The whole number nearest to p / q, of two as near the greater.
+// The whole number nearest to p / q, of two as near the greater.
 pub(crate) fn near(p: u128, q: u128) -> u128
     requires positive { 0 < q }
     requires dividend { p < 2 ^ 126 }
@@ -15,7 +15,7 @@ pub(crate) fn near(p: u128, q: u128) -> u128
     (2 * p + q) / (2 * q)
 }
 
-/// 10^(-places) in millionths, for a number of places that makes it one millionth to 10^12.
+// 10^(-places) in millionths, for a number of places that makes it one millionth to 10^12.
 fn unit(places: i32) -> u64
     requires most { places <ℤ pos 6 }
     requires least { negsuc 12 <ℤ places }

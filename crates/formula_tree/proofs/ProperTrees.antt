@@ -9,7 +9,7 @@ use Rattle.cell_addr.specs.declared.place.TheConstants.{ROWS, COLS}
 use Rattle.cell_addr.specs.Text.{capitals}
 use Rattle.fix_num.specs.declared.error.NumError.TheVariants.{Range, NotANumber}
 use Rattle.fix_num.specs.Number as numbers
-use Rattle.fix_num.specs.Text.{has_minus, behind_sign, is_unsigned, magnitude, number_of}
+use Rattle.fix_num.specs.Text.{has_minus, after_sign, is_unsigned, magnitude, number_of}
 use Rattle.formula_tree.specs.declared.reference.Corner.{Corner}
 use Rattle.formula_tree.specs.declared.address.Address.{Address}
 use Rattle.formula_tree.specs.Token.{Token}
@@ -32,8 +32,8 @@ number-proper false n m e = cc
 
 number_of-proper : (w : List ℕ) (m : ℤ) → has_minus w ≡ false → number_of w ≡ Ok m → IsProper (number m)
 number_of-proper w m h e =
-    number-proper (is_unsigned (behind_sign w)) (magnitude (behind_sign w)) m
-    (ap (λ b. if is_unsigned (behind_sign w) then numbers.within (numbers.signed b (magnitude (behind_sign w))) else Err NotANumber) (sym h) ∙ e)
+    number-proper (is_unsigned (after_sign w)) (magnitude (after_sign w)) m
+    (ap (λ b. if is_unsigned (after_sign w) then numbers.within (numbers.signed b (magnitude (after_sign w))) else Err NotANumber) (sym h) ∙ e)
 
 -- corners in order
 pick-below : (b : Bool) (x y n : ℕ) → x < n → y < n → (if b then x else y) < n

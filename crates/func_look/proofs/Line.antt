@@ -42,11 +42,11 @@ get_at : (m : ℕ) (x : Scalar) (xs : List Scalar) → get_or (replicate m Empty
 get_at zero x xs = refl
 get_at (suc m) x xs = get_at m x xs
 
-get_behind : (m k : ℕ) (x : Scalar) (xs : List Scalar) → get_or (replicate m Empty ++ x ∷ xs) (m + suc k) Empty ≡ get_or xs k Empty
-get_behind zero k x xs = let e : zero + suc k ≡ suc k = omega arith in ap (λ n. get_or (x ∷ xs) n Empty) e
-get_behind (suc m) k x xs =
+get_after : (m k : ℕ) (x : Scalar) (xs : List Scalar) → get_or (replicate m Empty ++ x ∷ xs) (m + suc k) Empty ≡ get_or xs k Empty
+get_after zero k x xs = let e : zero + suc k ≡ suc k = omega arith in ap (λ n. get_or (x ∷ xs) n Empty) e
+get_after (suc m) k x xs =
     let e : suc m + suc k ≡ suc (m + suc k) = omega arith in
-    ap (λ n. get_or (replicate (suc m) Empty ++ x ∷ xs) n Empty) e ∙ get_behind m k x xs
+    ap (λ n. get_or (replicate (suc m) Empty ++ x ∷ xs) n Empty) e ∙ get_after m k x xs
 
 get_by : (from size k : ℕ) (cell : Filled) (rest : List Filled) → IsNext from size cell rest → from ≤ k
     → (cell.index + 1 ≤ k → get_or (spread (cell.index + 1) size rest) (k - (cell.index + 1)) Empty ≡ value_in k rest)
@@ -65,7 +65,7 @@ get_by from size k cell rest n o later (inr (inr l)) =
     let other : eqb cell.index k ≡ false = grind (arith, nat_tests) in
     let at : k - from ≡ (cell.index - from) + suc (k - (cell.index + 1)) = omega arith in
     ap (λ m. get_or (replicate (cell.index - from) Empty ++ cell.value ∷ spread (cell.index + 1) size rest) m Empty) at
-    ∙ get_behind (cell.index - from) (k - (cell.index + 1)) cell.value (spread (cell.index + 1) size rest) ∙ later (omega arith)
+    ∙ get_after (cell.index - from) (k - (cell.index + 1)) cell.value (spread (cell.index + 1) size rest) ∙ later (omega arith)
     ∙ sym (ap (λ b. cond b cell.value (value_in k rest)) other)
 
 three : (a b : ℕ) → (a < b) ⊎ ((a ≡ b) ⊎ (b < a))

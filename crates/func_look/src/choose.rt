@@ -6,8 +6,8 @@ use cell_value::{Arg, FaultKind, Scalar};
 use func_args::whole_of;
 use std::alloc::{AllocError, Global};
 
-/// `CHOOSE(N, A, ..)`: the argument at this position among the others, from 1. Only the chosen one's
-/// fault counts.
+// `CHOOSE(N, A, ..)`: the argument at this position among the others, from 1. Only the chosen one's
+// fault counts.
 pub(crate) fn choose_value(alloc: Global, args: &[Arg]) -> Result<Scalar, AllocError>
     ensures { IfOk result (λ value. value ≡ choose_value args.now) }
 {

@@ -7,7 +7,7 @@ use cell_value::{Area, Arg, FaultKind, Scalar};
 use func_args::{block_of, whole_of};
 use std::alloc::{AllocError, Global};
 
-/// `INDEX(R, N [, N])`: the value in a row and a column.
+// `INDEX(R, N [, N])`: the value in a row and a column.
 pub(crate) fn index_value(alloc: Global, args: &[Arg]) -> Result<Scalar, AllocError>
     ensures { IfOk result (λ value. value ≡ scalar_value (index_value args.now)) }
 {
@@ -42,7 +42,7 @@ fn indexed(alloc: Global, area: &Area, row: i64, col: i64) -> Result<Scalar, All
     }
 }
 
-/// The place from 0 of this number from 1, of so many: `Value` below 1, and `Ref` beyond.
+// The place from 0 of this number from 1, of so many: `Value` below 1, and `Ref` beyond.
 pub(crate) fn place_of(number: i64, size: u32) -> Result<u32, FaultKind>
     ensures place { result ≡ place_of number size }
     ensures within { IfOk result (λ at. at < size) }
@@ -56,7 +56,7 @@ pub(crate) fn place_of(number: i64, size: u32) -> Result<u32, FaultKind>
     }
 }
 
-/// A copy of the value in this row and column.
+// A copy of the value in this row and column.
 pub(crate) fn copy_at(alloc: Global, area: &Area, row: u32, col: u32) -> Result<Scalar, AllocError>
     requires row { row < area.now.rows }
     requires col { col < area.now.cols }

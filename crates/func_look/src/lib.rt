@@ -17,3 +17,6 @@ mod value;
 
 pub use function::LookFn;
 pub use value::look;
+
+#[cfg(test)]
+mod tests;

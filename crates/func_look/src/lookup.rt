@@ -8,8 +8,8 @@ use crate::taken::{Mode, taken_of_column, taken_of_row};
 use cell_value::{Area, FaultKind, Scalar};
 use std::alloc::{AllocError, Global};
 
-/// `VLOOKUP(A, R, N [, B])`: the value in this column, from 1, of the row that the first column's look-up
-/// takes.
+// `VLOOKUP(A, R, N [, B])`: the value in this column, from 1, of the row that the first column's look-up
+// takes.
 pub(crate) fn vlookup(
     alloc: Global,
     value: &Scalar,
@@ -29,8 +29,8 @@ pub(crate) fn vlookup(
     }
 }
 
-/// `HLOOKUP(A, R, N [, B])`: the value in this row, from 1, of the column that the first row's look-up
-/// takes.
+// `HLOOKUP(A, R, N [, B])`: the value in this row, from 1, of the column that the first row's look-up
+// takes.
 pub(crate) fn hlookup(
     alloc: Global,
     value: &Scalar,

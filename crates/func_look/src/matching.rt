@@ -7,7 +7,7 @@ use cell_value::{Area, Arg, FaultKind, Scalar};
 use fix_num::Fixed;
 use func_args::{block_of, counted, number_of, value_of};
 
-/// `MATCH(A, R [, N])`: where the value stands in the row or column.
+// `MATCH(A, R [, N])`: where the value stands in the row or column.
 pub(crate) fn match_value(args: &[Arg]) -> Result<Fixed, FaultKind>
     ensures { result ≡ match_value args.now }
 {

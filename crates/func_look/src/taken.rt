@@ -29,7 +29,7 @@ struct Line {
     count: u64,
 }
 
-/// The place among all cells, from 0, of the item that the look-up takes.
+// The place among all cells, from 0, of the item that the look-up takes.
 pub(crate) fn taken_of_all(mode: Mode, value: &Scalar, area: &Area) -> Option<u64>
     ensures taken { result ≡ taken mode (sought value.now) area.now.values }
     ensures within { IfSome result (λ at. at + 1 < 2 ^ 64) }
@@ -41,7 +41,7 @@ pub(crate) fn taken_of_all(mode: Mode, value: &Scalar, area: &Area) -> Option<u6
     found(mode, value, area, line)
 }
 
-/// The row of the item that the look-up takes in the first column.
+// The row of the item that the look-up takes in the first column.
 pub(crate) fn taken_of_column(mode: Mode, value: &Scalar, area: &Area) -> Option<u32>
     ensures taken { result ≡ taken mode (sought value.now) (first_column area.now) }
     ensures within { IfSome result (λ at. at < area.now.rows) }
@@ -56,7 +56,7 @@ pub(crate) fn taken_of_column(mode: Mode, value: &Scalar, area: &Area) -> Option
     }
 }
 
-/// The column of the item that the look-up takes in the first row.
+// The column of the item that the look-up takes in the first row.
 pub(crate) fn taken_of_row(mode: Mode, value: &Scalar, area: &Area) -> Option<u32>
     ensures taken { result ≡ taken mode (sought value.now) (first_row area.now) }
     ensures within { IfSome result (λ at. at < area.now.cols) }

@@ -12,9 +12,9 @@ use fix_num::Fixed;
 use func_args::{block_of, counted, value_of};
 use std::alloc::{AllocError, Global};
 
-/// `COUNTA(L, ..)`: how many values other than empty ones there are, faults too.
-///
-/// Want of memory where there are 2^64 or more, which no memory holds.
+// `COUNTA(L, ..)`: how many values other than empty ones there are, faults too.
+//
+// Want of memory where there are 2^64 or more, which no memory holds.
 pub(crate) fn count_values(args: &[Arg]) -> Result<Result<Fixed, FaultKind>, AllocError>
     ensures { IfOk result (λ count. count ≡ counta args.now) }
 {
@@ -42,7 +42,7 @@ fn values_in(argument: &Arg) -> u64
     }
 }
 
-/// `COUNTBLANK(R)`: how many cells are empty.
+// `COUNTBLANK(R)`: how many cells are empty.
 pub(crate) fn count_blanks(args: &[Arg]) -> Result<Fixed, FaultKind>
     ensures { result ≡ countblank args.now }
 {
@@ -63,7 +63,7 @@ fn blanks(area: &Area) -> u64
     area.size() - area.filled().len() as u64
 }
 
-/// `COUNTIF(R, A)`: how many cells the criterion matches.
+// `COUNTIF(R, A)`: how many cells the criterion matches.
 pub(crate) fn count_if(alloc: Global, args: &[Arg]) -> Result<Result<Fixed, FaultKind>, AllocError>
     ensures { IfOk result (λ count. count ≡ count_if args.now) }
 {

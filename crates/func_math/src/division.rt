@@ -8,7 +8,7 @@ use cell_value::FaultKind;
 use fix_num::Fixed;
 use func_args::calculated;
 
-/// `MOD(N, N)`: what is left of the first number where the quotient is rounded down.
+// `MOD(N, N)`: what is left of the first number where the quotient is rounded down.
 pub(crate) fn modulo(a: Fixed, b: Fixed) -> Result<Fixed, FaultKind>
     ensures { result ≡ modulo a b }
 {
@@ -32,7 +32,7 @@ fn rest_of(a: Fixed, b: Fixed) -> i64
     }
 }
 
-/// `QUOTIENT(N, N)`: the exact quotient, cut toward zero.
+// `QUOTIENT(N, N)`: the exact quotient, cut toward zero.
 pub(crate) fn cut_quotient(a: Fixed, b: Fixed) -> Result<Fixed, FaultKind>
     ensures { result ≡ cut_quotient a b }
 {
@@ -50,7 +50,7 @@ fn whole_quotient(a: Fixed, b: Fixed) -> i64
     a.millionths() / b.millionths()
 }
 
-/// `POWER(N, N)`, as the operator `^` has it.
+// `POWER(N, N)`, as the operator `^` has it.
 pub(crate) fn power(base: Fixed, exponent: Fixed) -> Result<Fixed, FaultKind>
     ensures { result ≡ calculated (power_of base exponent) }
 {

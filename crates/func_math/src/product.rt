@@ -12,7 +12,7 @@ use func_args::{calculated, number_of};
 // The product of the numbers so far, once there are any, or the fault that it failed by.
 type Factors = Option<Result<Fixed, FaultKind>>;
 
-/// `PRODUCT(L, ..)`: the numbers multiplied one after another, of none 0.
+// `PRODUCT(L, ..)`: the numbers multiplied one after another, of none 0.
 pub(crate) fn product(args: &[Arg]) -> Result<Fixed, FaultKind>
     ensures { result ≡ product_value args.now }
 {

@@ -8,34 +8,34 @@ use cell_value::FaultKind;
 use fix_num::Fixed;
 use func_args::calculated;
 
-/// The decimal places of a number: with as many or more it stays as it is.
+// The decimal places of a number: with as many or more it stays as it is.
 const PLACES: i64 = 6;
 
-/// The places before the point that a number has: with more cut off nothing is left of it.
+// The places before the point that a number has: with more cut off nothing is left of it.
 const WHOLE_PLACES: i64 = 12;
 
-/// `ABS(N)`
+// `ABS(N)`
 pub(crate) fn absolute(number: Fixed) -> Result<Fixed, FaultKind>
     ensures { result ≡ absolute number }
 {
     calculated(Fixed::signed(false, u128::from(number.size())))
 }
 
-/// `SIGN(N)`
+// `SIGN(N)`
 pub(crate) fn sign_of(number: Fixed) -> Result<Fixed, FaultKind>
     ensures { result ≡ sign_of number }
 {
     calculated(Fixed::from_int(number.millionths().signum()))
 }
 
-/// `INT(N)`
+// `INT(N)`
 pub(crate) fn floor(number: Fixed) -> Result<Fixed, FaultKind>
     ensures { result ≡ gives (floor_of number) }
 {
     calculated(number.floor())
 }
 
-/// `ROUND(N [, N])`
+// `ROUND(N [, N])`
 pub(crate) fn round_to(number: Fixed, places: i64) -> Result<Fixed, FaultKind>
     ensures { result ≡ round_to number places }
 {
@@ -49,7 +49,7 @@ pub(crate) fn round_to(number: Fixed, places: i64) -> Result<Fixed, FaultKind>
     calculated(number.round_to(places as i32))
 }
 
-/// `ROUNDUP(N [, N])`
+// `ROUNDUP(N [, N])`
 pub(crate) fn raise_to(number: Fixed, places: i64) -> Result<Fixed, FaultKind>
     ensures { result ≡ raised_to number places }
 {
@@ -68,7 +68,7 @@ pub(crate) fn raise_to(number: Fixed, places: i64) -> Result<Fixed, FaultKind>
     calculated(Fixed::signed(number.is_negative(), units * u128::from(unit)))
 }
 
-/// `ROUNDDOWN(N [, N])`, and `TRUNC(N [, N])`
+// `ROUNDDOWN(N [, N])`, and `TRUNC(N [, N])`
 pub(crate) fn cut_to(number: Fixed, places: i64) -> Result<Fixed, FaultKind>
     ensures { result ≡ cut_to number places }
 {
@@ -94,7 +94,7 @@ fn unit(places: i32) -> u64
     10u64.pow((6 - places) as u32)
 }
 
-/// Whether the whole number is even.
+// Whether the whole number is even.
 pub(crate) fn is_even(whole: i64) -> bool
     ensures { result ≡ is_even whole }
 {

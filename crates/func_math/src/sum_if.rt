@@ -12,8 +12,8 @@ use fix_num::Fixed;
 use func_args::{block_of, join_summaries, value_of};
 use std::alloc::{AllocError, Global};
 
-/// `SUMIF(R, A [, R])`: the sum of the cells, or of those at the same places of the other block, where
-/// the criterion matches.
+// `SUMIF(R, A [, R])`: the sum of the cells, or of those at the same places of the other block, where
+// the criterion matches.
 pub(crate) fn sum_if(alloc: Global, args: &[Arg]) -> Result<Result<Fixed, FaultKind>, AllocError>
     ensures { IfOk result (λ sum. sum ≡ sum_if args.now) }
 {

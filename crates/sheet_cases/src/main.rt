@@ -40,7 +40,7 @@ fn main(rt: HostRuntime) -> ExitCode {
     }
 }
 
-// Runs the cases of the files that the words behind the program's name name.
+// Runs the cases of the files that the words after the program's name name.
 fn run_files<L: Ledger>(rt: &HostRuntime, blank: Blank) -> io::Result<Tally>
     requires name { blank.name ≡ L.name }
     requires parts { blank.parts ≡ L.parts }

@@ -125,12 +125,12 @@ long_from (suc n) s xs = long_next n (next_record default_config s [] [] xs) (λ
 pub few_records : (bytes : List ℕ) → length (records default_config (strip_bom bytes)) ≤ length bytes + 1
 few_records bytes = let l = long_from (length (strip_bom bytes) + 1) st.StartRecord (strip_bom bytes) in omega (arith, no_longer bytes)
 
-behind_front : (bs ys : List ℕ) → drop (length bs) (bs ++ ys) ≡ ys
-behind_front [] ys = refl
-behind_front (b ∷ bs) ys = behind_front bs ys
+after_front : (bs ys : List ℕ) → drop (length bs) (bs ++ ys) ≡ ys
+after_front [] ys = refl
+after_front (b ∷ bs) ys = after_front bs ys
 
 taken_off : (n : ℕ) (xs bs ys : List ℕ) → xs ≡ bs ++ ys → length bs ≡ n → ys ≡ drop n xs
-taken_off n xs bs ys is long = sym (behind_front bs ys) ∙ ap (λ k. drop k (bs ++ ys)) long ∙ ap (drop n) (sym is)
+taken_off n xs bs ys is long = sym (after_front bs ys) ∙ ap (λ k. drop k (bs ++ ys)) long ∙ ap (drop n) (sym is)
 
 -- of a script that is too long, one byte more than the limit was taken
 pub was_read-too_long : (old new : Option (List ℕ)) → Loses old new 67108865 → WasRead 8 old new

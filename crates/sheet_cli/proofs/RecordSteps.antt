@@ -1,4 +1,4 @@
--- The records of a text, one step at a time: those left are the next one and those left behind it. It serves the reader of records.
+-- The records of a text, one step at a time: those left are the next one and those left after it. It serves the reader of records.
 use Rattle.std.proofs.Common.{Bor, ◌≡◌, ◌≤◌, ◌∙◌, sym, ap, refl, arith, ℕ, zero, suc, ◌+◌, ◌<◌, ◌⊎◌, inl, inr, Bool, true, false, cond, List, [], ◌∷◌, ◌++◌, length, Option, Some, None, add-one}
 use Rattle.csv.specs.declared.parser.Config.{Config}
 use Rattle.csv.specs.declared.parser.State.{State}
@@ -61,7 +61,7 @@ enough cfg (suc n) zero s bytes a b = absurd (omega arith)
 enough cfg (suc n) (suc m) s bytes a b =
     same-next cfg n m bytes (next_record cfg s [] [] bytes) (shrinks cfg s [] [] bytes) (omega arith) (omega arith) (λ p. enough cfg n m p.1 p.2)
 
--- the records from a state on are the next one, and those from the state behind it on
+-- the records from a state on are the next one, and those from the state after it on
 pub records_after-next : (s : State) (bytes : List ℕ) → records_after s bytes ≡ records_next records_after (next_record default_config s [] [] bytes)
 unfolding records_from
 records_after-next s bytes = rw add-one (next (next_record default_config s [] [] bytes) (shrinks default_config s [] [] bytes))

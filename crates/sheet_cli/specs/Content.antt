@@ -9,7 +9,7 @@ use Rattle.fix_num.specs.declared.error.NumError.{NumError}
 use Rattle.sheet_cli.specs.declared.content.ContentText.{ContentText}
 use Rattle.sheet_cli.specs.declared.content.ContentText.TheVariants.{Clear, Formula, Number, Truth, Text}
 
--- a text that is no truth value either: the text behind an apostrophe, or itself
+-- a text that is no truth value either: the text after an apostrophe, or itself
 abbrev pub text_content : List ℕ → ContentText
 text_content text = Text (unwrap_or (strip_prefix 39 text) text)
 

@@ -27,7 +27,7 @@ pub enum ScriptError {
     /// The command has another number of fields.
     #[error("field count")]
     FieldCount,
-    /// The field of this number, counted from 1 behind the word, hasn't its form or isn't UTF-8.
+    /// The field of this number, counted from 1 after the word, hasn't its form or isn't UTF-8.
     #[error("bad field {0}")]
     BadField(u8),
     /// There was no memory for the command's fields.

@@ -25,7 +25,7 @@ pub enum ContentText {
 
 /// What the text says: nothing clears the cell; a text with `=` in front is a formula; a text that
 /// spells a number in range is that number; TRUE and FALSE in any case are truth values; a text with
-/// an apostrophe in front is the text behind it; every other text is itself.
+/// an apostrophe in front is the text after it; every other text is itself.
 pub fn read_content(alloc: Global, text: &str) -> Result<ContentText, AllocError>
     ensures { IfOk result (λ content. content ≡ content_of text.now) }
 {
@@ -41,7 +41,7 @@ pub fn read_content(alloc: Global, text: &str) -> Result<ContentText, AllocError
     }
 }
 
-/// What a text says that is no formula and no number.
+// What a text says that is no formula and no number.
 fn read_word(alloc: Global, text: &str) -> Result<ContentText, AllocError>
     ensures { IfOk result (λ content. content ≡ word_content (read_truth text.now) text.now) }
 {
@@ -52,7 +52,7 @@ fn read_word(alloc: Global, text: &str) -> Result<ContentText, AllocError>
     }
 }
 
-/// The text behind an apostrophe in front, or the whole text.
+// The text after an apostrophe in front, or the whole text.
 fn read_text(alloc: Global, text: &str) -> Result<ContentText, AllocError>
     ensures { IfOk result (λ content. content ≡ text_content text.now) }
 {

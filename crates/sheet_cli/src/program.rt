@@ -210,7 +210,7 @@ fn record_text(alloc: Global, number: u64, cause: ScriptError) -> Result<String,
     Ok(text)
 }
 
-/// Why a record is no command.
+// Why a record is no command.
 fn cause_text(alloc: Global, cause: ScriptError) -> Result<String, AllocError>
     ensures { IfOk result (λ text. string_bytes text ≡ cause_text cause) }
 {
@@ -222,7 +222,7 @@ fn cause_text(alloc: Global, cause: ScriptError) -> Result<String, AllocError>
     }
 }
 
-/// Writes the line of a text.
+// Writes the line of a text.
 fn print<O: Sink>(alloc: Global, out: &mut O, text: &str) -> Result<(), Stop>
     ensures written { OnOk result (Appends (O.taken out.old) (O.taken out.new) (line_of text.now)) }
     ensures no_read_fault { IsErrOf result Stop.ReadFault → ⊥ }

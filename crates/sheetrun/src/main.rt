@@ -12,14 +12,14 @@ use std::sync::ledger::{Blank, Ledger};
 use std::{env, io};
 use steps::Steps;
 
-/// The status of a program that has no memory for its words.
+// The status of a program that has no memory for its words.
 const NO_MEMORY: u8 = 7;
 
 fn main(rt: HostRuntime) -> ExitCode {
     ExitCode::from(sheetrun::<Brand>(&rt, Blank::new(1)))
 }
 
-/// The status of `run` over the real streams, with the words behind the program's name.
+// The status of `run` over the real streams, with the words after the program's name.
 fn sheetrun<L: Ledger>(rt: &HostRuntime, blank: Blank) -> u8
     requires name { blank.name ≡ L.name }
     requires parts { blank.parts ≡ L.parts }
@@ -34,8 +34,8 @@ fn sheetrun<L: Ledger>(rt: &HostRuntime, blank: Blank) -> u8
     }
 }
 
-/// The words behind the program's name. A word that isn't UTF-8 has no meaning, and neither has the
-/// word that stands for it here.
+// The words after the program's name. A word that isn't UTF-8 has no meaning, and neither has the
+// word that stands for it here.
 fn words(rt: &HostRuntime) -> io::Result<Vec<String>> {
     match env::args(rt) {
         Ok(words) => {

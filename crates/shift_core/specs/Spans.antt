@@ -38,7 +38,7 @@ span_after_insert limit start count s =
     then Some (record { first = pushed_line start count s.first; last = min (pushed_line start count s.last) (limit - 1) })
     else None
 
--- a deletion draws the ends together; lost where the first end is then behind the last
+-- a deletion draws the ends together; lost where the first end is then after the last
 abbrev pub span_after_delete : ℕ → ℕ → Span → Option Span
 span_after_delete start count s =
     if nat_lt (first_left start count s.first) (end_left start count s.last)

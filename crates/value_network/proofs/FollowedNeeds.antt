@@ -41,9 +41,9 @@ module _ {K V : Type 0} (net : Network K V) (sound : IsNetwork net) where
   cycles_return a = (λ h. LeadsTo-from_leads net (length net.formulas) a a h, λ back. let (n, chain) = leads-from_LeadsTo back in chains_find_cycles net sound n a chain)
 
   -- following needs to a stuck node starts from a stuck one
-  stuck_behind : {a b : K} → LeadsTo net a b → stuck net b ≡ true → stuck net a ≡ true
-  stuck_behind (at_once {a = a} {b = b} need) h = stuck_spreads net sound a b need h
-  stuck_behind (after {a = a} {b = b} need rest) h = stuck_spreads net sound a b need (stuck_behind rest h)
+  stuck_after : {a b : K} → LeadsTo net a b → stuck net b ≡ true → stuck net a ≡ true
+  stuck_after (at_once {a = a} {b = b} need) h = stuck_spreads net sound a b need h
+  stuck_after (after {a = a} {b = b} need rest) h = stuck_spreads net sound a b need (stuck_after rest h)
 
   -- the stuck nodes are those on a cycle, and those from which following needs comes to one
   pub stuck_leads_to_cycle : StuckLeadsToCycle net
@@ -51,7 +51,7 @@ module _ {K V : Type 0} (net : Network K V) (sound : IsNetwork net) where
     found,
     λ way. ⊎_elim
         (λ same. subst (λ x. stuck net x ≡ true) (sym same) (cyclic_is_stuck net sound way.0 way.1))
-        (λ far. stuck_behind far (cyclic_is_stuck net sound way.0 way.1))
+        (λ far. stuck_after far (cyclic_is_stuck net sound way.0 way.1))
         way.2,
   )
     where

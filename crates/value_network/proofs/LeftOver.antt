@@ -1,5 +1,5 @@
 -- Which nodes are stuck, by what they need alone: a stuck node needs a stuck one, and where each node that is left
--- over needs one that is left over too, all of these are stuck. Serves whatever works nodes out behind their needs.
+-- over needs one that is left over too, all of these are stuck. Serves whatever works nodes out after their needs.
 use Rattle.std.proofs.Common.{◌≡◌, ℕ, zero, suc, Bool, true, false, length, sym, ◌∙◌, subst, inl, inr, ⊎_elim}
 use Rattle.std.proofs.lemmas.Bool.{false_from_ne_true, false≢true}
 use Rattle.value_network.specs.Network.{Network, IsNetwork, LeadsTo, at_once, after, cyclic, stuck}

@@ -15,14 +15,14 @@ pub enum Slot {
     Sum(usize, usize),
 }
 
-/// What a place adds to a sum: the number there where it was worked out already, else 0.
+// What a place adds to a sum: the number there where it was worked out already, else 0.
 fn number_at(numbers: &[u32], place: usize) -> u32
     ensures { result ≡ number_before (λ at. slice_index numbers.now at) (length numbers.now) place }
 {
     numbers.get(place).copied().unwrap_or(0)
 }
 
-/// The number of the slot that comes after those whose numbers are given.
+// The number of the slot that comes after those whose numbers are given.
 fn next_number(numbers: &[u32], slot: Slot) -> u32
     ensures { result ≡ number_of (λ at. slice_index numbers.now at) (length numbers.now) slot }
 {

@@ -1,4 +1,4 @@
--- An order of nodes in which each comes behind all that it needs. Nodes are numbers below the length of the list
+-- An order of nodes in which each comes after all that it needs. Nodes are numbers below the length of the list
 -- that says which nodes each of them needs. Source: this project's own.
 use Rattle.std.specs.Prelude.{◌≡◌, ◌<◌, ⊤, ℕ, Bool, true, false, List, [], ◌∷◌, length, map, nat_eq, slice_index_or}
 use Rattle.std.specs.List.{list_any}
@@ -13,10 +13,10 @@ has i nodes = list_any (nat_eq i) nodes
 abbrev pub list_at : List (Vec ℕ Global) → ℕ → List ℕ
 list_at lists i = slice_index_or (map (λ list. list.items) lists) i []
 
--- each node of the order comes behind all that it needs; the nodes before came first, in some order
-abbrev pub ComesBehindNeeds : List (Vec ℕ Global) → List ℕ → List ℕ → Type 0
-ComesBehindNeeds needs before [] = ⊤
-ComesBehindNeeds needs before (i ∷ order) = ((j : ℕ) → has j (list_at needs i) ≡ true → has j before ≡ true) × ComesBehindNeeds needs (i ∷ before) order
+-- each node of the order comes after all that it needs; the nodes before came first, in some order
+abbrev pub ComesAfterNeeds : List (Vec ℕ Global) → List ℕ → List ℕ → Type 0
+ComesAfterNeeds needs before [] = ⊤
+ComesAfterNeeds needs before (i ∷ order) = ((j : ℕ) → has j (list_at needs i) ≡ true → has j before ≡ true) × ComesAfterNeeds needs (i ∷ before) order
 
 -- each node that isn't in the order needs one that isn't either
 abbrev pub OthersNeedOthers : List (Vec ℕ Global) → List ℕ → Type 0

@@ -2,7 +2,7 @@
 use Rattle.std.specs.Prelude.{◌≡◌, ◌⊎◌, ◌+◌, ◌<◌, ◌≤◌, ◌||◌, ◌++◌, ℕ, Bool, true, false, List, [], ◌∷◌, length, filter, not, nat_le, slice_index, slice_index_or}
 use Rattle.std.specs.declared.alloc.Global.{Global}
 use Rattle.std.specs.declared.vec.Vec.{Vec}
-use Rattle.cell_values.specs.internal.Order.{has, list_at, ComesBehindNeeds, AreNodes}
+use Rattle.cell_values.specs.internal.Order.{has, list_at, ComesAfterNeeds, AreNodes}
 use Rattle.cell_values.specs.declared.order.Progress.{Progress}
 
 -- from the place on, all nodes of the list before the found one are done, and the found one isn't
@@ -22,7 +22,7 @@ pub record IsSound (needs : List (Vec ℕ Global)) (s : Progress) : Type 0 where
   pub passed_count : length s.passed.items ≡ length needs
   pub waiting_count : length s.waiting.items ≡ length needs
   pub nodes : AreNodes needs s.order.items
-  pub behind : ComesBehindNeeds needs [] s.order.items
+  pub after : ComesAfterNeeds needs [] s.order.items
   pub few : length s.order.items + left s.done.items ≡ length needs
   pub passed : (i m : ℕ) → m < slice_index s.passed.items i → m < length (list_at needs i) → has (slice_index (list_at needs i) m) s.order.items ≡ true
 

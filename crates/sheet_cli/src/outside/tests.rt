@@ -51,7 +51,7 @@ fn reads_no_more_than_the_limit(rt: HostRuntime) -> Result<(), Fail> {
         );
         assert!(rt;
             length_read(rt.alloc(), &mut source) == second,
-            "behind {length} bytes"
+            "after {length} bytes"
         );
     }
     Ok(())

@@ -1,7 +1,7 @@
 use Rattle.std.proofs.Common.{◌≡◌, sym, subst, drop, get_or, ◌+◌, [], IfOk}
 use Rattle.std.proofs.lemmas.List.{drop_more, drop_all}
 use Rattle.cell_values.specs.Workbook.{book_of}
-use Rattle.cell_values.specs.internal.Order.{ComesBehindNeeds, OthersNeedOthers, AreNodes}
+use Rattle.cell_values.specs.internal.Order.{ComesAfterNeeds, OthersNeedOthers, AreNodes}
 use Rattle.cell_values.specs.internal.Shown.{shown_by}
 use Rattle.cell_values.specs.Values.{value_at}
 use Rattle.cell_values.proofs.ValueSteps.{IsUnderWay, starts, steps_on, finishes}
@@ -12,7 +12,7 @@ numbers-init g c =
     let is = sym c.deref-number-items.ensures.value in
     starts (book_of c.args.workbook.now) c.in_ok-needs.needs.items c.deref-number-items.result.now c.in_ok-nodes.nodes c.in_ok-shown.shown
     c.in_ok-nodes.ensures c.in_ok-needs.ensures c.in_ok-shown.ensures
-    (subst (ComesBehindNeeds c.in_ok-needs.needs.items []) is (subst (λ n. ComesBehindNeeds n [] c.in_ok-order.order.items) c.deref.ensures.value c.in_ok-order.ensures.behind))
+    (subst (ComesAfterNeeds c.in_ok-needs.needs.items []) is (subst (λ n. ComesAfterNeeds n [] c.in_ok-order.order.items) c.deref.ensures.value c.in_ok-order.ensures.after))
 
 pub numbers-preserved : goal.numbers-preserved
 numbers-preserved g c =

@@ -15,7 +15,7 @@ nodes-preserved c =
       tried.sound,
       λ i below. ⊎_elim
           (λ (before : i < node). covered_after needs node c.nodes.progress c.attempt.new.self tried [] i (c.nodes.invariant.1 i before))
-          (λ (behind : node ≤ i). let same : node ≡ i = omega (arith, behind, below) in subst (λ k. IsCovered needs c.attempt.new.self [] k) same (covered_tried needs node c.nodes.progress c.attempt.new.self tried [] (λ j h. absurd (false≢true h)) inside))
+          (λ (after : node ≤ i). let same : node ≡ i = omega (arith, after, below) in subst (λ k. IsCovered needs c.attempt.new.self [] k) same (covered_tried needs node c.nodes.progress c.attempt.new.self tried [] (λ j h. absurd (false≢true h)) inside))
           (cases_lt i node),
     )
 

@@ -18,9 +18,9 @@ cells-preserved c =
     let more = summary_more cells c.cells.cell-index c.cell-item.result (omega arith) in
     record {
       total = c.in_ok-total.ensures.joined
-      ∙ ap (λ s. joined s c.of.result) c.cells.invariant.total
-      ∙ ap (joined (summary_of (map value_of (take c.cells.cell-index cells)))) (c.of.ensures.alone ∙ item)
-      ∙ sym more;
+          ∙ ap (λ s. joined s c.of.result) c.cells.invariant.total
+          ∙ ap (joined (summary_of (map value_of (take c.cells.cell-index cells)))) (c.of.ensures.alone ∙ item)
+          ∙ sym more;
       bounded = c.in_ok-total.ensures.bounded;
     }
 

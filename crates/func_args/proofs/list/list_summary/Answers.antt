@@ -17,8 +17,8 @@ arguments-preserved c =
     let more = arguments_more args c.arguments.argument-index c.argument-item.result (omega arith) in
     record {
       total = c.in_ok-total.ensures.joined
-      ∙ ap (λ s. joined s c.in_ok-argument_summary.field-0) c.arguments.invariant.total
-      ∙ ap (joined (summary_of (flat_map listed (take c.arguments.argument-index args)))) (c.in_ok-argument_summary.ensures.summary ∙ item)
-      ∙ sym more;
+          ∙ ap (λ s. joined s c.in_ok-argument_summary.field-0) c.arguments.invariant.total
+          ∙ ap (joined (summary_of (flat_map listed (take c.arguments.argument-index args)))) (c.in_ok-argument_summary.ensures.summary ∙ item)
+          ∙ sym more;
       bounded = c.in_ok-total.ensures.bounded;
     }

@@ -1,4 +1,4 @@
--- A text that doesn't begin with an apostrophe has nothing behind one.
+-- A text that doesn't begin with an apostrophe has nothing after one.
 use Rattle.std.proofs.Common.{lit<, ap, None}
 use Rattle.std.proofs.lemmas.Str.Pattern.{strip_prefix_char}
 use Rattle.cell_addr.proofs.Splits.{strip_prefix-is}

@@ -1,4 +1,4 @@
--- A script that is too long was read up to one byte behind the limit.
+-- A script that is too long was read up to one byte after the limit.
 use Rattle.std.proofs.Common.{ap, Err}
 use Rattle.sheet_cli.proofs.Outcomes.{was_read-too_long}
 use Rattle.sheet_cli.proofs.program.run_to_end.Goals as goal

@@ -1,4 +1,4 @@
--- One more filled cell stands behind all others, and an empty one changes nothing.
+-- One more filled cell stands after all others, and an empty one changes nothing.
 use Rattle.std.proofs.Common.{◌≡◌, ◌∙◌, arith, ap, sym, subst, ◌+◌, ◌*◌, ◌<◌, List, true, ◌-◌, drop}
 use Rattle.std.proofs.Math.ListN.{set}
 use Rattle.std.proofs.Math.Nat.{mul_comm}

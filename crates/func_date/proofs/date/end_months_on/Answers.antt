@@ -1,0 +1,9 @@
+use Rattle.std.proofs.Common.{◌≡◌, ◌∙◌, ap, ap₂, pos}
+use Rattle.std.proofs.lemmas.Int.{to_z-of_z}
+use Rattle.func_date.specs.Dates.{dated, length_of, months_on, serial_in}
+use Rattle.func_date.proofs.date.end_months_on.Goals as goal
+
+pub returns : goal.returns
+returns c =
+    let month : c.months_on-month.result ≡ months_on c.args.date c.args.months = c.months_on-month.ensures.month ∙ ap (months_on c.args.date) (to_z-of_z _ _ c.ranges.months) in
+    c.placed.ensures ∙ ap₂ (λ m d. dated (serial_in m (pos d))) month (c.length_of.ensures.length ∙ ap length_of month)

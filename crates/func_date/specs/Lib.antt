@@ -1,0 +1,4 @@
+pub mod Calendar
+pub mod Laws
+pub mod Signatures
+pub mod Dates
