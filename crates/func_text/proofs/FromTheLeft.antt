@@ -1,5 +1,5 @@
 -- Occurrences are replaced from the left, one after another: for the law.
-use Rattle.std.proofs.Common.{◌≡◌, ◌∙◌, sym, ap, refl, ℕ, zero, suc, ◌+◌, ◌-◌, ◌<◌, Bool, true, false, cond, List, [], ◌∷◌, ◌++◌, Option, Some, None, length, take, drop, arith}
+use Rattle.std.proofs.Common.{◌≡◌, ◌∙◌, sym, ap, refl, ℕ, zero, suc, ◌+◌, ◌-◌, Bool, true, false, cond, List, [], ◌∷◌, ◌++◌, Option, Some, None, length, take, drop, arith}
 use Rattle.std.specs.Option.{option_map}
 use Rattle.func_text.specs.Find.{begins, first_place}
 use Rattle.func_text.specs.Laws.{replaced_from, ReplacedFromTheLeft}
