@@ -1,5 +1,5 @@
 -- FIND, and where a text occurs in another. Source: OpenFormula; that the text of no characters is found
--- at once, also behind the last character, is this project's own.
+-- at once, also after the last character, is this project's own.
 use Rattle.std.specs.Prelude.{ℕ, suc, ◌+◌, ◌-◌, Bool, ◌||◌, if◌then◌else◌, ℤ, pos, unsigned_abs, int_lt, nat_eq, List, [], ◌∷◌, Option, Some, None, chars, drop, length}
 use Rattle.std.specs.List.{starts_with}
 use Rattle.std.specs.Option.{option_map}
@@ -25,7 +25,7 @@ abbrev pub position : ℕ → Option ℕ → Scalar
 position start (Some at) = number_value (counted (at + start))
 position start None = Fault Value
 
--- the position of the first occurrence at or after this position, which may be one behind the last
+-- the position of the first occurrence at or after this position, which may be the one after the last character
 abbrev pub found : List ℕ → List ℕ → ℤ → Scalar
 found sought within start =
     if int_lt start (pos 1) || int_lt (pos (length (chars within) + 1)) start then Fault Value

@@ -65,8 +65,8 @@ fn substituted(
     replaced(alloc, &text, &old, &new, which)
 }
 
-// The text with the new one in place of the occurrences that are meant, as a value. What is too long is
-// left off.
+// The text with the new one in place of the occurrences that are meant, as a value. It ends where the
+// text is too long already.
 fn replaced(
     alloc: Global,
     text: &[char],

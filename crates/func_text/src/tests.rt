@@ -6,7 +6,7 @@ use std::alloc::{AllocError, Global};
 use std::process::Abort;
 use std::test::Fail;
 
-// Functions, their arguments and their values: a text stands behind an apostrophe, A1:A1 is a block, and
+// Functions, their arguments and their values: a text stands after an apostrophe, A1:A1 is a block, and
 // `()` no argument.
 const VALUES: &[(&str, &str, &str)] = &[
     ("LEN", "'ab", "2"),
@@ -114,7 +114,7 @@ const VALUES: &[(&str, &str, &str)] = &[
     ("VALUE", "()", "#N/A"),
 ];
 
-/// The value that the words describe; a text stands behind an apostrophe.
+// The value that the words describe; a text stands after an apostrophe.
 fn value(alloc: Global, words: &str) -> Result<Scalar, AllocError> {
     if let Some(content) = words.strip_prefix('\'') {
         return Ok(Scalar::Text(Text::from_str(alloc, content)?));
@@ -130,7 +130,7 @@ fn value(alloc: Global, words: &str) -> Result<Scalar, AllocError> {
     }
 }
 
-/// The argument that the words describe.
+// The argument that the words describe.
 fn argument(alloc: Global, words: &str) -> Result<Arg, AllocError> {
     if words == "A1:A1" {
         Ok(Arg::Many(Area::new(alloc, 1, 1)))
@@ -139,7 +139,7 @@ fn argument(alloc: Global, words: &str) -> Result<Arg, AllocError> {
     }
 }
 
-/// The value of the function of the arguments that the words describe.
+// The value of the function of the arguments that the words describe.
 fn answer(alloc: Global, function: TextFn, words: &str) -> Result<Scalar, AllocError> {
     let mut args = Vec::new(alloc);
     if words != "()" {
@@ -150,7 +150,7 @@ fn answer(alloc: Global, function: TextFn, words: &str) -> Result<Scalar, AllocE
     texts(alloc, function, args.as_slice())
 }
 
-/// Asserts the function's value.
+// Asserts the function's value.
 fn assert_value(
     rt: &impl Abort,
     alloc: Global,
