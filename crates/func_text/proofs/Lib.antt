@@ -1,0 +1,5 @@
+pub mod Finding
+pub mod FromTheLeft
+pub mod Joining
+pub mod Replacing
+pub mod Trimming

@@ -1,0 +1,10 @@
+pub mod Arguments
+pub mod Find
+pub mod Functions
+pub mod Join
+pub mod Laws
+pub mod Parts
+pub mod Substitute
+pub mod Texts
+pub mod Trim
+pub mod internal

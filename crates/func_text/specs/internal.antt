@@ -1,0 +1,2 @@
+-- What only bodies need.
+pub mod Trim

@@ -1,0 +1,26 @@
+//! The functions of texts: LEN, LEFT, RIGHT, MID, CONCATENATE, TRIM, REPT, EXACT, FIND, SUBSTITUTE and
+//! VALUE.
+//!
+//! [`texts`] is the value of a [`TextFn`] of its arguments, and [`TextFn::named`] the function of a word:
+//! `texts(alloc, TextFn::Len, args)` is the number of a text's characters.
+//!
+//! Characters are Unicode scalar values, counted from 1. A text that a function makes has at most 32,768
+//! bytes, else the value is `#VALUE!`. FIND and SUBSTITUTE compare what they seek at each character, so
+//! they cost at most the product of both lengths; the others cost what they read and write.
+#![tactic(auto)]
+
+mod argument;
+mod find;
+mod function;
+mod join;
+pub mod laws;
+mod part;
+mod substitute;
+mod trim;
+mod value;
+
+pub use function::TextFn;
+pub use value::texts;
+
+#[cfg(test)]
+mod tests;
