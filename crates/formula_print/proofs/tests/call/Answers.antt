@@ -1,11 +1,23 @@
-use Rattle.std.proofs.Common.{◌≡◌, ◌∙◌, ap, true, [], ◌∷◌, ◌++◌}
+use Rattle.std.proofs.Common.{◌≡◌, ◌∙◌, sym, ap, Bool, true, [], ◌∷◌, ◌++◌}
 use Rattle.formula_tree.specs.Arguments.{trees}
-use Rattle.formula_tree.specs.Relative.{relative}
+use Rattle.formula_tree.specs.Relative.{relative, relative_node, relative_arguments}
+use Rattle.formula_tree.specs.Term.{Term, Terms, truth, fault}
+use Rattle.formula_tree.specs.declared.reference.Ref.{Ref}
+use Rattle.formula_tree.specs.declared.node.Node.TheFolds.{fold-roll-Node}
+use Rattle.formula_tree.specs.declared.node.Node.TheOpen.{Node-F}
+use Rattle.formula_tree.specs.declared.node.Node.TheVariants as nodes
+use Rattle.formula_tree.specs.declared.node.Node.TheVariants.{rolls-Truth, rolls-Fault}
 use Rattle.formula_tree.specs.StandsFor.{ArePlacesInside, at_home}
+use Rattle.cell_value.specs.declared.fault.FaultKind.{FaultKind}
 use Rattle.cell_value.specs.declared.fault.FaultKind.TheVariants as kinds
-use Rattle.formula_tree.proofs.RelativeNodes.{relative-Truth, relative-Fault}
 use Rattle.formula_print.proofs.NodeRules.{call-inside}
 use Rattle.formula_print.proofs.tests.call.Goals as goal
+
+relative-Truth : (b : Bool) → relative (nodes.Truth b) ≡ truth b
+relative-Truth b = ap relative (sym (rolls-Truth b)) ∙ fold-roll-Node (Term Ref) (Terms Ref) relative_node relative_arguments (Node-F.Truth b)
+
+relative-Fault : (f : FaultKind) → relative (nodes.Fault f) ≡ fault f
+relative-Fault f = ap relative (sym (rolls-Fault f)) ∙ fold-roll-Node (Term Ref) (Terms Ref) relative_node relative_arguments (Node-F.Fault f)
 
 pub returns : goal.returns
 returns c = λ home.
