@@ -78,15 +78,12 @@ const CALLS: [(&str, &str); 21] = [
     ("=ABC12()", "ABC12()"),
 ];
 
-// Texts of references, and their trees.
-const REFERENCES: [(&str, &str); 44] = [
+// Texts of references, names and faults, and their trees.
+const REFERENCES: [(&str, &str); 29] = [
     ("=ZZZ40000:$A1", "1!R0$C0:R39999C18277"),
     ("=A40001", "A40001"),
     ("=AAAA1", "AAAA1"),
     ("=ZZZ$40000", "1!$R39999C18277"),
-    ("=TRUE!A1", "#REF!"),
-    ("=A1:Two!B2", "none"),
-    ("=''!A1", "#REF!"),
     ("=A1.", "A1."),
     ("=$A", "none"),
     ("=A1:B2:C3", "none"),
@@ -95,17 +92,6 @@ const REFERENCES: [(&str, &str); 44] = [
     ("=$B3:A$1", "1!$R0C0:R2$C1"),
     ("=B$3:$A1", "1!R0$C0:$R2C1"),
     ("=A3:$B1", "1!R0C0:R2$C1"),
-    ("=Two!B3:A1", "0!R0C0:R2C1"),
-    ("=two!$A$1", "0!$R0$C0"),
-    ("=TWO !A1", "none"),
-    ("=Two! A1", "none"),
-    ("=Nope!A1", "#REF!"),
-    ("=Nope!A1:B2", "#REF!"),
-    ("=Nope!A", "none"),
-    ("='Nope'!B2:A1", "#REF!"),
-    ("='two'!A1", "0!R0C0"),
-    ("='a''b'!A1", "#REF!"),
-    ("=Two!A1:Two!B2", "none"),
     ("=A1:rate", "none"),
     ("=A1:", "none"),
     ("=:A1", "none"),
@@ -123,6 +109,24 @@ const REFERENCES: [(&str, &str); 44] = [
     ("=#N/A+1", "(+ #N/A 1)"),
     ("=A1 B2", "none"),
     ("=\"a", "none"),
+];
+
+// Texts with names of sheets, and their trees.
+const SHEETS: [(&str, &str); 15] = [
+    ("=TRUE!A1", "#REF!"),
+    ("=A1:Two!B2", "none"),
+    ("=''!A1", "#REF!"),
+    ("=Two!B3:A1", "0!R0C0:R2C1"),
+    ("=two!$A$1", "0!$R0$C0"),
+    ("=TWO !A1", "none"),
+    ("=Two! A1", "none"),
+    ("=Nope!A1", "#REF!"),
+    ("=Nope!A1:B2", "#REF!"),
+    ("=Nope!A", "none"),
+    ("='Nope'!B2:A1", "#REF!"),
+    ("='two'!A1", "0!R0C0"),
+    ("='a''b'!A1", "#REF!"),
+    ("=Two!A1:Two!B2", "none"),
     ("=A1!B2", "#REF!"),
 ];
 
@@ -262,7 +266,15 @@ fn trees_of_texts(rt: HostRuntime) -> Result<(), Fail> {
     for (text, wanted) in CALLS {
         assert_eq!(rt; shown(rt.alloc(), text)?.as_str(), wanted, "at {text}");
     }
+    Ok(())
+}
+
+#[test]
+fn trees_of_references(rt: HostRuntime) -> Result<(), Fail> {
     for (text, wanted) in REFERENCES {
+        assert_eq!(rt; shown(rt.alloc(), text)?.as_str(), wanted, "at {text}");
+    }
+    for (text, wanted) in SHEETS {
         assert_eq!(rt; shown(rt.alloc(), text)?.as_str(), wanted, "at {text}");
     }
     Ok(())
