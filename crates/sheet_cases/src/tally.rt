@@ -1,4 +1,6 @@
 // How many cases were run, and how they went.
+ghost use Rattle.std.specs.Prelude.{◌≡◌, ◌↔◌, IsTrue};
+
 use std::fmt;
 
 /// The count of cases.
@@ -11,7 +13,9 @@ pub struct Tally {
 
 impl Tally {
     /// Whether every file was read and no case differs.
-    pub fn is_clean(self) -> bool {
+    pub fn is_clean(self) -> bool
+        ensures { IsTrue result ↔ ((self.differ ≡ 0) × (self.unreadable_files ≡ 0)) }
+    {
         self.differ == 0 && self.unreadable_files == 0
     }
 }
