@@ -4,6 +4,7 @@ pub mod Spans
 pub mod Carried
 pub mod Sound
 pub mod Tables
+pub mod Maps
 pub mod Bent
 pub mod Laws
 pub mod internal
