@@ -5,3 +5,5 @@ pub mod CellMoves
 pub mod PlaceLaws
 pub mod BlockLaws
 pub mod UnbentBlocks
+pub mod CarriedEntries
+pub mod MovedMaps

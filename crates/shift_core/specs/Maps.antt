@@ -1,10 +1,12 @@
 -- Finite maps from places, as a structural operation moves them. Source: this project's own.
-use Rattle.std.specs.Prelude.{◌++◌, List, filter, Option, option_map, is_none}
+use Rattle.std.specs.Prelude.{◌≡◌, ◌++◌, List, filter, Option, option_map, option_and_then, is_none, IsSome}
 use Rattle.std.specs.List.{filter_map}
 use Rattle.std.specs.FinMap as map
 use Rattle.cell_addr.specs.Order.{place_cmp}
+use Rattle.cell_addr.specs.Place.{IsInside}
 use Rattle.cell_addr.specs.declared.place.Place.{Place}
 use Rattle.shift_core.specs.declared.shift.Shift.{Shift}
+use Rattle.shift_core.specs.Sound.{IsSound}
 use Rattle.shift_core.specs.Tables.{place_after, place_before}
 
 -- a finite map from places
@@ -30,3 +32,20 @@ lost_entries s m = filter (λ e. is_none (place_after s e.0)) (map.entries m)
 -- the map before the operation: the lost entries at their old places, and each other one at the place that it came from
 abbrev pub restored_map : {X : Type 0} → Shift → List (Place × X) → PlaceMap X → PlaceMap X
 restored_map s lost m = map.from_entries (lost ++ filter_map (entry_before s) (map.entries m))
+
+-- only places of the sheet have an entry
+abbrev pub AreInside : {X : Type 0} → PlaceMap X → Type 0
+AreInside m = (p : Place) → IsSome (map.get m p) → IsInside p
+
+-- at a place of the sheet stands what the operation moved there
+abbrev pub MovedEntriesAreFound : Type 0 → Type 0
+MovedEntriesAreFound X =
+    (s : Shift) (m : PlaceMap X) (q : Place) → IsSound s → AreInside m → IsInside q → map.get (moved_map s m) q ≡ option_and_then (map.get m) (place_before s q)
+
+-- entries that are all on the sheet stay on it
+abbrev pub MovedEntriesStayInside : Type 0 → Type 0
+MovedEntriesStayInside X = (s : Shift) (m : PlaceMap X) → IsSound s → AreInside m → AreInside (moved_map s m)
+
+-- the lost entries bring back the map from before
+abbrev pub LostEntriesRestore : Type 0 → Type 0
+LostEntriesRestore X = (s : Shift) (m : PlaceMap X) → IsSound s → AreInside m → restored_map s (lost_entries s m) (moved_map s m) ≡ m

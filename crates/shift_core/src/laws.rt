@@ -1,5 +1,6 @@
 // What the tables of moved places and blocks have in common, as laws over every operation.
 ghost use Rattle.shift_core.specs.Laws.{PlacesComeBack, PlacesGoForth, NoTwoMeet, PlacesStayInside, BlocksStayInside, BlocksCoverWhatMoves, BlocksAreLostWithTheirPlaces, MovedBlocksEndAtTheirLines, OneCellsMoveAlike, OppositesGoBack, UnbentBlocksComeBack, UnbentBlocksKeepOffsets};
+ghost use Rattle.shift_core.specs.Maps.{MovedEntriesAreFound, MovedEntriesStayInside, LostEntriesRestore};
 
 /// A place of the sheet that isn't lost comes back to where it was.
 pub fn places_come_back()
@@ -62,4 +63,19 @@ pub fn unbent_blocks_come_back()
 /// Over an edit of lines, places go back by the opposite edit.
 pub fn opposites_go_back()
     ensures { OppositesGoBack }
+{}
+
+/// In a moved map, a place of the sheet has the entry of the place that it came from. `X` is the type of what the places have.
+pub fn moved_entries_are_found<X>()
+    ensures { MovedEntriesAreFound X }
+{}
+
+/// The places of a moved map are on the sheet where those of the map before were.
+pub fn moved_entries_stay_inside<X>()
+    ensures { MovedEntriesStayInside X }
+{}
+
+/// The lost entries and the moved map give the map from before.
+pub fn lost_entries_restore<X>()
+    ensures { LostEntriesRestore X }
 {}

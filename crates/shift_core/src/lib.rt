@@ -26,7 +26,8 @@ pub use edit::Edit;
 pub use form::Form;
 pub use laws::{
     blocks_are_lost_with_their_places, blocks_cover_what_moves, blocks_stay_inside,
-    moved_blocks_end_at_their_lines, no_two_meet, one_cells_move_alike, opposites_go_back,
+    lost_entries_restore, moved_blocks_end_at_their_lines, moved_entries_are_found,
+    moved_entries_stay_inside, no_two_meet, one_cells_move_alike, opposites_go_back,
     places_come_back, places_go_forth, places_stay_inside, unbent_blocks_come_back,
     unbent_blocks_keep_offsets,
 };
