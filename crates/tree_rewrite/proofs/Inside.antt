@@ -1,5 +1,5 @@
 -- What lies within the limits of a sheet stays so over an operation. Serves the passage of trees, and the laws.
-use Rattle.std.proofs.Common.{◌≡◌, ◌∙◌, sym, ap, subst, refl, arith, Option, Some, None, option_map}
+use Rattle.std.proofs.Common.{◌≡◌, subst, refl, arith, Option, Some, None, option_map}
 use Rattle.std.proofs.lemmas.Option.{same_Some}
 use Rattle.cell_addr.specs.declared.place.Place.{Place}
 use Rattle.cell_addr.specs.declared.place.Block.{Block}
@@ -17,7 +17,7 @@ use Rattle.shift_core.specs.declared.shift.Shift.{Shift}
 use Rattle.shift_core.proofs.PlaceLaws.{place_moved_inside, place_returned_inside}
 use Rattle.shift_core.proofs.BlockLaws.{block_moved_inside, block_returned_inside}
 use Rattle.tree_rewrite.specs.References.{EachReferenceOfAll, IsReferenceInside, IsAreaInside, FitsSheets}
-use Rattle.tree_rewrite.specs.Rewritten.{cell_at, area_at, home_by}
+use Rattle.tree_rewrite.specs.Rewritten.{cell_at, area_at}
 use Rattle.tree_rewrite.specs.declared.direction.Direction.{Direction}
 use Rattle.tree_rewrite.specs.declared.direction.Direction.TheVariants.{Forward, Backward}
 use Rattle.tree_rewrite.specs.internal.Passage.{place_in, block_in, tree_in, home_in}

@@ -1,6 +1,6 @@
 -- What stays of a tree when its references and blocks are replaced by leaves: its levels, and that it is proper.
 -- Serves the laws.
-use Rattle.std.proofs.Common.{◌≡◌, ◌<◌, ◌≤◌, ap, refl, arith, sym, ◌∙◌, ℕ, ◌+◌, max, Option, Some, None}
+use Rattle.std.proofs.Common.{◌≡◌, ◌<◌, ◌≤◌, ap, refl, arith, ◌∙◌, ℕ, ◌+◌, max, Option, Some, None}
 use Rattle.cell_addr.specs.declared.place.Place.{Place}
 use Rattle.cell_addr.specs.declared.place.Block.{Block}
 use Rattle.cell_addr.specs.Place.{IsInside, IsBlockInside}

@@ -11,13 +11,13 @@ use Rattle.cell_addr.specs.declared.place.Block.{Block}
 use Rattle.cell_addr.specs.Axis.{line_of, with_line, span_of, with_span, limit_of}
 use Rattle.cell_addr.specs.Place.{covers}
 use Rattle.formula_tree.specs.Reference.{block_of}
-use Rattle.formula_tree.specs.Term.{Term, number, text, truth, fault, cell, area, name, prefix, percent, binary, call, paren, Terms, no_terms, term, mapped, mapped_all}
+use Rattle.formula_tree.specs.Term.{Term, number, text, truth, fault, cell, area, name, prefix, percent, binary, call, paren, Terms, no_terms, term}
 use Rattle.formula_tree.specs.declared.reference.Corner.{Corner}
 use Rattle.shift_core.specs.Carried.{contains, first_place, last_place, carried_place, carried_block, destination}
 use Rattle.shift_core.specs.Form.{form_of}
 use Rattle.shift_core.specs.Lines.{line_after, line_before}
 use Rattle.shift_core.specs.Spans.{span_after, span_before}
-use Rattle.shift_core.specs.Tables.{by_line, by_span, place_moved, place_returned, block_moved, block_returned}
+use Rattle.shift_core.specs.Tables.{place_moved, place_returned, block_moved, block_returned}
 use Rattle.shift_core.specs.declared.form.Form.{Form}
 use Rattle.shift_core.specs.declared.form.Form.TheVariants.{Lines, Cells, Sheet}
 use Rattle.shift_core.specs.declared.shift.Shift.{Shift}

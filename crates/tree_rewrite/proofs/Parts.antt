@@ -1,8 +1,8 @@
 -- The arguments of a call, of which some stay and some become others. Serves the passage of trees.
-use Rattle.std.proofs.Common.{◌≡◌, ◌≢◌, ◌∙◌, sym, ap, subst, refl, arith, ℕ, zero, suc, ◌+◌, ◌<◌, Bool, true, false, ◌&&◌, List, [], ◌∷◌, ◌++◌, map, length, get_or, take, drop, append_assoc, Option, Some, None, Global}
+use Rattle.std.proofs.Common.{◌≡◌, ◌≢◌, ◌∙◌, sym, ap, arith, ℕ, zero, suc, ◌+◌, ◌<◌, List, [], ◌∷◌, ◌++◌, map, length, get_or, take, drop, append_assoc}
 use Rattle.std.proofs.lemmas.List.{take-append-drop, map-append, take_more}
 use Rattle.formula_tree.proofs.Once.{drop-item}
-use Rattle.formula_tree.specs.Term.{Term, term, terms_of}
+use Rattle.formula_tree.specs.Term.{Term, terms_of}
 use Rattle.formula_tree.specs.declared.reference.Ref.{Ref}
 
 -- where all arguments are the same, each is

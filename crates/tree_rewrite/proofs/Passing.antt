@@ -1,5 +1,5 @@
 -- What the passage makes of each kind of node, and what fits in its parts. Serves the passage of trees.
-use Rattle.std.proofs.Common.{◌≡◌, ◌≢◌, ◌⊎◌, inl, inr, ◌∙◌, sym, ap, subst, refl, arith, ℕ, zero, suc, ℤ, ◌+◌, ◌*◌, ◌<◌, ◌≤◌, max, Bool, false, ◌&&◌, List, [], ◌∷◌, map, length, get_or, take, drop, ◌++◌, Option, Some, None, Global}
+use Rattle.std.proofs.Common.{◌≡◌, ◌≢◌, ◌⊎◌, inl, inr, ◌∙◌, sym, ap, subst, refl, arith, ℕ, zero, suc, ℤ, ◌+◌, ◌*◌, ◌<◌, ◌≤◌, max, Bool, List, [], ◌∷◌, map, length, get_or, take, drop, ◌++◌, Option, Some, None, Global}
 use Rattle.std.specs.declared.rc.Rc.{Rc}
 use Rattle.cell_value.specs.declared.fault.FaultKind.{FaultKind}
 use Rattle.cell_addr.specs.Place.{IsInside}
@@ -30,8 +30,9 @@ use Rattle.formula_tree.specs.declared.reference.Corner.{Corner}
 use Rattle.shift_core.specs.declared.shift.Shift.{Shift}
 use Rattle.tree_rewrite.specs.declared.direction.Direction.{Direction}
 use Rattle.tree_rewrite.specs.declared.passage.Passage.{Passage}
-use Rattle.tree_rewrite.specs.internal.Passage.{Becomes, place_in, block_in, Fits, AllFit, term_of, terms_in, passed, all_passed, tree_passed}
-use Rattle.tree_rewrite.proofs.Inside.{place_in-inside, block_in-inside}
+use Rattle.tree_rewrite.specs.internal.Passage.{Becomes, place_in, block_in, tree_in, Fits, AllFit, term_of, terms_in, passed, all_passed, tree_passed}
+use Rattle.tree_rewrite.proofs.Inside.{place_in-inside, block_in-inside, tree_in-fits, fits-back}
+use Rattle.tree_rewrite.specs.References.{FitsSheets}
 use Rattle.tree_rewrite.proofs.Parts.{changed-items, items-differ}
 
 -- the kinds of nodes
@@ -205,8 +206,7 @@ module _ (p : Passage) where
       → (relative (nodes.Binary o new_left new_right) ≡ passed p (relative node)) × (passed p (relative node) ≢ relative node)
   binary-changes node o left right new_left new_right a b is f g some h k =
       let e = ap relative is ∙ relative-Binary o left right in
-      let after = ap (passed p) e ∙ passed-binary o (term_of left) (term_of right) in
-      (
+      let after = ap (passed p) e ∙ passed-binary o (term_of left) (term_of right) in (
         relative-Binary o new_left new_right ∙ ap (λ t. binary o t (term_of new_right)) h ∙ ap (λ t. binary o (tree_passed p left) t) k ∙ sym after,
         λ q. parts-other o left right a b f g some (sym after ∙ q ∙ e),
       )
@@ -372,3 +372,13 @@ module _ (home : Home) where
   AllFit-drop items zero p = p
   AllFit-drop [] (suc i) p = tt
   AllFit-drop (x ∷ xs) (suc i) p = AllFit-drop xs i p.1
+
+-- a tree that fits at its home
+pub Fits-at_home : (home : Home) (t : Term Ref) → FitsSheets (at_home home t) → Fits home t
+unfolding Fits
+Fits-at_home home t h = h
+
+-- what a tree becomes, placed at the home at the other end, is what the operation makes of it
+pub passed-at_home : (p : Passage) (t : Term Ref) → IsSound p.shift → FitsSheets (at_home p.from t) → at_home p.to (passed p t) ≡ tree_in p.direction p.shift (at_home p.from t)
+unfolding passed
+passed-at_home p t sound h = fits-back p.to (tree_in p.direction p.shift (at_home p.from t)) (tree_in-fits p.direction p.shift (at_home p.from t) sound h)

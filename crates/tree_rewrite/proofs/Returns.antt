@@ -1,12 +1,12 @@
 -- When a tree comes back from an operation. Serves the test of loss, and the laws.
-use Rattle.std.proofs.Common.{◌≡◌, ◌≢◌, ◌∙◌, sym, ap, subst, refl, arith, ◌↔◌, ℕ, ◌+◌, ◌<◌, length, get_or, drop, Global, List, Option, Some, None, MatchOption, option_map, option_and_then, ◌⊎◌}
+use Rattle.std.proofs.Common.{◌≡◌, ◌≢◌, ◌∙◌, sym, ap, subst, refl, ◌↔◌, ℕ, ◌+◌, ◌<◌, length, get_or, drop, Global, List, Option, Some, None, MatchOption, option_map, option_and_then, ◌⊎◌}
 use Rattle.std.specs.Bool.{⊤}
 use Rattle.std.proofs.lemmas.Option.{same_Some}
 use Rattle.cell_addr.specs.declared.place.Place.{Place}
 use Rattle.cell_addr.specs.declared.place.Block.{Block}
 use Rattle.cell_addr.specs.Place.{IsInside, IsBlockInside}
 use Rattle.cell_value.specs.declared.fault.FaultKind.TheVariants as faults
-use Rattle.formula_tree.specs.Proper.{IsProper, AreProper, AreOrdered}
+use Rattle.formula_tree.specs.Proper.{IsProper, AreProper}
 use Rattle.formula_tree.specs.Reference.{block_of, IsHomeInside}
 use Rattle.formula_tree.specs.Term.{Term, number, text, truth, fault, cell, area, name, prefix, percent, binary, call, paren, Terms, no_terms, term}
 use Rattle.formula_tree.specs.declared.operator.Op.{Op}
@@ -19,13 +19,13 @@ use Rattle.formula_tree.specs.StandsFor.{at_home}
 use Rattle.formula_tree.specs.Term.{each_corner_all}
 use Rattle.formula_tree.specs.declared.node.Node.{Node}
 use Rattle.formula_tree.proofs.Once.{drop-item}
-use Rattle.shift_core.specs.Bent.{IsBent, IsCut, BendsBlock, CutsBlock, HaveOtherSizes, MeetsDisplaced}
+use Rattle.shift_core.specs.Bent.{IsBent, IsCut, HaveOtherSizes, MeetsDisplaced}
 use Rattle.shift_core.specs.Carried.{first_place, last_place}
 use Rattle.shift_core.specs.Form.{form_of}
 use Rattle.shift_core.specs.Sound.{IsSound}
-use Rattle.shift_core.specs.Tables.{place_after, block_after, place_before, block_before, block_moved}
+use Rattle.shift_core.specs.Tables.{place_after, block_after, place_before, block_before}
 use Rattle.shift_core.specs.declared.shift.Shift.{Shift}
-use Rattle.shift_core.proofs.PlaceLaws.{place_moved_returns, place_returned_goes}
+use Rattle.shift_core.proofs.PlaceLaws.{place_moved_returns}
 use Rattle.shift_core.proofs.UnbentBlocks.{unbent_returns}
 use Rattle.tree_rewrite.specs.Laws.{IsKept, AreaComesBack, IsCarried}
 use Rattle.tree_rewrite.specs.References.{EachReference, EachReferenceOfAll}
@@ -168,8 +168,7 @@ comes-on s home items i item All h e all one =
     let first = at_home home (term_of item) in
     let rest = all_at home (drop (i + 1) items) in
     let is = all-at_drop home items i item h e in
-    let come : AllComeBack s rest → AllComeBack s (term first rest) = λ k. ap (λ x. term x (all_placed_by (place_before s) (block_before s) (all_placed_by (place_after s) (block_after s) rest))) one ∙ ap (λ x. term first x) k in
-    (
+    let come : AllComeBack s rest → AllComeBack s (term first rest) = λ k. ap (λ x. term x (all_placed_by (place_before s) (block_before s) (all_placed_by (place_after s) (block_after s) rest))) one ∙ ap (λ x. term first x) k in (
       λ k. all.0 (subst (AllComeBack s) (sym is) (come k)),
       λ a. (term-parts (returned s (rewritten s first)) first (all_placed_by (place_before s) (block_before s) (all_placed_by (place_after s) (block_after s) rest)) rest (subst (AllComeBack s) is (all.1 a))).1,
     )

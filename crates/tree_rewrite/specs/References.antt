@@ -1,7 +1,7 @@
 -- The references and blocks of a tree. Source: this project's own.
 use Rattle.cell_addr.specs.Place.{IsInside, IsBlockInside}
 use Rattle.formula_tree.specs.Reference.{block_of}
-use Rattle.formula_tree.specs.Term.{Term, number, text, truth, fault, cell, area, name, prefix, percent, binary, call, paren, Terms, no_terms, term}
+use Rattle.formula_tree.specs.Term.{Term, cell, area, prefix, percent, binary, call, paren, Terms, no_terms, term}
 use Rattle.formula_tree.specs.declared.reference.Corner.{Corner}
 
 abbrev mutual

@@ -8,7 +8,9 @@ ghost use Rattle.shift_core.specs.Sound.{IsSound};
 ghost use Rattle.tree_rewrite.specs.Pooled.{HoldsChanged};
 ghost use Rattle.tree_rewrite.specs.References.{FitsSheets};
 ghost use Rattle.tree_rewrite.specs.Rewritten.{rewritten, returned, home_after, home_before};
-ghost use Rattle.tree_rewrite.specs.internal.Passage.{tree_in, home_in};
+ghost use Rattle.formula_tree.specs.Term.{Term};
+ghost use Rattle.formula_tree.specs.declared.reference.Ref.{Ref};
+ghost use Rattle.tree_rewrite.specs.internal.Passage.{Becomes, term_of, tree_in, home_in};
 
 use crate::direction::Direction;
 use crate::passage::Passage;
@@ -100,9 +102,20 @@ fn pass(
         from: home,
         to,
     };
-    let tree = match passage.part(tree)? {
-        Some(changed) => pool.share(changed)?,
-        None => tree.clone()?,
-    };
+    let changed = passage.part(tree)?;
+    let tree = shared_or_kept(pool, changed, tree)?;
     Ok((tree, to))
+}
+
+// The changed tree as the pool shares it, or the old one, which isn't put into the pool.
+fn shared_or_kept(pool: &mut Pool, changed: Option<Tree>, old: &Tree) -> Result<Tree, AllocError>
+    ensures tree { (after : Term Ref) → Becomes term_of changed (term_of old.now) after → IfOk result (λ tree. term_of tree ≡ after) }
+    ensures held { (after : Term Ref) → Becomes term_of changed (term_of old.now) after →
+        IfOk result (λ tree. HoldsChanged (held pool.old) (term_of old.now) after (held pool.new)) }
+    ensures err { OnErr result (held pool.new ≡ held pool.old) }
+{
+    match changed {
+        Some(tree) => pool.share(tree),
+        None => Ok(old.clone()?),
+    }
 }

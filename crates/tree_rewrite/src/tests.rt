@@ -26,11 +26,16 @@ type Case = (Shift, Spot, Spot, Parts, Parts, bool);
 
 // In each case the formula is `=B$6+SUM($B3:C$8)`, with reference and block on the sheet 0.
 const REFERENCE: Spot = (0, 5, 1);
+
 const BLOCK: Ends = (0, 2, 1, 7, 2);
 
 const ON_LINES: [Case; 7] = [
     (
-        Shift::InsertRows { sheet: 0, at: 5, count: 2 },
+        Shift::InsertRows {
+            sheet: 0,
+            at: 5,
+            count: 2,
+        },
         (0, 20, 5),
         (0, 22, 5),
         (Some((0, 7, 1)), Some((0, 2, 1, 9, 2))),
@@ -39,7 +44,11 @@ const ON_LINES: [Case; 7] = [
     ),
     // A lost reference stays lost.
     (
-        Shift::DeleteRows { sheet: 0, at: 5, count: 1 },
+        Shift::DeleteRows {
+            sheet: 0,
+            at: 5,
+            count: 1,
+        },
         (0, 20, 5),
         (0, 19, 5),
         (None, Some((0, 2, 1, 6, 2))),
@@ -48,7 +57,11 @@ const ON_LINES: [Case; 7] = [
     ),
     // The end of the block is cut: no fault shows, and still the block doesn't come back.
     (
-        Shift::DeleteRows { sheet: 0, at: 7, count: 2 },
+        Shift::DeleteRows {
+            sheet: 0,
+            at: 7,
+            count: 2,
+        },
         (0, 20, 5),
         (0, 18, 5),
         (Some((0, 5, 1)), Some((0, 2, 1, 6, 2))),
@@ -56,7 +69,11 @@ const ON_LINES: [Case; 7] = [
         true,
     ),
     (
-        Shift::InsertCols { sheet: 0, at: 2, count: 1 },
+        Shift::InsertCols {
+            sheet: 0,
+            at: 2,
+            count: 1,
+        },
         (0, 20, 5),
         (0, 20, 6),
         (Some((0, 5, 1)), Some((0, 2, 1, 7, 3))),
@@ -64,7 +81,11 @@ const ON_LINES: [Case; 7] = [
         false,
     ),
     (
-        Shift::DeleteCols { sheet: 0, at: 1, count: 2 },
+        Shift::DeleteCols {
+            sheet: 0,
+            at: 1,
+            count: 2,
+        },
         (0, 20, 5),
         (0, 20, 3),
         (None, None),
@@ -72,7 +93,12 @@ const ON_LINES: [Case; 7] = [
         true,
     ),
     (
-        Shift::MoveRows { sheet: 0, from: 5, count: 1, before: 10 },
+        Shift::MoveRows {
+            sheet: 0,
+            from: 5,
+            count: 1,
+            before: 10,
+        },
         (0, 20, 5),
         (0, 20, 5),
         (Some((0, 9, 1)), Some((0, 2, 1, 6, 2))),
@@ -80,7 +106,12 @@ const ON_LINES: [Case; 7] = [
         false,
     ),
     (
-        Shift::MoveCols { sheet: 0, from: 1, count: 1, before: 4 },
+        Shift::MoveCols {
+            sheet: 0,
+            from: 1,
+            count: 1,
+            before: 4,
+        },
         (0, 20, 5),
         (0, 20, 5),
         (Some((0, 5, 3)), Some((0, 2, 1, 7, 1))),
@@ -211,7 +242,11 @@ fn shared(pool: &mut Pool, tree: &Plain, home: Home) -> Result<Tree, AllocError>
 fn goes_so(alloc: Global, case: &Case) -> Result<bool, AllocError> {
     let (s, home, home_after, parts_after, parts_before, lost) = *case;
     let (at, end) = (place(home), place(home_after));
-    if !sound(&s) || !at.inside() || moved_place(&s, at) != Some(end) || back_place(&s, end) != Some(at) {
+    if !sound(&s)
+        || !at.inside()
+        || moved_place(&s, at) != Some(end)
+        || back_place(&s, end) != Some(at)
+    {
         return Ok(false);
     }
     let (here, there) = (Home::Cell(at), Home::Cell(end));
@@ -224,11 +259,13 @@ fn goes_so(alloc: Global, case: &Case) -> Result<bool, AllocError> {
     let expected = shared(&mut pool, &expected, home_then)?;
     let expected_again = formula(alloc, parts_before)?;
     let expected_again = shared(&mut pool, &expected_again, home_again)?;
-    Ok(home_then == there
-        && Tree::ptr_eq(&after, &expected)
-        && home_again == here
-        && Tree::ptr_eq(&before, &expected_again)
-        && loses(&tree, here, &s) == lost)
+    Ok(
+        home_then == there
+            && Tree::ptr_eq(&after, &expected)
+            && home_again == here
+            && Tree::ptr_eq(&before, &expected_again)
+            && loses(&tree, here, &s) == lost,
+    )
 }
 
 #[test]
@@ -246,7 +283,10 @@ fn formulas_go_with_moved_cells(rt: HostRuntime) -> Result<(), Fail> {
             source: block(source),
             to: place(to),
         };
-        assert!(rt; goes_so(rt.alloc(), &(s, home, home_after, after, before, lost))?, "{s:?}");
+        assert!(rt;
+            goes_so(rt.alloc(), &(s, home, home_after, after, before, lost))?,
+            "{s:?}"
+        );
     }
     Ok(())
 }
@@ -255,7 +295,11 @@ fn formulas_go_with_moved_cells(rt: HostRuntime) -> Result<(), Fail> {
 fn trees_that_stay_are_kept(rt: HostRuntime) -> Result<(), Fail> {
     let alloc = rt.alloc();
     let mut pool = Pool::new(alloc)?;
-    let s = Shift::InsertRows { sheet: 0, at: 0, count: 3 };
+    let s = Shift::InsertRows {
+        sheet: 0,
+        at: 0,
+        count: 3,
+    };
     assert!(rt; sound(&s));
 
     // Ten rows above both the name's tree and the place that it names: the place moves, and the home stays.

@@ -1,4 +1,4 @@
-use Rattle.std.proofs.Common.{◌≡◌, ◌↔◌, ◌∙◌, sym, ap, subst, refl, arith, ◌+◌, [], drop, Bool, false, IsTrue}
+use Rattle.std.proofs.Common.{◌≡◌, ◌∙◌, sym, ap, subst, refl, [], drop, false, IsTrue}
 use Rattle.std.proofs.lemmas.List.{drop_all}
 use Rattle.formula_tree.specs.Reference.{base_of, corner_at}
 use Rattle.formula_tree.specs.Relative.{relative_list}
@@ -17,12 +17,11 @@ no-and e h = let t = e.1 h in cc
 pub all_come_back-returns-then-not-comes_back : goal.all_come_back-returns-then-not-comes_back
 all_come_back-returns-then-not-comes_back t c =
     let item = c.argument-item.result in
-    let none : ComesBack c.args.s.now (at_home c.args.home (term_of item)) → ⊥ = λ h. absurd (no-and (rw c.deref.ensures at c.if-not-comes_back.ensures) h) in
-    (
+    let none : ComesBack c.args.s.now (at_home c.args.home (term_of item)) → ⊥ = λ h. absurd (no-and (rw c.deref.ensures at c.if-not-comes_back.ensures) h) in (
       λ h. absurd (cc),
       λ h. absurd (comes-not c.args.s.now c.args.home c.items-argument-items.result.now c.arguments.argument-index item
-      (AllComeBack c.args.s.now (each_corner_all (corner_at (base_of c.args.home)) (relative_list c.args.list.now)))
-      c.arguments-test.true c.argument-item.is c.arguments.invariant none h),
+          (AllComeBack c.args.s.now (each_corner_all (corner_at (base_of c.args.home)) (relative_list c.args.list.now)))
+          c.arguments-test.true c.argument-item.is c.arguments.invariant none h),
     )
 
 pub all_come_back-arguments-init : goal.all_come_back-arguments-init

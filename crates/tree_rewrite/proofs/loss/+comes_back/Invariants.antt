@@ -1,4 +1,4 @@
-use Rattle.std.proofs.Common.{◌≡◌, ◌↔◌, drop}
+use Rattle.std.proofs.Common.{◌↔◌, drop}
 use Rattle.formula_tree.specs.Reference.{base_of, corner_at}
 use Rattle.formula_tree.specs.Relative.{relative_list}
 use Rattle.formula_tree.specs.Term.{each_corner_all}

@@ -1,4 +1,4 @@
-use Rattle.std.proofs.Common.{◌≡◌, ◌∙◌, ◌+◌, ◌-◌, ◌*◌, ◌<◌, sym, ap, subst, rules, map, take, drop, length, Bool, true, false, None}
+use Rattle.std.proofs.Common.{◌≡◌, ◌∙◌, ◌+◌, ◌-◌, ◌*◌, ◌<◌, sym, ap, subst, rules, take, drop, length, Bool, true, false, None}
 use Rattle.std.proofs.lemmas.List.{take_rest, take_all}
 use Rattle.formula_tree.specs.Arguments.{trees}
 use Rattle.formula_tree.specs.Relative.{relative, relative_list}

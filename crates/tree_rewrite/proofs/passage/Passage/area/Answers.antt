@@ -1,8 +1,7 @@
-use Rattle.std.proofs.Common.{◌≡◌, ◌∙◌, sym, ap, subst, Bool, true, false, Some, None}
+use Rattle.std.proofs.Common.{◌≡◌, ◌∙◌, sym, subst, Bool, true, false, Some, None}
 use Rattle.cell_addr.specs.Place.{IsInside}
 use Rattle.cell_value.specs.declared.fault.FaultKind.TheVariants as faults
-use Rattle.formula_tree.specs.Reference.{base_of, corner_at, ref_from, block_of}
-use Rattle.formula_tree.specs.Term.{area}
+use Rattle.formula_tree.specs.Reference.{base_of, corner_at, block_of}
 use Rattle.shift_core.specs.Carried.{first_place, last_place}
 use Rattle.tree_rewrite.specs.internal.Passage.{block_in}
 use Rattle.tree_rewrite.proofs.Passing as passing
@@ -66,8 +65,7 @@ returns c =
     (sym c.block.ensures ∙ c.in-Some.is) in
     let first = passing.ref-at p.to c.at-top.result top c.first_place.result (first_place c.in-Some.block) c.of-new_first.result c.at-top.ensures c.first_place.ensures c.of-new_first.ensures in
     let last = passing.ref-at p.to c.at-bottom.result bottom c.last_place.result (last_place c.in-Some.block) c.of-new_last.result c.at-bottom.ensures c.last_place.ensures c.of-new_last.ensures in
-    let is = passing.area-goes p c.args.first c.args.last c.in-Some.block goes ∙ passing.same-area _ _ _ _ (sym first) (sym last) in
-    (
+    let is = passing.area-goes p c.args.first c.args.last c.in-Some.block goes ∙ passing.same-area _ _ _ _ (sym first) (sym last) in (
       passing.relative-Area c.of-new_first.result c.of-new_last.result ∙ sym is,
       λ q. other c.both_same.result c.if-both_same.false (c.both_same.ensures.1 (passing.area-parts c.of-new_first.result c.of-new_last.result c.args.first c.args.last (sym is ∙ q))),
     )

@@ -40,8 +40,7 @@ returns c =
     let goes : place_in p.direction p.shift (corner_at (base_of p.from) c.args.reference).at ≡ Some c.in-Some.at =
     sym (ap (λ k. place_in p.direction p.shift k.at) c.at-corner.ensures) ∙ sym c.place.ensures ∙ c.in-Some.is in
     let new = c.of-new.ensures ∙ ap (λ k. ref_from (base_of p.to) (record k { at = c.in-Some.at })) c.at-corner.ensures in
-    let is = passing.cell-goes p c.args.reference c.in-Some.at goes ∙ ap (λ r. cell r) (sym new) in
-    (
+    let is = passing.cell-goes p c.args.reference c.in-Some.at goes ∙ ap (λ r. cell r) (sym new) in (
       passing.relative-Cell c.of-new.result ∙ sym is,
       λ q. let same : c.of-new.result ≡ c.args.reference = passing.cell-part c.of-new.result c.args.reference (sym is ∙ q) in other c.same.result c.if-same.false (c.same.ensures.1 same),
     )
