@@ -12,8 +12,9 @@ use Rattle.formula_tree.specs.declared.reference.Corner.{Corner}
 use Rattle.shift_core.specs.Sound.{IsSound}
 use Rattle.shift_core.specs.declared.shift.Shift.{Shift}
 use Rattle.tree_rewrite.specs.References.{EachReference, EachReferenceOfAll, IsReferenceInside, IsAreaInside, FitsSheets}
-use Rattle.tree_rewrite.specs.Rewritten.{cell_at, area_at}
+use Rattle.tree_rewrite.specs.Rewritten.{cell_at, area_at, rewritten}
 use Rattle.tree_rewrite.specs.declared.direction.Direction.{Direction}
+use Rattle.tree_rewrite.specs.declared.direction.Direction.TheVariants.{Forward}
 use Rattle.tree_rewrite.specs.internal.Passage.{place_in, block_in, tree_in, all_in}
 use Rattle.tree_rewrite.proofs.Inside.{place_in-inside, block_in-inside}
 
@@ -155,3 +156,7 @@ mutual
   all_others-mapped : (f : Corner → Term Corner) (g : Corner → Corner → Term Corner) (ts : Terms Corner) → EachReferenceOfAll (λ c. ⊥) (λ c d. ⊥) ts → mapped_all f g ts ≡ ts
   all_others-mapped f g no_terms h = refl
   all_others-mapped f g (term t ts) h = ap (λ x. term x (mapped_all f g ts)) (others-mapped f g t h.0) ∙ ap (λ x. term t x) (all_others-mapped f g ts h.1)
+
+-- a proper tree stays proper over an operation
+pub rewritten-proper : (s : Shift) (t : Term Corner) → IsSound s → IsProper t → IsProper (rewritten s t)
+rewritten-proper s t sound p = proper-tree_in Forward s t sound p

@@ -23,7 +23,7 @@ use Rattle.shift_core.specs.declared.form.Form.TheVariants.{Lines, Cells, Sheet}
 use Rattle.shift_core.specs.declared.shift.Shift.{Shift}
 use Rattle.shift_core.proofs.Axes.{sheet-with_line, sheet-with_span}
 use Rattle.shift_core.proofs.CellMoves.{cases_chosen, Covers-from_covers}
-use Rattle.tree_rewrite.specs.Rewritten.{cell_at, area_at}
+use Rattle.tree_rewrite.specs.Rewritten.{cell_at, area_at, rewritten}
 use Rattle.tree_rewrite.specs.Sheets.{HasSheet, SomeHasSheet, LeadsOnForm, Leads}
 use Rattle.tree_rewrite.specs.declared.direction.Direction.{Direction}
 use Rattle.tree_rewrite.specs.declared.direction.Direction.TheVariants.{Forward, Backward}
@@ -52,7 +52,7 @@ dropped-block : (b : Bool) (c d : Block) (sheet : ℕ) → (c.sheet == sheet) �
 dropped-block true c d sheet t h = absurd (cc)
 dropped-block false c d sheet t h = (ap (λ x. x.sheet) (sym (same_Some _ _ h)), grind (arith, nat_tests))
 
-place-leads : (f : Form) (p q : Place) → place_moved f p ≡ Some q → LeadsOnForm f p.sheet q.sheet
+pub place-leads : (f : Form) (p q : Place) → place_moved f p ≡ Some q → LeadsOnForm f p.sheet q.sheet
 place-leads (Lines sheet axis edit) p q h = line-sheet (p.sheet == sheet) axis (line_after (limit_of axis) edit (line_of axis p)) p q h
 place-leads (Cells source to) p q h =
     elim (cases_chosen (covers source p) (covers (destination source to) p) (carried_place source to p) p q h) [
@@ -159,3 +159,7 @@ mutual
   all_in-sheet d s n no_terms h = absurd h
   all_in-sheet d s n (term t ts) (inl h) = first-comes d s n t ts (tree_in-sheet d s n t h)
   all_in-sheet d s n (term t ts) (inr h) = others-come d s n t ts (all_in-sheet d s n ts h)
+
+-- where a sheet of the tree after an operation comes from
+pub rewritten-sheet : (s : Shift) (t : Term Corner) (n : ℕ) → HasSheet n (rewritten s t) → (before : ℕ) × HasSheet before t × Leads s before n
+rewritten-sheet s t n h = tree_in-sheet Forward s n t h

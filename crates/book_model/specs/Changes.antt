@@ -1,0 +1,63 @@
+-- The workbook after each change: every formula of every sheet follows a structural operation at once.
+-- Source: HyperFormula's guide in outline, and this project's own in the exact rules.
+use Rattle.std.specs.Prelude as std
+use Rattle.std.specs.Prelude.{ℕ, ◌==◌, if◌then◌else◌, Bool, not, List, [], ◌∷◌, ◌++◌, filter, Option, Some, None}
+use Rattle.std.specs.FinMap as map
+use Rattle.cell_addr.specs.declared.place.Place.{Place}
+use Rattle.cell_values.specs.Workbook.{Book as Contents, Content, formula}
+use Rattle.shift_core.specs.Form.{form_of}
+use Rattle.shift_core.specs.Maps.{moved_map}
+use Rattle.shift_core.specs.declared.form.Form.{Form}
+use Rattle.shift_core.specs.declared.form.Form.TheVariants as form
+use Rattle.shift_core.specs.declared.shift.Shift.{Shift}
+use Rattle.tree_rewrite.specs.Rewritten.{rewritten}
+use Rattle.book_model.specs.Workbook.{Workbook}
+use Rattle.book_model.specs.Content.{content_given, content_of}
+
+-- the contents where a place has this one, or none
+abbrev pub placed : Place → Option Content → Contents → Contents
+placed at None cells = map.remove cells at
+placed at (Some c) cells = map.insert cells at c
+
+-- a cell gets what a text says
+abbrev pub with_content : Place → List ℕ → Workbook → Workbook
+with_content at text b = record b { cells = placed at (content_given b.sheets at.sheet (content_of text)) b.cells }
+
+-- the cells that pass a test become empty
+abbrev pub emptied : (Place → Bool) → Workbook → Workbook
+emptied test b = record b { cells = map.retain_keys b.cells (λ p. not (test p)) }
+
+-- a content after a structural operation: a formula follows it, all else is as it was
+abbrev pub rewritten_content : Shift → Content → Content
+rewritten_content s (formula t) = formula (rewritten s t)
+rewritten_content s c = c
+
+abbrev pub rewritten_entry : Shift → Place × Content → Place × Content
+rewritten_entry s e = (e.0, rewritten_content s e.1)
+
+-- each content after the operation, where it stands
+abbrev pub rewritten_contents : Shift → Contents → Contents
+rewritten_contents s cells = map.from_entries (std.map (rewritten_entry s) (map.entries cells))
+
+-- the sheets that an operation leaves
+abbrev pub sheets_left : Form → List (ℕ × List ℕ) → List (ℕ × List ℕ)
+sheets_left (form.Sheet dropped) sheets = filter (λ sheet. not (sheet.0 == dropped)) sheets
+sheets_left _ sheets = sheets
+
+-- a structural operation: each cell moves or is gone, the formulas of all that stay follow, and a dropped sheet is gone
+abbrev pub shifted : Shift → Workbook → Workbook
+shifted s b = record {
+  sheets = sheets_left (form_of s) b.sheets;
+  cells = rewritten_contents s (moved_map s b.cells);
+}
+
+-- a new sheet at the end of the list
+abbrev pub with_sheet : ℕ → List ℕ → Workbook → Workbook
+with_sheet id name b = record b { sheets = b.sheets ++ (id, name) ∷ [] }
+
+abbrev pub renamed_sheet : ℕ → List ℕ → ℕ × List ℕ → ℕ × List ℕ
+renamed_sheet id name sheet = if sheet.0 == id then (id, name) else sheet
+
+-- a sheet gets another name; formulas keep pointing at it
+abbrev pub renamed : ℕ → List ℕ → Workbook → Workbook
+renamed id name b = record b { sheets = std.map (renamed_sheet id name) b.sheets }

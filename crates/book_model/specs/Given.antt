@@ -1,0 +1,62 @@
+-- The session that begins with given sheets and texts. Source: this project's own.
+use Rattle.std.specs.Prelude.{◌≡◌, ◌≢◌, ◌⊎◌, ◌<◌, ◌≤◌, ℕ, ◌+◌, List, [], ◌∷◌, ◌++◌, length, map, Option, option_map, All, AllPairs, IsTrue}
+use Rattle.std.specs.List.{filter_map}
+use Rattle.std.specs.FinMap as finmap
+use Rattle.cell_addr.specs.declared.place.Place.{Place}
+use Rattle.cell_addr.specs.declared.place.TheConstants.{ROWS, COLS}
+use Rattle.cell_addr.specs.Text.{folded}
+use Rattle.cell_values.specs.Workbook.{Content}
+use Rattle.book_model.specs.Workbook.{Workbook, State}
+use Rattle.book_model.specs.Content.{content_given, content_of}
+use Rattle.book_model.specs.Refusals.{is_sheet_name}
+use Rattle.book_model.specs.declared.given.BookCell.{BookCell}
+use Rattle.book_model.specs.declared.given.BookSheet.{BookSheet}
+use Rattle.book_model.specs.declared.limits.TheConstants.{MAX_CELLS, MAX_SHEETS, MAX_TEXT}
+
+-- the sheets by number and name, numbered in order from here on
+abbrev pub numbered : ℕ → List BookSheet → List (ℕ × List ℕ)
+numbered n [] = []
+numbered n (s ∷ ss) = (n, s.name) ∷ numbered (n + 1) ss
+
+-- the place of a cell on a sheet
+abbrev pub place_on : ℕ → BookCell → Place
+place_on sheet c = record { sheet = sheet; row = c.row; col = c.col }
+
+-- what a text gives to a cell, where it gives something
+abbrev pub given_entry : List (ℕ × List ℕ) → ℕ → BookCell → Option (Place × Content)
+given_entry sheets sheet c = option_map (λ x. (place_on sheet c, x)) (content_given sheets sheet (content_of c.text))
+
+-- what the texts give to the cells of sheets numbered from here on, where formulas may name each sheet of the list
+abbrev pub given_entries : List (ℕ × List ℕ) → ℕ → List BookSheet → List (Place × Content)
+given_entries sheets n [] = []
+given_entries sheets n (s ∷ ss) = filter_map (given_entry sheets n) s.cells.list.items ++ given_entries sheets (n + 1) ss
+
+-- the workbook of the sheets
+abbrev pub workbook_given : List BookSheet → Workbook
+workbook_given books = record {
+  sheets = numbered 0 books;
+  cells = finmap.from_entries (given_entries (numbered 0 books) 0 books);
+}
+
+-- the session that begins with the sheets
+abbrev pub session_given : List BookSheet → State
+session_given books = record { book = workbook_given books; next_sheet = length books }
+
+-- the cell is inside, and its text within the limit
+abbrev pub IsGivenCell : BookCell → Type 0
+IsGivenCell c = (c.row < ROWS) × (c.col < COLS) × (length c.text ≤ MAX_TEXT)
+
+-- two cells stand apart
+abbrev pub StandApart : BookCell → BookCell → Type 0
+StandApart c e = (c.row ≢ e.row) ⊎ (c.col ≢ e.col)
+
+-- a sheet with a valid name, and its cells at distinct places
+abbrev pub IsGivenSheet : BookSheet → Type 0
+IsGivenSheet s = IsTrue (is_sheet_name s.name) × All IsGivenCell s.cells.list.items × AllPairs StandApart s.cells.list.items
+
+-- sheets that a session can begin with
+abbrev pub CanBegin : List BookSheet → Type 0
+CanBegin books = All IsGivenSheet books
+    × AllPairs (λ s t. folded s.name ≢ folded t.name) books
+    × (length books ≤ MAX_SHEETS)
+    × (finmap.len (workbook_given books).cells ≤ MAX_CELLS)

@@ -1,0 +1,19 @@
+-- What holds of sessions.
+use Rattle.std.specs.Prelude.{◌≡◌, List, [], ◌∷◌, ◌++◌, Some, None}
+use Rattle.book_model.specs.Operation.{Operation}
+use Rattle.book_model.specs.Workbook.{State}
+use Rattle.book_model.specs.Refusals.{cause}
+use Rattle.book_model.specs.Session.{next, after_all}
+use Rattle.book_model.specs.Given.{session_given, CanBegin}
+use Rattle.book_model.specs.Sound.{IsSound}
+use Rattle.book_model.specs.declared.given.BookSheet.{BookSheet}
+use Rattle.book_model.specs.declared.refusal.Refusal.{Refusal}
+
+-- a session that begins with given sheets is sound, and operations lead from one sound session to another
+abbrev pub SessionsAreSound : Type 0
+SessionsAreSound = ((books : List BookSheet) → CanBegin books → IsSound (session_given books))
+    × ((op : Operation) (d : State) → IsSound d → IsSound (next op d))
+
+-- a refused operation leaves the session
+abbrev pub RefusalsChangeNothing : Type 0
+RefusalsChangeNothing = (op : Operation) (d : State) (r : Refusal) → cause op d ≡ Some r → next op d ≡ d

@@ -1,0 +1,11 @@
+pub mod Workbook
+pub mod Content
+pub mod Operation
+pub mod Changes
+pub mod Refusals
+pub mod Session
+pub mod Answers
+pub mod Replies
+pub mod Given
+pub mod Sound
+pub mod Laws

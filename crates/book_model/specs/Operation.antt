@@ -1,0 +1,25 @@
+-- What can be asked of a workbook engine, with sheets by their numbers. Source: HyperFormula's guide for what can be
+-- asked, and this project's own for the exact calls.
+use Rattle.std.specs.Prelude.{ℕ, List}
+use Rattle.cell_addr.specs.declared.place.Place.{Place}
+use Rattle.cell_addr.specs.declared.place.Block.{Block}
+use Rattle.shift_core.specs.declared.shift.Shift.{Shift}
+
+pub data Operation : Type 0 where
+  -- gives a cell the content that a text says
+  set : Place → List ℕ → Operation
+  -- empties the cells of a block
+  clear : Block → Operation
+  -- a structural operation, which formulas follow
+  structural : Shift → Operation
+  -- a new sheet of this name, at the end of the list
+  add_sheet : List ℕ → Operation
+  rename_sheet : ℕ → List ℕ → Operation
+  -- empties the cells of a sheet
+  clear_sheet : ℕ → Operation
+  -- what a cell shows
+  value : Place → Operation
+  -- the text of a cell's formula
+  formula : Place → Operation
+  -- the text that gives a cell its content
+  content : Place → Operation

@@ -1,0 +1,130 @@
+-- The commands of a script, and the line that answers each. Source: this project's own.
+use Rattle.std.specs.Prelude.{ℕ, ◌==◌, ◌++◌, if◌then◌else◌, List, [], ◌∷◌, Option, Some, None, codes}
+use Rattle.std.specs.Option.{unwrap_or}
+use Rattle.std.specs.Fmt.{decimal}
+use Rattle.cell_addr.specs.declared.place.Place.{Place}
+use Rattle.cell_addr.specs.declared.place.Block.{Block}
+use Rattle.cell_addr.specs.declared.place.TheConstants.{NO_SHEET}
+use Rattle.cell_addr.specs.declared.spot.Spot.{Spot}
+use Rattle.cell_addr.specs.Sheets.{id_in}
+use Rattle.cell_value.specs.Scalar.{shown_text}
+use Rattle.shift_core.specs.declared.shift.Shift.TheVariants as shift
+use Rattle.book_model.specs.Workbook.{Workbook, State}
+use Rattle.book_model.specs.Operation.{Operation}
+use Rattle.book_model.specs.Operation as op
+use Rattle.book_model.specs.Refusals.{cause}
+use Rattle.book_model.specs.Session.{next}
+use Rattle.book_model.specs.Answers.{value_of, formula_of, content_text}
+use Rattle.book_model.specs.declared.command.Command.{Command}
+use Rattle.book_model.specs.declared.command.Command.TheVariants as command
+use Rattle.book_model.specs.declared.refusal.Refusal.{Refusal}
+use Rattle.book_model.specs.declared.refusal.Refusal.TheVariants as refusal
+
+-- the first sheet of the list
+abbrev pub first_sheet : Workbook → Option ℕ
+first_sheet b = first_of b.sheets where
+  first_of : List (ℕ × List ℕ) → Option ℕ
+  first_of [] = None
+  first_of (sheet ∷ rest) = Some sheet.0
+
+-- the number of the sheet of this name; a name that no sheet has gives the number that no sheet has
+abbrev pub sheet_named : Workbook → List ℕ → ℕ
+sheet_named b name = unwrap_or (id_in b.sheets name) NO_SHEET
+
+-- the sheet of an address: the one that it names, or the first of the list
+abbrev pub sheet_of : Workbook → Option (List ℕ) → ℕ
+sheet_of b None = unwrap_or (first_sheet b) NO_SHEET
+sheet_of b (Some name) = sheet_named b name
+
+-- the place and the block that an address names
+abbrev pub place_of : Workbook → Spot → Place
+place_of b spot = record { sheet = sheet_of b spot.sheet; row = spot.top; col = spot.left }
+
+abbrev pub block_of : Workbook → Spot → Block
+block_of b spot = record { sheet = sheet_of b spot.sheet; top = spot.top; left = spot.left; bottom = spot.bottom; right = spot.right }
+
+-- what a command asks for
+abbrev pub operation_of : Workbook → Command → Operation
+operation_of b (command.Set at text) = op.set (place_of b at) text
+operation_of b (command.Clear area) = op.clear (block_of b area)
+operation_of b (command.InsertRows sheet at count) = op.structural (shift.InsertRows (sheet_named b sheet) at count)
+operation_of b (command.DeleteRows sheet at count) = op.structural (shift.DeleteRows (sheet_named b sheet) at count)
+operation_of b (command.InsertCols sheet at count) = op.structural (shift.InsertCols (sheet_named b sheet) at count)
+operation_of b (command.DeleteCols sheet at count) = op.structural (shift.DeleteCols (sheet_named b sheet) at count)
+operation_of b (command.MoveRows sheet from count before) = op.structural (shift.MoveRows (sheet_named b sheet) from count before)
+operation_of b (command.MoveCols sheet from count before) = op.structural (shift.MoveCols (sheet_named b sheet) from count before)
+operation_of b (command.AddSheet name) = op.add_sheet name
+operation_of b (command.DropSheet sheet) = op.structural (shift.DropSheet (sheet_named b sheet))
+operation_of b (command.RenameSheet sheet name) = op.rename_sheet (sheet_named b sheet) name
+operation_of b (command.ClearSheet sheet) = op.clear_sheet (sheet_named b sheet)
+operation_of b (command.Value at) = op.value (place_of b at)
+operation_of b (command.Formula at) = op.formula (place_of b at)
+operation_of b (command.Content at) = op.content (place_of b at)
+
+-- the text of a cell's formula, or `none`
+abbrev pub formula_text : Option (List ℕ) → List ℕ
+formula_text text = unwrap_or text (codes "none")
+
+-- the answer to an operation that is accepted
+abbrev pub answer : Operation → State → List ℕ
+answer (op.value at) d = shown_text (value_of d at)
+answer (op.formula at) d = formula_text (formula_of d at)
+answer (op.content at) d = content_text d at
+answer (op.add_sheet name) d = codes "ok " ++ decimal d.next_sheet
+answer _ d = codes "ok"
+
+-- the number and the name of a refusal
+abbrev pub refusal_number : Refusal → ℕ
+refusal_number refusal.NoSheet = 1
+refusal_number refusal.SheetNameTaken = 2
+refusal_number refusal.SheetNameInvalid = 3
+refusal_number refusal.Outside = 4
+refusal_number refusal.SizeLimit = 5
+refusal_number refusal.CellLimit = 6
+refusal_number refusal.BadSpan = 17
+refusal_number refusal.TextLimit = 18
+refusal_number refusal.SheetLimit = 19
+
+abbrev pub refusal_name : Refusal → List ℕ
+refusal_name refusal.NoSheet = codes "NoSheet"
+refusal_name refusal.SheetNameTaken = codes "SheetNameTaken"
+refusal_name refusal.SheetNameInvalid = codes "SheetNameInvalid"
+refusal_name refusal.Outside = codes "Outside"
+refusal_name refusal.SizeLimit = codes "SizeLimit"
+refusal_name refusal.CellLimit = codes "CellLimit"
+refusal_name refusal.BadSpan = codes "BadSpan"
+refusal_name refusal.TextLimit = codes "TextLimit"
+refusal_name refusal.SheetLimit = codes "SheetLimit"
+
+abbrev pub refused_text : Refusal → List ℕ
+refused_text r = (codes "refused " ++ decimal (refusal_number r) ++ codes " ") ++ refusal_name r
+
+abbrev pub answer_unless : Option Refusal → List ℕ → List ℕ
+answer_unless None text = text
+answer_unless (Some r) text = refused_text r
+
+-- a byte of a line: a backslash, a line feed and a carriage return are written as two
+abbrev pub escaped_byte : ℕ → List ℕ
+escaped_byte c = if c == 92 then 92 ∷ 92 ∷ []
+    else (if c == 10 then 92 ∷ 110 ∷ []
+    else (if c == 13 then 92 ∷ 114 ∷ [] else c ∷ []))
+
+-- a text as it stands in a line
+abbrev pub escaped : List ℕ → List ℕ
+escaped [] = []
+escaped (c ∷ cs) = escaped_byte c ++ escaped cs
+
+-- the line of a text
+abbrev pub line_of : List ℕ → List ℕ
+line_of text = escaped text ++ 10 ∷ []
+
+-- the line that answers an operation
+abbrev pub line_answering : Operation → State → List ℕ
+line_answering op d = line_of (answer_unless (cause op d) (answer op d))
+
+-- the line that answers a command, and the session after it
+abbrev pub reply : Command → State → List ℕ
+reply c d = line_answering (operation_of d.book c) d
+
+abbrev pub next_state : Command → State → State
+next_state c d = next (operation_of d.book c) d

@@ -1,0 +1,38 @@
+// The commands of a script.
+use cell_addr::{Spot, Text};
+
+/// One command of a script: its word with the fields in their order. Sheets are named, rows and columns are counted
+/// from 0. This project's own.
+#[derive(Drop, Debug)]
+pub enum Command {
+    /// Gives a cell the content that a text says.
+    Set(Spot, Text),
+    /// Empties the cells of a block.
+    Clear(Spot),
+    /// Puts so many rows before a row of the sheet.
+    InsertRows(Text, u32, u32),
+    /// Deletes so many rows of the sheet from a row on.
+    DeleteRows(Text, u32, u32),
+    /// Puts so many columns before a column of the sheet.
+    InsertCols(Text, u32, u32),
+    /// Deletes so many columns of the sheet from a column on.
+    DeleteCols(Text, u32, u32),
+    /// Moves so many rows of the sheet from a row on to before another one.
+    MoveRows(Text, u32, u32, u32),
+    /// Moves so many columns of the sheet from a column on to before another one.
+    MoveCols(Text, u32, u32, u32),
+    /// Adds a sheet at the end of the list.
+    AddSheet(Text),
+    /// Drops a sheet with all of its cells.
+    DropSheet(Text),
+    /// Gives a sheet another name.
+    RenameSheet(Text, Text),
+    /// Empties the cells of a sheet.
+    ClearSheet(Text),
+    /// Asks for what a cell shows.
+    Value(Spot),
+    /// Asks for the text of a cell's formula.
+    Formula(Spot),
+    /// Asks for the text that gives a cell its content.
+    Content(Spot),
+}

@@ -1,0 +1,13 @@
+//! What holds of every session: laws, with nothing to run.
+ghost use Rattle.book_model.specs.Laws.{SessionsAreSound, RefusalsChangeNothing};
+
+/// A session that begins with given sheets is sound, and operations lead from one sound session to another: each filled
+/// cell is inside a sheet of the book, each formula's tree is proper, and its sheets are the book's.
+pub fn sessions_are_sound()
+    ensures { SessionsAreSound }
+{}
+
+/// A refused operation leaves the session as it was.
+pub fn refusals_change_nothing()
+    ensures { RefusalsChangeNothing }
+{}

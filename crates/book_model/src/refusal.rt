@@ -1,0 +1,62 @@
+// Why an operation is refused.
+ghost use Rattle.std.specs.Prelude.{◌≡◌};
+ghost use Rattle.book_model.specs.Replies.{refusal_number, refusal_name};
+
+/// Why an operation is refused. A refused operation changes nothing. This project's own numbers.
+#[derive(Clone, Copy, PartialEq, Eq, Debug)]
+pub enum Refusal {
+    /// 1: the workbook has no such sheet.
+    NoSheet,
+    /// 2: another sheet has the name, in some case of its ASCII letters.
+    SheetNameTaken,
+    /// 3: the name of a sheet has 1 to 100 bytes and no control character.
+    SheetNameInvalid,
+    /// 4: the place, the block or the span isn't within the limits of a sheet.
+    Outside,
+    /// 5: a filled cell would be pushed off the sheet.
+    SizeLimit,
+    /// 6: more cells would be filled than a workbook may have.
+    CellLimit,
+    /// 17: the span has no lines, or is moved to where it is.
+    BadSpan,
+    /// 18: the text is longer than a text given to a cell may be.
+    TextLimit,
+    /// 19: all sheet numbers of the session are used.
+    SheetLimit,
+}
+
+impl Refusal {
+    /// The number that a reply gives.
+    pub fn number(self) -> u8
+        ensures { result ≡ refusal_number self }
+    {
+        match self {
+            Refusal::NoSheet => 1,
+            Refusal::SheetNameTaken => 2,
+            Refusal::SheetNameInvalid => 3,
+            Refusal::Outside => 4,
+            Refusal::SizeLimit => 5,
+            Refusal::CellLimit => 6,
+            Refusal::BadSpan => 17,
+            Refusal::TextLimit => 18,
+            Refusal::SheetLimit => 19,
+        }
+    }
+
+    /// The name that a reply gives.
+    pub fn name(self) -> &'static str
+        ensures { result.now ≡ refusal_name self }
+    {
+        match self {
+            Refusal::NoSheet => "NoSheet",
+            Refusal::SheetNameTaken => "SheetNameTaken",
+            Refusal::SheetNameInvalid => "SheetNameInvalid",
+            Refusal::Outside => "Outside",
+            Refusal::SizeLimit => "SizeLimit",
+            Refusal::CellLimit => "CellLimit",
+            Refusal::BadSpan => "BadSpan",
+            Refusal::TextLimit => "TextLimit",
+            Refusal::SheetLimit => "SheetLimit",
+        }
+    }
+}
