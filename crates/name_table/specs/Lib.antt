@@ -1,0 +1,2 @@
+pub mod SheetLists
+pub mod Listed
