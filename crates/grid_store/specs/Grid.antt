@@ -25,6 +25,6 @@ cells_of g = map.from_entries (filter_map (placed g.rows g.cols) g.cells.entries
 abbrev pub items_of : CellList → List (Place × Cell)
 items_of l = l.list.items
 
--- the entries of a block, and those that are in no place of it
+-- the entries of a block
 abbrev pub within : {X : Type 0} → Block → PlaceMap X → PlaceMap X
 within area m = map.retain_keys m (covers area)

@@ -12,14 +12,10 @@
 #![tactic(auto)]
 
 mod cell;
-mod change;
 mod grid;
 mod key;
 mod list;
 mod listing;
-mod store;
-#[cfg(test)]
-mod tests;
 
 pub use cell::Cell;
 pub use grid::Grid;

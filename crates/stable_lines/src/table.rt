@@ -88,6 +88,7 @@ impl LineTable {
     pub fn run_from(&self, position: u32) -> Option<Run>
         ensures found { IsTrue (is_some result) ↔ (position < self.now.limit) }
         ensures run { IfSome result (IsRunFrom self.now position) }
+        ensures sum { IfSome result (λ run. run.to + run.count < 18446744073709551616) }
     {
         let run = run_with(&self.lines, position as u64)?;
         let passed = position as u64 - run.from;

@@ -1,0 +1,4 @@
+pub mod KeyOrder
+pub mod KeyPlaces
+pub mod Views
+pub mod Listings
