@@ -2,3 +2,4 @@ pub mod KeyOrder
 pub mod KeyPlaces
 pub mod Views
 pub mod Listings
+pub mod PlaceMaps

@@ -1,5 +1,5 @@
 -- What a grid stands for: a finite map from places to cells. Source: this project's own.
-use Rattle.std.specs.Prelude.{List, Option, option_map, filter_map}
+use Rattle.std.specs.Prelude.{List, Option, option_map, filter_map, not}
 use Rattle.std.specs.FinMap as map
 use Rattle.cell_addr.specs.Order.{place_cmp}
 use Rattle.cell_addr.specs.Place.{IsInside, covers}
@@ -28,3 +28,7 @@ items_of l = l.list.items
 -- the entries of a block
 abbrev pub within : {X : Type 0} → Block → PlaceMap X → PlaceMap X
 within area m = map.retain_keys m (covers area)
+
+-- the entries that are in no place of a block
+abbrev pub outside : {X : Type 0} → Block → PlaceMap X → PlaceMap X
+outside area m = map.retain_keys m (λ p. not (covers area p))

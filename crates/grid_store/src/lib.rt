@@ -12,10 +12,12 @@
 #![tactic(auto)]
 
 mod cell;
+mod clearing;
 mod grid;
 mod key;
 mod list;
 mod listing;
+mod way;
 
 pub use cell::Cell;
 pub use grid::Grid;
