@@ -19,7 +19,7 @@ is_eq-Equal Equal h = refl
 is_eq-Equal Greater h = cc
 
 -- tests that decide facts which say the same are one
-same_test : {A B : Type 0} (a b : Bool) → (a ≡ true) ↔ A → (b ≡ true) ↔ B → A ↔ B → a ≡ b
+pub same_test : {A B : Type 0} (a b : Bool) → (a ≡ true) ↔ A → (b ≡ true) ↔ B → A ↔ B → a ≡ b
 same_test true true f g h = refl
 same_test true false f g h = sym (g.1 (h.0 (f.0 refl)))
 same_test false true f g h = f.1 (h.1 (g.0 refl))

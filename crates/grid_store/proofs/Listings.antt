@@ -1,0 +1,202 @@
+-- How far a block's cells are found, key by key of its rows. Serves the lists of cells.
+use Rattle.std.proofs.Common.{◌≡◌, ◌∙◌, sym, ap, refl, subst, ℕ, ◌+◌, ◌-◌, ◌<◌, ◌≤◌, ◌⊎◌, inl, inr, Bool, true, false, cond, List, [], ◌∷◌, Option, Some, None, IsSome, is_some, not, ◌&&◌, arith}
+use Rattle.std.specs.BTreeMap.Range.{IsEntryInRange, entries_between, range_contains}
+use Rattle.std.specs.Ordering.{is_le, nat_cmp, ordering_then}
+use Rattle.std.specs.declared.ops.Bound.{Bound}
+use Rattle.std.specs.declared.ops.Bound.TheVariants.{Included, Excluded}
+use Rattle.std.proofs.lemmas.Bool.Decides.{nat_tests}
+use Rattle.std.proofs.lemmas.Map.Entries.{lookup-filter-keys}
+use Rattle.std.specs.BTreeMap as tree
+use Rattle.std.specs.BTreeMap.{BTreeMap, is_at}
+use Rattle.std.specs.FinMap as map
+use Rattle.std.specs.List.{All, AllByRecursion}
+use Rattle.std.proofs.lemmas.List.Elements.{recursion_from_All}
+use Rattle.std.proofs.lemmas.Bool.{both_ways}
+use Rattle.std.proofs.lemmas.Option.{same_Some}
+use Rattle.cell_addr.specs.Order.{place_cmp}
+use Rattle.cell_addr.specs.Place.{Covers, covers}
+use Rattle.cell_addr.specs.declared.place.Block.{Block}
+use Rattle.cell_addr.specs.declared.place.Place.{Place}
+use Rattle.cell_addr.specs.declared.place.TheConstants.{ROWS, COLS}
+use Rattle.cell_addr.proofs.Entries.{entries-from_entries, lookup-from_entries}
+use Rattle.shift_core.specs.Maps.{PlaceMap}
+use Rattle.cell_addr.proofs.Places.{place_cmp-IsTotalOrder, place_cmp-IsAntisymmetric}
+use Rattle.shift_core.proofs.CarriedEntries.{eq_by_cmp-decides}
+use Rattle.shift_core.proofs.CellMoves.{Covers-from_covers}
+use Rattle.stable_lines.specs.Lines.{line_at}
+use Rattle.stable_lines.specs.Sheets.{table_of}
+use Rattle.stable_lines.specs.declared.run.Run.{Run}
+use Rattle.stable_lines.specs.declared.sheets.SheetLines.{SheetLines}
+use Rattle.grid_store.specs.Keys.{key_at, key_cmp, place_at}
+use Rattle.grid_store.specs.declared.cell.Cell.{Cell}
+use Rattle.grid_store.specs.declared.key.CellKey.{CellKey}
+use Rattle.grid_store.specs.internal.Listing.{AreCellsOf, AreLinesAt, HasRows, IsAdded, StillHas}
+use Rattle.grid_store.proofs.KeyOrder.{key_cmp-IsTotalOrder, key_cmp-IsAntisymmetric}
+use Rattle.grid_store.proofs.KeyPlaces.{inside_key, key_line, key_of_place, key_sheet, place_of_key}
+use Rattle.grid_store.proofs.Views.{get-seen_at, kept, key_of_seen, seen}
+
+sum : (a b : ℕ) → b ≤ a → a ≡ b + (a - b)
+sum a b le = omega arith
+
+-- the key is of the sheet, and the line of its row is one of these
+abbrev pub IsOn : ℕ → Run → CellKey → Type 0
+IsOn sheet lines k = (k.sheet ≡ sheet) × (lines.to ≤ k.row) × (k.row < lines.to + lines.count)
+
+-- the block's cells on some lines, as far as their keys have been gone through
+pub record Progress (rows cols : SheetLines) (es : List (CellKey × Cell)) (area : Block) (lines : Run) (before found : BTreeMap Place Cell) (rest : List (CellKey × Cell)) : Type 0 where
+  pub cells : AreCellsOf area (seen rows cols es) found
+  pub still : StillHas before found
+  pub entries : AllByRecursion (λ e. kept es e.0 ≡ Some e.1) rest
+  pub pending : (k : CellKey) (q : Place) → IsSome (kept es k) → IsOn area.sheet lines k → place_at rows cols k ≡ Some q → covers area q ≡ true → IsSome (tree.get place_cmp found q) ⊎ IsSome (kept rest k)
+
+same_place_test : (p q : Place) → (is_at (place_cmp p) q ≡ true) → p ≡ q
+same_place_test p q h = (eq_by_cmp-decides place_cmp-IsTotalOrder place_cmp-IsAntisymmetric p q).0 h
+
+same_key_test : (k l : CellKey) → (is_at (key_cmp k) l ≡ true) → k ≡ l
+same_key_test k l h = (eq_by_cmp-decides key_cmp-IsTotalOrder key_cmp-IsAntisymmetric k l).0 h
+
+module _ (rows cols : SheetLines) (es : List (CellKey × Cell)) (area : Block) (lines : Run) (before : BTreeMap Place Cell) where
+  -- the first of what is left is not in the block
+  passed_on : (e : CellKey × Cell) (rest : List (CellKey × Cell)) (k : CellKey) (q : Place) (b : Bool) (P : Type 0) → is_at (key_cmp k) e.0 ≡ b → (place_at rows cols e.0 ≡ Some q → covers area q ≡ true → ⊥)
+      → place_at rows cols k ≡ Some q → covers area q ≡ true → IsSome (cond b (Some e.1) (kept rest k)) → P ⊎ IsSome (kept rest k)
+  passed_on e rest k q true P same out at there some = absurd (out (ap (place_at rows cols) (sym (same_key_test k e.0 same)) ∙ at) there)
+  passed_on e rest k q false P same out at there some = inr some
+
+  pub pass : (found : BTreeMap Place Cell) (e : CellKey × Cell) (rest : List (CellKey × Cell)) → Progress rows cols es area lines before found (e ∷ rest)
+      → ((q : Place) → place_at rows cols e.0 ≡ Some q → covers area q ≡ true → ⊥) → Progress rows cols es area lines before found rest
+  pass found e rest p out = record {
+    cells = p.cells;
+    still = p.still;
+    entries = p.entries.1;
+    pending = λ k q some on at there. elim (p.pending k q some on at there) [
+      | inl h ↦ inl h
+      | inr h ↦ passed_on e rest k q (is_at (key_cmp k) e.0) (IsSome (tree.get place_cmp found q)) refl (out q) at there h
+    ];
+  }
+
+  -- the first of what is left is added
+  added_cell : (found : BTreeMap Place Cell) (at q : Place) (cell c : Cell) (b : Bool) → is_at (place_cmp at) q ≡ b → covers area at ≡ true → map.get (seen rows cols es) at ≡ Some cell
+      → (tree.get place_cmp found q ≡ Some c → (covers area q ≡ true) × (map.get (seen rows cols es) q ≡ Some c)) → cond b (Some cell) (tree.get place_cmp found q) ≡ Some c
+      → (covers area q ≡ true) × (map.get (seen rows cols es) q ≡ Some c)
+  added_cell found at q cell c true same there here others h =
+      let e = same_place_test at q same in
+      (ap (covers area) (sym e) ∙ there, ap (map.get (seen rows cols es)) (sym e) ∙ here ∙ h)
+  added_cell found at q cell c false same there here others h = others h
+
+  still_or : (b : Bool) (c : Cell) (r : Option Cell) → IsSome r → IsSome (cond b (Some c) r)
+  still_or true c r h = refl
+  still_or false c r h = h
+
+  added_pending : (found new : BTreeMap Place Cell) (e : CellKey × Cell) (rest : List (CellKey × Cell)) (at : Place) (k : CellKey) (q : Place) (b : Bool) → is_at (key_cmp k) e.0 ≡ b → place_at rows cols e.0 ≡ Some at
+      → IsAdded found at e.1 new → place_at rows cols k ≡ Some q → IsSome (cond b (Some e.1) (kept rest k)) → IsSome (tree.get place_cmp new q) ⊎ IsSome (kept rest k)
+  added_pending found new e rest at k q true same here added there some =
+      let one : at ≡ q = same_Some at q (sym here ∙ ap (place_at rows cols) (sym (same_key_test k e.0 same)) ∙ there) in
+      let hit : is_at (place_cmp at) q ≡ true = (eq_by_cmp-decides place_cmp-IsTotalOrder place_cmp-IsAntisymmetric at q).1 one in
+      inl (ap is_some (added q ∙ ap (λ b. cond b (Some e.1) (tree.get place_cmp found q)) hit))
+  added_pending found new e rest at k q false same here added there some = inr some
+
+  pub take_up : (found new : BTreeMap Place Cell) (e : CellKey × Cell) (rest : List (CellKey × Cell)) (at : Place) → Progress rows cols es area lines before found (e ∷ rest)
+      → place_at rows cols e.0 ≡ Some at → covers area at ≡ true → IsAdded found at e.1 new → Progress rows cols es area lines before new rest
+  take_up found new e rest at p here there added = record {
+    cells = λ q c h. added_cell found at q e.1 c (is_at (place_cmp at) q) refl there (get-seen_at rows cols es at e.0 (key_of_place rows cols e.0 at here) ∙ p.entries.0) (p.cells q c) (sym (added q) ∙ h);
+    still = λ q some. subst IsSome (sym (added q)) (still_or (is_at (place_cmp at) q) e.1 (tree.get place_cmp found q) (p.still q some));
+    entries = p.entries.1;
+    pending = λ k q some on at' in_area. elim (p.pending k q some on at' in_area) [
+      | inl h ↦ inl (subst IsSome (sym (added q)) (still_or (is_at (place_cmp at) q) e.1 (tree.get place_cmp found q) h))
+      | inr h ↦ added_pending found new e rest at k q (is_at (key_cmp k) e.0) refl here added at' h
+    ];
+  }
+
+  -- where no key is left, all cells on the lines are found
+  pub gone_through : (found : BTreeMap Place Cell) → Progress rows cols es area lines before found [] → AreLinesAt (table_of rows area.sheet) lines → HasRows area (seen rows cols es) lines.from (lines.from + lines.count) found
+  gone_through found p lines_at q there some low high =
+      let c = Covers-from_covers area q there in
+      let w = key_of_seen rows cols es q some in
+      let line : line_at (table_of rows q.sheet) q.row ≡ Some w.0.row = key_line rows cols q w.0 w.1 in
+      let at : line_at (table_of rows area.sheet) q.row ≡ Some (lines.to + (q.row - lines.from)) =
+          ap (line_at (table_of rows area.sheet)) (sum q.row lines.from low) ∙ lines_at (q.row - lines.from) (omega arith) in
+      let row : w.0.row ≡ lines.to + (q.row - lines.from) = same_Some w.0.row _ (sym line ∙ ap (λ s. line_at (table_of rows s) q.row) (sym c.0) ∙ at) in
+      elim (p.pending w.0 q w.2 (sym (key_sheet rows cols q w.0 w.1) ∙ sym c.0, omega arith, omega arith) (place_of_key rows cols q w.0 w.1) there) [
+        | inl h ↦ h
+        | inr h ↦ cc
+      ]
+
+-- the first key on some lines of a sheet, and the first past them
+abbrev pub first_on : ℕ → Run → CellKey
+first_on sheet lines = record { sheet = sheet; row = lines.to; col = 0 }
+
+abbrev pub end_on : ℕ → Run → CellKey
+end_on sheet lines = record { sheet = sheet; row = lines.to + lines.count; col = 0 }
+
+from_first : (sheet a r c s : ℕ) → s ≡ sheet → a ≤ r → is_le (ordering_then (nat_cmp sheet s) (ordering_then (nat_cmp a r) (nat_cmp 0 c))) ≡ true
+from_first sheet a r c s e le = grind (arith, nat_tests)
+
+before_end : (sheet b r c s : ℕ) → s ≡ sheet → r < b → is_le (ordering_then (nat_cmp sheet s) (ordering_then (nat_cmp b r) (nat_cmp 0 c))) ≡ false
+before_end sheet b r c s e lt = grind (arith, nat_tests)
+
+both : (a b : Bool) → a ≡ true → b ≡ false → (a && not b) ≡ true
+both true false e f = refl
+both true true e f = cc
+both false b e f = cc
+
+on_range : (sheet : ℕ) (lines : Run) (k : CellKey) → IsOn sheet lines k → range_contains key_cmp (Included (first_on sheet lines)) (Excluded (end_on sheet lines)) k ≡ true
+on_range sheet lines k on = both _ _ (from_first sheet lines.to k.row k.col k.sheet on.0 on.1) (before_end sheet (lines.to + lines.count) k.row k.col k.sheet on.0 on.2)
+
+-- the keys on some lines are those of their range
+pub kept_on : (sheet : ℕ) (lines : Run) (es : List (CellKey × Cell)) (k : CellKey) → IsOn sheet lines k
+    → kept (entries_between key_cmp (Included (first_on sheet lines)) (Excluded (end_on sheet lines)) es) k ≡ kept es k
+kept_on sheet lines es k on =
+    lookup-filter-keys (is_at (key_cmp k)) (range_contains key_cmp (Included (first_on sheet lines)) (Excluded (end_on sheet lines))) true
+    (λ l same. ap (range_contains key_cmp (Included (first_on sheet lines)) (Excluded (end_on sheet lines))) (sym (same_key_test k l same)) ∙ on_range sheet lines k on) es
+
+values_only : (lo hi : Bound CellKey) (m : BTreeMap CellKey Cell) (rest : List (CellKey × Cell)) → AllByRecursion (IsEntryInRange key_cmp lo hi m) rest → AllByRecursion (λ e. kept m.entries e.0 ≡ Some e.1) rest
+values_only lo hi m [] h = tt
+values_only lo hi m (e ∷ rest) h = (h.0.1, values_only lo hi m rest h.1)
+
+-- before the first key
+pub begun : (rows cols : SheetLines) (m : BTreeMap CellKey Cell) (area : Block) (lines : Run) (found : BTreeMap Place Cell) (range rest : List (CellKey × Cell)) → AreCellsOf area (seen rows cols m.entries) found
+    → rest ≡ range → range ≡ entries_between key_cmp (Included (first_on area.sheet lines)) (Excluded (end_on area.sheet lines)) m.entries
+    → All (IsEntryInRange key_cmp (Included (first_on area.sheet lines)) (Excluded (end_on area.sheet lines)) m) range → Progress rows cols m.entries area lines found found rest
+begun rows cols m area lines found range rest cells same between all = record {
+  cells = cells;
+  still = λ q some. some;
+  entries = subst (AllByRecursion (λ e. kept m.entries e.0 ≡ Some e.1)) (sym same) (values_only (Included (first_on area.sheet lines)) (Excluded (end_on area.sheet lines)) m range (recursion_from_All (IsEntryInRange key_cmp (Included (first_on area.sheet lines)) (Excluded (end_on area.sheet lines)) m) range all));
+  pending = λ k q some on at there. inr (subst IsSome (sym (ap (λ r. kept r k) (same ∙ between) ∙ kept_on area.sheet lines m.entries k on)) some);
+}
+
+-- what is found at a place, where all of the block is
+module _ (area : Block) (m : PlaceMap Cell) (found : BTreeMap Place Cell) (cells : AreCellsOf area m found) (rows : HasRows area m 0 (area.bottom + 1) found) where
+  all_found : (q : Place) (b : Bool) (r s : Option Cell) → covers area q ≡ b → tree.get place_cmp found q ≡ r → map.get m q ≡ s → r ≡ cond b s None
+  all_found q true None None e f g = refl
+  all_found q true None (Some c) e f g =
+      let w = Covers-from_covers area q e in
+      let there = rows q e (ap is_some g) (omega arith) (omega arith) in absurd (both_ways _ (ap is_some f) there)
+  all_found q false None s e f g = refl
+  all_found q true (Some c) s e f g = sym ((cells q c f).1) ∙ g
+  all_found q false (Some c) s e f g = absurd (both_ways _ e (cells q c f).0)
+
+  pub found_entries : tree.IsOrdered place_cmp found → found.entries ≡ map.entries (map.retain_keys m (covers area))
+  found_entries ordered =
+      sym (entries-from_entries place_cmp-IsTotalOrder found.entries ordered)
+      ∙ ap map.entries (map.same_map place_cmp-IsTotalOrder place_cmp-IsAntisymmetric (map.from_entries found.entries) (map.retain_keys m (covers area)) (λ q.
+          sym (lookup-from_entries place_cmp-IsTotalOrder found.entries q)
+          ∙ all_found q (covers area q) (tree.get place_cmp found q) (map.get m q) refl refl refl
+          ∙ sym (map.get-retain_keys m (covers area) q (λ x t. ap (covers area) (sym (place_cmp-IsAntisymmetric q x t))))))
+
+cases_lt : (a b : ℕ) → (a < b) ⊎ (b ≤ a)
+cases_lt a b = grind arith
+
+less : (a b c d : ℕ) → c ≡ d → a < d → c ≤ b → a < b
+less a b c d e h k = omega arith
+
+-- past the sheet's last row no cell is seen
+pub seen_below : (rows cols : SheetLines) (es : List (CellKey × Cell)) → rows.plain.limit ≡ ROWS → cols.plain.limit ≡ COLS → (sheet row : ℕ) → (row < (table_of rows sheet).limit → ⊥)
+    → (q : Place) → IsSome (map.get (seen rows cols es) q) → q.row < row
+seen_below rows cols es rl cl sheet row past q some =
+    let w = key_of_seen rows cols es q some in
+    let i = inside_key rows cols rl cl q w.0 w.1 in
+    let limit : (table_of rows sheet).limit ≡ ROWS = rows.limits sheet ∙ rl in
+    elim (cases_lt row (table_of rows sheet).limit) [
+      | inl short ↦ absurd (past short)
+      | inr long ↦ less q.row row (table_of rows sheet).limit ROWS limit i.0 long
+    ]

@@ -1,0 +1,34 @@
+-- What a grid stands for: a finite map from places to cells. Source: this project's own.
+use Rattle.std.specs.Prelude.{List, Option, option_map, filter_map, not}
+use Rattle.std.specs.FinMap as map
+use Rattle.cell_addr.specs.Order.{place_cmp}
+use Rattle.cell_addr.specs.Place.{IsInside, covers}
+use Rattle.cell_addr.specs.declared.place.Block.{Block}
+use Rattle.cell_addr.specs.declared.place.Place.{Place}
+use Rattle.shift_core.specs.Maps.{PlaceMap}
+use Rattle.stable_lines.specs.declared.sheets.SheetLines.{SheetLines}
+use Rattle.grid_store.specs.Keys.{place_at}
+use Rattle.grid_store.specs.declared.cell.Cell.{Cell}
+use Rattle.grid_store.specs.declared.grid.Grid.{Grid}
+use Rattle.grid_store.specs.declared.key.CellKey.{CellKey}
+use Rattle.grid_store.specs.declared.list.CellList.{CellList}
+
+-- a kept cell at the place of its key
+abbrev pub placed : SheetLines → SheetLines → CellKey × Cell → Option (Place × Cell)
+placed rows cols e = option_map (λ p. (p, e.1)) (place_at rows cols e.0)
+
+-- the map that a grid stands for
+abbrev pub cells_of : Grid → PlaceMap Cell
+cells_of g = map.from_entries (filter_map (placed g.rows g.cols) g.cells.entries)
+
+-- the cells of a list with their places
+abbrev pub items_of : CellList → List (Place × Cell)
+items_of l = l.list.items
+
+-- the entries of a block
+abbrev pub within : {X : Type 0} → Block → PlaceMap X → PlaceMap X
+within area m = map.retain_keys m (covers area)
+
+-- the entries that are in no place of a block
+abbrev pub outside : {X : Type 0} → Block → PlaceMap X → PlaceMap X
+outside area m = map.retain_keys m (λ p. not (covers area p))

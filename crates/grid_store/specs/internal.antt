@@ -1,0 +1,4 @@
+-- What only the proofs of bodies need.
+pub mod Listing
+pub mod Lists
+pub mod Ways

@@ -1,0 +1,35 @@
+-- How far the cells of a block have been found.
+use Rattle.std.specs.Prelude.{◌≡◌, ℕ, ◌+◌, ◌<◌, ◌≤◌, true, if◌then◌else◌, Some, IsSome}
+use Rattle.std.specs.BTreeMap as tree
+use Rattle.std.specs.BTreeMap.{BTreeMap, is_at}
+use Rattle.std.specs.FinMap as map
+use Rattle.cell_addr.specs.Order.{place_cmp}
+use Rattle.cell_addr.specs.Place.{covers}
+use Rattle.cell_addr.specs.declared.place.Block.{Block}
+use Rattle.cell_addr.specs.declared.place.Place.{Place}
+use Rattle.shift_core.specs.Maps.{PlaceMap}
+use Rattle.stable_lines.specs.Lines.{line_at}
+use Rattle.stable_lines.specs.declared.run.Run.{Run}
+use Rattle.stable_lines.specs.declared.table.LineTable.{LineTable}
+use Rattle.grid_store.specs.declared.cell.Cell.{Cell}
+
+-- all that was found is in the block, and is what the map has there
+abbrev pub AreCellsOf : Block → PlaceMap Cell → BTreeMap Place Cell → Type 0
+AreCellsOf area m found = (q : Place) (c : Cell) → tree.get place_cmp found q ≡ Some c → (covers area q ≡ true) × (map.get m q ≡ Some c)
+
+-- the block's cells of the rows from `low` to before `high` are found
+abbrev pub HasRows : Block → PlaceMap Cell → ℕ → ℕ → BTreeMap Place Cell → Type 0
+HasRows area m low high found =
+    (q : Place) → covers area q ≡ true → IsSome (map.get m q) → low ≤ q.row → q.row < high → IsSome (tree.get place_cmp found q)
+
+-- what was found before is found still
+abbrev pub StillHas : BTreeMap Place Cell → BTreeMap Place Cell → Type 0
+StillHas old new = (q : Place) → IsSome (tree.get place_cmp old q) → IsSome (tree.get place_cmp new q)
+
+-- the lines of the run stand from its first number on
+abbrev pub AreLinesAt : LineTable → Run → Type 0
+AreLinesAt t r = (i : ℕ) → i < r.count → line_at t (r.from + i) ≡ Some (r.to + i)
+
+-- the cell is added at its place, and all else is as it was
+abbrev pub IsAdded : BTreeMap Place Cell → Place → Cell → BTreeMap Place Cell → Type 0
+IsAdded old at cell new = (q : Place) → tree.get place_cmp new q ≡ (if is_at (place_cmp at) q then Some cell else tree.get place_cmp old q)

@@ -1,0 +1,34 @@
+// Cells that are emptied together.
+ghost use Rattle.std.specs.Prelude.{◌≡◌, IfOk, OnOk, OnErr};
+ghost use Rattle.std.specs.FinMap as map;
+ghost use Rattle.grid_store.specs.Grid.{cells_of, items_of, outside, within};
+ghost use Rattle.grid_store.specs.internal.Lists.{without};
+
+use crate::cell::Cell;
+use crate::grid::Grid;
+use crate::list::CellList;
+use cell_addr::{Block, Place};
+use std::alloc::{AllocError, Global};
+
+impl Grid {
+    /// Empties the block, and answers what was filled in it, row by row. Costs about what `listed` does. For want of memory the
+    /// grid is as it was.
+    pub fn clear(&mut self, alloc: Global, area: Block) -> Result<CellList, AllocError>
+        ensures removed { IfOk result (λ list. items_of list ≡ map.entries (within area (cells_of self.old))) }
+        ensures cleared { OnOk result (cells_of self.new ≡ outside area (cells_of self.old)) }
+        ensures err { OnErr result (cells_of self.new ≡ cells_of self.old) }
+    {
+        let list = self.listed(alloc, area)?;
+        self.empty(list.items());
+        Ok(list)
+    }
+
+    // Empties the places of the list.
+    fn empty(&mut self, list: &[(Place, Cell)])
+        ensures { cells_of self.new ≡ without list.now (cells_of self.old) }
+    {
+        for (at, _) in list {
+            self.take(*at);
+        }
+    }
+}

@@ -1,0 +1,100 @@
+// The filled cells of a workbook.
+ghost use Rattle.std.specs.Prelude.{◌≡◌, IsSome};
+ghost use Rattle.std.specs.BTreeMap as tree;
+ghost use Rattle.cell_addr.specs.declared.place.TheConstants.{COLS, ROWS};
+ghost use Rattle.grid_store.specs.Keys.{key_cmp, place_at};
+ghost use Rattle.grid_store.specs.declared.key.CellKey.{CellKey};
+
+use crate::cell::Cell;
+use crate::key::CellKey;
+use cell_addr::{Axis, COLS, Place, ROWS};
+use stable_lines::SheetLines;
+use std::alloc::{AllocError, Global};
+use std::collections::BTreeMap;
+
+/// The filled cells of a workbook: a finite map from places to cells.
+#[derive(Drop)]
+pub struct Grid {
+    pub(crate) cells: BTreeMap<CellKey, Cell>,
+    pub(crate) rows: SheetLines,
+    pub(crate) cols: SheetLines,
+    pub ghost rows_limit: { rows.plain.limit ≡ ROWS },
+    pub ghost cols_limit: { cols.plain.limit ≡ COLS },
+    pub ghost standing: { (k : CellKey) → IsSome (tree.get key_cmp cells k) → IsSome (place_at rows cols k) },
+}
+
+impl Grid {
+    ghost use Rattle.std.specs.Prelude.{IfOk, OnOk, OnErr, IsOk, option_copied};
+    ghost use Rattle.std.specs.FinMap as map;
+    ghost use Rattle.cell_addr.specs.Place.{IsInside};
+    ghost use Rattle.grid_store.specs.Grid.{cells_of};
+    ghost use Rattle.grid_store.specs.Keys.{key_at};
+
+    /// A grid without cells.
+    pub fn new(alloc: Global) -> Result<Grid, AllocError>
+        ensures { IfOk result (λ grid. cells_of grid ≡ map.empty) }
+    {
+        Ok(Grid {
+            cells: BTreeMap::new(alloc),
+            rows: SheetLines::new(alloc, ROWS)?,
+            cols: SheetLines::new(alloc, COLS)?,
+        })
+    }
+
+    // The key of the place; None past the sheet's limits.
+    pub(crate) fn key(&self, at: Place) -> Option<CellKey>
+        ensures { result ≡ key_at self.now.rows self.now.cols at }
+    {
+        let row = self.rows.table(at.sheet).line(at.row)?;
+        let col = self.cols.table(at.sheet).line(at.col)?;
+        Some(CellKey { sheet: at.sheet, row, col })
+    }
+
+    // The place where a key's lines stand.
+    pub(crate) fn place(&self, key: CellKey) -> Option<Place>
+        ensures { result ≡ place_at self.now.rows self.now.cols key }
+    {
+        let row = self.rows.table(key.sheet).position(key.row)?;
+        let col = self.cols.table(key.sheet).position(key.col)?;
+        Some(Place { sheet: key.sheet, row, col })
+    }
+
+    /// What the cell at the place holds; `None` where it is empty. Costs the logarithm of the number of filled cells.
+    pub fn cell(&self, at: Place) -> Option<&Cell>
+        ensures { option_copied result ≡ map.get (cells_of self.now) at }
+    {
+        let key = self.key(at)?;
+        self.cells.get(&key)
+    }
+
+    /// How many cells are filled.
+    pub fn filled(&self) -> u64
+        ensures { result ≡ map.len (cells_of self.now) }
+    {
+        self.cells.len() as u64
+    }
+
+    /// Fills the cell at the place, and answers what it held. At a filled place this takes no memory. For want of memory the
+    /// grid is as it was.
+    pub fn put(&mut self, at: Place, cell: Cell) -> Result<Option<Cell>, AllocError>
+        requires { IsInside at }
+        ensures before { IfOk result (λ before. before ≡ map.get (cells_of self.old) at) }
+        ensures ok { OnOk result (cells_of self.new ≡ map.insert (cells_of self.old) at cell) }
+        ensures err { OnErr result (cells_of self.new ≡ cells_of self.old) }
+        ensures filled { IsSome (map.get (cells_of self.old) at) → IsOk result }
+    {
+        let Some(key) = self.key(at) else {
+            return Err(AllocError);
+        };
+        Ok(self.cells.insert(key, cell)?)
+    }
+
+    /// Empties the cell at the place, and answers what it held. Takes no memory.
+    pub fn take(&mut self, at: Place) -> Option<Cell>
+        ensures before { result ≡ map.get (cells_of self.old) at }
+        ensures taken { cells_of self.new ≡ map.remove (cells_of self.old) at }
+    {
+        let key = self.key(at)?;
+        self.cells.remove(&key)
+    }
+}

@@ -1,0 +1,24 @@
+//! The filled cells of a workbook, over structural operations.
+//!
+//! A [`Grid`] stands for a finite map from places to [`Cell`]s. It keeps each cell under the lines of its row and
+//! its column, which stay as other rows and columns are inserted, deleted or moved. So such an operation costs the number of
+//! cells that it loses, and not that of all cells, and a block is listed by what is filled in its rows.
+//!
+//! ```text
+//! grid.put(alloc, at, Cell::Number(n))?;
+//! let removed = grid.apply(alloc, &Shift::DeleteRows { sheet: 0, at: 3, count: 2 })?;
+//! grid.put_back(alloc, &Shift::DeleteRows { sheet: 0, at: 3, count: 2 }, removed)?;
+//! ```
+#![tactic(auto)]
+
+mod cell;
+mod clearing;
+mod grid;
+mod key;
+mod list;
+mod listing;
+mod way;
+
+pub use cell::Cell;
+pub use grid::Grid;
+pub use list::CellList;

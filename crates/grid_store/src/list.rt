@@ -1,0 +1,41 @@
+// Lists of cells with their places.
+ghost use Rattle.std.specs.Prelude.{◌≡◌, ◌++◌, ◌∷◌, [], OnOk, OnErr};
+
+use crate::cell::Cell;
+use cell_addr::Place;
+use std::alloc::{AllocError, Global};
+
+/// A list of cells with their places.
+#[derive(Drop)]
+pub struct CellList {
+    list: Vec<(Place, Cell)>,
+}
+
+impl CellList {
+    ghost use Rattle.grid_store.specs.Grid.{items_of};
+
+    /// A list without cells. Takes no memory.
+    pub fn new(alloc: Global) -> CellList
+        ensures { items_of result ≡ [] }
+    {
+        CellList {
+            list: Vec::new(alloc),
+        }
+    }
+
+    /// Adds a cell at the end. For want of memory the list is as it was.
+    pub fn push(&mut self, at: Place, cell: Cell) -> Result<(), AllocError>
+        ensures ok { OnOk result (items_of self.new ≡ items_of self.old ++ (at, cell) ∷ []) }
+        ensures err { OnErr result (items_of self.new ≡ items_of self.old) }
+    {
+        self.list.push((at, cell))?;
+        Ok(())
+    }
+
+    /// The cells with their places, in order.
+    pub fn items(&self) -> &[(Place, Cell)]
+        ensures { result.now ≡ items_of self.now }
+    {
+        &self.list
+    }
+}

@@ -1,0 +1,107 @@
+// The filled cells of a block, in the order of their places.
+ghost use Rattle.std.specs.Prelude.{◌≡◌, ◌+◌, ◌<◌, IfOk, OnOk};
+ghost use Rattle.std.specs.BTreeMap.{IsEmpty, IsOrdered};
+ghost use Rattle.cell_addr.specs.Order.{place_cmp};
+ghost use Rattle.std.specs.FinMap as map;
+ghost use Rattle.stable_lines.specs.Sheets.{table_of};
+ghost use Rattle.grid_store.specs.Grid.{cells_of, items_of, within};
+ghost use Rattle.grid_store.specs.internal.Listing.{AreCellsOf, AreLinesAt, IsAdded, HasRows, StillHas};
+
+use crate::cell::Cell;
+use crate::grid::Grid;
+use crate::key::CellKey;
+use crate::list::CellList;
+use cell_addr::{Block, Place};
+use stable_lines::Run;
+use std::alloc::{AllocError, Global};
+use std::collections::BTreeMap;
+
+impl Grid {
+    /// Copies of the filled cells of the block, row by row. Costs about the number of filled cells in its rows,
+    /// however many rows it has.
+    pub fn listed(&self, alloc: Global, area: Block) -> Result<CellList, AllocError>
+        ensures { IfOk result (λ list. items_of list ≡ map.entries (within area (cells_of self.now))) }
+    {
+        let mut found = BTreeMap::new(alloc);
+        self.find(alloc, area, &mut found)?;
+        in_order(alloc, found)
+    }
+
+    // Finds the filled cells of the block, by its runs of rows whose lines follow one another.
+    fn find(
+        &self,
+        alloc: Global,
+        area: Block,
+        found: &mut BTreeMap<Place, Cell>,
+    ) -> Result<(), AllocError>
+        requires { IsEmpty found.old }
+        ensures cells { OnOk result (AreCellsOf area (cells_of self.now) found.new) }
+        ensures rows { OnOk result (HasRows area (cells_of self.now) 0 (area.bottom + 1) found.new) }
+    {
+        let table = self.rows.table(area.sheet);
+        let mut row = area.top;
+        while row <= area.bottom {
+            let Some(run) = table.run_from(row) else {
+                return Ok(());
+            };
+            let count = run.count.min((area.bottom - row) as u64 + 1);
+            self.find_on(alloc, area, Run { count, ..run }, found)?;
+            row += count as u32;
+        }
+        Ok(())
+    }
+
+    // Finds the filled cells of the block that are on these lines.
+    fn find_on(
+        &self,
+        alloc: Global,
+        area: Block,
+        lines: Run,
+        found: &mut BTreeMap<Place, Cell>,
+    ) -> Result<(), AllocError>
+        requires cells { AreCellsOf area (cells_of self.now) found.old }
+        requires lines { AreLinesAt (table_of self.now.rows area.sheet) lines }
+        requires sum { lines.to + lines.count < 18446744073709551616 }
+        ensures cells { OnOk result (AreCellsOf area (cells_of self.now) found.new) }
+        ensures rows { OnOk result (HasRows area (cells_of self.now) lines.from (lines.from + lines.count) found.new) }
+        ensures still { OnOk result (StillHas found.old found.new) }
+    {
+        let sheet = area.sheet;
+        let first = CellKey { sheet, row: lines.to, col: 0 };
+        let end = CellKey { sheet, row: lines.to + lines.count, col: 0 };
+        for (key, cell) in self.cells.range(first..end) {
+            if let Some(at) = self.place(*key) {
+                if area.holds(at) {
+                    add(alloc, found, at, cell)?;
+                }
+            }
+        }
+        Ok(())
+    }
+}
+
+// Adds a copy of the cell.
+fn add(
+    alloc: Global,
+    found: &mut BTreeMap<Place, Cell>,
+    at: Place,
+    cell: &Cell,
+) -> Result<(), AllocError>
+    ensures { OnOk result (IsAdded found.old at cell.now found.new) }
+{
+    let copy = cell.copied(alloc)?;
+    found.insert(at, copy)?;
+    Ok(())
+}
+
+// The found cells, in the order of their places.
+fn in_order(alloc: Global, found: BTreeMap<Place, Cell>) -> Result<CellList, AllocError>
+    ensures { IfOk result (λ list. (items_of list ≡ found.entries) × IsOrdered place_cmp found) }
+{
+    let _many = found.len();
+    let mut list = CellList::new(alloc);
+    for (at, cell) in found {
+        list.push(at, cell)?;
+    }
+    Ok(list)
+}

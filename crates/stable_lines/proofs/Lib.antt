@@ -1,0 +1,5 @@
+pub mod TableLemmas
+pub mod Compositions
+pub mod Inverses
+pub mod Turning
+pub mod EditTurns

@@ -1,0 +1,4 @@
+-- What only the proofs of bodies need.
+pub mod Tables
+pub mod Turns
+pub mod Turned
