@@ -1,0 +1,157 @@
+-- What stays of a tree when its references and blocks are replaced by leaves: its levels, and that it is proper.
+-- Serves the laws.
+use Rattle.std.proofs.Common.{◌≡◌, ◌<◌, ◌≤◌, ap, refl, arith, ◌∙◌, ℕ, ◌+◌, max, Option, Some, None}
+use Rattle.cell_addr.specs.declared.place.Place.{Place}
+use Rattle.cell_addr.specs.declared.place.Block.{Block}
+use Rattle.cell_addr.specs.Place.{IsInside, IsBlockInside}
+use Rattle.formula_tree.specs.Level.{level, level_of, percent_level, sign_level, atom_level}
+use Rattle.formula_tree.specs.Proper.{IsProper, AreProper, AreOrdered}
+use Rattle.formula_tree.specs.Reference.{block_of}
+use Rattle.formula_tree.specs.Term.{Term, number, text, truth, fault, cell, area, name, prefix, percent, binary, call, paren, Terms, no_terms, term, depth_of, depth_of_all, mapped, mapped_all}
+use Rattle.formula_tree.specs.declared.reference.Corner.{Corner}
+use Rattle.shift_core.specs.Sound.{IsSound}
+use Rattle.shift_core.specs.declared.shift.Shift.{Shift}
+use Rattle.tree_rewrite.specs.References.{EachReference, EachReferenceOfAll, IsReferenceInside, IsAreaInside, FitsSheets}
+use Rattle.tree_rewrite.specs.Rewritten.{cell_at, area_at}
+use Rattle.tree_rewrite.specs.declared.direction.Direction.{Direction}
+use Rattle.tree_rewrite.specs.internal.Passage.{place_in, block_in, tree_in, all_in}
+use Rattle.tree_rewrite.proofs.Inside.{place_in-inside, block_in-inside}
+
+depth_of-cell_at : (c : Corner) (r : Option Place) → depth_of (cell_at c r) ≡ 1
+depth_of-cell_at c (Some p) = refl
+depth_of-cell_at c None = refl
+
+depth_of-area_at : (c d : Corner) (r : Option Block) → depth_of (area_at c d r) ≡ 1
+depth_of-area_at c d (Some b) = refl
+depth_of-area_at c d None = refl
+
+mutual
+  depth_of-mapped : {R S : Type 0} (f : R → Term S) (g : R → R → Term S) → ((r : R) → depth_of (f r) ≡ 1) → ((r q : R) → depth_of (g r q) ≡ 1) → (t : Term R) → depth_of (mapped f g t) ≡ depth_of t
+  depth_of-mapped f g h k (number m) = refl
+  depth_of-mapped f g h k (text w) = refl
+  depth_of-mapped f g h k (truth b) = refl
+  depth_of-mapped f g h k (fault e) = refl
+  depth_of-mapped f g h k (cell r) = h r
+  depth_of-mapped f g h k (area r q) = k r q
+  depth_of-mapped f g h k (name w) = refl
+  depth_of-mapped f g h k (prefix s t) = ap (λ n. n + 1) (depth_of-mapped f g h k t)
+  depth_of-mapped f g h k (percent t) = ap (λ n. n + 1) (depth_of-mapped f g h k t)
+  depth_of-mapped f g h k (binary o l r) = ap (λ n. max n (depth_of (mapped f g r)) + 1) (depth_of-mapped f g h k l) ∙ ap (λ n. max (depth_of l) n + 1) (depth_of-mapped f g h k r)
+  depth_of-mapped f g h k (call w ts) = ap (λ n. n + 1) (depth_of_all-mapped f g h k ts)
+  depth_of-mapped f g h k (paren t) = ap (λ n. n + 1) (depth_of-mapped f g h k t)
+
+  depth_of_all-mapped : {R S : Type 0} (f : R → Term S) (g : R → R → Term S) → ((r : R) → depth_of (f r) ≡ 1) → ((r q : R) → depth_of (g r q) ≡ 1) → (ts : Terms R) → depth_of_all (mapped_all f g ts) ≡ depth_of_all ts
+  depth_of_all-mapped f g h k no_terms = refl
+  depth_of_all-mapped f g h k (term t ts) = ap (λ n. max n (depth_of_all (mapped_all f g ts))) (depth_of-mapped f g h k t) ∙ ap (λ n. max (depth_of t) n) (depth_of_all-mapped f g h k ts)
+
+pub depth_of-tree_in : (d : Direction) (s : Shift) (t : Term Corner) → depth_of (tree_in d s t) ≡ depth_of t
+depth_of-tree_in d s t = depth_of-mapped _ _ (λ c. depth_of-cell_at c (place_in d s c.at)) (λ c e. depth_of-area_at c e (block_in d s (block_of c e))) t
+
+level-cell_at : (c : Corner) (r : Option Place) → level (cell_at c r) ≡ atom_level
+level-cell_at c (Some p) = refl
+level-cell_at c None = refl
+
+level-area_at : (c d : Corner) (r : Option Block) → level (area_at c d r) ≡ atom_level
+level-area_at c d (Some b) = refl
+level-area_at c d None = refl
+
+pub level-tree_in : (d : Direction) (s : Shift) (t : Term Corner) → level (tree_in d s t) ≡ level t
+level-tree_in d s (number m) = refl
+level-tree_in d s (text w) = refl
+level-tree_in d s (truth b) = refl
+level-tree_in d s (fault e) = refl
+level-tree_in d s (cell c) = level-cell_at c (place_in d s c.at)
+level-tree_in d s (area c e) = level-area_at c e (block_in d s (block_of c e))
+level-tree_in d s (name w) = refl
+level-tree_in d s (prefix o t) = refl
+level-tree_in d s (percent t) = refl
+level-tree_in d s (binary o l r) = refl
+level-tree_in d s (call w ts) = refl
+level-tree_in d s (paren t) = refl
+
+proper-cell_at : (c : Corner) (r : Option Place) → ((q : Place) → r ≡ Some q → IsInside q) → IsProper (cell_at c r)
+proper-cell_at c (Some q) h = h q refl
+proper-cell_at c None h = tt
+
+ordered-block : (b : Block) → IsBlockInside b → (c d : Corner) → IsProper (area_at c d (Some b))
+ordered-block b i c d = ((omega arith, omega arith), (omega arith, omega arith), (refl, omega arith, omega arith))
+
+proper-area_at : (c d : Corner) (r : Option Block) → ((b : Block) → r ≡ Some b → IsBlockInside b) → IsProper (area_at c d r)
+proper-area_at c d (Some b) h = ordered-block b (h b refl) c d
+proper-area_at c d None h = tt
+
+-- the block of a proper tree
+pub proper-block : (c d : Corner) → IsInside c.at → IsInside d.at → AreOrdered c d → IsBlockInside (block_of c d)
+proper-block c d i j o = (omega arith, omega arith, omega arith, omega arith)
+
+-- a bound on a level goes over
+same-level : (n k m : ℕ) → k ≡ m → n ≤ m → n ≤ k
+same-level n k m e h = omega arith
+
+higher-level : (n k m : ℕ) → k ≡ m → n < m → n < k
+higher-level n k m e h = omega arith
+
+mutual
+  pub proper-tree_in : (d : Direction) (s : Shift) (t : Term Corner) → IsSound s → IsProper t → IsProper (tree_in d s t)
+  proper-tree_in d s (number m) sound p = p
+  proper-tree_in d s (text w) sound p = tt
+  proper-tree_in d s (truth b) sound p = tt
+  proper-tree_in d s (fault e) sound p = tt
+  proper-tree_in d s (cell c) sound p = proper-cell_at c (place_in d s c.at) (λ q e. place_in-inside d s c.at q sound p e)
+  proper-tree_in d s (area c e) sound p =
+      proper-area_at c e (block_in d s (block_of c e)) (λ b f. block_in-inside d s (block_of c e) b sound (proper-block c e p.0 p.1 p.2) f)
+  proper-tree_in d s (name w) sound p = p
+  proper-tree_in d s (prefix o t) sound p = (same-level sign_level _ _ (level-tree_in d s t) p.0, proper-tree_in d s t sound p.1)
+  proper-tree_in d s (percent t) sound p = (same-level percent_level _ _ (level-tree_in d s t) p.0, proper-tree_in d s t sound p.1)
+  proper-tree_in d s (binary o l r) sound p = (
+    same-level (level_of o) _ _ (level-tree_in d s l) p.0,
+    higher-level (level_of o) _ _ (level-tree_in d s r) p.1,
+    proper-tree_in d s l sound p.2,
+    proper-tree_in d s r sound p.3,
+  )
+  proper-tree_in d s (call w ts) sound p = (p.0, all_proper-tree_in d s ts sound p.1)
+  proper-tree_in d s (paren t) sound p = proper-tree_in d s t sound p
+
+  all_proper-tree_in : (d : Direction) (s : Shift) (ts : Terms Corner) → IsSound s → AreProper ts
+      → AreProper (all_in d s ts)
+  all_proper-tree_in d s no_terms sound p = tt
+  all_proper-tree_in d s (term t ts) sound p = (proper-tree_in d s t sound p.0, all_proper-tree_in d s ts sound p.1)
+
+mutual
+  pub proper-fits : (t : Term Corner) → IsProper t → FitsSheets t
+  proper-fits (number m) p = tt
+  proper-fits (text w) p = tt
+  proper-fits (truth b) p = tt
+  proper-fits (fault e) p = tt
+  proper-fits (cell c) p = p
+  proper-fits (area c d) p = proper-block c d p.0 p.1 p.2
+  proper-fits (name w) p = tt
+  proper-fits (prefix o t) p = proper-fits t p.1
+  proper-fits (percent t) p = proper-fits t p.1
+  proper-fits (binary o l r) p = (proper-fits l p.2, proper-fits r p.3)
+  proper-fits (call w ts) p = all_proper-fit ts p.1
+  proper-fits (paren t) p = proper-fits t p
+
+  all_proper-fit : (ts : Terms Corner) → AreProper ts → EachReferenceOfAll IsReferenceInside IsAreaInside ts
+  all_proper-fit no_terms p = tt
+  all_proper-fit (term t ts) p = (proper-fits t p.0, all_proper-fit ts p.1)
+
+-- a tree without references stays
+mutual
+  pub others-mapped : (f : Corner → Term Corner) (g : Corner → Corner → Term Corner) (t : Term Corner) → EachReference (λ c. ⊥) (λ c d. ⊥) t → mapped f g t ≡ t
+  others-mapped f g (number m) h = refl
+  others-mapped f g (text w) h = refl
+  others-mapped f g (truth b) h = refl
+  others-mapped f g (fault e) h = refl
+  others-mapped f g (cell c) h = absurd h
+  others-mapped f g (area c d) h = absurd h
+  others-mapped f g (name w) h = refl
+  others-mapped f g (prefix s t) h = ap (λ x. prefix s x) (others-mapped f g t h)
+  others-mapped f g (percent t) h = ap (λ x. percent x) (others-mapped f g t h)
+  others-mapped f g (binary o l r) h = ap (λ x. binary o x (mapped f g r)) (others-mapped f g l h.0) ∙ ap (λ x. binary o l x) (others-mapped f g r h.1)
+  others-mapped f g (call w ts) h = ap (λ x. call w x) (all_others-mapped f g ts h)
+  others-mapped f g (paren t) h = ap (λ x. paren x) (others-mapped f g t h)
+
+  all_others-mapped : (f : Corner → Term Corner) (g : Corner → Corner → Term Corner) (ts : Terms Corner) → EachReferenceOfAll (λ c. ⊥) (λ c d. ⊥) ts → mapped_all f g ts ≡ ts
+  all_others-mapped f g no_terms h = refl
+  all_others-mapped f g (term t ts) h = ap (λ x. term x (mapped_all f g ts)) (others-mapped f g t h.0) ∙ ap (λ x. term t x) (all_others-mapped f g ts h.1)

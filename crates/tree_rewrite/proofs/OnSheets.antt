@@ -1,0 +1,161 @@
+-- Where references come from: each is on the sheet that it was on, or came along with moved cells. Serves the law
+-- on sheets.
+use Rattle.std.proofs.Common.{◌≡◌, ◌≢◌, ◌⊎◌, inl, inr, ◌∙◌, sym, ap, subst, refl, arith, ℕ, ◌==◌, Bool, true, false, cond, Option, Some, None, option_map}
+use Rattle.std.proofs.lemmas.Bool.{and_parts}
+use Rattle.std.proofs.lemmas.Bool.Decides.{nat_tests}
+use Rattle.std.proofs.lemmas.Option.{same_Some}
+use Rattle.cell_addr.specs.declared.axis.Axis.{Axis}
+use Rattle.cell_addr.specs.declared.axis.Span.{Span}
+use Rattle.cell_addr.specs.declared.place.Place.{Place}
+use Rattle.cell_addr.specs.declared.place.Block.{Block}
+use Rattle.cell_addr.specs.Axis.{line_of, with_line, span_of, with_span, limit_of}
+use Rattle.cell_addr.specs.Place.{covers}
+use Rattle.formula_tree.specs.Reference.{block_of}
+use Rattle.formula_tree.specs.Term.{Term, number, text, truth, fault, cell, area, name, prefix, percent, binary, call, paren, Terms, no_terms, term}
+use Rattle.formula_tree.specs.declared.reference.Corner.{Corner}
+use Rattle.shift_core.specs.Carried.{contains, first_place, last_place, carried_place, carried_block, destination}
+use Rattle.shift_core.specs.Form.{form_of}
+use Rattle.shift_core.specs.Lines.{line_after, line_before}
+use Rattle.shift_core.specs.Spans.{span_after, span_before}
+use Rattle.shift_core.specs.Tables.{place_moved, place_returned, block_moved, block_returned}
+use Rattle.shift_core.specs.declared.form.Form.{Form}
+use Rattle.shift_core.specs.declared.form.Form.TheVariants.{Lines, Cells, Sheet}
+use Rattle.shift_core.specs.declared.shift.Shift.{Shift}
+use Rattle.shift_core.proofs.Axes.{sheet-with_line, sheet-with_span}
+use Rattle.shift_core.proofs.CellMoves.{cases_chosen, Covers-from_covers}
+use Rattle.tree_rewrite.specs.Rewritten.{cell_at, area_at}
+use Rattle.tree_rewrite.specs.Sheets.{HasSheet, SomeHasSheet, LeadsOnForm, Leads}
+use Rattle.tree_rewrite.specs.declared.direction.Direction.{Direction}
+use Rattle.tree_rewrite.specs.declared.direction.Direction.TheVariants.{Forward, Backward}
+use Rattle.tree_rewrite.specs.internal.Passage.{place_in, block_in, tree_in, all_in}
+
+-- from the first sheet to the second one in a direction
+abbrev pub LeadsIn : Direction → Shift → ℕ → ℕ → Type 0
+LeadsIn Forward s here there = Leads s here there
+LeadsIn Backward s here there = Leads s there here
+
+line-sheet : (b : Bool) (axis : Axis) (r : Option ℕ) (p q : Place) → cond b (option_map (λ line. with_line axis line p) r) (Some p) ≡ Some q → q.sheet ≡ p.sheet
+line-sheet false axis r p q h = ap (λ x. x.sheet) (sym (same_Some _ _ h))
+line-sheet true axis None p q h = absurd (cc)
+line-sheet true axis (Some line) p q h = ap (λ x. x.sheet) (sym (same_Some _ _ h)) ∙ sheet-with_line axis line p
+
+span-sheet : (b : Bool) (axis : Axis) (r : Option Span) (c d : Block) → cond b (option_map (λ span. with_span axis span c) r) (Some c) ≡ Some d → d.sheet ≡ c.sheet
+span-sheet false axis r c d h = ap (λ x. x.sheet) (sym (same_Some _ _ h))
+span-sheet true axis None c d h = absurd (cc)
+span-sheet true axis (Some span) c d h = ap (λ x. x.sheet) (sym (same_Some _ _ h)) ∙ sheet-with_span axis span c
+
+dropped-place : (b : Bool) (p q : Place) (sheet : ℕ) → (p.sheet == sheet) ≡ b → cond b None (Some p) ≡ Some q → (q.sheet ≡ p.sheet) × (p.sheet ≢ sheet)
+dropped-place true p q sheet t h = absurd (cc)
+dropped-place false p q sheet t h = (ap (λ x. x.sheet) (sym (same_Some _ _ h)), grind (arith, nat_tests))
+
+dropped-block : (b : Bool) (c d : Block) (sheet : ℕ) → (c.sheet == sheet) ≡ b → cond b None (Some c) ≡ Some d → (d.sheet ≡ c.sheet) × (c.sheet ≢ sheet)
+dropped-block true c d sheet t h = absurd (cc)
+dropped-block false c d sheet t h = (ap (λ x. x.sheet) (sym (same_Some _ _ h)), grind (arith, nat_tests))
+
+place-leads : (f : Form) (p q : Place) → place_moved f p ≡ Some q → LeadsOnForm f p.sheet q.sheet
+place-leads (Lines sheet axis edit) p q h = line-sheet (p.sheet == sheet) axis (line_after (limit_of axis) edit (line_of axis p)) p q h
+place-leads (Cells source to) p q h =
+    elim (cases_chosen (covers source p) (covers (destination source to) p) (carried_place source to p) p q h) [
+      | inl w ↦ inr (sym (Covers-from_covers source p w.0).0, ap (λ x. x.sheet) w.1)
+      | inr w ↦ inl (ap (λ x. x.sheet) w.2)
+    ]
+place-leads (Sheet sheet) p q h = dropped-place (p.sheet == sheet) p q sheet refl h
+
+place-leads_back : (f : Form) (p q : Place) → place_returned f p ≡ Some q → LeadsOnForm f q.sheet p.sheet
+place-leads_back (Lines sheet axis edit) p q h = sym (line-sheet (p.sheet == sheet) axis (line_before (limit_of axis) edit (line_of axis p)) p q h)
+place-leads_back (Cells source to) p q h =
+    elim (cases_chosen (covers (destination source to) p) (covers source p) (carried_place (destination source to) (first_place source) p) p q h) [
+      | inl w ↦ inr (ap (λ x. x.sheet) w.1, sym (Covers-from_covers (destination source to) p w.0).0)
+      | inr w ↦ inl (ap (λ x. x.sheet) (sym w.2))
+    ]
+place-leads_back (Sheet sheet) p q h = let w = dropped-place (p.sheet == sheet) p q sheet refl h in (sym w.0, λ e. w.1 (sym w.0 ∙ e))
+
+block-leads : (f : Form) (c d : Block) → block_moved f c ≡ Some d → LeadsOnForm f c.sheet d.sheet
+block-leads (Lines sheet axis edit) c d h = span-sheet (c.sheet == sheet) axis (span_after (limit_of axis) edit (span_of axis c)) c d h
+block-leads (Cells source to) c d h =
+    elim (cases_chosen (contains source c) (contains (destination source to) c) (carried_block source to c) c d h) [
+      | inl w ↦ inr (
+        sym (Covers-from_covers source (first_place c) (and_parts (covers source (first_place c)) (covers source (last_place c)) w.0).0).0,
+        ap (λ x. x.sheet) w.1,
+      )
+      | inr w ↦ inl (ap (λ x. x.sheet) w.2)
+    ]
+block-leads (Sheet sheet) c d h = dropped-block (c.sheet == sheet) c d sheet refl h
+
+-- the first where `b`, else the second
+either-block : (b : Bool) (x y d : Block) → cond b (Some x) (Some y) ≡ Some d → ((b ≡ true) × (d ≡ x)) ⊎ (d ≡ y)
+either-block true x y d h = inl (refl, cc)
+either-block false x y d h = inr (cc)
+
+block-leads_back : (f : Form) (c d : Block) → block_returned f c ≡ Some d → LeadsOnForm f d.sheet c.sheet
+block-leads_back (Lines sheet axis edit) c d h = sym (span-sheet (c.sheet == sheet) axis (span_before (limit_of axis) edit (span_of axis c)) c d h)
+block-leads_back (Cells source to) c d h =
+    elim (either-block (contains (destination source to) c) (carried_block (destination source to) (first_place source) c) c d h) [
+      | inl w ↦ inr (
+        ap (λ x. x.sheet) w.1,
+        sym (Covers-from_covers (destination source to) (first_place c) (and_parts (covers (destination source to) (first_place c)) (covers (destination source to) (last_place c)) w.0).0).0,
+      )
+      | inr w ↦ inl (ap (λ x. x.sheet) (sym w))
+    ]
+block-leads_back (Sheet sheet) c d h = let w = dropped-block (c.sheet == sheet) c d sheet refl h in (sym w.0, λ e. w.1 (sym w.0 ∙ e))
+
+place_in-leads : (d : Direction) (s : Shift) (p q : Place) → place_in d s p ≡ Some q → LeadsIn d s p.sheet q.sheet
+place_in-leads Forward s p q h = place-leads (form_of s) p q h
+place_in-leads Backward s p q h = place-leads_back (form_of s) p q h
+
+block_in-leads : (d : Direction) (s : Shift) (b c : Block) → block_in d s b ≡ Some c → LeadsIn d s b.sheet c.sheet
+block_in-leads Forward s b c h = block-leads (form_of s) b c h
+block_in-leads Backward s b c h = block-leads_back (form_of s) b c h
+
+-- a sheet of the tree leads to this one
+abbrev ComesTo : Direction → Shift → ℕ → Term Corner → Type 0
+ComesTo d s n t = (m : ℕ) × HasSheet m t × LeadsIn d s m n
+
+abbrev SomeComesTo : Direction → Shift → ℕ → Terms Corner → Type 0
+SomeComesTo d s n ts = (m : ℕ) × SomeHasSheet m ts × LeadsIn d s m n
+
+cell_at-sheet : (d : Direction) (s : Shift) (n : ℕ) (c : Corner) (r : Option Place) → place_in d s c.at ≡ r → HasSheet n (cell_at c r) → ComesTo d s n (cell c)
+cell_at-sheet d s n c (Some q) e h = (c.at.sheet, refl, subst (LeadsIn d s c.at.sheet) h (place_in-leads d s c.at q e))
+cell_at-sheet d s n c None e h = absurd h
+
+block-sheet : (n : ℕ) (b : Block) → ((first_place b).sheet ≡ n) ⊎ ((last_place b).sheet ≡ n) → b.sheet ≡ n
+block-sheet n b (inl e) = e
+block-sheet n b (inr e) = e
+
+area_at-sheet : (d : Direction) (s : Shift) (n : ℕ) (c e : Corner) (r : Option Block) → block_in d s (block_of c e) ≡ r → HasSheet n (area_at c e r) → ComesTo d s n (area c e)
+area_at-sheet d s n c e (Some b) f h = (c.at.sheet, inl refl, subst (LeadsIn d s c.at.sheet) (block-sheet n b h) (block_in-leads d s (block_of c e) b f))
+area_at-sheet d s n c e None f h = absurd h
+
+left-comes : (d : Direction) (s : Shift) (n : ℕ) (l r : Term Corner) → ComesTo d s n l → (m : ℕ) × (HasSheet m l ⊎ HasSheet m r) × LeadsIn d s m n
+left-comes d s n l r w = (w.0, inl w.1, w.2)
+
+right-comes : (d : Direction) (s : Shift) (n : ℕ) (l r : Term Corner) → ComesTo d s n r → (m : ℕ) × (HasSheet m l ⊎ HasSheet m r) × LeadsIn d s m n
+right-comes d s n l r w = (w.0, inr w.1, w.2)
+
+first-comes : (d : Direction) (s : Shift) (n : ℕ) (t : Term Corner) (ts : Terms Corner) → ComesTo d s n t → SomeComesTo d s n (term t ts)
+first-comes d s n t ts w = (w.0, inl w.1, w.2)
+
+others-come : (d : Direction) (s : Shift) (n : ℕ) (t : Term Corner) (ts : Terms Corner) → SomeComesTo d s n ts → SomeComesTo d s n (term t ts)
+others-come d s n t ts w = (w.0, inr w.1, w.2)
+
+mutual
+  pub tree_in-sheet : (d : Direction) (s : Shift) (n : ℕ) (t : Term Corner) → HasSheet n (tree_in d s t) → ComesTo d s n t
+  tree_in-sheet d s n (number m) h = absurd h
+  tree_in-sheet d s n (text w) h = absurd h
+  tree_in-sheet d s n (truth b) h = absurd h
+  tree_in-sheet d s n (fault k) h = absurd h
+  tree_in-sheet d s n (cell c) h = cell_at-sheet d s n c (place_in d s c.at) refl h
+  tree_in-sheet d s n (area c e) h = area_at-sheet d s n c e (block_in d s (block_of c e)) refl h
+  tree_in-sheet d s n (name w) h = absurd h
+  tree_in-sheet d s n (prefix o t) h = tree_in-sheet d s n t h
+  tree_in-sheet d s n (percent t) h = tree_in-sheet d s n t h
+  tree_in-sheet d s n (binary o l r) (inl h) = left-comes d s n l r (tree_in-sheet d s n l h)
+  tree_in-sheet d s n (binary o l r) (inr h) = right-comes d s n l r (tree_in-sheet d s n r h)
+  tree_in-sheet d s n (call w ts) h = all_in-sheet d s n ts h
+  tree_in-sheet d s n (paren t) h = tree_in-sheet d s n t h
+
+  all_in-sheet : (d : Direction) (s : Shift) (n : ℕ) (ts : Terms Corner)
+      → SomeHasSheet n (all_in d s ts) → SomeComesTo d s n ts
+  all_in-sheet d s n no_terms h = absurd h
+  all_in-sheet d s n (term t ts) (inl h) = first-comes d s n t ts (tree_in-sheet d s n t h)
+  all_in-sheet d s n (term t ts) (inr h) = others-come d s n t ts (all_in-sheet d s n ts h)

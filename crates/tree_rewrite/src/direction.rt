@@ -1,0 +1,53 @@
+// The two directions over a structural operation.
+ghost use Rattle.std.specs.Prelude.{◌≡◌};
+ghost use Rattle.shift_core.specs.Sound.{IsSound};
+
+use cell_addr::{Block, Place};
+use formula_tree::Home;
+use shift_core::{Shift, back_block, back_place, moved_block, moved_place};
+
+// A direction over an operation.
+#[derive(Clone, Copy, PartialEq, Eq, Debug)]
+pub(crate) enum Direction {
+    // From before it to after it.
+    Forward,
+    // From after it to before it.
+    Backward,
+}
+
+impl Direction {
+    ghost use Rattle.tree_rewrite.specs.internal.Passage.{place_in, block_in, home_in};
+
+    // Where a place goes; None where it is lost, or came from nowhere.
+    pub(crate) fn place(self, s: &Shift, p: Place) -> Option<Place>
+        requires { IsSound s.now }
+        ensures { result ≡ place_in self s.now p }
+    {
+        match self {
+            Direction::Forward => moved_place(s, p),
+            Direction::Backward => back_place(s, p),
+        }
+    }
+
+    // Where a block goes; None where it is lost, or an end of it came from nowhere.
+    pub(crate) fn block(self, s: &Shift, b: Block) -> Option<Block>
+        requires { IsSound s.now }
+        ensures { result ≡ block_in self s.now b }
+    {
+        match self {
+            Direction::Forward => moved_block(s, b),
+            Direction::Backward => back_block(s, b),
+        }
+    }
+
+    // Where a home goes: that of a formula as its cell, and that of a name nowhere else.
+    pub(crate) fn home(self, s: &Shift, home: Home) -> Option<Home>
+        requires { IsSound s.now }
+        ensures { result ≡ home_in self s.now home }
+    {
+        match home {
+            Home::Cell(at) => Some(Home::Cell(self.place(s, at)?)),
+            Home::Name { .. } => Some(home),
+        }
+    }
+}
