@@ -175,7 +175,7 @@ impl Passage {
     }
 }
 
-// Whether the references are the same.
+// Whether the references are the same. Part by part, since no clause says what `==` on whole ones means.
 fn same(a: Ref, b: Ref) -> bool
     ensures { IsTrue result ↔ (a ≡ b) }
 {

@@ -1,10 +1,11 @@
-ghost use Rattle.std.specs.Prelude.{◌≡◌, IfOk, OnErr};
-ghost use Rattle.cell_addr.specs.Place.{IsInside};
+ghost use Rattle.std.specs.Prelude.{◌≢◌, None, IfOk, IsTrue};
 ghost use Rattle.formula_tree.specs.Reference.{IsHomeInside};
 ghost use Rattle.formula_tree.specs.Relative.{relative};
 ghost use Rattle.formula_tree.specs.Seen.{seen};
 ghost use Rattle.formula_tree.specs.StandsFor.{at_home};
+ghost use Rattle.shift_core.specs.Sound.{IsSound};
 ghost use Rattle.tree_rewrite.specs.References.{FitsSheets};
+ghost use Rattle.tree_rewrite.specs.Rewritten.{home_before};
 
 use crate::{backward, forward, loses};
 use cell_addr::{Block, NO_SHEET, Place, Text};
@@ -238,15 +239,22 @@ fn shared(pool: &mut Pool, tree: &Plain, home: Home) -> Result<Tree, AllocError>
     pool.intern(tree, home)
 }
 
+// Whether the home is a cell's, which came from another one.
+fn is_formula_with_origin(home: Home, s: &Shift) -> bool
+    requires { IsSound s.now }
+    ensures { IsTrue result → home_before s.now home ≢ None }
+{
+    match home {
+        Home::Cell(at) => back_place(s, at).is_some(),
+        Home::Name { .. } => false,
+    }
+}
+
 // Whether the formula of the cases goes forward and back as the case says.
 fn goes_so(alloc: Global, case: &Case) -> Result<bool, AllocError> {
     let (s, home, home_after, parts_after, parts_before, lost) = *case;
     let (at, end) = (place(home), place(home_after));
-    if !sound(&s)
-        || !at.inside()
-        || moved_place(&s, at) != Some(end)
-        || back_place(&s, end) != Some(at)
-    {
+    if !sound(&s) || !at.inside() || moved_place(&s, at).is_none() {
         return Ok(false);
     }
     let (here, there) = (Home::Cell(at), Home::Cell(end));
@@ -254,6 +262,9 @@ fn goes_so(alloc: Global, case: &Case) -> Result<bool, AllocError> {
     let tree = formula(alloc, (Some(REFERENCE), Some(BLOCK)))?;
     let tree = shared(&mut pool, &tree, here)?;
     let (after, home_then) = forward(alloc, &mut pool, &tree, here, &s)?;
+    if !is_formula_with_origin(home_then, &s) {
+        return Ok(false);
+    }
     let (before, home_again) = backward(alloc, &mut pool, &after, home_then, &s)?;
     let expected = formula(alloc, parts_after)?;
     let expected = shared(&mut pool, &expected, home_then)?;
