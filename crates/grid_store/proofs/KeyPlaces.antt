@@ -68,5 +68,8 @@ module _ (rows cols : SheetLines) where
   pub key_line : (p : Place) (k : CellKey) → key_at rows cols p ≡ Some k → line_at (table_of rows p.sheet) p.row ≡ Some k.row
   key_line p k h = (key_parts (line_at (table_of rows p.sheet) p.row) (line_at (table_of cols p.sheet) p.col) p.sheet k h).0
 
+  pub key_col : (p : Place) (k : CellKey) → key_at rows cols p ≡ Some k → line_at (table_of cols p.sheet) p.col ≡ Some k.col
+  key_col p k h = (key_parts (line_at (table_of rows p.sheet) p.row) (line_at (table_of cols p.sheet) p.col) p.sheet k h).1
+
   pub key_sheet : (p : Place) (k : CellKey) → key_at rows cols p ≡ Some k → p.sheet ≡ k.sheet
   key_sheet p k h = (key_parts (line_at (table_of rows p.sheet) p.row) (line_at (table_of cols p.sheet) p.col) p.sheet k h).2

@@ -3,3 +3,7 @@ pub mod KeyPlaces
 pub mod Views
 pub mod Listings
 pub mod PlaceMaps
+pub mod Renewals
+pub mod Carries
+pub mod RenewedCells
+pub mod LostCells

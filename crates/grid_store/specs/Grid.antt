@@ -1,5 +1,5 @@
 -- What a grid stands for: a finite map from places to cells. Source: this project's own.
-use Rattle.std.specs.Prelude.{List, Option, option_map, filter_map, not}
+use Rattle.std.specs.Prelude.{◌≡◌, List, Option, option_map, filter_map, not}
 use Rattle.std.specs.FinMap as map
 use Rattle.cell_addr.specs.Order.{place_cmp}
 use Rattle.cell_addr.specs.Place.{IsInside, covers}
@@ -32,3 +32,7 @@ within area m = map.retain_keys m (covers area)
 -- the entries that are in no place of a block
 abbrev pub outside : {X : Type 0} → Block → PlaceMap X → PlaceMap X
 outside area m = map.retain_keys m (λ p. not (covers area p))
+
+-- the lines of all sheets are as they were
+abbrev pub KeepsLines : Grid → Grid → Type 0
+KeepsLines old new = (new.rows ≡ old.rows) × (new.cols ≡ old.cols)

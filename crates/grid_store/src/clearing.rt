@@ -1,7 +1,7 @@
 // Cells that are emptied together.
 ghost use Rattle.std.specs.Prelude.{◌≡◌, IfOk, OnOk, OnErr};
 ghost use Rattle.std.specs.FinMap as map;
-ghost use Rattle.grid_store.specs.Grid.{cells_of, items_of, outside, within};
+ghost use Rattle.grid_store.specs.Grid.{KeepsLines, cells_of, items_of, outside, within};
 ghost use Rattle.grid_store.specs.internal.Lists.{without};
 
 use crate::cell::Cell;
@@ -17,6 +17,7 @@ impl Grid {
         ensures removed { IfOk result (λ list. items_of list ≡ map.entries (within area (cells_of self.old))) }
         ensures cleared { OnOk result (cells_of self.new ≡ outside area (cells_of self.old)) }
         ensures err { OnErr result (cells_of self.new ≡ cells_of self.old) }
+        ensures lines { KeepsLines self.old self.new }
     {
         let list = self.listed(alloc, area)?;
         self.empty(list.items());
@@ -25,7 +26,8 @@ impl Grid {
 
     // Empties the places of the list.
     fn empty(&mut self, list: &[(Place, Cell)])
-        ensures { cells_of self.new ≡ without list.now (cells_of self.old) }
+        ensures cells { cells_of self.new ≡ without list.now (cells_of self.old) }
+        ensures lines { KeepsLines self.old self.new }
     {
         for (at, _) in list {
             self.take(*at);

@@ -27,7 +27,7 @@ impl Grid {
     ghost use Rattle.std.specs.Prelude.{IfOk, OnOk, OnErr, IsOk, option_copied};
     ghost use Rattle.std.specs.FinMap as map;
     ghost use Rattle.cell_addr.specs.Place.{IsInside};
-    ghost use Rattle.grid_store.specs.Grid.{cells_of};
+    ghost use Rattle.grid_store.specs.Grid.{KeepsLines, cells_of};
     ghost use Rattle.grid_store.specs.Keys.{key_at};
 
     /// A grid without cells.
@@ -93,6 +93,7 @@ impl Grid {
     pub fn take(&mut self, at: Place) -> Option<Cell>
         ensures before { result ≡ map.get (cells_of self.old) at }
         ensures taken { cells_of self.new ≡ map.remove (cells_of self.old) at }
+        ensures lines { KeepsLines self.old self.new }
     {
         let key = self.key(at)?;
         self.cells.remove(&key)

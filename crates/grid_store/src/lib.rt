@@ -12,7 +12,9 @@
 #![tactic(auto)]
 
 mod cell;
+mod change;
 mod clearing;
+mod copy;
 mod grid;
 mod key;
 mod list;

@@ -124,7 +124,7 @@ chosen_none false r g x h = cc
 abbrev pub IsLineMoved : ℕ → Axis → (ℕ → Option ℕ) → Place → Place → ℕ → Type 0
 IsLineMoved sheet axis f p q n = (p.sheet ≡ sheet) × (f (line_of axis p) ≡ Some n) × (q ≡ with_line axis n p)
 
-cases_by_line : (sheet : ℕ) (axis : Axis) (f : ℕ → Option ℕ) (p q : Place) → by_line sheet axis f p ≡ Some q → ((n : ℕ) × IsLineMoved sheet axis f p q n) ⊎ ((p.sheet ≢ sheet) × (q ≡ p))
+pub cases_by_line : (sheet : ℕ) (axis : Axis) (f : ℕ → Option ℕ) (p q : Place) → by_line sheet axis f p ≡ Some q → ((n : ℕ) × IsLineMoved sheet axis f p q n) ⊎ ((p.sheet ≢ sheet) × (q ≡ p))
 cases_by_line sheet axis f p q h =
     elim (chosen (eqb p.sheet sheet) (f (line_of axis p)) (λ n. with_line axis n p) p q h) [
       | inl (n, (on, r, e)) ↦ inl (n, (eqb-true p.sheet sheet on, r, e))
@@ -134,13 +134,13 @@ cases_by_line sheet axis f p q h =
 by_line_on : (sheet : ℕ) (axis : Axis) (f : ℕ → Option ℕ) (p : Place) (n : ℕ) → p.sheet ≡ sheet → f (line_of axis p) ≡ Some n → by_line sheet axis f p ≡ Some (with_line axis n p)
 by_line_on sheet axis f p n e h = cond-true (eqb p.sheet sheet) _ _ (eq-eqb p.sheet sheet e) ∙ ap (option_map (λ line. with_line axis line p)) h
 
-by_line_off : (sheet : ℕ) (axis : Axis) (f : ℕ → Option ℕ) (p : Place) → p.sheet ≢ sheet → by_line sheet axis f p ≡ Some p
+pub by_line_off : (sheet : ℕ) (axis : Axis) (f : ℕ → Option ℕ) (p : Place) → p.sheet ≢ sheet → by_line sheet axis f p ≡ Some p
 by_line_off sheet axis f p n = cond-false (eqb p.sheet sheet) _ _ (ne_eqb p.sheet sheet n)
 
 by_line_lost : (sheet : ℕ) (axis : Axis) (f : ℕ → Option ℕ) (p : Place) → p.sheet ≡ sheet → f (line_of axis p) ≡ None → by_line sheet axis f p ≡ None
 by_line_lost sheet axis f p e h = cond-true (eqb p.sheet sheet) _ _ (eq-eqb p.sheet sheet e) ∙ ap (option_map (λ line. with_line axis line p)) h
 
-lost_line : (sheet : ℕ) (axis : Axis) (f : ℕ → Option ℕ) (p : Place) → by_line sheet axis f p ≡ None → (p.sheet ≡ sheet) × (f (line_of axis p) ≡ None)
+pub lost_line : (sheet : ℕ) (axis : Axis) (f : ℕ → Option ℕ) (p : Place) → by_line sheet axis f p ≡ None → (p.sheet ≡ sheet) × (f (line_of axis p) ≡ None)
 lost_line sheet axis f p h =
     let w = chosen_none (eqb p.sheet sheet) (f (line_of axis p)) (λ n. with_line axis n p) p h in (eqb-true p.sheet sheet w.0, w.1)
 

@@ -1,12 +1,16 @@
 -- The two ways of a structural operation: forth as it is done, and back as it is taken back.
-use Rattle.std.specs.Prelude.{◌≡◌, ℕ, Bool, false, ◌&&◌, nat_le, Option, Some, None, option_map, List, filter, filter_map, is_none}
+use Rattle.std.specs.Prelude.{◌≡◌, ◌-◌, ℕ, Bool, false, ◌&&◌, nat_le, Option, Some, None, option_map, List, filter, filter_map, is_none}
 use Rattle.std.specs.FinMap as map
 use Rattle.cell_addr.specs.declared.axis.Span.{Span}
+use Rattle.cell_addr.specs.declared.place.Block.{Block}
 use Rattle.cell_addr.specs.declared.place.Place.{Place}
+use Rattle.cell_addr.specs.declared.place.TheConstants.{ROWS, COLS}
 use Rattle.shift_core.specs.Lines.{line_after, line_before}
 use Rattle.shift_core.specs.Maps.{PlaceMap}
-use Rattle.shift_core.specs.Tables.{place_after, place_before}
+use Rattle.shift_core.specs.Form.{form_of}
+use Rattle.shift_core.specs.Tables.{place_moved, place_returned}
 use Rattle.shift_core.specs.declared.edit.Edit.{Edit}
+use Rattle.shift_core.specs.declared.form.Form.{Form}
 use Rattle.shift_core.specs.declared.shift.Shift.{Shift}
 use Rattle.grid_store.specs.declared.way.Way.{Way}
 use Rattle.grid_store.specs.declared.way.Way.TheVariants.{Forth, Back}
@@ -17,13 +21,12 @@ turned Forth = Back
 turned Back = Forth
 
 -- where a place goes
-abbrev pub goes : Way → Shift → Place → Option Place
-goes Forth s p = place_after s p
-goes Back s p = place_before s p
+abbrev pub form_goes : Way → Form → Place → Option Place
+form_goes Forth f p = place_moved f p
+form_goes Back f p = place_returned f p
 
--- which place comes here
-abbrev pub comes : Way → Shift → Place → Option Place
-comes w s q = goes (turned w) s q
+abbrev pub goes : Way → Shift → Place → Option Place
+goes w s = form_goes w (form_of s)
 
 -- where a line goes, and which comes here
 abbrev pub line_goes : Way → ℕ → Edit → ℕ → Option ℕ
@@ -42,3 +45,7 @@ lost_by f m = filter (λ e. is_none (f e.0)) (map.entries m)
 abbrev pub span_has : Option Span → ℕ → Bool
 span_has None line = false
 span_has (Some s) line = nat_le s.first line && nat_le line s.last
+
+-- all places of a sheet
+abbrev pub whole : ℕ → Block
+whole sheet = record { sheet = sheet; top = 0; left = 0; bottom = ROWS - 1; right = COLS - 1 }

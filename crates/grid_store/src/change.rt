@@ -1,0 +1,123 @@
+// Structural operations on the grid.
+ghost use Rattle.std.specs.Prelude.{◌≡◌, IfOk, OnOk, OnErr, IsSome, is_some};
+ghost use Rattle.stable_lines.specs.Sheets.{HasRoom, table_of};
+ghost use Rattle.stable_lines.specs.Lines.{AreRenewed};
+ghost use Rattle.cell_addr.specs.Axis.{limit_of};
+ghost use Rattle.shift_core.specs.Lines.{IsSoundEdit};
+ghost use Rattle.shift_core.specs.declared.form.Form.TheVariants.{Lines};
+ghost use Rattle.grid_store.specs.Grid.{KeepsLines, cells_of, items_of};
+ghost use Rattle.grid_store.specs.internal.Renewal.{along};
+ghost use Rattle.grid_store.specs.internal.Ways.{carried_map, form_goes, line_goes, lost_by, turned, whole};
+ghost use Rattle.std.specs.FinMap as map;
+ghost use Rattle.cell_addr.specs.declared.place.Place.{Place};
+
+use crate::grid::Grid;
+use crate::list::CellList;
+use crate::way::{Way, lost_lines};
+use cell_addr::{Axis, Block, COLS, ROWS};
+use shift_core::Edit;
+use stable_lines::LineTable;
+use std::alloc::{AllocError, Global};
+
+impl Grid {
+    // Edits the lines of a sheet: each cell stays under its key, and those of lost lines are handed out.
+    pub(crate) fn carry_lines(
+        &mut self,
+        alloc: Global,
+        way: Way,
+        sheet: u32,
+        axis: Axis,
+        edit: Edit,
+    ) -> Result<CellList, AllocError>
+        requires { IsSoundEdit (limit_of axis) edit }
+        ensures carried { OnOk result (cells_of self.new ≡ carried_map (form_goes way (Lines sheet axis edit)) (cells_of self.old)) }
+        ensures lost { IfOk result (λ list. items_of list ≡ lost_by (form_goes way (Lines sheet axis edit)) (cells_of self.old)) }
+        ensures err { OnErr result (cells_of self.new ≡ cells_of self.old) }
+    {
+        self.reserve(axis, sheet)?;
+        let table = self.renewed(alloc, way, sheet, axis, edit)?;
+        let lost = self.clear_lost(alloc, way, sheet, axis, edit)?;
+        self.renew(way, sheet, axis, edit, table);
+        Ok(lost)
+    }
+
+    // Keeps room for another table of the sheet's lines.
+    fn reserve(&mut self, axis: Axis, sheet: u32) -> Result<(), AllocError>
+        ensures cells { cells_of self.new ≡ cells_of self.old }
+        ensures room { OnOk result (HasRoom (along axis self.new.rows self.new.cols) sheet) }
+    {
+        match axis {
+            Axis::Rows => self.rows.reserve(sheet),
+            Axis::Cols => self.cols.reserve(sheet),
+        }
+    }
+
+    // The sheet's lines after the edit.
+    fn renewed(
+        &self,
+        alloc: Global,
+        way: Way,
+        sheet: u32,
+        axis: Axis,
+        edit: Edit,
+    ) -> Result<LineTable, AllocError>
+        requires { IsSoundEdit (limit_of axis) edit }
+        ensures { IfOk result (AreRenewed (line_goes (turned way) (limit_of axis) edit) (table_of (along axis self.now.rows self.now.cols) sheet)) }
+    {
+        let lines = match axis {
+            Axis::Rows => &self.rows,
+            Axis::Cols => &self.cols,
+        };
+        match way {
+            Way::Forth => lines.table(sheet).edited(alloc, edit),
+            Way::Back => lines.table(sheet).unedited(alloc, edit),
+        }
+    }
+
+    // Empties what the edit loses.
+    fn clear_lost(
+        &mut self,
+        alloc: Global,
+        way: Way,
+        sheet: u32,
+        axis: Axis,
+        edit: Edit,
+    ) -> Result<CellList, AllocError>
+        ensures lost { IfOk result (λ list. items_of list ≡ lost_by (form_goes way (Lines sheet axis edit)) (cells_of self.old)) }
+        ensures kept { OnOk result (cells_of self.new ≡ map.retain_keys (cells_of self.old) (λ p. is_some (form_goes way (Lines sheet axis edit) p))) }
+        ensures err { OnErr result (cells_of self.new ≡ cells_of self.old) }
+        ensures lines { KeepsLines self.old self.new }
+    {
+        match lost_lines(way, edit, axis.limit()) {
+            Some(span) => self.clear(alloc, whole(sheet).with_span(axis, span)),
+            None => Ok(CellList::new(alloc)),
+        }
+    }
+
+    // Puts the lines after the edit in place of those before it.
+    fn renew(&mut self, way: Way, sheet: u32, axis: Axis, edit: Edit, table: LineTable)
+        requires sound { IsSoundEdit (limit_of axis) edit }
+        requires room { HasRoom (along axis self.old.rows self.old.cols) sheet }
+        requires renewed { AreRenewed (line_goes (turned way) (limit_of axis) edit) (table_of (along axis self.old.rows self.old.cols) sheet) table }
+        requires kept { (p : Place) → IsSome (map.get (cells_of self.old) p) → IsSome (form_goes way (Lines sheet axis edit) p) }
+        ensures { cells_of self.new ≡ carried_map (form_goes way (Lines sheet axis edit)) (cells_of self.old) }
+    {
+        match axis {
+            Axis::Rows => self.rows.replace(sheet, table),
+            Axis::Cols => self.cols.replace(sheet, table),
+        }
+    }
+}
+
+// All places of the sheet.
+pub(crate) fn whole(sheet: u32) -> Block
+    ensures { result ≡ whole sheet }
+{
+    Block {
+        sheet,
+        top: 0,
+        left: 0,
+        bottom: ROWS - 1,
+        right: COLS - 1,
+    }
+}

@@ -1,0 +1,37 @@
+// Copies of a grid.
+ghost use Rattle.std.specs.Prelude.{◌≡◌, IfOk};
+ghost use Rattle.grid_store.specs.Grid.{cells_of};
+
+use crate::cell::Cell;
+use crate::grid::Grid;
+use crate::key::CellKey;
+use std::alloc::{AllocError, Global};
+use std::collections::BTreeMap;
+
+impl Grid {
+    /// An equal grid. Costs the number of filled cells.
+    pub fn copied(&self, alloc: Global) -> Result<Grid, AllocError>
+        ensures { IfOk result (λ copy. cells_of copy ≡ cells_of self.now) }
+    {
+        Ok(Grid {
+            cells: copied_cells(alloc, &self.cells)?,
+            rows: self.rows.copied()?,
+            cols: self.cols.copied()?,
+        })
+    }
+}
+
+// Copies of the cells under the same keys.
+fn copied_cells(
+    alloc: Global,
+    cells: &BTreeMap<CellKey, Cell>,
+) -> Result<BTreeMap<CellKey, Cell>, AllocError>
+    ensures { IfOk result (λ copy. copy.entries ≡ cells.now.entries) }
+{
+    let mut copy = BTreeMap::new(alloc);
+    for (key, cell) in cells {
+        let cell = cell.copied(alloc)?;
+        copy.insert(*key, cell)?;
+    }
+    Ok(copy)
+}
