@@ -8,4 +8,5 @@ pub mod Quoted
 pub mod SheetName
 pub mod Sheets
 pub mod Text
+pub mod Word
 pub mod internal

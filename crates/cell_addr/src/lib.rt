@@ -20,6 +20,7 @@ mod sheet_name;
 mod sheets;
 mod spot;
 mod text;
+mod word;
 
 pub use address::{read_address, read_area, read_column, read_place, read_row};
 pub use axis::{Axis, Span};
@@ -36,6 +37,7 @@ pub use sheet_name::is_bare_name;
 pub use sheets::{OneSheet, SheetNames};
 pub use spot::{AddrError, Spot};
 pub use text::{Text, capitals, fold_byte, same_folded};
+pub use word::is_word;
 
 #[cfg(test)]
 mod tests;

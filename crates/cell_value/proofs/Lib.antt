@@ -1,3 +1,4 @@
+pub mod Filling
 pub mod Spread
 pub mod Summaries
 pub mod TotalOrder

@@ -7,7 +7,8 @@ use Rattle.custom_fn.specs.declared.registry.RegError.{RegError}
 use Rattle.custom_fn.specs.declared.registry.RegError.TheVariants.{NameTaken, NameInvalid, NoMemory}
 use Rattle.custom_fn.specs.declared.rule.Rule.{Rule}
 use Rattle.custom_fn.specs.Custom.{name_of, rule_of}
-use Rattle.custom_fn.specs.Word.{is_function_word, is_word}
+use Rattle.cell_addr.specs.Word.{is_word}
+use Rattle.custom_fn.specs.Word.{is_function_word}
 
 -- the names and rules of the functions, in order
 abbrev pub customs_of : {I : _} {D : _} {g : _} → Registry I D g → List (List ℕ × Rule)

@@ -5,8 +5,8 @@ ghost use Rattle.cell_addr.specs.Sheets.{same_name};
 ghost use Rattle.custom_fn.specs.Custom.{name_of};
 
 use crate::custom::Custom;
-use crate::words::{is_function_word, is_word};
-use cell_addr::same_folded;
+use crate::words::is_function_word;
+use cell_addr::{is_word, same_folded};
 use std::alloc::{AllocError, AllocFailed, Global};
 use thiserror::Error;
 

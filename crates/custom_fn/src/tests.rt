@@ -2,8 +2,8 @@ ghost use Rattle.std.specs.Prelude.{◌≡◌, IfOk, IfSome};
 ghost use Rattle.custom_fn.specs.Rule.{rule_value};
 ghost use Rattle.custom_fn.specs.declared.rule.Rule.TheVariants as rules;
 
-use crate::{Custom, RegError, Registry, Rule, is_function_word, is_word};
-use cell_addr::Text;
+use crate::{Custom, FUNCTION_WORDS, RegError, Registry, Rule, is_function_word};
+use cell_addr::{Text, is_word};
 use cell_value::{FaultKind, Scalar};
 use fix_num::Fixed;
 use std::alloc::{AllocError, Global};

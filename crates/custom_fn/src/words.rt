@@ -1,8 +1,8 @@
 // The words that name functions.
 ghost use Rattle.std.specs.Prelude.{◌≡◌};
-ghost use Rattle.std.specs.List.{list_all, list_any};
+ghost use Rattle.std.specs.List.{list_any};
 ghost use Rattle.cell_addr.specs.Sheets.{same_name};
-ghost use Rattle.custom_fn.specs.Word.{is_function_word, is_word, is_word_start, is_word_byte};
+ghost use Rattle.custom_fn.specs.Word.{is_function_word};
 
 use cell_addr::same_folded;
 
@@ -90,32 +90,4 @@ fn is_one_of(name: &str, words: &[&str]) -> bool
     ensures { result ≡ list_any (λ word. same_name word.now name.now) words.now }
 {
     words.iter().any(|word| same_folded(word, name))
-}
-
-/// Whether the text has the form of a function's word: a letter or `_`, and then letters, digits, `_` and `.`.
-pub fn is_word(text: &[u8]) -> bool
-    ensures { result ≡ is_word text.now }
-{
-    !text.is_empty() && is_word_start(text[0]) && all_word_bytes(text)
-}
-
-// Whether a word may hold each byte.
-fn all_word_bytes(text: &[u8]) -> bool
-    ensures { result ≡ list_all is_word_byte text.now }
-{
-    text.iter().all(|c| is_word_byte(*c))
-}
-
-// Whether a word may begin with the byte.
-fn is_word_start(c: u8) -> bool
-    ensures { result ≡ is_word_start c }
-{
-    c.is_ascii_alphabetic() || c == b'_'
-}
-
-// Whether a word may hold the byte.
-fn is_word_byte(c: u8) -> bool
-    ensures { result ≡ is_word_byte c }
-{
-    c.is_ascii_alphanumeric() || c == b'_' || c == b'.'
 }

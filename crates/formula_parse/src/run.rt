@@ -7,7 +7,7 @@ ghost use Rattle.formula_parse.specs.internal.Front.{token_of};
 
 use crate::front::{after_blanks, after_byte, begins_with, begins_with_blank};
 use crate::token::Token;
-use cell_addr::{COLS, ROWS, is_bare_name, read_column, read_row, same_folded};
+use cell_addr::{COLS, ROWS, is_bare_name, is_word, read_column, read_row, same_folded};
 use formula_tree::Address;
 
 // What the run is, and what follows it: before `!` a sheet's name, before `(` a function's word, then an
@@ -77,31 +77,6 @@ fn truth_of(run: &str) -> Option<bool>
     } else {
         None
     }
-}
-
-// Whether the run has the form of a name: a letter or `_`, followed by letters, digits, `_` and `.`.
-fn is_word(run: &[u8]) -> bool
-    ensures { result ≡ is_word run.now }
-{
-    match run {
-        [first, rest @ ..] => (first.is_ascii_alphabetic() || *first == b'_')
-            && all_word_bytes(rest),
-        [] => false,
-    }
-}
-
-// Whether each byte may stand in a name.
-fn all_word_bytes(run: &[u8]) -> bool
-    ensures { result ≡ list_all (λ d. is_ascii_alphanumeric d || (d == 95 || d == 46)) run.now }
-{
-    run.iter().all(|c| is_word_byte(*c))
-}
-
-// Whether the byte may stand in a name.
-fn is_word_byte(c: u8) -> bool
-    ensures { result ≡ (is_ascii_alphanumeric c || (c == 95 || c == 46)) }
-{
-    c.is_ascii_alphanumeric() || (c == b'_' || c == b'.')
 }
 
 // The address that the run is: letters and digits, each with a `$` in front or without.

@@ -5,6 +5,7 @@ use Rattle.std.specs.Char.{is_ascii_alphabetic, is_ascii_alphanumeric}
 use Rattle.cell_addr.specs.declared.place.TheConstants.{ROWS, COLS}
 use Rattle.cell_addr.specs.SheetName.{is_bare_name}
 use Rattle.cell_addr.specs.Address.{letters, after_letters, column_of, row_of}
+pub use Rattle.cell_addr.specs.Word.{is_word}
 use Rattle.std.specs.Option.{option_zip}
 use Rattle.cell_value.specs.Fault.{spells}
 use Rattle.cell_value.specs.Scalar.{truth_text}
@@ -37,11 +38,6 @@ begins_with_any p (c ∷ cs) = p c
 -- what follows the first bytes of a text that pass the test
 abbrev pub after_while : (ℕ → Bool) → List ℕ → List ℕ
 after_while p cs = drop (prefix_len p cs) cs
-
--- the form of names and of functions' words: a letter or `_`, followed by letters, digits, `_` and `.`
-abbrev pub is_word : List ℕ → Bool
-is_word [] = false
-is_word (c ∷ cs) = (is_ascii_alphabetic c || c == 95) && list_all (λ d. is_ascii_alphanumeric d || (d == 95 || d == 46)) cs
 
 -- what follows a `$`, or the whole text where it begins with none
 abbrev pub after_dollar : List ℕ → List ℕ

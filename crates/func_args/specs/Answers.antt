@@ -36,3 +36,13 @@ number_value (Err fault) = Fault fault
 abbrev pub truth_value : Result Bool FaultKind → Scalar
 truth_value (Ok truth) = Truth truth
 truth_value (Err fault) = Fault fault
+
+-- a value of any kind, or the fault in its place
+abbrev pub scalar_value : Result Scalar FaultKind → Scalar
+scalar_value (Ok x) = x
+scalar_value (Err fault) = Fault fault
+
+-- the value of what was read, or the fault in its place
+abbrev pub then_value : {A : Type 0} → Result A FaultKind → (A → Scalar) → Scalar
+then_value (Ok x) value = value x
+then_value (Err fault) value = Fault fault

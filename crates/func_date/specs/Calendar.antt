@@ -1,41 +1,26 @@
--- The Gregorian calendar, continued in both directions. Days and months are counted from 1 March of a year so far
--- back that no argument of a function reaches it; years begin in March here, so that a leap day is the last of its
--- year. Source: the calendar's rule of leap years.
-use Rattle.std.specs.Prelude.{ℕ, ◌+◌, ◌-◌, ◌*◌, ◌/◌, ◌%◌, Bool, not, ◌&&◌, ◌||◌, ◌==◌, nat_le, if◌then◌else◌}
+-- Days and months of the Gregorian calendar over any distance. Both are counted from January of a year so far
+-- back that no argument of a function reaches it. Inside of a cycle of 400 years the calendar is that of the
+-- kit's `jiff_core`, and after each cycle it begins anew. Source: the calendar's rule of leap years.
+use Rattle.std.specs.Prelude.{ℕ, zero, suc, ◌+◌, ◌-◌, ◌*◌, ◌/◌, ◌%◌, nat_le, if◌then◌else◌, ℤ, pos, ◌-ℤ◌}
+use Rattle.jiff_core.specs.Calendar.{day_count}
+use Rattle.func_date.specs.declared.calendar.TheConstants.{YEARS_BEFORE}
 
--- how many days precede the first of a year: a day more in each fourth, but of the centuries only in each fourth
-abbrev pub year_start : ℕ → ℕ
-year_start y = 365 * y + y / 4 - y / 100 + y / 400
+-- how many days of a cycle precede one of its months
+abbrev pub days_in_cycle : ℕ → ℕ
+days_in_cycle n = day_count (pos (n / 12)) (n % 12 + 1) 1 - day_count (pos 0) 1 1
 
--- how many days precede the first of a month
-abbrev pub month_start : ℕ → ℕ
-month_start n = year_start (n / 12) + (153 * (n % 12) + 2) / 5
+-- how many days precede a month: a cycle has 4,800 months and 146,097 days
+unfoldable pub month_start : ℕ → ℕ
+month_start n = 146097 * (n / 4800) + days_in_cycle (n % 4800)
 
--- the year of a day of a cycle of 400 years: a 366th of its number, or the next
-abbrev pub year_in_cycle : ℕ → ℕ
-year_in_cycle d = if nat_le (year_start (d / 366 + 1)) d then d / 366 + 1 else d / 366
+-- of the months up to this one, the last that has begun by a day
+unfoldable pub last_begun : ℕ → ℕ → ℕ
+last_begun day zero = 0
+last_begun day (suc n) = if nat_le (month_start (suc n)) day then suc n else last_begun day n
 
--- the year of a day
-abbrev pub year_at : ℕ → ℕ
-year_at d = 400 * (d / 146097) + year_in_cycle (d % 146097)
-
--- the month of a day
-abbrev pub month_at : ℕ → ℕ
-month_at d = 12 * year_at d + (5 * (d - year_start (year_at d)) + 2) / 153
-
--- the year and the month of a month by the calendar, where years begin in January, and months are counted from 1
-abbrev pub calendar_year : ℕ → ℕ
-calendar_year n = (n + 2) / 12
+-- the year of a month, and the month's place in it, from 1
+abbrev pub calendar_year : ℕ → ℤ
+calendar_year n = pos (n / 12) -ℤ pos YEARS_BEFORE
 
 abbrev pub calendar_month : ℕ → ℕ
-calendar_month n = (n + 2) % 12 + 1
-
--- every fourth year, but of the centuries only every fourth
-abbrev pub is_leap : ℕ → Bool
-is_leap y = y % 4 == 0 && (not (y % 100 == 0) || y % 400 == 0)
-
--- thirty days have September, April, June and November
-abbrev pub month_length : ℕ → ℕ → ℕ
-month_length y m =
-    if m == 2 then (if is_leap y then 29 else 28)
-    else (if (m == 4 || m == 6) || (m == 9 || m == 11) then 30 else 31)
+calendar_month n = n % 12 + 1

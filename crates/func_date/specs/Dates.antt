@@ -1,6 +1,6 @@
 -- The functions of dates. A date is a serial number: 0 is 30 December 1899, and the last one 31 December 9999.
 -- Source: OpenFormula; its years below 1900 and its limits are this project's own.
-use Rattle.std.specs.Prelude.{◌||◌, if◌then◌else◌, ℕ, ◌+◌, ◌-◌, ◌*◌, ◌%◌, min, nat_lt, ℤ, pos, ◌+ℤ◌, ◌-ℤ◌, ◌*ℤ◌, int_lt, unsigned_abs, List, [], ◌∷◌, Option, codes, bytes_eq, Result, Ok, Err}
+use Rattle.std.specs.Prelude.{Bool, false, ◌||◌, if◌then◌else◌, ℕ, ◌+◌, ◌-◌, ◌*◌, ◌%◌, min, nat_lt, ℤ, pos, ◌+ℤ◌, ◌-ℤ◌, ◌*ℤ◌, int_lt, unsigned_abs, List, [], ◌∷◌, Option, codes, bytes_eq, Result, Ok, Err}
 use Rattle.std.specs.List.{find}
 use Rattle.std.specs.Ordering.{int_eq}
 use Rattle.cell_value.specs.declared.argument.Arg.{Arg}
@@ -14,7 +14,8 @@ use Rattle.func_date.specs.declared.calendar.TheConstants.{YEARS_BEFORE, DAYS_BE
 use Rattle.func_date.specs.declared.date.TheConstants.{LAST_SERIAL}
 use Rattle.func_date.specs.declared.function.DateFn.{DateFn}
 use Rattle.func_date.specs.declared.function.DateFn.TheVariants.{Date, Year, Month, Day, Weekday, Days, EDate, EoMonth, Today}
-use Rattle.func_date.specs.Calendar.{month_start, month_at, calendar_year, calendar_month}
+use Rattle.jiff_core.specs.Calendar.{weekday_number}
+use Rattle.func_date.specs.Calendar.{month_start, last_begun, calendar_year, calendar_month}
 use Rattle.func_date.specs.Signatures.{two_wholes, three_wholes, whole_and_kind}
 
 -- a date, or #NUM! where the number is none
@@ -29,15 +30,20 @@ year_given year =
 
 -- the number of a month of a year; months count on from January
 abbrev pub month_number : ℕ → ℤ → ℕ
-month_number year month = unsigned_abs ((pos ((year + YEARS_BEFORE) * 12) +ℤ month) -ℤ pos 3)
+month_number year month = unsigned_abs ((pos ((year + YEARS_BEFORE) * 12) +ℤ month) -ℤ pos 1)
 
 -- the serial number of a day of a month; days count on from the first
 abbrev pub serial_in : ℕ → ℤ → ℤ
 serial_in month day = (pos (month_start month) +ℤ day) -ℤ pos (DAYS_BEFORE + 1)
 
--- the month of a date, the one so many on, and the place of the date in its month, from 0
+-- the number of the day from 1 January 1970, whose serial number is 25569
+abbrev pub day_number : ℕ → ℤ
+day_number date = pos date -ℤ pos 25569
+
+-- the month of a date, the last that has begun up to December 9999, the one so many on, and the place of the
+-- date in its month, from 0
 abbrev pub month_of : ℕ → ℕ
-month_of date = month_at (date + DAYS_BEFORE)
+month_of date = last_begun (date + DAYS_BEFORE) ((YEARS_BEFORE + 9999) * 12 + 11)
 
 abbrev pub months_on : ℕ → ℤ → ℕ
 months_on date months = unsigned_abs (pos (month_of date) +ℤ months)
@@ -61,9 +67,9 @@ end_months_on date months = serial_in (months_on date months) (pos (length_of (m
 -- Monday is 0 and Sunday 6
 abbrev pub weekday_of : ℕ → ℤ → Result ℕ FaultKind
 weekday_of date kind =
-    if int_eq kind (pos ONE) then Ok ((date + 6) % 7 + 1)
-    else (if int_eq kind (pos (2 * ONE)) then Ok ((date + 5) % 7 + 1)
-    else (if int_eq kind (pos (3 * ONE)) then Ok ((date + 5) % 7)
+    if int_eq kind (pos ONE) then Ok ((weekday_number (day_number date) + 1) % 7 + 1)
+    else (if int_eq kind (pos (2 * ONE)) then Ok (weekday_number (day_number date) + 1)
+    else (if int_eq kind (pos (3 * ONE)) then Ok (weekday_number (day_number date))
     else Err Num))
 
 -- a count as a number
@@ -76,7 +82,7 @@ date_answer args = and_then (three_wholes args) (λ p. and_then (year_given p.0)
 
 -- YEAR(N), MONTH(N), DAY(N)
 abbrev pub year_answer : List Arg → Result ℕ FaultKind
-year_answer args = and_then (one_whole args) (λ s. and_then (dated s) (λ date. Ok (calendar_year (month_of date) - YEARS_BEFORE)))
+year_answer args = and_then (one_whole args) (λ s. and_then (dated s) (λ date. Ok (unsigned_abs (calendar_year (month_of date)))))
 
 abbrev pub month_answer : List Arg → Result ℕ FaultKind
 month_answer args = and_then (one_whole args) (λ s. and_then (dated s) (λ date. Ok (calendar_month (month_of date))))
@@ -139,3 +145,7 @@ functions = Date ∷ Year ∷ Month ∷ Day ∷ Weekday ∷ Days ∷ EDate ∷ E
 -- the function that a word names
 abbrev pub function_named : List ℕ → Option DateFn
 function_named text = find (λ function. bytes_eq (function_word function) text) functions
+
+-- the argument at this place, from 0, is a list or a block: none is
+abbrev pub takes_block : DateFn → ℕ → Bool
+takes_block function at = false

@@ -1,4 +1,4 @@
 pub mod Calendar
+pub mod Dates
 pub mod Laws
 pub mod Signatures
-pub mod Dates

@@ -1,55 +1,30 @@
 // The calendar by numbers of days and months.
-ghost use Rattle.std.specs.Prelude.{◌≡◌, ◌<◌, ◌≤◌, ◌^◌, ◌+◌};
-ghost use Rattle.func_date.specs.Calendar.{year_start, month_start, month_at, year_at, year_in_cycle};
+ghost use Rattle.std.specs.Prelude.{◌≡◌, ◌<◌, ◌^◌};
+ghost use Rattle.func_date.specs.Calendar.{days_in_cycle, month_start};
+
+use jiff_core::civil::Date;
 
 /// How many years are counted before the year 0: a multiple of 400, so that the calendar repeats.
 pub const YEARS_BEFORE: u64 = 400_000_000_000;
 
 /// How many days are counted before serial number 0, which is 30 December 1899.
-pub const DAYS_BEFORE: u64 = 146_097_000_693_899;
-
-// How many days precede the first of a year.
-fn year_start(y: u64) -> u64
-    requires { y < 2 ^ 50 }
-    ensures { result ≡ year_start y }
-{
-    365 * y + y / 4 - y / 100 + y / 400
-}
+pub const DAYS_BEFORE: u64 = 146_097_000_693_959;
 
 /// How many days precede the first of a month.
 pub fn month_start(n: u64) -> u64
     requires { n < 2 ^ 53 }
-    ensures { result ≡ month_start n }
+    ensures start { result ≡ month_start n }
+    ensures small { result < 2 ^ 58 }
 {
-    year_start(n / 12) + (153 * (n % 12) + 2) / 5
+    146_097 * (n / 4800) + days_in_cycle(n % 4800)
 }
 
-// The year of a day of a cycle of 400 years.
-fn year_in_cycle(d: u64) -> u64
-    requires { d < 146097 }
-    ensures { result ≡ year_in_cycle d }
+// How many days of a cycle of 400 years precede one of its months.
+fn days_in_cycle(n: u64) -> u64
+    requires { n < 4800 }
+    ensures days { result ≡ days_in_cycle n }
+    ensures small { result < 146097 }
 {
-    let least = d / 366;
-    if year_start(least + 1) <= d {
-        least + 1
-    } else {
-        least
-    }
-}
-
-// The year of a day.
-fn year_at(d: u64) -> u64
-    requires { d < 2 ^ 58 }
-    ensures { result ≡ year_at d }
-{
-    400 * (d / 146_097) + year_in_cycle(d % 146_097)
-}
-
-/// The month of a day.
-pub fn month_at(d: u64) -> u64
-    requires { d < 2 ^ 58 }
-    ensures { result ≡ month_at d }
-{
-    let year = year_at(d);
-    12 * year + (5 * d.saturating_sub(year_start(year)) + 2) / 153
+    let first = Date::constrain((n / 12) as i16, (n % 12 + 1) as u8, 1);
+    u64::from(first.days_since_min()).saturating_sub(u64::from(Date::ZERO.days_since_min()))
 }

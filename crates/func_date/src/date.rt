@@ -1,19 +1,25 @@
 // What each function of dates answers.
-ghost use Rattle.std.specs.Prelude.{◌≡◌, ◌<◌, ◌≤◌, ◌^◌, ◌-ℤ◌, ◌*ℤ◌, Ok, pos, IfOk, unsigned_abs};
+ghost use Rattle.std.specs.Prelude.{◌≡◌, ◌<◌, ◌≤◌, ◌^◌, ◌+◌, ◌-◌, ◌*◌, ◌-ℤ◌, ◌*ℤ◌, Ok, pos, IfOk, unsigned_abs};
+ghost use Rattle.jiff_core.specs.Date.{epoch_day};
+ghost use Rattle.func_date.specs.Calendar.{calendar_month, calendar_year};
 ghost use Rattle.fix_num.specs.declared.number.TheConstants.{ONE};
 ghost use Rattle.func_args.specs.Answers.{gives};
-ghost use Rattle.func_date.specs.Dates.{counted_answer, date_answer, date_value, dated, day_answer, days_answer, edate_answer, eomonth_answer, month_answer, today_answer, weekday_answer, year_answer, day_months_on, end_months_on, length_of, month_number, month_of, months_on, place_in_month, serial_in, weekday_of, year_given};
+ghost use Rattle.func_date.specs.Dates.{counted_answer, date_answer, date_value, dated, day_answer, day_number, days_answer, edate_answer, eomonth_answer, month_answer, today_answer, weekday_answer, year_answer, day_months_on, end_months_on, length_of, month_number, month_of, months_on, place_in_month, serial_in, weekday_of, year_given};
 
-use crate::calendar::{DAYS_BEFORE, YEARS_BEFORE, month_at, month_start};
+use crate::calendar::{DAYS_BEFORE, YEARS_BEFORE, month_start};
 use crate::function::DateFn;
 use crate::signature::{one_whole, three_wholes, two_wholes, whole_and_kind};
 use cell_value::{Arg, FaultKind, Scalar};
 use fix_num::Fixed;
 use func_args::{counted, number_value};
+use jiff_core::civil::Date;
 use std::alloc::AllocError;
 
 /// The serial number of the last date, 31 December 9999.
 pub const LAST_SERIAL: u64 = 2_958_465;
+
+// How many days the calendar's library counts before serial number 0: from 1 January -9999 on.
+const DAYS_FROM_FIRST: u32 = 4_346_018;
 
 // A date, or `#NUM!` where the number is none.
 fn dated(serial: i64) -> Result<u64, FaultKind>
@@ -46,7 +52,7 @@ fn month_number(year: u64, month: i64) -> u64
     ensures number { result ≡ month_number year month }
     ensures small { result < 2 ^ 53 }
 {
-    (((year + YEARS_BEFORE) * 12) as i64 + month - 3).unsigned_abs()
+    (((year + YEARS_BEFORE) * 12) as i64 + month - 1).unsigned_abs()
 }
 
 // The serial number of a day of a month; days count on from the first.
@@ -58,13 +64,42 @@ fn serial_in(month: u64, day: i64) -> i64
     month_start(month) as i64 + day - (DAYS_BEFORE + 1) as i64
 }
 
+// The day of the calendar.
+fn civil(date: u64) -> Date
+    requires { date ≤ LAST_SERIAL }
+    ensures number { epoch_day result ≡ day_number date }
+    ensures year { result.year ≡ calendar_year (month_of date) }
+    ensures month { result.month ≡ calendar_month (month_of date) }
+    ensures day { result.day ≡ place_in_month date + 1 }
+    ensures months { month_of date + 1 ≡ (unsigned_abs result.year + YEARS_BEFORE) * 12 + result.month }
+{
+    Date::from_days_since_min(date as u32 + DAYS_FROM_FIRST)
+}
+
 // The month of a date.
 fn month_of(date: u64) -> u64
     requires { date ≤ LAST_SERIAL }
     ensures month { result ≡ month_of date }
     ensures small { result < 2 ^ 43 }
 {
-    month_at(date + DAYS_BEFORE)
+    let day = civil(date);
+    (u64::from(day.year.unsigned_abs()) + YEARS_BEFORE) * 12 + u64::from(day.month) - 1
+}
+
+// The year of a date.
+fn year_of(date: u64) -> u64
+    requires { date ≤ LAST_SERIAL }
+    ensures { result ≡ unsigned_abs (calendar_year (month_of date)) }
+{
+    u64::from(civil(date).year.unsigned_abs())
+}
+
+// The month of a date in its year, from 1.
+fn month_in_year(date: u64) -> u64
+    requires { date ≤ LAST_SERIAL }
+    ensures { result ≡ calendar_month (month_of date) }
+{
+    u64::from(civil(date).month)
 }
 
 // The month so many months on.
@@ -77,13 +112,13 @@ fn months_on(date: u64, months: i64) -> u64
     (month_of(date) as i64 + months).unsigned_abs()
 }
 
-// The place of a date in its month, from 0.
-fn place_in_month(date: u64) -> u64
+// The place of a date in its month, from 1.
+fn day_of_month(date: u64) -> u64
     requires { date ≤ LAST_SERIAL }
-    ensures place { result ≡ place_in_month date }
-    ensures small { result < 2 ^ 60 }
+    ensures day { result ≡ place_in_month date + 1 }
+    ensures small { result ≤ 31 }
 {
-    (date + DAYS_BEFORE).saturating_sub(month_start(month_of(date)))
+    u64::from(civil(date).day)
 }
 
 // How many days the month has.
@@ -111,7 +146,7 @@ fn day_months_on(date: u64, months: i64) -> Result<u64, FaultKind>
     ensures { result ≡ dated (day_months_on date months) }
 {
     let month = months_on(date, months);
-    let day = (place_in_month(date) + 1).min(length_of(month));
+    let day = day_of_month(date).min(length_of(month));
     placed(month, day)
 }
 
@@ -130,10 +165,11 @@ fn weekday_of(date: u64, kind: Fixed) -> Result<u64, FaultKind>
     requires { date ≤ LAST_SERIAL }
     ensures { result ≡ weekday_of date kind }
 {
+    let after_monday = u64::from(civil(date).weekday().index());
     match kind.millionths() {
-        1_000_000 => Ok((date + 6) % 7 + 1),
-        2_000_000 => Ok((date + 5) % 7 + 1),
-        3_000_000 => Ok((date + 5) % 7),
+        1_000_000 => Ok((after_monday + 1) % 7 + 1),
+        2_000_000 => Ok(after_monday + 1),
+        3_000_000 => Ok(after_monday),
         _ => Err(FaultKind::Num),
     }
 }
@@ -152,7 +188,7 @@ fn year(args: &[Arg]) -> Result<u64, FaultKind>
     ensures { result ≡ year_answer args.now }
 {
     let date = dated(one_whole(args)?)?;
-    Ok(((month_of(date) + 2) / 12).saturating_sub(YEARS_BEFORE))
+    Ok(year_of(date))
 }
 
 // `MONTH(N)`
@@ -160,7 +196,7 @@ fn month(args: &[Arg]) -> Result<u64, FaultKind>
     ensures { result ≡ month_answer args.now }
 {
     let date = dated(one_whole(args)?)?;
-    Ok((month_of(date) + 2) % 12 + 1)
+    Ok(month_in_year(date))
 }
 
 // `DAY(N)`
@@ -168,7 +204,7 @@ fn day_in_month(args: &[Arg]) -> Result<u64, FaultKind>
     ensures { result ≡ day_answer args.now }
 {
     let date = dated(one_whole(args)?)?;
-    Ok(place_in_month(date) + 1)
+    Ok(day_of_month(date))
 }
 
 // `WEEKDAY(N [, N])`

@@ -1,6 +1,6 @@
 // The functions and their words.
 ghost use Rattle.std.specs.Prelude.{◌≡◌};
-ghost use Rattle.func_date.specs.Dates.{function_named, function_word};
+ghost use Rattle.func_date.specs.Dates.{function_named, function_word, takes_block};
 
 /// A function of dates.
 #[derive(Clone, Copy, PartialEq, Eq, Debug)]
@@ -64,5 +64,13 @@ impl DateFn {
             .iter()
             .copied()
             .find(|function| function.word() == text)
+    }
+
+    /// Whether the argument at this place, from 0, is a list or a block: none is, so a reference stands for
+    /// its cell's value.
+    pub fn takes_block(self, _at: usize) -> bool
+        ensures { result ≡ takes_block self _at }
+    {
+        false
     }
 }

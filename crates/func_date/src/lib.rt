@@ -4,8 +4,9 @@
 //! a serial number: 0 is 30 December 1899, and [`LAST_SERIAL`] is 31 December 9999. Months and days run over
 //! any distance, and only results are tested: `DATE(9999, 13, -10)` is a date.
 //!
-//! The calendar is counted in days and months from a March so far back that no argument reaches it. The laws
-//! say that each month has the days that the calendar gives it, and that each day lies in its month.
+//! The calendar of single days is the kit's `jiff_core`. Since months and days run past its years, months are
+//! counted from a January so far back that no argument reaches it, in cycles of 400 years, each as the calendar
+//! has it. The laws say that months begin and dates lie as the calendar has them.
 #![tactic(auto)]
 
 mod calendar;
@@ -14,10 +15,13 @@ mod function;
 mod laws;
 mod signature;
 
-pub use calendar::{DAYS_BEFORE, YEARS_BEFORE, month_at, month_start};
+pub use calendar::{DAYS_BEFORE, YEARS_BEFORE, month_start};
 pub use date::{LAST_SERIAL, dates};
 pub use function::DateFn;
-pub use laws::{cycles_repeat, days_lie_in_their_months, months_have_their_lengths, serials_begin};
+pub use laws::{
+    cycles_repeat, dates_are_the_calendars, months_are_the_calendars, months_have_their_lengths,
+    serials_begin,
+};
 
 #[cfg(test)]
 mod tests;

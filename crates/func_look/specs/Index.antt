@@ -10,11 +10,6 @@ use Rattle.cell_value.specs.Cells.{Cells, value_at}
 use Rattle.func_args.specs.Answers.{and_then}
 use Rattle.func_args.specs.Arguments.{block, whole}
 
--- a value, or the fault in its place
-abbrev pub scalar_value : Result Scalar FaultKind → Scalar
-scalar_value (Ok x) = x
-scalar_value (Err fault) = Fault fault
-
 -- the place from 0 of a number from 1, of so many: below 1 #VALUE!, beyond #REF!
 abbrev pub place_of : ℤ → ℕ → Result ℕ FaultKind
 place_of number size =

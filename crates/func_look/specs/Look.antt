@@ -2,11 +2,11 @@
 use Rattle.std.specs.Prelude.{List}
 use Rattle.cell_value.specs.declared.argument.Arg.{Arg}
 use Rattle.cell_value.specs.declared.scalar.Scalar.{Scalar}
-use Rattle.func_args.specs.Answers.{number_value}
+use Rattle.func_args.specs.Answers.{number_value, scalar_value}
 use Rattle.func_look.specs.declared.function.LookFn.{LookFn}
 use Rattle.func_look.specs.declared.function.LookFn.TheVariants.{Match, VLookup, HLookup, Index, Choose}
 use Rattle.func_look.specs.Choose.{choose_value}
-use Rattle.func_look.specs.Index.{index_value, scalar_value}
+use Rattle.func_look.specs.Index.{index_value}
 use Rattle.func_look.specs.Lookups.{hlookup, lookup_by, vlookup}
 use Rattle.func_look.specs.Matching.{match_value}
 

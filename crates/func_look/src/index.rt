@@ -1,7 +1,8 @@
 // INDEX, and places in a block by numbers from 1.
 ghost use Rattle.std.specs.Prelude.{◌≡◌, ◌<◌, IfOk};
 ghost use Rattle.cell_value.specs.Cells.{value_at};
-ghost use Rattle.func_look.specs.Index.{index_value, indexed, place_of, scalar_value};
+ghost use Rattle.func_args.specs.Answers.{scalar_value};
+ghost use Rattle.func_look.specs.Index.{index_value, indexed, place_of};
 
 use cell_value::{Area, Arg, FaultKind, Scalar};
 use func_args::{block_of, whole_of};

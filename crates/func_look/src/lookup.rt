@@ -1,6 +1,6 @@
 // VLOOKUP and HLOOKUP.
 ghost use Rattle.std.specs.Prelude.{◌≡◌, IfOk};
-ghost use Rattle.func_look.specs.Index.{scalar_value};
+ghost use Rattle.func_args.specs.Answers.{scalar_value};
 ghost use Rattle.func_look.specs.Lookups.{hlookup, lookup_mode, vlookup};
 
 use crate::index::{copy_at, place_of};

@@ -3,7 +3,7 @@ ghost use Rattle.std.specs.Prelude.{◌≡◌, IfOk, IfErr, ℤ, Bool, Result, E
 ghost use Rattle.cell_value.specs.Cells.{Cells};
 ghost use Rattle.cell_value.specs.declared.scalar.Scalar.{Scalar};
 ghost use Rattle.cell_value.specs.declared.fault.FaultKind.{FaultKind};
-ghost use Rattle.func_look.specs.Index.{scalar_value};
+ghost use Rattle.func_args.specs.Answers.{scalar_value};
 ghost use Rattle.func_look.specs.Look.{look_value};
 ghost use Rattle.func_look.specs.Lookups.{hlookup, lookup_by, vlookup};
 

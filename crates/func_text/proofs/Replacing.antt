@@ -1,79 +1,101 @@
--- What is left of the replaced characters from a place on: for `replaced`.
-use Rattle.std.proofs.Common.{◌≡◌, ◌∙◌, sym, ap, ℕ, zero, suc, ◌+◌, ◌-◌, ◌<◌, ◌≤◌, true, false, cond, List, [], ◌∷◌, ◌++◌, Option, length, drop, get_or, encode_utf8_all, arith}
-use Rattle.std.proofs.lemmas.List.{append_assoc, drop_more, at_drop_all, length-append}
-use Rattle.std.proofs.lemmas.Str.{length-le-encodes}
+-- A text with one more occurrence replaced, and the rest still to come: for `replaced`.
+use Rattle.std.proofs.Common.{◌≡◌, ◌∙◌, sym, ap, subst, refl, ℕ, zero, suc, ◌+◌, ◌<◌, ◌≤◌, ◌==◌, Bool, true, false, cond, List, [], ◌∷◌, ◌++◌, Option, Some, None, length, take, drop, encode_utf8_all, arith}
+use Rattle.std.specs.Prelude.{IsUtf8, chars}
+use Rattle.std.specs.Str.Pattern.{FindsText}
+use Rattle.std.proofs.lemmas.Bool.{cases_Bool}
+use Rattle.std.proofs.lemmas.List.{append_assoc, length-append}
+use Rattle.std.proofs.lemmas.Str.{chars-nil, encodes-append, encodes-chars}
 use Rattle.cell_value.specs.declared.fault.FaultKind.TheVariants.{Value}
 use Rattle.cell_value.specs.declared.scalar.Scalar.TheVariants.{Fault}
 use Rattle.cell_value.specs.declared.scalar.TheConstants.{MAX_MADE_TEXT}
+use Rattle.cell_value.specs.Scalar.{made_text}
 use Rattle.func_text.specs.Arguments.{made}
-use Rattle.func_text.specs.Find.{begins}
-use Rattle.func_text.specs.Substitute.{replaced, stands_for}
+use Rattle.func_text.specs.Find.{first_place}
+use Rattle.func_text.specs.Laws.{replaced_from}
+use Rattle.func_text.specs.Substitute.{replaced, replaced_all, stands_for}
+use Rattle.func_text.proofs.FromTheLeft.{from_the_left}
 use Rattle.func_text.proofs.Joining.{made_long}
+use Rattle.func_text.proofs.Occurrences.{after_utf8, occurs_nowhere, occurs_first, chars_before, chars_behind, before_bytes}
 
-module _ (which : Option ℕ) (old new text : List ℕ) (number i : ℕ) (h : i < length text) where
-  -- a character of the occurrence before
-  pub replaced_covered : (covered : ℕ) → 0 < covered
-      → replaced which old new number covered (drop i text) ≡ replaced which old new number (covered - 1) (drop (i + 1) text)
-  unfolding replaced
-  replaced_covered zero l = absurd (omega arith)
-  replaced_covered (suc covered) l =
-      let e : suc covered - 1 ≡ covered = omega arith in
-      ap (replaced which old new number (suc covered)) (drop_more text i 0 h)
-      ∙ sym (ap (λ n. replaced which old new number n (drop (i + 1) text)) e)
+some_chars : (cs : List ℕ) → 0 < length (encode_utf8_all cs) → 0 < length cs
+some_chars [] h = h
+some_chars (c ∷ cs) h = omega arith
 
-  -- an occurrence begins here
-  replaced_here : begins old (drop i text) ≡ true
-      → replaced which old new number 0 (drop i text) ≡ stands_for which old new number ++ replaced which old new (number + 1) (length old - 1) (drop (i + 1) text)
-  unfolding replaced
-  replaced_here e =
-      let d = drop_more text i 0 h in
-      let rest = drop (i + 1) text in
-      let here : begins old (get_or text i 0 ∷ rest) ≡ true = sym (ap (begins old) d) ∙ e in
-      ap (replaced which old new number 0) d
-      ∙ ap (λ b. cond b (stands_for which old new number ++ replaced which old new (number + 1) (length old - 1) rest) (get_or text i 0 ∷ replaced which old new number 0 rest)) here
+-- what stands for an occurrence, by characters and by bytes
+stands_bytes : (which : Option ℕ) (old new : List ℕ) (number : ℕ) → IsUtf8 old → IsUtf8 new
+    → encode_utf8_all (stands_for which (chars old) (chars new) number) ≡ stands_for which old new number
+stands_bytes None old new number uo un = encodes-chars new un
+stands_bytes (Some meant) old new number uo un = chosen (meant == number)
+  where
+    chosen : (b : Bool) → encode_utf8_all (cond b (chars new) (chars old)) ≡ cond b new old
+    chosen true = encodes-chars new un
+    chosen false = encodes-chars old uo
 
-  -- a character that stays
-  replaced_other : (d : ℕ) → begins old (drop i text) ≡ false
-      → replaced which old new number 0 (drop i text) ≡ get_or text i d ∷ replaced which old new number 0 (drop (i + 1) text)
-  unfolding replaced
-  replaced_other d e =
-      let more = drop_more text i d h in
-      let rest = drop (i + 1) text in
-      let other : begins old (get_or text i d ∷ rest) ≡ false = sym (ap (begins old) more) ∙ e in
-      ap (replaced which old new number 0) more
-      ∙ ap (λ b. cond b (stands_for which old new number ++ replaced which old new (number + 1) (length old - 1) rest) (get_or text i d ∷ replaced which old new number 0 rest)) other
+-- of a text of no characters none is replaced
+pub replaced_all-none : (which : Option ℕ) (old new text : List ℕ) → length old ≡ 0 → IsUtf8 text → made (replaced_all which (chars old) new (chars text)) ≡ made_text text
+replaced_all-none which [] new text h u = ap (λ cs. made (replaced_all which cs new (chars text))) chars-nil ∙ ap made_text (encodes-chars text u)
+replaced_all-none which (c ∷ old) new text h u = absurd (omega arith)
 
-  -- the walk over the start of an occurrence
-  pub walk_here : (kept next stands whole : List ℕ) (covered : ℕ) → covered ≡ 0 → begins old (drop i text) ≡ true
-      → next ≡ kept ++ stands → stands ≡ stands_for which old new number → kept ++ replaced which old new number covered (drop i text) ≡ whole
-      → next ++ replaced which old new (number + 1) (length old - 1) (drop (i + 1) text) ≡ whole
-  walk_here kept next stands whole covered z e n s k =
-      let rest = replaced which old new (number + 1) (length old - 1) (drop (i + 1) text) in
-      ap (λ xs. xs ++ rest) (n ∙ ap (λ xs. kept ++ xs) s)
-      ∙ append_assoc kept (stands_for which old new number) rest
-      ∙ sym (ap (λ n. kept ++ replaced which old new number n (drop i text)) z ∙ ap (λ xs. kept ++ xs) (replaced_here e))
+pub replaced_all-some : (which : Option ℕ) (old new cs : List ℕ) → IsUtf8 old → 0 < length old → replaced which (chars old) new 1 0 cs ≡ replaced_all which (chars old) new cs
+replaced_all-some which old new cs u h = some (chars old) (some_chars (chars old) (subst (λ xs. 0 < length xs) (sym (encodes-chars old u)) h))
+  where
+    some : (os : List ℕ) → 0 < length os → replaced which os new 1 0 cs ≡ replaced_all which os new cs
+    some [] l = absurd (omega arith)
+    some (o ∷ os) l = refl
+
+module _ (which : Option ℕ) (old new : List ℕ) (uo : IsUtf8 old) (un : IsUtf8 new) (some : 0 < length old) where
+  -- the bytes of what is left, with its occurrences replaced
+  abbrev pub left_bytes : ℕ → List ℕ → List ℕ
+  left_bytes number rest = encode_utf8_all (replaced which (chars old) (chars new) number 0 (chars rest))
+
+  some_old : 0 < length (chars old)
+  some_old = some_chars (chars old) (subst (λ xs. 0 < length xs) (sym (encodes-chars old uo)) some)
+
+  -- without an occurrence all stays
+  pub left_all : (number : ℕ) (rest : List ℕ) → IsUtf8 rest → FindsText old rest None → left_bytes number rest ≡ rest
+  left_all number rest ur none =
+      ap encode_utf8_all (from_the_left which (chars old) (chars new) (chars rest) number some_old ∙ ap (replaced_from which (chars old) (chars new) number (chars rest)) (occurs_nowhere old rest uo ur none))
+      ∙ encodes-chars rest ur
+
+  -- what is before the first occurrence stays, what stands for it follows, and then the rest
+  pub left_step : (number : ℕ) (rest : List ℕ) (i j : ℕ) → IsUtf8 rest → FindsText old rest (Some (i, j)) → i ≤ length rest
+      → left_bytes number rest ≡ take i rest ++ (stands_for which old new number ++ left_bytes (number + 1) (drop j rest))
+  left_step number rest i j ur found fits =
+      let cs = chars rest in
+      let before = chars (take i rest) in
+      let stands = stands_for which (chars old) (chars new) number in
+      let more = λ (xs : List ℕ). replaced which (chars old) (chars new) (number + 1) 0 xs in
+      ap encode_utf8_all (
+        from_the_left which (chars old) (chars new) cs number some_old
+        ∙ ap (replaced_from which (chars old) (chars new) number cs) (occurs_first old rest uo ur i j found fits)
+        ∙ ap (λ xs. xs ++ (stands ++ more (drop (length before + length (chars old)) cs))) (chars_before old rest uo ur i j found fits)
+        ∙ ap (λ xs. before ++ (stands ++ more xs)) (chars_behind old rest uo ur i j found fits)
+      )
+      ∙ encodes-append before (stands ++ more (chars (drop j rest)))
+      ∙ ap (λ xs. xs ++ encode_utf8_all (stands ++ more (chars (drop j rest)))) (before_bytes old rest uo ur i j found fits)
+      ∙ ap (λ xs. take i rest ++ xs) (encodes-append stands (more (chars (drop j rest))))
+      ∙ ap (λ xs. take i rest ++ (xs ++ encode_utf8_all (more (chars (drop j rest))))) (stands_bytes which old new number uo un)
+
+  -- the walk over one occurrence
+  pub walk_step : (number : ℕ) (kept rest mid next before stands after whole : List ℕ) (i j : ℕ) → IsUtf8 rest → FindsText old rest (Some (i, j)) → i ≤ length rest
+      → before ≡ take i rest → after ≡ drop j rest → stands ≡ stands_for which old new number → mid ≡ kept ++ before → next ≡ mid ++ stands
+      → kept ++ left_bytes number rest ≡ whole → next ++ left_bytes (number + 1) after ≡ whole
+  walk_step number kept rest mid next before stands after whole i j ur found fits b a s m n k =
+      let more = left_bytes (number + 1) (drop j rest) in
+      let instead = stands_for which old new number in
+      ap (λ xs. next ++ left_bytes (number + 1) xs) a
+      ∙ ap (λ xs. xs ++ more) (n ∙ ap (λ xs. xs ++ stands) (m ∙ ap (λ xs. kept ++ xs) b) ∙ ap (λ xs. (kept ++ take i rest) ++ xs) s)
+      ∙ append_assoc (kept ++ take i rest) instead more
+      ∙ append_assoc kept (take i rest) (instead ++ more)
+      ∙ sym (ap (λ xs. kept ++ xs) (left_step number rest i j ur found fits))
       ∙ k
 
-  -- the walk over a character that stays
-  pub walk_other : (d : ℕ) (kept next whole : List ℕ) (covered : ℕ) → covered ≡ 0 → begins old (drop i text) ≡ false
-      → next ≡ kept ++ get_or text i d ∷ [] → kept ++ replaced which old new number covered (drop i text) ≡ whole
-      → next ++ replaced which old new number covered (drop (i + 1) text) ≡ whole
-  walk_other d kept next whole covered z e n k =
-      let rest = replaced which old new number 0 (drop (i + 1) text) in
-      ap (λ n. next ++ replaced which old new number n (drop (i + 1) text)) z
-      ∙ ap (λ xs. xs ++ rest) n
-      ∙ append_assoc kept (get_or text i d ∷ []) rest
-      ∙ sym (ap (λ n. kept ++ replaced which old new number n (drop i text)) z ∙ ap (λ xs. kept ++ xs) (replaced_other d e))
-      ∙ k
-
--- nothing is left
-pub replaced_end : (which : Option ℕ) (old new text : List ℕ) (number covered i : ℕ) → length text ≤ i → replaced which old new number covered (drop i text) ≡ []
-unfolding replaced
-replaced_end which old new text number covered i h = at_drop_all (replaced which old new number covered) text i h
-
--- more characters than a made text may have bytes
-pub made_too_long : (first rest whole : List ℕ) → first ++ rest ≡ whole → MAX_MADE_TEXT < length first → made whole ≡ Fault Value
+-- more bytes than a made text may have
+pub made_too_long : (first rest : List ℕ) (whole : List ℕ) → first ++ rest ≡ encode_utf8_all whole → MAX_MADE_TEXT < length first → made whole ≡ Fault Value
 made_too_long first rest whole e h =
     let all = ap length (sym e) ∙ length-append first rest in
-    let bytes = length-le-encodes whole in
     made_long (encode_utf8_all whole) (omega arith)
+
+-- what is kept and the rest, where all of it stays, as a value
+pub made_all : (text next rest kept left whole : List ℕ) → text ≡ next → next ≡ kept ++ rest → left ≡ rest → kept ++ left ≡ encode_utf8_all whole → made_text text ≡ made whole
+made_all text next rest kept left whole t n l k = ap made_text (t ∙ n ∙ ap (λ xs. kept ++ xs) (sym l) ∙ k)

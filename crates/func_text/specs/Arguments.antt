@@ -34,11 +34,6 @@ text_and_count (a ∷ []) = and_then (text a) (λ t. Ok (t, pos 1))
 text_and_count (a ∷ b ∷ []) = and_then (text a) (λ t. and_then (whole b) (λ n. Ok (t, n)))
 text_and_count _ = Err Na
 
--- the value of what was read, or the fault in its place
-abbrev pub then_value : {A : Type 0} → Result A FaultKind → (A → Scalar) → Scalar
-then_value (Ok x) value = value x
-then_value (Err fault) value = Fault fault
-
 -- the text of these characters as a value: where it has more than 32,768 bytes, #VALUE!
 abbrev pub made : List ℕ → Scalar
 made characters = made_text (encode_utf8_all characters)

@@ -7,9 +7,9 @@ use Rattle.cell_value.specs.declared.argument.Arg.{Arg}
 use Rattle.cell_value.specs.declared.fault.FaultKind.TheVariants.{Na, Value}
 use Rattle.cell_value.specs.declared.scalar.Scalar.{Scalar}
 use Rattle.cell_value.specs.declared.scalar.Scalar.TheVariants.{Fault}
-use Rattle.func_args.specs.Answers.{counted, number_value}
+use Rattle.func_args.specs.Answers.{counted, number_value, then_value}
 use Rattle.func_args.specs.Arguments.{whole}
-use Rattle.func_text.specs.Arguments.{text, then_value}
+use Rattle.func_text.specs.Arguments.{text}
 
 -- the characters begin with those that are sought; letters in another case are others
 abbrev pub begins : List ℕ → List ℕ → Bool

@@ -1,5 +1,5 @@
 -- The functions of texts and their words. Source: OpenFormula.
-use Rattle.std.specs.Prelude.{ℕ, List, [], ◌∷◌, Option, codes, bytes_eq}
+use Rattle.std.specs.Prelude.{ℕ, Bool, false, List, [], ◌∷◌, Option, codes, bytes_eq}
 use Rattle.std.specs.List.{find}
 use Rattle.func_text.specs.declared.function.TextFn.{TextFn}
 use Rattle.func_text.specs.declared.function.TextFn.TheVariants.{Len, Left, Right, Mid, Concatenate, Trim, Rept, Exact, Find, Substitute, Value}
@@ -25,3 +25,7 @@ functions = Len ∷ Left ∷ Right ∷ Mid ∷ Concatenate ∷ Trim ∷ Rept ∷
 -- the function that a word names
 abbrev pub function_named : List ℕ → Option TextFn
 function_named text = find (λ function. bytes_eq (function_word function) text) functions
+
+-- the argument at this place, from 0, is a list or a block: none is
+abbrev pub takes_block : TextFn → ℕ → Bool
+takes_block function at = false

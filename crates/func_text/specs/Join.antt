@@ -7,9 +7,9 @@ use Rattle.cell_value.specs.declared.fault.FaultKind.TheVariants.{Na, Value}
 use Rattle.cell_value.specs.declared.scalar.Scalar.{Scalar}
 use Rattle.cell_value.specs.declared.scalar.Scalar.TheVariants.{Fault}
 use Rattle.cell_value.specs.Scalar.{made_text}
-use Rattle.func_args.specs.Answers.{and_then}
+use Rattle.func_args.specs.Answers.{and_then, then_value}
 use Rattle.func_args.specs.Arguments.{whole}
-use Rattle.func_text.specs.Arguments.{text, then_value}
+use Rattle.func_text.specs.Arguments.{text}
 
 -- the texts of all arguments, one after another
 abbrev pub joined : List Arg → Result (List ℕ) FaultKind

@@ -4,9 +4,9 @@ use Rattle.cell_value.specs.declared.argument.Arg.{Arg}
 use Rattle.cell_value.specs.declared.fault.FaultKind.TheVariants.{Na, Value}
 use Rattle.cell_value.specs.declared.scalar.Scalar.{Scalar}
 use Rattle.cell_value.specs.declared.scalar.Scalar.TheVariants.{Fault}
-use Rattle.func_args.specs.Answers.{counted, number_value}
+use Rattle.func_args.specs.Answers.{counted, number_value, then_value}
 use Rattle.func_args.specs.Arguments.{whole}
-use Rattle.func_text.specs.Arguments.{made, one_text, text, text_and_count, then_value}
+use Rattle.func_text.specs.Arguments.{made, one_text, text, text_and_count}
 
 -- LEN(T)
 abbrev pub len_value : List Arg → Scalar

@@ -5,7 +5,8 @@ use Rattle.cell_value.specs.declared.fault.FaultKind.TheVariants.{Na, Value}
 use Rattle.cell_value.specs.declared.scalar.Scalar.{Scalar}
 use Rattle.cell_value.specs.declared.scalar.Scalar.TheVariants.{Fault}
 use Rattle.func_args.specs.Arguments.{whole}
-use Rattle.func_text.specs.Arguments.{made, text, then_value}
+use Rattle.func_args.specs.Answers.{then_value}
+use Rattle.func_text.specs.Arguments.{made, text}
 use Rattle.func_text.specs.Find.{begins}
 
 -- what stands for the occurrence of this number, from 1: the new text where that occurrence is meant, or

@@ -6,10 +6,10 @@ use Rattle.cell_value.specs.declared.argument.Arg.{Arg}
 use Rattle.cell_value.specs.declared.scalar.Scalar.{Scalar}
 use Rattle.cell_value.specs.declared.scalar.Scalar.TheVariants.{Truth}
 use Rattle.cell_value.specs.Scalar.{read_number}
-use Rattle.func_args.specs.Answers.{number_value}
+use Rattle.func_args.specs.Answers.{number_value, then_value}
 use Rattle.func_text.specs.declared.function.TextFn.{TextFn}
 use Rattle.func_text.specs.declared.function.TextFn.TheVariants.{Len, Left, Right, Mid, Concatenate, Trim, Rept, Exact, Find, Substitute, Value}
-use Rattle.func_text.specs.Arguments.{one_text, then_value, two_texts}
+use Rattle.func_text.specs.Arguments.{one_text, two_texts}
 use Rattle.func_text.specs.Find.{find_value}
 use Rattle.func_text.specs.Join.{concatenate_value, rept_value}
 use Rattle.func_text.specs.Parts.{left_value, len_value, mid_value, right_value}

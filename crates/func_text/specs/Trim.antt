@@ -3,7 +3,8 @@ use Rattle.std.specs.Prelude.{ℕ, ◌==◌, Bool, true, false, not, ◌&&◌, i
 use Rattle.std.specs.List.{list_any}
 use Rattle.cell_value.specs.declared.argument.Arg.{Arg}
 use Rattle.cell_value.specs.declared.scalar.Scalar.{Scalar}
-use Rattle.func_text.specs.Arguments.{made, one_text, then_value}
+use Rattle.func_args.specs.Answers.{then_value}
+use Rattle.func_text.specs.Arguments.{made, one_text}
 use Rattle.func_text.specs.declared.trim.TheConstants.{SPACE}
 
 -- some character is no space

@@ -1,2 +1,3 @@
 -- What only bodies need.
+pub mod Shown
 pub mod Trim

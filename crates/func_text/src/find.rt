@@ -1,10 +1,8 @@
-// FIND.
-ghost use Rattle.std.specs.Prelude.{◌≡◌, ◌≤◌, IfOk, IfSome, length};
-ghost use Rattle.func_text.specs.Find.{find_value, found, first_place};
+// FIND, and where a text occurs in another.
+ghost use Rattle.std.specs.Prelude.{◌≡◌, ◌≤◌, ◌<◌, ◌+◌, ◌^◌, IfOk, IfSome, chars, length};
+ghost use Rattle.func_text.specs.Find.{find_value, first_place, found, position};
 
-use crate::argument::{characters, text_of};
-use crate::part::after;
-use cell_addr::Text;
+use crate::argument::{after_characters, count_characters, text_of};
 use cell_value::{Arg, FaultKind, Scalar};
 use func_args::{counted, number_value, whole_of};
 use std::alloc::{AllocError, Global};
@@ -15,11 +13,13 @@ pub(crate) fn find_value(alloc: Global, args: &[Arg]) -> Result<Scalar, AllocErr
 {
     match args {
         [a, b] => match (text_of(alloc, a)?, text_of(alloc, b)?) {
-            (Ok(sought), Ok(within)) => found(alloc, &sought, &within, 1),
+            (Ok(sought), Ok(within)) => Ok(found(sought.as_str(), within.as_str(), 1)),
             (Err(fault), _) | (_, Err(fault)) => Ok(Scalar::Fault(fault)),
         },
         [a, b, c] => match (text_of(alloc, a)?, text_of(alloc, b)?, whole_of(c)) {
-            (Ok(sought), Ok(within), Ok(start)) => found(alloc, &sought, &within, start),
+            (Ok(sought), Ok(within), Ok(start)) => {
+                Ok(found(sought.as_str(), within.as_str(), start))
+            }
             (Err(fault), _, _) | (_, Err(fault), _) | (_, _, Err(fault)) => {
                 Ok(Scalar::Fault(fault))
             }
@@ -29,34 +29,35 @@ pub(crate) fn find_value(alloc: Global, args: &[Arg]) -> Result<Scalar, AllocErr
 }
 
 // The position of the first text in the second, at or after this one.
-fn found(alloc: Global, sought: &Text, within: &Text, start: i64) -> Result<Scalar, AllocError>
-    ensures { IfOk result (λ value. value ≡ found sought.now within.now start) }
+fn found(sought: &str, within: &str, start: i64) -> Scalar
+    ensures { result ≡ found sought.now within.now start }
 {
-    let sought = characters(alloc, sought.as_str())?;
-    let within = characters(alloc, within.as_str())?;
-    if start < 1 || start.unsigned_abs() > within.len() as u64 + 1 {
-        return Ok(Scalar::Fault(FaultKind::Value));
+    if start < 1 {
+        return Scalar::Fault(FaultKind::Value);
     }
     let start = start.unsigned_abs();
-    match first_place(&sought, after(&within, start - 1)) {
-        Some(at) => Ok(number_value(counted(at + start))),
-        None => Ok(Scalar::Fault(FaultKind::Value)),
+    match after_characters(within, start - 1) {
+        Some(rest) => position(start, first_place(sought, rest)),
+        None => Scalar::Fault(FaultKind::Value),
+    }
+}
+
+// The position of what was found so many characters after this position; of nothing `Value`.
+fn position(start: u64, place: Option<u64>) -> Scalar
+    requires { IfSome place (λ at. at + start < 2 ^ 64) }
+    ensures { result ≡ position start place }
+{
+    match place {
+        Some(at) => number_value(counted(at + start)),
+        None => Scalar::Fault(FaultKind::Value),
     }
 }
 
 // The place, from 0, where the first occurrence begins.
-fn first_place(sought: &[char], within: &[char]) -> Option<u64>
-    ensures place { result ≡ first_place sought.now within.now }
+fn first_place(sought: &str, within: &str) -> Option<u64>
+    ensures place { result ≡ first_place (chars sought.now) (chars within.now) }
     ensures inside { IfSome result (λ at. at ≤ length within.now) }
 {
-    'places: for at in 0..within.len() as u64 {
-        if after(within, at).starts_with(sought) {
-            return Some(at);
-        }
-    }
-    if sought.is_empty() {
-        Some(within.len() as u64)
-    } else {
-        None
-    }
+    let at = within.find(sought)?;
+    Some(count_characters(&within[..at]))
 }

@@ -1,6 +1,6 @@
 // The functions and their words.
 ghost use Rattle.std.specs.Prelude.{◌≡◌};
-ghost use Rattle.func_text.specs.Functions.{function_named, function_word};
+ghost use Rattle.func_text.specs.Functions.{function_named, function_word, takes_block};
 
 /// A function of texts.
 #[derive(Clone, Copy, PartialEq, Eq, Debug)]
@@ -72,5 +72,13 @@ impl TextFn {
             .iter()
             .copied()
             .find(|function| function.word() == text)
+    }
+
+    /// Whether the argument at this place, from 0, is a list or a block: none is, so a reference stands for
+    /// its cell's value.
+    pub fn takes_block(self, _at: usize) -> bool
+        ensures { result ≡ takes_block self _at }
+    {
+        false
     }
 }

@@ -2,7 +2,7 @@
 ghost use Rattle.std.specs.Prelude.{◌≡◌, IfOk, chars, drop, length, take};
 ghost use Rattle.func_text.specs.Parts.{left, left_value, len_value, mid, mid_value, right, right_value};
 
-use crate::argument::{characters, made, one_text, text_and_count, text_of};
+use crate::argument::{characters, count_characters, made, one_text, text_and_count, text_of};
 use cell_value::{Arg, FaultKind, Scalar};
 use func_args::{counted, number_value, whole_of};
 use std::alloc::{AllocError, Global};
@@ -15,13 +15,6 @@ pub(crate) fn len_value(alloc: Global, args: &[Arg]) -> Result<Scalar, AllocErro
         Ok(text) => Ok(number_value(counted(count_characters(text.as_str())))),
         Err(fault) => Ok(Scalar::Fault(fault)),
     }
-}
-
-// How many characters the text has.
-fn count_characters(text: &str) -> u64
-    ensures { result ≡ length (chars text.now) }
-{
-    text.chars().count() as u64
 }
 
 /// `LEFT(T [, N])`: the first characters.
@@ -107,8 +100,8 @@ fn first(characters: &[char], count: u64) -> &[char]
     }
 }
 
-/// The characters after the first so many.
-pub(crate) fn after(characters: &[char], count: u64) -> &[char]
+// The characters after the first so many.
+fn after(characters: &[char], count: u64) -> &[char]
     ensures { result.now ≡ drop count characters.now }
 {
     if count < characters.len() as u64 {

@@ -37,7 +37,7 @@ fn exact_value(alloc: Global, args: &[Arg]) -> Result<Scalar, AllocError>
     ensures { IfOk result (λ value. value ≡ exact_value args.now) }
 {
     match two_texts(alloc, args)? {
-        Ok((a, b)) => Ok(Scalar::Truth(a == b)),
+        Ok((a, b)) => Ok(Scalar::Truth(a.as_str() == b.as_str())),
         Err(fault) => Ok(Scalar::Fault(fault)),
     }
 }

@@ -8,4 +8,4 @@ unfolding day_months_on
 returns c =
     let month : c.months_on-month.result ≡ months_on c.args.date c.args.months = c.months_on-month.ensures.month ∙ ap (months_on c.args.date) (to_z-of_z _ _ c.ranges.months) in
     c.placed.ensures
-    ∙ ap₂ (λ m d. dated (serial_in m (pos d))) month (c.min-day.ensures ∙ ap₂ (λ p l. min (p + 1) l) c.place_in_month.ensures.place (c.length_of.ensures.length ∙ ap length_of month))
+    ∙ ap₂ (λ m d. dated (serial_in m (pos d))) month (c.min-day.ensures ∙ ap₂ min c.day_of_month.ensures.day (c.length_of.ensures.length ∙ ap length_of month))

@@ -1,16 +1,30 @@
-use Rattle.std.proofs.Common.{◌∙◌, ap, sym, arith}
-use Rattle.func_text.specs.Find.{begins}
-use Rattle.func_text.proofs.Finding.{place_here, place_later}
+use Rattle.std.proofs.Common.{◌≡◌, ◌≤◌, ◌-◌, ◌∙◌, ap, sym, Some, ℕ, List, chars, length, slice_range, take, arith}
+use Rattle.std.proofs.lemmas.List.{length-take}
+use Rattle.std.proofs.lemmas.Str.{encodes-chars, length-le-encodes}
+use Rattle.func_text.proofs.Occurrences.{before_bytes, occurs_first, occurs_nowhere}
 use Rattle.func_text.proofs.find.first_place.Goals as goal
 
-pub returns-then-starts_with-clause-place : goal.returns-then-starts_with-clause-place
-returns-then-starts_with-clause-place c =
-    let sought = c.args.sought.now in
-    let here = sym (c.starts_with.ensures.value ∙ ap (begins sought) c.after.ensures) ∙ c.if-starts_with.true in
-    sym (place_here sought c.args.within.now c.places.at (omega arith) here) ∙ c.places.invariant
+front : (xs : List ℕ) (i : ℕ) → slice_range xs 0 i ≡ take i xs
+front xs i = let e : i - 0 ≡ i = omega arith in ap (λ n. take n xs) e
 
-pub places-preserved : goal.places-preserved
-places-preserved c =
+pub returns-in_err-at-clause-place : goal.returns-in_err-at-clause-place
+returns-in_err-at-clause-place c =
+    c.from_residual.ensures ∙ sym (occurs_nowhere c.args.sought.now c.args.within.now c.utf8.sought c.utf8.within c.in_err-at.ensures.cases)
+
+pub returns-clause-place : goal.returns-clause-place
+returns-clause-place c =
+    let h = c.in_ok-at.ensures.cases in
+    ap Some (c.count_characters.ensures ∙ ap (λ xs. length (chars xs)) (c.range.ensures.value ∙ front c.args.within.now c.in_ok-at.at))
+    ∙ sym (occurs_first c.args.sought.now c.args.within.now c.utf8.sought c.utf8.within c.in_ok-at.at h.0 h.1 h.3.0)
+
+pub returns-clause-inside : goal.returns-clause-inside
+returns-clause-inside c =
+    let h = c.in_ok-at.ensures.cases in
     let sought = c.args.sought.now in
-    let other = sym (c.starts_with.ensures.value ∙ ap (begins sought) c.after.ensures) ∙ c.if-starts_with.false in
-    sym (place_later sought c.args.within.now c.places.at (omega arith) other) ∙ c.places.invariant
+    let within = c.args.within.now in
+    let at = c.in_ok-at.at in
+    let few = length-le-encodes (chars (take at within)) in
+    let bytes = ap length (before_bytes sought within c.utf8.sought c.utf8.within at h.0 h.1 h.3.0) in
+    let long = length-take at within in
+    let count : c.count_characters.result ≡ length (chars (take at within)) = c.count_characters.ensures ∙ ap (λ xs. length (chars xs)) (c.range.ensures.value ∙ front within at) in
+    omega (arith, h.3.0)

@@ -1,0 +1,91 @@
+// The arguments of a call as they are written.
+use crate::block::{of_sheet, written};
+use crate::call::Function;
+use crate::sheet::value_at;
+use cell_addr::{after_quoted, quoted_text, read_area};
+use cell_value::{Arg, FaultKind, Scalar};
+use fix_num::Fixed;
+use std::alloc::{AllocError, Global};
+
+/// The arguments of a function that the text holds, parted by commas; `None` where one can't be read.
+pub fn arguments_of(
+    alloc: Global,
+    text: &str,
+    function: Function,
+) -> Result<Option<Vec<Arg>>, AllocError> {
+    let mut args = Vec::new(alloc);
+    if text.is_empty() {
+        return Ok(Some(args));
+    }
+    let mut open = String::new(alloc);
+    'pieces: for piece in text.split(',') {
+        open.push_str(piece)?;
+        if !is_whole(&open) {
+            open.push(',')?;
+            continue;
+        }
+        match argument_of(alloc, &open, function.takes_block(args.len()))? {
+            Some(argument) => args.push(argument)?,
+            None => return Ok(None),
+        }
+        open.clear();
+    }
+    Ok(if open.is_empty() { Some(args) } else { None })
+}
+
+// Whether each text and each block of it is closed.
+fn is_whole(text: &str) -> bool {
+    let quotes = text.chars().filter(|c| *c == '"').count();
+    quotes % 2 == 0 && (!text.starts_with("{") || text.ends_with("}"))
+}
+
+// The argument that the text holds, where a reference is a block or the value of its cell.
+fn argument_of(alloc: Global, text: &str, is_block: bool) -> Result<Option<Arg>, AllocError> {
+    if let Some(values) = values_of_block(text) {
+        return match written(alloc, values)? {
+            Some(area) => Ok(Some(Arg::Many(area))),
+            None => Ok(None),
+        };
+    }
+    if let Some(spot) = read_area(text.as_bytes()) {
+        if spot.single && !is_block {
+            return Ok(Some(Arg::One(value_at(alloc, spot.top, spot.left)?)));
+        }
+        return Ok(Some(Arg::Many(of_sheet(alloc, &spot)?)));
+    }
+    match literal(alloc, text)? {
+        Some(value) => Ok(Some(Arg::One(value))),
+        None => Ok(None),
+    }
+}
+
+// What stands between the braces of a block whose values are written out.
+fn values_of_block(text: &str) -> Option<&str> {
+    text.strip_prefix("{")?.strip_suffix("}")
+}
+
+/// The value that is written out, or `None` where it has no form of one.
+pub fn literal(alloc: Global, text: &str) -> Result<Option<Scalar>, AllocError> {
+    if let Some(after) = text.strip_prefix("\"") {
+        return match (after_quoted(after, '"'), quoted_text(alloc, after, '"')?) {
+            (Some(""), Some(content)) => Ok(Some(Scalar::Text(content))),
+            _ => Ok(None),
+        };
+    }
+    match text {
+        "TRUE" => Ok(Some(Scalar::Truth(true))),
+        "FALSE" => Ok(Some(Scalar::Truth(false))),
+        _ => Ok(number_or_fault(text)),
+    }
+}
+
+// The number or the fault that is written out.
+fn number_or_fault(text: &str) -> Option<Scalar> {
+    if let Some(fault) = FaultKind::named(text) {
+        return Some(Scalar::Fault(fault));
+    }
+    match Fixed::from_text(text) {
+        Ok(number) => Some(Scalar::Number(number)),
+        Err(_) => None,
+    }
+}
