@@ -19,6 +19,7 @@
 mod absolute;
 mod address;
 mod code;
+mod entry;
 pub mod laws;
 mod link;
 mod node;
@@ -26,6 +27,7 @@ mod operator;
 mod plain;
 mod pool;
 mod reference;
+mod same;
 #[cfg(test)]
 mod tests;
 
