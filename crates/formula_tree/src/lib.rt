@@ -21,6 +21,7 @@ mod address;
 mod code;
 mod entry;
 pub mod laws;
+mod leaves;
 mod link;
 mod node;
 mod operator;

@@ -10,6 +10,7 @@ ghost use Rattle.formula_tree.specs.internal.Code.{same_code};
 ghost use Rattle.formula_tree.specs.declared.reference.Ref.{Ref};
 
 use crate::entry::Entry;
+use crate::leaves::Leaves;
 use crate::node::Tree;
 use crate::plain::Plain;
 use crate::reference::Home;
@@ -18,10 +19,12 @@ use std::alloc::{AllocError, Global};
 use std::rc::Rc;
 
 /// Where trees are shared: a list of distinct trees, each as it is seen from the homes of its formulas.
+/// Trees that differ share their equal references, names and other leaves.
 #[derive(Drop)]
 pub struct Pool {
     alloc: Global,
     trees: IndexSet<Entry>,
+    leaves: Leaves,
 }
 
 impl Pool {
@@ -34,6 +37,7 @@ impl Pool {
         Ok(Pool {
             alloc,
             trees: IndexSet::new(alloc),
+            leaves: Leaves::new(alloc),
         })
     }
 
@@ -63,8 +67,9 @@ impl Pool {
         if let Some(known) = self.trees.get(&entry) {
             return Ok(known.tree.clone()?);
         }
-        let shared = entry.tree.clone()?;
-        self.trees.insert(entry)?;
+        let tree = self.leaves.shared(&entry.tree)?;
+        let shared = tree.clone()?;
+        self.trees.insert(Entry { tree })?;
         Ok(shared)
     }
 
@@ -104,6 +109,7 @@ impl Pool {
                 ensures { result ≡ list_any (λ k. same_code (relative entry.now.tree.value) (relative k.tree.value)) kept.keys }
             { kept.contains(entry) },
         );
+        self.leaves.sweep();
         Ok(())
     }
 }
