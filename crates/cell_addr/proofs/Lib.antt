@@ -8,5 +8,6 @@ pub mod Places
 pub mod Printed
 pub mod Quoted
 pub mod Rows
+pub mod SamePlaces
 pub mod Splits
 pub mod Spots

@@ -1,6 +1,6 @@
 -- The cells of a book are a network, so their values unfold, and nothing else does. Serves the laws, and what works
 -- the values out.
-use Rattle.std.proofs.Common.{◌≡◌, ◌∙◌, sym, ap, ap₂, refl, Bool, true, false, ◌&&◌, cond, List, [], ◌∷◌, map, Option, Some, None, ⊎_elim, eqb-true, eq-eqb}
+use Rattle.std.proofs.Common.{◌≡◌, ◌∙◌, sym, ap, ap₂, refl, Bool, true, false, cond, List, [], ◌∷◌, map, Option, Some, None, ⊎_elim}
 use Rattle.std.specs.List.{list_any, filter}
 use Rattle.std.specs.Ordering.{is_eq}
 use Rattle.std.specs.FinMap.{find, get, entries, get-entries}
@@ -11,6 +11,7 @@ use Rattle.cell_value.specs.declared.scalar.Scalar.{Scalar}
 use Rattle.cell_value.specs.declared.scalar.Scalar.TheVariants.{Empty}
 use Rattle.formula_tree.specs.Term.{Term, number, text, truth, fault, cell, area, name, prefix, percent, binary, call, paren}
 use Rattle.cell_addr.specs.Place.{same_place}
+use Rattle.cell_addr.proofs.SamePlaces.{same_place-self, same_place-equal}
 use Rattle.formula_tree.specs.declared.reference.Corner.{Corner}
 use Rattle.value_network.specs.Network.{IsNetwork, at_once}
 use Rattle.value_network.proofs.LeftOver.{free_by_needs}
@@ -25,34 +26,13 @@ use Rattle.value_network.proofs.FollowedNeeds.{stuck_returns}
 use Rattle.cell_values.proofs.Books.{same_at}
 use Rattle.cell_values.specs.Laws.{BadPlacesLeadToCycles, ValuesUnfold, NothingElseUnfolds}
 
-all_three : (a b c : Bool) → (a && (b && c)) ≡ true → (a ≡ true) × (b ≡ true) × (c ≡ true)
-all_three true true true h = (refl, refl, refl)
-all_three true true false h = absurd (false≢true h)
-all_three true false c h = absurd (false≢true h)
-all_three false b c h = absurd (false≢true h)
-
-three : (a b c : Bool) → a ≡ true → b ≡ true → c ≡ true → (a && (b && c)) ≡ true
-three a b c p q r = ap (λ x. x && (b && c)) p ∙ ap (λ x. true && (x && c)) q ∙ ap (λ x. true && (true && x)) r
-
--- places that are one are equal
-pub same_place_equal : (p q : Place) → same_place p q ≡ true → p ≡ q
-same_place_equal p q h =
-    let parts = all_three _ _ _ h in
-    let sheet = eqb-true p.sheet q.sheet parts.0 in
-    let row = eqb-true p.row q.row parts.1 in
-    let col = eqb-true p.col q.col parts.2 in
-    λ i. record { sheet = sheet i; row = row i; col = col i }
-
-pub same_place_self : (p : Place) → same_place p p ≡ true
-same_place_self p = three _ _ _ (eq-eqb p.sheet p.sheet refl) (eq-eqb p.row p.row refl) (eq-eqb p.col p.col refl)
-
 -- what a tree means rests on the places that it mentions
 meaning_reads : (t : Term Corner) (v w : Place → Scalar) → ((q : Place) → mentions t q ≡ true → v q ≡ w q) → meaning v t ≡ meaning w t
 meaning_reads (number m) v w alike = refl
 meaning_reads (text s) v w alike = refl
 meaning_reads (truth b) v w alike = refl
 meaning_reads (fault k) v w alike = refl
-meaning_reads (cell c) v w alike = alike c.at (same_place_self c.at)
+meaning_reads (cell c) v w alike = alike c.at (same_place-self c.at)
 meaning_reads (area c d) v w alike = refl
 meaning_reads (name s) v w alike = refl
 meaning_reads (prefix s t) v w alike = ap (signed_value s) (meaning_reads t v w alike)
@@ -87,7 +67,7 @@ formula_places es = map (λ e. e.0) (filter (λ e. is_formula e.1) es)
 listed_first : (p : Place) (e : Place × Content) (es : List (Place × Content)) → p ≡ e.0 → is_formula e.1 ≡ true → list_any (same_place p) (formula_places (e ∷ es)) ≡ true
 listed_first p e es same f =
     ap (λ b. list_any (same_place p) (map (λ x. x.0) (cond b (e ∷ filter (λ x. is_formula x.1) es) (filter (λ x. is_formula x.1) es)))) f
-    ∙ or_left (same_place p e.0) (list_any (same_place p) (formula_places es)) (ap (same_place p) (sym same) ∙ same_place_self p)
+    ∙ or_left (same_place p e.0) (list_any (same_place p) (formula_places es)) (ap (same_place p) (sym same) ∙ same_place-self p)
 
 listed_later : (p : Place) (e : Place × Content) (es : List (Place × Content)) (b : Bool) → list_any (same_place p) (formula_places es) ≡ true
     → list_any (same_place p) (map (λ x. x.0) (cond b (e ∷ filter (λ x. is_formula x.1) es) (filter (λ x. is_formula x.1) es))) ≡ true
@@ -107,8 +87,8 @@ listed (e ∷ es) p c found f = ⊎_elim
 
 pub book_is_network : (b : Book) → IsNetwork (network b)
 book_is_network b = record {
-  same_equal = same_place_equal;
-  same_self = same_place_self;
+  same_equal = same_place-equal;
+  same_self = same_place-self;
   needs_formula = λ p q h. let f = needing (get b p) q h in listed (entries b) p f.0 (sym (get-entries b p) ∙ f.1) f.2;
   reads_needs = λ p v w alike. worked_out_reads (get b p) v w (λ q need. alike q (at_once need));
 }

@@ -33,7 +33,7 @@ use Rattle.cell_values.specs.declared.nodes.Nodes.{Nodes}
 use Rattle.std.specs.Cmp.{eq_by_cmp_equiv}
 use Rattle.cell_values.proofs.Books.{same_at, get-contents}
 use Rattle.cell_values.proofs.Lists.{has-append, has-append_left, has-append_right, has_first, nat_eq_equal, list_at-first, list_at-last}
-use Rattle.cell_values.proofs.Networks.{same_place_equal, same_place_self}
+use Rattle.cell_addr.proofs.SamePlaces.{same_place-self, same_place-equal}
 use Rattle.cell_values.proofs.ValueSteps.{origin}
 
 -- a list of nodes with one node more
@@ -81,17 +81,17 @@ module _ (nodes : Nodes) where
   adds_cell p i old at_p = record {
     kept = λ j h. has-append_left j old (i ∷ []) h;
     found = λ q j h is.
-        let same : Some i ≡ Some j = sym at_p ∙ ap (number_at nodes) (same_place_equal p q h) ∙ is in
+        let same : Some i ≡ Some j = sym at_p ∙ ap (number_at nodes) (same_place-equal p q h) ∙ is in
         let number : i ≡ j = cc in
         subst (λ k. has k (old ++ i ∷ []) ≡ true) number (has_last i old);
     only = λ j h. ⊎_elim
         (λ before. inl before)
-        (λ same. inr (p, same_place_self p, at_p ∙ ap Some (sym same)))
+        (λ same. inr (p, same_place-self p, at_p ∙ ap Some (sym same)))
         (has_last_cases j i old h);
   }
 
   pub adds_no_cell : (p : Place) (list : List ℕ) → ((i : ℕ) → number_at nodes p ≡ Some i → ⊥) → AddsNeeds (same_place p) nodes list list
-  adds_no_cell p list none = adds_nothing (same_place p) list (λ q j h is. none j (ap (number_at nodes) (same_place_equal p q h) ∙ is))
+  adds_no_cell p list none = adds_nothing (same_place p) list (λ q j h is. none j (ap (number_at nodes) (same_place-equal p q h) ∙ is))
 
 -- the nodes of the second list are those of the first, and the numbers of the entries whose places pass the test
 pub record AddsAmong (test : Place → Bool) (es : List (Place × ℕ)) (old new : List ℕ) : Type 0 where

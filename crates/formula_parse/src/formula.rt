@@ -43,7 +43,7 @@ impl From<AllocError> for ParseError {
 ///
 /// `Bad` exactly where no tree of at most 64 levels has this spelling: the text doesn't begin with `=`, or
 /// what follows isn't in the grammar, or nests deeper. A reference to a sheet that isn't listed is the
-/// fault `#REF!`. The text is read once, from left to right.
+/// fault `#REF!`. Each byte is read a bounded number of times.
 pub fn parse<S: SheetNames>(
     alloc: Global,
     pool: &mut Pool,

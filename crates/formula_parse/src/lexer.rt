@@ -161,17 +161,7 @@ fn fault_token(text: &str) -> Option<(Token<'_>, &str)>
 fn fault_in_front(text: &[u8]) -> Option<FaultKind>
     ensures { result ≡ find (begins_with_fault text.now) faults }
 {
-    let faults = [
-        FaultKind::Div0,
-        FaultKind::Name,
-        FaultKind::Value,
-        FaultKind::Num,
-        FaultKind::Na,
-        FaultKind::Cycle,
-        FaultKind::Ref,
-        FaultKind::Error,
-    ];
-    faults
+    FaultKind::ALL
         .iter()
         .copied()
         .find(|fault| begins_with_fault(text, *fault))

@@ -44,43 +44,29 @@ fn placed(sheet: u32, address: Address) -> Corner
     }
 }
 
-// Of two addresses the lower row and the lower column, each with its `$`.
-fn first_of(a: Address, b: Address) -> Address
-    ensures { result ≡ first_of a b }
+// The row of one address and the column of another, each with its `$`.
+fn crossing(row: Address, col: Address) -> Address
+    ensures { result ≡ record { row = row.row; col = col.col; row_fixed = row.row_fixed; col_fixed = col.col_fixed } }
 {
     Address {
-        row: if b.row < a.row { b.row } else { a.row },
-        col: if b.col < a.col { b.col } else { a.col },
-        row_fixed: if b.row < a.row {
-            b.row_fixed
-        } else {
-            a.row_fixed
-        },
-        col_fixed: if b.col < a.col {
-            b.col_fixed
-        } else {
-            a.col_fixed
-        },
+        row: row.row,
+        col: col.col,
+        row_fixed: row.row_fixed,
+        col_fixed: col.col_fixed,
     }
 }
 
-// And the other row and the other column.
-fn last_of(a: Address, b: Address) -> Address
-    ensures { result ≡ last_of a b }
+// The corners of a block between two addresses: the lower row and the lower column, and the other row and
+// the other column, each with its `$`.
+fn in_order(a: Address, b: Address) -> (Address, Address)
+    ensures first { result.0 ≡ first_of a b }
+    ensures last { result.1 ≡ last_of a b }
 {
-    Address {
-        row: if b.row < a.row { a.row } else { b.row },
-        col: if b.col < a.col { a.col } else { b.col },
-        row_fixed: if b.row < a.row {
-            a.row_fixed
-        } else {
-            b.row_fixed
-        },
-        col_fixed: if b.col < a.col {
-            a.col_fixed
-        } else {
-            b.col_fixed
-        },
+    match (b.row < a.row, b.col < a.col) {
+        (false, false) => (a, b),
+        (true, false) => (crossing(b, a), crossing(a, b)),
+        (false, true) => (crossing(a, b), crossing(b, a)),
+        (true, true) => (b, a),
     }
 }
 
@@ -333,10 +319,8 @@ impl<'a, S: SheetNames> Reader<'a, S> {
     {
         match sheet {
             Some(sheet) => {
-                Node::Area(
-                    self.seen(sheet, first_of(a, b)),
-                    self.seen(sheet, last_of(a, b)),
-                )
+                let (first, last) = in_order(a, b);
+                Node::Area(self.seen(sheet, first), self.seen(sheet, last))
             }
             None => Node::Fault(FaultKind::Ref),
         }

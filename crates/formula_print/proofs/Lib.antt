@@ -2,4 +2,3 @@ pub mod Doubled
 pub mod Commas
 pub mod NodeRules
 pub mod Appends
-pub mod ProperPlaces

@@ -1,6 +1,5 @@
 -- The terms of nodes at a home. Serves the writing of trees.
-use Rattle.std.proofs.Common.{◌≡◌, ◌∙◌, ap, ℕ, List, map, Global}
-use Rattle.cell_addr.specs.Place.{IsInside}
+use Rattle.std.proofs.Common.{◌≡◌, ap, ℕ, List, Global}
 use Rattle.std.specs.declared.rc.Rc.{Rc}
 use Rattle.formula_tree.specs.declared.node.Node.{Node}
 use Rattle.formula_tree.specs.declared.node.Node.TheVariants as nodes
@@ -9,10 +8,8 @@ use Rattle.formula_tree.specs.declared.operator.Op.{Op}
 use Rattle.formula_tree.specs.declared.reference.Home.{Home}
 use Rattle.formula_tree.specs.Reference.{base_of, corner_at}
 use Rattle.formula_tree.specs.Relative.{relative, relative_list}
-use Rattle.formula_tree.specs.Arguments.{trees}
-use Rattle.formula_tree.specs.StandsFor.{ArePlacesInside, at_home}
-use Rattle.formula_tree.specs.Term.{binary, call, paren, terms_of, each_corner_all, EachCornerOfAll}
-use Rattle.formula_print.proofs.Commas.{terms_at}
+use Rattle.formula_tree.specs.StandsFor.{at_home}
+use Rattle.formula_tree.specs.Term.{binary, call, paren, each_corner_all}
 use Rattle.formula_tree.proofs.RelativeNodes.{relative-Binary, relative-Call, relative-Paren}
 
 pub binary_at : (home : Home) (o : Op) (l r : Rc Node Global) → at_home home (relative (nodes.Binary o l r)) ≡ binary o (at_home home (relative l.value)) (at_home home (relative r.value))
@@ -23,11 +20,3 @@ call_at home w list = ap (at_home home) (relative-Call w list)
 
 pub paren_at : (home : Home) (t : Rc Node Global) → at_home home (relative (nodes.Paren t)) ≡ paren (at_home home (relative t.value))
 paren_at home t = ap (at_home home) (relative-Paren t)
-
--- a call's places are inside where those of its arguments are
-pub call-inside : (home : Home) (w : List ℕ) (list : TreeList) (ts : List (Rc Node Global)) → trees list ≡ ts
-    → EachCornerOfAll (λ c. IsInside c.at) (terms_of (map (λ t. at_home home (relative t.value)) ts)) → ArePlacesInside (at_home home (relative (nodes.Call w list)))
-call-inside home w list ts e p =
-    let all : each_corner_all (corner_at (base_of home)) (relative_list list) ≡ terms_of (map (λ t. at_home home (relative t.value)) ts) =
-    terms_at home list ∙ ap (λ us. terms_of (map (λ t. at_home home (relative t.value)) us)) e in
-    rw (call_at home w list, all) p

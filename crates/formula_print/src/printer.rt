@@ -6,12 +6,12 @@ ghost use Rattle.formula_tree.specs.Canonical.{front_text, printed, printed_all,
 ghost use Rattle.formula_tree.specs.Reference.{base_of, sheet_of, corner_at};
 ghost use Rattle.formula_tree.specs.Relative.{relative, relative_list};
 ghost use Rattle.formula_tree.specs.StandsFor.{ArePlacesInside, at_home};
-ghost use Rattle.formula_tree.specs.Term.{each_corner_all, EachCornerOfAll};
+ghost use Rattle.formula_tree.specs.Term.{cell, each_corner_all, EachCornerOfAll};
 ghost use Rattle.formula_print.specs.internal.Appends.{AppendsText};
 
 use crate::pieces::{push_corner, push_quoted, push_sheet, truth_text};
 use cell_addr::{SheetNames, Text};
-use formula_tree::{Home, Node, Tree, TreeList};
+use formula_tree::{Home, Node, Ref, Tree, TreeList};
 use std::alloc::{AllocError, Global};
 
 /// The canonical text of the tree of a formula at the home, where the list of sheets gives their names.
@@ -58,15 +58,9 @@ impl<'a, S: SheetNames> Printer<'a, S> {
             Node::Text(text) => push_quoted(out, '"', text.as_str())?,
             Node::Truth(truth) => out.push_str(truth_text(*truth))?,
             Node::Fault(fault) => out.push_str(fault.text())?,
-            Node::Cell(reference) => {
-                let corner = reference.at(self.home);
-                self.push_front(out, corner.at.sheet)?;
-                push_corner(self.alloc, out, corner)?;
-            }
+            Node::Cell(reference) => self.push_cell(out, *reference)?,
             Node::Area(first, last) => {
-                let first = first.at(self.home);
-                self.push_front(out, first.at.sheet)?;
-                push_corner(self.alloc, out, first)?;
+                self.push_cell(out, *first)?;
                 out.push(':')?;
                 push_corner(self.alloc, out, last.at(self.home))?;
             }
@@ -112,6 +106,18 @@ impl<'a, S: SheetNames> Printer<'a, S> {
             is_first = false;
         }
         out.push(')')?;
+        Ok(())
+    }
+
+    // Writes a corner, with its sheet's name in front where the sheet isn't the home's.
+    fn push_cell(&self, out: &mut String, reference: Ref) -> Result<(), AllocError>
+        requires { IsInside (corner_at (base_of self.now.home) reference).at }
+        ensures { OnOk result (AppendsText (string_bytes out.old) (string_bytes out.new)
+            (printed (sheet_of self.now.home) (name_in (S.sheets self.now.sheets.now)) (cell (corner_at (base_of self.now.home) reference)))) }
+    {
+        let corner = reference.at(self.home);
+        self.push_front(out, corner.at.sheet)?;
+        push_corner(self.alloc, out, corner)?;
         Ok(())
     }
 

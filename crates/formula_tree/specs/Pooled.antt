@@ -7,7 +7,7 @@ use Rattle.formula_tree.specs.declared.reference.Ref.{Ref}
 
 -- the trees of the pool, in the order in which they were added
 abbrev pub held : Pool → List (Term Ref)
-held pool = map (λ e. relative e.1.value) pool.trees.entries
+held pool = map (λ e. relative e.tree.value) pool.trees.keys
 
 -- the pool holds the tree too: as before where it held it, and else as its last one
 abbrev pub HoldsToo : List (Term Ref) → Term Ref → List (Term Ref) → Type 0

@@ -1,7 +1,7 @@
-// The codes of trees: numbers by which a pool finds a tree.
-ghost use Rattle.std.specs.Prelude.{◌≡◌, [], ◌∷◌, IfOk, OnOk};
+// The codes of trees: numbers that a hasher is fed of a tree.
+ghost use Rattle.std.specs.Prelude.{◌≡◌, ◌∷◌};
 ghost use Rattle.formula_tree.specs.Relative.{relative, relative_list};
-ghost use Rattle.formula_tree.specs.internal.Code.{Adds, wide_code, signed_code, text_code, sheet_code, part_code, ref_code, fault_code, sign_code, op_code, code, code_all};
+ghost use Rattle.formula_tree.specs.internal.Code.{Feeds, wide_code, signed_code, text_code, sheet_code, part_code, ref_code, fault_code, sign_code, op_code, kind, code, code_all};
 
 use crate::node::{Node, TreeList};
 use crate::operator::{Op, Sign};
@@ -9,178 +9,151 @@ use crate::reference::{Part, Ref, SheetPart};
 use cell_addr::Text;
 use cell_value::FaultKind;
 use fix_num::Fixed;
-use std::alloc::{AllocError, Global};
+use std::hash::Hasher;
 
 // How many numbers a word of a code can be.
 const WORD: u64 = 1 << 32;
 
 impl Node {
-    // The code of the tree; another tree has another one.
-    pub(crate) fn code(&self, alloc: Global) -> Result<Vec<u32>, AllocError>
-        ensures { IfOk result (λ words. words.items ≡ code (relative self.now) []) }
-    {
-        let mut words = Vec::new(alloc);
-        self.add_code(&mut words)?;
-        Ok(words)
-    }
-
-    // Adds the code of the tree.
-    #[cycle(code)]
-    fn add_code(&self, words: &mut Vec<u32>) -> Result<(), AllocError>
-        ensures { OnOk result (Adds words.old.items words.new.items (code (relative self.now))) }
+    // The number of the tree's kind.
+    fn kind(&self) -> u32
+        ensures { result ≡ kind (relative self.now) }
     {
         match self {
-            Node::Number(number) => {
-                add_word(0, words)?;
-                add_number(*number, words)?;
-            }
-            Node::Text(text) => {
-                add_word(1, words)?;
-                add_text(text, words)?;
-            }
-            Node::Truth(truth) => {
-                add_word(2, words)?;
-                add_word(u32::from(*truth), words)?;
-            }
-            Node::Fault(fault) => {
-                add_word(3, words)?;
-                add_word(fault_code(*fault), words)?;
-            }
-            Node::Cell(corner) => {
-                add_word(4, words)?;
-                add_ref(*corner, words)?;
-            }
+            Node::Number(_) => 0,
+            Node::Text(_) => 1,
+            Node::Truth(_) => 2,
+            Node::Fault(_) => 3,
+            Node::Cell(_) => 4,
+            Node::Area(_, _) => 5,
+            Node::Name(_) => 6,
+            Node::Prefix(_, _) => 7,
+            Node::Percent(_) => 8,
+            Node::Binary(_, _, _) => 9,
+            Node::Call(_, _) => 10,
+            Node::Paren(_) => 11,
+        }
+    }
+
+    // Feeds the code of the tree to the hasher.
+    #[cycle(code)]
+    pub(crate) fn feed<H: Hasher>(&self, state: &mut H)
+        ensures { Feeds H.write state.old state.new (code (relative self.now)) }
+    {
+        feed_word(self.kind(), state);
+        match self {
+            Node::Number(number) => feed_number(*number, state),
+            Node::Text(text) | Node::Name(text) => feed_text(text, state),
+            Node::Truth(truth) => feed_word(u32::from(*truth), state),
+            Node::Fault(fault) => feed_word(fault_code(*fault), state),
+            Node::Cell(corner) => feed_ref(*corner, state),
             Node::Area(first, last) => {
-                add_word(5, words)?;
-                add_ref(*first, words)?;
-                add_ref(*last, words)?;
-            }
-            Node::Name(name) => {
-                add_word(6, words)?;
-                add_text(name, words)?;
+                feed_ref(*first, state);
+                feed_ref(*last, state);
             }
             Node::Prefix(sign, part) => {
-                add_word(7, words)?;
-                add_word(sign_code(*sign), words)?;
-                part.add_code(words)?;
+                feed_word(sign_code(*sign), state);
+                part.feed(state);
             }
-            Node::Percent(part) => {
-                add_word(8, words)?;
-                part.add_code(words)?;
-            }
+            Node::Percent(part) | Node::Paren(part) => part.feed(state),
             Node::Binary(op, left, right) => {
-                add_word(9, words)?;
-                add_word(op_code(*op), words)?;
-                left.add_code(words)?;
-                right.add_code(words)?;
+                feed_word(op_code(*op), state);
+                left.feed(state);
+                right.feed(state);
             }
             Node::Call(word, list) => {
-                add_word(10, words)?;
-                add_text(word, words)?;
-                list.add_code(words)?;
-            }
-            Node::Paren(part) => {
-                add_word(11, words)?;
-                part.add_code(words)?;
+                feed_text(word, state);
+                list.feed(state);
             }
         }
-        Ok(())
     }
 }
 
 impl TreeList {
-    // Adds the codes of the arguments, each after 1, and a 0 at the end.
+    // Feeds the codes of the arguments, each after 1, and a 0 at the end.
     #[cycle(code)]
-    fn add_code(&self, words: &mut Vec<u32>) -> Result<(), AllocError>
-        ensures { OnOk result (Adds words.old.items words.new.items (code_all (relative_list self.now))) }
+    fn feed<H: Hasher>(&self, state: &mut H)
+        ensures { Feeds H.write state.old state.new (code_all (relative_list self.now)) }
     {
         'arguments: for argument in self.items() {
-            add_word(1, words)?;
-            argument.add_code(words)?;
+            feed_word(1, state);
+            argument.feed(state);
         }
-        add_word(0, words)?;
-        Ok(())
+        feed_word(0, state);
     }
 }
 
-// Adds one word.
-fn add_word(word: u32, words: &mut Vec<u32>) -> Result<(), AllocError>
-    ensures { OnOk result (Adds words.old.items words.new.items (λ rest. word ∷ rest)) }
+// Feeds one word.
+fn feed_word<H: Hasher>(word: u32, state: &mut H)
+    ensures { Feeds H.write state.old state.new (λ rest. word ∷ rest) }
 {
-    words.push(word)?;
-    Ok(())
+    state.write_u32(word);
 }
 
-// Adds a number of two words, the low one first.
-fn add_wide(number: u64, words: &mut Vec<u32>) -> Result<(), AllocError>
-    ensures { OnOk result (Adds words.old.items words.new.items (wide_code number)) }
+// Feeds a number of two words, the low one first.
+fn feed_wide<H: Hasher>(number: u64, state: &mut H)
+    ensures { Feeds H.write state.old state.new (wide_code number) }
 {
-    words.push((number % WORD) as u32)?;
-    words.push((number / WORD) as u32)?;
-    Ok(())
+    feed_word((number % WORD) as u32, state);
+    feed_word((number / WORD) as u32, state);
 }
 
-// Adds the sign of a number and its absolute value, in millionths.
-fn add_number(number: Fixed, words: &mut Vec<u32>) -> Result<(), AllocError>
-    ensures { OnOk result (Adds words.old.items words.new.items (signed_code number)) }
+// Feeds the sign of a number and its absolute value, in millionths.
+fn feed_number<H: Hasher>(number: Fixed, state: &mut H)
+    ensures { Feeds H.write state.old state.new (signed_code number) }
 {
     let millionths = number.millionths();
-    words.push(u32::from(millionths < 0))?;
-    add_wide(millionths.unsigned_abs(), words)?;
-    Ok(())
+    feed_word(u32::from(millionths < 0), state);
+    feed_wide(millionths.unsigned_abs(), state);
 }
 
-// Adds the length of a text and its bytes.
-fn add_text(text: &Text, words: &mut Vec<u32>) -> Result<(), AllocError>
-    ensures { OnOk result (Adds words.old.items words.new.items (text_code text.now)) }
+// Feeds the length of a text and its bytes.
+fn feed_text<H: Hasher>(text: &Text, state: &mut H)
+    ensures { Feeds H.write state.old state.new (text_code text.now) }
 {
     let bytes = text.as_bytes();
-    add_wide(bytes.len() as u64, words)?;
+    feed_wide(bytes.len() as u64, state);
     'bytes: for byte in bytes {
-        words.push(u32::from(*byte))?;
+        feed_word(u32::from(*byte), state);
     }
-    Ok(())
 }
 
-// Adds a reference.
-fn add_ref(corner: Ref, words: &mut Vec<u32>) -> Result<(), AllocError>
-    ensures { OnOk result (Adds words.old.items words.new.items (ref_code corner)) }
+// Feeds a reference.
+fn feed_ref<H: Hasher>(corner: Ref, state: &mut H)
+    ensures { Feeds H.write state.old state.new (ref_code corner) }
 {
-    add_sheet(corner.sheet, words)?;
-    add_part(corner.row, words)?;
-    add_part(corner.col, words)?;
-    Ok(())
+    feed_sheet(corner.sheet, state);
+    feed_part(corner.row, state);
+    feed_part(corner.col, state);
 }
 
-// Adds the sheet of a reference.
-fn add_sheet(sheet: SheetPart, words: &mut Vec<u32>) -> Result<(), AllocError>
-    ensures { OnOk result (Adds words.old.items words.new.items (sheet_code sheet)) }
+// Feeds the sheet of a reference.
+fn feed_sheet<H: Hasher>(sheet: SheetPart, state: &mut H)
+    ensures { Feeds H.write state.old state.new (sheet_code sheet) }
 {
     match sheet {
-        SheetPart::Own => words.push(0)?,
+        SheetPart::Own => feed_word(0, state),
         SheetPart::Id(number) => {
-            words.push(1)?;
-            words.push(number)?;
+            feed_word(1, state);
+            feed_word(number, state);
         }
     }
-    Ok(())
 }
 
-// Adds a part: 0 or 1 in front of one without a `$`, by its sign, and 2 in front of one with a `$`.
-fn add_part(part: Part, words: &mut Vec<u32>) -> Result<(), AllocError>
-    ensures { OnOk result (Adds words.old.items words.new.items (part_code part)) }
+// Feeds a part: 0 or 1 in front of one without a `$`, by its sign, and 2 in front of one with a `$`.
+fn feed_part<H: Hasher>(part: Part, state: &mut H)
+    ensures { Feeds H.write state.old state.new (part_code part) }
 {
     match part {
         Part::Rel(by) => {
-            words.push(u32::from(by < 0))?;
-            words.push(by.unsigned_abs())?;
+            feed_word(u32::from(by < 0), state);
+            feed_word(by.unsigned_abs(), state);
         }
         Part::Abs(line) => {
-            words.push(2)?;
-            words.push(line)?;
+            feed_word(2, state);
+            feed_word(line, state);
         }
     }
-    Ok(())
 }
 
 // The number of a fault among all of them.

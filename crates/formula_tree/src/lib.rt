@@ -19,13 +19,16 @@
 mod absolute;
 mod address;
 mod code;
+mod entry;
 pub mod laws;
+mod leaves;
 mod link;
 mod node;
 mod operator;
 mod plain;
 mod pool;
 mod reference;
+mod same;
 #[cfg(test)]
 mod tests;
 

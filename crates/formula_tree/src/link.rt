@@ -182,7 +182,8 @@ fn is_same_name(a: &Text, b: &Text) -> bool
 }
 
 /// The names of the tree in the order of first occurrence, each once. Names are the same in any case
-/// of their ASCII letters; each is spelled as where it first occurs.
+/// of their ASCII letters; each is spelled as where it first occurs. Costs about the size of the tree, and
+/// each of its names is compared with those listed before it.
 pub fn names_of(alloc: Global, tree: &Tree) -> Result<Vec<Text>, AllocError>
     ensures { IfOk result (λ names. (home : Home) (t : Term Corner) → StandsFor tree.now home t → names.items ≡ once same_name (names_in t)) }
 {
@@ -193,7 +194,8 @@ pub fn names_of(alloc: Global, tree: &Tree) -> Result<Vec<Text>, AllocError>
 
 /// The places and blocks of the tree in the order of first occurrence, each once, with every reference
 /// as the place that it names in a formula at the home. A reference or block that is itself the argument
-/// of ROW, COLUMN, ROWS or COLUMNS is not among them.
+/// of ROW, COLUMN, ROWS or COLUMNS is not among them. Costs about the size of the tree, and each of its
+/// references is compared with those listed before it.
 pub fn places_of(alloc: Global, tree: &Tree, home: Home) -> Result<Vec<Link>, AllocError>
     ensures { IfOk result (λ places. (t : Term Corner) → StandsFor tree.now home t → places.items ≡ once same_link (links_in t)) }
 {

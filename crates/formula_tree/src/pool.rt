@@ -1,26 +1,30 @@
 // Where trees are shared.
-ghost use Rattle.std.specs.Prelude.{◌≡◌, ◌↔◌, [], ◌∷◌, ◌++◌, None, length, IsTrue, IfOk, OnOk, OnErr};
-ghost use Rattle.indexmap.specs.IndexMap.{get};
-ghost use Rattle.formula_tree.specs.internal.Coded.{AreCoded, same_words};
+ghost use Rattle.std.specs.Prelude.{◌≡◌, ◌↔◌, [], map, length, Contains, IsTrue, IfOk, OnOk, OnErr};
+ghost use Rattle.std.specs.List.{list_any};
+ghost use Rattle.formula_tree.specs.Term.{Term};
 ghost use Rattle.formula_tree.specs.Seen.{seen};
 ghost use Rattle.formula_tree.specs.Reference.{IsHomeInside};
 ghost use Rattle.formula_tree.specs.Relative.{relative};
 ghost use Rattle.formula_tree.specs.StandsFor.{StandsFor, ArePlacesInside, from_home};
+ghost use Rattle.formula_tree.specs.internal.Code.{same_code};
+ghost use Rattle.formula_tree.specs.declared.reference.Ref.{Ref};
 
+use crate::entry::Entry;
+use crate::leaves::Leaves;
 use crate::node::Tree;
 use crate::plain::Plain;
 use crate::reference::Home;
-use indexmap::IndexMap;
+use indexmap::IndexSet;
 use std::alloc::{AllocError, Global};
 use std::rc::Rc;
 
 /// Where trees are shared: a list of distinct trees, each as it is seen from the homes of its formulas.
+/// Trees that differ share their equal references, names and other leaves.
 #[derive(Drop)]
 pub struct Pool {
     alloc: Global,
-    // each tree by its code
-    trees: IndexMap<Vec<u32>, Tree>,
-    ghost coded: { AreCoded trees.entries },
+    trees: IndexSet<Entry>,
+    leaves: Leaves,
 }
 
 impl Pool {
@@ -32,7 +36,8 @@ impl Pool {
     {
         Ok(Pool {
             alloc,
-            trees: IndexMap::new(alloc),
+            trees: IndexSet::new(alloc),
+            leaves: Leaves::new(alloc),
         })
     }
 
@@ -58,13 +63,14 @@ impl Pool {
         ensures held { OnOk result (HoldsToo (held self.old) (relative tree.value) (held self.new)) }
         ensures err { OnErr result (held self.new ≡ held self.old) }
     {
-        let words = tree.code(self.alloc)?;
-        if let Some(shared) = self.trees.get(&words) {
-            return Ok(shared.clone()?);
+        let entry = Entry { tree };
+        if let Some(known) = self.trees.get(&entry) {
+            return Ok(known.tree.clone()?);
         }
-        let own = tree.clone()?;
-        add_new(words, own, &mut self.trees)?;
-        Ok(tree)
+        let tree = self.leaves.shared(&entry.tree)?;
+        let shared = tree.clone()?;
+        self.trees.insert(Entry { tree })?;
+        Ok(shared)
     }
 
     /// The shared tree that stands for this one in a formula at the home. The places of the tree and
@@ -83,29 +89,27 @@ impl Pool {
         Ok(shared)
     }
 
-    /// Forgets the trees that nothing but the pool holds; the others stay, in their order. Costs about
-    /// the number of trees.
-    pub fn sweep(&mut self)
-        ensures { IsPart (held self.new) (held self.old) }
+    /// Forgets each tree that is equal to none of these, which are all that somebody still holds; the
+    /// others stay, in their order, and are found again as before. Where there is no memory the pool
+    /// stays as it was. Costs about the size of these trees and of the pool's.
+    pub fn sweep(&mut self, in_use: &[Tree]) -> Result<(), AllocError>
+        ensures part { IsPart (held self.new) (held self.old) }
+        ensures kept { OnOk result ((t : Term Ref) → Contains (held self.new) t
+            ↔ (Contains (held self.old) t × Contains (map (λ tree. relative tree.value) in_use.now) t)) }
+        ensures err { OnErr result (held self.new ≡ held self.old) }
     {
+        let mut kept = IndexSet::new(self.alloc);
+        'trees: for tree in in_use {
+            kept.insert(Entry {
+                tree: tree.clone()?,
+            })?;
+        }
         self.trees.retain(
-            |_words: &Vec<u32>, tree: &mut Tree| -> bool
-                ensures { tree.new ≡ tree.old }
-            { Rc::strong_count(tree) > 1 },
+            |entry: &Entry| -> bool
+                ensures { result ≡ list_any (λ k. same_code (relative entry.now.tree.value) (relative k.tree.value)) kept.keys }
+            { kept.contains(entry) },
         );
+        self.leaves.sweep();
+        Ok(())
     }
-}
-
-// Adds a tree with its code, which no other one has.
-fn add_new(
-    words: Vec<u32>,
-    tree: Tree,
-    trees: &mut IndexMap<Vec<u32>, Tree>,
-) -> Result<(), AllocError>
-    requires { get same_words trees.old words ≡ None }
-    ensures ok { OnOk result (trees.new.entries ≡ trees.old.entries ++ (words, tree) ∷ []) }
-    ensures err { OnErr result (trees.new.entries ≡ trees.old.entries) }
-{
-    trees.insert(words, tree)?;
-    Ok(())
 }

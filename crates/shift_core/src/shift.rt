@@ -68,6 +68,11 @@ impl Shift {
         ensures { result ≡ form_of self.now }
     {
         let lines = |sheet, axis, edit| Form::Lines { sheet, axis, edit };
+        let moved = |from, count, before| Edit::Move {
+            from,
+            count,
+            before,
+        };
         match *self {
             Shift::InsertRows { sheet, at, count } => {
                 lines(sheet, Axis::Rows, Edit::Insert { at, count })
@@ -86,29 +91,13 @@ impl Shift {
                 from,
                 count,
                 before,
-            } => lines(
-                sheet,
-                Axis::Rows,
-                Edit::Move {
-                    from,
-                    count,
-                    before,
-                },
-            ),
+            } => lines(sheet, Axis::Rows, moved(from, count, before)),
             Shift::MoveCols {
                 sheet,
                 from,
                 count,
                 before,
-            } => lines(
-                sheet,
-                Axis::Cols,
-                Edit::Move {
-                    from,
-                    count,
-                    before,
-                },
-            ),
+            } => lines(sheet, Axis::Cols, moved(from, count, before)),
             Shift::MoveBlock { source, to } => Form::Cells { source, to },
             Shift::DropSheet { sheet } => Form::Sheet { sheet },
         }

@@ -207,6 +207,15 @@ const ENDS_OVER_MOVED: [(Axis, u32, u32, u32, Ends, Ends, Ends, bool); 14] = [
     (Axis::Cols, 9, 2, 12, (2, 5), (2, 5), (2, 5), false),
 ];
 
+// Three rows of two cells.
+const SOURCE: Block = Block {
+    sheet: SHEET,
+    top: 2,
+    left: 1,
+    bottom: 4,
+    right: 2,
+};
+
 // Three rows of two cells moved down by a row; a row and a column, where they go, and which came there.
 const OVERWRITTEN_PLACES: [(u32, u32, Option<Ends>, Option<Ends>); 5] = [
     (2, 1, Some((3, 1)), None),
@@ -384,6 +393,15 @@ fn ends_of(b: Option<Block>, axis: Axis) -> Option<Ends> {
     b.map(|c| (c.span(axis).first, c.span(axis).last))
 }
 
+// A move of lines.
+fn move_lines(from: u32, count: u32, before: u32) -> Edit {
+    Edit::Move {
+        from,
+        count,
+        before,
+    }
+}
+
 #[test]
 fn lines_move_as_in_the_tables(rt: HostRuntime) {
     for (axis, at, count, line, after, before) in INSERTED_LINES {
@@ -393,77 +411,41 @@ fn lines_move_as_in_the_tables(rt: HostRuntime) {
         expect_line(&rt, axis, Edit::Delete { at, count }, line, after, before);
     }
     for (axis, from, count, before, line, goes, came) in MOVED_LINES {
-        expect_line(
-            &rt,
-            axis,
-            Edit::Move {
-                from,
-                count,
-                before,
-            },
-            line,
-            Some(goes),
-            Some(came),
-        );
-    }
-    for (axis, at, count, ends, after, before, bent, cut) in ENDS_OVER_INSERTED {
-        expect_ends(
-            &rt,
-            axis,
-            Edit::Insert { at, count },
-            ends,
-            (after, before, bent, cut),
-        );
-    }
-    for (axis, at, count, ends, after, before, bent) in ENDS_OVER_DELETED {
-        expect_ends(
-            &rt,
-            axis,
-            Edit::Delete { at, count },
-            ends,
-            (after, before, bent, false),
-        );
-    }
-    for (axis, from, count, before, ends, goes, came, bent) in ENDS_OVER_MOVED {
-        expect_ends(
-            &rt,
-            axis,
-            Edit::Move {
-                from,
-                count,
-                before,
-            },
-            ends,
-            (Some(goes), Some(came), bent, false),
-        );
+        let edit = move_lines(from, count, before);
+        expect_line(&rt, axis, edit, line, Some(goes), Some(came));
     }
 }
 
 #[test]
-fn cells_move_over_others_and_sheets_go(rt: HostRuntime) {
-    // Three rows of two cells, moved down by one row.
-    let source = Block {
-        sheet: SHEET,
-        top: 2,
-        left: 1,
-        bottom: 4,
-        right: 2,
-    };
+fn ends_move_as_in_the_tables(rt: HostRuntime) {
+    for (axis, at, count, ends, after, before, bent, cut) in ENDS_OVER_INSERTED {
+        let edit = Edit::Insert { at, count };
+        expect_ends(&rt, axis, edit, ends, (after, before, bent, cut));
+    }
+    for (axis, at, count, ends, after, before, bent) in ENDS_OVER_DELETED {
+        let edit = Edit::Delete { at, count };
+        expect_ends(&rt, axis, edit, ends, (after, before, bent, false));
+    }
+    for (axis, from, count, before, ends, goes, came, bent) in ENDS_OVER_MOVED {
+        let edit = move_lines(from, count, before);
+        expect_ends(&rt, axis, edit, ends, (Some(goes), Some(came), bent, false));
+    }
+}
+
+// A place by its sheet, its row and its column.
+fn place(sheet: u32, row: u32, col: u32) -> Place {
+    Place { sheet, row, col }
+}
+
+#[test]
+fn cells_move_over_others(rt: HostRuntime) {
     let down = Shift::MoveBlock {
-        source,
-        to: Place {
-            sheet: SHEET,
-            row: 3,
-            col: 1,
-        },
+        source: SOURCE,
+        to: place(SHEET, 3, 1),
     };
     assert!(rt; sound(&down));
     for (row, col, after, before) in OVERWRITTEN_PLACES {
-        let p = Place {
-            sheet: SHEET,
-            row,
-            col,
-        };
+        let p = place(SHEET, row, col);
         assert_eq!(rt;
             moved_place(&down, p).map(|q| (q.row, q.col)),
             after,
@@ -477,11 +459,9 @@ fn cells_move_over_others_and_sheets_go(rt: HostRuntime) {
     }
     for (top, bottom, after, before) in OVERWRITTEN_BLOCKS {
         let b = Block {
-            sheet: SHEET,
             top,
-            left: 1,
             bottom,
-            right: 2,
+            ..SOURCE
         };
         assert_eq!(rt;
             moved_block(&down, b).map(|c| (c.top, c.bottom)),
@@ -494,37 +474,35 @@ fn cells_move_over_others_and_sheets_go(rt: HostRuntime) {
             "{b:?} before"
         );
     }
+}
 
-    // The same cells, moved into the last corner of another sheet.
-    let corner = Place {
-        sheet: 2,
-        row: 39_997,
-        col: 18_276,
+#[test]
+fn cells_move_to_another_sheet(rt: HostRuntime) {
+    // Into the last corner.
+    let away = Shift::MoveBlock {
+        source: SOURCE,
+        to: place(2, 39_997, 18_276),
     };
-    let away = Shift::MoveBlock { source, to: corner };
     assert!(rt; sound(&away));
-    let last = Place {
-        sheet: 2,
-        row: 39_999,
-        col: 18_277,
-    };
-    let moved = Place {
-        sheet: SHEET,
-        row: 4,
-        col: 2,
-    };
+    let last = place(2, 39_999, 18_277);
+    let moved = place(SHEET, 4, 2);
     assert_eq!(rt; moved_place(&away, moved), Some(last));
     assert_eq!(rt; moved_place(&away, last), None);
     assert_eq!(rt; back_place(&away, last), Some(moved));
     assert_eq!(rt; back_place(&away, moved), None);
+}
 
+#[test]
+fn a_dropped_sheet_is_lost(rt: HostRuntime) {
     let drop = Shift::DropSheet { sheet: SHEET };
     assert!(rt; sound(&drop));
-    assert_eq!(rt; moved_place(&drop, moved), None);
-    assert_eq!(rt; moved_place(&drop, last), Some(last));
-    assert_eq!(rt; back_place(&drop, moved), None);
-    assert_eq!(rt; moved_block(&drop, source), None);
-    assert_eq!(rt; is_bent(&drop, source), true);
+    let lost = place(SHEET, 4, 2);
+    let other = place(2, 39_999, 18_277);
+    assert_eq!(rt; moved_place(&drop, lost), None);
+    assert_eq!(rt; moved_place(&drop, other), Some(other));
+    assert_eq!(rt; back_place(&drop, lost), None);
+    assert_eq!(rt; moved_block(&drop, SOURCE), None);
+    assert_eq!(rt; is_bent(&drop, SOURCE), true);
 }
 
 #[test]

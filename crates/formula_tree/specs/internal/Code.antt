@@ -1,7 +1,9 @@
 -- The code of a tree: numbers from which the tree can be read back, so that two trees have one code
--- exactly where they are equal. A pool finds trees by their codes. Each definition puts a code in front
--- of what follows it.
-use Rattle.std.specs.Prelude.{◌≡◌, ℕ, ℤ, pos, ◌/◌, ◌%◌, Bool, if◌then◌else◌, int_lt, unsigned_abs, List, ◌∷◌, ◌++◌, length}
+-- exactly where they are equal. A pool's trees are hashed by their codes. Each definition puts a code in
+-- front of what follows it.
+use Rattle.std.specs.Prelude.{◌≡◌, ℕ, ℤ, pos, ◌/◌, ◌%◌, Bool, if◌then◌else◌, int_lt, unsigned_abs, List, [], ◌∷◌, ◌++◌, length, fold, bytes_eq}
+use Rattle.std.specs.List.{flat_map}
+use Rattle.std.specs.Hash as fed
 use Rattle.cell_value.specs.declared.fault.FaultKind.{FaultKind}
 use Rattle.cell_value.specs.declared.fault.FaultKind.TheVariants as kinds
 use Rattle.formula_tree.specs.Term.{Term, number, text, truth, fault, cell, area, name, prefix, percent, binary, call, paren, Terms, no_terms, term}
@@ -16,9 +18,17 @@ use Rattle.formula_tree.specs.declared.reference.Ref.{Ref}
 use Rattle.formula_tree.specs.declared.reference.SheetPart.{SheetPart}
 use Rattle.formula_tree.specs.declared.reference.SheetPart.TheVariants.{Own, Id}
 
--- the new code is the old one with more after it, where more puts what was added in front of what follows
-abbrev pub Adds : List ℕ → List ℕ → (List ℕ → List ℕ) → Type 0
-Adds old new more = (rest : List ℕ) → new ++ rest ≡ old ++ more rest
+-- what a hasher is fed of a code: four bytes a number
+abbrev pub fed_words : List ℕ → List (List ℕ)
+fed_words = flat_map fed.u32
+
+-- the state of a hasher that is fed a code
+unfoldable pub state_after : {S : Type 0} → (S → List ℕ → S) → S → List ℕ → S
+state_after write state words = fold write state (fed_words words)
+
+-- the new state of a hasher is the old one after a code, where `code` puts that in front of what follows
+abbrev pub Feeds : {S : Type 0} → (S → List ℕ → S) → S → S → (List ℕ → List ℕ) → Type 0
+Feeds write old new code = (rest : List ℕ) → state_after write new rest ≡ state_after write old (code rest)
 
 -- a number of two words, the low one first
 abbrev pub wide_code : ℕ → List ℕ → List ℕ
@@ -75,6 +85,21 @@ op_code op.Greater = 9
 op_code op.AtMost = 10
 op_code op.AtLeast = 11
 
+-- the number of a tree's kind
+abbrev pub kind : Term Ref → ℕ
+kind (number m) = 0
+kind (text w) = 1
+kind (truth b) = 2
+kind (fault f) = 3
+kind (cell r) = 4
+kind (area r q) = 5
+kind (name w) = 6
+kind (prefix s t) = 7
+kind (percent t) = 8
+kind (binary o l r) = 9
+kind (call w ts) = 10
+kind (paren t) = 11
+
 abbrev mutual
   -- a tree begins with the number of its kind
   pub code : Term Ref → List ℕ → List ℕ
@@ -95,3 +120,7 @@ abbrev mutual
   pub code_all : Terms Ref → List ℕ → List ℕ
   code_all no_terms rest = 0 ∷ rest
   code_all (term t ts) rest = 1 ∷ code t (code_all ts rest)
+
+-- the trees have the same code
+abbrev pub same_code : Term Ref → Term Ref → Bool
+same_code t u = bytes_eq (code t []) (code u [])
