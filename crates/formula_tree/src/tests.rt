@@ -4,7 +4,7 @@ ghost use Rattle.formula_tree.specs.Term.{binary, cell};
 ghost use Rattle.formula_tree.specs.declared.operator.Op.TheVariants as ops;
 
 use crate::{
-    Corner, Home, Link, NO_LINE, Node, Op, Part, Plain, Pool, Ref, SheetPart, Tree, TreeList,
+    Corner, Home, Link, NO_LINE, Node, Op, Part, Plain, Pool, Ref, SheetPart, Sign, Tree, TreeList,
     depth, names_of, places_of, to_absolute,
 };
 use cell_addr::{COLS, NO_SHEET, Place, ROWS, Text};
@@ -102,6 +102,34 @@ fn is_cell(tree: &Plain, corner: Corner) -> bool {
         Plain::Cell(found) => *found == corner,
         _ => false,
     }
+}
+
+// A sign in front of the cell one row further down and one column further right.
+fn signed(alloc: Global, sign: Sign) -> Result<Tree, AllocError> {
+    let cell = Rc::new(alloc, Node::Cell(relative(1, 1)))?;
+    Ok(Rc::new(alloc, Node::Prefix(sign, cell))?)
+}
+
+// What stands after the sign.
+fn operand(tree: &Tree) -> Option<&Tree> {
+    match tree.as_ref() {
+        Node::Prefix(_, part) => Some(part),
+        _ => None,
+    }
+}
+
+#[test]
+fn trees_that_differ_share_their_leaves(rt: HostRuntime) -> Result<(), Fail> {
+    let alloc = rt.alloc();
+    let mut pool = Pool::new(alloc)?;
+    let plus = pool.share(signed(alloc, Sign::Plus)?)?;
+    let minus = pool.share(signed(alloc, Sign::Minus)?)?;
+    assert!(rt; pool.len() == 2);
+    match (operand(&plus), operand(&minus)) {
+        (Some(first), Some(second)) => assert!(rt; Tree::ptr_eq(first, second)),
+        _ => return Err(Fail::from(AllocError)),
+    }
+    Ok(())
 }
 
 #[test]
