@@ -36,7 +36,7 @@ cycle_is n a b y m d ye me de first second =
     let here = since_first y m d a first in
     let start = since_first (pos 0) 1 1 b second in
     let same : day_count y m d ≡ day_count (pos (n / 12)) (n % 12 + 1) 1 =
-      ap (λ k. day_count k m d) ye ∙ ap (λ k. day_count (pos (n / 12)) k d) me ∙ ap (day_count (pos (n / 12)) (n % 12 + 1)) de in
+    ap (λ k. day_count k m d) ye ∙ ap (λ k. day_count (pos (n / 12)) k d) me ∙ ap (day_count (pos (n / 12)) (n % 12 + 1)) de in
     omega arith
 
 -- what a date is in the calendar
@@ -76,6 +76,7 @@ date_of date y m d h e = by_sign y h count
   where
     count : day_count y m d ≡ date + 4346384
     count = let first = since_first y m d (date + 4346018) e in omega arith
+
     by_sign : (z : ℤ) → IsCivilDate z m d → day_count z m d ≡ date + 4346384 → IsDateOf date z m d
     by_sign (pos a) g c = in_year date a m d g c
     by_sign (negsuc a) g c =
@@ -123,8 +124,8 @@ dates_are_the_calendars date h =
     let m = n % 12 in
     let year : calendar_year n ≡ pos a = omega (arith, signed_arith) in
     let here : month_start n ≡ 146097 * 1000000000 + (day_count (pos a) (m + 1) 1 - day_count (pos 0) 1 1) =
-      let e : n ≡ (a + YEARS_BEFORE) * 12 + m = omega arith in
-      ap month_start e ∙ month_start-year a m (omega arith) in
+    let e : n ≡ (a + YEARS_BEFORE) * 12 + m = omega arith in
+    ap month_start e ∙ month_start-year a m (omega arith) in
     let least = first_month a (m + 1) (omega arith) (omega arith) in
     let next = months_have_their_lengths n in
     let length : days_in_month (calendar_year n) (m + 1) ≡ days_in_month (pos a) (m + 1) = ap (λ y. days_in_month y (m + 1)) year in

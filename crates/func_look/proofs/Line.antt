@@ -1,16 +1,14 @@
 -- The filled cells of a line, and the values of all its cells: for `taken`.
-use Rattle.std.proofs.Common.{◌≡◌, ◌≢◌, ◌∙◌, sym, ap, refl, ℕ, zero, suc, ◌+◌, ◌-◌, ◌*◌, ◌/◌, ◌%◌, ◌<◌, ◌≤◌, ◌⊎◌, inl, inr, Bool, true, false, not, ◌&&◌, cond, List, [], ◌∷◌, ◌++◌, Option, Some, None, replicate, length, map, drop, get_or, zero-add, add-zero, arith, eqb, ltb, leb}
+use Rattle.std.proofs.Common.{◌≡◌, ◌∙◌, sym, ap, refl, ℕ, zero, suc, ◌+◌, ◌-◌, ◌*◌, ◌/◌, ◌%◌, ◌<◌, ◌≤◌, ◌⊎◌, inl, inr, Bool, true, false, ◌&&◌, cond, List, [], ◌∷◌, ◌++◌, replicate, length, drop, get_or, zero-add, add-zero, arith, eqb, ltb}
 use Rattle.std.proofs.Math.Nat.{lt_of_mul-lt-mul_right, mul-div_cancel, mul-mod_left}
-use Rattle.std.proofs.lemmas.Bool.{and_parts, and_from, cases_lt, cases_eq}
+use Rattle.std.proofs.lemmas.Bool.{and_parts, and_from, cases_lt}
 use Rattle.std.proofs.lemmas.Bool.Decides.{nat_tests}
-use Rattle.std.proofs.lemmas.List.{length-replicate, ext_get_or, drop_more}
+use Rattle.std.proofs.lemmas.List.{ext_get_or, drop_more}
 use Rattle.cell_value.specs.declared.area.Filled.{Filled}
 use Rattle.cell_value.specs.declared.scalar.Scalar.{Scalar}
 use Rattle.cell_value.specs.declared.scalar.Scalar.TheVariants.{Empty}
 use Rattle.cell_value.specs.Filled.{are_filled, spread}
-use Rattle.cell_value.specs.Scalar.{is_empty}
 use Rattle.cell_value.proofs.Spread.{IsNext, next, length-spread}
-use Rattle.cell_value.specs.Cells.{Cells, value_at}
 use Rattle.func_look.specs.declared.taken.Line.{Line}
 use Rattle.func_look.specs.Lookups.{values_from}
 use Rattle.func_look.specs.internal.Search.{line_values}

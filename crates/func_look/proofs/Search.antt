@@ -1,5 +1,5 @@
 -- Look-ups item after item, over all items and over those that aren't empty: for `taken`.
-use Rattle.std.proofs.Common.{◌≡◌, ◌≢◌, ◌∙◌, sym, ap, refl, ℕ, zero, suc, ◌+◌, ◌-◌, ◌*◌, ◌/◌, ◌%◌, ◌<◌, ◌≤◌, ◌⊎◌, inl, inr, Bool, true, false, not, ◌&&◌, cond, List, [], ◌∷◌, ◌++◌, Option, Some, None, is_some, replicate, length, map, drop, get_or, zero-add, add-zero, add-one, arith, eqb, ltb, leb}
+use Rattle.std.proofs.Common.{◌≡◌, ◌∙◌, sym, ap, refl, ℕ, zero, suc, ◌+◌, ◌-◌, Bool, true, false, cond, List, [], ◌∷◌, ◌++◌, Option, Some, None, is_some, replicate, map, zero-add, add-zero, arith}
 use Rattle.std.specs.List.{position_from, enumerate_from}
 use Rattle.std.specs.Option.{option_map, option_map_or, option_or}
 use Rattle.std.specs.declared.cmp.Ordering.{Ordering}
@@ -7,7 +7,7 @@ use Rattle.std.specs.declared.cmp.Ordering.TheVariants.{Less, Equal, Greater}
 use Rattle.std.specs.Ordering.{is_some_and, is_eq, is_lt, is_gt}
 use Rattle.cell_value.specs.declared.scalar.Scalar.{Scalar}
 use Rattle.cell_value.specs.declared.scalar.Scalar.TheVariants.{Empty, Number, Text, Truth, Fault}
-use Rattle.cell_value.specs.Scalar.{is_empty, same_kind, order_of}
+use Rattle.cell_value.specs.Scalar.{is_empty}
 use Rattle.std.proofs.lemmas.List.{append-nil}
 use Rattle.cell_value.specs.declared.area.Filled.{Filled}
 use Rattle.cell_value.specs.Filled.{are_filled, spread}
@@ -16,7 +16,7 @@ use Rattle.func_args.specs.Kinds.{order_in_kind}
 use Rattle.func_look.specs.declared.taken.Mode.{Mode}
 use Rattle.func_look.specs.declared.taken.Mode.TheVariants.{Exact, Rising, Falling}
 use Rattle.func_look.specs.Taken.{taken, last_before, last_position, before_first, compares, is_of_kind}
-use Rattle.func_look.specs.internal.Search.{search, takes, is_end, taken_at}
+use Rattle.func_look.specs.internal.Search.{search, is_end, taken_at}
 
 -- what follows an item
 search-cons : (mode : Mode) (x : Scalar) (last : Option ℕ) (at : ℕ) (item : Scalar) (items : List (ℕ × Scalar))

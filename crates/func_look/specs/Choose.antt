@@ -1,5 +1,5 @@
 -- CHOOSE. Source: OpenFormula.
-use Rattle.std.specs.Prelude.{ℕ, ◌-◌, if◌then◌else◌, ℤ, pos, unsigned_abs, int_lt, List, [], ◌∷◌, Option, Some, None, Result, Ok, Err, slice_get}
+use Rattle.std.specs.Prelude.{◌-◌, if◌then◌else◌, ℤ, pos, unsigned_abs, int_lt, List, ◌∷◌, Option, Some, None, Result, Ok, Err, slice_get}
 use Rattle.cell_value.specs.declared.argument.Arg.{Arg}
 use Rattle.cell_value.specs.declared.argument.Arg.TheVariants.{One, Many}
 use Rattle.cell_value.specs.declared.fault.FaultKind.{FaultKind}

@@ -5,7 +5,6 @@ use Rattle.cell_value.specs.declared.argument.Arg.{Arg}
 use Rattle.cell_value.specs.declared.fault.FaultKind.{FaultKind}
 use Rattle.cell_value.specs.declared.fault.FaultKind.TheVariants.{Na, Ref, Value}
 use Rattle.cell_value.specs.declared.scalar.Scalar.{Scalar}
-use Rattle.cell_value.specs.declared.scalar.Scalar.TheVariants.{Fault}
 use Rattle.cell_value.specs.Cells.{Cells, value_at}
 use Rattle.func_args.specs.Answers.{and_then}
 use Rattle.func_args.specs.Arguments.{block, whole}

@@ -1,6 +1,6 @@
 -- Which item of a list a look-up takes. Source: OpenFormula's look-ups; what stands in a list that isn't
 -- sorted is this project's own.
-use Rattle.std.specs.Prelude.{ℕ, suc, ℤ, pos, Bool, if◌then◌else◌, List, [], ◌∷◌, Option, Some, None, is_some}
+use Rattle.std.specs.Prelude.{ℕ, suc, pos, Bool, if◌then◌else◌, List, [], ◌∷◌, Option, Some, None, is_some}
 use Rattle.std.specs.List.{position_from}
 use Rattle.std.specs.Option.{option_map, option_or}
 use Rattle.std.specs.declared.cmp.Ordering.{Ordering}

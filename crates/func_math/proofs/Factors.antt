@@ -1,5 +1,5 @@
 -- Products factor after factor, and at once: for PRODUCT.
-use Rattle.std.proofs.Common.{◌≡◌, ◌∙◌, sym, ap, refl, ℕ, ◌+◌, ◌<◌, ℤ, pos, Bool, false, List, [], ◌∷◌, ◌++◌, Option, Some, None, Result, Ok, Err, length, map, drop, get_or, unwrap_or, eqb, add-one, arith}
+use Rattle.std.proofs.Common.{◌≡◌, ◌∙◌, sym, ap, refl, ℕ, ◌+◌, ◌<◌, ℤ, pos, false, List, [], ◌∷◌, ◌++◌, Option, Some, None, Result, Ok, Err, length, map, drop, get_or, unwrap_or, eqb}
 use Rattle.std.specs.List.{flat_map}
 use Rattle.std.proofs.lemmas.List.{drop_more}
 use Rattle.fix_num.specs.declared.number.TheConstants.{ONE}
@@ -11,7 +11,7 @@ use Rattle.cell_value.specs.declared.scalar.Scalar.TheVariants.{Empty, Number, T
 use Rattle.cell_value.specs.Filled.{spread}
 use Rattle.func_args.proofs.Walk.{value_of, of_filled}
 use Rattle.func_args.specs.Answers.{and_then}
-use Rattle.func_args.specs.Lists.{listed, list_values}
+use Rattle.func_args.specs.Lists.{listed}
 use Rattle.func_math.specs.Products.{numbers_in, multiplied_by, product_of, product_value}
 use Rattle.func_math.specs.internal.Factors.{multiplied, with_factor, with_factors}
 

@@ -1,10 +1,10 @@
 -- Rounding at more places than a number has, and before all of them: for ROUND, ROUNDUP and ROUNDDOWN.
-use Rattle.std.proofs.Common.{◌≡◌, ◌∙◌, sym, ap, refl, ℕ, zero, suc, ◌+◌, ◌-◌, ◌*◌, ◌/◌, ◌%◌, ◌^◌, ◌<◌, ◌≤◌, ◌≢◌, Bool, true, false, ℤ, pos, negsuc, neg_ℤ, ◌<ℤ◌, ◌≤ℤ◌, unsigned_abs, Ok, Err, arith}
-use Rattle.std.proofs.Math.Nat.{pow-le-pow_right, zero-mul, one-mul, one-le-pow, mod-eq_of_lt}
+use Rattle.std.proofs.Common.{◌≡◌, ◌∙◌, sym, ap, refl, ℕ, zero, suc, ◌+◌, ◌-◌, ◌*◌, ◌/◌, ◌%◌, ◌^◌, ◌<◌, ◌≤◌, ◌≢◌, Bool, true, false, ℤ, pos, negsuc, ◌<ℤ◌, ◌≤ℤ◌, unsigned_abs, Ok, Err, arith}
+use Rattle.std.proofs.Math.Nat.{pow-le-pow_right, zero-mul, one-le-pow, mod-eq_of_lt}
 use Rattle.std.proofs.lemmas.Nat.{div-mul-add}
 use Rattle.std.proofs.lemmas.Bool.Decides.{nat_tests}
 use Rattle.std.proofs.lemmas.Int.{ints}
-use Rattle.fix_num.specs.Number.{IsInside, within, signed, is_negative, unit, rounded_to}
+use Rattle.fix_num.specs.Number.{IsInside, within, signed, is_negative, unit}
 use Rattle.fix_num.specs.declared.error.NumError.TheVariants.{Range}
 use Rattle.fix_num.proofs.Rounded.{rounded_to_fine, rounded_to_far}
 use Rattle.cell_value.specs.declared.fault.FaultKind.TheVariants.{Num}

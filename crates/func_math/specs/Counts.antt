@@ -1,5 +1,5 @@
 -- COUNTA, COUNTBLANK and COUNTIF. Source: OpenFormula.
-use Rattle.std.specs.Prelude.{ℕ, not, List, [], ◌∷◌, Result, Ok, Err, ◌+◌}
+use Rattle.std.specs.Prelude.{ℕ, not, List, [], ◌∷◌, Result, Err}
 use Rattle.std.specs.List.{count_by, flat_map}
 use Rattle.cell_value.specs.declared.argument.Arg.{Arg}
 use Rattle.cell_value.specs.declared.argument.Arg.TheVariants.{One, Many}

@@ -1,12 +1,11 @@
 -- SUM, AVERAGE, MIN, MAX and COUNT. Source: OpenFormula; that a sum is exact and tested for range once,
 -- and that an average is rounded half away from zero, is this project's own.
-use Rattle.std.specs.Prelude.{ℕ, ◌==◌, ℤ, pos, if◌then◌else◌, Option, Some, None, unwrap_or, Result, Ok, Err}
+use Rattle.std.specs.Prelude.{◌==◌, ℤ, pos, if◌then◌else◌, Option, Some, None, unwrap_or, Result, Ok, Err}
 use Rattle.fix_num.specs.Number.{nearest}
 use Rattle.cell_value.specs.declared.fault.FaultKind.{FaultKind}
 use Rattle.cell_value.specs.declared.fault.FaultKind.TheVariants.{Div0, Na}
-use Rattle.cell_value.specs.declared.scalar.Scalar.{Scalar}
 use Rattle.cell_value.specs.declared.summary.Summary.{Summary}
-use Rattle.func_args.specs.Answers.{and_then, gives, counted, number_value}
+use Rattle.func_args.specs.Answers.{and_then, gives, counted}
 use Rattle.func_math.specs.declared.function.MathFn.{MathFn}
 use Rattle.func_math.specs.declared.function.MathFn.TheVariants.{Sum, Average, Min, Max, Count}
 

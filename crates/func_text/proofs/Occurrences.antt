@@ -1,5 +1,5 @@
 -- Where a text occurs in another, by bytes and by characters: for `first_place` and `replaced`.
-use Rattle.std.proofs.Common.{◌≡◌, ◌∙◌, sym, ap, subst, refl, inl, inr, ℕ, zero, suc, ◌+◌, ◌<◌, ◌≤◌, Bool, true, false, cond, List, [], ◌∷◌, ◌++◌, Option, Some, None, length, take, drop, encode_utf8, encode_utf8_all, arith}
+use Rattle.std.proofs.Common.{◌≡◌, ◌∙◌, sym, ap, subst, refl, inl, inr, ℕ, suc, ◌+◌, ◌<◌, ◌≤◌, true, false, cond, List, [], ◌∷◌, ◌++◌, Some, None, length, take, drop, encode_utf8, encode_utf8_all, arith}
 use Rattle.std.specs.Prelude.{IsUtf8, IsCharBoundary, chars}
 use Rattle.std.specs.Option.{option_map}
 use Rattle.std.specs.Str.Pattern.{FindsText}

@@ -1,8 +1,7 @@
 -- A text with one more occurrence replaced, and the rest still to come: for `replaced`.
-use Rattle.std.proofs.Common.{◌≡◌, ◌∙◌, sym, ap, subst, refl, ℕ, zero, suc, ◌+◌, ◌<◌, ◌≤◌, ◌==◌, Bool, true, false, cond, List, [], ◌∷◌, ◌++◌, Option, Some, None, length, take, drop, encode_utf8_all, arith}
+use Rattle.std.proofs.Common.{◌≡◌, ◌∙◌, sym, ap, subst, refl, ℕ, ◌+◌, ◌<◌, ◌≤◌, ◌==◌, Bool, true, false, cond, List, [], ◌∷◌, ◌++◌, Option, Some, None, length, take, drop, encode_utf8_all, arith}
 use Rattle.std.specs.Prelude.{IsUtf8, chars}
 use Rattle.std.specs.Str.Pattern.{FindsText}
-use Rattle.std.proofs.lemmas.Bool.{cases_Bool}
 use Rattle.std.proofs.lemmas.List.{append_assoc, length-append}
 use Rattle.std.proofs.lemmas.Str.{chars-nil, encodes-append, encodes-chars}
 use Rattle.cell_value.specs.declared.fault.FaultKind.TheVariants.{Value}
@@ -10,12 +9,11 @@ use Rattle.cell_value.specs.declared.scalar.Scalar.TheVariants.{Fault}
 use Rattle.cell_value.specs.declared.scalar.TheConstants.{MAX_MADE_TEXT}
 use Rattle.cell_value.specs.Scalar.{made_text}
 use Rattle.func_text.specs.Arguments.{made}
-use Rattle.func_text.specs.Find.{first_place}
 use Rattle.func_text.specs.Laws.{replaced_from}
 use Rattle.func_text.specs.Substitute.{replaced, replaced_all, stands_for}
 use Rattle.func_text.proofs.FromTheLeft.{from_the_left}
 use Rattle.func_text.proofs.Joining.{made_long}
-use Rattle.func_text.proofs.Occurrences.{after_utf8, occurs_nowhere, occurs_first, chars_before, chars_behind, before_bytes}
+use Rattle.func_text.proofs.Occurrences.{occurs_nowhere, occurs_first, chars_before, chars_behind, before_bytes}
 
 some_chars : (cs : List ℕ) → 0 < length (encode_utf8_all cs) → 0 < length cs
 some_chars [] h = h
@@ -66,10 +64,10 @@ module _ (which : Option ℕ) (old new : List ℕ) (uo : IsUtf8 old) (un : IsUtf
       let stands = stands_for which (chars old) (chars new) number in
       let more = λ (xs : List ℕ). replaced which (chars old) (chars new) (number + 1) 0 xs in
       ap encode_utf8_all (
-        from_the_left which (chars old) (chars new) cs number some_old
-        ∙ ap (replaced_from which (chars old) (chars new) number cs) (occurs_first old rest uo ur i j found fits)
-        ∙ ap (λ xs. xs ++ (stands ++ more (drop (length before + length (chars old)) cs))) (chars_before old rest uo ur i j found fits)
-        ∙ ap (λ xs. before ++ (stands ++ more xs)) (chars_behind old rest uo ur i j found fits)
+      from_the_left which (chars old) (chars new) cs number some_old
+      ∙ ap (replaced_from which (chars old) (chars new) number cs) (occurs_first old rest uo ur i j found fits)
+      ∙ ap (λ xs. xs ++ (stands ++ more (drop (length before + length (chars old)) cs))) (chars_before old rest uo ur i j found fits)
+      ∙ ap (λ xs. before ++ (stands ++ more xs)) (chars_behind old rest uo ur i j found fits)
       )
       ∙ encodes-append before (stands ++ more (chars (drop j rest)))
       ∙ ap (λ xs. xs ++ encode_utf8_all (stands ++ more (chars (drop j rest)))) (before_bytes old rest uo ur i j found fits)

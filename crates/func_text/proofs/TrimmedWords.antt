@@ -3,8 +3,8 @@ use Rattle.std.proofs.Common.{◌≡◌, ◌≢◌, ◌∙◌, sym, ap, subst, r
 use Rattle.std.proofs.lemmas.Bool.{cases_Bool}
 use Rattle.std.proofs.lemmas.Bool.Decides.{Decides-eqb}
 use Rattle.std.specs.List.{slice_split, onto_first}
-use Rattle.func_text.specs.Laws.{is_some_text, words, IsTrimmed, TrimsToWords}
-use Rattle.func_text.specs.Trim.{has_word, kept, trimmed}
+use Rattle.func_text.specs.Laws.{is_some_text, words, TrimsToWords}
+use Rattle.func_text.specs.Trim.{has_word, kept}
 use Rattle.func_text.specs.declared.trim.TheConstants.{SPACE}
 
 -- what the walk leaves of a space and what follows, and of another character
@@ -129,8 +129,7 @@ kept_words (c ∷ cs) = elim (cases_Bool (c == SPACE)) [
   | inl e ↦
       let rest = (kept_words cs).1 in
       let follows = λ (w : has_word cs ≡ true). gap e rest in
-      let nothing = λ (w : has_word cs ≡ false). ends e rest w in
-      (
+      let nothing = λ (w : has_word cs ≡ false). ends e rest w in (
         subst (λ xs. SameRuns xs (c ∷ cs)) (sym (kept-space true c cs e)) (by_choice (λ xs. SameRuns xs (c ∷ cs)) (has_word cs) (SPACE ∷ kept false cs) (kept false cs) follows nothing),
         ap words (kept-space false c cs e) ∙ rest ∙ sym (ap (filter is_some_text) (runs-space c cs e)),
       )
@@ -148,6 +147,7 @@ kept_words (c ∷ cs) = elim (cases_Bool (c == SPACE)) [
       right = runs-space c cs e;
       same = rest;
     }
+
     ends : (c == SPACE) ≡ true → words (kept false cs) ≡ words cs → has_word cs ≡ false → SameRuns (kept false cs) (c ∷ cs)
     ends e rest w = record {
       run = [];

@@ -1,5 +1,5 @@
 -- What SUBSTITUTE's and TRIM's walks through a text amount to.
-use Rattle.std.specs.Prelude.{◌≡◌, ◌≢◌, ◌<◌, ℕ, ◌+◌, ◌-◌, ◌==◌, Bool, true, false, List, [], ◌∷◌, ◌++◌, Option, Some, None, drop, filter, length, slice_index, take}
+use Rattle.std.specs.Prelude.{◌≡◌, ◌≢◌, ◌<◌, ℕ, ◌+◌, ◌-◌, ◌==◌, Bool, true, false, List, [], ◌++◌, Option, Some, None, drop, filter, length, slice_index, take}
 use Rattle.std.specs.List.{slice_split}
 use Rattle.func_text.specs.Find.{first_place}
 use Rattle.func_text.specs.Substitute.{replaced, stands_for}

@@ -22,7 +22,12 @@ pub fn of_sheet(alloc: Global, spot: &Spot) -> Result<Area, AllocError> {
             values.push(value)?;
         }
     }
-    filled(alloc, rows.saturating_add(1), cols.saturating_add(1), values)
+    filled(
+        alloc,
+        rows.saturating_add(1),
+        cols.saturating_add(1),
+        values,
+    )
 }
 
 /// The cells whose values are written out, row by row: commas part the cells of a row, and semicolons the

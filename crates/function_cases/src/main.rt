@@ -79,7 +79,12 @@ fn holds(rt: &HostRuntime, row: &Row) -> io::Result<bool> {
             if shown.as_str() == row.value {
                 return Ok(true);
             }
-            println!(rt; "    DIFFERS: {} is {}, wanted {}", row.call, shown.as_str(), row.value)?;
+            println!(rt;
+                "    DIFFERS: {} is {}, wanted {}",
+                row.call,
+                shown.as_str(),
+                row.value
+            )?;
         }
         None => println!(rt; "    NO CALL: {}", row.call)?,
     }

@@ -48,8 +48,7 @@ pub fn run_words(rt: &HostRuntime) -> io::Result<Tally> {
             println!(rt; "    NO FUNCTION, OR TWO: word {}", tally.cases)?;
         }
     }
-    let functions =
-        MathFn::ALL.len() + LookFn::ALL.len() + TextFn::ALL.len() + DateFn::ALL.len();
+    let functions = MathFn::ALL.len() + LookFn::ALL.len() + TextFn::ALL.len() + DateFn::ALL.len();
     if functions + OF_FORMULAS.len() != FUNCTION_WORDS.len() {
         tally.differ = tally.differ.saturating_add(1);
         println!(rt; "    NOT LISTED: some of {functions} functions")?;

@@ -1,5 +1,5 @@
 -- The comparisons of criteria, by their first byte.
-use Rattle.std.specs.Prelude.{ℕ, if◌then◌else◌, List, Option, Some, None}
+use Rattle.std.specs.Prelude.{ℕ, List, Option, Some, None}
 use Rattle.cell_addr.specs.Parts.{strip_prefix}
 use Rattle.func_math.specs.declared.criterion.Comparison.{Comparison}
 use Rattle.func_math.specs.declared.criterion.Comparison.TheVariants.{Less, Greater, Unequal, AtMost, AtLeast}

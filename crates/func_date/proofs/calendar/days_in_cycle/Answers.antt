@@ -19,7 +19,7 @@ returns-clause-days c =
     let first = c.constrain-first.ensures in
     c.saturating_sub.ensures ∙ ap₂ (λ a b. a - b) c.from.ensures c.from-2.ensures
     ∙ cycle_is c.args.n c.days_since_min.result c.days_since_min-2.result c.constrain-first.result.year c.constrain-first.result.month c.constrain-first.result.day
-        (first.year ∙ year c.args.n c.requires) first.month (first.day ∙ day (to_z w16 (c.args.n / 12)) (c.args.n % 12 + 1)) c.days_since_min.ensures.value c.days_since_min-2.ensures.value
+    (first.year ∙ year c.args.n c.requires) first.month (first.day ∙ day (to_z w16 (c.args.n / 12)) (c.args.n % 12 + 1)) c.days_since_min.ensures.value c.days_since_min-2.ensures.value
 
 pub returns-clause-small : goal.returns-clause-small
 returns-clause-small c =

@@ -1,16 +1,13 @@
-use Rattle.std.proofs.Common.{◌≡◌, ◌∙◌, ap, sym, subst, ℕ, zero, suc, ◌+◌, ◌*◌, ◌<◌, Option, Some, None, cond, Bool, true, false, List, [], ◌∷◌, map, drop, get_or, arith}
+use Rattle.std.proofs.Common.{◌∙◌, ap, sym, subst, ℕ, ◌+◌, ◌*◌, ◌<◌, Option, Some, None, cond, Bool, true, false, map, drop, get_or, arith}
 use Rattle.std.specs.Option.{IfSome}
-use Rattle.std.specs.List.{enumerate_from}
 use Rattle.std.proofs.lemmas.List.{drop_all}
 use Rattle.std.specs.declared.cmp.Ordering.{Ordering}
-use Rattle.cell_value.specs.declared.scalar.Scalar.{Scalar}
 use Rattle.cell_value.specs.declared.scalar.Scalar.TheVariants.{Empty}
-use Rattle.func_args.specs.Kinds.{order_in_kind}
 use Rattle.cell_value.specs.Filled.{spread}
 use Rattle.func_look.specs.declared.taken.Mode.{Mode}
 use Rattle.func_look.specs.Lookups.{values_from}
 use Rattle.func_look.specs.Taken.{taken}
-use Rattle.func_look.specs.internal.Search.{line_values, search, taken_at, takes}
+use Rattle.func_look.specs.internal.Search.{search, taken_at, takes}
 use Rattle.func_look.proofs.Line.{line-spread, are_filled-line, line_cells, line_more, in_line}
 use Rattle.func_look.proofs.Search.{placed, search-all, search-filled, search-other, search-end, search-next, search-nil}
 use Rattle.func_look.proofs.taken.taken.Goals.{After-filled-cell-items}

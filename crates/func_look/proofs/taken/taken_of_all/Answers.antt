@@ -1,4 +1,4 @@
-use Rattle.std.proofs.Common.{◌≡◌, ◌∙◌, ap, refl}
+use Rattle.std.proofs.Common.{◌∙◌, ap, refl}
 use Rattle.func_look.specs.Taken.{sought, taken}
 use Rattle.func_look.proofs.Line.{all-line}
 use Rattle.func_look.proofs.taken.taken_of_all.Goals as goal

@@ -1,4 +1,4 @@
-use Rattle.std.proofs.Common.{◌≡◌, ◌∙◌, ap, sym, not, ◌*◌}
+use Rattle.std.proofs.Common.{◌∙◌, ap, sym, not, ◌*◌}
 use Rattle.std.specs.List.{count_by}
 use Rattle.cell_value.specs.Scalar.{is_empty}
 use Rattle.func_math.specs.Counts.{values_in}

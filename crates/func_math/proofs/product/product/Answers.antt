@@ -1,10 +1,10 @@
-use Rattle.std.proofs.Common.{◌≡◌, ◌∙◌, ap, sym, arith, ◌+◌, None, Ok, Err, pos, unwrap_or, drop, length}
+use Rattle.std.proofs.Common.{◌∙◌, ap, sym, arith, ◌+◌, Ok, pos, unwrap_or, drop}
 use Rattle.std.specs.List.{flat_map}
 use Rattle.std.proofs.lemmas.List.{drop_all}
 use Rattle.func_args.specs.Answers.{and_then}
 use Rattle.func_args.specs.Lists.{listed}
 use Rattle.func_math.specs.internal.Factors.{with_factors}
-use Rattle.func_math.proofs.Factors.{Product, factors_more, product_value-some}
+use Rattle.func_math.proofs.Factors.{factors_more, product_value-some}
 use Rattle.func_math.proofs.product.product.Goals as goal
 
 pub arguments-preserved : goal.arguments-preserved

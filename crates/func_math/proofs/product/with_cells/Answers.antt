@@ -1,4 +1,4 @@
-use Rattle.std.proofs.Common.{◌≡◌, ◌∙◌, ap, sym, ◌*◌}
+use Rattle.std.proofs.Common.{◌∙◌, ap, sym, ◌*◌}
 use Rattle.func_math.specs.internal.Factors.{with_factors}
 use Rattle.func_math.proofs.Factors.{with_factors-filled}
 use Rattle.func_math.proofs.product.with_cells.Goals as goal

@@ -1,4 +1,4 @@
-use Rattle.std.proofs.Common.{◌≡◌, ◌∙◌, sym, arith, unsigned_abs}
+use Rattle.std.proofs.Common.{arith}
 use Rattle.std.proofs.lemmas.Int.{ints}
 use Rattle.func_math.proofs.Places.{raised_to_zero, raised_to_far}
 use Rattle.func_math.proofs.rounding.raise_to.Goals as goal

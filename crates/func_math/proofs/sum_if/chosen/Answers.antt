@@ -1,4 +1,4 @@
-use Rattle.std.proofs.Common.{◌≡◌, ◌∙◌, ap, sym, ◌*◌, ◌+◌, arith, get_or, take, true}
+use Rattle.std.proofs.Common.{◌≡◌, ◌∙◌, ap, sym, ◌*◌, arith, get_or, take, true}
 use Rattle.std.proofs.lemmas.List.{take_all}
 use Rattle.cell_value.specs.declared.area.Filled.{Filled}
 use Rattle.cell_value.specs.declared.scalar.Scalar.TheVariants.{Empty}
@@ -6,7 +6,7 @@ use Rattle.cell_value.specs.Summary.{joined, alone, summary_of}
 use Rattle.func_args.proofs.Summaries.{summary_none}
 use Rattle.func_math.specs.Criteria.{matches}
 use Rattle.func_math.specs.SumIf.{chosen}
-use Rattle.func_math.proofs.Chosen.{selected, selected_passing, selected_failing, chosen-filled}
+use Rattle.func_math.proofs.Chosen.{selected, selected_passing, chosen-filled}
 use Rattle.func_math.proofs.sum_if.chosen.Goals as goal
 
 pub cells-init : goal.cells-init

@@ -1,6 +1,6 @@
-use Rattle.std.proofs.Common.{◌≡◌, ◌≤◌, ◌-◌, ◌∙◌, ap, sym, Some, ℕ, List, chars, length, slice_range, take, arith}
+use Rattle.std.proofs.Common.{◌≡◌, ◌-◌, ◌∙◌, ap, sym, Some, ℕ, List, chars, length, slice_range, take, arith}
 use Rattle.std.proofs.lemmas.List.{length-take}
-use Rattle.std.proofs.lemmas.Str.{encodes-chars, length-le-encodes}
+use Rattle.std.proofs.lemmas.Str.{length-le-encodes}
 use Rattle.func_text.proofs.Occurrences.{before_bytes, occurs_first, occurs_nowhere}
 use Rattle.func_text.proofs.find.first_place.Goals as goal
 

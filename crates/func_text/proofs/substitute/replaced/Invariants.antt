@@ -1,6 +1,5 @@
 use Rattle.std.proofs.Common.{◌≡◌, ◌+◌, ◌≤◌, ◌++◌, IsUtf8, chars, encode_utf8_all, length, string_bytes}
 use Rattle.func_text.specs.Substitute.{replaced}
-use Rattle.func_text.proofs.Replacing.{left_bytes}
 use Rattle.func_text.proofs.substitute.replaced.Given as goal
 
 abbrev pub invariant-occurrences : goal.invariant-occurrences
