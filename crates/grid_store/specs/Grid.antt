@@ -1,6 +1,7 @@
 -- What a grid stands for: a finite map from places to cells. Source: this project's own.
 use Rattle.std.specs.Prelude.{◌≡◌, List, Option, option_map, filter_map, not}
 use Rattle.std.specs.FinMap as map
+use Rattle.std.specs.List.{AllByRecursion}
 use Rattle.cell_addr.specs.Order.{place_cmp}
 use Rattle.cell_addr.specs.Place.{IsInside, covers}
 use Rattle.cell_addr.specs.declared.place.Block.{Block}
@@ -36,3 +37,7 @@ outside area m = map.retain_keys m (λ p. not (covers area p))
 -- the lines of all sheets are as they were
 abbrev pub KeepsLines : Grid → Grid → Type 0
 KeepsLines old new = (new.rows ≡ old.rows) × (new.cols ≡ old.cols)
+
+-- the places of a list are all on the sheet
+abbrev pub AreListedInside : {X : Type 0} → List (Place × X) → Type 0
+AreListedInside es = AllByRecursion (λ e. IsInside e.0) es

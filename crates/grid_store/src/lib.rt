@@ -19,6 +19,7 @@ mod grid;
 mod key;
 mod list;
 mod listing;
+mod moving;
 mod way;
 
 pub use cell::Cell;

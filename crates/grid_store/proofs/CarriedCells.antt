@@ -1,0 +1,2 @@
+-- Serves moves of blocks of cells.
+use Rattle.std.proofs.Common.{◌≡◌}
