@@ -20,6 +20,7 @@ mod key;
 mod list;
 mod listing;
 mod moving;
+mod pushing;
 mod way;
 
 pub use cell::Cell;

@@ -1,6 +1,7 @@
 // Blocks of cells that are moved, and all structural operations on the grid.
-ghost use Rattle.std.specs.Prelude.{◌≡◌, IfOk, OnOk, OnErr, filter_map, IsTrue};
-ghost use Rattle.shift_core.specs.Carried.{destination};
+ghost use Rattle.std.specs.Prelude.{◌≡◌, IfOk, OnOk, OnErr, filter_map};
+ghost use Rattle.std.specs.FinMap as map;
+ghost use Rattle.cell_addr.specs.Place.{IsInside};
 ghost use Rattle.shift_core.specs.Maps.{lost_entries, moved_map, restored_map};
 ghost use Rattle.shift_core.specs.Sound.{IsSound, IsSoundForm};
 ghost use Rattle.shift_core.specs.declared.form.Form.TheVariants.{Cells};
@@ -8,6 +9,7 @@ ghost use Rattle.grid_store.specs.Grid.{AreListedInside, cells_of, items_of};
 ghost use Rattle.grid_store.specs.internal.Lists.{carried_entry, with_entries};
 ghost use Rattle.grid_store.specs.internal.Ways.{carried_map, form_goes, goes, lost_by, onto_block, from_block};
 
+use crate::cell::Cell;
 use crate::change::whole;
 use crate::grid::Grid;
 use crate::list::CellList;
@@ -86,7 +88,8 @@ impl Grid {
         let mut next = self.copied(alloc)?;
         let moved = next.clear(alloc, from)?;
         let lost = next.clear(alloc, onto)?;
-        next.fill(carried(alloc, way, source, to, moved)?)?;
+        let placed = carried(alloc, way, source, to, moved)?;
+        next.fill(placed)?;
         *self = next;
         Ok(lost)
     }
@@ -98,8 +101,17 @@ impl Grid {
     {
         let mut list = list;
         while let Some((at, cell)) = list.pop() {
-            self.put(at, cell)?;
+            self.set(at, cell)?;
         }
+        Ok(())
+    }
+
+    // Fills the cell at the place.
+    fn set(&mut self, at: Place, cell: Cell) -> Result<(), AllocError>
+        requires { IsInside at }
+        ensures { OnOk result (cells_of self.new ≡ map.insert (cells_of self.old) at cell) }
+    {
+        self.put(at, cell)?;
         Ok(())
     }
 }
