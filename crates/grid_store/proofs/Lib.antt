@@ -7,3 +7,6 @@ pub mod Renewals
 pub mod Carries
 pub mod RenewedCells
 pub mod LostCells
+pub mod Unchanged
+pub mod Fills
+pub mod CarriedCells

@@ -27,10 +27,11 @@ use Rattle.stable_lines.specs.Lines.{line_at}
 use Rattle.stable_lines.specs.Sheets.{table_of}
 use Rattle.stable_lines.specs.declared.run.Run.{Run}
 use Rattle.stable_lines.specs.declared.sheets.SheetLines.{SheetLines}
+use Rattle.grid_store.specs.Grid.{HasAny}
 use Rattle.grid_store.specs.Keys.{key_at, key_cmp, place_at}
 use Rattle.grid_store.specs.declared.cell.Cell.{Cell}
 use Rattle.grid_store.specs.declared.key.CellKey.{CellKey}
-use Rattle.grid_store.specs.internal.Listing.{AreCellsOf, AreLinesAt, HasRows, IsAdded, StillHas}
+use Rattle.grid_store.specs.internal.Listing.{AreCellsOf, AreLinesAt, HasNone, HasRows, IsAdded, StillHas}
 use Rattle.grid_store.proofs.KeyOrder.{key_cmp-IsTotalOrder, key_cmp-IsAntisymmetric}
 use Rattle.grid_store.proofs.KeyPlaces.{inside_key, key_line, key_of_place, key_sheet, place_of_key}
 use Rattle.grid_store.proofs.Views.{get-seen_at, kept, key_of_seen, seen}
@@ -48,6 +49,16 @@ pub record Progress (rows cols : SheetLines) (es : List (CellKey × Cell)) (area
   pub still : StillHas before found
   pub entries : AllByRecursion (λ e. kept es e.0 ≡ Some e.1) rest
   pub pending : (k : CellKey) (q : Place) → IsSome (kept es k) → IsOn area.sheet lines k → place_at rows cols k ≡ Some q → covers area q ≡ true → IsSome (tree.get place_cmp found q) ⊎ IsSome (kept rest k)
+
+-- the key of a place in the block is on the lines of its row
+on_lines : (rows cols : SheetLines) (area : Block) (lines : Run) (q : Place) (k : CellKey) → AreLinesAt (table_of rows area.sheet) lines → Covers area q → key_at rows cols q ≡ Some k → lines.from ≤ q.row → q.row < lines.from + lines.count
+    → IsOn area.sheet lines k
+on_lines rows cols area lines q k lines_at c key low high =
+    let line : line_at (table_of rows q.sheet) q.row ≡ Some k.row = key_line rows cols q k key in
+    let at : line_at (table_of rows area.sheet) q.row ≡ Some (lines.to + (q.row - lines.from)) =
+        ap (line_at (table_of rows area.sheet)) (sum q.row lines.from low) ∙ lines_at (q.row - lines.from) (omega arith) in
+    let row : k.row ≡ lines.to + (q.row - lines.from) = same_Some k.row _ (sym line ∙ ap (λ s. line_at (table_of rows s) q.row) (sym c.0) ∙ at) in
+    (sym (key_sheet rows cols q k key) ∙ sym c.0, omega arith, omega arith)
 
 same_place_test : (p q : Place) → (is_at (place_cmp p) q ≡ true) → p ≡ q
 same_place_test p q h = (eq_by_cmp-decides place_cmp-IsTotalOrder place_cmp-IsAntisymmetric p q).0 h
@@ -112,11 +123,7 @@ module _ (rows cols : SheetLines) (es : List (CellKey × Cell)) (area : Block) (
   gone_through found p lines_at q there some low high =
       let c = Covers-from_covers area q there in
       let w = key_of_seen rows cols es q some in
-      let line : line_at (table_of rows q.sheet) q.row ≡ Some w.0.row = key_line rows cols q w.0 w.1 in
-      let at : line_at (table_of rows area.sheet) q.row ≡ Some (lines.to + (q.row - lines.from)) =
-          ap (line_at (table_of rows area.sheet)) (sum q.row lines.from low) ∙ lines_at (q.row - lines.from) (omega arith) in
-      let row : w.0.row ≡ lines.to + (q.row - lines.from) = same_Some w.0.row _ (sym line ∙ ap (λ s. line_at (table_of rows s) q.row) (sym c.0) ∙ at) in
-      elim (p.pending w.0 q w.2 (sym (key_sheet rows cols q w.0 w.1) ∙ sym c.0, omega arith, omega arith) (place_of_key rows cols q w.0 w.1) there) [
+      elim (p.pending w.0 q w.2 (on_lines rows cols area lines q w.0 lines_at c w.1 low high) (place_of_key rows cols q w.0 w.1) there) [
         | inl h ↦ h
         | inr h ↦ cc
       ]
@@ -200,3 +207,39 @@ seen_below rows cols es rl cl sheet row past q some =
       | inl short ↦ absurd (past short)
       | inr long ↦ less q.row row (table_of rows sheet).limit ROWS limit i.0 long
     ]
+
+-- keys on some lines gone through, none of which is in the block
+pub record Search (rows cols : SheetLines) (es : List (CellKey × Cell)) (area : Block) (lines : Run) (rest : List (CellKey × Cell)) : Type 0 where
+  pub entries : AllByRecursion (λ e. kept es e.0 ≡ Some e.1) rest
+  pub pending : (k : CellKey) (q : Place) → IsSome (kept es k) → IsOn area.sheet lines k → place_at rows cols k ≡ Some q → covers area q ≡ true → IsSome (kept rest k)
+
+pub search_begun : (rows cols : SheetLines) (m : BTreeMap CellKey Cell) (area : Block) (lines : Run) (range rest : List (CellKey × Cell))
+    → rest ≡ range → range ≡ entries_between key_cmp (Included (first_on area.sheet lines)) (Excluded (end_on area.sheet lines)) m.entries
+    → All (IsEntryInRange key_cmp (Included (first_on area.sheet lines)) (Excluded (end_on area.sheet lines)) m) range → Search rows cols m.entries area lines rest
+search_begun rows cols m area lines range rest same between all = record {
+  entries = subst (AllByRecursion (λ e. kept m.entries e.0 ≡ Some e.1)) (sym same) (values_only (Included (first_on area.sheet lines)) (Excluded (end_on area.sheet lines)) m range (recursion_from_All (IsEntryInRange key_cmp (Included (first_on area.sheet lines)) (Excluded (end_on area.sheet lines)) m) range all));
+  pending = λ k q some on at there. subst IsSome (sym (ap (λ r. kept r k) (same ∙ between) ∙ kept_on area.sheet lines m.entries k on)) some;
+}
+
+next_pending : (rows cols : SheetLines) (area : Block) (e : CellKey × Cell) (rest : List (CellKey × Cell)) (k : CellKey) (q : Place) (b : Bool) → is_at (key_cmp k) e.0 ≡ b → (place_at rows cols e.0 ≡ Some q → covers area q ≡ true → ⊥)
+    → place_at rows cols k ≡ Some q → covers area q ≡ true → IsSome (cond b (Some e.1) (kept rest k)) → IsSome (kept rest k)
+next_pending rows cols area e rest k q true same out at there some = absurd (out (ap (place_at rows cols) (sym (same_key_test k e.0 same)) ∙ at) there)
+next_pending rows cols area e rest k q false same out at there some = some
+
+pub search_on : (rows cols : SheetLines) (es : List (CellKey × Cell)) (area : Block) (lines : Run) (e : CellKey × Cell) (rest : List (CellKey × Cell)) → Search rows cols es area lines (e ∷ rest)
+    → ((q : Place) → place_at rows cols e.0 ≡ Some q → covers area q ≡ true → ⊥) → Search rows cols es area lines rest
+search_on rows cols es area lines e rest s out = record {
+  entries = s.entries.1;
+  pending = λ k q some on at there. next_pending rows cols area e rest k q (is_at (key_cmp k) e.0) refl (out q) at there (s.pending k q some on at there);
+}
+
+pub search_hit : (rows cols : SheetLines) (es : List (CellKey × Cell)) (area : Block) (lines : Run) (e : CellKey × Cell) (rest : List (CellKey × Cell)) (at : Place) → Search rows cols es area lines (e ∷ rest)
+    → place_at rows cols e.0 ≡ Some at → covers area at ≡ true → HasAny area (seen rows cols es)
+search_hit rows cols es area lines e rest at s here there = (at, there, ap is_some (get-seen_at rows cols es at e.0 (key_of_place rows cols e.0 at here) ∙ s.entries.0))
+
+pub search_over : (rows cols : SheetLines) (es : List (CellKey × Cell)) (area : Block) (lines : Run) → Search rows cols es area lines [] → AreLinesAt (table_of rows area.sheet) lines → HasNone area (seen rows cols es) lines.from (lines.from + lines.count)
+search_over rows cols es area lines s lines_at q there some low high =
+    let c = Covers-from_covers area q there in
+    let w = key_of_seen rows cols es q some in
+    let on = on_lines rows cols area lines q w.0 lines_at c w.1 low high in
+    let left = s.pending w.0 q w.2 on (place_of_key rows cols q w.0 w.1) there in cc

@@ -1,11 +1,18 @@
 -- What a grid stands for: a finite map from places to cells. Source: this project's own.
-use Rattle.std.specs.Prelude.{◌≡◌, List, Option, option_map, filter_map, not}
+use Rattle.std.specs.Prelude.{◌≡◌, ⊤, true, List, Option, None, IsSome, option_map, filter_map, not}
 use Rattle.std.specs.FinMap as map
+use Rattle.std.specs.List.{AllByRecursion}
 use Rattle.cell_addr.specs.Order.{place_cmp}
 use Rattle.cell_addr.specs.Place.{IsInside, covers}
 use Rattle.cell_addr.specs.declared.place.Block.{Block}
 use Rattle.cell_addr.specs.declared.place.Place.{Place}
+use Rattle.shift_core.specs.Form.{form_of}
 use Rattle.shift_core.specs.Maps.{PlaceMap}
+use Rattle.shift_core.specs.Tables.{place_after}
+use Rattle.shift_core.specs.declared.edit.Edit.TheVariants.{Insert}
+use Rattle.shift_core.specs.declared.form.Form.{Form}
+use Rattle.shift_core.specs.declared.form.Form.TheVariants.{Lines}
+use Rattle.shift_core.specs.declared.shift.Shift.{Shift}
 use Rattle.stable_lines.specs.declared.sheets.SheetLines.{SheetLines}
 use Rattle.grid_store.specs.Keys.{place_at}
 use Rattle.grid_store.specs.declared.cell.Cell.{Cell}
@@ -36,3 +43,20 @@ outside area m = map.retain_keys m (λ p. not (covers area p))
 -- the lines of all sheets are as they were
 abbrev pub KeepsLines : Grid → Grid → Type 0
 KeepsLines old new = (new.rows ≡ old.rows) × (new.cols ≡ old.cols)
+
+-- the places of a list are all on the sheet
+abbrev pub AreListedInside : {X : Type 0} → List (Place × X) → Type 0
+AreListedInside es = AllByRecursion (λ e. IsInside e.0) es
+
+-- some entry is in the block
+abbrev pub HasAny : {X : Type 0} → Block → PlaceMap X → Type 0
+HasAny area m = (p : Place) × (covers area p ≡ true) × IsSome (map.get m p)
+
+-- the operation inserts rows or columns
+abbrev pub IsInsert : Form → Type 0
+IsInsert (Lines sheet axis (Insert start count)) = ⊤
+IsInsert _ = ⊥
+
+-- the operation is an insert that pushes some entry off the sheet
+abbrev pub PushesEntryOff : {X : Type 0} → Shift → PlaceMap X → Type 0
+PushesEntryOff s m = IsInsert (form_of s) × ((p : Place) × IsSome (map.get m p) × (place_after s p ≡ None))

@@ -1,5 +1,7 @@
 // Copies of a grid.
-ghost use Rattle.std.specs.Prelude.{◌≡◌, IfOk};
+ghost use Rattle.std.specs.Prelude.{◌≡◌, IfOk, OnOk};
+ghost use Rattle.std.specs.BTreeMap.{insert_entry};
+ghost use Rattle.grid_store.specs.Keys.{key_cmp};
 ghost use Rattle.grid_store.specs.Grid.{cells_of};
 
 use crate::cell::Cell;
@@ -31,7 +33,19 @@ fn copied_cells(
     let mut copy = BTreeMap::new(alloc);
     for (key, cell) in cells {
         let cell = cell.copied(alloc)?;
-        copy.insert(*key, cell)?;
+        keep(&mut copy, *key, cell)?;
     }
     Ok(copy)
+}
+
+// Keeps a cell under a key.
+fn keep(
+    cells: &mut BTreeMap<CellKey, Cell>,
+    key: CellKey,
+    cell: Cell,
+) -> Result<(), AllocError>
+    ensures { OnOk result (cells.new.entries ≡ insert_entry key_cmp cells.old.entries key cell) }
+{
+    cells.insert(key, cell)?;
+    Ok(())
 }

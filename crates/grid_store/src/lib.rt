@@ -19,6 +19,8 @@ mod grid;
 mod key;
 mod list;
 mod listing;
+mod moving;
+mod pushing;
 mod way;
 
 pub use cell::Cell;

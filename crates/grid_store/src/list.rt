@@ -1,5 +1,5 @@
 // Lists of cells with their places.
-ghost use Rattle.std.specs.Prelude.{◌≡◌, ◌++◌, ◌∷◌, [], OnOk, OnErr};
+ghost use Rattle.std.specs.Prelude.{◌≡◌, ◌++◌, ◌∷◌, [], OnOk, OnErr, MatchOption};
 
 use crate::cell::Cell;
 use cell_addr::Place;
@@ -30,6 +30,20 @@ impl CellList {
     {
         self.list.push((at, cell))?;
         Ok(())
+    }
+
+    // Takes the last cell off.
+    pub(crate) fn pop(&mut self) -> Option<(Place, Cell)>
+        ensures { MatchOption result (items_of self.old ≡ []) (λ last. items_of self.old ≡ items_of self.new ++ last ∷ []) }
+    {
+        self.list.pop()
+    }
+
+    // The list of the cells with their places.
+    pub(crate) fn into_items(self) -> Vec<(Place, Cell)>
+        ensures { result.items ≡ items_of self }
+    {
+        self.list
     }
 
     /// The cells with their places, in order.

@@ -33,3 +33,7 @@ AreLinesAt t r = (i : ℕ) → i < r.count → line_at t (r.from + i) ≡ Some (
 -- the cell is added at its place, and all else is as it was
 abbrev pub IsAdded : BTreeMap Place Cell → Place → Cell → BTreeMap Place Cell → Type 0
 IsAdded old at cell new = (q : Place) → tree.get place_cmp new q ≡ (if is_at (place_cmp at) q then Some cell else tree.get place_cmp old q)
+
+-- the map has nothing in the block's rows from `low` to before `high`
+abbrev pub HasNone : Block → PlaceMap Cell → ℕ → ℕ → Type 0
+HasNone area m low high = (q : Place) → covers area q ≡ true → IsSome (map.get m q) → low ≤ q.row → q.row < high → ⊥

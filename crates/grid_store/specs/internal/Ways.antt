@@ -7,6 +7,7 @@ use Rattle.cell_addr.specs.declared.place.Place.{Place}
 use Rattle.cell_addr.specs.declared.place.TheConstants.{ROWS, COLS}
 use Rattle.shift_core.specs.Lines.{line_after, line_before}
 use Rattle.shift_core.specs.Maps.{PlaceMap}
+use Rattle.shift_core.specs.Carried.{destination}
 use Rattle.shift_core.specs.Form.{form_of}
 use Rattle.shift_core.specs.Tables.{place_moved, place_returned}
 use Rattle.shift_core.specs.declared.edit.Edit.{Edit}
@@ -49,3 +50,12 @@ span_has (Some s) line = nat_le s.first line && nat_le line s.last
 -- all places of a sheet
 abbrev pub whole : ℕ → Block
 whole sheet = record { sheet = sheet; top = 0; left = 0; bottom = ROWS - 1; right = COLS - 1 }
+
+-- the block whose cells a move of cells takes, and the one that they come to
+abbrev pub from_block : Way → Block → Place → Block
+from_block Forth source to = source
+from_block Back source to = destination source to
+
+abbrev pub onto_block : Way → Block → Place → Block
+onto_block Forth source to = destination source to
+onto_block Back source to = source

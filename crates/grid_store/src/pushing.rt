@@ -1,0 +1,84 @@
+// Whether an insert pushes cells off the sheet.
+ghost use Rattle.std.specs.Prelude.{◌≡◌, ◌↔◌, ◌+◌, ◌<◌, false, IsTrue, IsSome, None};
+ghost use Rattle.std.specs.FinMap as map;
+ghost use Rattle.cell_addr.specs.declared.place.Place.{Place};
+ghost use Rattle.shift_core.specs.declared.form.Form.TheVariants.{Lines};
+ghost use Rattle.stable_lines.specs.Sheets.{table_of};
+ghost use Rattle.grid_store.specs.Grid.{HasAny, PushesEntryOff, cells_of};
+ghost use Rattle.grid_store.specs.declared.way.Way.TheVariants.{Forth};
+ghost use Rattle.grid_store.specs.internal.Listing.{AreLinesAt, HasNone};
+ghost use Rattle.grid_store.specs.internal.Ways.{form_goes};
+
+use crate::change::whole;
+use crate::grid::Grid;
+use crate::key::CellKey;
+use crate::way::{Way, lost_lines};
+use cell_addr::{Axis, Block};
+use shift_core::{Edit, Form, Shift};
+use stable_lines::Run;
+
+impl Grid {
+    /// Whether the operation is an insert of rows or columns that pushes a filled cell off the sheet. Takes no memory; costs about
+    /// the number of filled cells in the rows that are looked through.
+    pub fn pushed_off(&self, s: &Shift) -> bool
+        ensures { IsTrue result ↔ PushesEntryOff s.now (cells_of self.now) }
+    {
+        match s.form() {
+            Form::Lines {
+                sheet,
+                axis,
+                edit: Edit::Insert { at, count },
+            } => self.loses_any(sheet, axis, Edit::Insert { at, count }),
+            _ => false,
+        }
+    }
+
+    // Whether the edit loses a filled cell.
+    fn loses_any(&self, sheet: u32, axis: Axis, edit: Edit) -> bool
+        ensures { IsTrue result ↔ ((p : Place) × IsSome (map.get (cells_of self.now) p) × (form_goes Forth (Lines sheet axis edit) p ≡ None)) }
+    {
+        match lost_lines(Way::Forth, edit, axis.limit()) {
+            Some(span) => self.has_any(whole(sheet).with_span(axis, span)),
+            None => false,
+        }
+    }
+
+    // Whether a cell of the block is filled.
+    fn has_any(&self, area: Block) -> bool
+        ensures { IsTrue result ↔ HasAny area (cells_of self.now) }
+    {
+        let table = self.rows.table(area.sheet);
+        let mut row = area.top;
+        while row <= area.bottom {
+            let Some(run) = table.run_from(row) else {
+                return false;
+            };
+            let count = run.count.min((area.bottom - row) as u64 + 1);
+            if self.has_any_on(area, Run { count, ..run }) {
+                return true;
+            }
+            row += count as u32;
+        }
+        false
+    }
+
+    // Whether a cell of the block on these lines is filled.
+    fn has_any_on(&self, area: Block, lines: Run) -> bool
+        requires lines { AreLinesAt (table_of self.now.rows area.sheet) lines }
+        requires sum { lines.to + lines.count < 18446744073709551616 }
+        ensures found { IsTrue result → HasAny area (cells_of self.now) }
+        ensures none { result ≡ false → HasNone area (cells_of self.now) lines.from (lines.from + lines.count) }
+    {
+        let sheet = area.sheet;
+        let first = CellKey { sheet, row: lines.to, col: 0 };
+        let end = CellKey { sheet, row: lines.to + lines.count, col: 0 };
+        for (key, _) in self.cells.range(first..end) {
+            if let Some(at) = self.place(*key) {
+                if area.holds(at) {
+                    return true;
+                }
+            }
+        }
+        false
+    }
+}
