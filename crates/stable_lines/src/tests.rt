@@ -28,7 +28,9 @@ fn lines_keep_their_numbers(rt: HostRuntime) -> Result<(), AllocError> {
 fn lines_of_each_sheet(rt: HostRuntime) -> Result<(), AllocError> {
     let mut lines = SheetLines::new(rt.alloc(), ROWS)?;
     lines.reserve(3)?;
-    let table = lines.table(3).edited(rt.alloc(), Edit::Delete { at: 10, count: 1 })?;
+    let table = lines
+        .table(3)
+        .edited(rt.alloc(), Edit::Delete { at: 10, count: 1 })?;
     if table.limit() == ROWS {
         lines.replace(3, table);
     }
