@@ -178,7 +178,7 @@ module _ {X : Type 0} (w : Way) (source : Block) (to : Place) (sound : IsSoundFo
       let k = carry (turned w) source to q in
       let came : comes q ≡ Some k = cells_come w source to q ∙ ap (λ b. cond b (Some k) (cond (covers from q) None (Some q))) here in
       let there : covers from k ≡ true =
-          must_cover (covers from k) (covers onto k) (carry w source to k) k q (sym (cells_go w source to k) ∙ returned w (Cells source to) k q sound i came) (λ same. ap (covers onto) same ∙ here) in
+      must_cover (covers from k) (covers onto k) (carry w source to k) k q (sym (cells_go w source to k) ∙ returned w (Cells source to) k q sound i came) (λ same. ap (covers onto) same ∙ here) in
       ap₂ first_of_two (find_there q (Some k) i came ∙ get-kept m (covers from) k ∙ ap (λ b. cond b (get m k) None) there)
       (get-bare q ∙ ap (λ b. cond (not b) (cond (not (covers from q)) (get m q) None) None) here)
       ∙ or_none (get m k) ∙ ap (option_and_then (get m)) (sym came)
@@ -217,6 +217,6 @@ module _ {X : Type 0} (w : Way) (source : Block) (to : Place) (sound : IsSoundFo
   pub lost_cells : entries (within onto (outside from m)) ≡ lost_by moves m
   lost_cells =
       ap entries (same_places (within onto (outside from m)) (map.retain_keys m (λ p. not (covers from p) && covers onto p)) (λ q.
-          get-kept (outside from m) (covers onto) q ∙ ap (λ r. cond (covers onto q) r None) (get-kept m (λ p. not (covers from p)) q)
-          ∙ two_parts (covers from q) (covers onto q) (get m q) ∙ sym (get-kept m (λ p. not (covers from p) && covers onto p) q)))
+      get-kept (outside from m) (covers onto) q ∙ ap (λ r. cond (covers onto q) r None) (get-kept m (λ p. not (covers from p)) q)
+      ∙ two_parts (covers from q) (covers onto q) (get m q) ∙ sym (get-kept m (λ p. not (covers from p) && covers onto p) q)))
       ∙ lost-kept moves (λ p. not (covers from p) && covers onto p) m all (λ q i. lost_both (covers from q) (covers onto q) (carry w source to q) q ∙ ap is_none (sym (cells_go w source to q)))

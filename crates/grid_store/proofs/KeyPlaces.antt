@@ -58,8 +58,7 @@ module _ (rows cols : SheetLines) where
 
   pub inside_key : rows.plain.limit ≡ ROWS → cols.plain.limit ≡ COLS → (p : Place) (k : CellKey) → key_at rows cols p ≡ Some k → IsInside p
   inside_key rl cl p k h =
-      let w = key_parts (line_at (table_of rows p.sheet) p.row) (line_at (table_of cols p.sheet) p.col) p.sheet k h in
-      (
+      let w = key_parts (line_at (table_of rows p.sheet) p.row) (line_at (table_of cols p.sheet) p.col) p.sheet k h in (
         subst (λ n. p.row < n) (rows.limits p.sheet ∙ rl) ((table_of rows p.sheet).within p.row k.row w.0),
         subst (λ n. p.col < n) (cols.limits p.sheet ∙ cl) ((table_of cols p.sheet).within p.col k.col w.1),
       )

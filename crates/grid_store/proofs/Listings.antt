@@ -56,7 +56,7 @@ on_lines : (rows cols : SheetLines) (area : Block) (lines : Run) (q : Place) (k 
 on_lines rows cols area lines q k lines_at c key low high =
     let line : line_at (table_of rows q.sheet) q.row ≡ Some k.row = key_line rows cols q k key in
     let at : line_at (table_of rows area.sheet) q.row ≡ Some (lines.to + (q.row - lines.from)) =
-        ap (line_at (table_of rows area.sheet)) (sum q.row lines.from low) ∙ lines_at (q.row - lines.from) (omega arith) in
+    ap (line_at (table_of rows area.sheet)) (sum q.row lines.from low) ∙ lines_at (q.row - lines.from) (omega arith) in
     let row : k.row ≡ lines.to + (q.row - lines.from) = same_Some k.row _ (sym line ∙ ap (λ s. line_at (table_of rows s) q.row) (sym c.0) ∙ at) in
     (sym (key_sheet rows cols q k key) ∙ sym c.0, omega arith, omega arith)
 
@@ -186,9 +186,9 @@ module _ (area : Block) (m : PlaceMap Cell) (found : BTreeMap Place Cell) (cells
   found_entries ordered =
       sym (entries-from_entries place_cmp-IsTotalOrder found.entries ordered)
       ∙ ap map.entries (map.same_map place_cmp-IsTotalOrder place_cmp-IsAntisymmetric (map.from_entries found.entries) (map.retain_keys m (covers area)) (λ q.
-          sym (lookup-from_entries place_cmp-IsTotalOrder found.entries q)
-          ∙ all_found q (covers area q) (tree.get place_cmp found q) (map.get m q) refl refl refl
-          ∙ sym (map.get-retain_keys m (covers area) q (λ x t. ap (covers area) (sym (place_cmp-IsAntisymmetric q x t))))))
+      sym (lookup-from_entries place_cmp-IsTotalOrder found.entries q)
+      ∙ all_found q (covers area q) (tree.get place_cmp found q) (map.get m q) refl refl refl
+      ∙ sym (map.get-retain_keys m (covers area) q (λ x t. ap (covers area) (sym (place_cmp-IsAntisymmetric q x t))))))
 
 cases_lt : (a b : ℕ) → (a < b) ⊎ (b ≤ a)
 cases_lt a b = grind arith

@@ -1,5 +1,6 @@
 -- The cells that an edit of lines loses, by the block of the lost lines. Serves edits of lines.
-use Rattle.std.proofs.Common.{◌≡◌, ◌∙◌, sym, ap, refl, subst, ℕ, ◌<◌, ◌≤◌, ◌-◌, Bool, true, false, cond, not, ◌&&◌, nat_le, ◌==◌, List, [], ◌∷◌, Option, Some, None, option_map, IsSome, is_some, is_none, filter, filter_map, arith}
+use Rattle.std.proofs.Common.{◌≡◌, ◌∙◌, sym, ap, refl, subst, ℕ, ◌<◌, ◌≤◌, ◌-◌, ◌↔◌, Bool, true, false, cond, not, ◌&&◌, nat_le, ◌==◌, List, [], ◌∷◌, Option, Some, None, option_map, IsSome, is_some, is_none, filter, filter_map, arith}
+use Rattle.std.proofs.lemmas.Bool.{both_ways}
 use Rattle.std.proofs.lemmas.Bool.Decides.{nat_tests}
 use Rattle.std.specs.FinMap as map
 use Rattle.std.specs.FinMap.{entries, get, get-entries}
@@ -18,7 +19,7 @@ use Rattle.shift_core.specs.declared.form.Form.TheVariants.{Lines}
 use Rattle.shift_core.proofs.Axes.{line_inside}
 use Rattle.shift_core.proofs.CarriedEntries.{carried_entry}
 use Rattle.shift_core.proofs.MovedMaps.{each_place}
-use Rattle.grid_store.specs.Grid.{outside, within}
+use Rattle.grid_store.specs.Grid.{HasAny, outside, within}
 use Rattle.grid_store.specs.declared.way.Way.{Way}
 use Rattle.grid_store.specs.internal.Ways.{carried_map, form_goes, line_goes, lost_by, span_has, whole}
 use Rattle.grid_store.proofs.Carries.{goes_by_line, lost-kept}
@@ -97,6 +98,10 @@ part_some false r h = cc
 pub kept_some : {X : Type 0} (m n : PlaceMap X) (a : Place → Bool) → n ≡ map.retain_keys m a → (p : Place) → IsSome (get n p) → a p ≡ true
 kept_some m n a e p some = part_some (a p) (get m p) (subst IsSome (ap (λ z. get z p) e ∙ get-kept m a p) some)
 
+none_from : {X : Type 0} (r : Option X) → is_none r ≡ true → r ≡ None
+none_from None h = refl
+none_from (Some x) h = cc
+
 module _ (way : Way) (sheet : ℕ) (axis : Axis) (edit : Edit) where
   lost_on : (span : Option Span) → ((line : ℕ) → line < limit_of axis → span_has span line ≡ is_none (line_goes way (limit_of axis) edit line)) → (q : Place) → IsInside q
       → (q.sheet == sheet && span_has span (line_of axis q)) ≡ is_none (form_goes way (Lines sheet axis edit) q)
@@ -138,3 +143,15 @@ module _ (way : Way) (sheet : ℕ) (axis : Axis) (edit : Edit) where
   kept_outside span m all lost =
       same_part m (λ p. not (covers (with_span axis span (whole sheet)) p)) (λ p. is_some (form_goes way (Lines sheet axis edit) p)) all
       (λ q i. ap not (covers_lost span lost q i) ∙ not_none (form_goes way (Lines sheet axis edit) q))
+
+  -- an edit loses a cell where one is in the block of the lost lines
+  pub any_lost : {X : Type 0} (span : Span) (m : PlaceMap X) → AreInside m → ((line : ℕ) → line < limit_of axis → span_has (Some span) line ≡ is_none (line_goes way (limit_of axis) edit line))
+      → HasAny (with_span axis span (whole sheet)) m ↔ ((p : Place) × IsSome (get m p) × (form_goes way (Lines sheet axis edit) p ≡ None))
+  any_lost span m all lost = (
+    λ h. (h.0, h.2, none_from (form_goes way (Lines sheet axis edit) h.0) (sym (covers_lost span lost h.0 (all h.0 h.2)) ∙ h.1)),
+    λ h. (h.0, covers_lost span lost h.0 (all h.0 h.1) ∙ ap is_none h.2, h.1),
+  )
+
+  pub none_any : {X : Type 0} (m : PlaceMap X) → AreInside m → ((line : ℕ) → line < limit_of axis → span_has None line ≡ is_none (line_goes way (limit_of axis) edit line))
+      → ((p : Place) × IsSome (get m p) × (form_goes way (Lines sheet axis edit) p ≡ None)) → ⊥
+  none_any m all lost h = both_ways _ (ap is_some h.2) (some_kept lost h.0 (all h.0 h.1))

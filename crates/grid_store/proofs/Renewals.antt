@@ -90,7 +90,7 @@ module _ (axis : Axis) (sheet : ℕ) (rule : ℕ → Option ℕ) (rows cols rows
   stale k (Some p) e some on fresh =
       let at = key_of_place rows cols k p e in
       let here : line_at old (line_of axis p) ≡ Some (key_along axis k) =
-          ap (λ s. line_there (along axis rows cols) s (line_of axis p)) (on ∙ sym (key_sheet rows cols p k at)) ∙ along_line axis rows cols p k at in
+      ap (λ s. line_there (along axis rows cols) s (line_of axis p)) (on ∙ sym (key_sheet rows cols p k at)) ∙ along_line axis rows cols p k at in
       let short = old.below (line_of axis p) (key_along axis k) here in omega arith
 
   -- where nothing comes, no key is kept

@@ -70,8 +70,7 @@ module _ (rows cols : SheetLines) where
   -- the key of another place is another key
   same_keys : (p at : Place) (k key : CellKey) → key_at rows cols p ≡ Some k → key_at rows cols at ≡ Some key → is_at (key_cmp key) k ≡ eq_by_cmp place_cmp p at
   same_keys p at k key e f =
-      same_test (is_at (key_cmp key) k) (eq_by_cmp place_cmp p at) (eq_by_cmp-decides key_cmp-IsTotalOrder key_cmp-IsAntisymmetric key k) (eq_by_cmp-decides place_cmp-IsTotalOrder place_cmp-IsAntisymmetric p at)
-      (
+      same_test (is_at (key_cmp key) k) (eq_by_cmp place_cmp p at) (eq_by_cmp-decides key_cmp-IsTotalOrder key_cmp-IsAntisymmetric key k) (eq_by_cmp-decides place_cmp-IsTotalOrder place_cmp-IsAntisymmetric p at) (
         λ same. same_Some p at (sym (place_of_key rows cols p k e) ∙ ap (place_at rows cols) (sym same) ∙ place_of_key rows cols at key f),
         λ same. same_Some key k (sym f ∙ ap (key_at rows cols) (sym same) ∙ e),
       )
@@ -81,8 +80,8 @@ module _ (rows cols : SheetLines) where
       → (p : Place) (r : Option CellKey) → key_at rows cols p ≡ r → option_and_then (kept fs) r ≡ cond (eq_by_cmp place_cmp p at) change (option_and_then (kept es) r)
   changed_by es fs at key change f h p None e =
       let apart : eq_by_cmp place_cmp p at ≡ false =
-          same_test (eq_by_cmp place_cmp p at) false (eq_by_cmp-decides place_cmp-IsTotalOrder place_cmp-IsAntisymmetric p at) ((λ b. cc), (λ b. absurd b))
-          ((λ same. let there = sym e ∙ ap (key_at rows cols) same ∙ f in cc), (λ b. absurd b)) in
+      same_test (eq_by_cmp place_cmp p at) false (eq_by_cmp-decides place_cmp-IsTotalOrder place_cmp-IsAntisymmetric p at) ((λ b. cc), (λ b. absurd b))
+      ((λ same. let there = sym e ∙ ap (key_at rows cols) same ∙ f in cc), (λ b. absurd b)) in
       rw apart refl
   changed_by es fs at key change f h p (Some k) e = h k ∙ ap (λ b. cond b change (kept es k)) (same_keys p at k key e f)
 
@@ -106,7 +105,7 @@ module _ (rows cols : SheetLines) where
   pub remove-absent : (es : List (CellKey × Cell)) (at : Place) → key_at rows cols at ≡ None → seen rows cols es ≡ remove (seen rows cols es) at
   remove-absent es at none = same_map place_cmp-IsTotalOrder place_cmp-IsAntisymmetric _ _ (λ p.
       absent_or (eq_by_cmp place_cmp p at) (get (seen rows cols es) p) (λ here.
-          ap (get (seen rows cols es)) ((eq_by_cmp-decides place_cmp-IsTotalOrder place_cmp-IsAntisymmetric p at).0 here) ∙ get-seen es at ∙ ap (option_and_then (kept es)) none)
+      ap (get (seen rows cols es)) ((eq_by_cmp-decides place_cmp-IsTotalOrder place_cmp-IsAntisymmetric p at).0 here) ∙ get-seen es at ∙ ap (option_and_then (kept es)) none)
       ∙ sym (get-remove place_cmp-IsTotalOrder (seen rows cols es) at p))
 
   stands_or : (key k : CellKey) (b : Bool) (change old : Option Cell) → is_at (key_cmp key) k ≡ b → (IsSome change → IsSome (place_at rows cols key)) → (IsSome old → IsSome (place_at rows cols k))

@@ -1,7 +1,7 @@
 -- What a grid stands for: a finite map from places to cells. Source: this project's own.
 use Rattle.std.specs.Prelude.{◌≡◌, ⊤, true, List, Option, None, IsSome, option_map, filter_map, not}
 use Rattle.std.specs.FinMap as map
-use Rattle.std.specs.List.{AllByRecursion}
+use Rattle.std.specs.List.{All}
 use Rattle.cell_addr.specs.Order.{place_cmp}
 use Rattle.cell_addr.specs.Place.{IsInside, covers}
 use Rattle.cell_addr.specs.declared.place.Block.{Block}
@@ -46,7 +46,7 @@ KeepsLines old new = (new.rows ≡ old.rows) × (new.cols ≡ old.cols)
 
 -- the places of a list are all on the sheet
 abbrev pub AreListedInside : {X : Type 0} → List (Place × X) → Type 0
-AreListedInside es = AllByRecursion (λ e. IsInside e.0) es
+AreListedInside es = All (λ e. IsInside e.0) es
 
 -- some entry is in the block
 abbrev pub HasAny : {X : Type 0} → Block → PlaceMap X → Type 0

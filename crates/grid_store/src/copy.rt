@@ -39,11 +39,7 @@ fn copied_cells(
 }
 
 // Keeps a cell under a key.
-fn keep(
-    cells: &mut BTreeMap<CellKey, Cell>,
-    key: CellKey,
-    cell: Cell,
-) -> Result<(), AllocError>
+fn keep(cells: &mut BTreeMap<CellKey, Cell>, key: CellKey, cell: Cell) -> Result<(), AllocError>
     ensures { OnOk result (cells.new.entries ≡ insert_entry key_cmp cells.old.entries key cell) }
 {
     cells.insert(key, cell)?;

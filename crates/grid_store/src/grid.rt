@@ -47,7 +47,11 @@ impl Grid {
     {
         let row = self.rows.table(at.sheet).line(at.row)?;
         let col = self.cols.table(at.sheet).line(at.col)?;
-        Some(CellKey { sheet: at.sheet, row, col })
+        Some(CellKey {
+            sheet: at.sheet,
+            row,
+            col,
+        })
     }
 
     // The place where a key's lines stand.
@@ -56,7 +60,11 @@ impl Grid {
     {
         let row = self.rows.table(key.sheet).position(key.row)?;
         let col = self.cols.table(key.sheet).position(key.col)?;
-        Some(Place { sheet: key.sheet, row, col })
+        Some(Place {
+            sheet: key.sheet,
+            row,
+            col,
+        })
     }
 
     /// What the cell at the place holds; `None` where it is empty. Costs the logarithm of the number of filled cells.

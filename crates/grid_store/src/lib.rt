@@ -21,6 +21,8 @@ mod list;
 mod listing;
 mod moving;
 mod pushing;
+#[cfg(test)]
+mod tests;
 mod way;
 
 pub use cell::Cell;

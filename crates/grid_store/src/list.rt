@@ -1,5 +1,5 @@
 // Lists of cells with their places.
-ghost use Rattle.std.specs.Prelude.{◌≡◌, ◌++◌, ◌∷◌, [], OnOk, OnErr, MatchOption};
+ghost use Rattle.std.specs.Prelude.{◌≡◌, ◌++◌, ◌∷◌, [], OnOk, OnErr, MatchOption, IsTrue, ◌↔◌};
 
 use crate::cell::Cell;
 use cell_addr::Place;
@@ -12,7 +12,7 @@ pub struct CellList {
 }
 
 impl CellList {
-    ghost use Rattle.grid_store.specs.Grid.{items_of};
+    ghost use Rattle.grid_store.specs.Grid.{AreListedInside, items_of};
 
     /// A list without cells. Takes no memory.
     pub fn new(alloc: Global) -> CellList
@@ -30,6 +30,13 @@ impl CellList {
     {
         self.list.push((at, cell))?;
         Ok(())
+    }
+
+    /// Whether all places of the list are on the sheet.
+    pub fn inside(&self) -> bool
+        ensures { IsTrue result ↔ AreListedInside (items_of self.now) }
+    {
+        self.list.iter().all(|entry| entry.0.inside())
     }
 
     // Takes the last cell off.

@@ -67,8 +67,16 @@ impl Grid {
         ensures still { OnOk result (StillHas found.old found.new) }
     {
         let sheet = area.sheet;
-        let first = CellKey { sheet, row: lines.to, col: 0 };
-        let end = CellKey { sheet, row: lines.to + lines.count, col: 0 };
+        let first = CellKey {
+            sheet,
+            row: lines.to,
+            col: 0,
+        };
+        let end = CellKey {
+            sheet,
+            row: lines.to + lines.count,
+            col: 0,
+        };
         for (key, cell) in self.cells.range(first..end) {
             if let Some(at) = self.place(*key) {
                 if area.holds(at) {

@@ -6,7 +6,7 @@ ghost use Rattle.shift_core.specs.Maps.{lost_entries, moved_map, restored_map};
 ghost use Rattle.shift_core.specs.Sound.{IsSound, IsSoundForm};
 ghost use Rattle.shift_core.specs.declared.form.Form.TheVariants.{Cells};
 ghost use Rattle.grid_store.specs.Grid.{AreListedInside, cells_of, items_of};
-ghost use Rattle.grid_store.specs.internal.Lists.{carried_entry, with_entries};
+ghost use Rattle.grid_store.specs.internal.Lists.{AreEachInside, carried_entry, with_entries};
 ghost use Rattle.grid_store.specs.internal.Ways.{carried_map, form_goes, goes, lost_by, onto_block, from_block};
 
 use crate::cell::Cell;
@@ -96,7 +96,7 @@ impl Grid {
 
     // Fills the places of the list; of two cells at one place the first counts.
     fn fill(&mut self, list: CellList) -> Result<(), AllocError>
-        requires { AreListedInside (items_of list) }
+        requires { AreEachInside (items_of list) }
         ensures { OnOk result (cells_of self.new ≡ with_entries (items_of list) (cells_of self.old)) }
     {
         let mut list = list;

@@ -70,9 +70,17 @@ impl Grid {
         ensures none { result ≡ false → HasNone area (cells_of self.now) lines.from (lines.from + lines.count) }
     {
         let sheet = area.sheet;
-        let first = CellKey { sheet, row: lines.to, col: 0 };
-        let end = CellKey { sheet, row: lines.to + lines.count, col: 0 };
-        for (key, _) in self.cells.range(first..end) {
+        let first = CellKey {
+            sheet,
+            row: lines.to,
+            col: 0,
+        };
+        let end = CellKey {
+            sheet,
+            row: lines.to + lines.count,
+            col: 0,
+        };
+        for (key, _cell) in self.cells.range(first..end) {
             if let Some(at) = self.place(*key) {
                 if area.holds(at) {
                     return true;

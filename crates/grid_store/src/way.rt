@@ -18,32 +18,38 @@ pub(crate) fn lost_lines(way: Way, edit: Edit, limit: u32) -> Option<Span>
     ensures lost { (line : ℕ) → line < limit → span_has result line ≡ is_none (line_goes way limit edit line) }
 {
     match (way, edit) {
-        (Way::Forth, Edit::Insert { at, count }) => pushed_off(at, count, limit),
-        (Way::Back, Edit::Delete { at, count }) => pushed_off(at, count, limit),
-        (Way::Forth, Edit::Delete { at, count }) => deleted(at, count, limit),
-        (Way::Back, Edit::Insert { at, count }) => deleted(at, count, limit),
+        (Way::Forth, Edit::Insert { at, count }) => pushed_lines(at, count, limit),
+        (Way::Back, Edit::Delete { at, count }) => pushed_lines(at, count, limit),
+        (Way::Forth, Edit::Delete { at, count }) => deleted_lines(at, count, limit),
+        (Way::Back, Edit::Insert { at, count }) => deleted_lines(at, count, limit),
         _ => None,
     }
 }
 
 // The lines that are pushed off the end as `count` lines come before the line `at`.
-fn pushed_off(at: u32, count: u32, limit: u32) -> Option<Span>
+fn pushed_lines(at: u32, count: u32, limit: u32) -> Option<Span>
     ensures { (line : ℕ) → line < limit → span_has result line ≡ is_none (line_after_insert limit at count line) }
 {
     let first = at.max(limit.saturating_sub(count));
     if first < limit {
-        Some(Span { first, last: limit - 1 })
+        Some(Span {
+            first,
+            last: limit - 1,
+        })
     } else {
         None
     }
 }
 
 // The `count` lines from `at`, as far as there are so many.
-fn deleted(at: u32, count: u32, limit: u32) -> Option<Span>
+fn deleted_lines(at: u32, count: u32, limit: u32) -> Option<Span>
     ensures { (line : ℕ) → line < limit → span_has result line ≡ is_none (line_after_delete at count line) }
 {
     if at < limit && 0 < count {
-        Some(Span { first: at, last: at + (count - 1).min(limit - 1 - at) })
+        Some(Span {
+            first: at,
+            last: at + (count - 1).min(limit - 1 - at),
+        })
     } else {
         None
     }

@@ -1,6 +1,8 @@
 -- Maps without the places of a list, and with the entries of a list.
 use Rattle.std.specs.Prelude.{List, [], ◌∷◌, Option, option_map}
 use Rattle.std.specs.FinMap as map
+use Rattle.std.specs.List.{AllByRecursion}
+use Rattle.cell_addr.specs.Place.{IsInside}
 use Rattle.cell_addr.specs.declared.place.Place.{Place}
 use Rattle.shift_core.specs.Maps.{PlaceMap}
 
@@ -17,3 +19,7 @@ with_entries (e ∷ es) m = map.insert (with_entries es m) e.0 e.1
 -- an entry where its place goes; none where it is lost
 abbrev pub carried_entry : {X : Type 0} → (Place → Option Place) → Place × X → Option (Place × X)
 carried_entry f e = option_map (λ q. (q, e.1)) (f e.0)
+
+-- each place of a list is on the sheet
+abbrev pub AreEachInside : {X : Type 0} → List (Place × X) → Type 0
+AreEachInside es = AllByRecursion (λ e. IsInside e.0) es

@@ -31,6 +31,6 @@ pub loop-key-preserved : goal.loop-key-preserved
 loop-key-preserved c =
     let i = c.loop-key.invariant in record {
       parts = kept_last c.args.cells.now.entries c.loop-key.copy.entries c.keep.new.cells.entries (c.in-Some.key.now, c.in-Some.cell.now) c.next.new.self i.ordered
-      (ap (λ r. c.loop-key.copy.entries ++ r) (sym c.in-Some.ensures.steps) ∙ i.parts) (c.in_ok-keep.ensures ∙ ap (insert_entry key_cmp c.loop-key.copy.entries c.in-Some.key.now) c.in_ok-cell.ensures);
+          (ap (λ r. c.loop-key.copy.entries ++ r) (sym c.in-Some.ensures.steps) ∙ i.parts) (c.in_ok-keep.ensures ∙ ap (insert_entry key_cmp c.loop-key.copy.entries c.in-Some.key.now) c.in_ok-cell.ensures);
       ordered = i.ordered;
     }

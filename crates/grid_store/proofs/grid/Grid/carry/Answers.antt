@@ -11,10 +11,10 @@ pub returns-in-Sheet-clause-carried : goal.returns-in-Sheet-clause-carried
 returns-in-Sheet-clause-carried c =
     let g = c.args.self.now in
     on_ok_weaker c.clear.result (λ h. h ∙ ap (λ b. outside b (cells_of g)) c.whole.ensures ∙ sheet_cleared c.args.way c.in-Sheet.sheet (cells_of g) (seen_inside g.rows g.cols g.cells.entries g.rows_limit g.cols_limit)
-        ∙ ap (λ f. carried_map (form_goes c.args.way f) (cells_of g)) c.in-Sheet.ensures) c.clear.ensures.cleared
+    ∙ ap (λ f. carried_map (form_goes c.args.way f) (cells_of g)) c.in-Sheet.ensures) c.clear.ensures.cleared
 
 pub returns-in-Sheet-clause-lost : goal.returns-in-Sheet-clause-lost
 returns-in-Sheet-clause-lost c =
     let g = c.args.self.now in
     IfOk-weaker c.clear.result _ _ (λ list h. h ∙ ap (λ b. map.entries (within b (cells_of g))) c.whole.ensures ∙ sheet_lost c.args.way c.in-Sheet.sheet (cells_of g) (seen_inside g.rows g.cols g.cells.entries g.rows_limit g.cols_limit)
-        ∙ ap (λ f. lost_by (form_goes c.args.way f) (cells_of g)) c.in-Sheet.ensures) c.clear.ensures.removed
+    ∙ ap (λ f. lost_by (form_goes c.args.way f) (cells_of g)) c.in-Sheet.ensures) c.clear.ensures.removed

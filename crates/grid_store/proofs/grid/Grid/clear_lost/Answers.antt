@@ -26,7 +26,7 @@ returns-in-Some-clause-lost c =
     let lost = subst (λ n. (line : ℕ) → line < n → span_has (Some c.in-Some.span) line ≡ is_none (line_goes c.args.way n c.args.edit line)) c.limit.ensures c.in-Some.ensures.lost in
     let area : c.with_span.result ≡ with_span c.args.axis c.in-Some.span (whole c.args.sheet) = c.with_span.ensures ∙ ap (with_span c.args.axis c.in-Some.span) c.whole.ensures in
     IfOk-weaker c.clear.result _ _ (λ list h. h ∙ ap (λ b. map.entries (within b (cells_of g))) area
-        ∙ lost_within c.args.way c.args.sheet c.args.axis c.args.edit c.in-Some.span (cells_of g) (seen_inside g.rows g.cols g.cells.entries g.rows_limit g.cols_limit) lost) c.clear.ensures.removed
+    ∙ lost_within c.args.way c.args.sheet c.args.axis c.args.edit c.in-Some.span (cells_of g) (seen_inside g.rows g.cols g.cells.entries g.rows_limit g.cols_limit) lost) c.clear.ensures.removed
 
 pub returns-in-Some-clause-kept : goal.returns-in-Some-clause-kept
 returns-in-Some-clause-kept c =
@@ -34,4 +34,4 @@ returns-in-Some-clause-kept c =
     let lost = subst (λ n. (line : ℕ) → line < n → span_has (Some c.in-Some.span) line ≡ is_none (line_goes c.args.way n c.args.edit line)) c.limit.ensures c.in-Some.ensures.lost in
     let area : c.with_span.result ≡ with_span c.args.axis c.in-Some.span (whole c.args.sheet) = c.with_span.ensures ∙ ap (with_span c.args.axis c.in-Some.span) c.whole.ensures in
     on_ok_weaker c.clear.result (λ h. h ∙ ap (λ b. outside b (cells_of g)) area
-        ∙ kept_outside c.args.way c.args.sheet c.args.axis c.args.edit c.in-Some.span (cells_of g) (seen_inside g.rows g.cols g.cells.entries g.rows_limit g.cols_limit) lost) c.clear.ensures.cleared
+    ∙ kept_outside c.args.way c.args.sheet c.args.axis c.args.edit c.in-Some.span (cells_of g) (seen_inside g.rows g.cols g.cells.entries g.rows_limit g.cols_limit) lost) c.clear.ensures.cleared

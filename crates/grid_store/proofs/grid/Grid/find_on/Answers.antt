@@ -24,8 +24,8 @@ loop-key-preserved-else-holds c =
     pass g.rows g.cols g.cells.entries c.args.area c.args.lines c.args.found.now c.loop-key.found (c.in-Some.key.now, c.in-Some.cell.now) c.next.new.self
     (subst (λ r. Progress g.rows g.cols g.cells.entries c.args.area c.args.lines c.args.found.now c.loop-key.found r) c.in-Some.ensures.steps c.loop-key.invariant)
     (λ q at there.
-        let same = same_Some c.in-Some-place.at q (c.in-Some-place.ensures ∙ at) in
-        both_ways (covers c.args.area c.in-Some-place.at) (sym c.holds.ensures.test ∙ c.if-holds.false) (ap (covers c.args.area) same ∙ there))
+    let same = same_Some c.in-Some-place.at q (c.in-Some-place.ensures ∙ at) in
+    both_ways (covers c.args.area c.in-Some-place.at) (sym c.holds.ensures.test ∙ c.if-holds.false) (ap (covers c.args.area) same ∙ there))
 
 pub returns-clause-cells : goal.returns-clause-cells
 returns-clause-cells c = c.loop-key.invariant.cells

@@ -12,7 +12,7 @@ invariant_of-self c =
       rows_limit = g.rows_limit;
       cols_limit = g.cols_limit;
       standing = standing_inserted g.rows g.cols c.insert.result g.cells.entries c.insert.new.self.entries c.args.at c.in-Some.key c.args.cell (sym c.in-Some.ensures)
-      (on_ok_weaker c.insert.result (λ u. u.0) c.insert.ensures.updates) c.insert.ensures.err g.standing;
+          (on_ok_weaker c.insert.result (λ u. u.0) c.insert.ensures.updates) c.insert.ensures.err g.standing;
     }
 
 pub returns-in_err-insert-clause-filled : goal.returns-in_err-insert-clause-filled
