@@ -5,3 +5,4 @@ pub mod Passing
 pub mod Levels
 pub mod OnSheets
 pub mod Returns
+pub mod CallerLemmas

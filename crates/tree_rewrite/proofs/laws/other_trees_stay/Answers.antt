@@ -1,5 +1,5 @@
-use Rattle.tree_rewrite.proofs.Levels.{others-mapped}
+use Rattle.tree_rewrite.proofs.CallerLemmas.{others-stay}
 use Rattle.tree_rewrite.proofs.laws.other_trees_stay.Goals as goal
 
 pub returns : goal.returns
-returns c = λ s t h. (others-mapped _ _ t h, others-mapped _ _ t h)
+returns c = others-stay

@@ -1,5 +1,5 @@
-use Rattle.tree_rewrite.proofs.Returns.{references-back, back-references}
+use Rattle.tree_rewrite.proofs.CallerLemmas.{comes_back-by_references}
 use Rattle.tree_rewrite.proofs.laws.trees_come_back_by_references.Goals as goal
 
 pub returns : goal.returns
-returns c = λ s t sound p. (references-back s t, back-references s t sound p)
+returns c = comes_back-by_references
