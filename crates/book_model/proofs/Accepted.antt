@@ -67,6 +67,7 @@ sound_edit d f (edit.Insert at count) limit e =
   where
     positive : (n : ℕ) → (n == 0) ≡ false → 0 < n
     positive n h = grind (arith, nat_tests)
+
     below : (n m : ℕ) → nat_le n m ≡ false → m < n
     below n m h = grind (arith, nat_tests)
 sound_edit d f (edit.Delete at count) limit e =
@@ -75,6 +76,7 @@ sound_edit d f (edit.Delete at count) limit e =
   where
     positive : (n : ℕ) → (n == 0) ≡ false → 0 < n
     positive n h = grind (arith, nat_tests)
+
     within : (n m : ℕ) → nat_lt n m ≡ false → m ≤ n
     within n m h = grind (arith, nat_tests)
 sound_edit d f (edit.Move from count before) limit e =
@@ -84,8 +86,10 @@ sound_edit d f (edit.Move from count before) limit e =
   where
     positive : (n : ℕ) → (n == 0) ≡ false → 0 < n
     positive n h = grind (arith, nat_tests)
+
     within : (n m : ℕ) → nat_lt n m ≡ false → m ≤ n
     within n m h = grind (arith, nat_tests)
+
     outside : (from count before : ℕ) → nat_le from before && nat_le before (from + count) ≡ false → (before < from) ⊎ (from + count < before)
     outside from count before h = elim (cases_lt before from) [ inl l ↦ inl l | inr l ↦ inr (grind (arith, nat_tests)) ]
 

@@ -65,7 +65,7 @@ placed_cells P at None cells new old p x e =
     changed (P p) (eq_by_cmp place_cmp p at) None (map.get cells p) x (sym (get-remove place_cmp-IsTotalOrder cells at p) ∙ e) (λ t n. cc) (old p x)
 placed_cells P at (Some c) cells new old p x e =
     changed (P p) (eq_by_cmp place_cmp p at) (Some c) (map.get cells p) x (sym (get-insert place_cmp-IsTotalOrder cells at c p) ∙ e)
-        (λ t n. subst (λ q. P q x) (is_at at p t) (new x n)) (old p x)
+    (λ t n. subst (λ q. P q x) (is_at at p t) (new x n)) (old p x)
 
 -- where cells are emptied, what holds of the old cells holds of those that are left
 pub emptied_cells : (P : Place → Content → Type 0) (test : Place → Bool) (cells : Contents)
@@ -73,5 +73,5 @@ pub emptied_cells : (P : Place → Content → Type 0) (test : Place → Bool) (
     → (p : Place) (x : Content) → map.get (map.retain_keys cells (λ q. not (test q))) p ≡ Some x → P p x
 emptied_cells P test cells old p x e =
     changed (P p) (not (test p)) (map.get cells p) None x
-        (sym (get-retain_keys cells (λ q. not (test q)) p (λ q t. ap (λ r. not (test r)) (sym (place_cmp-IsAntisymmetric p q t)))) ∙ e)
-        (λ t n. old p x n) (λ n. cc)
+    (sym (get-retain_keys cells (λ q. not (test q)) p (λ q t. ap (λ r. not (test r)) (sym (place_cmp-IsAntisymmetric p q t)))) ∙ e)
+    (λ t n. old p x n) (λ n. cc)

@@ -36,7 +36,7 @@ module _ {K X Y : Type 0} {R : K → K → Ordering} (o : IsTotalOrder R) (same 
       omega (arith, e)
   len-part (e ∷ es) m h =
       one-less (contains_key m e.0) (len m) (len (remove m e.0)) (length es) (len-remove o m e.0)
-          (len-part es (remove m e.0) (λ q none. get-remove o m e.0 q ∙ removed (eq_by_cmp R q e.0) (find R q es) e.1 (get m q) none (h q)))
+      (len-part es (remove m e.0) (λ q none. get-remove o m e.0 q ∙ removed (eq_by_cmp R q e.0) (find R q es) e.1 (get m q) none (h q)))
 
 none-kept : {X : Type 0} (b : Bool) (g : Option X) → g ≡ None → cond b g None ≡ None
 none-kept true g e = e
@@ -47,7 +47,7 @@ module _ {K X : Type 0} {R : K → K → Ordering} (o : IsTotalOrder R) (same : 
   pub len-retain_keys : (m : FinMap R X) (p : K → Bool) → len (retain_keys m p) ≤ len m
   len-retain_keys m p =
       let h = len-part o same (entries m) (retain_keys m p) (λ q none.
-          get-retain_keys m p q (λ x t. ap p (sym (same q x t))) ∙ none-kept (p q) (get m q) (get-entries m q ∙ none)) in
+      get-retain_keys m p q (λ x t. ap p (sym (same q x t))) ∙ none-kept (p q) (get m q) (get-entries m q ∙ none)) in
       let l = len-entries m in
       omega (arith, h, l)
 

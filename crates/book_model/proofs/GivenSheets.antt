@@ -54,7 +54,7 @@ apart (b ∷ books) h i j d below inside =
     let last : j < length (b ∷ books) = omega (arith, long, inside) in
     let first : i < length (b ∷ books) = omega (arith, below, last) in
     rw (get_or-numbered 0 (b ∷ books) i d b first, get_or-numbered 0 (b ∷ books) j d b last)
-        ((λ same. absurd (omega (arith, same, below))), h i j b below last)
+    ((λ same. absurd (omega (arith, same, below))), h i j b below last)
 
 all-numbered : (P : ℕ → Type 0) (books : List BookSheet) → ((k : ℕ) → k < length books → P k) → All (λ s. P s.0) (numbered 0 books)
 all-numbered P [] h k d l = absurd (omega arith)
@@ -104,8 +104,8 @@ given_sheets : (b : Workbook) (n : ℕ) (books : List BookSheet) → AreSheets b
 given_sheets b n [] are known h = tt
 given_sheets b n (s ∷ books) are known h =
     each-append (IsCellOf b) (filter_map (given_entry b.sheets n) s.cells.list.items) (given_entries b.sheets (n + 1) books)
-        (given_sheet b n s.cells.list.items are (known n (omega arith) (omega arith)) (All-head IsGivenSheet s books h).1)
-        (given_sheets b (n + 1) books are (λ k low high. known k (omega arith) (omega arith)) (All-tail IsGivenSheet s books h))
+    (given_sheet b n s.cells.list.items are (known n (omega arith) (omega arith)) (All-head IsGivenSheet s books h).1)
+    (given_sheets b (n + 1) books are (λ k low high. known k (omega arith) (omega arith)) (All-tail IsGivenSheet s books h))
 
 pub given_sound : (books : List BookSheet) → CanBegin books → IsSound (session_given books)
 given_sound books can =

@@ -69,7 +69,7 @@ mutual
   all_stand sheets home (fault f) h p l sheet i = absurd i
   all_stand sheets home (cell c) h p l sheet i = ap (λ n. has_id n sheets) (sym i) ∙ listed-has sheets home c.at.sheet h l
   all_stand sheets home (area c d) h p l sheet i = elim i [
-      inl e ↦ ap (λ n. has_id n sheets) (sym e) ∙ listed-has sheets home c.at.sheet h l
+    | inl e ↦ ap (λ n. has_id n sheets) (sym e) ∙ listed-has sheets home c.at.sheet h l
     | inr e ↦ ap (λ n. has_id n sheets) (sym e ∙ sym p.2.0) ∙ listed-has sheets home c.at.sheet h l
   ]
   all_stand sheets home (name w) h p l sheet i = absurd i

@@ -56,7 +56,7 @@ pub has-renamed : (id k : ℕ) (name : List ℕ) (sheets : List (ℕ × List ℕ
 has-renamed id k name [] h = cc
 has-renamed id k name (s ∷ sheets) h =
     same-number k s (renamed_sheet id name s) (has_id k (map (renamed_sheet id name) sheets)) (renamed-id id name s)
-        (or-more (s.0 == k) (has_id k sheets) (has_id k (map (renamed_sheet id name) sheets)) (has-renamed id k name sheets) h)
+    (or-more (s.0 == k) (has_id k sheets) (has_id k (map (renamed_sheet id name) sheets)) (has-renamed id k name sheets) h)
 
 left-one : (b c : Bool) (k dropped : ℕ) (s : ℕ × List ℕ) (rest : List (ℕ × List ℕ)) (more : Bool) → eqb s.0 k ≡ b → eqb s.0 dropped ≡ c → k ≢ dropped → (more ≡ true → has_id k rest ≡ true)
     → b || more ≡ true → has_id k (cond (not c) (s ∷ rest) rest) ≡ true
@@ -124,7 +124,7 @@ sheets-renamed sheets id name h free = (pairs, known)
         let long = length-map (renamed_sheet id name) sheets in
         let small : j < length sheets = omega (arith, long, inside) in
         rw (get_or-map (renamed_sheet id name) sheets i d d (omega (arith, below, small)), get_or-map (renamed_sheet id name) sheets j d d small)
-            (renamed-apart id name (get_or sheets i d) (get_or sheets j d) (h.0 i j d below small) (far i d (omega (arith, below, small))) (far j d small))
+        (renamed-apart id name (get_or sheets i d) (get_or sheets j d) (h.0 i j d below small) (far i d (omega (arith, below, small))) (far j d small))
 
     known : All (λ s. s.0 ≢ NO_SHEET) (map (renamed_sheet id name) sheets)
     known k d l =

@@ -104,8 +104,7 @@ shifted_cell : (s : Shift) (b : Workbook) (q : Place) (c : Content) → IsSoundS
     → ((p : Place) (x : Content) → fin.get b.cells p ≡ Some x → IsCellOf b p x) → fin.get (shifted s b).cells q ≡ Some c → IsCellOf (shifted s b) q c
 shifted_cell s b q c sound k all e =
     let from = came s b.cells q c sound (all_inside b all) e in
-    let cell = all from.place from.content from.stood in
-    (
+    let cell = all from.place from.content from.stood in (
       from.inside,
       led (form_of s) b from.place.sheet q.sheet (place-leads (form_of s) from.place q from.moved) k cell.1,
       subst (IsContentOf (shifted s b)) from.follows (followed s b from.content sound k cell.2),

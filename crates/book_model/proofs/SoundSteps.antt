@@ -40,9 +40,9 @@ set_sound d at text s e =
     let h = none_hold (causes (set at text) d) e in
     let here = is_known (has_sheet d.book at.sheet) h.0 in
     with_cells d (with_content at text d.book).cells s
-        (placed_cells (IsCellOf d.book) at (content_given d.book.sheets at.sheet (content_of text)) d.book.cells
-            (λ x given. (is_inside at h.1.0, here, given_is d.book at.sheet (content_of text) x s.sheets here given)) s.cells)
-        (at_most 1000000 (map.len (with_content at text d.book).cells) h.1.1.1.0)
+    (placed_cells (IsCellOf d.book) at (content_given d.book.sheets at.sheet (content_of text)) d.book.cells
+    (λ x given. (is_inside at h.1.0, here, given_is d.book at.sheet (content_of text) x s.sheets here given)) s.cells)
+    (at_most 1000000 (map.len (with_content at text d.book).cells) h.1.1.1.0)
 
 -- emptied cells
 emptied_sound : (d : State) (test : Place → Bool) → IsSound d → IsSound (changed (emptied test d.book) d)

@@ -80,7 +80,7 @@ apart-inserted es zero x h n = AllPairs-cons Differ x es (all-turned x es n) h
 apart-inserted [] (suc i) x h n = AllPairs-cons Differ x [] (all-turned x [] n) h
 apart-inserted (e ∷ es) (suc i) x h n =
     AllPairs-cons Differ e (insert es i x) (all-inserted (Differ e) es i x (first-differs e es h) (All-head (λ s. Differ s x) e es n))
-        (apart-inserted es i x (rest-apart e es h) (All-tail (λ s. Differ s x) e es n))
+    (apart-inserted es i x (rest-apart e es h) (All-tail (λ s. Differ s x) e es n))
 
 -- a proper list stays so where a new sheet is put in
 pub sheets-inserted : (es : List Sheet) (i id : ℕ) (name : List ℕ) → AreSheets es → CanJoin id name es → AreSheets (insert es i (id, name))
@@ -115,7 +115,7 @@ pub put-again : (es : List Sheet) (id : ℕ) (name : List ℕ) → AreApart es �
 put-again [] id name h some = cc
 put-again (e ∷ es) id name h some =
     rw (turned id e.0) (renamed-or (eqb e.0 id) id name e es (insert_entry eqb es id name) refl h
-        (λ other. put-again es id name (rest-apart e es h) (named-rest (eqb e.0 id) e.1 (name_in es id) other some)))
+    (λ other. put-again es id name (rest-apart e es h) (named-rest (eqb e.0 id) e.1 (name_in es id) other some)))
 
 one-renamed : (b : Bool) (id : ℕ) (name : List ℕ) (s : Sheet) → eqb s.0 id ≡ b → (cond b (id, name) s).0 ≡ s.0
 one-renamed true id name s t = sym (eqb-true s.0 id t)
@@ -159,7 +159,7 @@ sheets-renamed es id name h free = (pairs, known)
         let last : j < length es = omega (arith, long, inside) in
         let first : i < length es = omega (arith, below, last) in
         rw (get_or-renamed id name es i d first, get_or-renamed id name es j d last)
-            (renamed-differ id name (get_or es i d) (get_or es j d) (h.0 i j d below last) (free i d first) (free j d last))
+        (renamed-differ id name (get_or es i d) (get_or es j d) (h.0 i j d below last) (free i d first) (free j d last))
 
     known : All (λ s. s.0 ≢ NO_SHEET) (renamed_in id name es)
     known k d l =
@@ -217,4 +217,4 @@ front-joins es rest id name h = (last, all)
     all : All (λ s. (s.0 ≢ id) × (folded s.1 ≢ folded name)) es
     all k d l =
         subst (λ (s : Sheet). (s.0 ≢ id) × (folded s.1 ≢ folded name)) (got-front es rest (id, name) d k l)
-            (subst (λ (s : Sheet). Differ (get_or (es ++ (id, name) ∷ rest) k d) s) (got-behind es rest (id, name) d) (h.0 k (length es) d l (longer es rest (id, name))))
+        (subst (λ (s : Sheet). Differ (get_or (es ++ (id, name) ∷ rest) k d) s) (got-behind es rest (id, name) d) (h.0 k (length es) d l (longer es rest (id, name))))

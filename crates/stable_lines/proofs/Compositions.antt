@@ -1,11 +1,11 @@
 -- Tables read one after the other: what they say of a number, and that they are tables. Serves edits of lines.
-use Rattle.std.proofs.Common.{◌≡◌, ◌∙◌, sym, ap, refl, ℕ, ◌+◌, ◌-◌, ◌<◌, ◌≤◌, Bool, true, false, cond, ◌&&◌, List, [], ◌∷◌, ◌++◌, Option, Some, None, option_and_then, nat_le, nat_lt, arith, min, max}
+use Rattle.std.proofs.Common.{◌≡◌, ◌∙◌, sym, ap, refl, ℕ, ◌+◌, ◌-◌, ◌<◌, ◌≤◌, Bool, true, false, cond, ◌&&◌, List, [], ◌∷◌, ◌++◌, Option, Some, None, option_and_then, nat_le, nat_lt, arith}
 use Rattle.std.specs.List.{cons_option}
 use Rattle.std.proofs.lemmas.Bool.{and_parts}
 use Rattle.std.proofs.lemmas.Bool.Decides.{nat_tests}
 use Rattle.stable_lines.specs.Runs.{holds, image}
 use Rattle.stable_lines.specs.declared.run.Run.{Run}
-use Rattle.stable_lines.specs.internal.Tables.{after_run, composed, end_by, fits, is_table, joint_start, joint_end, part}
+use Rattle.stable_lines.specs.internal.Tables.{after_run, composed, end_by, fits, is_table, joint_start, joint_end}
 use Rattle.stable_lines.proofs.TableLemmas.{both, table_parts, table_whole, table_later, fits_sums, sums_fit, held_within, image_below, image_front, image_behind}
 
 -- where the first run takes a number

@@ -1,13 +1,13 @@
 -- The turn of an edit brings each line where the edit does. Serves edits of lines.
-use Rattle.std.proofs.Common.{◌≡◌, ◌∙◌, sym, ap, refl, ℕ, ◌+◌, ◌-◌, ◌<◌, ◌≤◌, ◌⊎◌, inl, inr, Bool, true, false, cond, ltb, Option, Some, None, is_some, IsSomeAnd, subst, le_refl, arith}
+use Rattle.std.proofs.Common.{◌≡◌, ◌∙◌, sym, ap, refl, ℕ, ◌+◌, ◌<◌, ◌≤◌, Bool, true, false, cond, ltb, Option, Some, None, is_some, subst, le_refl, arith}
 use Rattle.std.proofs.lemmas.Bool.Decides.{nat_tests}
 use Rattle.std.proofs.lemmas.Option.{same_Some}
-use Rattle.shift_core.specs.Lines.{IsSoundMove, line_after, line_before, line_after_insert, line_after_delete, line_after_move, line_after_move_down, line_after_move_up}
+use Rattle.shift_core.specs.Lines.{IsSoundMove, line_after, line_before, line_after_insert, line_after_delete, line_after_move}
 use Rattle.shift_core.specs.declared.edit.Edit.{Edit}
 use Rattle.shift_core.specs.declared.edit.Edit.TheVariants.{Insert, Delete, Move}
 use Rattle.shift_core.proofs.LinesReturn.{line_before_move, line_before-Move, move_inside, unmove_inside}
-use Rattle.stable_lines.specs.Lines.{AreRenewed, ComesTo, line_at}
-use Rattle.stable_lines.specs.Runs.{holds, image}
+use Rattle.stable_lines.specs.Lines.{AreRenewed, ComesTo}
+use Rattle.stable_lines.specs.Runs.{image}
 use Rattle.stable_lines.specs.declared.table.LineTable.{LineTable}
 use Rattle.stable_lines.specs.declared.turn.Turn.{Turn}
 use Rattle.stable_lines.specs.internal.Turned.{IsTurned}

@@ -1,8 +1,8 @@
 -- Tables that lead to and fro. Serves edits of lines.
-use Rattle.std.proofs.Common.{◌≡◌, ◌∙◌, sym, ap, refl, ◌↔◌, ℕ, ◌+◌, ◌-◌, ◌<◌, ◌≤◌, Bool, true, false, List, [], ◌∷◌, ◌++◌, Option, Some, None, option_and_then, arith}
+use Rattle.std.proofs.Common.{◌≡◌, ◌∙◌, sym, ap, refl, ℕ, ◌+◌, ◌-◌, ◌<◌, ◌≤◌, true, List, [], ◌∷◌, ◌++◌, Option, Some, None, option_and_then, arith}
 use Rattle.std.proofs.lemmas.Bool.Decides.{nat_tests}
 use Rattle.std.proofs.lemmas.Option.{same_Some}
-use Rattle.stable_lines.specs.Runs.{AreInverse, holds, image}
+use Rattle.stable_lines.specs.Runs.{AreInverse, image}
 use Rattle.stable_lines.specs.declared.run.Run.{Run}
 use Rattle.stable_lines.specs.declared.turn.Turn.{Turn}
 use Rattle.stable_lines.specs.internal.Tables.{is_table}

@@ -1,7 +1,7 @@
 -- The lines of a sheet once they and fresh ones behind them take a turn. Serves edits of lines.
-use Rattle.std.proofs.Common.{◌≡◌, ◌∙◌, sym, ap, refl, ℕ, ◌+◌, ◌-◌, ◌<◌, ◌≤◌, ◌⊎◌, inl, inr, Bool, true, false, List, [], ◌∷◌, ◌++◌, Option, Some, None, is_some, IsSomeAnd, option_and_then, subst, arith}
+use Rattle.std.proofs.Common.{◌≡◌, ◌∙◌, sym, ap, refl, ℕ, ◌+◌, ◌-◌, ◌<◌, ◌≤◌, ◌⊎◌, inl, inr, true, List, [], ◌∷◌, ◌++◌, Option, Some, None, is_some, IsSomeAnd, option_and_then, subst, arith}
 use Rattle.std.proofs.lemmas.Bool.Decides.{nat_tests}
-use Rattle.stable_lines.specs.Runs.{AreInverse, holds, image}
+use Rattle.stable_lines.specs.Runs.{AreInverse, image}
 use Rattle.stable_lines.specs.declared.run.Run.{Run}
 use Rattle.stable_lines.specs.declared.turn.Turn.{Turn}
 use Rattle.stable_lines.specs.internal.Tables.{are_fit, composed, end_by, fits, is_table}

@@ -1,5 +1,5 @@
 -- The lines of each sheet of a workbook along one axis. Source: this project's own.
-use Rattle.std.specs.Prelude.{◌≡◌, ℕ, Bool, if◌then◌else◌, ◌==◌, IsSome, unwrap_or}
+use Rattle.std.specs.Prelude.{ℕ, IsSome, unwrap_or}
 use Rattle.std.specs.BTreeMap as tree
 use Rattle.std.specs.Ordering.{nat_cmp}
 use Rattle.stable_lines.specs.Lines.{AreSame}

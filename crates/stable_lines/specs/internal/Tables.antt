@@ -1,5 +1,5 @@
 -- Tables: runs in order, none overlapping, whose sums fit 64 bits; and how two tables are read one after the other.
-use Rattle.std.specs.Prelude.{◌≡◌, ℕ, ◌+◌, ◌-◌, ◌*◌, ◌<◌, ◌≤◌, Bool, true, ◌&&◌, nat_le, nat_lt, max, min, if◌then◌else◌, List, [], ◌∷◌, ◌++◌, Option, Some, None, filter_map}
+use Rattle.std.specs.Prelude.{ℕ, ◌+◌, ◌-◌, ◌<◌, ◌≤◌, Bool, true, ◌&&◌, nat_le, nat_lt, max, min, if◌then◌else◌, List, [], ◌∷◌, ◌++◌, Option, Some, None, filter_map}
 use Rattle.std.specs.List.{list_all}
 use Rattle.stable_lines.specs.Runs.{holds}
 use Rattle.stable_lines.specs.declared.run.Run.{Run}

@@ -1,6 +1,6 @@
 -- Turns: two bands of lines side by side change places. Every edit is a turn of the lines of the sheet and of fresh lines
 -- behind them, of which those that come to stand past the sheet's end are lost.
-use Rattle.std.specs.Prelude.{◌≡◌, ℕ, ◌+◌, ◌-◌, ◌<◌, ◌≤◌, ◌^◌, ⊤, nat_lt, min, if◌then◌else◌, List, [], ◌∷◌, ◌++◌}
+use Rattle.std.specs.Prelude.{ℕ, ◌+◌, ◌-◌, ◌<◌, ◌≤◌, ◌^◌, ⊤, nat_lt, min, if◌then◌else◌, List, [], ◌∷◌, ◌++◌}
 use Rattle.shift_core.specs.Lines.{IsSoundMove}
 use Rattle.shift_core.specs.declared.edit.Edit.{Edit}
 use Rattle.shift_core.specs.declared.edit.Edit.TheVariants.{Insert, Delete, Move}

@@ -10,8 +10,8 @@ returns-in_err-insert-clause-proper c = subst AreSheets (sym c.in_err-insert.ens
 pub returns-clause-proper : goal.returns-clause-proper
 returns-clause-proper c =
     subst AreSheets
-        (sym (c.in_ok-insert.ensures.entries ∙ put-again c.args.sheets.now.entries c.args.id c.args.name c.requires.proper.0 c.requires.listed))
-        (sheets-renamed c.args.sheets.now.entries c.args.id c.args.name c.requires.proper c.requires.free)
+    (sym (c.in_ok-insert.ensures.entries ∙ put-again c.args.sheets.now.entries c.args.id c.args.name c.requires.proper.0 c.requires.listed))
+    (sheets-renamed c.args.sheets.now.entries c.args.id c.args.name c.requires.proper c.requires.free)
 
 pub returns-clause-ok : goal.returns-clause-ok
 returns-clause-ok c = c.in_ok-insert.ensures.entries ∙ put-again c.args.sheets.now.entries c.args.id c.args.name c.requires.proper.0 c.requires.listed

@@ -15,8 +15,8 @@ returns-in_err-shift_insert-clause-proper c = subst AreSheets (sym c.in_err-shif
 pub returns-clause-proper : goal.returns-clause-proper
 returns-clause-proper c =
     subst AreSheets
-        (sym (c.in_ok-shift_insert.ensures.entries ∙ put-at c.args.sheets.now.entries c.args.id c.args.name c.args.index (new-lacks c.args.sheets.now.entries c.args.id c.args.name c.requires.new)))
-        (sheets-inserted c.args.sheets.now.entries c.args.index c.args.id c.args.name c.requires.proper c.requires.new)
+    (sym (c.in_ok-shift_insert.ensures.entries ∙ put-at c.args.sheets.now.entries c.args.id c.args.name c.args.index (new-lacks c.args.sheets.now.entries c.args.id c.args.name c.requires.new)))
+    (sheets-inserted c.args.sheets.now.entries c.args.index c.args.id c.args.name c.requires.proper c.requires.new)
 
 pub returns-clause-ok : goal.returns-clause-ok
 returns-clause-ok c =

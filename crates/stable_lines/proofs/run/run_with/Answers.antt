@@ -1,5 +1,4 @@
-use Rattle.std.proofs.Common.{◌≡◌, ◌∙◌, sym, ap, subst, ℕ, ◌+◌, ◌-◌, ◌<◌, ◌≤◌, true, List, ◌∷◌, ◌++◌, Some, None, option_map, arith}
-use Rattle.stable_lines.specs.Runs.{image}
+use Rattle.std.proofs.Common.{◌≡◌, ◌∙◌, sym, ap, subst, ℕ, ◌+◌, ◌-◌, ◌<◌, ◌≤◌, true, List, ◌∷◌, ◌++◌, Some, option_map, arith}
 use Rattle.stable_lines.specs.declared.run.Run.{Run}
 use Rattle.stable_lines.specs.internal.Tables.{IsFound, is_table, run_with}
 use Rattle.stable_lines.proofs.TableLemmas.{image-run_with, run_before, run_there, run_behind, front_table, behind_table, middle_fits, table_later, fits_sums}

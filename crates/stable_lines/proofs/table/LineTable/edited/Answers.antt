@@ -1,4 +1,4 @@
-use Rattle.std.proofs.Common.{◌≡◌, ap, subst, IfOk}
+use Rattle.std.proofs.Common.{subst}
 use Rattle.std.proofs.lemmas.Result.{IfOk-weaker}
 use Rattle.shift_core.specs.Lines.{line_before}
 use Rattle.stable_lines.specs.Lines.{AreRenewed}

@@ -1,4 +1,4 @@
-use Rattle.std.proofs.Common.{◌≡◌, ◌∙◌, sym, ap, ◌<◌, Some, arith}
+use Rattle.std.proofs.Common.{◌≡◌, ◌∙◌, sym, ap, Some, arith}
 use Rattle.stable_lines.specs.Runs.{image}
 use Rattle.stable_lines.proofs.table.LineTable.position.Goals as goal
 

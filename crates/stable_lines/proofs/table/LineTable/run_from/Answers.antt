@@ -1,4 +1,4 @@
-use Rattle.std.proofs.Common.{◌≡◌, ◌∙◌, sym, ap, subst, refl, ℕ, ◌+◌, ◌-◌, ◌<◌, ◌≤◌, true, List, Some, arith}
+use Rattle.std.proofs.Common.{◌≡◌, ◌∙◌, sym, ap, refl, ℕ, ◌+◌, ◌-◌, ◌<◌, ◌≤◌, true, List, Some, arith}
 use Rattle.stable_lines.specs.Runs.{image}
 use Rattle.stable_lines.specs.declared.run.Run.{Run}
 use Rattle.stable_lines.specs.internal.Tables.{is_table, run_with}

@@ -1,6 +1,6 @@
-use Rattle.std.proofs.Common.{◌≡◌, ◌∙◌, ap, ◌+◌, ◌-◌, ◌<◌, ◌≤◌, ◌++◌, ◌∷◌, [], refl, arith}
+use Rattle.std.proofs.Common.{◌≡◌, ◌∙◌, ap, ◌-◌, refl, arith}
 use Rattle.stable_lines.specs.declared.table.LineTable.{LineTable}
-use Rattle.stable_lines.specs.internal.Turns.{fresh, fresh_back, new_lines, new_positions}
+use Rattle.stable_lines.specs.internal.Turns.{new_lines, new_positions}
 use Rattle.stable_lines.proofs.Turning.{AreLines, longer_fits, longer_back_fits, back_fits, forth_fits, owed, made_kept, made_fresh}
 use Rattle.stable_lines.proofs.table.LineTable.turned.Goals as goal
 
