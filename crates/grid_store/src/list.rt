@@ -39,8 +39,8 @@ impl CellList {
         self.list.iter().all(|entry| entry.0.inside())
     }
 
-    // Takes the last cell off.
-    pub(crate) fn pop(&mut self) -> Option<(Place, Cell)>
+    /// Takes the last cell off. `None` where the list has none.
+    pub fn pop(&mut self) -> Option<(Place, Cell)>
         ensures { MatchOption result (items_of self.old ≡ []) (λ last. items_of self.old ≡ items_of self.new ++ last ∷ []) }
     {
         self.list.pop()

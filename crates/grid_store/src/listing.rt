@@ -27,6 +27,20 @@ impl Grid {
         in_order(alloc, found)
     }
 
+    /// Copies of all filled cells with their places, in no order that is told. Costs the number of filled cells.
+    pub fn all(&self, alloc: Global) -> Result<CellList, AllocError>
+        ensures { IfOk result (λ list. map.from_entries (items_of list) ≡ cells_of self.now) }
+    {
+        let mut list = CellList::new(alloc);
+        for (key, cell) in &self.cells {
+            if let Some(at) = self.place(*key) {
+                let cell = cell.copied(alloc)?;
+                list.push(at, cell)?;
+            }
+        }
+        Ok(list)
+    }
+
     // Finds the filled cells of the block, by its runs of rows whose lines follow one another.
     fn find(
         &self,

@@ -1,0 +1,202 @@
+-- What the contents of kept cells are at a place, and what they are after one cell or some change. Serves the calls
+-- of the engine.
+use Rattle.std.proofs.Common.{◌≡◌, ◌∙◌, sym, ap, subst, refl, ℕ, Bool, true, false, cond, not, List, [], ◌∷◌, map, Option, Some, None, option_map, arith, ◌==◌}
+use Rattle.std.proofs.lemmas.Bool.Decides.{nat_tests}
+use Rattle.std.proofs.lemmas.Option.{same_Some}
+use Rattle.std.specs.FinMap as fin
+use Rattle.std.specs.FinMap.{find, get-entries, get-from_entries, get-insert, get-remove, get-retain_keys, same_map}
+use Rattle.std.specs.Ordering.{eq_by_cmp}
+use Rattle.cell_addr.specs.Order.{place_cmp}
+use Rattle.cell_addr.specs.declared.place.Place.{Place}
+use Rattle.cell_addr.proofs.Places.{place_cmp-IsTotalOrder, place_cmp-IsAntisymmetric}
+use Rattle.cell_values.specs.Workbook.{Book as Contents, Content, formula}
+use Rattle.grid_store.specs.declared.cell.Cell.{Cell}
+use Rattle.grid_store.specs.declared.cell.Cell.TheVariants as cell
+use Rattle.shift_core.specs.Maps.{PlaceMap}
+use Rattle.shift_core.proofs.CarriedEntries.{eq_by_cmp-decides}
+use Rattle.book_model.proofs.Contents.{is_at}
+use Rattle.book_engine.specs.Formulas.{Numbered, Stood}
+use Rattle.book_engine.specs.Seen.{AllStand, StandsAt, content_of, contents_of, tree_of}
+use Rattle.book_engine.specs.internal.Cells.{Releases, released}
+
+find-each : {X Y : Type 0} (h : X → Y) (p : Place) (es : List (Place × X)) → find place_cmp p (map (λ e. (e.0, h e.1)) es) ≡ option_map h (find place_cmp p es)
+find-each h p [] = refl
+find-each h p (e ∷ es) = go (eq_by_cmp place_cmp p e.0) (find-each h p es)
+  where
+    go : (b : Bool) → find place_cmp p (map (λ e. (e.0, h e.1)) es) ≡ option_map h (find place_cmp p es)
+        → cond b (Some (h e.1)) (find place_cmp p (map (λ e. (e.0, h e.1)) es)) ≡ option_map h (cond b (Some e.1) (find place_cmp p es))
+    go true i = refl
+    go false i = i
+
+-- the content at a place is that of the cell there
+pub get-contents : (stands : Numbered) (cells : PlaceMap Cell) (p : Place) → fin.get (contents_of stands cells) p ≡ option_map (content_of stands) (fin.get cells p)
+get-contents stands cells p =
+    get-from_entries place_cmp-IsTotalOrder (map (λ e. (e.0, content_of stands e.1)) (fin.entries cells)) p
+    ∙ find-each (content_of stands) p (fin.entries cells)
+    ∙ ap (option_map (content_of stands)) (sym (get-entries cells p))
+
+-- a cell holds the same where its formula's number stands for the same
+pub content_same : (one two : Numbered) (r : Option Cell) → ((n : ℕ) → r ≡ Some (cell.Formula n) → two n ≡ one n) → option_map (content_of two) r ≡ option_map (content_of one) r
+content_same one two None h = refl
+content_same one two (Some (cell.Number m)) h = refl
+content_same one two (Some (cell.Truth b)) h = refl
+content_same one two (Some (cell.Text w)) h = refl
+content_same one two (Some (cell.Formula n)) h = ap (λ r. Some (formula (tree_of r))) (h n refl)
+content_same one two (Some (cell.Broken w)) h = refl
+
+-- contents are the same where all numbers stand for the same
+pub contents_same : (one two : Numbered) (cells : PlaceMap Cell) → ((n : ℕ) → two n ≡ one n) → contents_of two cells ≡ contents_of one cells
+contents_same one two cells h = same_map place_cmp-IsTotalOrder place_cmp-IsAntisymmetric _ _ (λ p.
+    get-contents two cells p ∙ content_same one two (fin.get cells p) (λ n e. h n) ∙ sym (get-contents one cells p))
+
+pub stand_same : (one two : Numbered) (cells : PlaceMap Cell) → ((n : ℕ) → two n ≡ one n) → AllStand one cells → AllStand two cells
+stand_same one two cells h all p n e = let s = all p n e in (s.0, h n ∙ s.1)
+
+-- a number stands at one place
+pub one_place : (stands : Numbered) (cells : PlaceMap Cell) (p q : Place) (n : ℕ) → AllStand stands cells → fin.get cells p ≡ Some (cell.Formula n) → fin.get cells q ≡ Some (cell.Formula n) → p ≡ q
+one_place stands cells p q n all a b =
+    let s = all p n a in
+    let t = all q n b in
+    ap (λ e. e.0) (same_Some (p, s.0) (q, t.0) (sym s.1 ∙ t.1))
+
+-- numbers of other cells stand for the same
+abbrev pub Agree : Place → PlaceMap Cell → Numbered → Numbered → Type 0
+Agree at cells one two = (q : Place) (n : ℕ) → eq_by_cmp place_cmp q at ≡ false → fin.get cells q ≡ Some (cell.Formula n) → two n ≡ one n
+
+pub contents-insert : (one two : Numbered) (cells : PlaceMap Cell) (at : Place) (c : Cell) (x : Content) → Agree at cells one two → content_of two c ≡ x
+    → contents_of two (fin.insert cells at c) ≡ fin.insert (contents_of one cells) at x
+contents-insert one two cells at c x same is = same_map place_cmp-IsTotalOrder place_cmp-IsAntisymmetric _ _ (λ q.
+    get-contents two (fin.insert cells at c) q
+    ∙ ap (option_map (content_of two)) (get-insert place_cmp-IsTotalOrder cells at c q)
+    ∙ go q (eq_by_cmp place_cmp q at) refl
+    ∙ ap (cond (eq_by_cmp place_cmp q at) (Some x)) (sym (get-contents one cells q))
+    ∙ sym (get-insert place_cmp-IsTotalOrder (contents_of one cells) at x q))
+  where
+    go : (q : Place) (b : Bool) → eq_by_cmp place_cmp q at ≡ b → option_map (content_of two) (cond b (Some c) (fin.get cells q)) ≡ cond b (Some x) (option_map (content_of one) (fin.get cells q))
+    go q true e = ap Some is
+    go q false e = content_same one two (fin.get cells q) (λ n h. same q n e h)
+
+pub stand-insert : (one two : Numbered) (cells : PlaceMap Cell) (at : Place) (c : Cell) → AllStand one cells → Agree at cells one two → ((n : ℕ) → c ≡ cell.Formula n → StandsAt two n at)
+    → AllStand two (fin.insert cells at c)
+stand-insert one two cells at c all same new p n e = go (eq_by_cmp place_cmp p at) refl (sym (get-insert place_cmp-IsTotalOrder cells at c p) ∙ e)
+  where
+    go : (b : Bool) → eq_by_cmp place_cmp p at ≡ b → cond b (Some c) (fin.get cells p) ≡ Some (cell.Formula n) → StandsAt two n p
+    go true is f = subst (StandsAt two n) (is_at at p is) (new n (same_Some c (cell.Formula n) f))
+    go false is f = let old = all p n f in (old.0, same p n is f ∙ old.1)
+
+pub contents-remove : (one two : Numbered) (cells : PlaceMap Cell) (at : Place) → Agree at cells one two → contents_of two (fin.remove cells at) ≡ fin.remove (contents_of one cells) at
+contents-remove one two cells at same = same_map place_cmp-IsTotalOrder place_cmp-IsAntisymmetric _ _ (λ q.
+    get-contents two (fin.remove cells at) q
+    ∙ ap (option_map (content_of two)) (get-remove place_cmp-IsTotalOrder cells at q)
+    ∙ go q (eq_by_cmp place_cmp q at) refl
+    ∙ ap (cond (eq_by_cmp place_cmp q at) None) (sym (get-contents one cells q))
+    ∙ sym (get-remove place_cmp-IsTotalOrder (contents_of one cells) at q))
+  where
+    go : (q : Place) (b : Bool) → eq_by_cmp place_cmp q at ≡ b → option_map (content_of two) (cond b None (fin.get cells q)) ≡ cond b None (option_map (content_of one) (fin.get cells q))
+    go q true e = refl
+    go q false e = content_same one two (fin.get cells q) (λ n h. same q n e h)
+
+pub stand-remove : (one two : Numbered) (cells : PlaceMap Cell) (at : Place) → AllStand one cells → Agree at cells one two → AllStand two (fin.remove cells at)
+stand-remove one two cells at all same p n e = go (eq_by_cmp place_cmp p at) refl (sym (get-remove place_cmp-IsTotalOrder cells at p) ∙ e)
+  where
+    go : (b : Bool) → eq_by_cmp place_cmp p at ≡ b → cond b None (fin.get cells p) ≡ Some (cell.Formula n) → StandsAt two n p
+    go true is f = cc
+    go false is f = let old = all p n f in (old.0, same p n is f ∙ old.1)
+
+-- numbers of cells that pass no test stand for the same
+abbrev pub AgreeBut : (Place → Bool) → PlaceMap Cell → Numbered → Numbered → Type 0
+AgreeBut gone cells one two = (q : Place) (n : ℕ) → gone q ≡ false → fin.get cells q ≡ Some (cell.Formula n) → two n ≡ one n
+
+get-left : {X : Type 0} (gone : Place → Bool) (m : PlaceMap X) (q : Place) → fin.get (fin.retain_keys m (λ p. not (gone p))) q ≡ cond (not (gone q)) (fin.get m q) None
+get-left gone m q = get-retain_keys m (λ p. not (gone p)) q (λ x t. ap (λ r. not (gone r)) (sym (place_cmp-IsAntisymmetric q x t)))
+
+pub contents-retain : (gone : Place → Bool) (one two : Numbered) (cells : PlaceMap Cell) → AgreeBut gone cells one two
+    → contents_of two (fin.retain_keys cells (λ p. not (gone p))) ≡ fin.retain_keys (contents_of one cells) (λ p. not (gone p))
+contents-retain gone one two cells same = same_map place_cmp-IsTotalOrder place_cmp-IsAntisymmetric _ _ (λ q.
+    get-contents two (fin.retain_keys cells (λ p. not (gone p))) q
+    ∙ ap (option_map (content_of two)) (get-left gone cells q)
+    ∙ go q (gone q) refl
+    ∙ ap (λ r. cond (not (gone q)) r None) (sym (get-contents one cells q))
+    ∙ sym (get-left gone (contents_of one cells) q))
+  where
+    go : (q : Place) (b : Bool) → gone q ≡ b → option_map (content_of two) (cond (not b) (fin.get cells q) None) ≡ cond (not b) (option_map (content_of one) (fin.get cells q)) None
+    go q true e = refl
+    go q false e = content_same one two (fin.get cells q) (λ n h. same q n e h)
+
+pub stand-retain : (gone : Place → Bool) (one two : Numbered) (cells : PlaceMap Cell) → AllStand one cells → AgreeBut gone cells one two → AllStand two (fin.retain_keys cells (λ p. not (gone p)))
+stand-retain gone one two cells all same p n e = go (gone p) refl (sym (get-left gone cells p) ∙ e)
+  where
+    go : (b : Bool) → gone p ≡ b → cond (not b) (fin.get cells p) None ≡ Some (cell.Formula n) → StandsAt two n p
+    go true is f = cc
+    go false is f = let old = all p n f in (old.0, same p n is f ∙ old.1)
+
+itself : (q : Place) → eq_by_cmp place_cmp q q ≡ true
+itself q = (eq_by_cmp-decides place_cmp-IsTotalOrder place_cmp-IsAntisymmetric q q).1 refl
+
+apart : (q at : Place) → eq_by_cmp place_cmp q at ≡ false → q ≡ at → ⊥
+apart q at e same = let t : eq_by_cmp place_cmp q at ≡ true = (eq_by_cmp-decides place_cmp-IsTotalOrder place_cmp-IsAntisymmetric q at).1 same in absurd (cc)
+
+-- what one emptied cell releases is no other cell's formula
+pub released_other : (stands mid : Numbered) (cells : PlaceMap Cell) (at q : Place) (n : ℕ) → AllStand stands cells → eq_by_cmp place_cmp q at ≡ false → fin.get cells q ≡ Some (cell.Formula n)
+    → released (fin.get cells at) mid n ≡ mid n
+released_other stands mid cells at q n all far e = go (fin.get cells at) refl
+  where
+    other : (m : ℕ) (b : Bool) → (n == m) ≡ b → fin.get cells at ≡ Some (cell.Formula m) → cond b None (mid n) ≡ mid n
+    other m true is f =
+        let same : n ≡ m = grind (arith, nat_tests) in
+        absurd (apart q at far (one_place stands cells q at m all (subst (λ k. fin.get cells q ≡ Some (cell.Formula k)) same e) f))
+    other m false is f = refl
+
+    go : (r : Option Cell) → fin.get cells at ≡ r → released r mid n ≡ mid n
+    go None f = refl
+    go (Some (cell.Number m)) f = refl
+    go (Some (cell.Truth b)) f = refl
+    go (Some (cell.Text w)) f = refl
+    go (Some (cell.Formula m)) f = other m (n == m) refl f
+    go (Some (cell.Broken w)) f = refl
+
+pub releases_agree : (one two : Numbered) (cells : PlaceMap Cell) (at : Place) → AllStand one cells → Releases (fin.get cells at) one two → Agree at cells one two
+releases_agree one two cells at all h q n far e = h n ∙ released_other one one cells at q n all far e
+
+-- a formula that comes under a new number, before what was there is released
+abbrev pub Arrives : ℕ → Stood → Numbered → Numbered → Type 0
+Arrives k f one two = (n : ℕ) → two n ≡ cond (n == k) (Some f) (one n)
+
+pub arrives_other : (one two : Numbered) (cells : PlaceMap Cell) (k n : ℕ) (f : Stood) (q : Place) → AllStand one cells → one k ≡ None → Arrives k f one two → fin.get cells q ≡ Some (cell.Formula n) → two n ≡ one n
+arrives_other one two cells k n f q all none h e = h n ∙ go (n == k) refl
+  where
+    go : (b : Bool) → (n == k) ≡ b → cond b (Some f) (one n) ≡ one n
+    go true is =
+        let same : n ≡ k = grind (arith, nat_tests) in
+        let s = all q n e in
+        let t : one n ≡ None = ap one same ∙ none in
+        absurd (cc)
+    go false is = refl
+
+pub arrives_agree : (one two three : Numbered) (cells : PlaceMap Cell) (at : Place) (k : ℕ) (f : Stood) → AllStand one cells → one k ≡ None → Arrives k f one two → Releases (fin.get cells at) two three → Agree at cells one three
+arrives_agree one two three cells at k f all none new old q n far e =
+    old n ∙ released_other one two cells at q n all far e ∙ arrives_other one two cells k n f q all none new e
+
+-- the new formula stays when what was there is released
+pub arrives_stays : (one two three : Numbered) (cells : PlaceMap Cell) (at : Place) (k : ℕ) (f : Stood) → AllStand one cells → one k ≡ None → Arrives k f one two → Releases (fin.get cells at) two three → three k ≡ Some f
+arrives_stays one two three cells at k f all none new old = old k ∙ go (fin.get cells at) refl ∙ new k ∙ here (k == k) refl
+  where
+    here : (b : Bool) → (k == k) ≡ b → cond b (Some f) (one k) ≡ Some f
+    here true is = refl
+    here false is = absurd (grind (arith, nat_tests))
+
+    other : (m : ℕ) (b : Bool) → (k == m) ≡ b → fin.get cells at ≡ Some (cell.Formula m) → cond b None (two k) ≡ two k
+    other m true is e =
+        let same : k ≡ m = grind (arith, nat_tests) in
+        let s = all at m e in
+        let t : one m ≡ None = ap one (sym same) ∙ none in
+        absurd (cc)
+    other m false is e = refl
+
+    go : (r : Option Cell) → fin.get cells at ≡ r → released r two k ≡ two k
+    go None e = refl
+    go (Some (cell.Number m)) e = refl
+    go (Some (cell.Truth b)) e = refl
+    go (Some (cell.Text w)) e = refl
+    go (Some (cell.Formula m)) e = other m (k == m) refl e
+    go (Some (cell.Broken w)) e = refl

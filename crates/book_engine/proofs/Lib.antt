@@ -1,0 +1,4 @@
+pub mod Contents
+pub mod Listed
+pub mod ShiftedContents
+pub mod Turning

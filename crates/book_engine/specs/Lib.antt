@@ -1,0 +1,5 @@
+pub mod Formulas
+pub mod Seen
+pub mod Engine
+pub mod Calls
+pub mod internal

@@ -1,0 +1,252 @@
+// Why operations are refused.
+ghost use Rattle.std.specs.Prelude.{◌≡◌, ◌+◌, nat_lt};
+ghost use Rattle.cell_addr.specs.Place.{IsBlockInside};
+ghost use Rattle.cell_addr.specs.Sheets.{AreSheets};
+ghost use Rattle.shift_core.specs.Form.{form_of};
+ghost use Rattle.book_model.specs.Operation as op;
+ghost use Rattle.book_model.specs.Refusals.{at_place, cause, first_cause, is_block_outside, is_outside, is_taken, of_edit, of_form, on_sheet};
+ghost use Rattle.book_model.specs.Workbook.{has_sheet};
+ghost use Rattle.book_engine.specs.Seen.{Fits, state_of};
+ghost use Rattle.book_engine.specs.internal.Turns.{IsCause};
+ghost use Rattle.book_model.specs.Workbook.{State};
+ghost use Rattle.shift_core.specs.Carried.{destination};
+ghost use Rattle.shift_core.specs.declared.edit.Edit.TheVariants.{Delete, Insert, Move};
+ghost use Rattle.shift_core.specs.declared.form.Form.{Form};
+ghost use Rattle.shift_core.specs.declared.form.Form.TheVariants.{Cells, Lines};
+ghost use Rattle.cell_addr.specs.Axis.{limit_of};
+
+use crate::parts::Parts;
+use book_model::{MAX_CELLS, MAX_SHEETS, MAX_TEXT, Refusal, is_sheet_name};
+use cell_addr::{Axis, Block, COLS, Place, ROWS, SheetNames};
+use shift_core::{Edit, Form, Shift};
+
+impl Parts {
+    // Whether there is a sheet of this number.
+    pub(crate) fn has_sheet(&self, sheet: u32) -> bool
+        ensures { result ≡ has_sheet (state_of self.now).book sheet }
+    {
+        self.names.name_of(sheet).is_some()
+    }
+
+    // Where a sheet is asked for.
+    pub(crate) fn check_sheet(&self, sheet: u32) -> Result<(), Refusal>
+        ensures { IsCause result (first_cause (on_sheet (state_of self.now) sheet)) }
+    {
+        if !self.has_sheet(sheet) {
+            return Err(Refusal::NoSheet);
+        }
+        Ok(())
+    }
+
+    // Where a place is asked for.
+    pub(crate) fn check_place(&self, at: Place) -> Result<(), Refusal>
+        ensures { IsCause result (first_cause (at_place (state_of self.now) at)) }
+    {
+        if !self.has_sheet(at.sheet) {
+            return Err(Refusal::NoSheet);
+        }
+        if is_outside(at) {
+            return Err(Refusal::Outside);
+        }
+        Ok(())
+    }
+
+    // Where a block is emptied.
+    pub(crate) fn check_clear(&self, area: Block) -> Result<(), Refusal>
+        ensures { IsCause result (cause (op.clear area) (state_of self.now)) }
+    {
+        if !self.has_sheet(area.sheet) {
+            return Err(Refusal::NoSheet);
+        }
+        if is_block_outside(area) {
+            return Err(Refusal::Outside);
+        }
+        Ok(())
+    }
+
+    // Where a text is given to a cell.
+    pub(crate) fn check_set(&self, at: Place, text: &str) -> Result<(), Refusal>
+        requires { Fits self.now }
+        ensures { IsCause result (cause (op.set at text.now) (state_of self.now)) }
+    {
+        if !self.has_sheet(at.sheet) {
+            return Err(Refusal::NoSheet);
+        }
+        if is_outside(at) {
+            return Err(Refusal::Outside);
+        }
+        if text.len() > MAX_TEXT {
+            return Err(Refusal::TextLimit);
+        }
+        if !text.is_empty() && self.grid.cell(at).is_none() && self.grid.filled() >= MAX_CELLS {
+            return Err(Refusal::CellLimit);
+        }
+        Ok(())
+    }
+
+    // Where a structural operation is asked for.
+    pub(crate) fn check_structural(&self, s: &Shift) -> Result<(), Refusal>
+        ensures { IsCause result (cause (op.structural s.now) (state_of self.now)) }
+    {
+        match s.form() {
+            Form::Lines { sheet, axis, edit } => self.check_lines(s, sheet, axis, edit),
+            Form::Cells { source, to } => self.check_cells(source, to),
+            Form::Sheet { sheet } => self.check_sheet(sheet),
+        }
+    }
+
+    // Where lines of a sheet are edited.
+    fn check_lines(&self, s: &Shift, sheet: u32, axis: Axis, edit: Edit) -> Result<(), Refusal>
+        requires { form_of s.now ≡ Lines sheet axis edit }
+        ensures { IsCause result (first_cause (of_form (state_of self.now) (Lines sheet axis edit))) }
+    {
+        if !self.has_sheet(sheet) {
+            return Err(Refusal::NoSheet);
+        }
+        let limit = axis.limit();
+        match edit {
+            Edit::Insert { at, count } => self.check_insert(s, sheet, axis, at, count),
+            Edit::Delete { at, count } => check_delete(at, count, limit),
+            Edit::Move {
+                from,
+                count,
+                before,
+            } => check_move(from, count, before, limit),
+        }
+    }
+
+    // Where lines are inserted, on a sheet that there is.
+    fn check_insert(&self, s: &Shift, sheet: u32, axis: Axis, at: u32, count: u32) -> Result<(), Refusal>
+        requires { form_of s.now ≡ Lines sheet axis (Insert at count) }
+        ensures { IsCause result (first_cause (of_edit (state_of self.now) (Lines sheet axis (Insert at count)) (Insert at count) (limit_of axis))) }
+    {
+        if count == 0 {
+            return Err(Refusal::BadSpan);
+        }
+        if at >= axis.limit() {
+            return Err(Refusal::Outside);
+        }
+        if self.grid.pushed_off(s) {
+            return Err(Refusal::SizeLimit);
+        }
+        Ok(())
+    }
+
+    // Where a block of cells is moved.
+    fn check_cells(&self, source: Block, to: Place) -> Result<(), Refusal>
+        ensures { IsCause result (first_cause (of_form (state_of self.now) (Cells source to))) }
+    {
+        if !self.has_sheet(source.sheet) || !self.has_sheet(to.sheet) {
+            return Err(Refusal::NoSheet);
+        }
+        if is_block_outside(source) || ends_outside(source, to) {
+            return Err(Refusal::Outside);
+        }
+        if source.sheet == to.sheet && source.top == to.row && source.left == to.col {
+            return Err(Refusal::BadSpan);
+        }
+        Ok(())
+    }
+
+    // Where a sheet is added.
+    pub(crate) fn check_add(&self, name: &str) -> Result<(), Refusal>
+        ensures { IsCause result (cause (op.add_sheet name.now) (state_of self.now)) }
+    {
+        if !is_sheet_name(name) {
+            return Err(Refusal::SheetNameInvalid);
+        }
+        if self.names.id_of(name).is_some() {
+            return Err(Refusal::SheetNameTaken);
+        }
+        if self.next_sheet >= MAX_SHEETS {
+            return Err(Refusal::SheetLimit);
+        }
+        Ok(())
+    }
+
+    // Where a sheet gets another name.
+    pub(crate) fn check_rename(&self, sheet: u32, name: &str) -> Result<(), Refusal>
+        requires { Fits self.now }
+        ensures { IsCause result (cause (op.rename_sheet sheet name.now) (state_of self.now)) }
+    {
+        if !self.has_sheet(sheet) {
+            return Err(Refusal::NoSheet);
+        }
+        if !is_sheet_name(name) {
+            return Err(Refusal::SheetNameInvalid);
+        }
+        if self.is_taken(sheet, name) {
+            return Err(Refusal::SheetNameTaken);
+        }
+        Ok(())
+    }
+
+    // Whether another sheet has the name.
+    fn is_taken(&self, sheet: u32, name: &str) -> bool
+        requires { AreSheets (state_of self.now).book.sheets }
+        ensures { result ≡ is_taken (state_of self.now).book sheet name.now }
+    {
+        match self.names.id_of(name) {
+            Some(other) => other != sheet,
+            None => false,
+        }
+    }
+}
+
+// Where lines are deleted, on a sheet that there is.
+fn check_delete(at: u32, count: u32, limit: u32) -> Result<(), Refusal>
+    ensures { (d : State) (f : Form) → IsCause result (first_cause (of_edit d f (Delete at count) limit)) }
+{
+    if count == 0 {
+        return Err(Refusal::BadSpan);
+    }
+    if is_past(at, count, limit) {
+        return Err(Refusal::Outside);
+    }
+    Ok(())
+}
+
+// Where lines are moved, on a sheet that there is.
+fn check_move(from: u32, count: u32, before: u32, limit: u32) -> Result<(), Refusal>
+    ensures { (d : State) (f : Form) → IsCause result (first_cause (of_edit d f (Move from count before) limit)) }
+{
+    if count == 0 {
+        return Err(Refusal::BadSpan);
+    }
+    if is_past(from, count, limit) || before > limit {
+        return Err(Refusal::Outside);
+    }
+    if from <= before && before as u64 <= from as u64 + count as u64 {
+        return Err(Refusal::BadSpan);
+    }
+    Ok(())
+}
+
+// Whether so many lines from a line on end past the limit.
+fn is_past(at: u32, count: u32, limit: u32) -> bool
+    ensures { result ≡ nat_lt limit (at + count) }
+{
+    at as u64 + count as u64 > limit as u64
+}
+
+// Whether the place isn't within the limits of a sheet.
+fn is_outside(at: Place) -> bool
+    ensures { result ≡ is_outside at }
+{
+    at.row >= ROWS || at.col >= COLS
+}
+
+// Whether the block isn't within the limits of a sheet, its ends in order.
+fn is_block_outside(area: Block) -> bool
+    ensures { result ≡ is_block_outside area }
+{
+    !area.inside()
+}
+
+// Whether the block of the size of another one, which is inside, ends outside a sheet where it begins at the place.
+fn ends_outside(source: Block, to: Place) -> bool
+    requires { IsBlockInside source }
+    ensures { result ≡ is_block_outside (destination source to) }
+{
+    is_past(to.row, source.bottom - source.top + 1, ROWS) || is_past(to.col, source.right - source.left + 1, COLS)
+}

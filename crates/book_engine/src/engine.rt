@@ -1,0 +1,224 @@
+// The engine, and its calls.
+ghost use Rattle.std.specs.Prelude.{◌≡◌, IfOk, option_map};
+ghost use Rattle.cell_addr.specs.Sheets.{id_in, name_in};
+ghost use Rattle.shift_core.specs.declared.shift.Shift.TheVariants as shifts;
+ghost use Rattle.book_model.specs.Answers.{content_text, formula_of, value_of};
+ghost use Rattle.book_model.specs.Given.{CanBegin, session_given};
+ghost use Rattle.book_model.specs.Operation as op;
+ghost use Rattle.book_model.specs.Replies.{first_sheet};
+ghost use Rattle.book_model.specs.Workbook.{State};
+
+use crate::parts::Parts;
+use crate::stop::Stop;
+use book_model::BookSheet;
+use cell_addr::{Block, Place, SheetNames, Text};
+use cell_value::Scalar;
+use shift_core::Shift;
+use std::alloc::{AllocError, Global};
+use std::sync::ledger::Ledger;
+use steps::Steps;
+
+/// A workbook of several sheets, with all calls that change it and ask about it.
+///
+/// Rows and columns are counted from 0. A call that is refused, or that wants memory, leaves the workbook as it was.
+#[derive(Drop)]
+pub struct Engine {
+    parts: Parts,
+    ghost fits: { Fits parts },
+}
+
+impl Engine {
+    ghost use Rattle.book_engine.specs.Engine.{Does, NoAnswer, StandsFor};
+
+    /// The engine of a workbook with these sheets, numbered from 0 in their order, and these texts in their cells. All
+    /// formulas are read when all sheets are there.
+    pub fn build(alloc: Global, books: &[BookSheet]) -> Result<Engine, AllocError>
+        requires { CanBegin books.now }
+        ensures { IfOk result (λ engine. StandsFor engine (session_given books.now)) }
+    {
+        let parts = Parts::build(alloc, books)?;
+        Ok(Engine { parts })
+    }
+
+    /// Gives a cell the content that the text says: nothing, a formula, a number, a truth value or a text. A formula that
+    /// has no tree is kept as its text.
+    ///
+    /// # Errors
+    /// `NoSheet`, `Outside` where the place isn't within the limits of a sheet, `TextLimit` past 8,192 bytes, `CellLimit`
+    /// where more than 1,000,000 cells would be filled; the first that holds.
+    pub fn set(&mut self, at: Place, text: &str) -> Result<(), Stop>
+        ensures { Does (op.set at text.now) NoAnswer self.old self.new result }
+    {
+        self.parts.set(at, text)
+    }
+
+    /// Empties the cells of a block.
+    ///
+    /// # Errors
+    /// `NoSheet`, `Outside` where the block isn't within the limits of a sheet.
+    pub fn clear(&mut self, area: Block) -> Result<(), Stop>
+        ensures { Does (op.clear area) NoAnswer self.old self.new result }
+    {
+        self.parts.clear(area)
+    }
+
+    /// Puts so many rows before a row of the sheet.
+    ///
+    /// # Errors
+    /// `NoSheet`, `BadSpan` for no rows, `Outside` where the row isn't on the sheet, `SizeLimit` where a filled cell would
+    /// be pushed off the sheet.
+    pub fn insert_rows(&mut self, sheet: u32, at: u32, count: u32) -> Result<(), Stop>
+        ensures { Does (op.structural (shifts.InsertRows sheet at count)) NoAnswer self.old self.new result }
+    {
+        self.parts
+            .structural(&Shift::InsertRows { sheet, at, count })
+    }
+
+    /// Deletes so many rows of the sheet from a row on, with their cells.
+    ///
+    /// # Errors
+    /// `NoSheet`, `BadSpan` for no rows, `Outside` where the rows end behind the sheet.
+    pub fn delete_rows(&mut self, sheet: u32, at: u32, count: u32) -> Result<(), Stop>
+        ensures { Does (op.structural (shifts.DeleteRows sheet at count)) NoAnswer self.old self.new result }
+    {
+        self.parts
+            .structural(&Shift::DeleteRows { sheet, at, count })
+    }
+
+    /// Puts so many columns before a column of the sheet. Its errors are those of [`Engine::insert_rows`].
+    pub fn insert_cols(&mut self, sheet: u32, at: u32, count: u32) -> Result<(), Stop>
+        ensures { Does (op.structural (shifts.InsertCols sheet at count)) NoAnswer self.old self.new result }
+    {
+        self.parts
+            .structural(&Shift::InsertCols { sheet, at, count })
+    }
+
+    /// Deletes so many columns of the sheet from a column on. Its errors are those of [`Engine::delete_rows`].
+    pub fn delete_cols(&mut self, sheet: u32, at: u32, count: u32) -> Result<(), Stop>
+        ensures { Does (op.structural (shifts.DeleteCols sheet at count)) NoAnswer self.old self.new result }
+    {
+        self.parts
+            .structural(&Shift::DeleteCols { sheet, at, count })
+    }
+
+    /// Moves so many rows of the sheet from a row on to before another row.
+    ///
+    /// # Errors
+    /// `NoSheet`, `BadSpan` for no rows, `Outside` where the rows or the row before which they come lie behind the sheet,
+    /// `BadSpan` where they would stay.
+    pub fn move_rows(&mut self, sheet: u32, from: u32, count: u32, before: u32) -> Result<(), Stop>
+        ensures { Does (op.structural (shifts.MoveRows sheet from count before)) NoAnswer self.old self.new result }
+    {
+        self.parts.structural(&Shift::MoveRows {
+            sheet,
+            from,
+            count,
+            before,
+        })
+    }
+
+    /// Moves so many columns of the sheet from a column on to before another one. Its errors are those of
+    /// [`Engine::move_rows`].
+    pub fn move_cols(&mut self, sheet: u32, from: u32, count: u32, before: u32) -> Result<(), Stop>
+        ensures { Does (op.structural (shifts.MoveCols sheet from count before)) NoAnswer self.old self.new result }
+    {
+        self.parts.structural(&Shift::MoveCols {
+            sheet,
+            from,
+            count,
+            before,
+        })
+    }
+
+    /// Adds a sheet at the end of the list, and answers its number. A number is never given to another new sheet.
+    ///
+    /// # Errors
+    /// `SheetNameInvalid` unless the name has 1 to 100 bytes and no control character, `SheetNameTaken` where a sheet has
+    /// it, in some case of its ASCII letters, `SheetLimit` where all 1,024 numbers are used.
+    pub fn add_sheet(&mut self, name: &str) -> Result<u32, Stop>
+        ensures { Does (op.add_sheet name.now) (λ d number. number ≡ d.next_sheet) self.old self.new result }
+    {
+        self.parts.add_sheet(name)
+    }
+
+    /// Drops a sheet with its cells. References to it are lost.
+    ///
+    /// # Errors
+    /// `NoSheet`.
+    pub fn drop_sheet(&mut self, sheet: u32) -> Result<(), Stop>
+        ensures { Does (op.structural (shifts.DropSheet sheet)) NoAnswer self.old self.new result }
+    {
+        self.parts.structural(&Shift::DropSheet { sheet })
+    }
+
+    /// Gives a sheet another name. Formulas keep pointing at it.
+    ///
+    /// # Errors
+    /// `NoSheet`, `SheetNameInvalid`, `SheetNameTaken` where another sheet has it, as for [`Engine::add_sheet`].
+    pub fn rename_sheet(&mut self, sheet: u32, name: &str) -> Result<(), Stop>
+        ensures { Does (op.rename_sheet sheet name.now) NoAnswer self.old self.new result }
+    {
+        self.parts.rename_sheet(sheet, name)
+    }
+
+    /// Empties the cells of a sheet.
+    ///
+    /// # Errors
+    /// `NoSheet`.
+    pub fn clear_sheet(&mut self, sheet: u32) -> Result<(), Stop>
+        ensures { Does (op.clear_sheet sheet) NoAnswer self.old self.new result }
+    {
+        self.parts.clear_sheet(sheet)
+    }
+
+    /// What a cell shows. Costs about the whole workbook.
+    ///
+    /// # Errors
+    /// `NoSheet`, `Outside`.
+    pub fn value<L: Ledger>(&mut self, at: Place, steps: &mut Steps<L>) -> Result<Scalar, Stop>
+        ensures { Does (op.value at) (λ d scalar. scalar ≡ value_of d at) self.old self.new result }
+    {
+        self.parts.value(at, steps)
+    }
+
+    /// The canonical text of a cell's formula, or the kept text of an unreadable one; `None` where the cell has none.
+    ///
+    /// # Errors
+    /// `NoSheet`, `Outside`.
+    pub fn formula(&mut self, at: Place) -> Result<Option<Text>, Stop>
+        ensures { Does (op.formula at) (λ d text. text ≡ formula_of d at) self.old self.new result }
+    {
+        self.parts.formula(at)
+    }
+
+    /// The text that gives a cell its content, when [`Engine::set`] is given it.
+    ///
+    /// # Errors
+    /// `NoSheet`, `Outside`.
+    pub fn content(&mut self, at: Place) -> Result<Text, Stop>
+        ensures { Does (op.content at) (λ d text. text ≡ content_text d at) self.old self.new result }
+    {
+        self.parts.content(at)
+    }
+
+    /// The number of the sheet of this name, in any case of its ASCII letters.
+    pub fn sheet_id(&self, name: &str) -> Option<u32>
+        ensures { (d : State) → StandsFor self.now d → result ≡ id_in d.book.sheets name.now }
+    {
+        self.parts.names.id_of(name)
+    }
+
+    /// The first sheet of the list.
+    pub fn first_sheet(&self) -> Option<u32>
+        ensures { (d : State) → StandsFor self.now d → result ≡ first_sheet d.book }
+    {
+        self.parts.names.sheet_at(0)
+    }
+
+    /// The name of the sheet of this number.
+    pub fn sheet_name(&self, id: u32) -> Option<&Text>
+        ensures { (d : State) → StandsFor self.now d → option_map (λ name. name.now) result ≡ name_in d.book.sheets id }
+    {
+        self.parts.names.name_of(id)
+    }
+}

@@ -1,0 +1,30 @@
+//! A workbook engine that applications embed.
+//!
+//! An [`Engine`] holds a workbook of several sheets. Its calls change cells and sheets, move, insert and delete rows and
+//! columns, and read values and formulas; every formula follows each structural operation. A call that is refused
+//! answers why, and changes nothing.
+//!
+//! ```text
+//! let mut engine = Engine::build(alloc, &sheets)?;
+//! engine.set(a1, "=B2*2")?;
+//! engine.insert_rows(sheet, 1, 1)?;
+//! engine.formula(a1)?       // =B3*2
+//! ```
+#![tactic(auto)]
+
+mod build;
+mod cells;
+mod checks;
+mod engine;
+mod formulas;
+mod parts;
+mod reading;
+mod setting;
+mod sheets;
+mod shifting;
+mod stop;
+#[cfg(test)]
+mod tests;
+
+pub use engine::Engine;
+pub use stop::Stop;

@@ -1,0 +1,35 @@
+// The list of sheets.
+ghost use Rattle.std.specs.Prelude.{◌≡◌};
+ghost use Rattle.book_model.specs.Operation as op;
+ghost use Rattle.book_engine.specs.Engine.{NoAnswer};
+ghost use Rattle.book_engine.specs.Seen.{Fits, state_of};
+ghost use Rattle.book_engine.specs.internal.Turns.{Turns};
+
+use crate::parts::Parts;
+use crate::stop::Stop;
+
+impl Parts {
+    // Adds a sheet at the end of the list.
+    pub(crate) fn add_sheet(&mut self, name: &str) -> Result<u32, Stop>
+        requires { Fits self.old }
+        ensures turns { Turns (op.add_sheet name.now) (λ d number. number ≡ d.next_sheet) (state_of self.old) (state_of self.new) result }
+        ensures fits { Fits self.new }
+    {
+        self.check_add(name)?;
+        let number = self.next_sheet;
+        self.names.add_sheet(self.names.len(), number, name)?;
+        self.next_sheet = number + 1;
+        Ok(number)
+    }
+
+    // Gives a sheet another name.
+    pub(crate) fn rename_sheet(&mut self, sheet: u32, name: &str) -> Result<(), Stop>
+        requires { Fits self.old }
+        ensures turns { Turns (op.rename_sheet sheet name.now) NoAnswer (state_of self.old) (state_of self.new) result }
+        ensures fits { Fits self.new }
+    {
+        self.check_rename(sheet, name)?;
+        self.names.rename(sheet, name)?;
+        Ok(())
+    }
+}
