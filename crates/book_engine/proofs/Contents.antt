@@ -4,12 +4,15 @@ use Rattle.std.proofs.Common.{◌≡◌, ◌∙◌, sym, ap, subst, refl, ℕ, B
 use Rattle.std.proofs.lemmas.Bool.Decides.{nat_tests}
 use Rattle.std.proofs.lemmas.Option.{same_Some}
 use Rattle.std.specs.FinMap as fin
-use Rattle.std.specs.FinMap.{find, get-entries, get-from_entries, get-insert, get-remove, get-retain_keys, same_map}
+use Rattle.std.specs.FinMap.{find, get-empty, get-entries, get-from_entries, get-insert, get-remove, get-retain_keys, same_map}
+use Rattle.book_model.specs.Workbook.{State}
 use Rattle.std.specs.Ordering.{eq_by_cmp}
 use Rattle.cell_addr.specs.Order.{place_cmp}
 use Rattle.cell_addr.specs.declared.place.Place.{Place}
 use Rattle.cell_addr.proofs.Places.{place_cmp-IsTotalOrder, place_cmp-IsAntisymmetric}
 use Rattle.cell_values.specs.Workbook.{Book as Contents, Content, formula}
+use Rattle.formula_tree.specs.Term.{Term}
+use Rattle.formula_tree.specs.declared.reference.Corner.{Corner}
 use Rattle.grid_store.specs.declared.cell.Cell.{Cell}
 use Rattle.grid_store.specs.declared.cell.Cell.TheVariants as cell
 use Rattle.shift_core.specs.Maps.{PlaceMap}
@@ -17,7 +20,7 @@ use Rattle.shift_core.proofs.CarriedEntries.{eq_by_cmp-decides}
 use Rattle.book_model.proofs.Contents.{is_at}
 use Rattle.book_engine.specs.Formulas.{Numbered, Stood}
 use Rattle.book_engine.specs.Seen.{AllStand, StandsAt, content_of, contents_of, tree_of}
-use Rattle.book_engine.specs.internal.Cells.{Releases, released}
+use Rattle.book_engine.specs.internal.Cells.{IsPlain, Releases, released}
 
 find-each : {X Y : Type 0} (h : X → Y) (p : Place) (es : List (Place × X)) → find place_cmp p (map (λ e. (e.0, h e.1)) es) ≡ option_map h (find place_cmp p es)
 find-each h p [] = refl
@@ -35,6 +38,21 @@ get-contents stands cells p =
     ∙ find-each (content_of stands) p (fin.entries cells)
     ∙ ap (option_map (content_of stands)) (sym (get-entries cells p))
 
+-- what stands under a number that is a formula's at the place
+pub standing : (stands : Numbered) (n : ℕ) (p : Place) → StandsAt stands n p → (t : Term Corner) × (stands n ≡ Some (p, t))
+standing stands n p h = go (stands n) refl h
+  where
+    go : (r : Option Stood) → stands n ≡ r → option_map (λ f. f.0) r ≡ Some p → (t : Term Corner) × (stands n ≡ Some (p, t))
+    go None e f = cc
+    go (Some x) e f = (x.1, e ∙ ap (λ q. Some (q, x.1)) (same_Some x.0 p f))
+
+pub stands_at : (stands : Numbered) (n : ℕ) (p : Place) (t : Term Corner) → stands n ≡ Some (p, t) → StandsAt stands n p
+stands_at stands n p t e = ap (option_map (λ f. f.0)) e
+
+-- what stands under two numbers that are the same stands at the same place
+pub stands_too : (one two : Numbered) (n : ℕ) (p : Place) → two n ≡ one n → StandsAt one n p → StandsAt two n p
+stands_too one two n p e h = ap (option_map (λ f. f.0)) e ∙ h
+
 -- a cell holds the same where its formula's number stands for the same
 pub content_same : (one two : Numbered) (r : Option Cell) → ((n : ℕ) → r ≡ Some (cell.Formula n) → two n ≡ one n) → option_map (content_of two) r ≡ option_map (content_of one) r
 content_same one two None h = refl
@@ -50,14 +68,12 @@ contents_same one two cells h = same_map place_cmp-IsTotalOrder place_cmp-IsAnti
     get-contents two cells p ∙ content_same one two (fin.get cells p) (λ n e. h n) ∙ sym (get-contents one cells p))
 
 pub stand_same : (one two : Numbered) (cells : PlaceMap Cell) → ((n : ℕ) → two n ≡ one n) → AllStand one cells → AllStand two cells
-stand_same one two cells h all p n e = let s = all p n e in (s.0, h n ∙ s.1)
+stand_same one two cells h all p n e = stands_too one two n p (h n) (all p n e)
 
 -- a number stands at one place
 pub one_place : (stands : Numbered) (cells : PlaceMap Cell) (p q : Place) (n : ℕ) → AllStand stands cells → fin.get cells p ≡ Some (cell.Formula n) → fin.get cells q ≡ Some (cell.Formula n) → p ≡ q
 one_place stands cells p q n all a b =
-    let s = all p n a in
-    let t = all q n b in
-    ap (λ e. e.0) (same_Some (p, s.0) (q, t.0) (sym s.1 ∙ t.1))
+    same_Some p q (sym (all p n a) ∙ all q n b)
 
 -- numbers of other cells stand for the same
 abbrev pub Agree : Place → PlaceMap Cell → Numbered → Numbered → Type 0
@@ -82,7 +98,7 @@ stand-insert one two cells at c all same new p n e = go (eq_by_cmp place_cmp p a
   where
     go : (b : Bool) → eq_by_cmp place_cmp p at ≡ b → cond b (Some c) (fin.get cells p) ≡ Some (cell.Formula n) → StandsAt two n p
     go true is f = subst (StandsAt two n) (is_at at p is) (new n (same_Some c (cell.Formula n) f))
-    go false is f = let old = all p n f in (old.0, same p n is f ∙ old.1)
+    go false is f = stands_too one two n p (same p n is f) (all p n f)
 
 pub contents-remove : (one two : Numbered) (cells : PlaceMap Cell) (at : Place) → Agree at cells one two → contents_of two (fin.remove cells at) ≡ fin.remove (contents_of one cells) at
 contents-remove one two cells at same = same_map place_cmp-IsTotalOrder place_cmp-IsAntisymmetric _ _ (λ q.
@@ -101,7 +117,7 @@ stand-remove one two cells at all same p n e = go (eq_by_cmp place_cmp p at) ref
   where
     go : (b : Bool) → eq_by_cmp place_cmp p at ≡ b → cond b None (fin.get cells p) ≡ Some (cell.Formula n) → StandsAt two n p
     go true is f = cc
-    go false is f = let old = all p n f in (old.0, same p n is f ∙ old.1)
+    go false is f = stands_too one two n p (same p n is f) (all p n f)
 
 -- numbers of cells that pass no test stand for the same
 abbrev pub AgreeBut : (Place → Bool) → PlaceMap Cell → Numbered → Numbered → Type 0
@@ -128,7 +144,7 @@ stand-retain gone one two cells all same p n e = go (gone p) refl (sym (get-left
   where
     go : (b : Bool) → gone p ≡ b → cond (not b) (fin.get cells p) None ≡ Some (cell.Formula n) → StandsAt two n p
     go true is f = cc
-    go false is f = let old = all p n f in (old.0, same p n is f ∙ old.1)
+    go false is f = stands_too one two n p (same p n is f) (all p n f)
 
 itself : (q : Place) → eq_by_cmp place_cmp q q ≡ true
 itself q = (eq_by_cmp-decides place_cmp-IsTotalOrder place_cmp-IsAntisymmetric q q).1 refl
@@ -169,7 +185,7 @@ arrives_other one two cells k n f q all none h e = h n ∙ go (n == k) refl
     go true is =
         let same : n ≡ k = grind (arith, nat_tests) in
         let s = all q n e in
-        let t : one n ≡ None = ap one same ∙ none in
+        let t : option_map (λ f. f.0) (one n) ≡ None = ap (λ j. option_map (λ f. f.0) (one j)) same ∙ ap (option_map (λ f. f.0)) none in
         absurd (cc)
     go false is = refl
 
@@ -189,7 +205,7 @@ arrives_stays one two three cells at k f all none new old = old k ∙ go (fin.ge
     other m true is e =
         let same : k ≡ m = grind (arith, nat_tests) in
         let s = all at m e in
-        let t : one m ≡ None = ap one (sym same) ∙ none in
+        let t : option_map (λ f. f.0) (one m) ≡ None = ap (λ j. option_map (λ f. f.0) (one j)) (sym same) ∙ ap (option_map (λ f. f.0)) none in
         absurd (cc)
     other m false is e = refl
 
@@ -200,3 +216,32 @@ arrives_stays one two three cells at k f all none new old = old k ∙ go (fin.ge
     go (Some (cell.Text w)) e = refl
     go (Some (cell.Formula m)) e = other m (k == m) refl e
     go (Some (cell.Broken w)) e = refl
+
+-- a cell without a formula holds the same whatever stands under numbers
+pub content_plain : (one two : Numbered) (c : Cell) → IsPlain c → content_of two c ≡ content_of one c
+content_plain one two (cell.Number m) plain = refl
+content_plain one two (cell.Truth b) plain = refl
+content_plain one two (cell.Text w) plain = refl
+content_plain one two (cell.Formula n) plain = absurd (plain n refl)
+content_plain one two (cell.Broken w) plain = refl
+
+abbrev number_of : ℕ → Cell → ℕ
+number_of d (cell.Formula n) = n
+number_of d _ = d
+
+pub same_number : (n m : ℕ) → cell.Formula n ≡ cell.Formula m → n ≡ m
+same_number n m e = ap (number_of n) e
+
+-- no cells have no contents
+pub contents_none : (stands : Numbered) (cells : PlaceMap Cell) → cells ≡ fin.empty → contents_of stands cells ≡ fin.empty
+contents_none stands cells none = same_map place_cmp-IsTotalOrder place_cmp-IsAntisymmetric _ _ (λ q.
+    get-contents stands cells q ∙ ap (λ m. option_map (content_of stands) (fin.get m q)) none ∙ ap (option_map (content_of stands)) (get-empty place_cmp q) ∙ sym (get-empty place_cmp q))
+
+pub stands_nothing : (stands : Numbered) (cells : PlaceMap Cell) → cells ≡ fin.empty → AllStand stands cells
+stands_nothing stands cells none p n e = let nothing = sym e ∙ ap (λ m. fin.get m p) none ∙ get-empty place_cmp p in cc
+
+pub empty_state : (stands : Numbered) (cells : PlaceMap Cell) (sheets : List (ℕ × List ℕ)) → sheets ≡ [] → cells ≡ fin.empty
+    → ◌≡◌ {A = State} (record { book = record { sheets = sheets; cells = contents_of stands cells }; next_sheet = 0 }) (record { book = record { sheets = []; cells = fin.empty }; next_sheet = 0 })
+empty_state stands cells sheets none empty =
+    ap (λ s. record { book = record { sheets = s; cells = contents_of stands cells }; next_sheet = 0 }) none
+    ∙ ap (λ m. record { book = record { sheets = []; cells = m }; next_sheet = 0 }) (contents_none stands cells empty)

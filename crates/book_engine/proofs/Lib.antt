@@ -1,4 +1,10 @@
+pub mod SheetNames
+pub mod Slots
 pub mod Contents
 pub mod Listed
 pub mod ShiftedContents
 pub mod Turning
+pub mod Pushed
+pub mod FilledCells
+pub mod GivenBooks
+pub mod FilledWorkbooks

@@ -22,7 +22,7 @@ use Rattle.shift_core.specs.Maps.{PlaceMap}
 use Rattle.shift_core.proofs.CarriedEntries.{eq_by_cmp-decides}
 use Rattle.book_engine.specs.Formulas.{Numbered}
 use Rattle.book_engine.specs.Seen.{AllStand}
-use Rattle.book_engine.specs.internal.Cells.{KeepsOthers, is_numbered}
+use Rattle.book_engine.specs.internal.Cells.{KeepsOthers, is_numbered, released}
 use Rattle.book_engine.proofs.Contents.{AgreeBut, one_place}
 
 first : (a b : Bool) → T (a && b) → T a
@@ -41,7 +41,7 @@ less Greater p = absurd p
 -- a place that follows all others is none of them
 below-apart : {X : Type 0} (k q : Place) (es : List (Place × X)) (x : X) → T (below_all place_cmp k es) → find place_cmp q es ≡ Some x → eq_by_cmp place_cmp q k ≡ false
 below-apart k q [] x b f = cc
-below-apart k q (e ∷ es) x b f = go (eq_by_cmp place_cmp q e.0) refl f
+below-apart k q (e ∷ es) x b f = go (eq_by_cmp place_cmp q e.0) refl f (below-apart k q es x (second _ _ b))
   where
     here : (r : Bool) → eq_by_cmp place_cmp q k ≡ r → q ≡ e.0 → r ≡ false
     here false is same = refl
@@ -52,9 +52,9 @@ below-apart k q (e ∷ es) x b f = go (eq_by_cmp place_cmp q e.0) refl f
         let self : eq_by_cmp place_cmp e.0 e.0 ≡ true = (eq_by_cmp-decides place_cmp-IsTotalOrder place_cmp-IsAntisymmetric e.0 e.0).1 refl in
         absurd (cc)
 
-    go : (r : Bool) → eq_by_cmp place_cmp q e.0 ≡ r → cond r (Some e.1) (find place_cmp q es) ≡ Some x → eq_by_cmp place_cmp q k ≡ false
-    go true is h = here (eq_by_cmp place_cmp q k) refl ((eq_by_cmp-decides place_cmp-IsTotalOrder place_cmp-IsAntisymmetric q e.0).0 is)
-    go false is h = below-apart k q es x (second _ _ b) h
+    go : (r : Bool) → eq_by_cmp place_cmp q e.0 ≡ r → cond r (Some e.1) (find place_cmp q es) ≡ Some x → (find place_cmp q es ≡ Some x → eq_by_cmp place_cmp q k ≡ false) → eq_by_cmp place_cmp q k ≡ false
+    go true is h later = here (eq_by_cmp place_cmp q k) refl ((eq_by_cmp-decides place_cmp-IsTotalOrder place_cmp-IsAntisymmetric q e.0).0 is)
+    go false is h later = later h
 
 -- no entry passes a test that fails at each place where something is found
 none_any : {X : Type 0} (test : X → Bool) (es : List (Place × X)) → T (is_sorted place_cmp es) → ((q : Place) (x : X) → find place_cmp q es ≡ Some x → test x ≡ false) → list_any (λ e. test e.1) es ≡ false
@@ -92,3 +92,11 @@ keeps_agree area one two cells all h q n out e =
         let at = one_place one cells p q n all (f.1 ∙ ap Some same) e in
         let covered : covers area q ≡ true = ap (covers area) (sym at) ∙ f.0 in
         absurd (cc)
+
+-- a cell with another number, or none, releases nothing under this one
+pub released_kept : (stands : Numbered) (c : Cell) (k : ℕ) → is_numbered k c ≡ false → released (Some c) stands k ≡ stands k
+released_kept stands (cell.Number m) k e = refl
+released_kept stands (cell.Truth b) k e = refl
+released_kept stands (cell.Text w) k e = refl
+released_kept stands (cell.Formula n) k e = let other : (k == n) ≡ false = grind (arith, nat_tests) in ap (λ b. cond b None (stands k)) other
+released_kept stands (cell.Broken w) k e = refl

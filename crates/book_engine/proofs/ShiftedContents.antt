@@ -27,22 +27,28 @@ use Rattle.book_model.specs.Changes.{rewritten_content, rewritten_contents}
 use Rattle.book_model.specs.Refusals.{is_outside}
 use Rattle.book_engine.specs.Formulas.{Follows, Numbered, stood_after}
 use Rattle.book_engine.specs.Seen.{AllStand, StandsAt, content_of, contents_of, tree_of}
-use Rattle.book_engine.proofs.Contents.{get-contents}
+use Rattle.book_engine.proofs.Contents.{get-contents, standing, stands_at}
 
 some_mapped : {X Y : Type 0} (h : X → Y) (r : Option X) → IsSome (option_map h r) → IsSome r
 some_mapped h None some = cc
 some_mapped h (Some x) some = refl
 
--- contents are where their cells are
-pub contents_inside : (stands : Numbered) (cells : PlaceMap Cell) → AreInside cells → AreInside (contents_of stands cells)
-contents_inside stands cells inside p some = inside p (some_mapped (content_of stands) (fin.get cells p) (subst IsSome (get-contents stands cells p) some))
+-- a place has a content exactly where its cell is filled
+pub filled_cell : (stands : Numbered) (cells : PlaceMap Cell) (p : Place) → IsSome (fin.get (contents_of stands cells) p) → IsSome (fin.get cells p)
+filled_cell stands cells p some = some_mapped (content_of stands) (fin.get cells p) (subst IsSome (get-contents stands cells p) some)
 
-pub cells_inside : (stands : Numbered) (cells : PlaceMap Cell) → AreInside (contents_of stands cells) → AreInside cells
-cells_inside stands cells inside p some = inside p (subst IsSome (sym (get-contents stands cells p)) (go (fin.get cells p) some))
+pub filled_contents : (stands : Numbered) (cells : PlaceMap Cell) (p : Place) → IsSome (fin.get cells p) → IsSome (fin.get (contents_of stands cells) p)
+filled_contents stands cells p some = subst IsSome (sym (get-contents stands cells p)) (go (fin.get cells p) some)
   where
     go : (r : Option Cell) → IsSome r → IsSome (option_map (content_of stands) r)
     go None s = s
     go (Some c) s = refl
+
+contents_inside : (stands : Numbered) (cells : PlaceMap Cell) → AreInside cells → AreInside (contents_of stands cells)
+contents_inside stands cells inside p some = inside p (filled_cell stands cells p some)
+
+pub cells_inside : (stands : Numbered) (cells : PlaceMap Cell) → AreInside (contents_of stands cells) → AreInside cells
+cells_inside stands cells inside p some = inside p (filled_contents stands cells p some)
 
 outside_none : {X : Type 0} (s : Shift) (m : PlaceMap X) (q : Place) → IsSoundShift s → AreInside m → is_outside q ≡ true → fin.get (moved_map s m) q ≡ None
 outside_none s m q sound inside out = go (fin.get (moved_map s m) q) refl
@@ -58,7 +64,7 @@ outside_none s m q sound inside out = go (fin.get (moved_map s m) q) refl
 pub came_along : (s : Shift) (one two : Numbered) (cells : PlaceMap Cell) (p q : Place) (n : ℕ) → IsSoundShift s → AllStand one cells → Follows s one two → IsInside q
     → place_before s q ≡ Some p → fin.get cells p ≡ Some (cell.Formula n) → (t : Term Corner) × (one n ≡ Some (p, t)) × (two n ≡ Some (q, rewritten s t))
 came_along s one two cells p q n sound all follows i from e =
-    let old = all p n e in
+    let old = standing one n p (all p n e) in
     let there : place_after s p ≡ Some q = place_returned_goes (form_of s) p q sound i from in
     (old.0, old.1, follows n ∙ ap (option_and_then (stood_after s)) old.1 ∙ ap (option_map (λ r. (r, rewritten s old.0))) there)
 
@@ -96,7 +102,7 @@ module _ (s : Shift) (one two : Numbered) (cells : PlaceMap Cell) (sound : IsSou
 
   stands_from : (q : Place) (n : ℕ) (r : Option Place) → place_before s q ≡ r → IsInside q → option_and_then (fin.get cells) r ≡ Some (cell.Formula n) → StandsAt two n q
   stands_from q n None from i e = cc
-  stands_from q n (Some p) from i e = let along = came_along s one two cells p q n sound all follows i from e in (rewritten s along.0, along.2)
+  stands_from q n (Some p) from i e = let along = came_along s one two cells p q n sound all follows i from e in stands_at two n q (rewritten s along.0) along.2
 
   pub stand-shifted : AllStand two (moved_map s cells)
   stand-shifted q n e =

@@ -1,8 +1,21 @@
 -- A call leads from one sound session to another. Serves the calls of the engine.
-use Rattle.std.proofs.Common.{◌≡◌, ◌∙◌, sym, ap, subst, refl, Option, Some, None, Result, Ok, Err}
+use Rattle.std.proofs.Common.{◌≡◌, ◌∙◌, sym, ap, subst, refl, arith, ℕ, ◌-◌, ◌==◌, Bool, true, false, cond, not, List, Option, Some, None, is_some, IsSome, Result, Ok, Err}
+use Rattle.std.proofs.lemmas.Bool.Decides.{nat_tests}
+use Rattle.std.specs.FinMap.{get-retain_keys, same_map}
+use Rattle.cell_addr.specs.declared.place.Block.{Block}
+use Rattle.cell_addr.specs.declared.place.TheConstants.{ROWS, COLS}
+use Rattle.cell_addr.proofs.Places.{place_cmp-IsTotalOrder, place_cmp-IsAntisymmetric}
+use Rattle.std.specs.FinMap as fin
+use Rattle.cell_addr.specs.Place.{IsInside, covers}
+use Rattle.cell_addr.specs.declared.place.Place.{Place}
+use Rattle.cell_values.specs.Workbook.{Book as Contents, Content}
+use Rattle.shift_core.specs.Form.{form_of}
+use Rattle.shift_core.specs.Maps.{AreInside, moved_map}
+use Rattle.shift_core.specs.declared.shift.Shift.{Shift}
+use Rattle.book_model.specs.Changes.{rewritten_contents, sheets_left, shifted}
 use Rattle.book_model.specs.Operation.{Operation}
 use Rattle.book_model.specs.Refusals.{cause}
-use Rattle.book_model.specs.Session.{done, next, unless_refused}
+use Rattle.book_model.specs.Session.{changed, done, next, unless_refused}
 use Rattle.book_model.specs.Sound.{IsSound}
 use Rattle.book_model.specs.Workbook.{State}
 use Rattle.book_model.specs.declared.refusal.Refusal.{Refusal}
@@ -24,3 +37,50 @@ next_done op d e = ap (λ r. unless_refused r (done op d) d) e
 -- a refused one leaves the session
 pub next_refused : (op : Operation) (d : State) (r : Refusal) → cause op d ≡ Some r → d ≡ next op d
 next_refused op d r e = sym (refused_same op d r e)
+
+-- the session after an operation that is done is sound
+pub done_sound : (op : Operation) (d e : State) → cause op d ≡ None → e ≡ done op d → IsSound d → IsSound e
+done_sound op d e none same s = subst IsSound (sym (same ∙ sym (next_done op d none))) (next_sound op d s)
+
+-- the cells of a sound session are inside
+pub sound_inside : (d : State) → IsSound d → AreInside d.book.cells
+sound_inside d s p some = go (fin.get d.book.cells p) refl some
+  where
+    go : (r : Option Content) → fin.get d.book.cells p ≡ r → IsSome r → IsInside p
+    go None e some = cc
+    go (Some x) e some = (s.cells p x e).0
+
+-- a session with the sheets and the contents after a structural operation
+pub shifted_state : (d : State) (s : Shift) (sheets : List (ℕ × List ℕ)) (cells : Contents) → sheets ≡ sheets_left (form_of s) d.book.sheets → cells ≡ rewritten_contents s (moved_map s d.book.cells)
+    → record { book = record { sheets = sheets; cells = cells }; next_sheet = d.next_sheet } ≡ changed (shifted s d.book) d
+shifted_state d s sheets cells e f =
+    ap (λ x. record { book = record { sheets = x; cells = cells }; next_sheet = d.next_sheet }) e
+    ∙ ap (λ y. record { book = record { sheets = sheets_left (form_of s) d.book.sheets; cells = y }; next_sheet = d.next_sheet }) f
+
+-- a session with another list of sheets
+abbrev pub with_sheets : State → List (ℕ × List ℕ) → State
+with_sheets d sheets = record { book = record { sheets = sheets; cells = d.book.cells }; next_sheet = d.next_sheet }
+
+-- all places of a sheet
+abbrev pub whole : ℕ → Block
+whole sheet = record { sheet = sheet; top = 0; left = 0; bottom = ROWS - 1; right = COLS - 1 }
+
+covers_same : (sheet : ℕ) (p : Place) → IsInside p → covers (whole sheet) p ≡ (p.sheet == sheet)
+covers_same sheet p i = grind (arith, nat_tests)
+
+-- to empty a whole sheet is to empty its cells
+pub emptied_sheet : (m : Contents) (sheet : ℕ) → AreInside m → fin.retain_keys m (λ p. not (covers (whole sheet) p)) ≡ fin.retain_keys m (λ p. not (p.sheet == sheet))
+emptied_sheet m sheet inside = same_map place_cmp-IsTotalOrder place_cmp-IsAntisymmetric _ _ (λ q.
+    get-retain_keys m (λ p. not (covers (whole sheet) p)) q (λ x t. ap (λ r. not (covers (whole sheet) r)) (sym (place_cmp-IsAntisymmetric q x t)))
+    ∙ go q (fin.get m q) refl
+    ∙ sym (get-retain_keys m (λ p. not (p.sheet == sheet)) q (λ x t. ap (λ r. not (r.sheet == sheet)) (sym (place_cmp-IsAntisymmetric q x t)))))
+  where
+    none : (b c : Bool) → cond {A = Option Content} b None None ≡ cond c None None
+    none true true = refl
+    none true false = refl
+    none false true = refl
+    none false false = refl
+
+    go : (q : Place) (r : Option Content) → fin.get m q ≡ r → cond (not (covers (whole sheet) q)) r None ≡ cond (not (q.sheet == sheet)) r None
+    go q None e = none (not (covers (whole sheet) q)) (not (q.sheet == sheet))
+    go q (Some x) e = ap (λ b. cond (not b) (Some x) None) (covers_same sheet q (inside q (ap is_some e)))

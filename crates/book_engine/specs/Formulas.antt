@@ -1,25 +1,14 @@
 -- The formulas that an engine keeps, each under a number. Source: this project's own.
 use Rattle.std.specs.Prelude.{◌≡◌, ◌==◌, if◌then◌else◌, ℕ, List, Option, None, map, get_or, option_map, option_and_then}
-use Rattle.cell_addr.specs.Place.{IsInside}
 use Rattle.cell_addr.specs.declared.place.Place.{Place}
-use Rattle.formula_tree.specs.Proper.{IsProper}
-use Rattle.formula_tree.specs.Relative.{relative}
-use Rattle.formula_tree.specs.StandsFor.{at_home}
 use Rattle.formula_tree.specs.Term.{Term}
-use Rattle.formula_tree.specs.declared.node.Node.{Node}
 use Rattle.formula_tree.specs.declared.reference.Corner.{Corner}
-use Rattle.formula_tree.specs.declared.reference.Home.TheVariants as homes
 use Rattle.shift_core.specs.Tables.{place_after}
 use Rattle.shift_core.specs.declared.shift.Shift.{Shift}
-use Rattle.std.specs.declared.alloc.Global.{Global}
-use Rattle.std.specs.declared.rc.Rc.{Rc}
 use Rattle.tree_rewrite.specs.Rewritten.{rewritten}
+use Rattle.book_engine.specs.Formula.{tree_at}
 use Rattle.book_engine.specs.declared.formulas.Formula.{Formula}
 use Rattle.book_engine.specs.declared.formulas.Formulas.{Formulas}
-
--- the tree of a formula in a cell, each place as it is named there
-abbrev pub tree_at : Place → Rc Node Global → Term Corner
-tree_at at tree = at_home (homes.Cell at) (relative tree.value)
 
 -- where a formula stands, and its tree
 abbrev pub Stood : Type 0
@@ -48,7 +37,3 @@ stood_after s f = option_map (λ q. (q, rewritten s f.1)) (place_after s f.0)
 
 abbrev pub Follows : Shift → Numbered → Numbered → Type 0
 Follows s old new = (k : ℕ) → new k ≡ option_and_then (stood_after s) (old k)
-
--- a formula in a cell within the limits of a sheet, and its tree proper
-abbrev pub IsFormula : Place → Term Corner → Type 0
-IsFormula at t = IsInside at × IsProper t

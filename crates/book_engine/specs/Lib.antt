@@ -1,3 +1,4 @@
+pub mod Formula
 pub mod Formulas
 pub mod Seen
 pub mod Engine

@@ -1,5 +1,5 @@
 -- The session that an engine stands for. Source: this project's own.
-use Rattle.std.specs.Prelude.{◌≡◌, ℕ, map, Option, Some, None}
+use Rattle.std.specs.Prelude.{◌≡◌, ℕ, map, Option, Some, None, option_map}
 use Rattle.std.specs.FinMap as fin
 use Rattle.cell_addr.specs.declared.place.Place.{Place}
 use Rattle.cell_value.specs.declared.fault.FaultKind.TheVariants as faults
@@ -42,7 +42,7 @@ state_of p = record {
 
 -- the number is that of a formula at the place
 abbrev pub StandsAt : Numbered → ℕ → Place → Type 0
-StandsAt stands n p = (t : Term Corner) × (stands n ≡ Some (p, t))
+StandsAt stands n p = option_map (λ f. f.0) (stands n) ≡ Some p
 
 -- each formula's number is that of a formula at its cell
 abbrev pub AllStand : Numbered → PlaceMap Cell → Type 0

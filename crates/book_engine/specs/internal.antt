@@ -1,3 +1,6 @@
 -- What only the proofs of bodies need.
 pub mod Turns
 pub mod Cells
+pub mod Props
+pub mod FormulaProp
+pub mod FitsProp

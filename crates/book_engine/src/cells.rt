@@ -3,7 +3,8 @@ ghost use Rattle.std.specs.Prelude.{◌≡◌, Some, OnOk, OnErr, IfOk};
 ghost use Rattle.std.specs.FinMap as map;
 ghost use Rattle.cell_addr.specs.Place.{IsInside, covers};
 ghost use Rattle.cell_values.specs.Workbook as content;
-ghost use Rattle.book_engine.specs.Formulas.{numbered, tree_at};
+ghost use Rattle.book_engine.specs.Formula.{tree_at};
+ghost use Rattle.book_engine.specs.Formulas.{numbered};
 ghost use Rattle.book_engine.specs.Seen.{content_of};
 ghost use Rattle.book_engine.specs.internal.Cells.{IsPlain, KeepsOthers, Releases, Stand, contents};
 ghost use Rattle.std.specs.Prelude.{not};
@@ -89,17 +90,24 @@ fn release_all(formulas: &mut Formulas, cells: &[(Place, Cell)])
     ensures { KeepsOthers cells.now (numbered formulas.old) (numbered formulas.new) }
 {
     for (_, cell) in cells {
-        if let Cell::Formula(number) = cell {
-            formulas.remove(*number);
-        }
+        release_cell(formulas, cell);
     }
 }
 
-// Takes out the formula of a cell that was emptied.
+// Takes out the formula of what was in a cell that was emptied or filled anew.
 fn release(formulas: &mut Formulas, before: &Option<Cell>)
     ensures { Releases before.now (numbered formulas.old) (numbered formulas.new) }
 {
-    if let Some(Cell::Formula(number)) = before {
+    if let Some(cell) = before {
+        release_cell(formulas, cell);
+    }
+}
+
+// Takes out the formula of a cell, if it has one.
+fn release_cell(formulas: &mut Formulas, cell: &Cell)
+    ensures { Releases (Some cell.now) (numbered formulas.old) (numbered formulas.new) }
+{
+    if let Cell::Formula(number) = cell {
         formulas.remove(*number);
     }
 }

@@ -1,10 +1,13 @@
 // Why operations are refused.
-ghost use Rattle.std.specs.Prelude.{◌≡◌, ◌+◌, nat_lt};
+ghost use Rattle.std.specs.Prelude.{◌≡◌, ◌+◌, ◌&&◌, is_none, nat_le, nat_lt};
 ghost use Rattle.cell_addr.specs.Place.{IsBlockInside};
-ghost use Rattle.cell_addr.specs.Sheets.{AreSheets};
+ghost use Rattle.std.specs.FinMap as map;
+ghost use Rattle.std.specs.List.{list_any};
+ghost use Rattle.cell_addr.specs.Sheets.{AreSheets, same_name};
+ghost use Rattle.book_model.specs.Changes.{with_content};
 ghost use Rattle.shift_core.specs.Form.{form_of};
 ghost use Rattle.book_model.specs.Operation as op;
-ghost use Rattle.book_model.specs.Refusals.{at_place, cause, first_cause, is_block_outside, is_outside, is_taken, of_edit, of_form, on_sheet};
+ghost use Rattle.book_model.specs.Refusals.{at_place, cause, first_cause, is_block_outside, is_outside, is_taken, of_edit, of_form, on_sheet, pushes_off};
 ghost use Rattle.book_model.specs.Workbook.{has_sheet};
 ghost use Rattle.book_engine.specs.Seen.{Fits, state_of};
 ghost use Rattle.book_engine.specs.internal.Turns.{IsCause};
@@ -78,10 +81,28 @@ impl Parts {
         if text.len() > MAX_TEXT {
             return Err(Refusal::TextLimit);
         }
-        if !text.is_empty() && self.grid.cell(at).is_none() && self.grid.filled() >= MAX_CELLS {
+        if self.overfills(at, text) {
             return Err(Refusal::CellLimit);
         }
         Ok(())
+    }
+
+    // Whether the text would fill more cells than a workbook may have.
+    fn overfills(&self, at: Place, text: &str) -> bool
+        requires { Fits self.now }
+        ensures { result ≡ nat_lt MAX_CELLS (map.len (with_content at text.now (state_of self.now).book).cells) }
+    {
+        if text.is_empty() {
+            return false;
+        }
+        self.is_full_without(at)
+    }
+
+    // Whether the workbook is full and the cell empty.
+    fn is_full_without(&self, at: Place) -> bool
+        ensures { result ≡ (is_none (map.get (state_of self.now).book.cells at) && nat_le MAX_CELLS (map.len (state_of self.now).book.cells)) }
+    {
+        self.grid.cell(at).is_none() && self.grid.filled() >= MAX_CELLS
     }
 
     // Where a structural operation is asked for.
@@ -103,15 +124,22 @@ impl Parts {
         if !self.has_sheet(sheet) {
             return Err(Refusal::NoSheet);
         }
-        let limit = axis.limit();
+        self.check_edit(s, sheet, axis, edit)
+    }
+
+    // Where lines are edited, on a sheet that there is.
+    fn check_edit(&self, s: &Shift, sheet: u32, axis: Axis, edit: Edit) -> Result<(), Refusal>
+        requires { form_of s.now ≡ Lines sheet axis edit }
+        ensures { IsCause result (first_cause (of_edit (state_of self.now) (Lines sheet axis edit) edit (limit_of axis))) }
+    {
         match edit {
             Edit::Insert { at, count } => self.check_insert(s, sheet, axis, at, count),
-            Edit::Delete { at, count } => check_delete(at, count, limit),
+            Edit::Delete { at, count } => check_delete(axis, at, count),
             Edit::Move {
                 from,
                 count,
                 before,
-            } => check_move(from, count, before, limit),
+            } => check_move(axis, from, count, before),
         }
     }
 
@@ -126,10 +154,18 @@ impl Parts {
         if at >= axis.limit() {
             return Err(Refusal::Outside);
         }
-        if self.grid.pushed_off(s) {
+        if self.pushes_off(s, sheet, axis, at, count) {
             return Err(Refusal::SizeLimit);
         }
         Ok(())
+    }
+
+    // Whether the insert pushes a filled cell off the sheet.
+    fn pushes_off(&self, s: &Shift, sheet: u32, axis: Axis, at: u32, count: u32) -> bool
+        requires { form_of s.now ≡ Lines sheet axis (Insert at count) }
+        ensures { result ≡ pushes_off (Lines sheet axis (Insert at count)) (state_of self.now).book }
+    {
+        self.grid.pushed_off(s)
     }
 
     // Where a block of cells is moved.
@@ -155,7 +191,7 @@ impl Parts {
         if !is_sheet_name(name) {
             return Err(Refusal::SheetNameInvalid);
         }
-        if self.names.id_of(name).is_some() {
+        if self.is_named(name) {
             return Err(Refusal::SheetNameTaken);
         }
         if self.next_sheet >= MAX_SHEETS {
@@ -181,6 +217,13 @@ impl Parts {
         Ok(())
     }
 
+    // Whether a sheet has the name.
+    fn is_named(&self, name: &str) -> bool
+        ensures { result ≡ list_any (λ s. same_name s.1 name.now) (state_of self.now).book.sheets }
+    {
+        self.names.id_of(name).is_some()
+    }
+
     // Whether another sheet has the name.
     fn is_taken(&self, sheet: u32, name: &str) -> bool
         requires { AreSheets (state_of self.now).book.sheets }
@@ -194,26 +237,26 @@ impl Parts {
 }
 
 // Where lines are deleted, on a sheet that there is.
-fn check_delete(at: u32, count: u32, limit: u32) -> Result<(), Refusal>
-    ensures { (d : State) (f : Form) → IsCause result (first_cause (of_edit d f (Delete at count) limit)) }
+fn check_delete(axis: Axis, at: u32, count: u32) -> Result<(), Refusal>
+    ensures { (d : State) (f : Form) → IsCause result (first_cause (of_edit d f (Delete at count) (limit_of axis))) }
 {
     if count == 0 {
         return Err(Refusal::BadSpan);
     }
-    if is_past(at, count, limit) {
+    if is_past(at, count, axis.limit()) {
         return Err(Refusal::Outside);
     }
     Ok(())
 }
 
 // Where lines are moved, on a sheet that there is.
-fn check_move(from: u32, count: u32, before: u32, limit: u32) -> Result<(), Refusal>
-    ensures { (d : State) (f : Form) → IsCause result (first_cause (of_edit d f (Move from count before) limit)) }
+fn check_move(axis: Axis, from: u32, count: u32, before: u32) -> Result<(), Refusal>
+    ensures { (d : State) (f : Form) → IsCause result (first_cause (of_edit d f (Move from count before) (limit_of axis))) }
 {
     if count == 0 {
         return Err(Refusal::BadSpan);
     }
-    if is_past(from, count, limit) || before > limit {
+    if is_past(from, count, axis.limit()) || before > axis.limit() {
         return Err(Refusal::Outside);
     }
     if from <= before && before as u64 <= from as u64 + count as u64 {

@@ -7,6 +7,8 @@ ghost use Rattle.book_model.specs.Given.{CanBegin, session_given};
 ghost use Rattle.book_model.specs.Operation as op;
 ghost use Rattle.book_model.specs.Replies.{first_sheet};
 ghost use Rattle.book_model.specs.Workbook.{State};
+ghost use Rattle.book_engine.specs.Seen.{Fits};
+ghost use Rattle.book_engine.specs.internal.FitsProp.{fits-prop};
 
 use crate::parts::Parts;
 use crate::stop::Stop;
@@ -24,7 +26,7 @@ use steps::Steps;
 #[derive(Drop)]
 pub struct Engine {
     parts: Parts,
-    ghost fits: { Fits parts },
+    ghost fits: { Fits parts } by { fits-prop parts },
 }
 
 impl Engine {

@@ -1,9 +1,8 @@
 // The formulas of a workbook, each under a number.
-ghost use Rattle.std.specs.Prelude.{◌≡◌, ◌<◌, None, Some, IfOk, OnOk, OnErr, IfSome, option_map, option_and_then, option_copied, get_or, length};
-ghost use Rattle.cell_addr.specs.Place.{IsInside};
-ghost use Rattle.formula_tree.specs.Proper.{IsProper};
+ghost use Rattle.std.specs.Prelude.{◌≡◌, ◌<◌, None, Some, IfOk, OnErr, IfSome, length, option_map, option_and_then, option_copied};
 ghost use Rattle.shift_core.specs.Sound.{IsSound};
-ghost use Rattle.book_engine.specs.Formulas.{ChangesAt, Follows, IsFormula, Numbered, numbered, slots_of, stood, stood_after, tree_at};
+ghost use Rattle.book_engine.specs.Formula.{IsFormula, tree_at};
+ghost use Rattle.book_engine.specs.internal.FormulaProp.{is_formula-prop};
 
 use cell_addr::Place;
 use formula_tree::{Home, Pool, Tree};
@@ -16,10 +15,12 @@ use tree_rewrite::forward;
 pub struct Formula {
     pub at: Place,
     pub tree: Tree,
-    pub ghost fits: { IsFormula at (tree_at at tree) },
+    pub ghost fits: { IsFormula at (tree_at at tree) } by { is_formula-prop at (tree_at at tree) },
 }
 
 impl Formula {
+    ghost use Rattle.book_engine.specs.Formulas.{stood, stood_after};
+
     // The formula after a structural operation; `None` where its place is lost.
     fn after(&self, alloc: Global, pool: &mut Pool, s: &Shift) -> Result<Option<Formula>, AllocError>
         requires { IsSound s.now }
@@ -42,6 +43,8 @@ pub struct Formulas {
 }
 
 impl Formulas {
+    ghost use Rattle.book_engine.specs.Formulas.{ChangesAt, Follows, numbered, slots_of, stood, stood_after};
+
     /// No formulas.
     pub fn new(alloc: Global) -> Formulas
         ensures { (k : _) → numbered result k ≡ None }
@@ -122,42 +125,41 @@ impl Formulas {
     {
         let mut slots = Vec::with_capacity(self.alloc, self.slots.len())?;
         for slot in &self.slots {
-            let after = slot_after(self.alloc, pool, slot, s)?;
+            let after = self.slot_after(pool, slot, s)?;
             slots.push(after)?;
         }
-        let mut next = Formulas {
+        let free = vacant_numbers(self.alloc, &slots)?;
+        Ok(Formulas {
             alloc: self.alloc,
             slots,
-            free: Vec::with_capacity(self.alloc, self.slots.len())?,
-        };
-        next.note_vacant();
-        Ok(next)
+            free,
+        })
     }
 
-    // Notes which slots are empty.
-    fn note_vacant(&mut self)
-        ensures { slots_of self.new ≡ slots_of self.old }
+    // What is in a slot after a structural operation.
+    fn slot_after(
+        &self,
+        pool: &mut Pool,
+        slot: &Option<Formula>,
+        s: &Shift,
+    ) -> Result<Option<Formula>, AllocError>
+        requires { IsSound s.now }
+        ensures { IfOk result (λ after. option_map stood after ≡ option_and_then (stood_after s.now) (option_map stood slot.now)) }
     {
-        for (number, slot) in self.slots.iter().enumerate() {
-            if slot.is_none() && self.free.len() < self.free.capacity() {
-                self.free.push_reserved(number as u64);
-            }
+        match slot {
+            Some(formula) => formula.after(self.alloc, pool, s),
+            None => Ok(None),
         }
     }
 }
 
-// What is in a slot after a structural operation.
-fn slot_after(
-    alloc: Global,
-    pool: &mut Pool,
-    slot: &Option<Formula>,
-    s: &Shift,
-) -> Result<Option<Formula>, AllocError>
-    requires { IsSound s.now }
-    ensures { IfOk result (λ after. option_map stood after ≡ option_and_then (stood_after s.now) (option_map stood slot.now)) }
-{
-    match slot {
-        Some(formula) => formula.after(alloc, pool, s),
-        None => Ok(None),
+// The numbers of the empty slots, in a list with room for all numbers.
+fn vacant_numbers(alloc: Global, slots: &[Option<Formula>]) -> Result<Vec<u64>, AllocError> {
+    let mut free = Vec::with_capacity(alloc, slots.len())?;
+    for (number, slot) in slots.iter().enumerate() {
+        if slot.is_none() {
+            free.push(number as u64)?;
+        }
     }
+    Ok(free)
 }

@@ -1,13 +1,16 @@
 // What cells show and hold.
-ghost use Rattle.std.specs.Prelude.{◌≡◌, IfOk, OnOk, OnErr};
+ghost use Rattle.std.specs.Prelude.{◌≡◌, ◌++◌, ◌∷◌, [], IfOk, MatchOption, OnOk, option_copied, option_map};
+ghost use Rattle.grid_store.specs.Grid.{items_of};
+ghost use Rattle.std.specs.FinMap as map;
+ghost use Rattle.book_model.specs.Changes.{placed};
 ghost use Rattle.cell_values.specs.Workbook.{book_of};
-ghost use Rattle.cell_values.specs.Workbook as content;
+ghost use Rattle.cell_values.specs.Workbook as contents;
 ghost use Rattle.book_model.specs.Answers.{content_text, formula_of, value_of};
 ghost use Rattle.book_model.specs.Operation as op;
 ghost use Rattle.book_engine.specs.Seen.{Fits, state_of};
 ghost use Rattle.book_engine.specs.internal.Turns.{Turns};
 ghost use Rattle.name_table.specs.Listed.{listed};
-ghost use Rattle.book_model.specs.Content.{tree_shown};
+ghost use Rattle.book_model.specs.Content.{content_shown, formula_shown, tree_shown};
 ghost use Rattle.book_engine.specs.Formulas.{numbered, stood};
 ghost use Rattle.grid_store.specs.declared.cell.Cell.TheVariants as CellSeen;
 ghost use Rattle.book_engine.specs.Seen.{StandsAt, tree_of, content_of};
@@ -21,7 +24,7 @@ use cell_value::Scalar;
 use cell_values::{Cell as Content, Workbook, value};
 use formula_print::print;
 use formula_tree::Home;
-use grid_store::Cell;
+use grid_store::{Cell, CellList};
 use std::alloc::AllocError;
 use std::sync::ledger::Ledger;
 use steps::Steps;
@@ -63,7 +66,15 @@ impl Parts {
         requires { Fits self.now }
         ensures { IfOk result (λ text. text ≡ formula_of (state_of self.now) at) }
     {
-        match self.grid.cell(at) {
+        self.formula_in(at, self.grid.cell(at))
+    }
+
+    // The text of the formula of a cell at the place, if it has one.
+    fn formula_in(&self, at: Place, cell: Option<&Cell>) -> Result<Option<Text>, AllocError>
+        requires { (n : _) → option_copied cell ≡ Some (CellSeen.Formula n) → StandsAt (numbered self.now.formulas) n at }
+        ensures { IfOk result (λ text. text ≡ formula_shown (listed self.now.names) at.sheet (option_map (content_of (numbered self.now.formulas)) (option_copied cell.entry))) }
+    {
+        match cell {
             Some(Cell::Formula(number)) => Ok(Some(self.tree_text(at, *number)?)),
             Some(Cell::Broken(text)) => Ok(Some(text.copy(self.alloc)?)),
             _ => Ok(None),
@@ -75,7 +86,15 @@ impl Parts {
         requires { Fits self.now }
         ensures { IfOk result (λ text. text ≡ content_text (state_of self.now) at) }
     {
-        match self.grid.cell(at) {
+        self.content_in(at, self.grid.cell(at))
+    }
+
+    // The text that gives a cell at the place its content.
+    fn content_in(&self, at: Place, cell: Option<&Cell>) -> Result<Text, AllocError>
+        requires { (n : _) → option_copied cell ≡ Some (CellSeen.Formula n) → StandsAt (numbered self.now.formulas) n at }
+        ensures { IfOk result (λ text. text ≡ content_shown (listed self.now.names) at.sheet (option_map (content_of (numbered self.now.formulas)) (option_copied cell.entry))) }
+    {
+        match cell {
             None => Text::from_str(self.alloc, ""),
             Some(Cell::Number(number)) => Ok(Text::new(number.text(self.alloc)?)),
             Some(Cell::Truth(truth)) => Scalar::Truth(*truth).shown(self.alloc),
@@ -113,24 +132,55 @@ impl Parts {
     {
         let mut cells = self.grid.all(self.alloc)?;
         let mut workbook = Workbook::new(self.alloc);
-        while let Some((at, cell)) = cells.pop() {
-            let content = self.content_of(at, cell)?;
-            workbook.put(at, content)?;
+        while let Some(at) = next_place(&mut cells) {
+            let content = self.content_at(at)?;
+            place(&mut workbook, at, content)?;
         }
         Ok(workbook)
     }
 
-    // What a kept cell at the place holds.
-    fn content_of(&self, at: Place, cell: Cell) -> Result<Content, AllocError>
-        requires { (n : _) → cell ≡ CellSeen.Formula n → StandsAt (numbered self.now.formulas) n at }
-        ensures { IfOk result (λ c. content.content_at at c ≡ content_of (numbered self.now.formulas) cell) }
+    // What a cell holds, if it is filled.
+    fn content_at(&self, at: Place) -> Result<Option<Content>, AllocError>
+        requires { Fits self.now }
+        ensures { IfOk result (λ c. option_map (contents.content_at at) c ≡ map.get (state_of self.now).book.cells at) }
+    {
+        self.filled_with(at, self.grid.cell(at))
+    }
+
+    // What a cell at the place holds, if it is filled.
+    fn filled_with(&self, at: Place, cell: Option<&Cell>) -> Result<Option<Content>, AllocError>
+        requires { (n : _) → option_copied cell ≡ Some (CellSeen.Formula n) → StandsAt (numbered self.now.formulas) n at }
+        ensures { IfOk result (λ c. option_map (contents.content_at at) c ≡ option_map (content_of (numbered self.now.formulas)) (option_copied cell.entry)) }
     {
         match cell {
-            Cell::Number(number) => Ok(Content::Number(number)),
-            Cell::Truth(truth) => Ok(Content::Truth(truth)),
-            Cell::Text(text) => Ok(Content::Text(text)),
-            Cell::Formula(number) => Ok(Content::Formula(self.standing(at, number).tree.clone()?)),
-            Cell::Broken(text) => Ok(Content::Broken(text)),
+            None => Ok(None),
+            Some(Cell::Number(number)) => Ok(Some(Content::Number(*number))),
+            Some(Cell::Truth(truth)) => Ok(Some(Content::Truth(*truth))),
+            Some(Cell::Text(text)) => Ok(Some(Content::Text(text.copy(self.alloc)?))),
+            Some(Cell::Formula(number)) => {
+                let formula = self.standing(at, *number);
+                Ok(Some(Content::Formula(formula.tree.clone()?)))
+            }
+            Some(Cell::Broken(text)) => Ok(Some(Content::Broken(text.copy(self.alloc)?))),
         }
     }
+}
+
+// Takes the last cell off the list, and answers its place.
+fn next_place(cells: &mut CellList) -> Option<Place>
+    ensures { MatchOption result (items_of cells.old ≡ []) (λ at. (cell : _) × (items_of cells.old ≡ items_of cells.new ++ (at, cell) ∷ [])) }
+{
+    let (at, _) = cells.pop()?;
+    Some(at)
+}
+
+// Fills a cell of a workbook, or empties it.
+fn place(workbook: &mut Workbook, at: Place, content: Option<Content>) -> Result<(), AllocError>
+    ensures { OnOk result (book_of workbook.new ≡ placed at (option_map (contents.content_at at) content) (book_of workbook.old)) }
+{
+    match content {
+        Some(content) => workbook.put(at, content)?,
+        None => workbook.clear(at),
+    }
+    Ok(())
 }

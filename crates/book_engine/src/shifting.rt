@@ -1,7 +1,9 @@
 // Structural operations.
 ghost use Rattle.std.specs.Prelude.{◌≡◌, OnOk, OnErr};
 ghost use Rattle.shift_core.specs.Sound.{IsSound};
-ghost use Rattle.book_model.specs.Changes.{shifted};
+ghost use Rattle.book_model.specs.Changes.{sheets_left, shifted};
+ghost use Rattle.name_table.specs.Listed.{listed};
+ghost use Rattle.shift_core.specs.Form.{form_of};
 ghost use Rattle.book_model.specs.Operation as op;
 ghost use Rattle.book_model.specs.Session.{changed};
 ghost use Rattle.book_engine.specs.Engine.{NoAnswer};
@@ -11,7 +13,8 @@ ghost use Rattle.book_engine.specs.internal.Turns.{Turns};
 
 use crate::parts::Parts;
 use crate::stop::Stop;
-use shift_core::Shift;
+use name_table::Names;
+use shift_core::{Form, Shift};
 use std::alloc::AllocError;
 
 impl Parts {
@@ -37,9 +40,16 @@ impl Parts {
         let formulas = self.formulas.shifted(&mut self.pool, s)?;
         self.grid.apply(self.alloc, s)?;
         self.formulas = formulas;
-        if let Shift::DropSheet { sheet } = s {
-            self.names.remove_sheet(*sheet);
-        }
+        leave(&mut self.names, s);
         Ok(())
+    }
+}
+
+// Takes a dropped sheet out of the list.
+fn leave(names: &mut Names, s: &Shift)
+    ensures { listed names.new ≡ sheets_left (form_of s.now) (listed names.old) }
+{
+    if let Form::Sheet { sheet } = s.form() {
+        names.remove_sheet(sheet);
     }
 }

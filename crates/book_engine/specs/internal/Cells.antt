@@ -2,7 +2,8 @@
 use Rattle.std.specs.Prelude.{◌≡◌, ◌≢◌, ◌==◌, if◌then◌else◌, ℕ, Bool, false, List, [], ◌∷◌, Option, Some, None}
 use Rattle.std.specs.List.{list_any}
 use Rattle.cell_addr.specs.declared.place.Place.{Place}
-use Rattle.cell_values.specs.Workbook.{Book as Contents}
+use Rattle.cell_values.specs.Workbook.{Book as Contents, Content}
+use Rattle.std.specs.FinMap as fin
 use Rattle.grid_store.specs.Grid.{cells_of}
 use Rattle.grid_store.specs.declared.cell.Cell.{Cell}
 use Rattle.grid_store.specs.declared.cell.Cell.TheVariants as cell
@@ -44,3 +45,8 @@ IsPlain c = (n : ℕ) → c ≢ cell.Formula n
 -- a session with other contents
 abbrev pub with_cells : Contents → State → State
 with_cells cells d = changed (record d.book { cells = cells }) d
+
+-- contents with these entries over them; of those at one place the first counts
+abbrev pub with_given : List (Place × Content) → Contents → Contents
+with_given [] m = m
+with_given (e ∷ es) m = fin.insert (with_given es m) e.0 e.1

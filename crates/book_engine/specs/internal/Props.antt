@@ -1,0 +1,39 @@
+-- What has one proof at most, so that it may be kept with a value: that a tree is proper, and that a session is sound.
+use denote.Struct.Props as logic
+use Rattle.std.specs.Prelude.{ℕ, List}
+use Rattle.cell_values.specs.Workbook.{Content, number, truth, text, formula, unreadable}
+use Rattle.formula_tree.specs.Proper.{IsProper, AreProper}
+use Rattle.formula_tree.specs.Term as tree
+use Rattle.formula_tree.specs.Term.{Term, Terms}
+use Rattle.formula_tree.specs.declared.reference.Corner.{Corner}
+use Rattle.book_model.specs.Sound.{IsContentOf, IsSound}
+use Rattle.book_model.specs.Workbook.{State, Workbook}
+
+mutual
+  pub is_proper-prop : (t : Term Corner) → IsProp (IsProper t)
+  is_proper-prop (tree.number m) = Prim.hlevel logic.props
+  is_proper-prop (tree.text w) = Prim.hlevel logic.props
+  is_proper-prop (tree.truth b) = Prim.hlevel logic.props
+  is_proper-prop (tree.fault f) = Prim.hlevel logic.props
+  is_proper-prop (tree.cell c) = Prim.hlevel logic.props
+  is_proper-prop (tree.area c d) = Prim.hlevel logic.props
+  is_proper-prop (tree.name w) = Prim.hlevel logic.props
+  is_proper-prop (tree.prefix s t) = let h = is_proper-prop t in Prim.hlevel (h, logic.props)
+  is_proper-prop (tree.percent t) = let h = is_proper-prop t in Prim.hlevel (h, logic.props)
+  is_proper-prop (tree.binary o l r) = let h = is_proper-prop l in let i = is_proper-prop r in Prim.hlevel (h, i, logic.props)
+  is_proper-prop (tree.call w ts) = let h = are_proper-prop ts in Prim.hlevel (h, logic.props)
+  is_proper-prop (tree.paren t) = is_proper-prop t
+
+  are_proper-prop : (ts : Terms Corner) → IsProp (AreProper ts)
+  are_proper-prop tree.no_terms = Prim.hlevel logic.props
+  are_proper-prop (tree.term t ts) = let h = is_proper-prop t in let i = are_proper-prop ts in Prim.hlevel (h, i, logic.props)
+
+is_content_of-prop : (b : Workbook) (c : Content) → IsProp (IsContentOf b c)
+is_content_of-prop b (number m) = Prim.hlevel logic.props
+is_content_of-prop b (truth q) = Prim.hlevel logic.props
+is_content_of-prop b (text w) = Prim.hlevel logic.props
+is_content_of-prop b (formula t) = let h = is_proper-prop t in Prim.hlevel (h, logic.props)
+is_content_of-prop b (unreadable w) = Prim.hlevel logic.props
+
+pub is_sound-prop : (d : State) → IsProp (IsSound d)
+is_sound-prop d = Prim.hlevel (is_content_of-prop, logic.props)
