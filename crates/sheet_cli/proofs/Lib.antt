@@ -1,5 +1,6 @@
-pub mod Fields
+pub mod Executed
+pub mod FirstSheet
+pub mod LineBytes
 pub mod Outcomes
 pub mod RecordSteps
 pub mod StreamFacts
-pub mod ProperBooks

@@ -3,20 +3,21 @@ use Rattle.std.proofs.Common.{◌≡◌, ◌∙◌, sym, ap, subst, refl, arith,
 use Rattle.std.specs.Prelude.{⊤}
 use Rattle.std.proofs.lemmas.Bool.Decides.{nat_tests}
 use Rattle.std.proofs.lemmas.List.{append-nil}
-use Rattle.std.specs.FinMap as map
-use Rattle.csv.specs.declared.parser.State.{State}
+use Rattle.csv.specs.declared.parser.State.{State as Reading}
 use Rattle.csv.specs.declared.parser.State.TheVariants as st
 use Rattle.csv.specs.Machine.{Read, next_record}
 use Rattle.csv.specs.Reading.{records, records_from, records_next, default_config, strip_bom, is_bom}
 use Rattle.std.specs.Io.KnownBytes.{Appends}
-use Rattle.sheet_cli.specs.declared.command.Command.{Command}
-use Rattle.sheet_cli.specs.declared.command.ScriptError.{ScriptError}
-use Rattle.sheet_cli.specs.Command.{command_of}
-use Rattle.cell_values.specs.Workbook.{Book}
+use Rattle.book_model.specs.Replies.{next_state, reply}
+use Rattle.book_model.specs.Workbook.{State}
+use Rattle.book_model.specs.declared.command.Command.{Command}
+use Rattle.book_engine.specs.Engine.{StandsFor}
+use Rattle.book_engine.specs.declared.engine.Engine.{Engine}
+use Rattle.script_lang.specs.Command.{command_of}
+use Rattle.script_lang.specs.declared.error.ScriptError.{ScriptError}
 use Rattle.sheet_cli.specs.Outside.{Loses}
-use Rattle.sheet_cli.specs.Session.{reply}
 use Rattle.sheet_cli.specs.internal.Answers.{AnswersRecord}
-use Rattle.sheet_cli.specs.Run.{WasRead, Outcome, outcome_of, outcome_from, followed_by, record_line, script_outcome}
+use Rattle.sheet_cli.specs.Run.{WasRead, first_session, Outcome, outcome_of, outcome_from, followed_by, record_line, script_outcome}
 
 -- what was taken since an old moment, and then the rest, is the whole
 abbrev pub Completes : Option (List ℕ) → Option (List ℕ) → List ℕ → List ℕ → Type 0
@@ -48,57 +49,59 @@ completes-last (Some xs) (Some ys) None last whole c a = a
 completes-last (Some xs) (Some ys) (Some zs) last whole c a = a ∙ c
 
 -- no record left
-pub outcome-none : (book : Book) (k : ℕ) → outcome_from book k [] ≡ ([], 0)
+pub outcome-none : (d : State) (k : ℕ) → outcome_from d k [] ≡ ([], 0)
 unfolding outcome_from
-outcome-none book k = refl
+outcome-none d k = refl
 
 -- a record, and those after it
-pub outcome-more : (book : Book) (k : ℕ) (fields : List (List ℕ)) (rest : List (List (List ℕ))) → outcome_from book k (fields ∷ rest) ≡ outcome_of book k (command_of fields) (λ after. outcome_from after (k + 1) rest)
+pub outcome-more : (d : State) (k : ℕ) (fields : List (List ℕ)) (rest : List (List (List ℕ))) → outcome_from d k (fields ∷ rest) ≡ outcome_of d k (command_of fields) (λ after. outcome_from after (k + 1) rest)
 unfolding outcome_from
-outcome-more book k fields rest = refl
+outcome-more d k fields rest = refl
 
--- the outcome of a record that did this and doesn't end the run: its reply, and the rest over the next book
-pub outcome-goes : (said : Result Command ScriptError) (k : ℕ) (before after : Book) (old new : Option (List ℕ)) (rest : Book → Outcome) → AnswersRecord said k false before after old new
-    → (line : List ℕ) × Appends old new line × (outcome_of before k said rest ≡ followed_by line (rest after))
-outcome-goes (Ok command) k before after old new rest did = (reply command before, did.0, rw did.1 refl)
-outcome-goes (Err e) k before after old new rest did = absurd did
+-- the engine is in a session in which the records that are left, the first of them with this number, complete the whole
+abbrev pub Leads : Engine → ℕ → List (List (List ℕ)) → Option (List ℕ) → Option (List ℕ) → Outcome → Type 0
+Leads engine k left old now whole = (d : State) × (StandsFor engine d × Completes old now (outcome_from d k left).0 whole.0 × ((outcome_from d k left).1 ≡ whole.1))
+
+-- the outcome of a record that did this and doesn't end the run: its reply, and the rest in the next session
+outcome-goes : (said : Result Command ScriptError) (k : ℕ) (before after : Engine) (d : State) (old new : Option (List ℕ)) (rest : State → Outcome) → AnswersRecord said k false before after old new → StandsFor before d
+    → (line : List ℕ) × (next : State) × (Appends old new line × StandsFor after next × (outcome_of d k said rest ≡ followed_by line (rest next)))
+outcome-goes (Ok command) k before after d old new rest did stands = let now = did d stands in (reply command d, next_state command d, (now.0, now.1, refl))
+outcome-goes (Err e) k before after d old new rest did stands = absurd did
 
 -- the outcome of a record that did this and ends the run: its line, and status 3
-pub outcome-ends : (said : Result Command ScriptError) (k : ℕ) (before after : Book) (old new : Option (List ℕ)) (rest : Book → Outcome) → AnswersRecord said k true before after old new
-    → (line : List ℕ) × Appends old new line × (outcome_of before k said rest ≡ (line, 3))
-outcome-ends (Ok command) k before after old new rest did = absurd did
-outcome-ends (Err e) k before after old new rest did = (record_line k e, did, refl)
+outcome-ends : (said : Result Command ScriptError) (k : ℕ) (before after : Engine) (d : State) (old new : Option (List ℕ)) (rest : State → Outcome) → AnswersRecord said k true before after old new
+    → (line : List ℕ) × (Appends old new line × (outcome_of d k said rest ≡ (line, 3)))
+outcome-ends (Ok command) k before after d old new rest did = absurd did
+outcome-ends (Err e) k before after d old new rest did = (record_line k e, (did, refl))
 
 -- a record that doesn't end the run: what was written and the rest still make the whole
-pub goes_on : (old now new : Option (List ℕ)) (before after : Book) (k : ℕ) (left rest : List (List (List ℕ))) (fields : List (List ℕ)) (whole : Outcome) → left ≡ fields ∷ rest → AnswersRecord (command_of fields) k false before after now new
-    → Completes old now (outcome_from before k left).0 whole.0 → (outcome_from before k left).1 ≡ whole.1
-    → Completes old new (outcome_from after (k + 1) rest).0 whole.0 × ((outcome_from after (k + 1) rest).1 ≡ whole.1)
-goes_on old now new before after k left rest fields whole is did written status =
-    let g = outcome-goes (command_of fields) k before after now new (λ b. outcome_from b (k + 1) rest) did in
-    let e : outcome_from before k left ≡ followed_by g.0 (outcome_from after (k + 1) rest) = ap (λ l. outcome_from before k l) is ∙ outcome-more before k fields rest ∙ g.2 in
+pub goes_on : (old now new : Option (List ℕ)) (before after : Engine) (k : ℕ) (left rest : List (List (List ℕ))) (fields : List (List ℕ)) (whole : Outcome) → left ≡ fields ∷ rest → AnswersRecord (command_of fields) k false before after now new
+    → Leads before k left old now whole → Leads after (k + 1) rest old new whole
+goes_on old now new before after k left rest fields whole is did (d, (stands, written, status)) =
+    let g = outcome-goes (command_of fields) k before after d now new (λ next. outcome_from next (k + 1) rest) did stands in
+    let e : outcome_from d k left ≡ followed_by g.0 (outcome_from g.1 (k + 1) rest) = ap (λ l. outcome_from d k l) is ∙ outcome-more d k fields rest ∙ g.2.2 in
     let P : Outcome → Type 0 = λ o. Completes old now o.0 whole.0 in
-    (completes-write old now new g.0 (outcome_from after (k + 1) rest).0 whole.0 (subst P e written) g.1, sym (ap (λ (o : Outcome). o.1) e) ∙ status)
+    (g.1, (g.2.1, completes-write old now new g.0 (outcome_from g.1 (k + 1) rest).0 whole.0 (subst P e written) g.2.0, sym (ap (λ (o : Outcome). o.1) e) ∙ status))
 
 -- a record that is no command: what was written is the whole
-pub stops : (old now new : Option (List ℕ)) (before after : Book) (k : ℕ) (left rest : List (List (List ℕ))) (fields : List (List ℕ)) (whole : Outcome) → left ≡ fields ∷ rest → AnswersRecord (command_of fields) k true before after now new
-    → Completes old now (outcome_from before k left).0 whole.0 → (outcome_from before k left).1 ≡ whole.1
-    → Appends old new whole.0 × (3 ≡ whole.1)
-stops old now new before after k left rest fields whole is did written status =
-    let g = outcome-ends (command_of fields) k before after now new (λ b. outcome_from b (k + 1) rest) did in
-    let e : outcome_from before k left ≡ (g.0, 3) = ap (λ l. outcome_from before k l) is ∙ outcome-more before k fields rest ∙ g.2 in
+pub stops : (old now new : Option (List ℕ)) (before after : Engine) (k : ℕ) (left rest : List (List (List ℕ))) (fields : List (List ℕ)) (whole : Outcome) → left ≡ fields ∷ rest → AnswersRecord (command_of fields) k true before after now new
+    → Leads before k left old now whole → Appends old new whole.0 × (3 ≡ whole.1)
+stops old now new before after k left rest fields whole is did (d, (stands, written, status)) =
+    let g = outcome-ends (command_of fields) k before after d now new (λ next. outcome_from next (k + 1) rest) did in
+    let e : outcome_from d k left ≡ (g.0, 3) = ap (λ l. outcome_from d k l) is ∙ outcome-more d k fields rest ∙ g.1.1 in
     let P : Outcome → Type 0 = λ o. Completes old now o.0 whole.0 in
-    (completes-last old now new g.0 whole.0 (subst P e written) g.1, sym (ap (λ (o : Outcome). o.1) e) ∙ status)
+    (completes-last old now new g.0 whole.0 (subst P e written) g.1.0, sym (ap (λ (o : Outcome). o.1) e) ∙ status)
 
 -- no record is left: what was written is the whole
-pub ends : (old now : Option (List ℕ)) (book : Book) (k : ℕ) (left : List (List (List ℕ))) (whole : Outcome) → left ≡ [] → Completes old now (outcome_from book k left).0 whole.0 → (outcome_from book k left).1 ≡ whole.1
+pub ends : (old now : Option (List ℕ)) (engine : Engine) (k : ℕ) (left : List (List (List ℕ))) (whole : Outcome) → left ≡ [] → Leads engine k left old now whole
     → Appends old now whole.0 × (0 ≡ whole.1)
-ends old now book k left whole is written status =
-    let e : outcome_from book k left ≡ ([], 0) = ap (λ l. outcome_from book k l) is ∙ outcome-none book k in
+ends old now engine k left whole is (d, (stands, written, status)) =
+    let e : outcome_from d k left ≡ ([], 0) = ap (λ l. outcome_from d k l) is ∙ outcome-none d k in
     let P : Outcome → Type 0 = λ o. Completes old now o.0 whole.0 in
     (completes-end old now whole.0 (subst P e written), sym (ap (λ (o : Outcome). o.1) e) ∙ status)
 
 -- a script that isn't too long is answered by its records
-pub short_script : (bytes : List ℕ) → length bytes ≤ 67108864 → script_outcome bytes ≡ outcome_from map.empty 1 (records default_config (strip_bom bytes))
+pub short_script : (bytes : List ℕ) → length bytes ≤ 67108864 → script_outcome bytes ≡ outcome_from first_session 1 (records default_config (strip_bom bytes))
 short_script bytes short = let e : nat_lt 67108864 (length bytes) ≡ false = grind (arith, nat_tests) in rw e refl
 
 long_next : (n : ℕ) (next : Option Read) → ((p : Read) → length (records_from default_config n p.1 p.2) ≤ n) → length (records_next (records_from default_config n) next) ≤ suc n
@@ -116,7 +119,7 @@ no_longer (a ∷ []) = omega arith
 no_longer (a ∷ c ∷ []) = omega arith
 no_longer (a ∷ c ∷ d ∷ rest) = bom-shorter (is_bom a c d) a c d rest
 
-long_from : (n : ℕ) (s : State) (xs : List ℕ) → length (records_from default_config n s xs) ≤ n
+long_from : (n : ℕ) (s : Reading) (xs : List ℕ) → length (records_from default_config n s xs) ≤ n
 unfolding records_from
 long_from zero s xs = omega arith
 long_from (suc n) s xs = long_next n (next_record default_config s [] [] xs) (λ p. long_from n p.1 p.2)

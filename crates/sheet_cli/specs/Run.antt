@@ -4,13 +4,17 @@ use Rattle.std.specs.Fmt.{decimal}
 use Rattle.std.specs.FinMap as map
 use Rattle.std.specs.Io.KnownBytes.{Appends}
 use Rattle.csv.specs.Reading.{records, default_config, strip_bom}
-use Rattle.sheet_cli.specs.declared.command.Command.{Command}
-use Rattle.sheet_cli.specs.declared.command.ScriptError.{ScriptError}
-use Rattle.sheet_cli.specs.declared.command.ScriptError.TheVariants.{UnknownCommand, FieldCount, BadField, NoMemory}
+use Rattle.book_model.specs.Replies.{line_of, next_state, reply}
+use Rattle.book_model.specs.Workbook.{State}
+use Rattle.book_model.specs.declared.command.Command.{Command}
+use Rattle.script_lang.specs.Command.{command_of}
+use Rattle.script_lang.specs.declared.error.ScriptError.{ScriptError}
+use Rattle.script_lang.specs.declared.error.ScriptError.TheVariants.{UnknownCommand, FieldCount, BadField, NoMemory}
 use Rattle.sheet_cli.specs.declared.outside.input.TheConstants.{MAX_INPUT}
-use Rattle.sheet_cli.specs.Command.{command_of}
-use Rattle.cell_values.specs.Workbook.{Book}
-use Rattle.sheet_cli.specs.Session.{next, reply, line_of}
+
+-- the session that a run begins with: one empty sheet, `Sheet1`, which has the number 0
+abbrev pub first_session : State
+first_session = record { book = record { sheets = (0, codes "Sheet1") ∷ []; cells = map.empty }; next_sheet = 1 }
 
 -- the bytes that a run prints, and its status
 abbrev pub Outcome : Type 0
@@ -36,23 +40,23 @@ abbrev pub record_line : ℕ → ScriptError → List ℕ
 record_line k e = line_of (record_text k e)
 
 -- what a record does: its reply and then the rest of the run, or the end of the run where it is no command
-abbrev pub outcome_of : Book → ℕ → Result Command ScriptError → (Book → Outcome) → Outcome
-outcome_of book k (Ok command) rest = followed_by (reply command book) (rest (next command book))
-outcome_of book k (Err e) rest = (record_line k e, 3)
+abbrev pub outcome_of : State → ℕ → Result Command ScriptError → (State → Outcome) → Outcome
+outcome_of d k (Ok command) rest = followed_by (reply command d) (rest (next_state command d))
+outcome_of d k (Err e) rest = (record_line k e, 3)
 
--- the records from number k on, over a book; the end of the script ends a run with status 0
-unfoldable pub outcome_from : Book → ℕ → List (List (List ℕ)) → Outcome
-outcome_from book k [] = ([], 0)
-outcome_from book k (fields ∷ rest) = outcome_of book k (command_of fields) (λ after. outcome_from after (k + 1) rest)
+-- the records from number k on, in a session; the end of the script ends a run with status 0
+unfoldable pub outcome_from : State → ℕ → List (List (List ℕ)) → Outcome
+outcome_from d k [] = ([], 0)
+outcome_from d k (fields ∷ rest) = outcome_of d k (command_of fields) (λ after. outcome_from after (k + 1) rest)
 
 abbrev pub usage_line : List ℕ
 usage_line = line_of (codes "usage: sheetrun [--undo-limit N] [--strict] [--script FILE] [--generate N] [BOOK.csv ...]")
 
--- the outcome of a script: too long, or its records over an empty book
+-- the outcome of a script: too long, or its records from the first session on
 abbrev pub script_outcome : List ℕ → Outcome
 script_outcome bytes = if nat_lt MAX_INPUT (length bytes)
     then (line_of (codes "input too long"), 8)
-    else outcome_from map.empty 1 (records default_config (strip_bom bytes))
+    else outcome_from first_session 1 (records default_config (strip_bom bytes))
 
 -- the outcome of a run: every word is refused yet
 abbrev pub outcome : ℕ → List ℕ → Outcome

@@ -7,21 +7,17 @@
 //! A script is a list of records, each a command that is answered by one line:
 //!
 //! ```text
-//! set,A1,0.1      ok
-//! set,A2,=A1+2    ok
-//! value,A2        2.1
+//! set,A1,0.1              ok
+//! set,A2,=A1+2            ok
+//! insert-rows,Sheet1,1,1  ok
+//! formula,A3              =A2+2
 //! ```
 #![tactic(auto)]
 
-mod command;
-pub mod content;
-pub mod laws;
 mod line;
 pub mod outside;
 mod program;
 mod records;
-mod refusal;
-mod script;
 mod session;
 
 pub use program::run;

@@ -1,8 +1,15 @@
 // The lines of a run's output.
-ghost use Rattle.std.specs.Prelude.{◌≡◌, IfOk};
-ghost use Rattle.sheet_cli.specs.Session.{line_of};
+ghost use Rattle.std.specs.Prelude.{◌≡◌, ◌+◌, ◌++◌, ◌≤◌, [], codes, length, vec_capacity, vec_len, IfOk};
+ghost use Rattle.std.specs.Fmt.{decimal};
+ghost use Rattle.book_model.specs.Replies.{line_of, refused_text};
+ghost use Rattle.sheet_cli.specs.internal.Answers.{IsLineOfStop};
 
+use book_engine::Stop;
+use book_model::Refusal;
 use std::alloc::{AllocError, Global};
+
+/// How many bytes the line with a number has at most: `ok`, a blank, ten digits and a line feed.
+const NUMBER_LINE: usize = 14;
 
 /// The bytes of a text's line: a backslash, a line feed and a carriage return are written as two
 /// characters, and a line feed ends it.
@@ -20,4 +27,75 @@ pub fn line(alloc: Global, text: &str) -> Result<Vec<u8>, AllocError>
     }
     line.push(b'\n')?;
     Ok(line)
+}
+
+/// The line of a call that stopped: that it is refused, and why. Of want of memory there is no line.
+pub fn stop_line(alloc: Global, stop: Stop) -> Result<Vec<u8>, AllocError>
+    ensures { IfOk result (λ line. IsLineOfStop stop line.items) }
+{
+    match stop {
+        Stop::Refused(refusal) => refused(alloc, refusal),
+        Stop::NoMemory => Err(AllocError),
+    }
+}
+
+// The line of a call that is refused.
+fn refused(alloc: Global, refusal: Refusal) -> Result<Vec<u8>, AllocError>
+    ensures { IfOk result (λ line. line.items ≡ line_of (refused_text refusal)) }
+{
+    let number = refusal.number();
+    let mut text = format!(in alloc; "refused {number} ")?;
+    text.push_str(refusal.name())?;
+    line(alloc, text.as_str())
+}
+
+/// Room for the line of a number.
+pub fn number_room(alloc: Global) -> Result<Vec<u8>, AllocError>
+    ensures items { IfOk result (λ room. room.items ≡ []) }
+    ensures len { IfOk result (λ room. vec_len room ≡ 0) }
+    ensures capacity { IfOk result (λ room. NUMBER_LINE ≤ vec_capacity room) }
+{
+    Vec::with_capacity(alloc, NUMBER_LINE)
+}
+
+/// The line of a number that a call answers. It takes no memory beyond the room.
+pub fn number_line(room: Vec<u8>, number: u32) -> Vec<u8>
+    requires items { room.items ≡ [] }
+    requires len { vec_len room ≡ 0 }
+    requires capacity { NUMBER_LINE ≤ vec_capacity room }
+    ensures { result.items ≡ line_of (codes "ok " ++ decimal number) }
+{
+    let mut line = room;
+    put(&mut line, b"ok ");
+    put_number(&mut line, number);
+    put(&mut line, b"\n");
+    line
+}
+
+// Puts the digits of a number at the end, for which there is room.
+fn put_number(line: &mut Vec<u8>, number: u32)
+    requires { vec_len line.old + length (decimal number) ≤ vec_capacity line.old }
+    ensures items { line.new.items ≡ line.old.items ++ decimal number }
+    ensures len { vec_len line.new ≡ vec_len line.old + length (decimal number) }
+    ensures capacity { vec_capacity line.old ≤ vec_capacity line.new }
+{
+    if number < 10 {
+        put(line, &[b'0' + number as u8]);
+    } else {
+        put_number(line, number / 10);
+        put(line, &[b'0' + (number % 10) as u8]);
+    }
+}
+
+// Puts bytes at the end, for which there is room.
+fn put(line: &mut Vec<u8>, bytes: &[u8])
+    requires { vec_len line.old + length bytes.now ≤ vec_capacity line.old }
+    ensures items { line.new.items ≡ line.old.items ++ bytes.now }
+    ensures len { vec_len line.new ≡ vec_len line.old + length bytes.now }
+    ensures capacity { vec_capacity line.old ≤ vec_capacity line.new }
+{
+    match line.extend_from_slice(bytes) {
+        Ok(()) => {}
+        Err(_) => unreachable!(),
+    }
 }

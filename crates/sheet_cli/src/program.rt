@@ -1,22 +1,19 @@
 // The call that the program makes: the words and the script come in, lines and a status go out.
 ghost use Rattle.std.specs.Prelude.{◌≡◌, ◌≢◌, ◌⊎◌, ◌<◌, ◌≤◌, ◌↔◌, length, IfOk, OnOk, IsErrOf, string_bytes};
 ghost use Rattle.std.specs.Io.KnownBytes.{Appends};
-ghost use Rattle.cell_values.specs.Workbook.{book_of};
+ghost use Rattle.book_model.specs.Replies.{line_of};
 ghost use Rattle.csv.specs.Records.{fields_of};
+ghost use Rattle.script_lang.specs.Command.{command_of};
 ghost use Rattle.sheet_cli.specs.Outside.{Rose};
-ghost use Rattle.sheet_cli.specs.Command.{command_of};
-ghost use Rattle.sheet_cli.specs.Proper.{HoldsProperTrees};
 ghost use Rattle.sheet_cli.specs.internal.Answers.{AnswersRecord};
-ghost use Rattle.sheet_cli.specs.Session.{line_of};
 ghost use Rattle.sheet_cli.specs.Run.{IsEndStatus, IsStatus, PrintsFor, WasRead, cause_text, outcome, record_text, script_outcome};
 
-use crate::command::ScriptError;
 use crate::line::line;
 use crate::outside::{LoadError, MAX_INPUT, Sink, Source, WriteError, read_all};
 use crate::records::Records;
-use crate::script::command;
 use crate::session::Session;
 use csv::ByteRecord;
+use script_lang::{ScriptError, command};
 use std::alloc::{AllocError, Global};
 use std::sync::ledger::Ledger;
 use steps::Steps;
@@ -179,15 +176,14 @@ fn run_record<O: Sink, L: Ledger>(
     out: &mut O,
     steps: &mut Steps<L>,
 ) -> Result<bool, Stop>
-    requires { HoldsProperTrees (book_of session.old.workbook) }
-    ensures answered { IfOk result (λ ends. AnswersRecord (command_of (fields_of fields.now)) number ends (book_of session.old.workbook) (book_of session.new.workbook) (O.taken out.old) (O.taken out.new)) }
+    ensures answered { IfOk result (λ ends. AnswersRecord (command_of (fields_of fields.now)) number ends session.old.engine session.new.engine (O.taken out.old) (O.taken out.new)) }
     ensures no_read_fault { IsErrOf result Stop.ReadFault → ⊥ }
     ensures write_fault { IsErrOf result Stop.WriteFault → Rose (O.faults out.old) (O.faults out.new) }
     ensures later { O.faults out.old ≤ O.faults out.new }
 {
     match command(alloc, fields) {
         Ok(command) => {
-            let reply = session.execute(command, steps)?;
+            let reply = session.execute(&command, steps)?;
             out.write(&reply)?;
             Ok(false)
         }

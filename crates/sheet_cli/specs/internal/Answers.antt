@@ -1,20 +1,53 @@
--- What the answer to one record does, and how a failed write stops a run.
-use Rattle.std.specs.Prelude.{◌≡◌, ℕ, List, Bool, true, false, Option, Result, Ok, Err}
+-- What the answer to one command does, and to one record, and how a failed write stops a run.
+use Rattle.std.specs.Prelude.{◌≡◌, ℕ, List, Bool, true, false, Option, Some, None, Result, Ok, Err, ⊤}
 use Rattle.std.specs.Io.KnownBytes.{Appends}
-use Rattle.sheet_cli.specs.declared.command.Command.{Command}
-use Rattle.sheet_cli.specs.declared.command.ScriptError.{ScriptError}
+use Rattle.book_model.specs.Refusals.{cause}
+use Rattle.book_model.specs.Replies.{line_of, next_state, operation_of, refused_text, reply}
+use Rattle.book_model.specs.Workbook.{State}
+use Rattle.book_model.specs.declared.command.Command.{Command}
+use Rattle.book_model.specs.declared.command.Command.TheVariants as command
+use Rattle.book_engine.specs.Engine.{StandsFor}
+use Rattle.book_engine.specs.declared.engine.Engine.{Engine}
+use Rattle.book_engine.specs.declared.stop.Stop as engine
+use Rattle.book_engine.specs.declared.stop.Stop.TheVariants.{Refused, NoMemory}
+use Rattle.script_lang.specs.declared.error.ScriptError.{ScriptError}
 use Rattle.sheet_cli.specs.declared.outside.error.WriteError.{WriteError}
 use Rattle.sheet_cli.specs.declared.outside.error.WriteError.TheVariants as write
 use Rattle.sheet_cli.specs.declared.program.Stop.{Stop}
 use Rattle.sheet_cli.specs.declared.program.Stop.TheVariants as stop
-use Rattle.cell_values.specs.Workbook.{Book}
-use Rattle.sheet_cli.specs.Session.{next, reply}
 use Rattle.sheet_cli.specs.Run.{record_line}
 
--- a record was answered: a command gave its reply to the sink and the next book, and what is no command
--- gave the last line
-abbrev pub AnswersRecord : Result Command ScriptError → ℕ → Bool → Book → Book → Option (List ℕ) → Option (List ℕ) → Type 0
-AnswersRecord (Ok command) k false before after old new = Appends old new (reply command before) × (after ≡ next command before)
+-- the engine stays in the session that it was in
+abbrev pub Keeps : Engine → Engine → Type 0
+Keeps old new = (d : State) → StandsFor old d → StandsFor new d
+
+-- a command was executed: whichever session the engine was in, this line answers it, and the engine is in the next one
+abbrev pub Executes : Command → Engine → Engine → List ℕ → Type 0
+Executes c old new line = (d : State) → StandsFor old d → (line ≡ reply c d) × StandsFor new (next_state c d)
+
+-- a call for what a command asks for, whichever session the engine was in
+abbrev pub DoesFor : {X : Type 0} → Command → (State → X → Type 0) → Engine → Engine → Result X engine.Stop → Type 0
+DoesFor c Answers old new (Ok x) = (d : State) → StandsFor old d → (cause (operation_of d.book c) d ≡ None) × Answers d x × StandsFor new (next_state c d)
+DoesFor c Answers old new (Err (Refused r)) = (d : State) → StandsFor old d → (cause (operation_of d.book c) d ≡ Some r) × StandsFor new (next_state c d)
+DoesFor c Answers old new (Err NoMemory) = Keeps old new
+
+-- the command is a change that answers nothing
+abbrev pub IsChange : Command → Type 0
+IsChange (command.AddSheet name) = ⊥
+IsChange (command.Value at) = ⊥
+IsChange (command.Formula at) = ⊥
+IsChange (command.Content at) = ⊥
+IsChange _ = ⊤
+
+-- the line of a call that stopped; of want of memory there is none
+abbrev pub IsLineOfStop : engine.Stop → List ℕ → Type 0
+IsLineOfStop (Refused r) line = line ≡ line_of (refused_text r)
+IsLineOfStop NoMemory line = ⊥
+
+-- a record was answered: the line of a command went to the sink, and the engine is in the next session; what is no
+-- command gave the last line
+abbrev pub AnswersRecord : Result Command ScriptError → ℕ → Bool → Engine → Engine → Option (List ℕ) → Option (List ℕ) → Type 0
+AnswersRecord (Ok c) k false before after old new = (d : State) → StandsFor before d → Appends old new (reply c d) × StandsFor after (next_state c d)
 AnswersRecord (Err e) k true before after old new = Appends old new (record_line k e)
 AnswersRecord _ k ends before after old new = ⊥
 

@@ -1,6 +1,6 @@
 -- The line so far and the bytes that are left make the whole line.
 use Rattle.std.proofs.Common.{◌≡◌, ◌++◌, drop}
-use Rattle.sheet_cli.specs.Session.{escaped}
+use Rattle.book_model.specs.Replies.{escaped}
 use Rattle.sheet_cli.proofs.line.line.Given as goal
 
 abbrev pub invariant-bytes : goal.invariant-bytes

@@ -1,17 +1,15 @@
 -- Each record that is answered takes the output one step further, and the last one completes it.
 use Rattle.std.proofs.Common.{ap, refl, arith, length, Ok}
+use Rattle.sheet_cli.specs.Run.{first_session}
 use Rattle.sheet_cli.proofs.Outcomes.{completes-start, goes_on, stops, ends, short_script, few_records}
-use Rattle.sheet_cli.proofs.ProperBooks.{empty_proper, answered_proper}
 use Rattle.sheet_cli.proofs.program.run_script.Goals as goal
 
 pub records-init : goal.records-init
 records-init g c =
     let few = few_records c.args.script.now in
-    rw (c.in_ok-session.ensures, c.open-records.ensures) (record {
-      written = completes-start _ _;
-      status = refl;
+    rw c.open-records.ensures (record {
+      leads = (first_session, (c.in_ok-session.ensures, completes-start _ _, refl));
       counted = omega (arith, few, c.requires);
-      proper = empty_proper;
       later = omega arith;
     })
 
@@ -20,13 +18,10 @@ records-preserved g c =
     let inv = c.records.invariant in
     let found = c.in_ok-advance.ensures.found (ap Ok c.if-branch.true) in
     let did = rw (c.if-branch-2.false, c.fields.ensures) at c.in_ok-run_record.ensures.answered in
-    let on = goes_on _ _ _ _ _ _ _ _ _ _ found did inv.written inv.status in
     let shorter = ap length found in
     record {
-      written = on.0;
-      status = on.1;
+      leads = goes_on _ _ _ _ _ _ _ _ _ _ found did inv.leads;
       counted = omega (arith, shorter, inv.counted);
-      proper = answered_proper _ _ _ _ _ _ did inv.proper;
       later = omega (arith, inv.later, c.in_ok-run_record.ensures.later);
     }
 
@@ -35,10 +30,10 @@ returns-then-branch-2-clause-output g c =
     let inv = c.records.invariant in
     let found = c.in_ok-advance.ensures.found (ap Ok c.if-branch.true) in
     let did = rw (c.if-branch-2.true, c.fields.ensures) at c.in_ok-run_record.ensures.answered in
-    rw (short_script c.args.script.now c.requires) (stops _ _ _ _ _ _ _ _ _ _ found did inv.written inv.status)
+    rw (short_script c.args.script.now c.requires) (stops _ _ _ _ _ _ _ _ _ _ found did inv.leads)
 
 pub returns-clause-output : goal.returns-clause-output
 returns-clause-output g c =
     let inv = c.records.invariant in
     let end = c.in_ok-advance.ensures.end (ap Ok c.if-branch.false) in
-    rw (short_script c.args.script.now c.requires) (ends _ _ _ _ _ _ end inv.written inv.status)
+    rw (short_script c.args.script.now c.requires) (ends _ _ c.records.session.engine _ _ _ end inv.leads)

@@ -1,0 +1,3 @@
+pub mod FieldForms
+pub mod FieldsRead
+pub mod Named

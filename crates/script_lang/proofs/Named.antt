@@ -1,0 +1,21 @@
+-- Each word is found as it is written, one case for each. Serves the law of the table.
+use Rattle.std.proofs.Common.{refl}
+use Rattle.script_lang.specs.Laws.{WordsAreNamed}
+use Rattle.script_lang.specs.declared.word.Word.TheVariants.{Set, Clear, InsertRows, DeleteRows, InsertCols, DeleteCols, MoveRows, MoveCols, AddSheet, DropSheet, RenameSheet, ClearSheet, Value, Formula, Content}
+
+pub words_are_named : WordsAreNamed
+words_are_named Set = refl
+words_are_named Clear = refl
+words_are_named InsertRows = refl
+words_are_named DeleteRows = refl
+words_are_named InsertCols = refl
+words_are_named DeleteCols = refl
+words_are_named MoveRows = refl
+words_are_named MoveCols = refl
+words_are_named AddSheet = refl
+words_are_named DropSheet = refl
+words_are_named RenameSheet = refl
+words_are_named ClearSheet = refl
+words_are_named Value = refl
+words_are_named Formula = refl
+words_are_named Content = refl

@@ -1,0 +1,51 @@
+-- What a record of a script says. Source: this project's own.
+use Rattle.std.specs.Prelude.{◌≡◌, ◌==◌, ◌+◌, if◌then◌else◌, ℕ, List, length, drop, Option, Some, None, Result, Ok, Err, option_and_then, ⊤}
+use Rattle.csv.specs.Records.{field_at}
+use Rattle.book_model.specs.declared.command.Command.{Command}
+use Rattle.book_model.specs.declared.command.Command.TheVariants.{Set, Clear, InsertRows, DeleteRows, InsertCols, DeleteCols, MoveRows, MoveCols, AddSheet, DropSheet, RenameSheet, ClearSheet, Value, Formula, Content}
+use Rattle.script_lang.specs.Words.{line, word_named}
+use Rattle.script_lang.specs.Arguments.{and_said, no_arguments, read_from}
+use Rattle.script_lang.specs.declared.arguments.Arguments.{Arguments}
+use Rattle.script_lang.specs.declared.error.ScriptError.{ScriptError}
+use Rattle.script_lang.specs.declared.error.ScriptError.TheVariants.{UnknownCommand, FieldCount, NoMemory}
+use Rattle.script_lang.specs.declared.word.Word.{Word}
+use Rattle.script_lang.specs.declared.word.Word.TheVariants as word
+
+-- the command of a word and its arguments
+abbrev pub command_with : Word → Arguments → Command
+command_with word.Set a = Set a.place a.text
+command_with word.Clear a = Clear a.block
+command_with word.InsertRows a = InsertRows a.sheet a.line a.count
+command_with word.DeleteRows a = DeleteRows a.sheet a.line a.count
+command_with word.InsertCols a = InsertCols a.sheet a.line a.count
+command_with word.DeleteCols a = DeleteCols a.sheet a.line a.count
+command_with word.MoveRows a = MoveRows a.sheet a.line a.count a.before
+command_with word.MoveCols a = MoveCols a.sheet a.line a.count a.before
+command_with word.AddSheet a = AddSheet a.name
+command_with word.DropSheet a = DropSheet a.sheet
+command_with word.RenameSheet a = RenameSheet a.sheet a.name
+command_with word.ClearSheet a = ClearSheet a.sheet
+command_with word.Value a = Value a.place
+command_with word.Formula a = Formula a.place
+command_with word.Content a = Content a.place
+
+-- the word that the first field of a record spells
+abbrev pub word_in : List (List ℕ) → Option Word
+word_in fields = option_and_then word_named (field_at fields 0)
+
+-- the command of a word: the number of fields is tested first, and then each field in order
+abbrev pub command_after : Option Word → List (List ℕ) → Result Command ScriptError
+command_after None fields = Err UnknownCommand
+command_after (Some w) fields = if length fields == length (line w).1 + 1
+    then and_said (read_from 1 (line w).1 (drop 1 fields) no_arguments) (λ a. Ok (command_with w a))
+    else Err FieldCount
+
+-- the command that the fields of a record say, or the cause why they say none
+abbrev pub command_of : List (List ℕ) → Result Command ScriptError
+command_of fields = command_after (word_in fields) fields
+
+-- what a reading answers where this is said: that, or its cause. Want of memory is free.
+abbrev pub Says : {X : Type 0} → Result X ScriptError → Result X ScriptError → Type 0
+Says (Ok x) said = said ≡ Ok x
+Says (Err NoMemory) said = ⊤
+Says (Err e) said = said ≡ Err e

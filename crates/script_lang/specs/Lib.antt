@@ -1,0 +1,6 @@
+pub mod Words
+pub mod Forms
+pub mod Arguments
+pub mod Command
+pub mod Laws
+pub mod internal

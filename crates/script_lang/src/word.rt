@@ -1,0 +1,109 @@
+// The words of commands, and the table of the fields behind each.
+ghost use Rattle.std.specs.Prelude.{◌≡◌, ◌≤◌, length};
+ghost use Rattle.script_lang.specs.Words.{line, word_named};
+
+use FieldKind::{Block, Column, ColumnBefore, Count, Name, Place, Row, RowBefore, Sheet, Text};
+
+/// The word that a command begins with.
+#[derive(Clone, Copy, PartialEq, Eq, Debug)]
+pub enum Word {
+    Set,
+    Clear,
+    InsertRows,
+    DeleteRows,
+    InsertCols,
+    DeleteCols,
+    MoveRows,
+    MoveCols,
+    AddSheet,
+    DropSheet,
+    RenameSheet,
+    ClearSheet,
+    Value,
+    Formula,
+    Content,
+}
+
+/// What a field says, and so which form it has.
+#[derive(Clone, Copy, PartialEq, Eq, Debug)]
+pub enum FieldKind {
+    /// One address, on a sheet's name with `!` or without.
+    Place,
+    /// One address, or two with a colon between them.
+    Block,
+    /// The name of a sheet of the book.
+    Sheet,
+    /// The row where something begins.
+    Row,
+    /// The column where something begins.
+    Column,
+    /// How many rows or columns.
+    Count,
+    /// The row before which something goes.
+    RowBefore,
+    /// The column before which something goes.
+    ColumnBefore,
+    /// A name that is given.
+    Name,
+    /// A text that is given.
+    Text,
+}
+
+/// How many fields stand behind a word at most.
+pub const MAX_FIELDS: usize = 4;
+
+impl Word {
+    /// All words.
+    pub const ALL: [Word; 15] = [
+        Word::Set,
+        Word::Clear,
+        Word::InsertRows,
+        Word::DeleteRows,
+        Word::InsertCols,
+        Word::DeleteCols,
+        Word::MoveRows,
+        Word::MoveCols,
+        Word::AddSheet,
+        Word::DropSheet,
+        Word::RenameSheet,
+        Word::ClearSheet,
+        Word::Value,
+        Word::Formula,
+        Word::Content,
+    ];
+
+    /// The word's line in the table: how it is written, and the fields behind it.
+    pub fn line(self) -> (&'static str, &'static [FieldKind])
+        ensures written { result.0.now ≡ (line self).0 }
+        ensures fields { result.1.now ≡ (line self).1 }
+        ensures few { length result.1.now ≤ MAX_FIELDS }
+    {
+        match self {
+            Word::Set => ("set", &[Place, Text]),
+            Word::Clear => ("clear", &[Block]),
+            Word::InsertRows => ("insert-rows", &[Sheet, Row, Count]),
+            Word::DeleteRows => ("delete-rows", &[Sheet, Row, Count]),
+            Word::InsertCols => ("insert-cols", &[Sheet, Column, Count]),
+            Word::DeleteCols => ("delete-cols", &[Sheet, Column, Count]),
+            Word::MoveRows => ("move-rows", &[Sheet, Row, Count, RowBefore]),
+            Word::MoveCols => ("move-cols", &[Sheet, Column, Count, ColumnBefore]),
+            Word::AddSheet => ("add-sheet", &[Name]),
+            Word::DropSheet => ("drop-sheet", &[Sheet]),
+            Word::RenameSheet => ("rename-sheet", &[Sheet, Name]),
+            Word::ClearSheet => ("clear-sheet", &[Sheet]),
+            Word::Value => ("value", &[Place]),
+            Word::Formula => ("formula", &[Place]),
+            Word::Content => ("content", &[Place]),
+        }
+    }
+
+    /// The word that a field spells, in exactly these letters.
+    pub fn named(text: &[u8]) -> Option<Word>
+        ensures { result ≡ word_named text.now }
+    {
+        Word::ALL
+            .iter()
+            .copied()
+            .find(|word| word.line().0.as_bytes() == text)
+    }
+}

@@ -1,0 +1,32 @@
+-- Calls that leave the session as it was. Serves the session of commands, whose lines may want memory after a call.
+use Rattle.std.proofs.Common.{◌≡◌, Option, Some, None, Result, Ok, Err}
+use Rattle.std.specs.Prelude.{OnErr}
+use Rattle.book_model.specs.Operation.{Operation}
+use Rattle.book_model.specs.Session.{done}
+use Rattle.book_model.specs.Workbook.{State}
+use Rattle.book_engine.specs.Engine.{Does}
+use Rattle.book_engine.specs.declared.engine.Engine.{Engine}
+use Rattle.book_engine.specs.declared.stop.Stop.{Stop}
+use Rattle.book_engine.specs.declared.stop.Stop.TheVariants.{Refused, NoMemory}
+use Rattle.book_model.specs.declared.command.Command.{Command}
+use Rattle.sheet_cli.specs.internal.Answers.{DoesFor, Keeps}
+
+-- what holds anyway holds where there is an error
+pub on_err : {T E : Type 0} (r : Result T E) (P : Type 0) → P → OnErr r P
+on_err (Ok x) P p = tt
+on_err (Err e) P p = p
+
+-- a call that stopped
+pub stop_keeps : {X : Type 0} (op : Operation) (Answers : State → X → Type 0) (old new : Engine) (s : Stop) → Does op Answers old new (Err s) → Keeps old new
+stop_keeps op Answers old new (Refused r) did = λ d stands. let now = did d stands in rw now.0 at now.1
+stop_keeps op Answers old new NoMemory did = did
+
+-- the same, of what a command asks for
+pub stop_keeps_for : {X : Type 0} (c : Command) (Answers : State → X → Type 0) (old new : Engine) (s : Stop) → DoesFor c Answers old new (Err s) → Keeps old new
+stop_keeps_for c Answers old new (Refused r) did = λ d stands. let now = did d stands in rw now.0 at now.1
+stop_keeps_for c Answers old new NoMemory did = did
+
+-- a read
+pub read_keeps : {X : Type 0} (op : Operation) (Answers : State → X → Type 0) (old new : Engine) (x : X)
+    → ((d : State) → done op d ≡ d) → Does op Answers old new (Ok x) → Keeps old new
+read_keeps op Answers old new x same did = λ d stands. let now = did d stands in rw (now.0, same d) at now.2

@@ -1,0 +1,6 @@
+-- The one sheet is a sheet that a session can begin with.
+use Rattle.sheet_cli.proofs.FirstSheet.{can_begin}
+use Rattle.sheet_cli.proofs.session.Session.new.Goals as goal
+
+pub build-requires : goal.build-requires
+build-requires c = can_begin (record { name = c.in_ok-from_str.field-0; cells = c.in_ok-new.field-0 }) c.in_ok-from_str.ensures c.in_ok-new.ensures
