@@ -17,7 +17,9 @@ fn whole(number: i64) -> Scalar {
 
 #[test]
 fn dates_are_numbers(rt: HostRuntime) {
-    assert!(rt; dates(DateFn::Date, &[number(2024), number(2), number(29)], TODAY) == Ok(whole(45_351)));
+    assert!(rt;
+        dates(DateFn::Date, &[number(2024), number(2), number(29)], TODAY) == Ok(whole(45_351))
+    );
     assert!(rt; dates(DateFn::Weekday, &[number(45_292), number(2)], TODAY) == Ok(whole(1)));
     assert!(rt; dates(DateFn::EDate, &[number(45_322), number(1)], TODAY) == Ok(whole(45_351)));
     assert!(rt; dates(DateFn::Today, &[], TODAY) == Ok(whole(45_351)));

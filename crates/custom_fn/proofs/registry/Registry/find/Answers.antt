@@ -1,4 +1,4 @@
-use Rattle.std.proofs.Common.{◌≡◌, ◌∙◌, sym, ap, List, ℕ, option_map}
+use Rattle.std.proofs.Common.{◌∙◌, sym, ap, option_map}
 use Rattle.custom_fn.specs.Custom.{name_of, rule_of}
 use Rattle.custom_fn.specs.internal.Name.{text_of}
 use Rattle.custom_fn.proofs.Named.{found-under}
