@@ -1,1 +1,1 @@
-pub mod Finds
+pub mod Named

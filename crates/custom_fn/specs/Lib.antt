@@ -4,3 +4,4 @@ pub mod Rule
 pub mod Word
 pub mod Custom
 pub mod Registry
+pub mod internal

@@ -1,6 +1,7 @@
 -- The custom functions of a program: their names and rules, in the order in which they were added. Source: this
 -- project's own.
 use Rattle.std.specs.Prelude.{◌≡◌, not, ◌||◌, if◌then◌else◌, ℕ, List, map, find, Option, Some, None, is_some, Result, Ok, Err}
+use Rattle.indexmap.specs.IndexMap.{values}
 use Rattle.cell_addr.specs.Sheets.{same_name}
 use Rattle.custom_fn.specs.declared.registry.Registry.{Registry}
 use Rattle.custom_fn.specs.declared.registry.RegError.{RegError}
@@ -12,7 +13,7 @@ use Rattle.custom_fn.specs.Word.{is_function_word}
 
 -- the names and rules of the functions, in order
 abbrev pub customs_of : {I : _} {D : _} {g : _} → Registry I D g → List (List ℕ × Rule)
-customs_of r = map (λ c. (name_of c, rule_of c)) r.customs.items
+customs_of r = map (λ c. (name_of c, rule_of c)) (values r.customs)
 
 -- the function of this name, in some case of its letters
 abbrev pub custom_named : List ℕ → List (List ℕ × Rule) → Option (List ℕ × Rule)

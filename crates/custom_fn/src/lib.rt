@@ -10,6 +10,7 @@
 #![tactic(auto)]
 
 mod custom;
+mod name;
 mod registry;
 mod rule;
 mod words;

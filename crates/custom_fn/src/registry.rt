@@ -1,13 +1,15 @@
 // The custom functions of a program, in the order in which they were added.
-ghost use Rattle.std.specs.Prelude.{◌≡◌, ◌++◌, ◌∷◌, [], IfOk, OnOk, OnErr, find};
-ghost use Rattle.std.specs.Option.{option_copied, option_map};
-ghost use Rattle.cell_addr.specs.Sheets.{same_name};
+ghost use Rattle.std.specs.Prelude.{◌≡◌, ◌++◌, ◌∷◌, [], IfOk, OnOk, OnErr, IfSome, IfNone, slice_get};
+ghost use Rattle.std.specs.Option.{option_map};
 ghost use Rattle.custom_fn.specs.Custom.{name_of};
+ghost use Rattle.custom_fn.specs.internal.Keyed.{AreKeyed, under};
 
 use crate::custom::Custom;
+use crate::name::Name;
 use crate::words::is_function_word;
-use cell_addr::{is_word, same_folded};
-use std::alloc::{AllocError, AllocFailed, Global};
+use cell_addr::{Text, is_word};
+use indexmap::IndexMap;
+use std::alloc::{AllocError, Global};
 use thiserror::Error;
 
 /// Why a custom function could not be added.
@@ -27,7 +29,11 @@ pub enum RegError {
 /// Custom functions of different names, in the order in which they were added.
 #[derive(Drop)]
 pub struct Registry {
-    customs: Vec<Custom>,
+    alloc: Global,
+    customs: IndexMap<Name<'static>, Custom>,
+
+    // Each function stands under its name.
+    ghost keyed: { AreKeyed customs.entries },
 }
 
 impl Registry {
@@ -39,15 +45,19 @@ impl Registry {
         ensures { IfOk result (λ registry. customs_of registry ≡ []) }
     {
         Ok(Registry {
-            customs: Vec::new(alloc),
+            alloc,
+            customs: IndexMap::new(alloc),
         })
     }
 
-    /// The function of this name, in any case of its ASCII letters. The cost is the number of functions.
+    /// The function of this name, in any case of its ASCII letters. Takes no memory, and costs about the
+    /// length of the name.
     pub fn find(&self, name: &str) -> Option<&Custom>
         ensures { option_map (λ c. (name_of c.now, rule_of c.now)) result ≡ custom_named name.now (customs_of self.now) }
     {
-        first_named(&self.customs, name)
+        let index = index_under(&self.customs, name)?;
+        let (_, custom) = self.customs.get_index(index)?;
+        Some(custom)
     }
 
     /// Adds a function after the others.
@@ -67,28 +77,34 @@ impl Registry {
         if is_function_word(custom.name().as_str()) || self.find(custom.name().as_str()).is_some() {
             return Err(RegError::NameTaken);
         }
-        match self.customs.push(custom) {
+        match put_last(self.alloc, &mut self.customs, custom) {
             Ok(()) => Ok(()),
             Err(_) => Err(RegError::NoMemory),
         }
     }
 }
 
-// The first function of this name, in some case of its letters.
-fn first_named<'a>(customs: &'a [Custom], name: &str) -> Option<&'a Custom>
-    ensures { option_copied result ≡ find (λ c. same_name (name_of c) name.now) customs.now }
+// Where the function of this name stands, in some case of its letters.
+fn index_under<'n>(customs: &IndexMap<Name<'n>, Custom>, name: &'n str) -> Option<usize>
+    ensures some { IfSome result (λ i. option_map (λ e. e.1) (slice_get customs.now.entries i) ≡ under name.now customs.now.entries) }
+    ensures none { IfNone result (under name.now customs.now.entries ≡ None) }
 {
-    'customs: for custom in customs {
-        if has_name(custom, name) {
-            return Some(custom);
-        }
-    }
-    None
+    customs.get_index_of(&Name::Asked(name))
 }
 
-// Whether this is the function's name, in some case of its letters.
-fn has_name(custom: &Custom, name: &str) -> bool
-    ensures { result ≡ same_name (name_of custom.now) name.now }
+// Puts a function of a new name after the others, under its name.
+fn put_last(
+    alloc: Global,
+    customs: &mut IndexMap<Name<'static>, Custom>,
+    custom: Custom,
+) -> Result<(), AllocError>
+    requires keyed { AreKeyed customs.old.entries }
+    requires new { under (name_of custom) customs.old.entries ≡ None }
+    ensures keyed { AreKeyed customs.new.entries }
+    ensures ok { OnOk result (customs.new.entries ≡ customs.old.entries ++ (Name.Own (name_of custom), custom) ∷ []) }
+    ensures err { OnErr result (customs.new.entries ≡ customs.old.entries) }
 {
-    same_folded(custom.name().as_str(), name)
+    let name = custom.name().copy(alloc)?;
+    customs.insert(Name::Own(name), custom)?;
+    Ok(())
 }

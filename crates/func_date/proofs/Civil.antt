@@ -1,12 +1,11 @@
 -- The date of a serial number, by its year, its month and its day: for `civil` and for the law of dates.
-use Rattle.std.proofs.Common.{◌≡◌, ◌∙◌, sym, ap, subst, refl, inl, inr, ◌⊎◌, ℕ, zero, suc, ◌+◌, ◌-◌, ◌*◌, ◌/◌, ◌%◌, ◌<◌, ◌≤◌, ℤ, pos, negsuc, ◌+ℤ◌, ◌-ℤ◌, unsigned_abs, arith}
+use Rattle.std.proofs.Common.{◌≡◌, ◌∙◌, sym, ap, subst, refl, inl, inr, ℕ, ◌+◌, ◌-◌, ◌*◌, ◌/◌, ◌%◌, ◌<◌, ◌≤◌, ℤ, pos, negsuc, ◌+ℤ◌, unsigned_abs, arith}
 use Rattle.std.proofs.lemmas.Bool.{cases_lt}
 use Rattle.jiff_core.specs.Calendar.{day_count, days_from_civil, days_in_month, IsCivilDate}
-use Rattle.jiff_core.proofs.CalendarLemmas.{day_count-day, day_count-end, day_count-lt_year, days_from_civil-day_count, days_in_month_bounds}
+use Rattle.jiff_core.proofs.CalendarLemmas.{day_count-day, day_count-end, day_count-lt_year, days_from_civil-day_count}
 use Rattle.jiff_core.proofs.MarchLemmas.{day_count-early, day_count-late}
 use Rattle.jiff_core.proofs.SignedLemmas.{signed_arith}
-use borrow.Author.Differences.{up, down}
-use Rattle.func_date.specs.Calendar.{calendar_month, calendar_year, days_in_cycle, last_begun, month_start}
+use Rattle.func_date.specs.Calendar.{calendar_month, calendar_year, days_in_cycle, month_start}
 use Rattle.func_date.specs.Dates.{day_number, month_of, place_in_month}
 use Rattle.func_date.specs.Laws.{DatesAreTheCalendars, SerialsBegin}
 use Rattle.func_date.specs.declared.calendar.TheConstants.{YEARS_BEFORE, DAYS_BEFORE}

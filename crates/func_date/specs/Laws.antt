@@ -1,5 +1,5 @@
 -- What the counting of days and months promises, in the calendar's words.
-use Rattle.std.specs.Prelude.{◌≡◌, ℕ, ◌+◌, ◌-◌, ◌*◌, ◌<◌, ◌≤◌, ℤ, pos}
+use Rattle.std.specs.Prelude.{◌≡◌, ℕ, ◌+◌, ◌-◌, ◌*◌, ◌≤◌, pos}
 use Rattle.jiff_core.specs.Calendar.{day_count, days_from_civil, days_in_month, days_of_years, IsCivilDate}
 use Rattle.func_date.specs.Calendar.{month_start, calendar_year, calendar_month}
 use Rattle.func_date.specs.Dates.{day_number, month_of, place_in_month}

@@ -5,8 +5,8 @@
 //! `texts(alloc, TextFn::Len, args)` is the number of a text's characters.
 //!
 //! Characters are Unicode scalar values, counted from 1. A text that a function makes has at most 32,768
-//! bytes, else the value is `#VALUE!`. FIND and SUBSTITUTE compare what they seek at each character, so
-//! they cost at most the product of both lengths; the others cost what they read and write.
+//! bytes, else the value is `#VALUE!`. Each function costs about what it reads and writes, FIND and
+//! SUBSTITUTE too, whatever the texts are.
 #![tactic(auto)]
 
 mod argument;

@@ -6,7 +6,7 @@ use fix_num::Fixed;
 use std::alloc::{AllocError, Global};
 
 /// A column of so many rows, of which so many, evenly spread, are filled with their numbers from 0.
-pub fn column(alloc: Global, rows: u32, filled: u32) -> Result<Area, AllocError>
+pub(crate) fn column(alloc: Global, rows: u32, filled: u32) -> Result<Area, AllocError>
     requires { 0 < rows }
 {
     let mut area = Area::new(alloc, rows, 1);

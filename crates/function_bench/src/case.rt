@@ -18,7 +18,7 @@ pub enum Function {
 
 impl Function {
     /// The function's value of the arguments.
-    pub fn value(self, alloc: Global, args: &[Arg]) -> Result<Scalar, AllocError> {
+    pub(crate) fn value(self, alloc: Global, args: &[Arg]) -> Result<Scalar, AllocError> {
         match self {
             Function::Math(function) => math(alloc, function, args),
             Function::Look(function) => look(alloc, function, args),
@@ -29,7 +29,7 @@ impl Function {
 
 /// The function of a case and its arguments: a column of so many rows, of which so many are filled with
 /// their numbers, and what is sought in it, or a text of so many bytes. `None` where there is no such case.
-pub fn arguments_of(
+pub(crate) fn arguments_of(
     alloc: Global,
     name: &str,
     rows: u32,

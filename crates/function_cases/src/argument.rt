@@ -8,7 +8,7 @@ use fix_num::Fixed;
 use std::alloc::{AllocError, Global};
 
 /// The arguments of a function that the text holds, parted by commas; `None` where one can't be read.
-pub fn arguments_of(
+pub(crate) fn arguments_of(
     alloc: Global,
     text: &str,
     function: Function,
@@ -65,7 +65,7 @@ fn values_of_block(text: &str) -> Option<&str> {
 }
 
 /// The value that is written out, or `None` where it has no form of one.
-pub fn literal(alloc: Global, text: &str) -> Result<Option<Scalar>, AllocError> {
+pub(crate) fn literal(alloc: Global, text: &str) -> Result<Option<Scalar>, AllocError> {
     if let Some(after) = text.strip_prefix("\"") {
         return match (after_quoted(after, '"'), quoted_text(alloc, after, '"')?) {
             (Some(""), Some(content)) => Ok(Some(Scalar::Text(content))),

@@ -8,7 +8,7 @@ use cell_value::{Area, Scalar};
 use std::alloc::{AllocError, Global};
 
 /// The cells of the sheet from one corner to the other.
-pub fn of_sheet(alloc: Global, spot: &Spot) -> Result<Area, AllocError> {
+pub(crate) fn of_sheet(alloc: Global, spot: &Spot) -> Result<Area, AllocError> {
     let rows = spot.bottom.saturating_sub(spot.top);
     let cols = spot.right.saturating_sub(spot.left);
     let mut values = Vec::new(alloc);
@@ -32,7 +32,7 @@ pub fn of_sheet(alloc: Global, spot: &Spot) -> Result<Area, AllocError> {
 
 /// The cells whose values are written out, row by row: commas part the cells of a row, and semicolons the
 /// rows. `None` where a value has no form of one, or the rows aren't of one length.
-pub fn written(alloc: Global, text: &str) -> Result<Option<Area>, AllocError> {
+pub(crate) fn written(alloc: Global, text: &str) -> Result<Option<Area>, AllocError> {
     let mut values = Vec::new(alloc);
     let mut rows = 0u32;
     'rows: for row in text.split(';') {
@@ -50,8 +50,8 @@ pub fn written(alloc: Global, text: &str) -> Result<Option<Area>, AllocError> {
     Ok(Some(filled(alloc, rows, cols, values)?))
 }
 
-// The value of a cell, which is empty where nothing is written.
-fn value_in(alloc: Global, text: &str) -> Result<Option<Scalar>, AllocError> {
+/// The value that is written out, which is empty where nothing is written; `None` where it has no form of one.
+pub(crate) fn value_in(alloc: Global, text: &str) -> Result<Option<Scalar>, AllocError> {
     if text.is_empty() {
         Ok(Some(Scalar::Empty))
     } else {

@@ -21,7 +21,7 @@ pub enum Function {
 
 impl Function {
     /// The function that the word names, in capitals.
-    pub fn named(word: &str) -> Option<Function> {
+    pub(crate) fn named(word: &str) -> Option<Function> {
         if let Some(function) = MathFn::named(word) {
             return Some(Function::Math(function));
         }
@@ -35,7 +35,7 @@ impl Function {
     }
 
     /// Whether the argument at this place, from 0, is a list or a block.
-    pub fn takes_block(self, at: usize) -> bool {
+    pub(crate) fn takes_block(self, at: usize) -> bool {
         match self {
             Function::Math(function) => function.takes_block(at),
             Function::Look(function) => function.takes_block(at),
@@ -56,7 +56,7 @@ impl Function {
 }
 
 /// The value of a call such as `=SUM(1,2)`, or `None` where it isn't one that can be read.
-pub fn value_of(alloc: Global, call: &str) -> Result<Option<Scalar>, AllocError> {
+pub(crate) fn value_of(alloc: Global, call: &str) -> Result<Option<Scalar>, AllocError> {
     let Some((word, arguments)) = parts(call) else {
         return Ok(None);
     };

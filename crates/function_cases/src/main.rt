@@ -1,13 +1,17 @@
 //! Runs cases of functions that are data. The program takes the names of files, and in each every line that
 //! is a row of a table whose first cell is a call between backticks is a case: the second cell is what a
-//! person sees of its value. It prints each case that differs, and how many cases a file has.
+//! person sees of its value, or between backticks the value itself, a text between double quotes. It prints
+//! each case that differs or can't be read, and how many cases a file has.
 //!
 //! ```text
 //! | `=SUM(A1:C1,2)` | 17 |
+//! | `=LEFT(123)` | `"1"` |
+//! | `=BANDS({0,1.5;2,5.4},1)` | 1.5 |
 //! ```
 //!
 //! An argument is a number, a text between double quotes, TRUE, FALSE, a fault, a reference, a block of the
 //! sheet that `sheet` holds, or a block whose values are written out: `{1,2;3,4}` has two rows of two cells.
+//! BANDS and TIERS are rules of custom functions over such a block of pairs, and the number comes after it.
 //! Before that it compares the words that no custom function may have with the functions that there are.
 //! The status is 0 where every file could be read, each has cases and none differs, and else 1.
 #![tactic(auto)]
@@ -15,15 +19,20 @@
 mod argument;
 mod block;
 mod call;
+mod rule;
 mod sheet;
 mod table;
 mod tally;
 mod words;
 
+use argument::literal;
 use call::value_of;
+use cell_value::Scalar;
+use rule::value_by_rule;
+use std::alloc::{AllocError, Global};
 use std::process::ExitCode;
 use std::{env, fs, io};
-use table::{Row, row_of};
+use table::{Row, is_case, row_of};
 use tally::Tally;
 use words::run_words;
 
@@ -57,13 +66,13 @@ fn run_files(rt: &HostRuntime) -> io::Result<Tally> {
     Ok(whole)
 }
 
-// Runs the cases of a text, and prints those that differ.
+// Runs the cases of a text, and prints those that differ or can't be read.
 fn run_text(rt: &HostRuntime, text: &str) -> io::Result<Tally> {
     let mut tally = Tally::default();
     'lines: for line in text.lines() {
-        if let Some(row) = row_of(line) {
+        if is_case(line) {
             tally.cases = tally.cases.saturating_add(1);
-            if !holds(rt, &row)? {
+            if !line_holds(rt, line)? {
                 tally.differ = tally.differ.saturating_add(1);
             }
         }
@@ -71,22 +80,60 @@ fn run_text(rt: &HostRuntime, text: &str) -> io::Result<Tally> {
     Ok(tally)
 }
 
+// Whether the case of the line can be read, and holds.
+fn line_holds(rt: &HostRuntime, line: &str) -> io::Result<bool> {
+    match row_of(line) {
+        Some(row) => holds(rt, &row),
+        None => {
+            println!(rt; "    NO CASE: {line}")?;
+            Ok(false)
+        }
+    }
+}
+
 // Whether the call has the value; where it hasn't, both are printed.
 fn holds(rt: &HostRuntime, row: &Row) -> io::Result<bool> {
-    match value_of(rt.alloc(), row.call)? {
-        Some(value) => {
-            let shown = value.shown(rt.alloc())?;
-            if shown.as_str() == row.value {
-                return Ok(true);
-            }
-            println!(rt;
-                "    DIFFERS: {} is {}, wanted {}",
-                row.call,
-                shown.as_str(),
-                row.value
-            )?;
-        }
-        None => println!(rt; "    NO CALL: {}", row.call)?,
+    let Some(value) = case_value(rt.alloc(), row.call)? else {
+        println!(rt; "    NO CALL: {}", row.call)?;
+        return Ok(false);
+    };
+    if is_wanted(rt.alloc(), &value, row.value)? {
+        return Ok(true);
     }
+    let shown = value.shown(rt.alloc())?;
+    println!(rt;
+        "    DIFFERS: {} is {}, wanted {}",
+        row.call,
+        shown.as_str(),
+        row.value
+    )?;
     Ok(false)
+}
+
+// The value of a call of a function or of a rule; `None` where it is neither.
+fn case_value(alloc: Global, call: &str) -> Result<Option<Scalar>, AllocError> {
+    match value_of(alloc, call)? {
+        Some(value) => Ok(Some(value)),
+        None => value_by_rule(alloc, call),
+    }
+}
+
+// Whether the value is the wanted one: with its kind where that stands between backticks, and else as a
+// person sees it.
+fn is_wanted(alloc: Global, value: &Scalar, wanted: &str) -> Result<bool, AllocError> {
+    match between_backticks(wanted) {
+        Some(written) => match literal(alloc, written)? {
+            Some(meant) => Ok(*value == meant),
+            None => Ok(false),
+        },
+        None => {
+            let shown = value.shown(alloc)?;
+            Ok(shown.as_str() == wanted)
+        }
+    }
+}
+
+// What stands between the backticks of a cell that is written so.
+fn between_backticks(cell: &str) -> Option<&str> {
+    cell.strip_prefix("`")?.strip_suffix("`")
 }

@@ -6,7 +6,7 @@ use fix_num::Fixed;
 use std::alloc::{AllocError, Global};
 
 /// The value of a cell of the sheet.
-pub fn value_at(alloc: Global, row: u32, col: u32) -> Result<Scalar, AllocError> {
+pub(crate) fn value_at(alloc: Global, row: u32, col: u32) -> Result<Scalar, AllocError> {
     match (row, col) {
         (0, 0) => Ok(number(1)),
         (0, 1) => Ok(number(5)),

@@ -1,5 +1,5 @@
 // How many cases were run, and how they went.
-ghost use Rattle.std.specs.Prelude.{◌≡◌, ◌≢◌, ◌↔◌, IsTrue};
+ghost use Rattle.std.specs.Prelude.{◌≡◌, ◌↔◌, ◌+◌, min, IsTrue};
 
 use std::fmt;
 
@@ -14,7 +14,11 @@ pub struct Tally {
 
 impl Tally {
     /// The count of a file that can't be read.
-    pub fn unreadable() -> Tally {
+    pub(crate) fn unreadable() -> Tally
+        ensures cases { result.cases ≡ 0 }
+        ensures differ { result.differ ≡ 0 }
+        ensures empty_files { result.empty_files ≡ 1 }
+    {
         Tally {
             empty_files: 1,
             ..Tally::default()
@@ -22,7 +26,10 @@ impl Tally {
     }
 
     /// This count and another file's.
-    pub fn with(self, file: Tally) -> Tally {
+    pub(crate) fn with(self, file: Tally) -> Tally
+        ensures cases { result.cases ≡ min (self.cases + file.cases) u64.MAX }
+        ensures differ { result.differ ≡ min (self.differ + file.differ) u64.MAX }
+    {
         let none = if file.cases == 0 { 1 } else { 0 };
         Tally {
             cases: self.cases.saturating_add(file.cases),
@@ -32,7 +39,7 @@ impl Tally {
     }
 
     /// Whether every file has cases and none differs.
-    pub fn is_clean(self) -> bool
+    pub(crate) fn is_clean(self) -> bool
         ensures { IsTrue result ↔ ((self.differ ≡ 0) × (self.empty_files ≡ 0)) }
     {
         self.differ == 0 && self.empty_files == 0

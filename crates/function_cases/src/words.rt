@@ -39,7 +39,7 @@ fn is_known(word: &str) -> bool {
 }
 
 /// Counts each word that names no function, or two, and each function whose word isn't listed, and prints it.
-pub fn run_words(rt: &HostRuntime) -> io::Result<Tally> {
+pub(crate) fn run_words(rt: &HostRuntime) -> io::Result<Tally> {
     let mut tally = Tally::default();
     'words: for word in FUNCTION_WORDS {
         tally.cases = tally.cases.saturating_add(1);

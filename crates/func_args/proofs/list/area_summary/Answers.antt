@@ -1,9 +1,7 @@
-use Rattle.std.proofs.Common.{◌≡◌, ◌∙◌, ap, sym, ◌*◌, arith, take, map, get_or, length}
+use Rattle.std.proofs.Common.{◌∙◌, ap, sym, ◌*◌, arith, take, map}
 use Rattle.std.proofs.lemmas.List.{take_all}
 use Rattle.cell_value.specs.declared.area.Filled.{Filled}
-use Rattle.cell_value.specs.declared.summary.Summary.{Summary}
 use Rattle.cell_value.specs.Summary.{joined, alone, summary_of}
-use Rattle.cell_value.specs.declared.scalar.Scalar.{Scalar}
 use Rattle.func_args.proofs.Walk.{value_of}
 use Rattle.func_args.proofs.Summaries.{summary_none, summary_more, summary-filled}
 use Rattle.func_args.proofs.list.area_summary.Goals as goal

@@ -1,5 +1,5 @@
-use Rattle.std.proofs.Common.{◌≡◌, ◌∙◌, ap, sym, [], ◌∷◌}
-use Rattle.cell_value.specs.Summary.{alone, summary_of}
+use Rattle.std.proofs.Common.{◌∙◌, ap, sym, [], ◌∷◌}
+use Rattle.cell_value.specs.Summary.{summary_of}
 use Rattle.func_args.specs.Lists.{listed}
 use Rattle.func_args.specs.Answers.{number_value}
 use Rattle.func_args.proofs.Summaries.{summary_one}

@@ -1,10 +1,9 @@
-use Rattle.std.proofs.Common.{◌≡◌, ◌∙◌, ap, sym, arith, take}
+use Rattle.std.proofs.Common.{◌∙◌, ap, sym, arith, take}
 use Rattle.std.specs.List.{flat_map}
-use Rattle.std.proofs.lemmas.List.{take_all}
 use Rattle.cell_value.specs.declared.argument.Arg.{Arg}
 use Rattle.cell_value.specs.Summary.{joined, summary_of}
 use Rattle.func_args.specs.Lists.{listed}
-use Rattle.func_args.proofs.Summaries.{summary_none, arguments_more, list_summary-some}
+use Rattle.func_args.proofs.Summaries.{summary_none, arguments_more}
 use Rattle.func_args.proofs.list.list_summary.Goals as goal
 
 pub arguments-init : goal.arguments-init

@@ -1,4 +1,4 @@
-use Rattle.std.proofs.Common.{◌≡◌, ◌∙◌, ap, ap₂, ◌+◌, min, pos}
+use Rattle.std.proofs.Common.{◌≡◌, ◌∙◌, ap, ap₂, min, pos}
 use Rattle.std.proofs.lemmas.Int.{to_z-of_z}
 use Rattle.func_date.specs.Dates.{dated, day_months_on, length_of, months_on, serial_in}
 use Rattle.func_date.proofs.date.day_months_on.Goals as goal

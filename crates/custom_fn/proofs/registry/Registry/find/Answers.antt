@@ -1,12 +1,22 @@
-use Rattle.std.proofs.Common.{◌∙◌, ap, ℕ, List}
-use Rattle.std.specs.Prelude.{find}
-use Rattle.cell_addr.specs.Sheets.{same_name}
-use Rattle.custom_fn.specs.declared.rule.Rule.{Rule}
+use Rattle.std.proofs.Common.{◌∙◌, sym, ap, option_map}
 use Rattle.custom_fn.specs.Custom.{name_of, rule_of}
-use Rattle.custom_fn.proofs.Finds.{find-copied}
+use Rattle.custom_fn.specs.internal.Name.{text_of}
+use Rattle.custom_fn.proofs.Named.{found-under}
 use Rattle.custom_fn.proofs.registry.Registry.find.Goals as goal
+
+-- nothing stands under the name
+pub returns-in_err-index : goal.returns-in_err-index
+returns-in_err-index g c =
+    ap (option_map (λ x. (name_of x.now, rule_of x.now))) c.from_residual.ensures
+    ∙ sym (found-under text_of name_of rule_of c.args.name.now c.args.self.now.customs.entries c.args.self.now.keyed ∙ ap (option_map (λ x. (name_of x, rule_of x))) c.in_err-index.ensures.none)
+
+pub returns-in_err-custom : goal.returns-in_err-custom
+returns-in_err-custom g c =
+    ap (option_map (λ x. (name_of x.now, rule_of x.now))) c.from_residual-in_err-custom.ensures
+    ∙ sym (found-under text_of name_of rule_of c.args.name.now c.args.self.now.customs.entries c.args.self.now.keyed
+    ∙ ap (option_map (λ x. (name_of x, rule_of x))) (sym c.in_ok-index.ensures.some ∙ ap (option_map (λ e. e.1)) (sym c.in_err-custom.ensures.entry)))
 
 pub returns : goal.returns
 returns g c =
-    find-copied {Y = List ℕ × Rule} (λ x. x.now) (λ x. (name_of x, rule_of x)) (λ e. same_name e.0 c.args.name.now) c.args.self.now.customs.items c.first_named.result
-    (c.first_named.ensures ∙ ap (find (λ x. same_name (name_of x) c.args.name.now)) c.deref.ensures.value)
+    ap (option_map (λ x. (name_of x, rule_of x))) (ap (option_map (λ e. e.1)) c.in_ok-custom.ensures.entry ∙ c.in_ok-index.ensures.some)
+    ∙ sym (found-under text_of name_of rule_of c.args.name.now c.args.self.now.customs.entries c.args.self.now.keyed)

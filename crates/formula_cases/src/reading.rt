@@ -1,0 +1,128 @@
+// Formulas read into a pool, and what was read.
+ghost use Rattle.std.specs.Prelude.{IfOk, IfSome};
+ghost use Rattle.formula_tree.specs.Reference.{IsHomeInside};
+ghost use Rattle.formula_tree.specs.Relative.{relative};
+ghost use Rattle.formula_tree.specs.StandsFor.{ArePlacesInside, at_home};
+ghost use Rattle.tree_rewrite.specs.References.{FitsSheets};
+
+use crate::show::show;
+use crate::table::ColumnRow;
+use cell_addr::{OneSheet, Place, Text};
+use formula_parse::{ParseError, parse};
+use formula_print::print;
+use formula_tree::{Home, Pool, Tree, depth, to_absolute};
+use std::alloc::{AllocError, Global};
+
+/// The tree of a formula at the home, and its canonical text, where this sheet is listed; `none` for both where
+/// the text spells no tree. The home lies within the limits of a sheet.
+pub(crate) fn texts_of(
+    alloc: Global,
+    sheet: &str,
+    home: Home,
+    text: &str,
+) -> Result<(String, String), AllocError>
+    requires { IsHomeInside home }
+{
+    let mut reading = Reading::new(alloc, sheet)?;
+    match reading.read(home, text)? {
+        Some(tree) => {
+            let shown = shown(alloc, &tree, home)?;
+            Ok((shown, reading.printed(&tree, home)?))
+        }
+        None => Ok((none(alloc)?, none(alloc)?)),
+    }
+}
+
+/// The levels of the tree of a formula at the home, or 0 where the text spells none. The home lies within the
+/// limits of a sheet.
+pub(crate) fn levels_of(
+    alloc: Global,
+    sheet: &str,
+    home: Home,
+    text: &str,
+) -> Result<u32, AllocError>
+    requires { IsHomeInside home }
+{
+    let mut reading = Reading::new(alloc, sheet)?;
+    match reading.read(home, text)? {
+        Some(tree) => Ok(depth(&tree)),
+        None => Ok(0),
+    }
+}
+
+/// How many trees a column of formulas leaves in the pool. Those that would stand beyond the sheet's last row
+/// aren't read.
+pub(crate) fn column_trees(
+    alloc: Global,
+    sheet: &str,
+    first: Place,
+    column: &ColumnRow,
+) -> Result<usize, AllocError> {
+    let mut reading = Reading::new(alloc, sheet)?;
+    'rows: for line in 0..column.rows {
+        let at = Place {
+            row: first.row.saturating_add(line),
+            ..first
+        };
+        if at.inside() {
+            let text = column.formula(alloc, u64::from(at.row) + 1)?;
+            let _tree = reading.read(Home::Cell(at), &text)?;
+        }
+    }
+    Ok(reading.pool.len())
+}
+
+/// The tree of a formula at the home, with every reference as the place that it names.
+pub(crate) fn shown(alloc: Global, tree: &Tree, home: Home) -> Result<String, AllocError> {
+    let mut shown = String::new(alloc);
+    show(alloc, &mut shown, &to_absolute(alloc, tree, home)?)?;
+    Ok(shown)
+}
+
+// What stands for a tree that isn't there.
+fn none(alloc: Global) -> Result<String, AllocError> {
+    String::from_str(alloc, "none")
+}
+
+/// Where formulas are read: the sheet that they may name, and the pool of their trees.
+#[derive(Drop)]
+pub struct Reading {
+    alloc: Global,
+    sheets: OneSheet,
+    pub pool: Pool,
+}
+
+impl Reading {
+    /// A reading into an empty pool, where the sheet of this name has the number 0.
+    pub(crate) fn new(alloc: Global, sheet: &str) -> Result<Reading, AllocError> {
+        Ok(Reading {
+            alloc,
+            sheets: OneSheet {
+                name: Text::from_str(alloc, sheet)?,
+            },
+            pool: Pool::new(alloc)?,
+        })
+    }
+
+    /// The tree of a formula at the home, or `None` where the text spells none. The home lies within the limits
+    /// of a sheet, and so do the tree's places.
+    pub(crate) fn read(&mut self, home: Home, text: &str) -> Result<Option<Tree>, AllocError>
+        requires { IsHomeInside home }
+        ensures places { IfOk result (λ found. IfSome found (λ tree. ArePlacesInside (at_home home (relative tree.value)))) }
+        ensures fits { IfOk result (λ found. IfSome found (λ tree. FitsSheets (at_home home (relative tree.value)))) }
+    {
+        match parse(self.alloc, &mut self.pool, text, home, &self.sheets) {
+            Ok(tree) => Ok(Some(tree)),
+            Err(ParseError::Bad) => Ok(None),
+            Err(ParseError::NoMemory) => Err(AllocError),
+        }
+    }
+
+    // The canonical text of a tree at the home, whose places lie within the limits of a sheet.
+    fn printed(&self, tree: &Tree, home: Home) -> Result<String, AllocError>
+        requires { ArePlacesInside (at_home home (relative tree.now.value)) }
+    {
+        let text = print(self.alloc, tree, home, &self.sheets)?;
+        String::from_str(self.alloc, text.as_str())
+    }
+}

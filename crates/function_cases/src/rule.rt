@@ -1,0 +1,59 @@
+// Rules of custom functions as they are written, and their values.
+use crate::block::value_in;
+use cell_addr::Text;
+use cell_value::Scalar;
+use custom_fn::Rule;
+use fix_num::Fixed;
+use std::alloc::{AllocError, Global};
+
+/// The value of a rule such as `=BANDS({0,1.5;2,5.4},1)`, whose pairs are written as a block of two columns
+/// and whose number comes after it; the text `no rule` where the pairs make none. `None` where it isn't one
+/// that can be read.
+pub(crate) fn value_by_rule(alloc: Global, call: &str) -> Result<Option<Scalar>, AllocError> {
+    let Some((word, pairs, number)) = parts(call) else {
+        return Ok(None);
+    };
+    let (Some(pairs), Some(number)) = (pairs_of(alloc, pairs)?, value_in(alloc, number)?) else {
+        return Ok(None);
+    };
+    let rule = match word {
+        "BANDS" => Rule::bands(pairs),
+        "TIERS" => Rule::tiers(pairs),
+        _ => return Ok(None),
+    };
+    match rule {
+        Some(rule) => Ok(Some(rule.value_of(&number))),
+        None => Ok(Some(Scalar::Text(Text::from_str(alloc, "no rule")?))),
+    }
+}
+
+// The word of a rule, what stands between its braces, and its number.
+fn parts(call: &str) -> Option<(&str, &str, &str)> {
+    let (word, rest) = call.strip_prefix("=")?.split_once('(')?;
+    let (pairs, rest) = rest.strip_prefix("{")?.split_once('}')?;
+    let number = rest.strip_prefix(",")?.strip_suffix(")")?;
+    Some((word, pairs, number))
+}
+
+// The pairs of numbers that the text holds, which semicolons part; none where it is empty.
+fn pairs_of(alloc: Global, text: &str) -> Result<Option<Vec<(Fixed, Fixed)>>, AllocError> {
+    let mut pairs = Vec::new(alloc);
+    if text.is_empty() {
+        return Ok(Some(pairs));
+    }
+    'pairs: for written in text.split(';') {
+        match pair_of(written) {
+            Some(pair) => pairs.push(pair)?,
+            None => return Ok(None),
+        }
+    }
+    Ok(Some(pairs))
+}
+
+// Two numbers with a comma between.
+fn pair_of(text: &str) -> Option<(Fixed, Fixed)> {
+    let (first, second) = text.split_once(',')?;
+    let first = Fixed::from_text(first).ok()?;
+    let second = Fixed::from_text(second).ok()?;
+    Some((first, second))
+}
