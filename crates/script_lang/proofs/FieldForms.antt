@@ -1,6 +1,5 @@
 -- The forms of fields, as the readers of fields test them.
-use Rattle.std.proofs.Common.{◌≡◌, refl, arith, ℕ, ◌^◌, ◌≤◌, Bool, true, false, Bor, List, length, nat_le, Option, Some, None, Result, Ok, Err}
-use Rattle.std.specs.List.{list_all}
+use Rattle.std.proofs.Common.{◌≡◌, refl, arith, ℕ, ◌^◌, ◌≤◌, Bool, true, false, Bor, List, length, nat_le, Result, Ok, Err}
 use Rattle.std.specs.Option.{option_copied}
 use Rattle.std.specs.Prelude.{MatchResult}
 use Rattle.std.specs.Result.{result_ok}
@@ -8,7 +7,7 @@ use Rattle.std.specs.Str.{IsUtf8, is_utf8}
 use Rattle.std.proofs.lemmas.Bool.{and_parts, leb-true}
 use Rattle.std.proofs.lemmas.Str.{IsUtf8-from_is_utf8, is_utf8-from_IsUtf8}
 use Rattle.std.proofs.Math.Nat.{pow-le-pow_right}
-use Rattle.digits.specs.Digits.{is_digit, value}
+use Rattle.digits.specs.Digits.{value}
 use Rattle.digits.proofs.Numerals.{value_below}
 use Rattle.script_lang.specs.Forms.{is_count, text_field}
 

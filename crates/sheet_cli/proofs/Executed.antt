@@ -1,5 +1,5 @@
 -- Calls that leave the session as it was. Serves the session of commands, whose lines may want memory after a call.
-use Rattle.std.proofs.Common.{◌≡◌, Option, Some, None, Result, Ok, Err}
+use Rattle.std.proofs.Common.{◌≡◌, Result, Ok, Err}
 use Rattle.std.specs.Prelude.{OnErr}
 use Rattle.book_model.specs.Operation.{Operation}
 use Rattle.book_model.specs.Session.{done}

@@ -1,13 +1,12 @@
 -- A session can begin with one empty sheet of a valid name.
-use Rattle.std.proofs.Common.{◌≡◌, ◌≢◌, refl, arith, ℕ, zero, suc, ◌<◌, ◌≤◌, true, List, [], ◌∷◌, codes}
-use Rattle.std.specs.Prelude.{All, AllPairs, IsTrue}
+use Rattle.std.proofs.Common.{◌≡◌, ◌≢◌, refl, arith, zero, suc, [], ◌∷◌, codes}
+use Rattle.std.specs.Prelude.{All, AllPairs}
 use Rattle.std.specs.FinMap as map
 use Rattle.std.specs.FinMap.{len-empty}
 use Rattle.cell_addr.specs.Order.{place_cmp}
 use Rattle.cell_addr.specs.Text.{folded}
 use Rattle.cell_values.specs.Workbook.{Content}
 use Rattle.book_model.specs.Given.{CanBegin, IsGivenCell, IsGivenSheet, StandApart, workbook_given}
-use Rattle.book_model.specs.declared.given.BookCell.{BookCell}
 use Rattle.book_model.specs.declared.given.BookSheet.{BookSheet}
 
 all_one : {X : Type 0} (P : X → Type 0) (x : X) → P x → All P (x ∷ [])

@@ -1,5 +1,5 @@
 -- A field that was read leaves the others to be read; a bad one is the first.
-use Rattle.std.proofs.Common.{arith, sym, ◌∙◌}
+use Rattle.std.proofs.Common.{arith}
 use Rattle.std.proofs.lemmas.Result.{err_from_is_err_and}
 use Rattle.csv.specs.Records.{fields_of}
 use Rattle.script_lang.proofs.FieldsRead.{goes_on, stops}

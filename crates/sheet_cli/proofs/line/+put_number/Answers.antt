@@ -1,5 +1,5 @@
 -- The last digit stands behind those of a tenth of the number.
-use Rattle.std.proofs.Common.{◌∙◌, sym, ap, arith, ◌+◌, ◌/◌, ◌%◌, List, [], ◌∷◌, ◌++◌, length, append_assoc}
+use Rattle.std.proofs.Common.{◌∙◌, sym, ap, arith, ◌+◌, ◌/◌, ◌%◌, [], ◌∷◌, ◌++◌, length, append_assoc}
 use Rattle.std.proofs.lemmas.Fmt.{decimal_digit, decimal_step}
 use Rattle.std.specs.Fmt.{decimal}
 use Rattle.sheet_cli.proofs.LineBytes.{one_digit_more}
