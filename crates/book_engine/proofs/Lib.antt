@@ -8,3 +8,4 @@ pub mod Pushed
 pub mod FilledCells
 pub mod GivenBooks
 pub mod FilledWorkbooks
+pub mod GivenExamples

@@ -132,6 +132,18 @@ impl Engine {
         })
     }
 
+    /// Moves the cells of a block to the block of the same size that begins at a place. They replace what stood there, and
+    /// leave the rest of their own block empty.
+    ///
+    /// # Errors
+    /// `NoSheet` where one of the two sheets doesn't exist, `Outside` where one of the two blocks isn't within the limits of
+    /// a sheet, `BadSpan` where they are the same.
+    pub fn move_block(&mut self, source: Block, to: Place) -> Result<(), Stop>
+        ensures { Does (op.structural (shifts.MoveBlock source to)) NoAnswer self.old self.new result }
+    {
+        self.parts.structural(&Shift::MoveBlock { source, to })
+    }
+
     /// Adds a sheet at the end of the list, and answers its number. A number is never given to another new sheet.
     ///
     /// # Errors

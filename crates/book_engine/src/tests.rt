@@ -1,0 +1,88 @@
+use super::{Engine, Stop};
+use book_model::{BookCell, BookCells, BookSheet, Refusal};
+use cell_addr::{Block, Place, Text};
+use std::alloc::AllocError;
+
+// The place of a row and a column on the first sheet that is added.
+fn place(row: u32, col: u32) -> Place {
+    Place { sheet: 0, row, col }
+}
+
+// The block from the first cell to the one of a row and a column.
+fn block(bottom: u32, right: u32) -> Block {
+    Block {
+        sheet: 0,
+        top: 0,
+        left: 0,
+        bottom,
+        right,
+    }
+}
+
+// Whether the formula of the cell has this text.
+fn reads(engine: &mut Engine, row: u32, col: u32, text: &str) -> bool {
+    match engine.formula(place(row, col)) {
+        Ok(Some(shown)) => shown.as_str() == text,
+        _ => false,
+    }
+}
+
+// An engine begins with the texts of given sheets, read when all sheets are there.
+#[test]
+fn begins_with_given_sheets(rt: HostRuntime) -> Result<(), AllocError> {
+    let mut cells = BookCells::new(rt.alloc())?;
+    cells.push(BookCell {
+        row: 0,
+        col: 0,
+        text: Text::from_str(rt.alloc(), "=B2+1")?,
+    })?;
+    let books = [BookSheet {
+        name: Text::from_str(rt.alloc(), "Plan")?,
+        cells,
+    }];
+    let mut engine = Engine::build(rt.alloc(), &books)?;
+    assert!(rt; reads(&mut engine, 0, 0, "=B2+1"));
+    assert!(rt; engine.first_sheet() == Some(0));
+    Ok(())
+}
+
+// Sheets are added, renamed, cleared and dropped; numbers go on.
+#[test]
+fn sheets_come_and_go(rt: HostRuntime) -> Result<(), AllocError> {
+    let mut engine = Engine::build(rt.alloc(), &[])?;
+    assert!(rt; engine.add_sheet("Plan") == Ok(0));
+    assert!(rt; engine.add_sheet("plan") == Err(Stop::Refused(Refusal::SheetNameTaken)));
+    assert!(rt; engine.add_sheet("Two") == Ok(1));
+    assert!(rt; engine.rename_sheet(0, "My Plan").is_ok());
+    assert!(rt; engine.sheet_id("MY PLAN") == Some(0));
+    assert!(rt; engine.sheet_name(1).map(Text::as_str) == Some("Two"));
+    assert!(rt; engine.clear_sheet(1).is_ok());
+    assert!(rt; engine.drop_sheet(0).is_ok());
+    assert!(rt; engine.first_sheet() == Some(1));
+    assert!(rt; engine.add_sheet("Plan") == Ok(2));
+    Ok(())
+}
+
+// Cells are filled and emptied, and formulas follow rows, columns and blocks.
+#[test]
+fn formulas_follow(rt: HostRuntime) -> Result<(), AllocError> {
+    let mut engine = Engine::build(rt.alloc(), &[])?;
+    assert!(rt; engine.add_sheet("Plan") == Ok(0));
+    assert!(rt; engine.set(place(0, 0), "=B5+B9").is_ok());
+    assert!(rt; engine.set(place(4, 1), "7").is_ok());
+    assert!(rt; engine.insert_rows(0, 2, 2).is_ok());
+    assert!(rt; reads(&mut engine, 0, 0, "=B7+B11"));
+    assert!(rt; engine.delete_rows(0, 10, 1).is_ok());
+    assert!(rt; reads(&mut engine, 0, 0, "=B7+#REF!"));
+    assert!(rt; engine.move_rows(0, 6, 1, 3).is_ok());
+    assert!(rt; engine.insert_cols(0, 1, 1).is_ok());
+    assert!(rt; engine.move_cols(0, 2, 1, 5).is_ok());
+    assert!(rt; reads(&mut engine, 0, 0, "=E4+#REF!"));
+    assert!(rt; engine.delete_cols(0, 1, 1).is_ok());
+    assert!(rt; engine.move_block(block(0, 0), place(5, 5)).is_ok());
+    assert!(rt; reads(&mut engine, 5, 5, "=D4+#REF!"));
+    assert!(rt; engine.clear(block(3, 3)).is_ok());
+    assert!(rt; engine.content(place(3, 3)).is_ok());
+    assert!(rt; engine.insert_rows(0, 5, 40_000) == Err(Stop::Refused(Refusal::SizeLimit)));
+    Ok(())
+}

@@ -3,37 +3,61 @@
 
 ghost use Rattle.std.specs.Prelude.{◌≡◌, ◌<◌};
 
-use sheet_cli::outside::{CalmSink, CalmSource};
-use sheet_cli::run;
+use book_engine::{Engine, Stop};
+use cell_addr::{Place, Text};
+use std::alloc::Global;
 use std::io::{self, Write};
 use std::marker::Brand;
 use std::process::ExitCode;
 use std::sync::ledger::{Blank, Ledger};
 use steps::Steps;
 
-// Two lines of a quantity and a price, what each and both come to, and the answer that is wanted.
-const INVOICE: &str = "set,A1,2\nset,B1,10.5\nset,C1,=A1*B1\n\
-    set,A2,3\nset,B2,120\nset,C2,=A2*B2\n\
-    set,C3,=C1+C2\nvalue,C3\n";
+// Two lines of a quantity and a price, and what each and both come to: row, column and text.
+const CELLS: [(u32, u32, &str); 7] = [
+    (0, 0, "2"),
+    (0, 1, "10.5"),
+    (0, 2, "=A1*B1"),
+    (1, 0, "3"),
+    (1, 1, "120"),
+    (1, 2, "=A2*B2"),
+    (2, 2, "=C1+C2"),
+];
 
 fn main(rt: HostRuntime) -> ExitCode {
-    match print_answers::<Brand>(&rt, Blank::new(1)) {
-        Ok(status) => ExitCode::from(status),
+    let Ok(total) = work_out::<Brand>(rt.alloc(), Blank::new(1)) else {
+        return ExitCode::FAILURE;
+    };
+    match print(&rt, total.as_str()) {
+        Ok(()) => ExitCode::SUCCESS,
         Err(_) => ExitCode::FAILURE,
     }
 }
 
-// Runs the commands over streams in memory, and prints what they answer.
-fn print_answers<L: Ledger>(rt: &HostRuntime, blank: Blank) -> io::Result<u8>
+// The invoice's total, as its formula says after a row for titles came above the lines.
+fn work_out<L: Ledger>(alloc: Global, blank: Blank) -> Result<Text, Stop>
     requires name { blank.name ≡ L.name }
     requires parts { blank.parts ≡ L.parts }
     requires some { 0 < blank.parts }
 {
-    let mut steps = Steps::<L>::new(blank);
-    let mut input = CalmSource::new(Vec::from_slice(rt.alloc(), INVOICE.as_bytes())?);
-    let mut out = CalmSink::new(rt.alloc())?;
-    let words = Vec::new(rt.alloc());
-    let status = run(rt.alloc(), &words, &mut input, &mut out, &mut steps);
-    io::writer(rt).write_all(out.bytes())?;
-    Ok(status)
+    let mut engine = Engine::build(alloc, &[])?;
+    let sheet = engine.add_sheet("Invoice")?;
+    for (row, col, text) in CELLS {
+        engine.set(Place { sheet, row, col }, text)?;
+    }
+    engine.insert_rows(sheet, 0, 1)?;
+    let total = Place {
+        sheet,
+        row: 3,
+        col: 2,
+    };
+    let value = engine.value(total, &mut Steps::<L>::new(blank))?;
+    let shown = value.shown(alloc)?;
+    Ok(shown)
+}
+
+// Prints a line.
+fn print(rt: &HostRuntime, text: &str) -> io::Result<()> {
+    let mut out = io::writer(rt);
+    out.write_all(text.as_bytes())?;
+    out.write_all(b"\n")
 }
