@@ -1,5 +1,5 @@
 // The arguments of a call as they are written.
-use crate::block::{of_sheet, written};
+use crate::block::{of_sheet, value_in, written};
 use crate::call::Function;
 use crate::sheet::value_at;
 use cell_addr::{after_quoted, quoted_text, read_area};
@@ -7,7 +7,8 @@ use cell_value::{Arg, FaultKind, Scalar};
 use fix_num::Fixed;
 use std::alloc::{AllocError, Global};
 
-/// The arguments of a function that the text holds, parted by commas; `None` where one can't be read.
+/// The arguments of a function that the text holds, parted by commas: where nothing stands between two, the
+/// argument is empty. `None` where one can't be read.
 pub(crate) fn arguments_of(
     alloc: Global,
     text: &str,
@@ -53,7 +54,7 @@ fn argument_of(alloc: Global, text: &str, is_block: bool) -> Result<Option<Arg>,
         }
         return Ok(Some(Arg::Many(of_sheet(alloc, &spot)?)));
     }
-    match literal(alloc, text)? {
+    match value_in(alloc, text)? {
         Some(value) => Ok(Some(Arg::One(value))),
         None => Ok(None),
     }
