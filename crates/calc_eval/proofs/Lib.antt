@@ -1,0 +1,4 @@
+pub mod Costs
+pub mod Lists
+pub mod Choosing
+pub mod Data
