@@ -1,10 +1,9 @@
 -- How many steps arguments take. Serves the walk.
-use Rattle.std.proofs.Common.{◌≡◌, sym, ap, subst, refl, arith, ℕ, zero, suc, ◌+◌, ◌<◌, ◌≤◌, Bool, true, false, cond, List, [], ◌∷◌, Option, Some, None}
-use Rattle.cell_value.specs.declared.scalar.Scalar.{Scalar}
+use Rattle.std.proofs.Common.{◌≡◌, subst, refl, arith, ℕ, zero, suc, ◌+◌, ◌≤◌, Some}
 use Rattle.formula_tree.specs.Term.{Term, number, text, truth, fault, cell, area, name, prefix, percent, binary, call, paren, Terms, no_terms, term}
 use Rattle.formula_tree.specs.declared.reference.Corner.{Corner}
 use Rattle.calc_terms.specs.Cost.{block_size, cost, cost_all}
-use Rattle.calc_terms.specs.References.{argument_of, argument_size, reference_of}
+use Rattle.calc_terms.specs.References.{argument_size, reference_of}
 use Rattle.calc_terms.specs.World.{World}
 use Rattle.calc_terms.specs.declared.argument.Argument.TheVariants as argument
 use Rattle.calc_terms.specs.declared.reference.Reference.{Reference}

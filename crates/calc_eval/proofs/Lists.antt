@@ -1,13 +1,12 @@
 -- The arguments of a call, one after another. Serves the walk.
-use Rattle.std.proofs.Common.{◌≡◌, ◌∙◌, sym, ap, subst, refl, arith, ℕ, zero, suc, ◌+◌, ◌<◌, ◌≤◌, List, [], ◌∷◌, ◌++◌, map, length, get_or, drop, Option, Some, None, option_map, append_assoc, Global}
+use Rattle.std.proofs.Common.{◌≡◌, ◌∙◌, sym, ap, refl, arith, ℕ, zero, suc, ◌+◌, ◌<◌, List, [], ◌∷◌, ◌++◌, map, length, get_or, drop, Option, Some, None, option_map, append_assoc, Global}
 use Rattle.std.specs.Prelude.{slice_get}
-use Rattle.std.specs.List.{sum_by}
 use Rattle.std.specs.declared.rc.Rc.{Rc}
 use Rattle.std.proofs.lemmas.List.Sums.{sum_by-append}
 use Rattle.custom_fn.specs.declared.rule.Rule.{Rule}
 use Rattle.formula_tree.specs.Arguments.{trees}
 use Rattle.formula_tree.specs.Reference.{base_of, corner_at, sheet_of}
-use Rattle.formula_tree.specs.Term.{Term, Terms, no_terms, term, each_corner_all}
+use Rattle.formula_tree.specs.Term.{Terms, each_corner_all}
 use Rattle.formula_tree.specs.declared.node.Node.{Node}
 use Rattle.formula_tree.specs.declared.node.TreeList.{TreeList}
 use Rattle.formula_tree.specs.declared.reference.Corner.{Corner}
@@ -53,9 +52,9 @@ module _ (w : World) (customs : List (List ℕ × Rule)) (home : Home) where
   found_cost [] place item h = absurd (cc)
   found_cost (x ∷ items) zero item h = ap (option_cost) h
     where
-    option_cost : Option (Rc Node Global) → ℕ
-    option_cost (Some y) = cost w (sheet_of home) (term_at home y.value)
-    option_cost None = 0
+      option_cost : Option (Rc Node Global) → ℕ
+      option_cost (Some y) = cost w (sheet_of home) (term_at home y.value)
+      option_cost None = 0
   found_cost (x ∷ items) (suc place) item h = found_cost items place item h
 
   pub as_many : (items : List (Rc Node Global)) → length (evaluated w customs home (all_at home items)) ≡ length items

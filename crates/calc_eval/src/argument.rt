@@ -87,14 +87,14 @@ pub(crate) fn data_arguments<V: View>(
     args: &[Argument],
     view: &V,
 ) -> Result<Vec<Arg>, AllocError>
-    ensures { IfOk result (λ data. data.items ≡ data_arguments (V.world view.now) (takes_block f) 0 args.now) }
+    ensures { IfOk result (λ taken. taken.items ≡ data_arguments (V.world view.now) (takes_block f) 0 args.now) }
 {
-    let mut data = Vec::new(alloc);
+    let mut taken = Vec::new(alloc);
     'arguments: for (place, argument) in args.iter().enumerate() {
-        let taken = data_argument(alloc, f.takes_block(place), argument, view)?;
-        data.push(taken)?;
+        let next = data_argument(alloc, f.takes_block(place), argument, view)?;
+        taken.push(next)?;
     }
-    Ok(data)
+    Ok(taken)
 }
 
 // The argument as a list or a block, or as one value.
@@ -104,7 +104,7 @@ fn data_argument<V: View>(
     argument: &Argument,
     view: &V,
 ) -> Result<Arg, AllocError>
-    ensures { IfOk result (λ data. data ≡ (if takes_block then argument_cells (V.world view.now) argument.now else One (argument_value (V.world view.now) argument.now))) }
+    ensures { IfOk result (λ taken. taken ≡ (if takes_block then argument_cells (V.world view.now) argument.now else One (argument_value (V.world view.now) argument.now))) }
 {
     match argument {
         Argument::Reference(reference) if takes_block => {

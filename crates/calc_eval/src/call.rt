@@ -1,23 +1,24 @@
 // What functions make of their arguments, once these are worked out.
-ghost use Rattle.std.specs.Prelude.{◌≡◌, ◌+◌, ◌≤◌, IfOk, map, true};
+ghost use Rattle.std.specs.Prelude.{◌≡◌, ◌+◌, ◌≤◌, IfOk, is_some, map, Some, true};
 ghost use Rattle.std.specs.List.{flat_map};
 ghost use Rattle.cell_value.specs.Summary.{IsBounded, summary_of};
-ghost use Rattle.custom_fn.specs.Custom.{rule_of};
+ghost use Rattle.custom_fn.specs.Registry.{custom_named};
 ghost use Rattle.func_args.specs.Lists.{listed};
 ghost use Rattle.func_math.specs.Functions.{of_summary};
 ghost use Rattle.func_math.specs.Math.{math_value};
 ghost use Rattle.formula_tree.specs.Reference.{base_of};
 ghost use Rattle.calc_terms.specs.Calls as calls;
+ghost use Rattle.calc_terms.specs.Cost.{block_size};
 ghost use Rattle.calc_terms.specs.Places as places;
-ghost use Rattle.calc_terms.specs.References.{argument_block, argument_cells, argument_size, argument_value, data_arguments};
+ghost use Rattle.calc_terms.specs.References.{argument_block, argument_cells, argument_size, argument_value, data_arguments, reference_cells};
 ghost use Rattle.calc_terms.specs.Words.{takes_block};
 ghost use Rattle.calc_eval.specs.internal.Steps.{sizes};
 
 use crate::argument::{data_arguments, value_of};
+use crate::customs::Customs;
 use crate::view::View;
 use calc_terms::{Argument, DataFn, PlaceFn, Reference};
 use cell_value::{FaultKind, Scalar, Summary};
-use custom_fn::Custom;
 use formula_tree::Home;
 use func_args::{join_summaries, number_value};
 use func_math::{MathFn, summarized};
@@ -26,29 +27,35 @@ use std::sync::ledger::Ledger;
 use steps::Steps;
 
 // The value of a function that asks where a reference is, in a formula at the home.
+#[tactic(auto, using(crate::proofs::Data::many_places), unfolding(calc_terms::specs::Places::place_value))]
 pub(crate) fn place_value(f: PlaceFn, home: Home, args: &[Argument]) -> Scalar
     ensures { result ≡ places.place_value f (base_of home) (map argument_block args.now) }
 {
     match args {
         [] => calc_terms::place_value(f, home.base(), &[]),
         [argument] => calc_terms::place_value(f, home.base(), &[argument.block()]),
-        _ => Scalar::Fault(FaultKind::Na),
+        [_, _, ..] => Scalar::Fault(FaultKind::Na),
     }
 }
 
-// The value of a custom function, which takes one value.
-pub(crate) fn custom_value<V: View>(
+// The value of the custom function of a word, which takes one value.
+pub(crate) fn custom_value<V: View, C: Customs>(
     alloc: Global,
-    custom: &Custom,
+    word: &str,
+    customs: &C,
     args: &[Argument],
     view: &V,
 ) -> Result<Scalar, AllocError>
-    ensures { IfOk result (λ value. value ≡ calls.custom_value (rule_of custom.now) (map (argument_value (V.world view.now)) args.now)) }
+    requires { is_some (custom_named word.now (C.customs customs.now)) ≡ true }
+    ensures { IfOk result (λ value. value ≡ calls.custom_call (V.world view.now) (custom_named word.now (C.customs customs.now)) args.now) }
 {
     match args {
         [argument] => {
             let value = value_of(alloc, argument, view)?;
-            Ok(custom.answer(&value))
+            match customs.answer(word, &value) {
+                Some(answer) => Ok(answer),
+                None => Ok(Scalar::Fault(FaultKind::Name)),
+            }
         }
         _ => Ok(Scalar::Fault(FaultKind::Na)),
     }
@@ -132,8 +139,26 @@ fn argument_summary<V: View, L: Ledger>(
     ensures most { steps.new ≤ steps.old + argument_size argument.now }
 {
     match argument {
-        Argument::Reference(Reference::Cell(at)) => Ok(Summary::of(view.scalar(*at))),
-        Argument::Reference(Reference::Area(block)) => view.summary(alloc, block.block(), steps),
+        Argument::Reference(reference) => reference_summary(alloc, *reference, view, steps),
         Argument::Value(value) => Ok(Summary::of(&number_value(value.as_number()))),
+    }
+}
+
+// What the numbers of a reference's cells come to.
+fn reference_summary<V: View, L: Ledger>(
+    alloc: Global,
+    reference: Reference,
+    view: &mut V,
+    steps: &mut Steps<L>,
+) -> Result<Summary, AllocError>
+    ensures means { IfOk result (λ summary. summary ≡ summary_of (reference_cells (V.world view.old) reference).values) }
+    ensures bounded { IfOk result IsBounded }
+    ensures leaves { V.world view.new ≡ V.world view.old }
+    ensures least { steps.old ≤ steps.new }
+    ensures most { steps.new ≤ steps.old + block_size (Some reference) }
+{
+    match reference {
+        Reference::Cell(at) => Ok(Summary::of(view.scalar(at))),
+        Reference::Area(block) => view.summary(alloc, block.block(), steps),
     }
 }

@@ -14,8 +14,9 @@
 
 mod argument;
 mod call;
-mod eval;
+mod customs;
 mod view;
+mod walk;
 
-pub use eval::eval;
 pub use view::{NameView, View};
+pub use walk::eval;

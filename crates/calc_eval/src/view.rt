@@ -2,10 +2,9 @@
 ghost use Rattle.std.specs.Prelude.{◌≡◌, ◌+◌, ◌≤◌, ℕ, IfOk, true};
 ghost use Rattle.std.specs.Option.{option_map};
 ghost use Rattle.cell_value.specs.Summary.{IsBounded, summary_of};
-ghost use Rattle.formula_tree.specs.Relative.{relative};
-ghost use Rattle.formula_tree.specs.StandsFor.{at_home};
 ghost use Rattle.calc_terms.specs.Cells.{cells_in, fits, size_of};
-ghost use Rattle.calc_terms.specs.World.{Named, World};
+ghost use Rattle.calc_terms.specs.World.{World};
+ghost use Rattle.calc_eval.specs.Named.{named_by};
 
 use cell_addr::{Block, Place};
 use cell_value::{Area, Scalar, Summary};

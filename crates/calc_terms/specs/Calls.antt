@@ -36,11 +36,15 @@ data_value (kind.Text f) today args = texts_value f args
 data_value (kind.Look f) today args = look_value f args
 data_value (kind.Date f) today args = date_value f args today
 
+-- the value of a call of the custom function of a word; a word of none is #NAME?
+abbrev pub custom_call : World → Option (List ℕ × Rule) → List Argument → Scalar
+custom_call w (Some custom) args = custom_value custom.1 (map (argument_value w) args)
+custom_call w None args = Fault Name
+
 -- the value of a call in a formula whose home is at this place: of the function that every workbook has by its word,
--- or else of the custom function; a word of neither is #NAME?
+-- or else of the custom function
 abbrev pub call_value : World → Place → Option Function → Option (List ℕ × Rule) → List Argument → Scalar
 call_value w home (Some (function.Choice f)) custom args = choice_value f (map (argument_value w) args)
 call_value w home (Some (function.Place f)) custom args = place_value f home (map argument_block args)
 call_value w home (Some (function.Data f)) custom args = data_value f w.today (data_arguments w (takes_block f) 0 args)
-call_value w home None (Some custom) args = custom_value custom.1 (map (argument_value w) args)
-call_value w home None None args = Fault Name
+call_value w home None custom args = custom_call w custom args

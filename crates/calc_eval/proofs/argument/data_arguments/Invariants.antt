@@ -5,4 +5,4 @@ use Rattle.calc_eval.proofs.argument.data_arguments.Given as goal
 
 abbrev pub invariant-arguments : goal.invariant-arguments
 invariant-arguments g l =
-    l.data.items ++ data_arguments (g.V.View.world l.view) (takes_block l.f) l.place (drop l.place l.args) ≡ data_arguments (g.V.View.world l.view) (takes_block l.f) 0 l.args
+    l.taken.items ++ data_arguments (g.V.View.world l.view) (takes_block l.f) l.place (drop l.place l.args) ≡ data_arguments (g.V.View.world l.view) (takes_block l.f) 0 l.args
