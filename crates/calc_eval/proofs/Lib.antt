@@ -2,3 +2,4 @@ pub mod Costs
 pub mod Lists
 pub mod Choosing
 pub mod Data
+pub mod BlockFilling
