@@ -14,13 +14,18 @@
 #![tactic(auto)]
 
 ghost use Rattle.std.specs.Prelude.{◌≡◌, ◌<◌};
+ghost use Rattle.custom_fn.specs.Rule.{rule_value};
 
 mod page;
+mod rules;
 mod table;
 mod tally;
 mod work;
 
-use custom_fn::Registry;
+use cell_addr::Text;
+use cell_value::Scalar;
+use custom_fn::{Custom, RegError, Registry};
+use rules::{LEVY, POSTAGE, bands, tiers};
 use std::marker::Brand;
 use std::process::ExitCode;
 use std::sync::ledger::{Blank, Ledger};
@@ -38,21 +43,60 @@ fn main(rt: HostRuntime) -> ExitCode {
     }
 }
 
-// Runs the cases of the files that the words after the program's name name.
+// Runs the cases of the files that the words after the program's name name, with the custom functions
+// POSTAGE and LEVY.
 fn run_files<L: Ledger>(rt: &HostRuntime, blank: Blank) -> io::Result<Tally>
     requires name { blank.name ≡ L.name }
     requires parts { blank.parts ≡ L.parts }
     requires some { 0 < blank.parts }
 {
+    let alloc = rt.alloc();
     let mut steps = Steps::<L>::new(blank);
-    let registry = Registry::new(rt.alloc())?;
+    let mut registry = Registry::new(alloc)?;
+    if let (Some(rule), Some(stored)) = (bands(alloc, &POSTAGE)?, bands(alloc, &POSTAGE)?) {
+        let call = Box::new(
+            alloc,
+            move |x: &Scalar| -> Scalar
+                ensures { result ≡ rule_value stored x.now }
+            { stored.value_of(x) },
+        )?;
+        let postage = Custom::new(Text::from_str(alloc, "POSTAGE")?, rule, call);
+        tell(rt, registry.add(postage))?;
+    }
+    if let (Some(rule), Some(stored)) = (tiers(alloc, &LEVY)?, tiers(alloc, &LEVY)?) {
+        let call = Box::new(
+            alloc,
+            move |x: &Scalar| -> Scalar
+                ensures { result ≡ rule_value stored x.now }
+            { stored.value_of(x) },
+        )?;
+        let levy = Custom::new(Text::from_str(alloc, "LEVY")?, rule, call);
+        tell(rt, registry.add(levy))?;
+    }
+    run_all(rt, &registry, &mut steps)
+}
+
+// Prints why a custom function could not be added.
+fn tell(rt: &HostRuntime, added: Result<(), RegError>) -> io::Result<()> {
+    if let Err(cause) = added {
+        println!(rt; "NOT ADDED: {cause}")?;
+    }
+    Ok(())
+}
+
+// Runs the cases of the files.
+fn run_all<L: Ledger>(
+    rt: &HostRuntime,
+    registry: &Registry,
+    steps: &mut Steps<L>,
+) -> io::Result<Tally> {
     let mut whole = Tally::default();
     let mut names = env::args(rt)?;
     let _program = names.next();
     'files: for name in names {
         match fs::read_to_string(rt, &name) {
             Ok(text) => {
-                let tally = run_text(rt, &text, &registry, &mut steps)?;
+                let tally = run_text(rt, &text, registry, steps)?;
                 println!(rt; "{name}: {tally}")?;
                 whole = whole.with(tally);
             }
