@@ -1,9 +1,14 @@
 -- What holds of the meaning of formulas. Source: this project's own.
-use Rattle.std.specs.Prelude.{◌≡◌, ℕ, ⊤, true, List, Option, Some, None}
+use Rattle.std.specs.Prelude.{◌≡◌, ℕ, ⊤, Bool, true, false, List, Option, Some, None}
+use Rattle.std.specs.List.{list_any}
 use Rattle.cell_addr.specs.declared.place.Place.{Place}
+use Rattle.cell_addr.specs.Place.{covers, same_place}
 use Rattle.custom_fn.specs.declared.rule.Rule.{Rule}
+use Rattle.formula_tree.specs.Links.{links_in}
 use Rattle.formula_tree.specs.Reference.{sheet_of}
 use Rattle.formula_tree.specs.Term.{Term}
+use Rattle.formula_tree.specs.declared.link.Link.{Link}
+use Rattle.formula_tree.specs.declared.link.Link.TheVariants as links
 use Rattle.formula_tree.specs.declared.reference.Corner.{Corner}
 use Rattle.formula_tree.specs.declared.reference.Home.{Home}
 use Rattle.calc_terms.specs.Meaning.{meaning}
@@ -31,3 +36,13 @@ pub record AreAlike (v w : World) (sheet : ℕ) (t : Term Corner) : Type 0 where
 -- a tree means the same wherever all that it needs is the same
 abbrev pub ReadsNeeds : Type 0
 ReadsNeeds = (v w : World) (customs : List (List ℕ × Rule)) (home : Home) (t : Term Corner) → AreAlike v w (sheet_of home) t → meaning v customs home t ≡ meaning w customs home t
+
+-- a link is to the place, or to a block that covers it; a name is no place
+abbrev pub is_link_to : Place → Link → Bool
+is_link_to p (links.Cell q) = same_place q p
+is_link_to p (links.Area b) = covers b p
+is_link_to p (links.Name scope w) = false
+
+-- a tree mentions the places that its links lead to, and no others
+abbrev pub LinksAreNeeds : Type 0
+LinksAreNeeds = (t : Term Corner) (p : Place) → mentions t p ≡ list_any (is_link_to p) (links_in t)
