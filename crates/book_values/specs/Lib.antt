@@ -1,0 +1,4 @@
+pub mod Names
+pub mod Workbook
+pub mod Values
+pub mod Laws

@@ -1,0 +1,10 @@
+//! What the places and the names of a workbook show, as definitions: its formulas call functions and names,
+//! and a node on a cycle of needs shows `#CYCLE!`.
+//!
+//! A `Workbook` of the specs is a finite map from places to contents, and the named expressions. Its nodes are
+//! places and names; a name that a word finds on a sheet is the sheet's own, else that of the whole workbook.
+//! `value_of` is what a node shows. The laws say that these values unfold, that nothing else does, and which
+//! nodes show `#CYCLE!` by themselves.
+#![tactic(auto)]
+
+pub mod laws;

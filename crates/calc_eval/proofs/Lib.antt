@@ -1,0 +1,5 @@
+pub mod Costs
+pub mod Lists
+pub mod Choosing
+pub mod Data
+pub mod BlockFilling

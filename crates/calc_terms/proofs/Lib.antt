@@ -1,0 +1,4 @@
+pub mod Choosing
+pub mod CellsAlike
+pub mod Reading
+pub mod LinkedPlaces

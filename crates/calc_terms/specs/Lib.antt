@@ -1,0 +1,12 @@
+pub mod World
+pub mod Cells
+pub mod References
+pub mod Words
+pub mod Choices
+pub mod Places
+pub mod Calls
+pub mod Meaning
+pub mod Needs
+pub mod Cost
+pub mod Laws
+pub mod internal

@@ -1,0 +1,14 @@
+//! What holds of the meaning of formulas: laws, with nothing to run.
+
+ghost use Rattle.calc_terms.specs.Laws.{LinksAreNeeds, ReadsNeeds};
+
+/// A tree means the same wherever the places and the names that it mentions, and the places of these names,
+/// are the same.
+pub fn trees_read_their_needs()
+    ensures { ReadsNeeds }
+{}
+
+/// A tree mentions exactly the places that its links lead to, which [`formula_tree::places_of`] lists.
+pub fn links_are_needs()
+    ensures { LinksAreNeeds }
+{}
