@@ -34,17 +34,19 @@ length-numbered n (b ∷ books) = ap suc (length-numbered (n + 1) books)
 pub can_join_given : (books : List BookSheet) (i : ℕ) (b : BookSheet) (n : ℕ) (sheets : List (ℕ × List ℕ)) (name : List ℕ) → CanBegin books → i < length books → b ≡ get_or books i b
     → n ≡ i → sheets ≡ numbered 0 (take i books) → name ≡ b.name → CanJoin n name sheets
 can_join_given books i b n sheets name can inside at same listed named =
-    let few = can.2 in
-    ((λ e. absurd (omega (arith, few, inside, same, e))), λ k d l.
-    let long = ap length listed ∙ length-numbered 0 (take i books) ∙ length-take-le i books (omega (arith, inside)) in
-    let below : k < i = omega (arith, long, l) in
-    let there = ap (λ s. get_or s k d) listed ∙ get_or-numbered 0 (take i books) k d b (let t = length-take-le i books (omega (arith, inside)) in omega (arith, below, t)) in
-    let book = get_or-take i books k b below in (
-      (λ e. let number = ap (λ s. s.0) there in absurd (omega (arith, number, e, same, below))),
-      (λ e.
-      can.1 k i b below inside
-      (sym (ap (λ s. folded s.name) book) ∙ sym (ap (λ s. folded s.1) there) ∙ e ∙ ap folded named ∙ ap (λ s. folded s.name) at)),
-    ))
+    let few = can.2 in (
+      (λ e. absurd (omega (arith, few, inside, same, e))),
+      λ k d l.
+          let long = ap length listed ∙ length-numbered 0 (take i books) ∙ length-take-le i books (omega (arith, inside)) in
+          let below : k < i = omega (arith, long, l) in
+          let there = ap (λ s. get_or s k d) listed ∙ get_or-numbered 0 (take i books) k d b (let t = length-take-le i books (omega (arith, inside)) in omega (arith, below, t)) in
+          let book = get_or-take i books k b below in (
+            (λ e. let number = ap (λ s. s.0) there in absurd (omega (arith, number, e, same, below))),
+            (λ e.
+                can.1 k i b below inside
+                (sym (ap (λ s. folded s.name) book) ∙ sym (ap (λ s. folded s.1) there) ∙ e ∙ ap folded named ∙ ap (λ s. folded s.name) at)),
+          ),
+    )
 
 numbered-push : (n : ℕ) (books : List BookSheet) (b : BookSheet) → numbered n (books ++ b ∷ []) ≡ numbered n books ++ (n + length books, b.name) ∷ []
 numbered-push n [] b = let same : n ≡ n + 0 = omega arith in λ i. (same i, b.name) ∷ []

@@ -84,11 +84,13 @@ some_copied (Some x) = refl
 pub can_join : (d : State) (name : List ℕ) → IsSound d → cause (add_sheet name) d ≡ None → CanJoin d.next_sheet name d.book.sheets
 can_join d name s none =
     let h = none_hold (causes (add_sheet name) d) none in
-    let few = s.few in
-    ((λ same. absurd (omega (arith, same, few))), λ k e l. (
-      (λ same. let below = s.numbers k e l in absurd (omega (arith, below, same))),
-      (λ same. let t = same_name-true (get_or d.book.sheets k e).1 name same in let f = none_passes (λ t. same_name t.1 name) d.book.sheets h.1.0 k e l in absurd (cc)),
-    ))
+    let few = s.few in (
+      (λ same. absurd (omega (arith, same, few))),
+      λ k e l. (
+        (λ same. let below = s.numbers k e l in absurd (omega (arith, below, same))),
+        (λ same. let t = same_name-true (get_or d.book.sheets k e).1 name same in let f = none_passes (λ t. same_name t.1 name) d.book.sheets h.1.0 k e l in absurd (cc)),
+      ),
+    )
 
 -- a sheet that may be renamed is listed
 pub is_listed : (d : State) (sheet : ℕ) (name : List ℕ) → cause (rename_sheet sheet name) d ≡ None → IsSome (name_in d.book.sheets sheet)

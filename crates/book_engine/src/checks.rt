@@ -144,7 +144,14 @@ impl Parts {
     }
 
     // Where lines are inserted, on a sheet that there is.
-    fn check_insert(&self, s: &Shift, sheet: u32, axis: Axis, at: u32, count: u32) -> Result<(), Refusal>
+    fn check_insert(
+        &self,
+        s: &Shift,
+        sheet: u32,
+        axis: Axis,
+        at: u32,
+        count: u32,
+    ) -> Result<(), Refusal>
         requires { form_of s.now ≡ Lines sheet axis (Insert at count) }
         ensures { IsCause result (first_cause (of_edit (state_of self.now) (Lines sheet axis (Insert at count)) (Insert at count) (limit_of axis))) }
     {
@@ -291,5 +298,6 @@ fn ends_outside(source: Block, to: Place) -> bool
     requires { IsBlockInside source }
     ensures { result ≡ is_block_outside (destination source to) }
 {
-    is_past(to.row, source.bottom - source.top + 1, ROWS) || is_past(to.col, source.right - source.left + 1, COLS)
+    is_past(to.row, source.bottom - source.top + 1, ROWS)
+        || is_past(to.col, source.right - source.left + 1, COLS)
 }

@@ -22,7 +22,12 @@ impl Formula {
     ghost use Rattle.book_engine.specs.Formulas.{stood, stood_after};
 
     // The formula after a structural operation; `None` where its place is lost.
-    fn after(&self, alloc: Global, pool: &mut Pool, s: &Shift) -> Result<Option<Formula>, AllocError>
+    fn after(
+        &self,
+        alloc: Global,
+        pool: &mut Pool,
+        s: &Shift,
+    ) -> Result<Option<Formula>, AllocError>
         requires { IsSound s.now }
         ensures { IfOk result (λ f. option_map stood f ≡ stood_after s.now (stood self.now)) }
     {

@@ -18,5 +18,5 @@ returns-clause-fits c =
     let books = c.args.books.now in
     let state : state_of c.fill_sheets.new.self ≡ session_given books =
     c.in_ok-fill_sheets.ensures.ok ∙ ap (λ d. with_cells (with_given (given_entries d.book.sheets 0 books) d.book.cells) d) c.in_ok-parts.ensures.state
-        ∙ ap (λ m. with_cells m (empty_session books)) (given-empty (given_entries (numbered 0 books) 0 books)) in
+    ∙ ap (λ m. with_cells m (empty_session books)) (given-empty (given_entries (numbered 0 books) 0 books)) in
     (subst IsSound (sym state) (given_sound books c.requires), c.in_ok-fill_sheets.ensures.stand)
