@@ -9,3 +9,4 @@ pub mod FilledCells
 pub mod GivenBooks
 pub mod FilledWorkbooks
 pub mod GivenExamples
+pub mod AnyCalls

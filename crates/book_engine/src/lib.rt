@@ -17,6 +17,7 @@ mod cells;
 mod checks;
 mod engine;
 mod formulas;
+pub mod laws;
 mod parts;
 mod reading;
 mod setting;
