@@ -17,6 +17,9 @@ pub struct Case {
     /// The words of the command line.
     #[serde(default)]
     pub words: Vec<String>,
+    /// How many cells are filled before the script, column by column from A1 on; the run answers `ok` to each.
+    #[serde(default)]
+    pub filled: u32,
     /// The text of the script.
     pub script: String,
     /// Whether the script's characters, none of them beyond U+00FF, are its bytes; else its bytes are

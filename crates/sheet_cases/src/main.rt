@@ -25,12 +25,17 @@ ghost use Rattle.std.specs.Prelude.{◌≡◌, ◌<◌};
 
 use case::{Case, CaseFile};
 use sheet_cli::outside::{MemSink, MemSource};
+use std::alloc::{AllocError, Global};
 use std::marker::Brand;
 use std::process::ExitCode;
 use std::sync::ledger::{Blank, Ledger};
 use std::{env, fs, io};
 use steps::Steps;
 use tally::Tally;
+
+// The columns that a case can fill, and their rows.
+const COLUMNS: &str = "ABCDEFGHIJKLMNOPQRSTUVWXYZ";
+const ROWS: u32 = 40_000;
 
 fn main(rt: HostRuntime) -> ExitCode {
     match run_files::<Brand>(&rt, Blank::new(1)) {
@@ -93,7 +98,9 @@ fn run_case<L: Ledger>(
     let mut input = MemSource::new(script, case.failing_reads);
     let mut out = MemSink::new(rt.alloc(), case.failing_writes)?;
     let status = sheet_cli::run(rt.alloc(), &case.words, &mut input, &mut out, steps);
-    if status == case.status && out.bytes() == case.prints.as_bytes() {
+    let mut prints = "ok\n".repeat(rt.alloc(), case.filled as usize)?;
+    prints.push_str(&case.prints)?;
+    if status == case.status && out.bytes() == prints.as_bytes() {
         return println!(rt; "    {}", case.shows);
     }
     tally.differ = tally.differ.saturating_add(1);
@@ -102,18 +109,36 @@ fn run_case<L: Ledger>(
         println!(rt; "        status {status}, wanted {}", case.status)?;
     }
     match str::from_utf8(out.bytes()) {
-        Ok(printed) => print_differences(rt, printed, case.prints.as_str()),
+        Ok(printed) => print_differences(rt, printed, prints.as_str()),
         Err(_) => println!(rt; "        what was printed isn't UTF-8"),
     }
 }
 
-// The bytes of a case's script. An error where it should be one byte a character, and a character is
+// The lines of a script that fill so many cells, column by column; those of the columns A to Z at most.
+fn filling(alloc: Global, count: u32) -> Result<String, AllocError> {
+    let mut lines = String::new(alloc);
+    let mut left = count;
+    'columns: for column in COLUMNS.chars() {
+        'rows: for row in 1..=ROWS {
+            if left == 0 {
+                return Ok(lines);
+            }
+            left -= 1;
+            lines.push_str(&format!(in alloc; "set,{column}{row},1\n")?)?;
+        }
+    }
+    Ok(lines)
+}
+
+// The bytes of a case's script, those that fill cells first. An error where it should be one byte a character, and a character is
 // beyond U+00FF.
 fn script_bytes(rt: &HostRuntime, case: &Case) -> anyhow::Result<Vec<u8>> {
+    let filling = filling(rt.alloc(), case.filled)?;
+    let mut bytes = Vec::from_slice(rt.alloc(), filling.as_bytes())?;
     if !case.latin1 {
-        return Ok(Vec::from_slice(rt.alloc(), case.script.as_bytes())?);
+        bytes.extend_from_slice(case.script.as_bytes())?;
+        return Ok(bytes);
     }
-    let mut bytes = Vec::new(rt.alloc());
     'characters: for c in case.script.chars() {
         bytes.push(u8::try_from(u32::from(c))?)?;
     }
