@@ -35,6 +35,7 @@ use tally::Tally;
 
 // The columns that a case can fill, and their rows.
 const COLUMNS: &str = "ABCDEFGHIJKLMNOPQRSTUVWXYZ";
+
 const ROWS: u32 = 40_000;
 
 fn main(rt: HostRuntime) -> ExitCode {
