@@ -41,7 +41,7 @@ pub struct PageCells {
 
 impl PageCells {
     /// No cells.
-    pub fn new(alloc: Global) -> PageCells {
+    pub(crate) fn new(alloc: Global) -> PageCells {
         PageCells {
             cells: Vec::new(alloc),
             empty: Scalar::Empty,
@@ -49,7 +49,7 @@ impl PageCells {
     }
 
     /// Puts a cell behind the others.
-    pub fn push(&mut self, cell: Cell) -> Result<(), AllocError> {
+    pub(crate) fn push(&mut self, cell: Cell) -> Result<(), AllocError> {
         self.cells.push(cell)?;
         Ok(())
     }

@@ -10,7 +10,7 @@ pub enum Row<'a> {
 }
 
 /// What a line says, where it is a row of a table whose first cell stands between backticks.
-pub fn row_of(line: &str) -> Option<Row<'_>> {
+pub(crate) fn row_of(line: &str) -> Option<Row<'_>> {
     let rest = line.strip_prefix("| `")?;
     let (head, rest) = rest.split_once("` | ")?;
     let (text, _) = rest.split_once(" |")?;

@@ -14,7 +14,7 @@ pub struct Tally {
 
 impl Tally {
     /// The count of a file that can't be read.
-    pub fn unreadable() -> Tally {
+    pub(crate) fn unreadable() -> Tally {
         Tally {
             empty_files: 1,
             ..Tally::default()
@@ -22,7 +22,7 @@ impl Tally {
     }
 
     /// This count and another file's.
-    pub fn with(self, file: Tally) -> Tally {
+    pub(crate) fn with(self, file: Tally) -> Tally {
         let none = if file.cases == 0 { 1 } else { 0 };
         Tally {
             cases: self.cases.saturating_add(file.cases),
@@ -32,7 +32,7 @@ impl Tally {
     }
 
     /// Whether every file has cases and none differs.
-    pub fn is_clean(self) -> bool
+    pub(crate) fn is_clean(self) -> bool
         ensures { IsTrue result ↔ ((self.differ ≡ 0) × (self.empty_files ≡ 0)) }
     {
         self.differ == 0 && self.empty_files == 0

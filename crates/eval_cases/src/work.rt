@@ -32,7 +32,7 @@ pub struct Sheet {
 
 impl Sheet {
     /// An empty page.
-    pub fn new(alloc: Global) -> Result<Sheet, AllocError> {
+    pub(crate) fn new(alloc: Global) -> Result<Sheet, AllocError> {
         Ok(Sheet {
             page: Page {
                 cells: PageCells::new(alloc),
@@ -48,7 +48,7 @@ impl Sheet {
 }
 
 /// The value of the formula in the cell E5; `None` where the text is no formula.
-pub fn value_of<L: Ledger>(
+pub(crate) fn value_of<L: Ledger>(
     alloc: Global,
     sheet: &mut Sheet,
     formula: &str,
@@ -67,7 +67,7 @@ pub fn value_of<L: Ledger>(
 }
 
 /// Gives the page a cell's value or a name's formula; whether the row has that form.
-pub fn given<L: Ledger>(
+pub(crate) fn given<L: Ledger>(
     alloc: Global,
     sheet: &mut Sheet,
     head: &str,
