@@ -1,2 +1,6 @@
 pub mod SheetLists
 pub mod Listed
+pub mod Words
+pub mod Scopes
+pub mod Named
+pub mod internal

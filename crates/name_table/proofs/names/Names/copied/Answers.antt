@@ -9,5 +9,5 @@ pub add_sheet-requires-clause-new : goal.add_sheet-requires-clause-new
 add_sheet-requires-clause-new c =
     front-joins (listed c.sheets.copy) c.next.new.self c.in-Some.id.now c.as_str.result.now
     (subst AreSheets
-    (sym c.sheets.invariant ∙ ap (λ r. listed c.sheets.copy ++ r) c.in-Some.ensures.steps ∙ ap (λ w. listed c.sheets.copy ++ (c.in-Some.id.now, w) ∷ c.next.new.self) (sym c.as_str.ensures))
+    (sym c.sheets.invariant.front ∙ ap (λ r. listed c.sheets.copy ++ r) c.in-Some.ensures.steps ∙ ap (λ w. listed c.sheets.copy ++ (c.in-Some.id.now, w) ∷ c.next.new.self) (sym c.as_str.ensures))
     c.args.self.now.proper)
