@@ -4,3 +4,4 @@ pub mod Words
 pub mod Scopes
 pub mod Named
 pub mod internal
+pub mod Laws

@@ -16,6 +16,7 @@
 
 mod copy;
 mod key;
+mod laws;
 mod list;
 mod named;
 mod names;
@@ -24,5 +25,6 @@ mod tests;
 mod words;
 
 pub use key::NameKey;
+pub use laws::words_are_numbered;
 pub use list::NameList;
 pub use names::Names;

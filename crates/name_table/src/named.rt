@@ -1,5 +1,5 @@
 // Words and named expressions.
-ghost use Rattle.std.specs.Prelude.{◌≡◌, ◌<◌, IfOk, OnOk, OnErr, None, length, slice_get, option_copied};
+ghost use Rattle.std.specs.Prelude.{◌≡◌, ◌<◌, IfOk, IfSome, OnOk, OnErr, None, length, slice_get, option_copied};
 ghost use Rattle.std.specs.FinMap as map;
 ghost use Rattle.name_table.specs.Named.{KeepsSheets, items_of, names_of, words_of};
 ghost use Rattle.name_table.specs.Scopes.{found, found_in, in_scope, key_of};
@@ -17,6 +17,7 @@ impl Names {
     /// of the text.
     pub fn word(&mut self, text: &str) -> Result<u64, AllocError>
         ensures number { IfOk result (λ word. number_in (words_of self.new) text.now ≡ Some word) }
+        ensures within { IfOk result (λ word. word < length (words_of self.new)) }
         ensures ok { OnOk result (words_of self.new ≡ with_word text.now (words_of self.old)) }
         ensures err { OnErr result (words_of self.new ≡ words_of self.old) }
         ensures names { names_of self.new ≡ names_of self.old }
@@ -28,7 +29,8 @@ impl Names {
     /// The number of the text's word; `None` where the list has no such word. Takes no memory, and costs about the length of
     /// the text.
     pub fn known(&self, text: &str) -> Option<u64>
-        ensures { result ≡ number_in (words_of self.now) text.now }
+        ensures number { result ≡ number_in (words_of self.now) text.now }
+        ensures within { IfSome result (λ word. word < length (words_of self.now)) }
     {
         self.words.known(text)
     }

@@ -1,5 +1,5 @@
 // The list of words.
-ghost use Rattle.std.specs.Prelude.{◌≡◌, ◌++◌, ◌∷◌, [], IfOk, OnOk, OnErr, map, position, slice_get, option_copied, None};
+ghost use Rattle.std.specs.Prelude.{◌≡◌, ◌++◌, ◌∷◌, [], ◌<◌, IfOk, IfSome, OnOk, OnErr, length, map, position, slice_get, option_copied, None};
 ghost use Rattle.cell_addr.specs.Sheets.{same_name};
 ghost use Rattle.cell_addr.specs.Text.{folded};
 ghost use Rattle.folded_key.specs.Key.{text_of};
@@ -35,7 +35,8 @@ impl Words {
 
     // The number of a text's word, if it has one.
     pub(crate) fn known(&self, text: &str) -> Option<u64>
-        ensures { result ≡ number_in (words_in self.now) text.now }
+        ensures number { result ≡ number_in (words_in self.now) text.now }
+        ensures within { IfSome result (λ word. word < length (words_in self.now)) }
     {
         match place_of(&self.spellings, text) {
             Some(index) => Some(index as u64),
@@ -46,6 +47,7 @@ impl Words {
     // The number of a text's word, which is put at the end where it is new.
     pub(crate) fn word(&mut self, text: &str) -> Result<u64, AllocError>
         ensures number { IfOk result (λ word. number_in (words_in self.new) text.now ≡ Some word) }
+        ensures within { IfOk result (λ word. word < length (words_in self.new)) }
         ensures ok { OnOk result (words_in self.new ≡ with_word text.now (words_in self.old)) }
         ensures err { OnErr result (words_in self.new ≡ words_in self.old) }
     {
@@ -59,6 +61,7 @@ impl Words {
     fn put(&mut self, text: &str) -> Result<u64, AllocError>
         requires { number_in (words_in self.old) text.now ≡ None }
         ensures number { IfOk result (λ word. number_in (words_in self.new) text.now ≡ Some word) }
+        ensures within { IfOk result (λ word. word < length (words_in self.new)) }
         ensures ok { OnOk result (words_in self.new ≡ words_in self.old ++ folded text.now ∷ []) }
         ensures err { OnErr result (words_in self.new ≡ words_in self.old) }
     {
@@ -92,7 +95,8 @@ impl Words {
 
 // Where a text stands that is the same but for the case of its ASCII letters.
 fn place_of<'n>(spellings: &IndexSet<FoldedKey<'n>>, text: &'n str) -> Option<usize>
-    ensures { result ≡ position (λ key. same_name text.now (text_of key)) spellings.now.keys }
+    ensures place { result ≡ position (λ key. same_name text.now (text_of key)) spellings.now.keys }
+    ensures within { IfSome result (λ place. place < length spellings.now.keys) }
 {
     spellings.get_index_of(&FoldedKey::Asked(text))
 }

@@ -1,6 +1,4 @@
-use Rattle.std.proofs.Common.{◌≡◌, ◌∙◌, sym, ap, ◌++◌}
-use Rattle.std.specs.BTreeMap.{insert_entry}
-use Rattle.name_table.specs.Scopes.{key_cmp}
+use Rattle.std.proofs.Common.{◌∙◌, sym, ap, ◌++◌}
 use Rattle.name_table.proofs.Holders.{kept-last}
 use Rattle.name_table.proofs.copy.copied_holders.Goals as goal
 

@@ -1,6 +1,5 @@
 -- A new word stands at the end, and the list of words stays proper.
-use Rattle.std.proofs.Common.{◌≡◌, ◌∙◌, sym, ap, subst, cond, [], ◌∷◌, ◌++◌, map}
-use Rattle.std.specs.List.{list_any}
+use Rattle.std.proofs.Common.{◌∙◌, sym, ap, subst, cond, [], ◌∷◌, ◌++◌, map}
 use Rattle.cell_addr.specs.Sheets.{same_name}
 use Rattle.folded_key.specs.Key.{text_of}
 use Rattle.folded_key.specs.declared.key.FoldedKey.TheVariants.{Own}

@@ -1,5 +1,5 @@
 -- A name that is put in is one of the map's, and its word is known.
-use Rattle.std.proofs.Common.{◌≡◌, ◌∙◌, length, map}
+use Rattle.std.proofs.Common.{length, map}
 use Rattle.std.proofs.lemmas.Result.{on_ok_weaker}
 use Rattle.cell_addr.proofs.Entries.{from_entries-insert}
 use Rattle.folded_key.specs.Key.{text_of}

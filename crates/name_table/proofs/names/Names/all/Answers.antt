@@ -1,4 +1,4 @@
-use Rattle.std.proofs.Common.{◌≡◌, ◌∙◌, ◌++◌, sym, ap}
+use Rattle.std.proofs.Common.{◌∙◌, ◌++◌, sym, ap}
 use Rattle.std.proofs.lemmas.List.{append-nil}
 use Rattle.cell_addr.proofs.Entries.{entries-from_entries}
 use Rattle.name_table.proofs.KeyOrder.{key_cmp-IsTotalOrder}

@@ -1,5 +1,5 @@
 -- A sheet of the list can join those in front of it, which the copy has.
-use Rattle.std.proofs.Common.{◌≡◌, ◌∙◌, ◌++◌, ◌∷◌, sym, ap, subst}
+use Rattle.std.proofs.Common.{◌∙◌, ◌++◌, ◌∷◌, sym, ap, subst}
 use Rattle.cell_addr.specs.Sheets.{AreSheets}
 use Rattle.name_table.specs.Listed.{listed}
 use Rattle.name_table.proofs.SheetEntries.{front-joins}

@@ -1,4 +1,4 @@
-use Rattle.std.proofs.Common.{◌≡◌, ◌∙◌}
+use Rattle.std.proofs.Common.{◌∙◌}
 use Rattle.cell_addr.proofs.Entries.{lookup-from_entries}
 use Rattle.name_table.specs.Scopes.{key_of}
 use Rattle.name_table.proofs.KeyOrder.{key_cmp-IsTotalOrder}

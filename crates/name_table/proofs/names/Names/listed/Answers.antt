@@ -1,5 +1,5 @@
 -- The names of a scope stand side by side, from its first key on.
-use Rattle.std.proofs.Common.{◌≡◌, ◌∙◌, ◌++◌, ◌∷◌, sym, ap, subst, map, ℕ}
+use Rattle.std.proofs.Common.{◌≡◌, ◌∙◌, ◌++◌, sym, ap, subst, map, ℕ}
 use Rattle.std.proofs.lemmas.List.{append-nil}
 use Rattle.cell_addr.proofs.Entries.{entries-from_entries}
 use Rattle.name_table.specs.Named.{items_of}

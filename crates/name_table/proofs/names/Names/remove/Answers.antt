@@ -1,5 +1,5 @@
 -- A name that is taken out is none of the map's any more.
-use Rattle.std.proofs.Common.{◌≡◌, ◌∙◌, None, length, map}
+use Rattle.std.proofs.Common.{◌∙◌, None, length, map}
 use Rattle.cell_addr.proofs.Entries.{from_entries-remove, lookup-from_entries}
 use Rattle.folded_key.specs.Key.{text_of}
 use Rattle.name_table.specs.Scopes.{key_of}

@@ -1,5 +1,5 @@
 -- The next word goes behind those of the copy.
-use Rattle.std.proofs.Common.{◌≡◌, ◌∙◌, ◌++◌, ◌∷◌, [], sym, ap, subst, map, append_assoc}
+use Rattle.std.proofs.Common.{◌∙◌, ◌++◌, ◌∷◌, [], sym, ap, subst, map, append_assoc}
 use Rattle.folded_key.specs.Key.{text_of}
 use Rattle.name_table.specs.Words.{AreWords, with_word}
 use Rattle.name_table.specs.internal.WordList.{words_in}

@@ -1,5 +1,5 @@
 -- The word of a text is the text folded, and its number the length of the list that it comes to.
-use Rattle.std.proofs.Common.{◌≡◌, ◌∙◌, sym, ap, subst, None, Some, [], ◌∷◌, ◌++◌, length}
+use Rattle.std.proofs.Common.{◌∙◌, sym, ap, Some}
 use Rattle.cell_addr.specs.Sheets.{same_name}
 use Rattle.cell_addr.specs.Text.{folded}
 use Rattle.folded_key.specs.Key.{text_of}
