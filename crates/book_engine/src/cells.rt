@@ -12,7 +12,7 @@ ghost use Rattle.std.specs.Prelude.{not};
 use crate::formulas::{Formula, Formulas};
 use cell_addr::{Block, Place};
 use grid_store::{Cell, Grid};
-use std::alloc::{AllocError, Global};
+use std::alloc::AllocError;
 
 // Fills a cell with what is no formula, in place of what it held.
 pub fn put(
@@ -69,18 +69,13 @@ pub fn empty(formulas: &mut Formulas, grid: &mut Grid, at: Place)
 }
 
 // Empties the cells of a block.
-pub fn clear(
-    alloc: Global,
-    formulas: &mut Formulas,
-    grid: &mut Grid,
-    area: Block,
-) -> Result<(), AllocError>
+pub fn clear(formulas: &mut Formulas, grid: &mut Grid, area: Block) -> Result<(), AllocError>
     requires { Stand formulas.old grid.old }
     ensures ok { OnOk result (contents formulas.new grid.new ≡ map.retain_keys (contents formulas.old grid.old) (λ p. not (covers area p))) }
     ensures err { OnErr result (contents formulas.new grid.new ≡ contents formulas.old grid.old) }
     ensures stand { Stand formulas.new grid.new }
 {
-    let removed = grid.clear(alloc, area)?;
+    let removed = grid.clear(area)?;
     release_all(formulas, removed.items());
     Ok(())
 }

@@ -105,7 +105,7 @@ impl Parts {
         ensures err { OnErr result (state_of self.new ≡ state_of self.old) }
         ensures stand { Stand self.new.formulas self.new.grid }
     {
-        clear(self.alloc, &mut self.formulas, &mut self.grid, area)
+        clear(&mut self.formulas, &mut self.grid, area)
     }
 
     // Empties the cells of a sheet; the limits of a workbook are kept.

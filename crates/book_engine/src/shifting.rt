@@ -38,7 +38,7 @@ impl Parts {
         ensures stand { Stand self.new.formulas self.new.grid }
     {
         let formulas = self.formulas.shifted(&mut self.pool, s)?;
-        self.grid.apply(self.alloc, s)?;
+        self.grid.apply(s)?;
         self.formulas = formulas;
         leave(&mut self.names, s);
         Ok(())

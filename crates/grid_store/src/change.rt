@@ -17,13 +17,12 @@ use crate::way::{Way, lost_lines};
 use cell_addr::{Axis, Block, COLS, ROWS};
 use shift_core::Edit;
 use stable_lines::LineTable;
-use std::alloc::{AllocError, Global};
+use std::alloc::AllocError;
 
 impl Grid {
     // Edits the lines of a sheet: each cell stays under its key, and those of lost lines are handed out.
     pub(crate) fn carry_lines(
         &mut self,
-        alloc: Global,
         way: Way,
         sheet: u32,
         axis: Axis,
@@ -35,8 +34,8 @@ impl Grid {
         ensures err { OnErr result (cells_of self.new ≡ cells_of self.old) }
     {
         self.reserve(axis, sheet)?;
-        let table = self.renewed(alloc, way, sheet, axis, edit)?;
-        let lost = self.clear_lost(alloc, way, sheet, axis, edit)?;
+        let table = self.renewed(way, sheet, axis, edit)?;
+        let lost = self.clear_lost(way, sheet, axis, edit)?;
         self.renew(way, sheet, axis, edit, table);
         Ok(lost)
     }
@@ -53,14 +52,7 @@ impl Grid {
     }
 
     // The sheet's lines after the edit.
-    fn renewed(
-        &self,
-        alloc: Global,
-        way: Way,
-        sheet: u32,
-        axis: Axis,
-        edit: Edit,
-    ) -> Result<LineTable, AllocError>
+    fn renewed(&self, way: Way, sheet: u32, axis: Axis, edit: Edit) -> Result<LineTable, AllocError>
         requires { IsSoundEdit (limit_of axis) edit }
         ensures { IfOk result (AreRenewed (line_goes (turned way) (limit_of axis) edit) (table_of (along axis self.now.rows self.now.cols) sheet)) }
     {
@@ -69,15 +61,14 @@ impl Grid {
             Axis::Cols => &self.cols,
         };
         match way {
-            Way::Forth => lines.table(sheet).edited(alloc, edit),
-            Way::Back => lines.table(sheet).unedited(alloc, edit),
+            Way::Forth => lines.table(sheet).edited(self.alloc, edit),
+            Way::Back => lines.table(sheet).unedited(self.alloc, edit),
         }
     }
 
     // Empties what the edit loses.
     fn clear_lost(
         &mut self,
-        alloc: Global,
         way: Way,
         sheet: u32,
         axis: Axis,
@@ -89,8 +80,8 @@ impl Grid {
         ensures lines { KeepsLines self.old self.new }
     {
         match lost_lines(way, edit, axis.limit()) {
-            Some(span) => self.clear(alloc, whole(sheet).with_span(axis, span)),
-            None => Ok(CellList::new(alloc)),
+            Some(span) => self.clear(whole(sheet).with_span(axis, span)),
+            None => Ok(CellList::new(self.alloc)?),
         }
     }
 

@@ -1,5 +1,5 @@
 // Lists of cells with their places.
-ghost use Rattle.std.specs.Prelude.{◌≡◌, ◌++◌, ◌∷◌, [], OnOk, OnErr, MatchOption, IsTrue, ◌↔◌};
+ghost use Rattle.std.specs.Prelude.{◌≡◌, ◌++◌, ◌∷◌, [], IfOk, OnOk, OnErr, MatchOption, IsTrue, ◌↔◌};
 
 use crate::cell::Cell;
 use cell_addr::Place;
@@ -14,13 +14,13 @@ pub struct CellList {
 impl CellList {
     ghost use Rattle.grid_store.specs.Grid.{AreListedInside, items_of};
 
-    /// A list without cells. Takes no memory.
-    pub fn new(alloc: Global) -> CellList
-        ensures { items_of result ≡ [] }
+    /// A list without cells.
+    pub fn new(alloc: Global) -> Result<CellList, AllocError>
+        ensures { IfOk result (λ list. items_of list ≡ []) }
     {
-        CellList {
+        Ok(CellList {
             list: Vec::new(alloc),
-        }
+        })
     }
 
     /// Adds a cell at the end. For want of memory the list is as it was.

@@ -19,22 +19,22 @@ use std::collections::BTreeMap;
 impl Grid {
     /// Copies of the filled cells of the block, row by row. Costs about the number of filled cells in its rows,
     /// however many rows it has.
-    pub fn listed(&self, alloc: Global, area: Block) -> Result<CellList, AllocError>
+    pub fn listed(&self, area: Block) -> Result<CellList, AllocError>
         ensures { IfOk result (λ list. items_of list ≡ map.entries (within area (cells_of self.now))) }
     {
-        let mut found = BTreeMap::new(alloc);
-        self.find(alloc, area, &mut found)?;
-        in_order(alloc, found)
+        let mut found = BTreeMap::new(self.alloc);
+        self.find(area, &mut found)?;
+        in_order(self.alloc, found)
     }
 
     /// Copies of all filled cells with their places, in no order that is told. Costs the number of filled cells.
-    pub fn all(&self, alloc: Global) -> Result<CellList, AllocError>
+    pub fn all(&self) -> Result<CellList, AllocError>
         ensures { IfOk result (λ list. map.from_entries (items_of list) ≡ cells_of self.now) }
     {
-        let mut list = CellList::new(alloc);
+        let mut list = CellList::new(self.alloc)?;
         for (key, cell) in &self.cells {
             if let Some(at) = self.place(*key) {
-                let cell = cell.copied(alloc)?;
+                let cell = cell.copied(self.alloc)?;
                 list.push(at, cell)?;
             }
         }
@@ -42,12 +42,7 @@ impl Grid {
     }
 
     // Finds the filled cells of the block, by its runs of rows whose lines follow one another.
-    fn find(
-        &self,
-        alloc: Global,
-        area: Block,
-        found: &mut BTreeMap<Place, Cell>,
-    ) -> Result<(), AllocError>
+    fn find(&self, area: Block, found: &mut BTreeMap<Place, Cell>) -> Result<(), AllocError>
         requires { IsEmpty found.old }
         ensures cells { OnOk result (AreCellsOf area (cells_of self.now) found.new) }
         ensures rows { OnOk result (HasRows area (cells_of self.now) 0 (area.bottom + 1) found.new) }
@@ -59,7 +54,7 @@ impl Grid {
                 return Ok(());
             };
             let count = run.count.min((area.bottom - row) as u64 + 1);
-            self.find_on(alloc, area, Run { count, ..run }, found)?;
+            self.find_on(area, Run { count, ..run }, found)?;
             row += count as u32;
         }
         Ok(())
@@ -68,7 +63,6 @@ impl Grid {
     // Finds the filled cells of the block that are on these lines.
     fn find_on(
         &self,
-        alloc: Global,
         area: Block,
         lines: Run,
         found: &mut BTreeMap<Place, Cell>,
@@ -94,7 +88,7 @@ impl Grid {
         for (key, cell) in self.cells.range(first..end) {
             if let Some(at) = self.place(*key) {
                 if area.holds(at) {
-                    add(alloc, found, at, cell)?;
+                    add(self.alloc, found, at, cell)?;
                 }
             }
         }
@@ -121,7 +115,7 @@ fn in_order(alloc: Global, found: BTreeMap<Place, Cell>) -> Result<CellList, All
     ensures { IfOk result (λ list. (items_of list ≡ found.entries) × IsOrdered place_cmp found) }
 {
     let _many = found.len();
-    let mut list = CellList::new(alloc);
+    let mut list = CellList::new(alloc)?;
     for (at, cell) in found {
         list.push(at, cell)?;
     }

@@ -23,72 +23,61 @@ impl Grid {
     ///
     /// An insert, a deletion or a move of rows or columns costs the number of runs of rows that follow one another and what it
     /// loses; a dropped sheet costs its cells; a move of a block costs the number of filled cells. For want of memory the grid is as it was.
-    pub fn apply(&mut self, alloc: Global, s: &Shift) -> Result<CellList, AllocError>
+    pub fn apply(&mut self, s: &Shift) -> Result<CellList, AllocError>
         requires { IsSound s.now }
         ensures moved { OnOk result (cells_of self.new ≡ moved_map s.now (cells_of self.old)) }
         ensures removed { IfOk result (λ list. items_of list ≡ lost_entries s.now (cells_of self.old)) }
         ensures err { OnErr result (cells_of self.new ≡ cells_of self.old) }
     {
-        self.carry(alloc, s, Way::Forth)
+        self.carry(s, Way::Forth)
     }
 
     /// Takes the operation back: the removed cells come to their places, and each other cell to the place that it came from.
     ///
     /// Costs what the operation does; where cells were removed, the number of filled cells. For want of memory the grid is as it was.
-    pub fn put_back(
-        &mut self,
-        alloc: Global,
-        s: &Shift,
-        removed: CellList,
-    ) -> Result<(), AllocError>
+    pub fn put_back(&mut self, s: &Shift, removed: CellList) -> Result<(), AllocError>
         requires sound { IsSound s.now }
         requires inside { AreListedInside (items_of removed) }
         ensures restored { OnOk result (cells_of self.new ≡ restored_map s.now (items_of removed) (cells_of self.old)) }
         ensures err { OnErr result (cells_of self.new ≡ cells_of self.old) }
     {
         if removed.items().is_empty() {
-            self.carry(alloc, s, Way::Back)?;
+            self.carry(s, Way::Back)?;
             return Ok(());
         }
-        let mut next = self.copied(alloc)?;
-        next.carry(alloc, s, Way::Back)?;
+        let mut next = self.copied()?;
+        next.carry(s, Way::Back)?;
         next.fill(removed)?;
         *self = next;
         Ok(())
     }
 
     // Does the operation, or takes it back but for the cells that it removed.
-    fn carry(&mut self, alloc: Global, s: &Shift, way: Way) -> Result<CellList, AllocError>
+    fn carry(&mut self, s: &Shift, way: Way) -> Result<CellList, AllocError>
         requires { IsSound s.now }
         ensures carried { OnOk result (cells_of self.new ≡ carried_map (goes way s.now) (cells_of self.old)) }
         ensures lost { IfOk result (λ list. items_of list ≡ lost_by (goes way s.now) (cells_of self.old)) }
         ensures err { OnErr result (cells_of self.new ≡ cells_of self.old) }
     {
         match s.form() {
-            Form::Lines { sheet, axis, edit } => self.carry_lines(alloc, way, sheet, axis, edit),
-            Form::Cells { source, to } => self.carry_cells(alloc, way, source, to),
-            Form::Sheet { sheet } => self.clear(alloc, whole(sheet)),
+            Form::Lines { sheet, axis, edit } => self.carry_lines(way, sheet, axis, edit),
+            Form::Cells { source, to } => self.carry_cells(way, source, to),
+            Form::Sheet { sheet } => self.clear(whole(sheet)),
         }
     }
 
     // Moves the cells of a block over those of another.
-    fn carry_cells(
-        &mut self,
-        alloc: Global,
-        way: Way,
-        source: Block,
-        to: Place,
-    ) -> Result<CellList, AllocError>
+    fn carry_cells(&mut self, way: Way, source: Block, to: Place) -> Result<CellList, AllocError>
         requires { IsSoundForm (Cells source to) }
         ensures carried { OnOk result (cells_of self.new ≡ carried_map (form_goes way (Cells source to)) (cells_of self.old)) }
         ensures lost { IfOk result (λ list. items_of list ≡ lost_by (form_goes way (Cells source to)) (cells_of self.old)) }
         ensures err { OnErr result (cells_of self.new ≡ cells_of self.old) }
     {
         let (from, onto) = blocks(way, source, to);
-        let mut next = self.copied(alloc)?;
-        let moved = next.clear(alloc, from)?;
-        let lost = next.clear(alloc, onto)?;
-        let placed = carried(alloc, way, source, to, moved)?;
+        let mut next = self.copied()?;
+        let moved = next.clear(from)?;
+        let lost = next.clear(onto)?;
+        let placed = carried(self.alloc, way, source, to, moved)?;
         next.fill(placed)?;
         *self = next;
         Ok(lost)
@@ -147,7 +136,7 @@ fn carried(
     ensures { IfOk result (λ moved. items_of moved ≡ filter_map (carried_entry (form_goes way (Cells source to))) (items_of list)) }
 {
     let s = Shift::MoveBlock { source, to };
-    let mut moved = CellList::new(alloc);
+    let mut moved = CellList::new(alloc)?;
     for (at, cell) in list.into_items() {
         let goes = match way {
             Way::Forth => moved_place(&s, at),
