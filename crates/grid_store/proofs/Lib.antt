@@ -10,3 +10,4 @@ pub mod LostCells
 pub mod Unchanged
 pub mod Fills
 pub mod CarriedCells
+pub mod Exchanges

@@ -92,6 +92,7 @@ impl Grid {
         ensures ok { OnOk result (cells_of self.new ≡ map.insert (cells_of self.old) at cell) }
         ensures err { OnErr result (cells_of self.new ≡ cells_of self.old) }
         ensures filled { IsSome (map.get (cells_of self.old) at) → IsOk result }
+        ensures lines { KeepsLines self.old self.new }
     {
         let Some(key) = self.key(at) else {
             return Err(AllocError);

@@ -15,6 +15,7 @@ mod cell;
 mod change;
 mod clearing;
 mod copy;
+mod exchange;
 mod grid;
 mod key;
 mod list;
