@@ -11,3 +11,4 @@ pub mod Unchanged
 pub mod Fills
 pub mod CarriedCells
 pub mod Exchanges
+pub mod SameKeys

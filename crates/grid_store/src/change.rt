@@ -41,8 +41,9 @@ impl Grid {
     }
 
     // Keeps room for another table of the sheet's lines.
-    fn reserve(&mut self, axis: Axis, sheet: u32) -> Result<(), AllocError>
+    pub(crate) fn reserve(&mut self, axis: Axis, sheet: u32) -> Result<(), AllocError>
         ensures cells { cells_of self.new ≡ cells_of self.old }
+        ensures keys { self.new.cells ≡ self.old.cells }
         ensures room { OnOk result (HasRoom (along axis self.new.rows self.new.cols) sheet) }
     {
         match axis {
@@ -52,7 +53,13 @@ impl Grid {
     }
 
     // The sheet's lines after the edit.
-    fn renewed(&self, way: Way, sheet: u32, axis: Axis, edit: Edit) -> Result<LineTable, AllocError>
+    pub(crate) fn renewed(
+        &self,
+        way: Way,
+        sheet: u32,
+        axis: Axis,
+        edit: Edit,
+    ) -> Result<LineTable, AllocError>
         requires { IsSoundEdit (limit_of axis) edit }
         ensures { IfOk result (AreRenewed (line_goes (turned way) (limit_of axis) edit) (table_of (along axis self.now.rows self.now.cols) sheet)) }
     {
@@ -86,12 +93,13 @@ impl Grid {
     }
 
     // Puts the lines after the edit in place of those before it.
-    fn renew(&mut self, way: Way, sheet: u32, axis: Axis, edit: Edit, table: LineTable)
+    pub(crate) fn renew(&mut self, way: Way, sheet: u32, axis: Axis, edit: Edit, table: LineTable)
         requires sound { IsSoundEdit (limit_of axis) edit }
         requires room { HasRoom (along axis self.old.rows self.old.cols) sheet }
         requires renewed { AreRenewed (line_goes (turned way) (limit_of axis) edit) (table_of (along axis self.old.rows self.old.cols) sheet) table }
         requires kept { (p : Place) → IsSome (map.get (cells_of self.old) p) → IsSome (form_goes way (Lines sheet axis edit) p) }
-        ensures { cells_of self.new ≡ carried_map (form_goes way (Lines sheet axis edit)) (cells_of self.old) }
+        ensures carried { cells_of self.new ≡ carried_map (form_goes way (Lines sheet axis edit)) (cells_of self.old) }
+        ensures keys { self.new.cells ≡ self.old.cells }
     {
         match axis {
             Axis::Rows => self.rows.replace(sheet, table),

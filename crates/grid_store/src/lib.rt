@@ -22,6 +22,7 @@ mod list;
 mod listing;
 mod moving;
 mod pushing;
+mod restoring;
 #[cfg(test)]
 mod tests;
 mod way;

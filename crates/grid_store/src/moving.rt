@@ -1,11 +1,9 @@
 // Blocks of cells that are moved, and all structural operations on the grid.
 ghost use Rattle.std.specs.Prelude.{◌≡◌, ◌++◌, IfOk, OnOk, OnErr, filter, filter_map, map, not};
-ghost use Rattle.cell_addr.specs.Axis.{limit_of};
 ghost use Rattle.cell_addr.specs.Place.{covers};
-ghost use Rattle.shift_core.specs.Lines.{IsSoundEdit};
 ghost use Rattle.shift_core.specs.Maps.{lost_entries, moved_map, restored_map};
 ghost use Rattle.shift_core.specs.Sound.{IsSound, IsSoundForm};
-ghost use Rattle.shift_core.specs.declared.form.Form.TheVariants.{Cells, Lines};
+ghost use Rattle.shift_core.specs.declared.form.Form.TheVariants.{Cells};
 ghost use Rattle.grid_store.specs.declared.way.Way.TheVariants.{Back};
 ghost use Rattle.grid_store.specs.Grid.{AreListedInside, cells_of, items_of};
 ghost use Rattle.grid_store.specs.internal.Lists.{AreEachInside, carried_entry, with_entries};
@@ -15,8 +13,8 @@ use crate::change::whole;
 use crate::grid::Grid;
 use crate::list::CellList;
 use crate::way::Way;
-use cell_addr::{Axis, Block, Place};
-use shift_core::{Edit, Form, Shift, back_place, moved_place};
+use cell_addr::{Block, Place};
+use shift_core::{Form, Shift, back_place, moved_place};
 use std::alloc::{AllocError, Global};
 
 impl Grid {
@@ -42,7 +40,9 @@ impl Grid {
 
     /// Takes the operation back: the removed cells come to their places, and each other cell to the place that it came from.
     ///
-    /// Costs what the operation does; where cells were removed, the number of filled cells. For want of memory the grid is as it was.
+    /// Costs what the operation does, the cells that are put back, and where there are some the runs of lines of all sheets. Where cells
+    /// stand that an edit of lines loses as it is taken back, of which an operation leaves none, it costs the number of filled cells.
+    /// For want of memory the grid is as it was.
     pub fn put_back(&mut self, s: &Shift, removed: CellList) -> Result<(), AllocError>
         requires sound { IsSound s.now }
         requires inside { AreListedInside (items_of removed) }
@@ -71,26 +71,6 @@ impl Grid {
                 self.exchange(&emptied, removed)
             }
         }
-    }
-
-    // Takes an edit of lines back, and puts the removed cells over what stands then.
-    fn restore_lines(
-        &mut self,
-        sheet: u32,
-        axis: Axis,
-        edit: Edit,
-        removed: CellList,
-    ) -> Result<(), AllocError>
-        requires sound { IsSoundEdit (limit_of axis) edit }
-        requires inside { AreEachInside (items_of removed) }
-        ensures restored { OnOk result (cells_of self.new ≡ with_entries (items_of removed) (carried_map (form_goes Back (Lines sheet axis edit)) (cells_of self.old))) }
-        ensures err { OnErr result (cells_of self.new ≡ cells_of self.old) }
-    {
-        let mut next = self.copied()?;
-        next.carry_lines(Way::Back, sheet, axis, edit)?;
-        next.exchange(&[], removed)?;
-        *self = next;
-        Ok(())
     }
 
     // Moves the cells of a block over those of another, and puts more cells over what stands then.

@@ -5,7 +5,6 @@ ghost use Rattle.cell_addr.specs.declared.place.Place.{Place};
 ghost use Rattle.shift_core.specs.declared.form.Form.TheVariants.{Lines};
 ghost use Rattle.stable_lines.specs.Sheets.{table_of};
 ghost use Rattle.grid_store.specs.Grid.{HasAny, PushesEntryOff, cells_of};
-ghost use Rattle.grid_store.specs.declared.way.Way.TheVariants.{Forth};
 ghost use Rattle.grid_store.specs.internal.Listing.{AreLinesAt, HasNone};
 ghost use Rattle.grid_store.specs.internal.Ways.{form_goes};
 
@@ -28,16 +27,16 @@ impl Grid {
                 sheet,
                 axis,
                 edit: Edit::Insert { at, count },
-            } => self.loses_any(sheet, axis, Edit::Insert { at, count }),
+            } => self.loses_any(Way::Forth, sheet, axis, Edit::Insert { at, count }),
             _ => false,
         }
     }
 
-    // Whether the edit loses a filled cell.
-    fn loses_any(&self, sheet: u32, axis: Axis, edit: Edit) -> bool
-        ensures { IsTrue result ↔ ((p : Place) × IsSome (map.get (cells_of self.now) p) × (form_goes Forth (Lines sheet axis edit) p ≡ None)) }
+    // Whether the edit loses a filled cell on this way.
+    pub(crate) fn loses_any(&self, way: Way, sheet: u32, axis: Axis, edit: Edit) -> bool
+        ensures { IsTrue result ↔ ((p : Place) × IsSome (map.get (cells_of self.now) p) × (form_goes way (Lines sheet axis edit) p ≡ None)) }
     {
-        match lost_lines(Way::Forth, edit, axis.limit()) {
+        match lost_lines(way, edit, axis.limit()) {
             Some(span) => self.has_any(whole(sheet).with_span(axis, span)),
             None => false,
         }
