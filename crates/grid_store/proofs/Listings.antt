@@ -143,33 +143,10 @@ module _ (rows cols : SheetLines) (es : List (CellKey × Cell)) (area : Block) (
         | inr h ↦ cc
       ]
 
--- the first key on some lines of a sheet, and the first past them
-abbrev pub first_on : ℕ → Run → CellKey
-first_on sheet lines = record { sheet = sheet; row = lines.to; col = 0 }
-
-abbrev pub end_on : ℕ → Run → CellKey
-end_on sheet lines = record { sheet = sheet; row = lines.to + lines.count; col = 0 }
-
-from_first : (sheet a r c s : ℕ) → s ≡ sheet → a ≤ r → is_le (ordering_then (nat_cmp sheet s) (ordering_then (nat_cmp a r) (nat_cmp 0 c))) ≡ true
-from_first sheet a r c s e le = grind (arith, nat_tests)
-
-before_end : (sheet b r c s : ℕ) → s ≡ sheet → r < b → is_le (ordering_then (nat_cmp sheet s) (ordering_then (nat_cmp b r) (nat_cmp 0 c))) ≡ false
-before_end sheet b r c s e lt = grind (arith, nat_tests)
-
 both : (a b : Bool) → a ≡ true → b ≡ false → (a && not b) ≡ true
 both true false e f = refl
 both true true e f = cc
 both false b e f = cc
-
-on_range : (sheet : ℕ) (lines : Run) (k : CellKey) → IsOn sheet lines k → range_contains key_cmp (Included (first_on sheet lines)) (Excluded (end_on sheet lines)) k ≡ true
-on_range sheet lines k on = both _ _ (from_first sheet lines.to k.row k.col k.sheet on.0 on.1) (before_end sheet (lines.to + lines.count) k.row k.col k.sheet on.0 on.2)
-
--- the keys on some lines are those of their range
-pub kept_on : (sheet : ℕ) (lines : Run) (es : List (CellKey × Cell)) (k : CellKey) → IsOn sheet lines k
-    → kept (entries_between key_cmp (Included (first_on sheet lines)) (Excluded (end_on sheet lines)) es) k ≡ kept es k
-kept_on sheet lines es k on =
-    lookup-filter-keys (is_at (key_cmp k)) (range_contains key_cmp (Included (first_on sheet lines)) (Excluded (end_on sheet lines))) true
-    (λ l same. ap (range_contains key_cmp (Included (first_on sheet lines)) (Excluded (end_on sheet lines))) (sym (same_key_test k l same)) ∙ on_range sheet lines k on) es
 
 values_only : (lo hi : Bound CellKey) (m : BTreeMap CellKey Cell) (rest : List (CellKey × Cell)) → AllByRecursion (IsEntryInRange key_cmp lo hi m) rest → AllByRecursion (λ e. kept m.entries e.0 ≡ Some e.1) rest
 values_only lo hi m [] h = tt
@@ -309,16 +286,16 @@ seen_below rows cols es rl cl sheet row past q some =
     ]
 
 -- keys on some lines gone through, none of which is in the block
-pub record Search (rows cols : SheetLines) (es : List (CellKey × Cell)) (area : Block) (lines : Run) (rest : List (CellKey × Cell)) : Type 0 where
+pub record Search (rows cols : SheetLines) (es : List (CellKey × Cell)) (area : Block) (row : ℕ) (lines : Run) (rest : List (CellKey × Cell)) : Type 0 where
   pub entries : AllByRecursion (λ e. kept es e.0 ≡ Some e.1) rest
-  pub pending : (k : CellKey) (q : Place) → IsSome (kept es k) → IsOn area.sheet lines k → place_at rows cols k ≡ Some q → covers area q ≡ true → IsSome (kept rest k)
+  pub pending : (k : CellKey) (q : Place) → IsSome (kept es k) → IsIn area.sheet row lines k → place_at rows cols k ≡ Some q → covers area q ≡ true → IsSome (kept rest k)
 
-pub search_begun : (rows cols : SheetLines) (m : BTreeMap CellKey Cell) (area : Block) (lines : Run) (range rest : List (CellKey × Cell))
-    → rest ≡ range → range ≡ entries_between key_cmp (Included (first_on area.sheet lines)) (Excluded (end_on area.sheet lines)) m.entries
-    → All (IsEntryInRange key_cmp (Included (first_on area.sheet lines)) (Excluded (end_on area.sheet lines)) m) range → Search rows cols m.entries area lines rest
-search_begun rows cols m area lines range rest same between all = record {
-  entries = subst (AllByRecursion (λ e. kept m.entries e.0 ≡ Some e.1)) (sym same) (values_only (Included (first_on area.sheet lines)) (Excluded (end_on area.sheet lines)) m range (recursion_from_All (IsEntryInRange key_cmp (Included (first_on area.sheet lines)) (Excluded (end_on area.sheet lines)) m) range all));
-  pending = λ k q some on at there. subst IsSome (sym (ap (λ r. kept r k) (same ∙ between) ∙ kept_on area.sheet lines m.entries k on)) some;
+pub search_begun : (rows cols : SheetLines) (m : BTreeMap CellKey Cell) (area : Block) (row : ℕ) (lines : Run) (range rest : List (CellKey × Cell))
+    → rest ≡ range → range ≡ entries_between key_cmp (Included (first_in area.sheet row lines)) (Excluded (end_in area.sheet row lines)) m.entries
+    → All (IsEntryInRange key_cmp (Included (first_in area.sheet row lines)) (Excluded (end_in area.sheet row lines)) m) range → Search rows cols m.entries area row lines rest
+search_begun rows cols m area row lines range rest same between all = record {
+  entries = subst (AllByRecursion (λ e. kept m.entries e.0 ≡ Some e.1)) (sym same) (values_only (Included (first_in area.sheet row lines)) (Excluded (end_in area.sheet row lines)) m range (recursion_from_All (IsEntryInRange key_cmp (Included (first_in area.sheet row lines)) (Excluded (end_in area.sheet row lines)) m) range all));
+  pending = λ k q some on at there. subst IsSome (sym (ap (λ r. kept r k) (same ∙ between) ∙ kept_in area.sheet row lines m.entries k on)) some;
 }
 
 next_pending : (rows cols : SheetLines) (area : Block) (e : CellKey × Cell) (rest : List (CellKey × Cell)) (k : CellKey) (q : Place) (b : Bool) → is_at (key_cmp k) e.0 ≡ b → (place_at rows cols e.0 ≡ Some q → covers area q ≡ true → ⊥)
@@ -326,20 +303,27 @@ next_pending : (rows cols : SheetLines) (area : Block) (e : CellKey × Cell) (re
 next_pending rows cols area e rest k q true same out at there some = absurd (out (ap (place_at rows cols) (sym (same_key_test k e.0 same)) ∙ at) there)
 next_pending rows cols area e rest k q false same out at there some = some
 
-pub search_on : (rows cols : SheetLines) (es : List (CellKey × Cell)) (area : Block) (lines : Run) (e : CellKey × Cell) (rest : List (CellKey × Cell)) → Search rows cols es area lines (e ∷ rest)
-    → ((q : Place) → place_at rows cols e.0 ≡ Some q → covers area q ≡ true → ⊥) → Search rows cols es area lines rest
-search_on rows cols es area lines e rest s out = record {
+pub search_on : (rows cols : SheetLines) (es : List (CellKey × Cell)) (area : Block) (row : ℕ) (lines : Run) (e : CellKey × Cell) (rest : List (CellKey × Cell)) → Search rows cols es area row lines (e ∷ rest)
+    → ((q : Place) → place_at rows cols e.0 ≡ Some q → covers area q ≡ true → ⊥) → Search rows cols es area row lines rest
+search_on rows cols es area row lines e rest s out = record {
   entries = s.entries.1;
   pending = λ k q some on at there. next_pending rows cols area e rest k q (is_at (key_cmp k) e.0) refl (out q) at there (s.pending k q some on at there);
 }
 
-pub search_hit : (rows cols : SheetLines) (es : List (CellKey × Cell)) (area : Block) (lines : Run) (e : CellKey × Cell) (rest : List (CellKey × Cell)) (at : Place) → Search rows cols es area lines (e ∷ rest)
+pub search_hit : (rows cols : SheetLines) (es : List (CellKey × Cell)) (area : Block) (row : ℕ) (lines : Run) (e : CellKey × Cell) (rest : List (CellKey × Cell)) (at : Place) → Search rows cols es area row lines (e ∷ rest)
     → place_at rows cols e.0 ≡ Some at → covers area at ≡ true → HasAny area (seen rows cols es)
-search_hit rows cols es area lines e rest at s here there = (at, there, ap is_some (get-seen_at rows cols es at e.0 (key_of_place rows cols e.0 at here) ∙ s.entries.0))
+search_hit rows cols es area row lines e rest at s here there = (at, there, ap is_some (get-seen_at rows cols es at e.0 (key_of_place rows cols e.0 at here) ∙ s.entries.0))
 
-pub search_over : (rows cols : SheetLines) (es : List (CellKey × Cell)) (area : Block) (lines : Run) → Search rows cols es area lines [] → AreLinesAt (table_of rows area.sheet) lines → HasNone area (seen rows cols es) lines.from (lines.from + lines.count)
-search_over rows cols es area lines s lines_at q there some low high =
-    let c = Covers-from_covers area q there in
+pub search_over : (rows cols : SheetLines) (es : List (CellKey × Cell)) (area : Block) (row : ℕ) (lines : Run) → Search rows cols es area row lines [] → AreLinesAt (table_of cols area.sheet) lines
+    → (k : CellKey) (q : Place) → IsSome (kept es k) → k.row ≡ row → place_at rows cols k ≡ Some q → covers area q ≡ true → lines.from ≤ q.col → q.col < lines.from + lines.count → ⊥
+search_over rows cols es area row lines s lines_at k q some on at there low high =
+    let left = s.pending k q some (in_lines rows cols area row lines q k lines_at (Covers-from_covers area q there) (key_of_place rows cols k q at) on low high) at there in cc
+
+-- where no cell on the lines of some rows is in the block, none of the rows' is
+pub rows_none : (rows cols : SheetLines) (es : List (CellKey × Cell)) (area : Block) (lines : Run) → AreLinesAt (table_of rows area.sheet) lines
+    → ((k : CellKey) (q : Place) → IsSome (kept es k) → place_at rows cols k ≡ Some q → covers area q ≡ true → lines.to ≤ k.row → k.row < lines.to + lines.count → ⊥)
+    → HasNone area (seen rows cols es) lines.from (lines.from + lines.count)
+rows_none rows cols es area lines lines_at h q there some low high =
     let w = key_of_seen rows cols es q some in
-    let on = on_lines rows cols area lines q w.0 lines_at c w.1 low high in
-    let left = s.pending w.0 q w.2 on (place_of_key rows cols q w.0 w.1) there in cc
+    let on = on_lines rows cols area lines q w.0 lines_at (Covers-from_covers area q there) w.1 low high in
+    h w.0 q w.2 (place_of_key rows cols q w.0 w.1) there on.1 on.2

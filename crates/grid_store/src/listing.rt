@@ -84,7 +84,7 @@ impl Grid {
     }
 
     // The first of the sheet's lines of rows, from `row` to before `end`, that holds a cell.
-    fn filled_line(&self, sheet: u32, row: u64, end: u64) -> Option<u64>
+    pub(crate) fn filled_line(&self, sheet: u32, row: u64, end: u64) -> Option<u64>
         requires { row ≤ end }
         ensures within { IfSome result (λ line. (row ≤ line) × (line < end)) }
         ensures before { IfSome result (KeepsNone self.now sheet row) }

@@ -36,6 +36,10 @@ impl Grid {
         ensures restored { OnOk result (cells_of self.new ≡ with_entries (items_of removed) (carried_map (form_goes Back (Lines sheet axis edit)) (cells_of self.old))) }
         ensures err { OnErr result (cells_of self.new ≡ cells_of self.old) }
     {
+        if removed.items().is_empty() {
+            self.carry_lines(Way::Back, sheet, axis, edit)?;
+            return Ok(());
+        }
         if !self.loses_any(Way::Back, sheet, axis, edit) {
             return self.restore_in_place(sheet, axis, edit, removed);
         }

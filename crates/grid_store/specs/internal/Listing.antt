@@ -54,3 +54,12 @@ HasCols g area row low high found =
 -- no cell is kept on the sheet's lines of rows from `low` to before `high`
 abbrev pub KeepsNone : Grid → ℕ → ℕ → ℕ → Type 0
 KeepsNone g sheet low high = (k : CellKey) → IsSome (tree.get key_cmp g.cells k) → k.sheet ≡ sheet → low ≤ k.row → k.row < high → ⊥
+
+-- no cell of the block is on lines of rows from `low` to before `high`
+abbrev pub LacksLines : Grid → Block → ℕ → ℕ → Type 0
+LacksLines g area low high = (k : CellKey) (q : Place) → IsSome (tree.get key_cmp g.cells k) → place_at g.rows g.cols k ≡ Some q → covers area q ≡ true → low ≤ k.row → k.row < high → ⊥
+
+-- no cell of the block is on one line of rows, in the columns from `low` to before `high`
+abbrev pub LacksCols : Grid → Block → ℕ → ℕ → ℕ → Type 0
+LacksCols g area row low high =
+    (k : CellKey) (q : Place) → IsSome (tree.get key_cmp g.cells k) → k.row ≡ row → place_at g.rows g.cols k ≡ Some q → covers area q ≡ true → low ≤ q.col → q.col < high → ⊥
