@@ -25,15 +25,12 @@ module _ {X : Type 0} where
   -- a filter of a filter, where what passes the one passes the other
   filter_inner : (p q : X → Bool) (xs : List X) → All (λ x. p x ≡ true → q x ≡ true) xs → filter p (filter q xs) ≡ filter p xs
   filter_inner p q [] both = refl
-  filter_inner p q (x ∷ xs) both = go (q x) refl (p x) refl
+  filter_inner p q (x ∷ xs) both = go (filter_inner p q xs (All-tail (λ y. p y ≡ true → q y ≡ true) x xs both)) (q x) refl (p x) refl
     where
-      rest : filter p (filter q xs) ≡ filter p xs
-      rest = filter_inner p q xs (All-tail (λ y. p y ≡ true → q y ≡ true) x xs both)
-
-      go : (s : Bool) → q x ≡ s → (t : Bool) → p x ≡ t → filter p (cond s (x ∷ filter q xs) (filter q xs)) ≡ cond (p x) (x ∷ filter p xs) (filter p xs)
-      go true is t at = ap (λ ys. cond (p x) (x ∷ ys) ys) rest
-      go false is true at = absurd (false≢true (sym is ∙ All-head (λ y. p y ≡ true → q y ≡ true) x xs both at))
-      go false is false at = rest ∙ sym (ap (λ t. cond t (x ∷ filter p xs) (filter p xs)) at)
+      go : (rest : filter p (filter q xs) ≡ filter p xs) → (s : Bool) → q x ≡ s → (t : Bool) → p x ≡ t → filter p (cond s (x ∷ filter q xs) (filter q xs)) ≡ cond (p x) (x ∷ filter p xs) (filter p xs)
+      go rest true is t at = ap (λ ys. cond (p x) (x ∷ ys) ys) rest
+      go rest false is true at = absurd (false≢true (sym is ∙ All-head (λ y. p y ≡ true → q y ≡ true) x xs both at))
+      go rest false is false at = rest ∙ sym (ap (λ t. cond t (x ∷ filter p xs) (filter p xs)) at)
 
   -- a filter that all pass
   filter_all : (p : X → Bool) (xs : List X) → All (λ x. p x ≡ true) xs → filter p xs ≡ xs
@@ -52,16 +49,13 @@ module _ {X : Type 0} where
 
   filter_short : (p : X → Bool) (xs : List X) → length (filter p xs) ≤ length xs
   filter_short p [] = omega arith
-  filter_short p (x ∷ xs) = go (p x)
+  filter_short p (x ∷ xs) = go (p x) (filter_short p xs)
     where
-      rest : length (filter p xs) ≤ length xs
-      rest = filter_short p xs
+      go : (t : Bool) → length (filter p xs) ≤ length xs → length (cond t (x ∷ filter p xs) (filter p xs)) ≤ length (x ∷ xs)
+      go true rest = omega (arith, rest)
+      go false rest = omega (arith, rest)
 
-      go : (t : Bool) → length (cond t (x ∷ filter p xs) (filter p xs)) ≤ length (x ∷ xs)
-      go true = let r = rest in omega (arith, r)
-      go false = let r = rest in omega (arith, r)
-
-abbrev Entries : Type 0
+abbrev pub Entries : Type 0
 Entries = List (Place × ℕ)
 
 -- the entry is at the place or after it, and the block covers it
@@ -93,13 +87,13 @@ from_on p q r h k = grind (arith, nat_tests)
 from_less : (p q : Place) → place_cmp p q ≡ Less → is_le (place_cmp p q) ≡ true
 from_less p q h = ap is_le h
 
-keys-filter : (test : Place → Bool) (es : Entries) → keys_of (filter (λ e. test e.0) es) ≡ filter test (keys_of es)
+pub keys-filter : (test : Place → Bool) (es : Entries) → keys_of (filter (λ e. test e.0) es) ≡ filter test (keys_of es)
 keys-filter test [] = refl
-keys-filter test (e ∷ es) = go (test e.0)
+keys-filter test (e ∷ es) = go (keys-filter test es) (test e.0)
   where
-    go : (t : Bool) → keys_of (cond t (e ∷ filter (λ x. test x.0) es) (filter (λ x. test x.0) es)) ≡ cond t (e.0 ∷ filter test (keys_of es)) (filter test (keys_of es))
-    go true = ap (λ ks. e.0 ∷ ks) (keys-filter test es)
-    go false = keys-filter test es
+    go : keys_of (filter (λ x. test x.0) es) ≡ filter test (keys_of es) → (t : Bool) → keys_of (cond t (e ∷ filter (λ x. test x.0) es) (filter (λ x. test x.0) es)) ≡ cond t (e.0 ∷ filter test (keys_of es)) (filter test (keys_of es))
+    go rest true = ap (λ ks. e.0 ∷ ks) rest
+    go rest false = rest
 
 module _ (es : Entries) (sorted : IsStrictlySortedBy place_cmp (keys_of es)) where
   -- what stands behind the first of those from a place on is after it

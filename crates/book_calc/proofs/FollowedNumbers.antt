@@ -17,7 +17,7 @@ use Rattle.book_values.specs.Values.{network}
 use Rattle.book_values.specs.Workbook.{Node, Workbook, home_of, needs, place, tree_at, tree_needs}
 use Rattle.book_calc.specs.internal.Numbers.{NumbersAll, needed_by, needs_in, node_at, nodes_in, number_of, origin}
 use Rattle.book_calc.specs.declared.nodes.Nodes.{Nodes}
-use Rattle.book_calc.proofs.NameEntries.{AreApart}
+use Rattle.book_calc.specs.Names.{AreApart}
 use Rattle.book_calc.proofs.NeededNodes.{listed_is_needed, needed_is_listed}
 use Rattle.book_calc.proofs.NumberedNodes.{no_formula, node_of_number, number_of_node}
 

@@ -1,12 +1,15 @@
 -- The names of a workbook in order: what stands under a name, where it stands, and a name put among them. Serves the
 -- table of names, and the numbers of nodes.
 use Rattle.std.proofs.Common.{◌≡◌, ◌∙◌, sym, ap, ap₂, refl, arith, ℕ, zero, suc, ◌+◌, ◌<◌, Bool, true, false, cond, not, List, [], ◌∷◌, map, length, get_or, Option, Some, None, option_map, option_and_then, ⊎_elim, ◌⊎◌, ltb, subst, pos}
-use Rattle.std.specs.Prelude.{position, is_some}
-use Rattle.std.specs.List.{IsDistinct, list_any, position_or_len}
+use Rattle.std.specs.Prelude.{position, is_some, slice_get}
+use Rattle.std.proofs.lemmas.Option.{get_or_from_slice_get, slice_get_within}
+use Rattle.formula_tree.specs.declared.reference.Home.{Home}
+use Rattle.std.specs.List.{AllByRecursion, IsDistinct, position_or_len}
 use Rattle.std.specs.Option.{option_or}
 use Rattle.std.specs.declared.alloc.Global.{Global}
 use Rattle.std.specs.declared.rc.Rc.{Rc}
 use Rattle.std.proofs.lemmas.Bool.{cases_order, false≢true}
+use Rattle.std.proofs.lemmas.Bool.Decides.{nat_tests}
 use Rattle.std.proofs.lemmas.List.{get_or-map, length-map}
 use Rattle.std.proofs.lemmas.Map.Keys.{apart_from_distinct}
 use Rattle.cell_addr.specs.Text.{folded}
@@ -19,7 +22,7 @@ use Rattle.indexmap.specs.IndexMap.{insert_entry}
 use Rattle.book_values.proofs.Keys.{same_key-equal, same_key-self}
 use Rattle.book_values.specs.Names.{Key, Names, found, key_of, same_key, tree_in}
 use Rattle.book_values.specs.Workbook.{home_of, name}
-use Rattle.book_calc.specs.Names.{index_found, index_in, named, with_name}
+use Rattle.book_calc.specs.Names.{AreApart, index_found, index_in, named, with_name}
 use Rattle.book_calc.specs.internal.Keys.{key_in, keys_alike}
 use Rattle.book_calc.specs.declared.name_key.NameKey.{NameKey}
 
@@ -49,17 +52,23 @@ named-insert (e ∷ es) k tree =
       (named e ∷ with_name (map named es) (key_in k) (tree_for (key_in k) tree))
       refl (ap (λ rest. named e ∷ rest) (named-insert es k tree)) (map named es)
 
+position-later : (t : Bool) (n : ℕ) → cond t (Some (suc n)) None ≡ option_map suc (cond t (Some n) None)
+position-later true n = refl
+position-later false n = refl
+
+below-later : (n len : ℕ) → ltb (suc n) (suc len) ≡ ltb n len
+below-later n len = grind (arith, nat_tests)
+
+below-first : (len : ℕ) → ltb 0 (suc len) ≡ true
+below-first len = grind (arith, nat_tests)
+
+position-here : (b : Bool) (n len : ℕ) → cond (ltb (cond (not b) (1 + n) 0) (suc len)) (Some (cond (not b) (1 + n) 0)) None ≡ cond b (Some 0) (option_map suc (cond (ltb n len) (Some n) None))
+position-here true n len = ap (λ t. cond t (Some 0) None) (below-first len)
+position-here false n len =
+    let one : 1 + n ≡ suc n = omega arith in
+    ap (λ k. cond (ltb k (suc len)) (Some k) None) one ∙ ap (λ t. cond t (Some (suc n)) None) (below-later n len) ∙ position-later (ltb n len) n
+
 module _ {X : Type 0} where
-  position-later : (t : Bool) (n : ℕ) → cond t (Some (suc n)) None ≡ option_map suc (cond t (Some n) None)
-  position-later true n = refl
-  position-later false n = refl
-
-  position-here : (b : Bool) (n len : ℕ) → cond (ltb (cond (not b) (1 + n) 0) (suc len)) (Some (cond (not b) (1 + n) 0)) None ≡ cond b (Some 0) (option_map suc (cond (ltb n len) (Some n) None))
-  position-here true n len = refl
-  position-here false n len =
-      let one : 1 + n ≡ suc n = omega arith in
-      ap (λ k. cond (ltb k (suc len)) (Some k) None) one ∙ position-later (ltb n len) n
-
   -- the place of the first item that passes, from the front
   pub position-cons : (p : X → Bool) (x : X) (xs : List X) → position p (x ∷ xs) ≡ cond (p x) (Some 0) (option_map suc (position p xs))
   position-cons p x xs = position-here (p x) (position_or_len p xs) (length xs)
@@ -137,8 +146,10 @@ has_tree names key = go (index_in names key) refl
 pub index-found : (names : Names) (word : List ℕ) (sheet : ℕ) → index_found names word sheet ≡ option_and_then (index_in names) (found names word sheet)
 index-found names word sheet = go (index_in names own) (index_in names global) refl refl
   where
-    own global : Key
+    own : Key
     own = key_of (Some sheet) word
+
+    global : Key
     global = key_of None word
 
     go : (a b : Option ℕ) → index_in names own ≡ a → index_in names global ≡ b
@@ -161,11 +172,21 @@ found_alike names v w sheet same =
     ap (λ x. cond (is_some (tree_in names (record { scope = Some sheet; word = x }))) (Some (record { scope = Some sheet; word = x }))
     (cond (is_some (tree_in names (record { scope = None; word = x }))) (Some (record { scope = None; word = x })) None)) same
 
--- no name stands twice among the names
-abbrev pub AreApart : Names → Type 0
-AreApart names = IsDistinct same_key (map (λ e. e.0) names)
+here_passes : (b : Bool) (o : Option ℕ) → b ≡ true → cond b (Some 0) o ≡ None → ⊥
+here_passes true o is h = cc
+here_passes false o is h = absurd (false≢true is)
 
--- so each name stands where it is found
+later_passes : (b : Bool) (o : Option ℕ) → (o ≡ None → ⊥) → cond b (Some 0) (option_map suc o) ≡ None → ⊥
+later_passes true o found h = cc
+later_passes false None found h = found refl
+later_passes false (Some j) found h = cc
+
+none_passes : (names : Names) (i : ℕ) (d : Key × Term Corner) → i < length names → index_in names (get_or names i d).0 ≡ None → ⊥
+none_passes [] i d low none = absurd (omega arith)
+none_passes (e ∷ es) zero d low none = here_passes (same_key e.0 e.0) (option_map suc (index_in es e.0)) (same_key-self e.0) (sym (index-cons e es e.0) ∙ none)
+none_passes (e ∷ es) (suc i) d low none = later_passes (same_key (get_or es i d).0 e.0) (index_in es (get_or es i d).0) (none_passes es i d (omega arith)) (sym (index-cons e es (get_or es i d).0) ∙ none)
+
+-- each name stands where it is found
 pub index_of_each : (names : Names) (k : ℕ) (d : Key × Term Corner) → AreApart names → k < length names → index_in names (get_or names k d).0 ≡ Some k
 index_of_each names k d apart inside = go (index_in names key) refl
   where
@@ -183,21 +204,7 @@ index_of_each names k d apart inside = go (index_in names key) refl
         ∙ ap (same_key (get_or names i d).0) (sym same) ∙ same_key-self (get_or names i d).0)
 
     go : (o : Option ℕ) → index_in names key ≡ o → o ≡ Some k
-    go None at = absurd (none_passes names k inside at)
-      where
-        none_passes : (es : Names) (i : ℕ) → i < length es → index_in es (get_or es i d).0 ≡ None → ⊥
-        none_passes [] i low none = absurd (omega arith)
-        none_passes (e ∷ es) zero low none = here (same_key e.0 e.0) (same_key-self e.0) (sym (index-cons e es e.0) ∙ none)
-          where
-            here : (b : Bool) → b ≡ true → cond b (Some 0) (option_map suc (index_in es e.0)) ≡ None → ⊥
-            here true is h = cc
-            here false is h = absurd (false≢true is)
-        none_passes (e ∷ es) (suc i) low none = later (same_key (get_or es i d).0 e.0) (index_in es (get_or es i d).0) refl (sym (index-cons e es (get_or es i d).0) ∙ none)
-          where
-            later : (b : Bool) (o : Option ℕ) → index_in es (get_or es i d).0 ≡ o → cond b (Some 0) (option_map suc o) ≡ None → ⊥
-            later true o is h = cc
-            later false None is h = none_passes es i (omega arith) is
-            later false (Some j) is h = cc
+    go None at = absurd (none_passes names k d inside at)
     go (Some j) at =
         let there = stands_at names key j at in
         let same = there.is d in
@@ -208,3 +215,38 @@ index_of_each names k d apart inside = go (index_in names key) refl
         (λ (high : k < j). absurd (differ k j high there.inside (sym same)))
         rest)
         (cases_order j k)
+
+-- no name stands twice in a table
+pub apart-from_table : (es : List (NameKey × Rc Node Global)) → IsDistinct (λ a b. same_key (key_in a) (key_in b)) (map (λ e. e.0) es) → AreApart (map named es)
+unfolding IsDistinct
+apart-from_table [] h = h
+apart-from_table (e ∷ es) h = (rest_differ es h.0, apart-from_table es h.1)
+  where
+    rest_differ : (xs : List (NameKey × Rc Node Global)) → AllByRecursion (λ k. same_key (key_in e.0) (key_in k) ≡ false) (map (λ x. x.0) xs) → AllByRecursion (λ k. same_key (key_in e.0) k ≡ false) (map (λ x. x.0) (map named xs))
+    rest_differ [] all = all
+    rest_differ (x ∷ xs) all = (all.0, rest_differ xs all.1)
+
+-- the tree of each name is that under the name
+pub own_trees : (names : Names) → AreApart names → (k : ℕ) → option_map (λ (entry : Key × Term Corner). entry.1) (slice_get names k) ≡ option_and_then (λ (entry : Key × Term Corner). tree_in names entry.0) (slice_get names k)
+own_trees names apart k = go (slice_get names k) refl
+  where
+    go : (o : Option (Key × Term Corner)) → slice_get names k ≡ o → option_map (λ (entry : Key × Term Corner). entry.1) o ≡ option_and_then (λ (entry : Key × Term Corner). tree_in names entry.0) o
+    go None at = refl
+    go (Some e) at =
+        let inside = slice_get_within names k e at in
+        let is = get_or_from_slice_get names k e no_name at in
+        sym (ap (λ (x : Key × Term Corner). tree_in names x.0) (sym is)
+        ∙ (stands_at names (get_or names k no_name).0 k (index_of_each names k no_name apart inside)).tree no_name ∙ ap (λ (x : Key × Term Corner). Some x.1) is)
+
+-- each entry that is there has its tree
+pub entry_tree : (names : Names) (k : ℕ) (home : Home) (t : Term Corner) → Some home ≡ option_map (λ (entry : Key × Term Corner). home_of (name entry.0)) (slice_get names k)
+    → Some t ≡ option_and_then (λ (entry : Key × Term Corner). tree_in names entry.0) (slice_get names k)
+    → (entry : Key × Term Corner) × (slice_get names k ≡ Some entry) × (home ≡ home_of (name entry.0)) × (tree_in names entry.0 ≡ Some t)
+entry_tree names k home t h is = go (slice_get names k) refl h is
+  where
+    go : (o : Option (Key × Term Corner)) → slice_get names k ≡ o → Some home ≡ option_map (λ (entry : Key × Term Corner). home_of (name entry.0)) o → Some t ≡ option_and_then (λ (entry : Key × Term Corner). tree_in names entry.0) o
+        → (entry : Key × Term Corner) × (slice_get names k ≡ Some entry) × (home ≡ home_of (name entry.0)) × (tree_in names entry.0 ≡ Some t)
+    go None at a b = cc
+    go (Some e) at a b =
+        let there : home ≡ home_of (name e.0) = cc in
+        (e, at, there, sym b)

@@ -103,19 +103,20 @@ module _ (test : Place → Bool) where
   abbrev Picked : List (Place × ℕ) → ℕ → Type 0
   Picked es j = (i : ℕ) × (i < length es) × ((d : Place × ℕ) → (test (get_or es i d).0 ≡ true) × ((get_or es i d).1 ≡ j))
 
+  picked_later : (e : Place × ℕ) (es : List (Place × ℕ)) (j : ℕ) → Picked es j → Picked (e ∷ es) j
+  picked_later e es j there = let low = there.1 in (suc there.0, omega (arith, low), λ d. there.2 d)
+
+  picked_step : (e : Place × ℕ) (es : List (Place × ℕ)) (j : ℕ) → (has j (picked es) ≡ true → Picked es j) → (b : Bool) → test e.0 ≡ b
+      → has j (map (λ (x : Place × ℕ). x.1) (cond b (e ∷ filter (λ x. test x.0) es) (filter (λ x. test x.0) es))) ≡ true → Picked (e ∷ es) j
+  picked_step e es j rest true is has_it = ⊎_elim
+      (λ same. (zero, omega arith, λ d. (is, eqb-true e.1 j same)))
+      (λ more. picked_later e es j (rest more))
+      (or_cases (e.1 == j) (has j (picked es)) has_it)
+  picked_step e es j rest false is has_it = picked_later e es j (rest has_it)
+
   picked_at : (es : List (Place × ℕ)) (j : ℕ) → has j (picked es) ≡ true → Picked es j
   picked_at [] j h = absurd (false≢true h)
-  picked_at (e ∷ es) j h = go (test e.0) refl h
-    where
-      later : Picked es j → Picked (e ∷ es) j
-      later found = let low = found.1 in (suc found.0, omega (arith, low), λ d. found.2 d)
-
-      go : (b : Bool) → test e.0 ≡ b → has j (map (λ (x : Place × ℕ). x.1) (cond b (e ∷ filter (λ x. test x.0) es) (filter (λ x. test x.0) es))) ≡ true → Picked (e ∷ es) j
-      go true is has_it = ⊎_elim
-          (λ same. (zero, omega arith, λ d. (is, eqb-true e.1 j same)))
-          (λ rest. later (picked_at es j rest))
-          (or_cases (e.1 == j) (has j (picked es)) has_it)
-      go false is has_it = later (picked_at es j has_it)
+  picked_at (e ∷ es) j h = picked_step e es j (λ more. picked_at es j more) (test e.0) refl h
 
 module _ (b : Workbook) (nodes : Nodes) (numbers : NumbersAll b.cells nodes) where
   -- a link leads to the places whose numbers it gives
@@ -172,8 +173,10 @@ module _ (b : Workbook) (nodes : Nodes) (numbers : NumbersAll b.cells nodes) whe
         ap (λ i. has j (numbers_from (number_behind nodes i)))
         (index-found b.names v sheet ∙ ap (option_and_then (index_in b.names)) (found_alike b.names v w sheet (same_folding v w h)) ∙ sym (index-found b.names w sheet))
 
-    abbrev from_links from_words : List ℕ
+    abbrev from_links : List ℕ
     from_links = flat_map (link_numbers nodes) (once same_link (links_in t))
+
+    abbrev from_words : List ℕ
     from_words = flat_map (word_numbers nodes b.names sheet) (once same_name (names_in t))
 
     needed_splits : has j (from_links ++ from_words) ≡ (has j from_links || has j from_words)

@@ -10,10 +10,10 @@ use Rattle.formula_tree.specs.declared.reference.Corner.{Corner}
 use Rattle.book_values.specs.Names.{Key, Names}
 use Rattle.book_values.specs.Workbook.{Node, Workbook, content_tree, tree_at}
 use Rattle.book_values.specs.Workbook as node
-use Rattle.book_calc.specs.Names.{index_in}
+use Rattle.book_calc.specs.Names.{AreApart, index_in}
 use Rattle.book_calc.specs.internal.Numbers.{NumbersAll, node_at, nodes_in, number_at, number_behind, number_of, origin}
 use Rattle.book_calc.specs.declared.nodes.Nodes.{Nodes}
-use Rattle.book_calc.proofs.NameEntries.{AreApart, index_of_each, no_name, no_tree, stands_at}
+use Rattle.book_calc.proofs.NameEntries.{index_of_each, no_name, no_tree, stands_at}
 
 -- a number behind others
 behind : (n : ℕ) (o : Option ℕ) (j : ℕ) → option_map (λ k. n + k) o ≡ Some j → (k : ℕ) × (o ≡ Some k) × (n + k ≡ j)

@@ -19,15 +19,16 @@ use Rattle.value_network.specs.Network.{LeadsTo, Network, after, at_once, cyclic
 use Rattle.book_values.proofs.Networks.{cycles_return, is_network}
 use Rattle.book_values.specs.Values.{content_value, name_value, network, value_of, worked_out, world_of}
 use Rattle.book_values.specs.Workbook.{Node, Workbook, home_of, needs, tree_at, tree_needs}
-use Rattle.book_values.specs.Workbook as nodes
+use Rattle.book_values.specs.Workbook as kind
 use Rattle.book_calc.specs.Book.{workbook_of}
 use Rattle.book_calc.specs.Values.{shown, value_numbered, without_number, workbook_in, world_in}
 use Rattle.book_calc.specs.internal.Numbers.{NumbersAll, needs_in, node_at, nodes_in, number_at, number_of}
-use Rattle.book_calc.specs.internal.Settled.{Puts}
+use Rattle.book_calc.specs.internal.Settled.{IsOf, IsPlan, Puts}
 use Rattle.book_calc.specs.declared.nodes.Nodes.{Nodes}
 use Rattle.book_calc.specs.declared.values.Values.{Values}
 use Rattle.book_calc.proofs.FollowedNumbers.{leads_back, leads_forth, lists-length}
-use Rattle.book_calc.proofs.NameEntries.{AreApart, no_tree}
+use Rattle.book_calc.specs.Names.{AreApart}
+use Rattle.book_calc.proofs.NameEntries.{no_tree}
 use Rattle.book_calc.proofs.NumberedNodes.{no_formula, node_of_number, number_of_node}
 
 module _ (b : Workbook) (customs : List (List ℕ × Rule)) (today : ℤ) where
@@ -49,12 +50,12 @@ module _ (b : Workbook) (customs : List (List ℕ × Rule)) (today : ℤ) where
       no_need (after {b = c} h rest) = needs_none c h
 
   unnumbered : (nodes : Nodes) → NumbersAll b.cells nodes → AreApart b.names → (a : Node) → number_of nodes b.names a ≡ None → without_number a ≡ value_of b customs today a
-  unnumbered nodes numbers apart (nodes.place p) h =
-      sym (value-good net (is_network b customs today) (cyclic net) (λ c k. k) (nodes.place p) (free (nodes.place p) (no_formula b nodes numbers apart (nodes.place p) h))
-      ∙ ap (content_value (world_of b.names today (value_of b customs today)) customs (home_of (nodes.place p))) (numbers.filled p h))
-  unnumbered nodes numbers apart (nodes.name key) h =
-      sym (value-good net (is_network b customs today) (cyclic net) (λ c k. k) (nodes.name key) (free (nodes.name key) (no_formula b nodes numbers apart (nodes.name key) h))
-      ∙ ap (name_value (world_of b.names today (value_of b customs today)) customs (home_of (nodes.name key))) (no_formula b nodes numbers apart (nodes.name key) h))
+  unnumbered nodes numbers apart (kind.place p) h =
+      sym (value-good net (is_network b customs today) (cyclic net) (λ c k. k) (kind.place p) (free (kind.place p) (no_formula b nodes numbers apart (kind.place p) h))
+      ∙ ap (content_value (world_of b.names today (value_of b customs today)) customs (home_of (kind.place p))) (numbers.filled p h))
+  unnumbered nodes numbers apart (kind.name key) h =
+      sym (value-good net (is_network b customs today) (cyclic net) (λ c k. k) (kind.name key) (free (kind.name key) (no_formula b nodes numbers apart (kind.name key) h))
+      ∙ ap (name_value (world_of b.names today (value_of b customs today)) customs (home_of (kind.name key))) (no_formula b nodes numbers apart (kind.name key) h))
 
 -- a list with one number more behind
 has_before_last : (j i : ℕ) (xs : List ℕ) → has j (xs ++ i ∷ []) ≡ true → (has j xs ≡ true) ⊎ (i ≡ j)
@@ -62,21 +63,6 @@ has_before_last j i xs h = ⊎_elim
     (λ before. inl before)
     (λ last. ⊎_elim (λ same. inr (eqb-true i j same)) (λ none. absurd (false≢true none)) (or_cases (i == j) false last))
     (or_cases (has j xs) (has j (i ∷ [])) (sym (list_any-append (λ k. k == j) xs (i ∷ [])) ∙ h))
-
--- the workbook, the numbers of its nodes and the day of the values
-pub record IsOf (b : Workbook) (nodes : Nodes) (today : ℤ) (v : Values) : Type 0 where
-  pub workbook : workbook_in v ≡ b
-  pub nodes : v.nodes ≡ nodes
-  pub day : v.day ≡ today
-  pub count : length v.values.items ≡ length (nodes_in nodes b.names)
-
--- the order and the marks that it comes with
-pub record IsPlan (b : Workbook) (nodes : Nodes) (order : List ℕ) (on_cycle : List Bool) : Type 0 where
-  pub numbers : NumbersAll b.cells nodes
-  pub apart : AreApart b.names
-  pub once : IsEachOnce (length (needs_in b nodes)) order
-  pub cycles : CyclesAre (needs_in b nodes) on_cycle
-  pub in_order : InOrder (needs_in b nodes) order
 
 module _ (b : Workbook) (customs : List (List ℕ × Rule)) (today : ℤ) (nodes : Nodes) (order : List ℕ) (on_cycle : List Bool) where
   -- the nodes in front show their values, and the others are left

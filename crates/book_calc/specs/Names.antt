@@ -1,5 +1,6 @@
 -- The named expressions of a workbook of the program. Source: this project's own.
 use Rattle.std.specs.Prelude.{ℕ, List, [], ◌∷◌, map, Option, Some, None, position, if◌then◌else◌}
+use Rattle.std.specs.List.{IsDistinct}
 use Rattle.std.specs.Option.{option_or}
 use Rattle.std.specs.declared.alloc.Global.{Global}
 use Rattle.std.specs.declared.rc.Rc.{Rc}
@@ -26,6 +27,10 @@ names_of table = map named table.names.entries
 abbrev pub with_name : Names → Key → Term Corner → Names
 with_name [] key t = (key, t) ∷ []
 with_name (entry ∷ rest) key t = if same_key key entry.0 then (key, t) ∷ rest else entry ∷ with_name rest key t
+
+-- no name stands twice
+abbrev pub AreApart : Names → Type 0
+AreApart names = IsDistinct same_key (map (λ entry. entry.0) names)
 
 -- where a name stands, from 0, and where the name stands that a word finds on a sheet
 abbrev pub index_in : Names → Key → Option ℕ

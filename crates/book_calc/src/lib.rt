@@ -11,6 +11,7 @@
 
 mod block;
 mod book;
+mod calculation;
 mod name_key;
 mod names;
 mod needs;
@@ -19,5 +20,6 @@ mod values;
 mod view;
 
 pub use book::Book;
+pub use calculation::calculated;
 pub use cell_values::Cell;
-pub use values::{Values, calculated};
+pub use values::Values;

@@ -1,9 +1,9 @@
 // The named expressions of a workbook.
 ghost use Rattle.std.specs.Prelude.{◌≡◌, ◌<◌, ◌^◌, IfSome, OnErr, OnOk, [], length, slice_get};
-ghost use Rattle.std.specs.Option.{option_map};
+ghost use Rattle.std.specs.Option.{option_and_then, option_map};
 ghost use Rattle.formula_tree.specs.Relative.{relative};
 ghost use Rattle.formula_tree.specs.StandsFor.{at_home};
-ghost use Rattle.book_values.specs.Names.{key_of};
+ghost use Rattle.book_values.specs.Names.{key_of, tree_in};
 ghost use Rattle.book_values.specs.Workbook.{home_of, name};
 ghost use Rattle.book_calc.specs.internal.Keyed.{index_of_key};
 
@@ -20,7 +20,7 @@ pub(crate) struct NameTable {
 }
 
 impl NameTable {
-    ghost use Rattle.book_calc.specs.Names.{index_found, index_in, names_of, with_name};
+    ghost use Rattle.book_calc.specs.Names.{AreApart, index_found, index_in, names_of, with_name};
 
     // No names.
     pub(crate) fn new(alloc: Global) -> NameTable
@@ -35,6 +35,7 @@ impl NameTable {
     pub(crate) fn len(&self) -> usize
         ensures len { result ≡ length (names_of self.now) }
         ensures small { result < 2 ^ 63 }
+        ensures apart { AreApart (names_of self.now) }
     {
         self.names.len()
     }
@@ -74,10 +75,12 @@ impl NameTable {
         }
     }
 
-    // The home and the tree of the name at the index.
+    // The home of the name at the index, and its tree, as it is seen from there.
     pub(crate) fn at(&self, index: usize) -> Option<(Home, &Tree)>
-        ensures { option_map (λ e. (e.0, at_home e.0 (relative e.1.now.value))) result ≡ option_map (λ e. (home_of (name e.0), e.1)) (slice_get (names_of self.now) index) }
+        ensures home { option_map (λ found. found.0) result ≡ option_map (λ entry. home_of (name entry.0)) (slice_get (names_of self.now) index) }
+        ensures tree { option_map (λ found. at_home found.0 (relative found.1.now.value)) result ≡ option_and_then (λ entry. tree_in (names_of self.now) entry.0) (slice_get (names_of self.now) index) }
     {
+        let _apart = self.len();
         let (key, tree) = self.names.get_index(index)?;
         let sheet = key.scope.unwrap_or(NO_SHEET);
         Some((Home::Name { sheet }, tree))

@@ -2,6 +2,8 @@
 ghost use Rattle.std.specs.Prelude.{◌≡◌, ◌<◌, ◌^◌, IfOk, IfSome, length};
 ghost use Rattle.std.specs.List.{filter};
 ghost use Rattle.std.specs.Option.{option_copied};
+ghost use Rattle.std.specs.BTreeMap.{IsOrdered};
+ghost use Rattle.cell_addr.specs.Order.{place_cmp};
 ghost use Rattle.cell_addr.specs.Place.{covers};
 ghost use Rattle.cell_values.specs.Workbook.{book_of};
 
@@ -85,7 +87,8 @@ impl Nodes {
         alloc: Global,
         block: Block,
     ) -> Result<Vec<(Place, usize)>, AllocError>
-        ensures { IfOk result (λ found. found.items ≡ filter (λ e. covers block e.0) self.now.numbers.entries) }
+        ensures found { IfOk result (λ found. found.items ≡ filter (λ e. covers block e.0) self.now.numbers.entries) }
+        ensures ordered { IsOrdered place_cmp self.now.numbers }
     {
         let _ordered = self.numbers.len();
         let mut found = Vec::new(alloc);

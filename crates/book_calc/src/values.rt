@@ -14,11 +14,10 @@ ghost use Rattle.calc_terms.specs.Meaning.{meaning};
 ghost use Rattle.calc_eval.specs.Filled.{AreFilled, seen_cells};
 ghost use Rattle.calc_eval.specs.Named.{named_by};
 ghost use Rattle.book_values.specs.Names.{found};
-ghost use Rattle.book_values.specs.Values.{value_of, worked_out};
-ghost use Rattle.book_values.specs.Workbook.{Node, name, place};
+ghost use Rattle.book_values.specs.Values.{worked_out};
+ghost use Rattle.book_values.specs.Workbook.{name, place};
 
 use crate::book::Book;
-use crate::needs::needs;
 use crate::nodes::Nodes;
 use crate::view::Seen;
 use calc_eval::{NameView, eval};
@@ -27,7 +26,6 @@ use cell_value::{FaultKind, Scalar};
 use cell_values::Cell;
 use custom_fn::Registry;
 use formula_tree::{Home, Tree};
-use needs_order::order;
 use std::alloc::{AllocError, Global};
 use std::sync::ledger::Ledger;
 use steps::Steps;
@@ -35,8 +33,8 @@ use steps::Steps;
 /// What every place and every name of a workbook shows, with the workbook itself.
 #[derive(Drop)]
 pub struct Values {
-    book: Book,
-    nodes: Nodes,
+    pub(crate) book: Book,
+    pub(crate) nodes: Nodes,
     values: Vec<Scalar>,
     empty: Scalar,
     day: i32,
@@ -52,7 +50,7 @@ impl Values {
     ghost use Rattle.book_calc.specs.internal.Settled.{Puts, Starts};
 
     // The values of a workbook before any of its nodes is worked out.
-    fn new(alloc: Global, book: Book, day: i32) -> Result<Values, AllocError>
+    pub(crate) fn new(alloc: Global, book: Book, day: i32) -> Result<Values, AllocError>
         ensures { IfOk result (λ values. Starts book day values) }
     {
         let nodes = Nodes::new(alloc, &book.cells)?;
@@ -211,7 +209,7 @@ impl Values {
     }
 
     // Settles the value of the node with this number: on a cycle `#CYCLE!`, else what the node works out.
-    fn settle<L: Ledger>(
+    pub(crate) fn settle<L: Ledger>(
         &mut self,
         alloc: Global,
         number: usize,
@@ -239,36 +237,4 @@ impl Values {
             *place = value;
         }
     }
-}
-
-/// What every place and every name of the workbook shows, with the custom functions of the registry, on the day of
-/// this serial number.
-///
-/// Each formula is worked out once, at what `eval` costs, and before that its references are read once.
-pub fn calculated<L: Ledger>(
-    alloc: Global,
-    book: Book,
-    registry: &Registry,
-    day: i32,
-    steps: &mut Steps<L>,
-) -> Result<Values, AllocError>
-    ensures book { IfOk result (λ values. workbook_in values ≡ workbook_of book) }
-    ensures day { IfOk result (λ values. (world_in values).today ≡ day) }
-    ensures shown { IfOk result (λ values. (a : Node) → shown values a ≡ value_of (workbook_of book) (customs_of registry.now) day a) }
-{
-    let mut values = Values::new(alloc, book, day)?;
-    let needs = needs(alloc, &values.book, &values.nodes)?;
-    let order = order(alloc, &needs)?;
-    'nodes: for number in &order.nodes {
-        let on_cycle = is_marked(&order.on_cycle, *number);
-        values.settle(alloc, *number, on_cycle, registry, steps)?;
-    }
-    Ok(values)
-}
-
-// Whether the node is marked.
-fn is_marked(marks: &[bool], node: usize) -> bool
-    ensures { result ≡ slice_index_or marks.now node false }
-{
-    marks.get(node).copied().unwrap_or(false)
 }

@@ -10,6 +10,7 @@ use std::sync::ledger::Ledger;
 use steps::Steps;
 
 /// The values that are known so far.
+#[derive(Drop)]
 pub(crate) struct Seen<'a> {
     pub(crate) values: &'a Values,
 }
