@@ -5,5 +5,6 @@ pub mod Stretches
 pub mod Opening
 pub mod Merging
 pub mod Closing
+pub mod Visits
 pub mod Steps
 pub mod AllClosed

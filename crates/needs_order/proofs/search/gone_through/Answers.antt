@@ -1,5 +1,5 @@
 use Rattle.std.proofs.Common.{sym, rules}
-use Rattle.needs_order.proofs.Steps.{through_open, through_closed}
+use Rattle.needs_order.proofs.Visits.{through_open, through_closed}
 use Rattle.needs_order.proofs.search.gone_through.Goals as goal
 use Rattle.needs_order.proofs.search.gone_through.Goals.{in-Open, in-Closed}
 

@@ -1,5 +1,5 @@
 use Rattle.std.proofs.Common.{length, ◌-◌}
-use Rattle.needs_order.proofs.Steps.{AreThrough}
+use Rattle.needs_order.proofs.Visits.{AreThrough}
 use Rattle.needs_order.proofs.search.gone_through.Given as goal
 
 -- the needs gone through are settled

@@ -1,6 +1,6 @@
 use Rattle.std.proofs.Common.{rules}
 use Rattle.std.specs.Vec.{vec_len}
-use Rattle.needs_order.proofs.Steps.{lowers_last}
+use Rattle.needs_order.proofs.Visits.{lowers_last}
 use Rattle.needs_order.proofs.search.lower_last.Goals as goal
 
 pub returns-in-Some : goal.returns-in-Some

@@ -2,8 +2,8 @@ use Rattle.std.proofs.Common.{◌≡◌, ◌≢◌, ◌<◌, ◌∙◌, sym, ap,
 use Rattle.std.proofs.lemmas.List.{length-map}
 use Rattle.needs_order.specs.declared.search.Mark.TheVariants.{Unseen}
 use Rattle.needs_order.specs.Needs.{lists_of}
-use Rattle.needs_order.specs.internal.Search.{mark_at, IsSound, Opens}
-use Rattle.needs_order.proofs.Steps.{begins_here, begins_met, begins_sound, met_is_closed}
+use Rattle.needs_order.specs.internal.Search.{mark_at, IsSound}
+use Rattle.needs_order.proofs.Steps.{begins, met_is_closed}
 use Rattle.needs_order.proofs.search.Search.close_from.Goals as goal
 
 pub walking-init : goal.walking-init
@@ -13,11 +13,7 @@ walking-init c =
     let t = c.open.new.self in
     let inside : c.args.node < length lists = rw length-map c.requires.inside in
     let unmet : mark_at s.marks.items c.args.node ≡ Unseen = ap (λ marks. mark_at marks c.args.node) (sym c.deref.ensures.value) ∙ sym c.mark_of.ensures ∙ c.in-Unseen.is in
-    let opens : Opens c.args.node s t = c.in_ok-open.ensures in (
-      begins_sound lists s t c.args.node c.requires.idle inside unmet opens,
-      begins_met lists s t c.args.node c.requires.idle inside unmet opens,
-      begins_here lists s t c.args.node c.requires.idle inside unmet opens,
-    )
+    begins lists s t c.args.node c.requires.idle inside unmet c.in_ok-open.ensures
 
 pub returns-in_default-pop-clause-closed : goal.returns-in_default-pop-clause-closed
 returns-in_default-pop-clause-closed c =

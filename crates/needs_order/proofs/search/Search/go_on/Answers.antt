@@ -29,5 +29,5 @@ returns-in-None c =
     let goes : GoesThrough list c.args.self.now.marks.items c.args.visit gone =
     subst (λ marks. GoesThrough list marks c.args.visit gone) c.deref.ensures.value (subst (λ xs. GoesThrough xs c.deref.result.now c.args.visit gone) same c.gone_through-visit.ensures) in
     let done : length c.list_of-list.result.now ≤ gone.next = search rules in
-    c.finish.ensures lists (gone_sound lists c.args.self.now c.args.visit gone c.requires.sound goes)
+    c.finish.ensures lists (gone_sound lists c.args.self.now c.args.self.now.visits c.args.visit gone c.requires.sound goes)
     (subst (λ a. length (needs_of lists a) ≤ gone.next) (sym goes.node) (subst (λ xs. length xs ≤ gone.next) same done))
