@@ -1,7 +1,5 @@
-// An order.
-
 /// What stands on cycles, and an order in which each node stands after all that it needs.
-#[derive(Drop)]
+#[derive(Debug, Drop)]
 pub struct Order {
     /// Every node once.
     pub nodes: Vec<usize>,
