@@ -1,13 +1,12 @@
 -- The entries of a map of places that a block covers, found one after another by seeking the next. Serves what asks
 -- for the filled cells of a block.
-use Rattle.std.proofs.Common.{◌≡◌, ◌∙◌, sym, ap, refl, subst, arith, ℕ, ◌+◌, ◌<◌, ◌≤◌, ◌⊎◌, inl, inr, Bool, true, false, cond, List, [], ◌∷◌, ◌++◌, append_assoc, length, map, get_or, Option, Some, None, ⊎_elim}
+use Rattle.std.proofs.Common.{◌≡◌, ◌∙◌, sym, ap, refl, subst, arith, ℕ, ◌<◌, ◌≤◌, Bool, true, false, cond, List, [], ◌∷◌, ◌++◌, append_assoc, length, get_or, Option, Some, None, ⊎_elim}
 use Rattle.std.specs.List.{filter}
 use Rattle.std.specs.List.Sorted.{IsStrictlySortedBy}
 use Rattle.std.specs.Map.{keys_of}
-use Rattle.std.specs.Ordering.{is_le, nat_cmp}
+use Rattle.std.specs.Ordering.{is_le}
 use Rattle.std.specs.Prelude.{slice_get, All}
-use Rattle.std.specs.declared.cmp.Ordering.{Ordering}
-use Rattle.std.specs.declared.cmp.Ordering.TheVariants.{Less, Equal, Greater}
+use Rattle.std.specs.declared.cmp.Ordering.TheVariants.{Less}
 use Rattle.std.proofs.lemmas.Bool.{cases_Bool, false≢true}
 use Rattle.std.proofs.lemmas.Bool.Decides.{nat_tests}
 use Rattle.std.proofs.lemmas.List.{get_or-map, length-map}
@@ -164,11 +163,11 @@ module _ (es : Entries) (sorted : IsStrictlySortedBy place_cmp (keys_of es)) whe
       )
       go_on (Some at) next_one = (
         ap (filter (covered b)) ((seeks at).0 ∙ rest_after at next_one.0)
-        ∙ filter_inner (covered b) (from at) headed.0 (λ k d low h. next_one.1 (get_or headed.0 k d).0 h (after_it k d low)),
+            ∙ filter_inner (covered b) (from at) headed.0 (λ k d low h. next_one.1 (get_or headed.0 k d).0 h (after_it k d low)),
         (let len = ap length headed.1 in
-        let same = ap length ((seeks at).0 ∙ rest_after at next_one.0) in
-        let short = filter_short (from at) headed.0 in
-        omega (arith, len, same, short)),
+            let same = ap length ((seeks at).0 ∙ rest_after at next_one.0) in
+            let short = filter_short (from at) headed.0 in
+            omega (arith, len, same, short)),
         (seeks at).1,
       )
 

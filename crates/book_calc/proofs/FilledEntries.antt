@@ -1,5 +1,5 @@
 -- The filled cells of a block with their values, as formulas see them. Serves the view of a workbook.
-use Rattle.std.proofs.Common.{◌≡◌, ◌∙◌, sym, ap, refl, subst, ℕ, true, List, map, get_or, Option, Some, None, option_map, length}
+use Rattle.std.proofs.Common.{◌≡◌, ◌∙◌, sym, ap, refl, subst, ℕ, true, List, map, get_or, Option, Some, None, option_map}
 use Rattle.std.specs.BTreeMap.{is_at}
 use Rattle.std.specs.List.{filter}
 use Rattle.std.specs.List.Sorted.{IsStrictlySortedBy}

@@ -1,25 +1,22 @@
 -- Following needs from node to node, by nodes and by their numbers, is one. Serves the order in which nodes are worked
 -- out.
-use Rattle.std.proofs.Common.{◌≡◌, ◌∙◌, sym, ap, refl, subst, arith, ℕ, ℤ, ◌<◌, ◌≤◌, ◌==◌, true, false, List, [], map, length, get_or, Option, Some, None, ⊎_elim, eq-eqb}
-use Rattle.std.specs.Prelude.{All}
+use Rattle.std.proofs.Common.{◌≡◌, ◌∙◌, sym, ap, refl, subst, arith, ℕ, ℤ, ◌<◌, ◌≤◌, ◌==◌, true, List, [], length, get_or, Option, Some, None, ⊎_elim, eq-eqb}
 use Rattle.std.proofs.lemmas.Bool.{cases_lt, false≢true}
 use Rattle.std.proofs.lemmas.List.{get_or-map, get_or_past, length-map}
 use Rattle.std.proofs.lemmas.List.Folds.{list_any_at}
 use Rattle.cell_value.specs.declared.scalar.Scalar.{Scalar}
 use Rattle.custom_fn.specs.declared.rule.Rule.{Rule}
 use Rattle.formula_tree.specs.Reference.{sheet_of}
-use Rattle.formula_tree.specs.Term.{Term}
-use Rattle.formula_tree.specs.declared.reference.Corner.{Corner}
 use Rattle.needs_order.specs.Needs.{AreNodes, Needs, has}
 use Rattle.needs_order.specs.Needs as numbered
 use Rattle.value_network.specs.Network.{LeadsTo, Network, after, at_once}
 use Rattle.book_values.specs.Values.{network}
-use Rattle.book_values.specs.Workbook.{Node, Workbook, home_of, needs, place, tree_at, tree_needs}
+use Rattle.book_values.specs.Workbook.{Node, Workbook, home_of, needs, place, tree_needs}
 use Rattle.book_calc.specs.internal.Numbers.{NumbersAll, needed_by, needs_in, node_at, nodes_in, number_of, origin}
 use Rattle.book_calc.specs.declared.nodes.Nodes.{Nodes}
 use Rattle.book_calc.specs.Names.{AreApart}
 use Rattle.book_calc.proofs.NeededNodes.{listed_is_needed, needed_is_listed}
-use Rattle.book_calc.proofs.NumberedNodes.{no_formula, node_of_number, number_of_node}
+use Rattle.book_calc.proofs.NumberedNodes.{no_formula, node_of_number}
 
 module _ (b : Workbook) (nodes : Nodes) (numbers : NumbersAll b.cells nodes) (apart : AreApart b.names) where
   abbrev lists : List (List ℕ)

@@ -48,9 +48,9 @@ named-insert [] k tree = refl
 named-insert (e ∷ es) k tree =
     named-cond (same_key (key_in k) (key_in e.0)) ((e.0, tree) ∷ es) (e ∷ insert_entry (λ a b. same_key (key_in a) (key_in b)) es k tree)
     ∙ put_here (same_key (key_in k) (key_in e.0)) (key_in k) (key_in e.0) tree
-      (named e ∷ map named (insert_entry (λ a b. same_key (key_in a) (key_in b)) es k tree))
-      (named e ∷ with_name (map named es) (key_in k) (tree_for (key_in k) tree))
-      refl (ap (λ rest. named e ∷ rest) (named-insert es k tree)) (map named es)
+    (named e ∷ map named (insert_entry (λ a b. same_key (key_in a) (key_in b)) es k tree))
+    (named e ∷ with_name (map named es) (key_in k) (tree_for (key_in k) tree))
+    refl (ap (λ rest. named e ∷ rest) (named-insert es k tree)) (map named es)
 
 position-later : (t : Bool) (n : ℕ) → cond t (Some (suc n)) None ≡ option_map suc (cond t (Some n) None)
 position-later true n = refl
@@ -160,11 +160,11 @@ index-found names word sheet = go (index_in names own) (index_in names global) r
     go None (Some k) at_own at_global =
         ap (λ o. option_or o (index_in names global)) at_own ∙ at_global
         ∙ sym (ap (λ t. option_and_then (index_in names) (cond t (Some own) (cond (is_some (tree_in names global)) (Some global) None))) (has_tree names own ∙ ap is_some at_own)
-          ∙ ap (λ t. option_and_then (index_in names) (cond t (Some global) None)) (has_tree names global ∙ ap is_some at_global) ∙ at_global)
+        ∙ ap (λ t. option_and_then (index_in names) (cond t (Some global) None)) (has_tree names global ∙ ap is_some at_global) ∙ at_global)
     go None None at_own at_global =
         ap (λ o. option_or o (index_in names global)) at_own ∙ at_global
         ∙ sym (ap (λ t. option_and_then (index_in names) (cond t (Some own) (cond (is_some (tree_in names global)) (Some global) None))) (has_tree names own ∙ ap is_some at_own)
-          ∙ ap (λ t. option_and_then (index_in names) (cond t (Some global) None)) (has_tree names global ∙ ap is_some at_global))
+        ∙ ap (λ t. option_and_then (index_in names) (cond t (Some global) None)) (has_tree names global ∙ ap is_some at_global))
 
 -- words of one folded text find the same name
 pub found_alike : (names : Names) (v w : List ℕ) (sheet : ℕ) → folded v ≡ folded w → found names v sheet ≡ found names w sheet

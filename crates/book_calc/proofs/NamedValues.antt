@@ -1,5 +1,5 @@
 -- What a word finds on a sheet, by where its name stands. Serves the view of a workbook.
-use Rattle.std.proofs.Common.{◌≡◌, ◌∙◌, sym, ap, ap₂, refl, ℕ, ◌+◌, List, map, get_or, Option, Some, None, option_map, option_and_then, length}
+use Rattle.std.proofs.Common.{◌≡◌, ◌∙◌, sym, ap, refl, ℕ, List, get_or, Option, Some, None, option_map, option_and_then}
 use Rattle.std.specs.Prelude.{slice_get}
 use Rattle.std.proofs.lemmas.Option.{get_or_from_slice_get, slice_get-get_or}
 use Rattle.cell_value.specs.declared.scalar.Scalar.{Scalar}
@@ -7,7 +7,6 @@ use Rattle.cell_value.specs.declared.scalar.Scalar.TheVariants.{Empty}
 use Rattle.formula_tree.specs.Term.{Term}
 use Rattle.formula_tree.specs.declared.reference.Corner.{Corner}
 use Rattle.formula_tree.specs.declared.reference.Home.{Home}
-use Rattle.calc_terms.specs.World.{Named}
 use Rattle.book_values.specs.Names.{Key, Names, found, tree_in}
 use Rattle.book_values.specs.Values.{named_as}
 use Rattle.book_values.specs.Workbook.{Node, home_of, name}

@@ -1,6 +1,6 @@
 -- The numbers of the nodes that a node needs. Serves the order in which nodes are worked out.
-use Rattle.std.proofs.Common.{◌≡◌, ◌∙◌, sym, ap, ap₂, refl, subst, arith, ℕ, zero, suc, ◌+◌, ◌<◌, ◌==◌, ◌||◌, Bool, true, false, cond, List, [], ◌∷◌, ◌++◌, map, length, get_or, Option, Some, None, option_map, option_and_then, ⊎_elim, eqb-true, eq-eqb}
-use Rattle.std.specs.BTreeMap.{get, is_at}
+use Rattle.std.proofs.Common.{◌≡◌, ◌∙◌, sym, ap, refl, arith, ℕ, zero, suc, ◌<◌, ◌==◌, ◌||◌, Bool, true, false, cond, List, [], ◌∷◌, ◌++◌, map, length, get_or, Option, Some, None, option_and_then, ⊎_elim, eqb-true, eq-eqb}
+use Rattle.std.specs.BTreeMap.{is_at}
 use Rattle.std.specs.Cmp.{IsEquivalence}
 use Rattle.std.specs.Cmp.Lexicographic.{bytes_decides}
 use Rattle.std.specs.List.{filter, flat_map, list_any}
@@ -11,10 +11,9 @@ use Rattle.std.proofs.lemmas.Map.Views.{All-found}
 use Rattle.cell_addr.proofs.Places.{place_cmp-IsTotalOrder}
 use Rattle.cell_addr.proofs.SamePlaces.{same_place-equal, same_place-self, same_block-decides}
 use Rattle.cell_addr.specs.Order.{place_cmp}
-use Rattle.cell_addr.specs.Place.{covers, same_block, same_place}
+use Rattle.cell_addr.specs.Place.{covers, same_place}
 use Rattle.cell_addr.specs.Sheets.{same_name}
 use Rattle.cell_addr.specs.Text.{folded}
-use Rattle.cell_addr.specs.declared.place.Block.{Block}
 use Rattle.cell_addr.specs.declared.place.Place.{Place}
 use Rattle.cell_values.proofs.Books.{same_at}
 use Rattle.formula_tree.proofs.Once.{lists_once}
@@ -27,10 +26,9 @@ use Rattle.formula_tree.specs.declared.link.Link.TheVariants as links
 use Rattle.formula_tree.specs.declared.reference.Corner.{Corner}
 use Rattle.calc_terms.proofs.LinkedPlaces.{mentions-links}
 use Rattle.calc_terms.specs.Laws.{is_link_to}
-use Rattle.calc_terms.specs.Needs.{mentions}
 use Rattle.needs_order.specs.Needs.{has}
 use Rattle.book_values.proofs.Keys.{same_key-equal, same_key-self}
-use Rattle.book_values.specs.Names.{Key, Names, found, is_found}
+use Rattle.book_values.specs.Names.{Key, found, is_found}
 use Rattle.book_values.specs.Workbook.{Node, Workbook, home_of, mentions_node, needs, tree_at, tree_needs}
 use Rattle.book_values.specs.Workbook as node
 use Rattle.book_calc.specs.Names.{index_found, index_in}

@@ -1,17 +1,15 @@
 -- The numbers of the nodes of a workbook: each node that has a formula has a number, and each number is that of one
 -- node. Serves what the nodes need, and their values.
-use Rattle.std.proofs.Common.{◌≡◌, ◌∙◌, sym, ap, refl, subst, arith, ℕ, ◌+◌, ◌-◌, ◌<◌, ◌≤◌, Bool, true, false, cond, List, [], ◌∷◌, ◌++◌, map, length, get_or, Option, Some, None, option_map, ⊎_elim, length-append}
+use Rattle.std.proofs.Common.{◌≡◌, ◌∙◌, sym, ap, refl, arith, ℕ, ◌+◌, ◌-◌, ◌<◌, ◌≤◌, List, ◌++◌, map, length, get_or, Option, Some, None, option_map, ⊎_elim, length-append}
 use Rattle.std.proofs.lemmas.Bool.{cases_lt}
 use Rattle.std.proofs.lemmas.List.{get_or-map, get_or_append_left, get_or-append-add, length-map}
-use Rattle.std.specs.FinMap as finmap
-use Rattle.cell_addr.specs.declared.place.Place.{Place}
 use Rattle.formula_tree.specs.Term.{Term}
 use Rattle.formula_tree.specs.declared.reference.Corner.{Corner}
-use Rattle.book_values.specs.Names.{Key, Names}
+use Rattle.book_values.specs.Names.{Key}
 use Rattle.book_values.specs.Workbook.{Node, Workbook, content_tree, tree_at}
 use Rattle.book_values.specs.Workbook as node
 use Rattle.book_calc.specs.Names.{AreApart, index_in}
-use Rattle.book_calc.specs.internal.Numbers.{NumbersAll, node_at, nodes_in, number_at, number_behind, number_of, origin}
+use Rattle.book_calc.specs.internal.Numbers.{NumbersAll, node_at, nodes_in, number_of, origin}
 use Rattle.book_calc.specs.declared.nodes.Nodes.{Nodes}
 use Rattle.book_calc.proofs.NameEntries.{index_of_each, no_name, no_tree, stands_at}
 

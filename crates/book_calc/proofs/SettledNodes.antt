@@ -1,8 +1,6 @@
 -- The values of a workbook that are settled one after another, each after all that its node needs. Serves what works
 -- them out.
-use Rattle.std.proofs.Common.{◌≡◌, ◌∙◌, sym, ap, refl, subst, arith, ℕ, ℤ, ◌+◌, ◌<◌, ◌==◌, Bool, true, false, cond, List, [], ◌∷◌, ◌++◌, append_assoc, map, length, get_or, set, Option, Some, None, ◌⊎◌, inl, inr, ⊎_elim, eqb-true, eq-eqb, length-append}
-use Rattle.std.specs.FinMap as finmap
-use Rattle.std.specs.Prelude.{All}
+use Rattle.std.proofs.Common.{◌≡◌, ◌∙◌, sym, ap, refl, subst, arith, ℕ, ℤ, ◌<◌, ◌==◌, Bool, true, false, cond, List, [], ◌∷◌, ◌++◌, append_assoc, length, get_or, Option, Some, None, ◌⊎◌, inl, inr, ⊎_elim, eqb-true, eq-eqb, length-append}
 use Rattle.std.proofs.Math.Seq.{get_or-append_seam}
 use Rattle.std.proofs.lemmas.Bool.{cases_Bool, false≢true, or_cases}
 use Rattle.std.proofs.lemmas.List.{append-nil, get_or-set_other, get_or-set_same, length-set}
@@ -22,13 +20,12 @@ use Rattle.book_values.specs.Workbook.{Node, Workbook, home_of, needs, tree_at, 
 use Rattle.book_values.specs.Workbook as kind
 use Rattle.book_calc.specs.Book.{workbook_of}
 use Rattle.book_calc.specs.Values.{shown, value_numbered, without_number, workbook_in, world_in}
-use Rattle.book_calc.specs.internal.Numbers.{NumbersAll, needs_in, node_at, nodes_in, number_at, number_of}
+use Rattle.book_calc.specs.internal.Numbers.{NumbersAll, needs_in, node_at, nodes_in, number_of}
 use Rattle.book_calc.specs.internal.Settled.{IsOf, IsPlan, Puts}
 use Rattle.book_calc.specs.declared.nodes.Nodes.{Nodes}
 use Rattle.book_calc.specs.declared.values.Values.{Values}
 use Rattle.book_calc.proofs.FollowedNumbers.{leads_back, leads_forth, lists-length}
 use Rattle.book_calc.specs.Names.{AreApart}
-use Rattle.book_calc.proofs.NameEntries.{no_tree}
 use Rattle.book_calc.proofs.NumberedNodes.{no_formula, node_of_number, number_of_node}
 
 module _ (b : Workbook) (customs : List (List ℕ × Rule)) (today : ℤ) where

@@ -1,5 +1,5 @@
 -- What the values of a workbook that are kept show. Source: this project's own.
-use Rattle.std.specs.Prelude.{ℕ, ℤ, List, slice_index_or, Option, Some, None}
+use Rattle.std.specs.Prelude.{ℕ, List, slice_index_or, Option, Some, None}
 use Rattle.cell_value.specs.declared.fault.FaultKind.TheVariants as fault
 use Rattle.cell_value.specs.declared.scalar.Scalar.{Scalar}
 use Rattle.cell_value.specs.declared.scalar.Scalar.TheVariants as scalar
@@ -7,7 +7,7 @@ use Rattle.calc_terms.specs.World.{World}
 use Rattle.book_values.specs.Values.{world_of}
 use Rattle.book_values.specs.Workbook.{Node, Workbook, name, place}
 use Rattle.book_calc.specs.Book.{workbook_of}
-use Rattle.book_calc.specs.internal.Numbers.{number_at, number_of}
+use Rattle.book_calc.specs.internal.Numbers.{number_of}
 use Rattle.book_calc.specs.declared.values.Values.{Values}
 
 -- the workbook that they are the values of

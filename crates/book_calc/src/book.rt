@@ -48,12 +48,7 @@ impl Book {
     /// the whole workbook where there is none. It takes the place of the tree that the word had in this scope, in
     /// any case of its ASCII letters; else it stands behind the other names. After want of memory the workbook is
     /// as it was.
-    pub fn put_name(
-        &mut self,
-        scope: Option<u32>,
-        word: &str,
-        tree: Tree,
-    ) -> Result<(), AllocError>
+    pub fn put_name(&mut self, scope: Option<u32>, word: &str, tree: Tree) -> Result<(), AllocError>
         ensures ok { OnOk result (workbook_of self.new ≡ record { cells = (workbook_of self.old).cells; names = with_name (workbook_of self.old).names (key_of scope word.now) (at_home (home_of (name (key_of scope word.now))) (relative tree.value)) }) }
         ensures err { OnErr result (workbook_of self.new ≡ workbook_of self.old) }
     {

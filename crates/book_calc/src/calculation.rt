@@ -35,7 +35,14 @@ pub fn calculated<L: Ledger>(
     let mut values = Values::new(alloc, book, day)?;
     let needs = needs(alloc, &values.book, &values.nodes)?;
     let order = order(alloc, &needs)?;
-    settle_all(alloc, &mut values, &order.nodes, &order.on_cycle, registry, steps)?;
+    settle_all(
+        alloc,
+        &mut values,
+        &order.nodes,
+        &order.on_cycle,
+        registry,
+        steps,
+    )?;
     Ok(values)
 }
 

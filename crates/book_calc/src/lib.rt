@@ -16,6 +16,8 @@ mod name_key;
 mod names;
 mod needs;
 mod nodes;
+#[cfg(test)]
+mod tests;
 mod values;
 mod view;
 

@@ -1,14 +1,13 @@
 -- The filled cells of a block one after another. Serves `filled_area` and `filled_summary`.
-use Rattle.std.proofs.Common.{◌≡◌, ◌∙◌, sym, ap, refl, subst, arith, ℕ, zero, suc, ◌+◌, ◌-◌, ◌*◌, ◌<◌, ◌≤◌, Bool, true, false, cond, List, [], ◌∷◌, ◌++◌, map, length, take, drop, set, get_or, Option, Some, None, ⊎_elim}
+use Rattle.std.proofs.Common.{◌≡◌, ◌∙◌, sym, ap, refl, subst, arith, ℕ, zero, suc, ◌+◌, ◌-◌, ◌*◌, ◌<◌, ◌≤◌, Bool, true, false, cond, List, [], ◌∷◌, ◌++◌, length, take, drop, set, get_or, Option, Some, None, ⊎_elim}
 use Rattle.std.specs.BTreeMap.{is_at}
 use Rattle.std.specs.Borrow.{Bor}
 use Rattle.std.proofs.Math.Nat.{mul-le-mul_right, suc-mul}
 use Rattle.cell_value.proofs.Filling.{empty_from_any}
 use Rattle.std.specs.List.{list_all}
-use Rattle.std.specs.List.Sorted.{IsStrictlySortedBy}
 use Rattle.std.specs.Map.{keys_of, lookup}
 use Rattle.std.specs.Option.{option_or, unwrap_or}
-use Rattle.std.specs.Ordering.{is_eq, nat_cmp}
+use Rattle.std.specs.Ordering.{is_eq}
 use Rattle.std.specs.declared.cmp.Ordering.{Ordering}
 use Rattle.std.specs.declared.cmp.Ordering.TheVariants.{Less, Equal, Greater}
 use Rattle.std.proofs.lemmas.Bool.{and_parts, cases_Bool, false≢true}
@@ -23,11 +22,10 @@ use Rattle.cell_addr.specs.declared.place.Block.{Block}
 use Rattle.cell_value.proofs.Summaries.{summary_of-append}
 use Rattle.cell_value.specs.Cells.{IsEmptyFrom, with_value}
 use Rattle.cell_value.specs.Scalar.{is_empty}
-use Rattle.cell_value.specs.Summary.{alone, joined, lesser, greater, no_values, summary_of}
+use Rattle.cell_value.specs.Summary.{alone, joined, no_values, summary_of}
 use Rattle.cell_value.specs.declared.scalar.Scalar.{Scalar}
 use Rattle.cell_value.specs.declared.scalar.Scalar.TheVariants.{Empty}
 use Rattle.cell_value.specs.declared.scalar.Scalar.TheVariants as scalar
-use Rattle.cell_value.specs.declared.summary.Summary.{Summary}
 use Rattle.calc_terms.specs.Cells.{cells_in, height, size_of, width}
 use Rattle.calc_eval.specs.Filled.{AreFilled, seen_cells, shown_by}
 use Rattle.calc_eval.proofs.BlockChanges.{empty_from_in, none_in, size_in, with_value_in}

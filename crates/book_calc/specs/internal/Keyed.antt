@@ -1,5 +1,5 @@
 -- Where names stand in the table of a workbook of the program.
-use Rattle.std.specs.Prelude.{ℕ, Bool, List, map, Option, position}
+use Rattle.std.specs.Prelude.{ℕ, Option, position}
 use Rattle.std.specs.declared.alloc.Global.{Global}
 use Rattle.std.specs.declared.rc.Rc.{Rc}
 use Rattle.formula_tree.specs.declared.node.Node.{Node}

@@ -1,10 +1,9 @@
 -- The names that a workbook of the program keeps or looks up, and what a hasher is fed of them.
 use Rattle.std.proofs.Common.{◌≡◌, true}
-use Rattle.std.specs.Prelude.{ℕ, List, ◌++◌, Bool, Option, Some, None}
+use Rattle.std.specs.Prelude.{ℕ, List, ◌++◌, Option, Some, None}
 use Rattle.std.specs.Cmp.{IsEquivalence, decided, on_equiv}
 use Rattle.std.specs.List.{flat_map}
 use Rattle.std.specs.Hash as fed
-use Rattle.std.specs.Bool.{Decides}
 use Rattle.std.proofs.Common.{subst}
 use Rattle.book_values.proofs.Keys.{same_key-equal, same_key-self}
 use Rattle.book_values.specs.Names.{Key, key_of, same_key}

@@ -1,5 +1,5 @@
 -- How the values of a workbook are settled, one node after another.
-use Rattle.std.specs.Prelude.{◌≡◌, ℕ, ℤ, ◌<◌, Bool, List, length, slice_set}
+use Rattle.std.specs.Prelude.{◌≡◌, ℕ, ℤ, Bool, List, length, slice_set}
 use Rattle.needs_order.specs.Needs.{CyclesAre, InOrder, IsEachOnce}
 use Rattle.book_values.specs.Workbook.{Workbook}
 use Rattle.cell_value.specs.declared.scalar.Scalar.{Scalar}

@@ -1,4 +1,4 @@
-use Rattle.std.proofs.Common.{◌≡◌, ◌∙◌, sym, ap, ap₂, subst, arith, ◌<◌, ◌≤◌, ◌+◌, ℕ, List, [], ◌∷◌, ◌++◌, append_assoc, map, take, length, get_or, IfSome}
+use Rattle.std.proofs.Common.{◌≡◌, ◌∙◌, sym, ap, ap₂, subst, ◌<◌, ◌≤◌, ℕ, List, [], ◌∷◌, ◌++◌, append_assoc, map, take, length, get_or, IfSome}
 use Rattle.std.specs.declared.alloc.Global.{Global}
 use Rattle.std.specs.declared.vec.Vec.{Vec}
 use Rattle.std.proofs.lemmas.List.{map-append, take_all, take_more}
@@ -45,4 +45,4 @@ returns c =
     c.names.invariant
     ∙ ap (λ xs. cells ++ map of_name xs) (take_all c.names.index names (subst (λ n. n ≤ c.names.index) len past))
     ∙ sym (map-append (needed_by b ns) (map place ns.places.items) (map (λ (entry : Key × Term Corner). name entry.0) names)
-      ∙ ap₂ (λ xs ys. xs ++ ys) (map-map (needed_by b ns) place ns.places.items) (map-map (needed_by b ns) (λ (entry : Key × Term Corner). name entry.0) names))
+    ∙ ap₂ (λ xs ys. xs ++ ys) (map-map (needed_by b ns) place ns.places.items) (map-map (needed_by b ns) (λ (entry : Key × Term Corner). name entry.0) names))

@@ -1,6 +1,5 @@
-use Rattle.std.proofs.Common.{◌≡◌, ◌∙◌, sym, ap, ap₂, refl, ◌++◌, rules}
+use Rattle.std.proofs.Common.{◌∙◌, ap, ap₂, refl, ◌++◌}
 use Rattle.std.specs.List.{flat_map}
-use Rattle.formula_tree.specs.Reference.{sheet_of}
 use Rattle.formula_tree.specs.Relative.{relative}
 use Rattle.formula_tree.specs.StandsFor.{at_home}
 use Rattle.book_calc.specs.Names.{names_of}
@@ -14,5 +13,5 @@ returns c =
     let words = c.in_ok-words.ensures c.args.home t refl in
     c.in_ok-add_words.ensures
     ∙ ap₂ (λ xs ys. xs ++ ys)
-      (c.in_ok-add_links.ensures ∙ ap₂ (λ xs ys. xs ++ ys) c.new-list.ensures.items (ap (flat_map (link_numbers c.args.nodes.now)) (c.deref.ensures.value ∙ links)))
-      (ap₂ (λ sheet xs. flat_map (word_numbers c.args.nodes.now (names_of c.args.names.now) sheet) xs) c.sheet.ensures (c.deref-2.ensures.value ∙ words))
+    (c.in_ok-add_links.ensures ∙ ap₂ (λ xs ys. xs ++ ys) c.new-list.ensures.items (ap (flat_map (link_numbers c.args.nodes.now)) (c.deref.ensures.value ∙ links)))
+    (ap₂ (λ sheet xs. flat_map (word_numbers c.args.nodes.now (names_of c.args.names.now) sheet) xs) c.sheet.ensures (c.deref-2.ensures.value ∙ words))

@@ -1,9 +1,8 @@
-use Rattle.std.proofs.Common.{◌≡◌, ◌∙◌, sym, ap, ap₂, subst, arith, ◌-◌, ◌<◌, take}
+use Rattle.std.proofs.Common.{◌∙◌, sym, ap, ap₂, subst, ◌-◌, ◌<◌, take}
 use Rattle.cell_value.specs.Cells.{IsEmptyFrom, empty_cells, with_value}
-use Rattle.calc_terms.specs.Cells.{cells_in}
 use Rattle.calc_eval.specs.Filled.{seen_cells, shown_by}
 use Rattle.calc_eval.proofs.BlockChanges.{none_in}
-use Rattle.calc_eval.proofs.FilledCells.{Fills, cell_fills, cols_in, rows_in, seen_cell, seen_inside}
+use Rattle.calc_eval.proofs.FilledCells.{cell_fills, cols_in, rows_in, seen_cell, seen_inside}
 use Rattle.calc_eval.proofs.filled.filled_area.Goals as goal
 
 pub cells-init : goal.cells-init

@@ -1,5 +1,5 @@
-use Rattle.std.proofs.Common.{◌≡◌, ◌∙◌, sym, ap, take}
-use Rattle.cell_value.specs.Summary.{alone, joined, summary_of}
+use Rattle.std.proofs.Common.{◌∙◌, ap, take}
+use Rattle.cell_value.specs.Summary.{joined, summary_of}
 use Rattle.calc_terms.specs.Cells.{cells_in}
 use Rattle.calc_eval.specs.Filled.{seen_cells, shown_by}
 use Rattle.calc_eval.proofs.FilledCells.{cell_fills, nothing_yet, seen_cell, seen_inside}

@@ -1,4 +1,4 @@
-use Rattle.std.proofs.Common.{◌≡◌, ◌++◌, ℕ, length}
+use Rattle.std.proofs.Common.{◌≡◌, ◌++◌, length}
 use Rattle.std.specs.List.{filter}
 use Rattle.book_calc.proofs.CoveredEntries.{Headed, covered, remaining}
 use Rattle.book_calc.proofs.nodes.Nodes.covered.Given as goal

@@ -1,4 +1,4 @@
-use Rattle.std.proofs.Common.{◌≡◌, ◌∙◌, sym, ap, Some, option_map}
+use Rattle.std.proofs.Common.{◌∙◌, ap, Some, option_map}
 use Rattle.calc_eval.specs.Named.{named_by}
 use Rattle.formula_tree.specs.Relative.{relative}
 use Rattle.formula_tree.specs.StandsFor.{at_home}
@@ -17,4 +17,4 @@ pub returns : goal.returns
 returns c =
     ap (λ x. Some (record { value = x; tree = at_home c.in_ok-home.home (relative c.in_ok-home.tree.now.value) })) c.value.ensures
     ∙ finds_value c.args.self.now c.args.word.now c.args.sheet c.in_ok-index.index c.in_ok-number.number c.in_ok-home.home (at_home c.in_ok-home.home (relative c.in_ok-home.tree.now.value))
-      c.in_ok-index.ensures.index c.in_ok-number.ensures c.in_ok-home.ensures.home c.in_ok-home.ensures.tree
+    c.in_ok-index.ensures.index c.in_ok-number.ensures c.in_ok-home.ensures.home c.in_ok-home.ensures.tree
