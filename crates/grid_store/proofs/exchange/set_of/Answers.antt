@@ -1,4 +1,4 @@
-use Rattle.std.proofs.Common.{◌≡◌, ◌∙◌, ◌||◌, sym, ap, cond, true, drop, get_or, ◌+◌}
+use Rattle.std.proofs.Common.{◌∙◌, ◌||◌, sym, ap, cond, true, drop, get_or, ◌+◌}
 use Rattle.std.proofs.lemmas.List.{drop_more}
 use Rattle.std.specs.BTreeSet.{contains}
 use Rattle.std.specs.Ordering.{eq_by_cmp}

@@ -10,7 +10,7 @@ use Rattle.book_engine.proofs.GivenBooks.{can_join_given, empty_session, joined}
 use Rattle.book_engine.proofs.parts.Parts.with_sheets.Goals as goal
 
 pub loop-book-init : goal.loop-book-init
-loop-book-init c = record { state = empty_state (numbered c.new-2.result) (cells_of c.in_ok-new-2.field-0) (listed c.in_ok-new-3.field-0) c.in_ok-new-3.ensures c.in_ok-new-2.ensures; stand = stands_nothing (numbered c.new-2.result) (cells_of c.in_ok-new-2.field-0) c.in_ok-new-2.ensures }
+loop-book-init c = record { state = empty_state (numbered c.new-2.result) (cells_of c.in_ok-new-2.field-0) (listed c.in_ok-new-3.field-0) c.in_ok-new-3.ensures.sheets c.in_ok-new-2.ensures; stand = stands_nothing (numbered c.new-2.result) (cells_of c.in_ok-new-2.field-0) c.in_ok-new-2.ensures }
 
 pub join-requires-clause-new : goal.join-requires-clause-new
 join-requires-clause-new c =

@@ -1,5 +1,5 @@
 -- What is placed over the emptied blocks is the moved map, with more cells over it.
-use Rattle.std.proofs.Common.{◌≡◌, ◌∙◌, ◌++◌, sym, ap, subst, filter, filter_map, map, not}
+use Rattle.std.proofs.Common.{◌∙◌, ◌++◌, sym, ap, subst, filter, filter_map, map, not}
 use Rattle.std.specs.FinMap as fin
 use Rattle.cell_addr.specs.Place.{IsInside, covers}
 use Rattle.shift_core.specs.declared.form.Form.TheVariants.{Cells}

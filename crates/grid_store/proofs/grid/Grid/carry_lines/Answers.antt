@@ -1,5 +1,4 @@
-use Rattle.std.proofs.Common.{◌≡◌, ◌∙◌, sym, ap, is_some}
-use Rattle.cell_addr.specs.declared.place.Place.{Place}
+use Rattle.std.proofs.Common.{◌∙◌, ap, is_some}
 use Rattle.shift_core.specs.declared.form.Form.TheVariants.{Lines}
 use Rattle.grid_store.specs.Grid.{cells_of}
 use Rattle.grid_store.specs.internal.Ways.{carried_map, form_goes}

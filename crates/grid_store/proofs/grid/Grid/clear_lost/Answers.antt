@@ -1,8 +1,8 @@
-use Rattle.std.proofs.Common.{◌≡◌, ◌∙◌, sym, ap, subst, ℕ, ◌<◌, None, Some, is_none, OnOk, IfOk}
+use Rattle.std.proofs.Common.{◌≡◌, ◌∙◌, sym, ap, subst, ℕ, ◌<◌, None, Some, is_none}
 use Rattle.std.specs.FinMap as map
 use Rattle.std.proofs.lemmas.Result.{IfOk-weaker, on_ok_weaker}
-use Rattle.cell_addr.specs.Axis.{limit_of, with_span}
-use Rattle.grid_store.specs.Grid.{cells_of, items_of, outside, within}
+use Rattle.cell_addr.specs.Axis.{with_span}
+use Rattle.grid_store.specs.Grid.{cells_of, outside, within}
 use Rattle.grid_store.specs.internal.Ways.{line_goes, span_has, whole}
 use Rattle.grid_store.proofs.LostCells.{all_kept, kept_outside, lost_within, nothing_lost}
 use Rattle.grid_store.proofs.RenewedCells.{seen_inside}

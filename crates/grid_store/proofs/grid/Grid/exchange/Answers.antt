@@ -1,9 +1,9 @@
 -- What is placed over held places leaves the map that emptying and then filling makes.
-use Rattle.std.proofs.Common.{◌≡◌, ◌∙◌, sym, ap, subst, map}
+use Rattle.std.proofs.Common.{◌∙◌, sym, ap, subst}
 use Rattle.std.specs.List.{AllByRecursion}
 use Rattle.cell_addr.specs.Place.{IsInside}
 use Rattle.grid_store.specs.Grid.{cells_of, items_of}
-use Rattle.grid_store.specs.internal.Exchange.{AreFilled, HasAll, HasSame, without_places}
+use Rattle.grid_store.specs.internal.Exchange.{AreFilled, HasAll, HasSame}
 use Rattle.grid_store.specs.internal.Lists.{with_entries}
 use Rattle.grid_store.proofs.Exchanges.{exchanged, inside-places, targets-filled}
 use Rattle.grid_store.proofs.grid.Grid.exchange.Goals as goal

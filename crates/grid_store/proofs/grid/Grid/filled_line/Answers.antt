@@ -1,8 +1,5 @@
 -- The first key of the rows' range is on the first line of them that holds a cell.
-use Rattle.std.proofs.Common.{◌≡◌, ℕ}
 use Rattle.grid_store.proofs.Listings.{first_row, no_row}
-use Rattle.grid_store.specs.declared.cell.Cell.{Cell}
-use Rattle.grid_store.specs.declared.key.CellKey.{CellKey}
 use Rattle.grid_store.proofs.grid.Grid.filled_line.Goals as goal
 
 pub returns-in-Some-clause-within : goal.returns-in-Some-clause-within

@@ -1,5 +1,5 @@
 -- The cells on the lines are those of the rows.
-use Rattle.std.proofs.Common.{◌≡◌, ◌+◌, ◌<◌, ◌≤◌, ◌⊎◌, inl, inr, arith, ℕ}
+use Rattle.std.proofs.Common.{inl, inr}
 use Rattle.grid_store.proofs.Listings.{cases_lt, covers_sheet, rows_found}
 use Rattle.grid_store.proofs.grid.Grid.find_on.Goals as goal
 

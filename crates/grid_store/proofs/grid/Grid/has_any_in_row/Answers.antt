@@ -1,5 +1,5 @@
 -- Past the sheet's last column no cell stands.
-use Rattle.std.proofs.Common.{◌≡◌, ◌<◌, ◌≤◌, arith}
+use Rattle.std.proofs.Common.{◌<◌, arith}
 use Rattle.stable_lines.specs.Sheets.{table_of}
 use Rattle.grid_store.proofs.Listings.{stands_before}
 use Rattle.grid_store.proofs.grid.Grid.has_any_in_row.Goals as goal

@@ -1,4 +1,4 @@
-use Rattle.std.proofs.Common.{ℕ, ◌+◌, ◌-◌}
+use Rattle.std.proofs.Common.{◌+◌, ◌-◌}
 use Rattle.grid_store.specs.internal.Listing.{LacksCols}
 use Rattle.grid_store.proofs.grid.Grid.has_any_in_row.Given as goal
 

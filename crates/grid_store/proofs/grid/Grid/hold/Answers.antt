@@ -1,5 +1,5 @@
 -- Where the empty ones of some places were filled, all are; emptied again, the map is as it was.
-use Rattle.std.proofs.Common.{◌≡◌, ◌∙◌, sym, ap, subst, is_none}
+use Rattle.std.proofs.Common.{◌∙◌, sym, ap, subst, is_none}
 use Rattle.std.specs.FinMap as map
 use Rattle.std.specs.List.{AllByRecursion}
 use Rattle.cell_addr.specs.Place.{IsInside}

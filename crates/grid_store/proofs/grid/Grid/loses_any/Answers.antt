@@ -1,4 +1,4 @@
-use Rattle.std.proofs.Common.{◌≡◌, ◌∙◌, sym, ap, subst, ℕ, ◌<◌, ◌↔◌, None, Some, is_none}
+use Rattle.std.proofs.Common.{◌≡◌, ◌∙◌, sym, ap, subst, ℕ, ◌<◌, None, Some, is_none}
 use Rattle.cell_addr.specs.Axis.{with_span}
 use Rattle.grid_store.specs.Grid.{HasAny, cells_of}
 use Rattle.grid_store.specs.internal.Ways.{line_goes, span_has, whole}

@@ -1,4 +1,4 @@
-use Rattle.std.proofs.Common.{◌≡◌, ◌∙◌}
+use Rattle.std.proofs.Common.{◌∙◌}
 use Rattle.cell_addr.specs.Axis.{limit_of}
 use Rattle.grid_store.specs.internal.Ways.{line_goes, turned}
 use Rattle.grid_store.proofs.RenewedCells.{renewed_cells, renewed_standing}

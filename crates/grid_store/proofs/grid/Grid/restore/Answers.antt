@@ -1,5 +1,5 @@
 -- A dropped sheet's cells come to a sheet that is emptied first.
-use Rattle.std.proofs.Common.{◌≡◌, ◌∙◌, ap, map}
+use Rattle.std.proofs.Common.{◌∙◌, ap, map}
 use Rattle.std.specs.FinMap as fin
 use Rattle.std.proofs.lemmas.Result.{on_ok_weaker}
 use Rattle.grid_store.specs.Grid.{cells_of, items_of, within}

@@ -1,5 +1,5 @@
 -- The cells come back to the lines that stayed.
-use Rattle.std.proofs.Common.{◌≡◌, ◌∙◌, ap}
+use Rattle.std.proofs.Common.{◌∙◌, ap}
 use Rattle.grid_store.proofs.SameKeys.{same_seen}
 use Rattle.grid_store.proofs.Views.{kept}
 use Rattle.grid_store.proofs.grid.Grid.restore_in_place.Goals as goal

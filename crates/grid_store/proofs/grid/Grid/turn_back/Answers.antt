@@ -1,5 +1,5 @@
 -- What a failed exchange leaves is kept under the same keys.
-use Rattle.std.proofs.Common.{◌≡◌, ◌∙◌, ap, OnErr}
+use Rattle.std.proofs.Common.{◌∙◌, ap}
 use Rattle.std.proofs.lemmas.Result.{on_err_weaker}
 use Rattle.grid_store.proofs.SameKeys.{same_kept-lines}
 use Rattle.grid_store.proofs.Views.{kept}
