@@ -2,4 +2,4 @@
 use Rattle.book_calc.proofs.tests.values_of_cells_and_names.Given as goal
 
 abbrev pub ghosts-worked_out : goal.ghosts-worked_out
-ghosts-worked_out a = record { name = a.blank.name; parts = a.blank.parts }
+ghosts-worked_out g a = record { name = a.blank.name; parts = a.blank.parts }
