@@ -46,40 +46,44 @@ fn word(alloc: Global, text: &str) -> Result<Tree, AllocError> {
     tree(alloc, Node::Name(Text::from_str(alloc, text)?))
 }
 
-// `=B1` in A1, `=A1` in B1 and `=ISERROR(A1)` in C1; 2 in A2 and 3 in A3; the global names `PAIR`, `=$A$2:$A$3`, and
-// `ONE`, `=$A$2`; `one` of the first sheet, `=$A$3`; `=SUM(pair)` in B2, `=ONE` in B3 and `=ROW(B4)` in B4.
-fn small_book(alloc: Global) -> Result<Book, AllocError> {
-    let mut book = Book::new(alloc);
-    book.put(
-        place(0, 0),
-        Cell::Formula(tree(alloc, Node::Cell(fixed(0, 1)))?),
-    )?;
-    book.put(
-        place(0, 1),
-        Cell::Formula(tree(alloc, Node::Cell(fixed(0, 0)))?),
-    )?;
-    book.put(
-        place(0, 2),
-        Cell::Formula(call(alloc, "ISERROR", Node::Cell(fixed(0, 0)))?),
-    )?;
+// Puts a tree into the cell.
+fn put(book: &mut Book, row: u32, col: u32, tree: Tree) -> Result<(), AllocError> {
+    book.put(place(row, col), Cell::Formula(tree))
+}
+
+// Puts `=B1` into A1, `=A1` into B1 and `=ISERROR(A1)` into C1.
+fn put_cycle(alloc: Global, book: &mut Book) -> Result<(), AllocError> {
+    put(book, 0, 0, tree(alloc, Node::Cell(fixed(0, 1)))?)?;
+    put(book, 0, 1, tree(alloc, Node::Cell(fixed(0, 0)))?)?;
+    put(book, 0, 2, call(alloc, "ISERROR", Node::Cell(fixed(0, 0)))?)
+}
+
+// Gives the whole workbook the names `PAIR`, `=$A$2:$A$3`, and `ONE`, `=$A$2`, and the first sheet `one`, `=$A$3`.
+fn put_names(alloc: Global, book: &mut Book) -> Result<(), AllocError> {
+    let pair = tree(alloc, Node::Area(fixed_on(0, 1, 0), fixed_on(0, 2, 0)))?;
+    book.put_name(None, "PAIR", pair)?;
+    book.put_name(None, "ONE", tree(alloc, Node::Cell(fixed_on(0, 1, 0)))?)?;
+    book.put_name(Some(0), "one", tree(alloc, Node::Cell(fixed(2, 0)))?)
+}
+
+// Puts 2 into A2 and 3 into A3, `=SUM(pair)` into B2, `=ONE` into B3 and `=ROW(B4)` into B4.
+fn put_readers(alloc: Global, book: &mut Book) -> Result<(), AllocError> {
     if let (Ok(two), Ok(three)) = (Fixed::from_int(2), Fixed::from_int(3)) {
         book.put(place(1, 0), Cell::Number(two))?;
         book.put(place(2, 0), Cell::Number(three))?;
     }
-    book.put_name(
-        None,
-        "PAIR",
-        tree(alloc, Node::Area(fixed_on(0, 1, 0), fixed_on(0, 2, 0)))?,
-    )?;
-    book.put_name(None, "ONE", tree(alloc, Node::Cell(fixed_on(0, 1, 0)))?)?;
-    book.put_name(Some(0), "one", tree(alloc, Node::Cell(fixed(2, 0)))?)?;
     let pair = Node::Name(Text::from_str(alloc, "pair")?);
-    book.put(place(1, 1), Cell::Formula(call(alloc, "SUM", pair)?))?;
-    book.put(place(2, 1), Cell::Formula(word(alloc, "ONE")?))?;
-    book.put(
-        place(3, 1),
-        Cell::Formula(call(alloc, "ROW", Node::Cell(fixed(3, 1)))?),
-    )?;
+    put(book, 1, 1, call(alloc, "SUM", pair)?)?;
+    put(book, 2, 1, word(alloc, "ONE")?)?;
+    put(book, 3, 1, call(alloc, "ROW", Node::Cell(fixed(3, 1)))?)
+}
+
+// A small workbook with all of these.
+fn small_book(alloc: Global) -> Result<Book, AllocError> {
+    let mut book = Book::new(alloc);
+    put_cycle(alloc, &mut book)?;
+    put_names(alloc, &mut book)?;
+    put_readers(alloc, &mut book)?;
     Ok(book)
 }
 
