@@ -1,7 +1,9 @@
 pub mod SheetNames
 pub mod Slots
 pub mod Contents
-pub mod Listed
+pub mod Exchanges
+pub mod Emptying
+pub mod Noting
 pub mod ShiftedContents
 pub mod Turning
 pub mod Pushed

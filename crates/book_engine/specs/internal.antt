@@ -1,6 +1,7 @@
 -- What only the proofs of bodies need.
 pub mod Turns
 pub mod Cells
+pub mod Noted
 pub mod Props
 pub mod FormulaProp
 pub mod FitsProp

@@ -1,17 +1,19 @@
 // What an engine is made of.
-use crate::formulas::Formulas;
+use crate::book::Book;
+use crate::history::Entry;
 use formula_tree::Pool;
-use grid_store::Grid;
-use name_table::Names;
 use std::alloc::Global;
+use undo_book::UndoBook;
 
-/// What an engine is made of: the sheets, the filled cells, and the formulas in them, whose trees are shared.
+/// What an engine is made of: the workbook, the trees that its formulas share, the steps that can be undone and redone,
+/// and the open batch, which becomes one of them.
 #[derive(Drop)]
 pub struct Parts {
     pub alloc: Global,
     pub pool: Pool,
-    pub formulas: Formulas,
-    pub grid: Grid,
-    pub names: Names,
+    pub book: Book,
+    pub undo: UndoBook<Entry>,
+    pub batch: Option<Entry>,
+    pub suspended: bool,
     pub next_sheet: u32,
 }

@@ -2,7 +2,8 @@ use Rattle.std.proofs.Common.{◌≡◌, ◌∙◌, sym, subst}
 use Rattle.grid_store.specs.Grid.{cells_of}
 use Rattle.book_model.specs.Operation as op
 use Rattle.book_engine.specs.Formulas.{numbered}
-use Rattle.book_engine.specs.Seen.{AllStand, state_of}
+use Rattle.book_engine.specs.Seen.{state_of}
+use Rattle.book_engine.specs.Stored.{AllStand}
 use Rattle.book_engine.specs.internal.Cells.{Stand}
 use Rattle.book_engine.proofs.SheetNames.{can_join}
 use Rattle.book_engine.proofs.Turning.{done_sound}
