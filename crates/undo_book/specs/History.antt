@@ -1,5 +1,5 @@
 -- Entries that were done and undone, as callers see them. Source: this project's own.
-use Rattle.std.specs.Prelude.{ℕ, ◌-◌, List, [], ◌∷◌, ◌++◌, length, take, drop, slice_get, Option, refl}
+use Rattle.std.specs.Prelude.{ℕ, ◌+◌, ◌-◌, ◌≤◌, List, [], ◌∷◌, ◌++◌, length, take, drop, slice_get, Option, refl}
 use Rattle.std.specs.Coded.{Coded, code_by, coded×, coded_list, coded_ℕ}
 
 -- the entries that are done, the newest last, and those that are undone, the next one to be done again last. `limit` is
@@ -17,6 +17,10 @@ module _ {E : Type 0} where
       code_by (List E × (List E × (ℕ × ℕ))) (coded× (coded_list c) (coded× (coded_list c) (coded× coded_ℕ coded_ℕ)))
       (λ h. (h.done, (h.undone, (h.limit, h.spare))))
       (λ t. record { done = t.0; undone = t.1.0; limit = t.1.1.0; spare = t.1.1.1 }) (λ _. refl)
+
+  -- both lists together are no longer than the limit
+  abbrev pub IsWithinLimit : History E → Type 0
+  IsWithinLimit h = length h.done + length h.undone ≤ h.limit
 
   -- the last n of a list, or the whole list where it has no more
   abbrev pub last_of : ℕ → List E → List E

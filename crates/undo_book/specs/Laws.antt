@@ -1,10 +1,10 @@
 -- What holds of every history. Source: this project's own.
-use Rattle.std.specs.Prelude.{◌≡◌, ◌<◌, ◌≤◌, [], ◌∷◌, ◌++◌, length, Some}
-use Rattle.undo_book.specs.History.{History, last_one, pushed, left_by, stepped_back, stepped_forward}
+use Rattle.std.specs.Prelude.{◌≡◌, ◌<◌, [], ◌∷◌, ◌++◌, length, Some}
+use Rattle.undo_book.specs.History.{History, IsWithinLimit, last_one, pushed, left_by, stepped_back, stepped_forward}
 
--- no more entries are done than the limit allows
+-- no more entries are left than the limit allows
 abbrev pub PushKeepsLimit : (E : Type 0) → Type 0
-PushKeepsLimit E = (h : History E) (e : E) → length (pushed e h).done ≤ h.limit
+PushKeepsLimit E = (h : History E) (e : E) → IsWithinLimit (pushed e h)
 
 -- the newest is the entry that was added, unless the limit allows none
 abbrev pub PushedIsNewest : (E : Type 0) → Type 0

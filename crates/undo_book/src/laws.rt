@@ -2,7 +2,7 @@
 
 ghost use Rattle.undo_book.specs.Laws.{PushKeepsLimit, PushedIsNewest, PushLosesNone, StepBackUndoesPush, ForwardUndoesBack, BackUndoesForward};
 
-/// No more entries are done than the limit allows.
+/// No more entries are left than the limit allows.
 pub fn pushes_keep_the_limit<E>()
     ensures { PushKeepsLimit E }
 {}

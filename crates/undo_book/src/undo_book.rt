@@ -1,7 +1,7 @@
 // The two lists of entries.
 ghost use Rattle.std.specs.Prelude.{◌≡◌, ◌+◌, ◌<◌, ◌≤◌, ◌↔◌, ◌++◌, [], length, IsTrue, IfOk, OnOk, OnErr, IsOk, vec_len, vec_capacity};
 ghost use Rattle.std.specs.Option.{option_to_list};
-ghost use Rattle.undo_book.specs.History.{all_but_last, last_of, left_by, pushed, stepped_back, stepped_forward, with_spare, without_next};
+ghost use Rattle.undo_book.specs.History.{IsWithinLimit, all_but_last, last_of, left_by, pushed, stepped_back, stepped_forward, with_spare, without_next};
 
 use std::alloc::{AllocError, Global};
 use std::marker::Model;
@@ -80,7 +80,7 @@ impl<E: Drop> UndoBook<E> {
     /// How many entries are kept at most, done and undone together.
     pub fn limit(&self) -> u16
         ensures result { result ≡ self.now.limit }
-        ensures within { length self.now.done + length self.now.undone ≤ result }
+        ensures within { IsWithinLimit self.now }
     {
         self.limit
     }
@@ -88,7 +88,7 @@ impl<E: Drop> UndoBook<E> {
     /// The entries that are done, the newest last.
     pub fn done(&self) -> &[E]
         ensures result { result.now ≡ self.now.done }
-        ensures within { length self.now.done + length self.now.undone ≤ self.now.limit }
+        ensures within { IsWithinLimit self.now }
     {
         &self.done
     }
@@ -96,7 +96,7 @@ impl<E: Drop> UndoBook<E> {
     /// The entries that are undone; the one that [`UndoBook::step_forward`] takes is the last.
     pub fn undone(&self) -> &[E]
         ensures result { result.now ≡ self.now.undone }
-        ensures within { length self.now.done + length self.now.undone ≤ self.now.limit }
+        ensures within { IsWithinLimit self.now }
     {
         &self.undone
     }
