@@ -19,12 +19,8 @@ use Rattle.shift_core.proofs.CarriedEntries.{eq_by_cmp-decides}
 use Rattle.book_model.proofs.Contents.{is_at}
 use Rattle.book_engine.specs.Formulas.{Numbered, Stood}
 use Rattle.book_engine.specs.Stored.{AllStand, StandsAt, content_of, contents_of, tree_of}
+use Rattle.book_engine.specs.Steps.{released}
 use Rattle.book_engine.specs.internal.Cells.{IsPlain}
-
--- what stands under each number after a cell is emptied
-abbrev pub released : Option Cell → Numbered → Numbered
-released (Some (cell.Formula n)) stands k = if k == n then None else stands k
-released _ stands k = stands k
 
 abbrev pub Releases : Option Cell → Numbered → Numbered → Type 0
 Releases before old new = (k : ℕ) → new k ≡ released before old k

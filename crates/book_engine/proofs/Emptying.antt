@@ -66,10 +66,7 @@ within_inside area m inside q some = go (covers area q) (subst IsSome (get-retai
   where
     go : (b : Bool) → IsSome (cond b (fin.get m q) None) → IsInside q
     go true s = inside q s
-    go false s = absurd (none s)
-      where
-        none : IsSome {A = Cell} None → ⊥
-        none s = cc
+    go false s = cc
 
 -- so are those of the entries that an operation loses
 pub lost_inside : (s : Shift) (m : PlaceMap Cell) → AreInside m → All (λ e. IsInside e.0) (lost_entries s m)

@@ -1,7 +1,6 @@
 -- Changes of single cells lead back and forward. Serves the cells of a workbook and the steps over them.
-use Rattle.std.proofs.Common.{◌≡◌, ◌∙◌, sym, ap, subst, refl, ℕ, Bool, true, false, cond, if◌then◌else◌, List, [], ◌∷◌, ◌++◌, Option, Some, None, option_map, arith, ◌==◌, IsSome, ⊤}
+use Rattle.std.proofs.Common.{◌≡◌, ◌∙◌, sym, ap, subst, refl, ℕ, Bool, true, false, cond, if◌then◌else◌, List, [], ◌∷◌, ◌++◌, Option, Some, None, option_map, arith, ◌==◌, IsSome}
 use Rattle.std.proofs.lemmas.Bool.Decides.{nat_tests}
-use Rattle.std.proofs.lemmas.Option.{same_Some}
 use Rattle.std.specs.FinMap as fin
 use Rattle.std.specs.FinMap.{get-insert, get-remove, same_map}
 use Rattle.std.specs.Ordering.{eq_by_cmp}
@@ -13,70 +12,35 @@ use Rattle.grid_store.specs.declared.cell.Cell.TheVariants as cell
 use Rattle.shift_core.specs.Maps.{PlaceMap}
 use Rattle.book_model.proofs.Contents.{is_at}
 use Rattle.book_engine.specs.Formulas.{Numbered, Stood, stood}
-use Rattle.book_engine.specs.Steps.{cell_held, cells_redone, cells_undone, exchanged, with_cell, with_held, without}
+use Rattle.book_engine.specs.Steps.{cell_held, exchanged, released, with_cell, with_held}
 use Rattle.book_engine.specs.Stored.{AllStand, StandsAt, Stored}
-use Rattle.book_engine.specs.declared.held.CellChange.{CellChange}
 use Rattle.book_engine.specs.declared.held.Held.{Held}
 use Rattle.book_engine.specs.declared.held.Held.TheVariants as held
-use Rattle.book_engine.specs.internal.Cells.{AreChanged, HoldsOf, IsChange, IsHeldIn, IsPlain}
-use Rattle.book_engine.proofs.Contents.{Releases, released}
+use Rattle.book_engine.specs.internal.Cells.{HoldsOf, IsHeldIn, IsPlain}
+use Rattle.shift_core.proofs.CarriedEntries.{eq_by_cmp-decides}
 
 -- kept workbooks are the same where their parts are
 pub same_stored : {s t : Numbered} {c d : PlaceMap Cell} {x y : List (ℕ × List ℕ)} → ((n : ℕ) → s n ≡ t n) → c ≡ d → x ≡ y
     → ◌≡◌ {A = Stored} (record { stands = s; cells = c; sheets = x }) (record { stands = t; cells = d; sheets = y })
 same_stored h e f i = record { stands = λ n. h n i; cells = e i; sheets = f i }
 
--- nothing stood under the number of a formula that a cell is given
-abbrev pub IsVacant : Option Held → Numbered → Type 0
-IsVacant None stands = ⊤
-IsVacant (Some (held.Plain c)) stands = ⊤
-IsVacant (Some (held.Formula n f)) stands = stands n ≡ None
+-- a cell without a formula releases nothing
+pub released_plain : (c : Cell) (stands : Numbered) (k : ℕ) → IsPlain c → released (Some c) stands k ≡ stands k
+released_plain (cell.Number m) stands k h = refl
+released_plain (cell.Truth b) stands k h = refl
+released_plain (cell.Text w) stands k h = refl
+released_plain (cell.Formula n) stands k h = absurd (h n refl)
+released_plain (cell.Broken w) stands k h = refl
 
--- what a cell held is released with its cell
-pub without_released : (b : Option Held) (stands : Numbered) (k : ℕ) → IsHeldIn b stands → without b stands k ≡ released (option_map cell_held b) stands k
-without_released None stands k h = refl
-without_released (Some (held.Plain (cell.Number m))) stands k h = refl
-without_released (Some (held.Plain (cell.Truth b))) stands k h = refl
-without_released (Some (held.Plain (cell.Text w))) stands k h = refl
-without_released (Some (held.Plain (cell.Formula n))) stands k h = absurd (h n refl)
-without_released (Some (held.Plain (cell.Broken w))) stands k h = refl
-without_released (Some (held.Formula n f)) stands k h = refl
-
-pub releases : (b : Option Held) (c : Option Cell) (one two : Numbered) → option_map cell_held b ≡ c → IsHeldIn b one → ((k : ℕ) → two k ≡ without b one k) → Releases c one two
-releases b c one two e h w k = w k ∙ without_released b one k h ∙ ap (λ r. released r one k) e
-
--- the numbers of a cell's change are as they were after it is taken back
-numbers_back : (b a : Option Held) (one : Numbered) (n : ℕ) → IsHeldIn b one → IsVacant a one → with_held b (without a (with_held a (without b one))) n ≡ one n
-numbers_back None None one n h v = refl
-numbers_back None (Some (held.Plain c)) one n h v = refl
-numbers_back None (Some (held.Formula m g)) one n h v = go (n == m) refl
+-- a formula that was released stands again where the cell holds again what it held
+held_back : (b : Option Held) (one : Numbered) (k : ℕ) → IsHeldIn b one → with_held b (released (option_map cell_held b) one) k ≡ one k
+held_back None one k h = refl
+held_back (Some (held.Plain c)) one k h = released_plain c one k h
+held_back (Some (held.Formula m g)) one k h = go (k == m) refl
   where
-    go : (t : Bool) → (n == m) ≡ t → cond t None (cond t (Some (stood g)) (one n)) ≡ one n
-    go true is = let same : n ≡ m = grind (arith, nat_tests) in sym (ap one same ∙ v)
+    go : (t : Bool) → (k == m) ≡ t → cond t (Some (stood g)) (cond t None (one k)) ≡ one k
+    go true is = let same : k ≡ m = grind (arith, nat_tests) in sym (ap one same ∙ h)
     go false is = refl
-numbers_back (Some (held.Plain c)) None one n h v = refl
-numbers_back (Some (held.Plain c)) (Some (held.Plain d)) one n h v = refl
-numbers_back (Some (held.Plain c)) (Some (held.Formula m g)) one n h v = go (n == m) refl
-  where
-    go : (t : Bool) → (n == m) ≡ t → cond t None (cond t (Some (stood g)) (one n)) ≡ one n
-    go true is = let same : n ≡ m = grind (arith, nat_tests) in sym (ap one same ∙ v)
-    go false is = refl
-numbers_back (Some (held.Formula k f)) None one n h v = go (n == k) refl
-  where
-    go : (t : Bool) → (n == k) ≡ t → cond t (Some (stood f)) (cond t None (one n)) ≡ one n
-    go true is = let same : n ≡ k = grind (arith, nat_tests) in sym (ap one same ∙ h)
-    go false is = refl
-numbers_back (Some (held.Formula k f)) (Some (held.Plain d)) one n h v = go (n == k) refl
-  where
-    go : (t : Bool) → (n == k) ≡ t → cond t (Some (stood f)) (cond t None (one n)) ≡ one n
-    go true is = let same : n ≡ k = grind (arith, nat_tests) in sym (ap one same ∙ h)
-    go false is = refl
-numbers_back (Some (held.Formula k f)) (Some (held.Formula m g)) one n h v = go (n == k) (n == m) refl refl
-  where
-    go : (t u : Bool) → (n == k) ≡ t → (n == m) ≡ u → cond t (Some (stood f)) (cond u None (cond u (Some (stood g)) (cond t None (one n)))) ≡ one n
-    go true u is also = let same : n ≡ k = grind (arith, nat_tests) in sym (ap one same ∙ h)
-    go false true is also = let same : n ≡ m = grind (arith, nat_tests) in sym (ap one same ∙ v)
-    go false false is also = refl
 
 get-with : (at : Place) (c : Option Cell) (cells : PlaceMap Cell) (q : Place) → fin.get (with_cell at c cells) q ≡ cond (eq_by_cmp place_cmp q at) c (fin.get cells q)
 get-with at None cells q = get-remove place_cmp-IsTotalOrder cells at q
@@ -88,52 +52,77 @@ cells_back at b a cells e = same_map place_cmp-IsTotalOrder place_cmp-IsAntisymm
     get-with at b (with_cell at a cells) q ∙ ap (cond (eq_by_cmp place_cmp q at) b) (get-with at a cells q) ∙ go q (eq_by_cmp place_cmp q at) refl)
   where
     go : (q : Place) (t : Bool) → eq_by_cmp place_cmp q at ≡ t → cond t b (cond t a (fin.get cells q)) ≡ fin.get cells q
-    go q true is = sym (ap (fin.get cells) (is_at at q is) ∙ e)
+    go q true is = sym e ∙ ap (fin.get cells) (is_at at q is)
     go q false is = refl
 
--- a cell that holds something else holds again what it held when that is taken back
-pub exchanged_back : (k : Stored) (at : Place) (b a : Option Held) → fin.get k.cells at ≡ option_map cell_held b → IsHeldIn b k.stands → IsVacant a k.stands
-    → exchanged at a b (exchanged at b a k) ≡ k
-exchanged_back k at b a e h v = same_stored (λ n. numbers_back b a k.stands n h v) (cells_back at (option_map cell_held b) (option_map cell_held a) k.cells e) refl
+itself : (q : Place) → eq_by_cmp place_cmp q q ≡ true
+itself q = (eq_by_cmp-decides place_cmp-IsTotalOrder place_cmp-IsAntisymmetric q q).1 refl
 
--- a change of a cell
-pub change_is : (k new : Stored) (at : Place) (b a : Option Held) → fin.get k.cells at ≡ option_map cell_held b → IsHeldIn b k.stands → IsVacant a k.stands → exchanged at b a k ≡ new
-    → (exchanged at b a k ≡ new) × (exchanged at a b new ≡ k)
-change_is k new at b a e h v is = (is, subst (λ z. exchanged at a b z ≡ k) is (exchanged_back k at b a e h v))
+get-here : (at : Place) (c : Option Cell) (cells : PlaceMap Cell) → fin.get (with_cell at c cells) at ≡ c
+get-here at c cells = get-with at c cells at ∙ ap (λ b. cond b c (fin.get cells at)) (itself at)
 
-redone-append : (cs : List CellChange) (c : CellChange) (k : Stored) → cells_redone (cs ++ c ∷ []) k ≡ exchanged c.at c.before c.after (cells_redone cs k)
-redone-append [] c k = refl
-redone-append (d ∷ cs) c k = redone-append cs c (exchanged d.at d.before d.after k)
+-- what releases nothing: no cell, or one without a formula
+abbrev pub IsPlainIn : Option Cell → Type 0
+IsPlainIn None = Unit {0}
+IsPlainIn (Some c) = IsPlain c
 
-undone-append : (cs : List CellChange) (c : CellChange) (k : Stored) → cells_undone (cs ++ c ∷ []) k ≡ cells_undone cs (exchanged c.at c.after c.before k)
-undone-append [] c k = refl
-undone-append (d ∷ cs) c k = ap (exchanged d.at d.after d.before) (undone-append cs c k)
+none_released : (a : Option Cell) (stands : Numbered) (k : ℕ) → IsPlainIn a → released a stands k ≡ stands k
+none_released None stands k h = refl
+none_released (Some c) stands k h = released_plain c stands k h
 
--- one more change
-pub one_changed : (cs : List CellChange) (c : CellChange) (k mid new : Stored) → AreChanged cs k mid → IsChange c mid new → AreChanged (cs ++ c ∷ []) k new
-one_changed cs c k mid new are is = (
-  redone-append cs c k ∙ ap (exchanged c.at c.before c.after) are.0 ∙ is.0,
-  undone-append cs c new ∙ ap (cells_undone cs) is.1 ∙ are.1,
-)
+-- what stands where the cell holds again what it held
+with_released : (b : Option Held) (s t : Numbered) (k : ℕ) → s k ≡ t k → with_held b s k ≡ with_held b t k
+with_released None s t k e = e
+with_released (Some (held.Plain c)) s t k e = e
+with_released (Some (held.Formula m g)) s t k e = ap (cond (k == m) (Some (stood g))) e
+
+-- a cell that was filled without a formula, or emptied, holds again what it held
+pub plain_back : (one stands : Numbered) (cells new : PlaceMap Cell) (sheets : List (ℕ × List ℕ)) (at : Place) (b : Option Held) (a : Option Cell)
+    → option_map cell_held b ≡ fin.get cells at → IsHeldIn b one → IsPlainIn a → ((n : ℕ) → stands n ≡ released (fin.get cells at) one n) → new ≡ with_cell at a cells
+    → exchanged at b (record { stands = stands; cells = new; sheets = sheets }) ≡ record { stands = one; cells = cells; sheets = sheets }
+plain_back one stands cells new sheets at b a here h plain s e = same_stored
+    (λ n.
+    with_released b (released (fin.get new at) stands) (released (option_map cell_held b) one) n
+    (ap (λ r. released r stands n) (ap (λ m. fin.get m at) e ∙ get-here at a cells) ∙ none_released a stands n plain ∙ s n ∙ ap (λ r. released r one n) (sym here))
+    ∙ held_back b one n h)
+    (ap (with_cell at (option_map cell_held b)) e ∙ cells_back at (option_map cell_held b) a cells (sym here))
+    refl
 
 -- a formula that is new under a number, before what was there is released
 abbrev pub IsPutIn : ℕ → Stood → Numbered → Numbered → Type 0
 IsPutIn n f one two = (k : ℕ) → two k ≡ cond (k == n) (Some f) (one k)
 
-pub numbers_put : (b : Option Held) (one two three : Numbered) (n k : ℕ) (f : Stood) (x : Option Stood) → IsHeldIn b one → one n ≡ None → IsPutIn n f one two → ((j : ℕ) → three j ≡ without b two j) → x ≡ Some f
-    → cond (k == n) x (without b one k) ≡ three k
-numbers_put None one two three n k f x h v put rest e = ap (λ y. cond (k == n) y (one k)) e ∙ sym (put k) ∙ sym (rest k)
-numbers_put (Some (held.Plain c)) one two three n k f x h v put rest e = ap (λ y. cond (k == n) y (one k)) e ∙ sym (put k) ∙ sym (rest k)
-numbers_put (Some (held.Formula m g)) one two three n k f x h v put rest e = ap (λ y. cond (k == n) y (cond (k == m) None (one k))) e ∙ go (k == n) (k == m) refl refl ∙ sym (ap (cond (k == m) None) (put k)) ∙ sym (rest k)
+-- a formula that was put in is gone again, and what was released stands again
+numbers_back : (b : Option Held) (one two three : Numbered) (n k : ℕ) (f : Stood) → IsHeldIn b one → one n ≡ None → IsPutIn n f one two → ((j : ℕ) → three j ≡ released (option_map cell_held b) two j)
+    → with_held b (released (Some (cell.Formula n)) three) k ≡ one k
+numbers_back None one two three n k f h v put rest = go (k == n) refl (rest k ∙ put k)
   where
-    go : (t u : Bool) → (k == n) ≡ t → (k == m) ≡ u → cond t (Some f) (cond u None (one k)) ≡ cond u None (cond t (Some f) (one k))
-    go true true is also =
-        let a : n ≡ m = grind (arith, nat_tests) in
-        let t : Some (stood g) ≡ None = sym h ∙ ap one (sym a) ∙ v in
-        absurd (cc)
-    go true false is also = refl
-    go false true is also = refl
-    go false false is also = refl
+    go : (t : Bool) → (k == n) ≡ t → three k ≡ cond t (Some f) (one k) → cond t None (three k) ≡ one k
+    go true is e = let same : k ≡ n = grind (arith, nat_tests) in sym (ap one same ∙ v)
+    go false is e = e
+numbers_back (Some (held.Plain c)) one two three n k f h v put rest = go (k == n) refl (rest k ∙ released_plain c two k h ∙ put k)
+  where
+    go : (t : Bool) → (k == n) ≡ t → three k ≡ cond t (Some f) (one k) → cond t None (three k) ≡ one k
+    go true is e = let same : k ≡ n = grind (arith, nat_tests) in sym (ap one same ∙ v)
+    go false is e = e
+numbers_back (Some (held.Formula m g)) one two three n k f h v put rest = go (k == m) (k == n) refl refl (rest k ∙ ap (cond (k == m) None) (put k))
+  where
+    go : (t u : Bool) → (k == m) ≡ t → (k == n) ≡ u → three k ≡ cond t None (cond u (Some f) (one k)) → cond t (Some (stood g)) (cond u None (three k)) ≡ one k
+    go true u is also e = let same : k ≡ m = grind (arith, nat_tests) in sym (ap one same ∙ h)
+    go false true is also e = let same : k ≡ n = grind (arith, nat_tests) in sym (ap one same ∙ v)
+    go false false is also e = e
+
+-- a cell that was filled with a formula holds again what it held
+pub formula_back : (one two three : Numbered) (cells new : PlaceMap Cell) (sheets : List (ℕ × List ℕ)) (at : Place) (b : Option Held) (n : ℕ) (f : Stood)
+    → option_map cell_held b ≡ fin.get cells at → IsHeldIn b one → one n ≡ None → IsPutIn n f one two → ((j : ℕ) → three j ≡ released (fin.get cells at) two j) → new ≡ with_cell at (Some (cell.Formula n)) cells
+    → exchanged at b (record { stands = three; cells = new; sheets = sheets }) ≡ record { stands = one; cells = cells; sheets = sheets }
+formula_back one two three cells new sheets at b n f here h v put rest e = same_stored
+    (λ k.
+    with_released b (released (fin.get new at) three) (released (Some (cell.Formula n)) three) k
+    (ap (λ r. released r three k) (ap (λ m. fin.get m at) e ∙ get-here at (Some (cell.Formula n)) cells))
+    ∙ numbers_back b one two three n k f h v put (λ j. rest j ∙ ap (λ r. released r two j) (sym here)))
+    (ap (with_cell at (option_map cell_held b)) e ∙ cells_back at (option_map cell_held b) (Some (cell.Formula n)) cells (sym here))
+    refl
 
 -- what a cell held under the numbers after a formula is put in, it held before
 pub held_before : (b : Option Held) (one two : Numbered) (cells : PlaceMap Cell) (at : Place) (n : ℕ) (f : Stood) → AllStand one cells → one n ≡ None → IsPutIn n f one two

@@ -2,6 +2,7 @@
 pub mod Turns
 pub mod Cells
 pub mod Noted
+pub mod ShiftProp
 pub mod Props
 pub mod FormulaProp
 pub mod FitsProp

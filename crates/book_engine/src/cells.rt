@@ -1,15 +1,14 @@
 // Cells and their formulas, as single cells change.
-ghost use Rattle.std.specs.Prelude.{◌≡◌, None, Some, OnOk, OnErr, IfOk, not, option_map};
-ghost use Rattle.std.specs.FinMap as map;
+ghost use Rattle.std.specs.Prelude.{◌≡◌, None, Some, OnOk, OnErr, IfOk, option_map};
 ghost use Rattle.cell_addr.specs.Place.{IsInside, covers};
 ghost use Rattle.cell_values.specs.Workbook as content;
 ghost use Rattle.shift_core.specs.Maps.{AreInside};
 ghost use Rattle.book_model.specs.Changes.{emptied};
 ghost use Rattle.book_engine.specs.Formula.{tree_at};
 ghost use Rattle.book_engine.specs.Formulas.{numbered};
-ghost use Rattle.book_engine.specs.Steps.{cell_held, exchanged, without};
+ghost use Rattle.book_engine.specs.Steps.{cell_held, cells_undone, exchanged, released};
 ghost use Rattle.book_engine.specs.Stored.{Stand, book_of, content_of, stored};
-ghost use Rattle.book_engine.specs.internal.Cells.{AreChanged, HoldsOf, IsChange, IsHeldIn, IsPlain, with_content_at};
+ghost use Rattle.book_engine.specs.internal.Cells.{HoldsOf, IsHeldIn, IsPlain, with_content_at};
 
 use crate::book::Book;
 use crate::formulas::{Formula, Formulas};
@@ -20,49 +19,34 @@ use std::alloc::{AllocError, Global};
 
 impl Book {
     // Fills a cell with what is no formula, in place of what it held.
-    pub(crate) fn put(
-        &mut self,
-        alloc: Global,
-        at: Place,
-        cell: Cell,
-    ) -> Result<CellChange, AllocError>
+    pub(crate) fn put(&mut self, at: Place, cell: Cell) -> Result<CellChange, AllocError>
         requires inside { IsInside at }
         requires plain { IsPlain cell }
         requires stand { Stand (stored self.old) }
         ensures ok { OnOk result (book_of (stored self.new) ≡ with_content_at at (Some (content_of (numbered self.old.formulas) cell)) (book_of (stored self.old))) }
-        ensures change { IfOk result (λ change. IsChange change (stored self.old) (stored self.new)) }
+        ensures back { IfOk result (λ change. exchanged change.at change.before (stored self.new) ≡ stored self.old) }
         ensures err { OnErr result (stored self.new ≡ stored self.old) }
         ensures stand { Stand (stored self.new) }
     {
-        let after = Held::Plain(cell.copied(alloc)?);
         let cell = self.grid.put(at, cell)?;
-        let before = released(&mut self.formulas, cell);
-        Ok(CellChange {
-            at,
-            before,
-            after: Some(after),
-        })
+        let before = release(&mut self.formulas, cell);
+        Ok(CellChange { at, before })
     }
 
     // Fills a cell with a formula that stands there, in place of what it held.
     pub(crate) fn put_formula(&mut self, formula: Formula) -> Result<CellChange, AllocError>
         requires { Stand (stored self.old) }
         ensures ok { OnOk result (book_of (stored self.new) ≡ with_content_at formula.at (Some (content.formula (tree_at formula.at formula.tree))) (book_of (stored self.old))) }
-        ensures change { IfOk result (λ change. IsChange change (stored self.old) (stored self.new)) }
+        ensures back { IfOk result (λ change. exchanged change.at change.before (stored self.new) ≡ stored self.old) }
         ensures err { OnErr result (stored self.new ≡ stored self.old) }
         ensures stand { Stand (stored self.new) }
     {
         let at = formula.at;
-        let after = formula.copied()?;
         let number = self.formulas.insert(formula)?;
         match self.grid.put(at, Cell::Formula(number)) {
             Ok(cell) => {
-                let before = released(&mut self.formulas, cell);
-                Ok(CellChange {
-                    at,
-                    before,
-                    after: Some(Held::Formula(number, after)),
-                })
+                let before = release(&mut self.formulas, cell);
+                Ok(CellChange { at, before })
             }
             Err(error) => {
                 self.formulas.take(number);
@@ -76,16 +60,12 @@ impl Book {
         requires inside { IsInside at }
         requires stand { Stand (stored self.old) }
         ensures contents { book_of (stored self.new) ≡ with_content_at at None (book_of (stored self.old)) }
-        ensures change { IsChange result (stored self.old) (stored self.new) }
+        ensures back { exchanged result.at result.before (stored self.new) ≡ stored self.old }
         ensures stand { Stand (stored self.new) }
     {
         let cell = self.grid.take(at);
-        let before = released(&mut self.formulas, cell);
-        CellChange {
-            at,
-            before,
-            after: None,
-        }
+        let before = release(&mut self.formulas, cell);
+        CellChange { at, before }
     }
 
     // Empties the cells of a block, and answers what each of them held.
@@ -93,7 +73,7 @@ impl Book {
         requires stand { Stand (stored self.old) }
         requires inside { AreInside (book_of (stored self.old)).cells }
         ensures ok { OnOk result (book_of (stored self.new) ≡ emptied (covers area) (book_of (stored self.old))) }
-        ensures changes { IfOk result (λ changes. AreChanged changes.items (stored self.old) (stored self.new)) }
+        ensures back { IfOk result (λ changes. cells_undone changes.items (stored self.new) ≡ stored self.old) }
         ensures err { OnErr result (stored self.new ≡ stored self.old) }
         ensures stand { Stand (stored self.new) }
     {
@@ -108,11 +88,11 @@ impl Book {
 }
 
 // What a cell held that was emptied or filled anew; its formula, if it had one, is taken out.
-fn released(formulas: &mut Formulas, cell: Option<Cell>) -> Option<Held>
+fn release(formulas: &mut Formulas, cell: Option<Cell>) -> Option<Held>
     requires { HoldsOf cell (numbered formulas.old) }
     ensures cell { option_map cell_held result ≡ cell }
     ensures held { IsHeldIn result (numbered formulas.old) }
-    ensures released { (k : _) → numbered formulas.new k ≡ without result (numbered formulas.old) k }
+    ensures released { (k : _) → numbered formulas.new k ≡ released cell (numbered formulas.old) k }
 {
     match cell {
         None => None,

@@ -155,7 +155,7 @@ impl Formulas {
     {
         let mut slots = Vec::with_capacity(self.alloc, self.slots.len())?;
         for slot in &self.slots {
-            let copy = copied_slot(slot)?;
+            let copy = self.copied_slot(slot)?;
             slots.push(copy)?;
         }
         let free = vacant_numbers(self.alloc, &slots)?;
@@ -164,6 +164,16 @@ impl Formulas {
             slots,
             free,
         })
+    }
+
+    // What is in an equal slot.
+    fn copied_slot(&self, slot: &Option<Formula>) -> Result<Option<Formula>, AllocError>
+        ensures { IfOk result (λ copy. option_map stood copy ≡ option_map stood slot.now) }
+    {
+        match slot {
+            Some(formula) => Ok(Some(formula.copied()?)),
+            None => Ok(None),
+        }
     }
 
     /// The formulas after a structural operation, under the same numbers. Costs about the nodes of all trees.
@@ -210,14 +220,4 @@ fn vacant_numbers(alloc: Global, slots: &[Option<Formula>]) -> Result<Vec<u64>, 
         }
     }
     Ok(free)
-}
-
-// What is in an equal slot.
-fn copied_slot(slot: &Option<Formula>) -> Result<Option<Formula>, AllocError>
-    ensures { IfOk result (λ copy. option_map stood copy ≡ option_map stood slot.now) }
-{
-    match slot {
-        Some(formula) => Ok(Some(formula.copied()?)),
-        None => Ok(None),
-    }
 }

@@ -1,7 +1,9 @@
-// What operations changed, so that it can be taken back and done again.
+// What operations changed, so that it can be taken back.
 ghost use Rattle.grid_store.specs.Grid.{AreListedInside, items_of};
 ghost use Rattle.shift_core.specs.Sound.{IsSound};
+ghost use Rattle.book_engine.specs.internal.ShiftProp.{shift-prop};
 
+use crate::book::Book;
 use crate::formulas::Formulas;
 use crate::held::CellChange;
 use grid_store::CellList;
@@ -15,15 +17,8 @@ pub struct ShiftChange {
     pub removed: CellList,
     pub formulas: Formulas,
     pub names: Option<Names>,
-    pub ghost sound: { IsSound shift },
+    pub ghost sound: { IsSound shift } by { shift-prop shift },
     pub ghost inside: { AreListedInside (items_of removed) },
-}
-
-/// The sheets before and after one was added or renamed.
-#[derive(Drop)]
-pub struct SheetsChange {
-    pub before: Names,
-    pub after: Names,
 }
 
 /// What one operation changed.
@@ -31,11 +26,15 @@ pub struct SheetsChange {
 pub enum Part {
     Cells(Vec<CellChange>),
     Shifted(ShiftChange),
-    Sheets(SheetsChange),
+    /// The sheets from before one was added or renamed.
+    Sheets(Names),
 }
 
-/// A step that can be undone: what its operations changed, one after the other.
+/// A step that can be undone or redone, and the workbook that it leads to.
 #[derive(Drop)]
-pub struct Entry {
-    pub parts: Vec<Part>,
+pub enum Entry {
+    /// What the operations of the step changed, one after the other; without that there is the workbook from before it.
+    Changes(Vec<Part>),
+    /// The whole workbook.
+    Whole(Book),
 }

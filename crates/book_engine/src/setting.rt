@@ -10,9 +10,9 @@ ghost use Rattle.book_model.specs.Operation as op;
 ghost use Rattle.book_engine.specs.Engine.{NoAnswer};
 ghost use Rattle.book_engine.specs.Formulas.{stood};
 ghost use Rattle.book_engine.specs.Seen.{Fits, state_of};
-ghost use Rattle.book_engine.specs.Steps.{IsPart};
+ghost use Rattle.book_engine.specs.Steps.{exchanged, part_undone};
 ghost use Rattle.book_engine.specs.Stored.{Stand, book_of, stored};
-ghost use Rattle.book_engine.specs.internal.Cells.{IsChange, with_content_at};
+ghost use Rattle.book_engine.specs.internal.Cells.{with_content_at};
 ghost use Rattle.book_engine.specs.internal.Turns.{Turns};
 
 use crate::book::Book;
@@ -83,7 +83,7 @@ impl Book {
         requires inside { IsInside at }
         requires stand { Stand (stored self.old) }
         ensures ok { OnOk result (book_of (stored self.new) ≡ with_content at text.now (book_of (stored self.old))) }
-        ensures part { IfOk result (λ part. IsPart part (stored self.old) (stored self.new)) }
+        ensures back { IfOk result (λ part. part_undone part (stored self.new) ≡ stored self.old) }
         ensures err { OnErr result (stored self.new ≡ stored self.old) }
         ensures stand { Stand (stored self.new) }
     {
@@ -105,19 +105,19 @@ impl Book {
         requires inside { IsInside at }
         requires stand { Stand (stored self.old) }
         ensures ok { OnOk result (book_of (stored self.new) ≡ with_content_at at (content_given (book_of (stored self.old)).sheets at.sheet given) (book_of (stored self.old))) }
-        ensures change { IfOk result (λ change. IsChange change (stored self.old) (stored self.new)) }
+        ensures back { IfOk result (λ change. exchanged change.at change.before (stored self.new) ≡ stored self.old) }
         ensures err { OnErr result (stored self.new ≡ stored self.old) }
         ensures stand { Stand (stored self.new) }
     {
         match given {
             ContentText::Clear => Ok(self.empty(at)),
-            ContentText::Number(number) => self.put(alloc, at, Cell::Number(number)),
-            ContentText::Truth(truth) => self.put(alloc, at, Cell::Truth(truth)),
-            ContentText::Text(text) => self.put(alloc, at, Cell::Text(text)),
+            ContentText::Number(number) => self.put(at, Cell::Number(number)),
+            ContentText::Truth(truth) => self.put(at, Cell::Truth(truth)),
+            ContentText::Text(text) => self.put(at, Cell::Text(text)),
             ContentText::Formula(text) => {
                 match read_formula(alloc, pool, &self.names, at, text.as_str())? {
                     Some(formula) => self.put_formula(formula),
-                    None => self.put(alloc, at, Cell::Broken(text)),
+                    None => self.put(at, Cell::Broken(text)),
                 }
             }
         }
@@ -128,7 +128,7 @@ impl Book {
         requires stand { Stand (stored self.old) }
         requires inside { AreInside (book_of (stored self.old)).cells }
         ensures ok { OnOk result (book_of (stored self.new) ≡ emptied (covers area) (book_of (stored self.old))) }
-        ensures part { IfOk result (λ part. IsPart part (stored self.old) (stored self.new)) }
+        ensures back { IfOk result (λ part. part_undone part (stored self.new) ≡ stored self.old) }
         ensures err { OnErr result (stored self.new ≡ stored self.old) }
         ensures stand { Stand (stored self.new) }
     {
@@ -140,7 +140,7 @@ impl Book {
         requires stand { Stand (stored self.old) }
         requires inside { AreInside (book_of (stored self.old)).cells }
         ensures ok { OnOk result (book_of (stored self.new) ≡ emptied (λ p. p.sheet == sheet) (book_of (stored self.old))) }
-        ensures part { IfOk result (λ part. IsPart part (stored self.old) (stored self.new)) }
+        ensures back { IfOk result (λ part. part_undone part (stored self.new) ≡ stored self.old) }
         ensures err { OnErr result (stored self.new ≡ stored self.old) }
         ensures stand { Stand (stored self.new) }
     {

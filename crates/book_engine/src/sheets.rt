@@ -7,12 +7,12 @@ ghost use Rattle.name_table.specs.Listed.{listed};
 ghost use Rattle.name_table.specs.SheetLists.{CanJoin, IsFree};
 ghost use Rattle.book_engine.specs.Engine.{NoAnswer};
 ghost use Rattle.book_engine.specs.Seen.{Fits, state_of};
-ghost use Rattle.book_engine.specs.Steps.{IsPart};
+ghost use Rattle.book_engine.specs.Steps.{part_undone};
 ghost use Rattle.book_engine.specs.Stored.{book_of, stored};
 ghost use Rattle.book_engine.specs.internal.Turns.{Turns};
 
 use crate::book::Book;
-use crate::history::{Part, SheetsChange};
+use crate::history::Part;
 use crate::parts::Parts;
 use crate::stop::Stop;
 use crate::undoing::{note, room};
@@ -54,7 +54,7 @@ impl Book {
     pub(crate) fn join(&mut self, number: u32, name: &str) -> Result<Part, AllocError>
         requires { CanJoin number name.now (listed self.old.names) }
         ensures ok { OnOk result (book_of (stored self.new) ≡ with_sheet number name.now (book_of (stored self.old))) }
-        ensures part { IfOk result (λ part. IsPart part (stored self.old) (stored self.new)) }
+        ensures back { IfOk result (λ part. part_undone part (stored self.new) ≡ stored self.old) }
         ensures err { OnErr result (stored self.new ≡ stored self.old) }
         ensures formulas { self.new.formulas ≡ self.old.formulas }
         ensures grid { self.new.grid ≡ self.old.grid }
@@ -62,9 +62,7 @@ impl Book {
         let mut names = self.names.copied()?;
         let index = names.len();
         names.add_sheet(index, number, name)?;
-        let after = names.copied()?;
-        let before = mem::replace(&mut self.names, names);
-        Ok(Part::Sheets(SheetsChange { before, after }))
+        Ok(Part::Sheets(mem::replace(&mut self.names, names)))
     }
 
     // Gives a listed sheet another name, which no other sheet has.
@@ -72,15 +70,13 @@ impl Book {
         requires listed { IsSome (name_in (listed self.old.names) sheet) }
         requires free { IsFree sheet name.now (listed self.old.names) }
         ensures ok { OnOk result (book_of (stored self.new) ≡ renamed sheet name.now (book_of (stored self.old))) }
-        ensures part { IfOk result (λ part. IsPart part (stored self.old) (stored self.new)) }
+        ensures back { IfOk result (λ part. part_undone part (stored self.new) ≡ stored self.old) }
         ensures err { OnErr result (stored self.new ≡ stored self.old) }
         ensures formulas { self.new.formulas ≡ self.old.formulas }
         ensures grid { self.new.grid ≡ self.old.grid }
     {
         let mut names = self.names.copied()?;
         names.rename(sheet, name)?;
-        let after = names.copied()?;
-        let before = mem::replace(&mut self.names, names);
-        Ok(Part::Sheets(SheetsChange { before, after }))
+        Ok(Part::Sheets(mem::replace(&mut self.names, names)))
     }
 }

@@ -8,7 +8,7 @@ ghost use Rattle.book_model.specs.Changes.{sheets_left, shifted};
 ghost use Rattle.book_model.specs.Operation as op;
 ghost use Rattle.book_engine.specs.Engine.{NoAnswer};
 ghost use Rattle.book_engine.specs.Seen.{Fits, state_of};
-ghost use Rattle.book_engine.specs.Steps.{IsPart, sheets_before};
+ghost use Rattle.book_engine.specs.Steps.{part_undone, sheets_before};
 ghost use Rattle.book_engine.specs.Stored.{Stand, book_of, stored};
 ghost use Rattle.book_engine.specs.internal.Turns.{Turns};
 
@@ -50,7 +50,7 @@ impl Book {
         requires inside { AreInside (book_of (stored self.old)).cells }
         requires stand { Stand (stored self.old) }
         ensures ok { OnOk result (book_of (stored self.new) ≡ shifted s.now (book_of (stored self.old))) }
-        ensures part { IfOk result (λ part. IsPart part (stored self.old) (stored self.new)) }
+        ensures back { IfOk result (λ part. part_undone part (stored self.new) ≡ stored self.old) }
         ensures err { OnErr result (stored self.new ≡ stored self.old) }
         ensures stand { Stand (stored self.new) }
     {
@@ -79,7 +79,7 @@ fn names_before(names: &Names, s: &Shift) -> Result<Option<Names>, AllocError>
 }
 
 // Takes a dropped sheet out of the list.
-pub(crate) fn leave(names: &mut Names, s: &Shift)
+fn leave(names: &mut Names, s: &Shift)
     ensures { listed names.new ≡ sheets_left (form_of s.now) (listed names.old) }
 {
     if let Form::Sheet { sheet } = s.form() {

@@ -1,20 +1,18 @@
-// Steps back and forward over what operations changed in a workbook. They are taken on a copy, which counts for nothing
-// where one of them wants memory.
-ghost use Rattle.std.specs.Prelude.{◌≡◌, IfOk, OnOk, option_map};
-ghost use Rattle.grid_store.specs.Grid.{items_of};
-ghost use Rattle.book_engine.specs.Formulas.{numbered};
-ghost use Rattle.book_engine.specs.Steps.{cells_redone, cells_undone, cell_held, exchanged, part_redone, part_undone, redone, shift_redone, shift_undone, undone, with_cell, with_held, without};
-ghost use Rattle.book_engine.specs.Stored.{stored};
+// Steps back over what operations changed in a workbook. They are taken on a copy, which counts for nothing where one of
+// them wants memory.
+ghost use Rattle.std.specs.Prelude.{◌≡◌, IfOk, OnOk, option_copied, option_map};
 ghost use Rattle.cell_addr.specs.Place.{IsInside};
-ghost use Rattle.grid_store.specs.Grid.{cells_of};
+ghost use Rattle.grid_store.specs.Grid.{cells_of, items_of};
+ghost use Rattle.book_engine.specs.Formulas.{numbered};
+ghost use Rattle.book_engine.specs.Steps.{cell_held, cells_undone, exchanged, part_undone, released, undone, with_cell, with_held};
+ghost use Rattle.book_engine.specs.Stored.{stored};
+ghost use Rattle.book_engine.specs.declared.history.Part.TheVariants as parts;
 
 use crate::book::Book;
 use crate::formulas::Formulas;
 use crate::held::{CellChange, Held};
 use crate::history::{Part, ShiftChange};
-use crate::shifting::leave;
 use cell_addr::Place;
-use formula_tree::Pool;
 use grid_store::{Cell, CellList, Grid};
 use std::alloc::{AllocError, Global};
 
@@ -29,21 +27,6 @@ impl Book {
         Ok(())
     }
 
-    // Takes a step forward again.
-    pub(crate) fn redo(
-        &mut self,
-        alloc: Global,
-        pool: &mut Pool,
-        parts: &[Part],
-    ) -> Result<(), AllocError>
-        ensures { OnOk result (stored self.new ≡ redone parts.now (stored self.old)) }
-    {
-        for part in parts {
-            self.redo_part(alloc, pool, part)?;
-        }
-        Ok(())
-    }
-
     // Takes back what one operation changed.
     fn undo_part(&mut self, alloc: Global, part: &Part) -> Result<(), AllocError>
         ensures { OnOk result (stored self.new ≡ part_undone part.now (stored self.old)) }
@@ -51,27 +34,8 @@ impl Book {
         match part {
             Part::Cells(changes) => self.undo_cells(alloc, changes),
             Part::Shifted(change) => self.undo_shift(alloc, change),
-            Part::Sheets(change) => {
-                self.names = change.before.copied()?;
-                Ok(())
-            }
-        }
-    }
-
-    // Does again what one operation changed.
-    fn redo_part(
-        &mut self,
-        alloc: Global,
-        pool: &mut Pool,
-        part: &Part,
-    ) -> Result<(), AllocError>
-        ensures { OnOk result (stored self.new ≡ part_redone part.now (stored self.old)) }
-    {
-        match part {
-            Part::Cells(changes) => self.redo_cells(alloc, changes),
-            Part::Shifted(change) => self.redo_shift(alloc, pool, change),
-            Part::Sheets(change) => {
-                self.names = change.after.copied()?;
+            Part::Sheets(names) => {
+                self.names = names.copied()?;
                 Ok(())
             }
         }
@@ -83,40 +47,24 @@ impl Book {
     {
         for index in (0..changes.len()).rev() {
             let change = &changes[index];
-            self.exchange(alloc, change.at, &change.after, &change.before)?;
-        }
-        Ok(())
-    }
-
-    // Gives cells again what they held afterwards.
-    fn redo_cells(&mut self, alloc: Global, changes: &[CellChange]) -> Result<(), AllocError>
-        ensures { OnOk result (stored self.new ≡ cells_redone changes.now (stored self.old)) }
-    {
-        for change in changes {
-            self.exchange(alloc, change.at, &change.before, &change.after)?;
+            self.exchange(alloc, change.at, &change.before)?;
         }
         Ok(())
     }
 
     // Gives a cell something else to hold.
-    fn exchange(
-        &mut self,
-        alloc: Global,
-        at: Place,
-        from: &Option<Held>,
-        to: &Option<Held>,
-    ) -> Result<(), AllocError>
+    fn exchange(&mut self, alloc: Global, at: Place, to: &Option<Held>) -> Result<(), AllocError>
         requires { IsInside at }
-        ensures { OnOk result (stored self.new ≡ exchanged at from.now to.now (stored self.old)) }
+        ensures { OnOk result (stored self.new ≡ exchanged at to.now (stored self.old)) }
     {
-        take_out(&mut self.formulas, from);
+        take_out(&mut self.formulas, self.grid.cell(at));
         keep(&mut self.formulas, to)?;
         fill(alloc, &mut self.grid, at, to)
     }
 
     // Takes a structural operation back.
     fn undo_shift(&mut self, alloc: Global, change: &ShiftChange) -> Result<(), AllocError>
-        ensures { OnOk result (stored self.new ≡ shift_undone change.now (stored self.old)) }
+        ensures { OnOk result (stored self.new ≡ part_undone (parts.Shifted change.now) (stored self.old)) }
     {
         let removed = copied(alloc, &change.removed)?;
         self.grid.put_back(alloc, &change.shift, removed)?;
@@ -126,28 +74,13 @@ impl Book {
         }
         Ok(())
     }
-
-    // Does a structural operation again.
-    fn redo_shift(
-        &mut self,
-        alloc: Global,
-        pool: &mut Pool,
-        change: &ShiftChange,
-    ) -> Result<(), AllocError>
-        ensures { OnOk result (stored self.new ≡ shift_redone change.now (stored self.old)) }
-    {
-        self.formulas = self.formulas.shifted(pool, &change.shift)?;
-        self.grid.apply(alloc, &change.shift)?;
-        leave(&mut self.names, &change.shift);
-        Ok(())
-    }
 }
 
-// Takes the formula out that a cell held.
-fn take_out(formulas: &mut Formulas, from: &Option<Held>)
-    ensures { (k : _) → numbered formulas.new k ≡ without from.now (numbered formulas.old) k }
+// Takes the formula of a cell out.
+fn take_out(formulas: &mut Formulas, cell: Option<&Cell>)
+    ensures { (k : _) → numbered formulas.new k ≡ released (option_copied cell.entry) (numbered formulas.old) k }
 {
-    if let Some(Held::Formula(number, _)) = from {
+    if let Some(Cell::Formula(number)) = cell {
         formulas.take(*number);
     }
 }

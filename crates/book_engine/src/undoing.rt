@@ -1,17 +1,20 @@
 // Steps that can be undone and redone, batches of changes, and suspension.
-ghost use Rattle.std.specs.Prelude.{◌≡◌, ◌<◌, ◌++◌, ◌∷◌, [], length, vec_capacity, vec_len, IfOk, OnErr, IfSome, OnOk, option_map, Option, None, Some};
-ghost use Rattle.undo_book.specs.History.{History};
+ghost use Rattle.std.specs.Prelude.{true, false, ◌≡◌, ◌<◌, ◌++◌, ◌∷◌, [], length, vec_capacity, vec_len, IfOk, OnErr, IfSome, OnOk, option_map, Option, None, Some};
 ghost use Rattle.book_model.specs.Operation as op;
 ghost use Rattle.book_engine.specs.Engine.{NoAnswer};
 ghost use Rattle.book_engine.specs.Seen.{Fits, state_of};
+ghost use Rattle.book_engine.specs.Steps.{over};
+ghost use Rattle.book_engine.specs.Stored.{stored};
 ghost use Rattle.book_engine.specs.internal.Noted.{Adds, Closes, HasRoom, Notes, SameBatch, SameSteps};
 ghost use Rattle.book_engine.specs.internal.Turns.{Turns};
 
+use crate::book::Book;
 use crate::history::{Entry, Part};
-use crate::parts::Parts;
+use crate::parts::{Changes, Parts};
 use crate::stop::Stop;
 use book_model::Refusal;
 use std::alloc::{AllocError, Global};
+use std::mem;
 use undo_book::UndoBook;
 
 impl Parts {
@@ -24,7 +27,7 @@ impl Parts {
         if self.batch.is_some() {
             return Err(Stop::Refused(Refusal::BatchOpen));
         }
-        self.batch = Some(Entry {
+        self.batch = Some(Changes {
             parts: Vec::new(self.alloc),
         });
         Ok(())
@@ -62,7 +65,7 @@ impl Parts {
         self.suspended = false;
     }
 
-    // Back to the workbook from before the last step. Works on a copy.
+    // Back to the workbook from before the last step.
     pub(crate) fn undo(&mut self) -> Result<(), Stop>
         requires { Fits self.old }
         ensures turns { Turns op.undo NoAnswer (state_of self.old) (state_of self.new) result }
@@ -74,14 +77,14 @@ impl Parts {
         let Some(entry) = self.undo.done().last() else {
             return Err(Stop::Refused(Refusal::NothingToUndo));
         };
-        let mut book = self.book.copied(self.alloc)?;
-        book.undo(self.alloc, &entry.parts)?;
-        self.book = book;
-        self.undo.step_back();
+        let book = reached(self.alloc, entry, &self.book)?;
+        let present = mem::replace(&mut self.book, book);
+        self.undo.take_done();
+        self.undo.put_undone(Entry::Whole(present));
         Ok(())
     }
 
-    // Forward again, after an undo. Works on a copy.
+    // Forward again, after an undo.
     pub(crate) fn redo(&mut self) -> Result<(), Stop>
         requires { Fits self.old }
         ensures turns { Turns op.redo NoAnswer (state_of self.old) (state_of self.new) result }
@@ -93,11 +96,25 @@ impl Parts {
         let Some(entry) = self.undo.undone().last() else {
             return Err(Stop::Refused(Refusal::NothingToRedo));
         };
-        let mut book = self.book.copied(self.alloc)?;
-        book.redo(self.alloc, &mut self.pool, &entry.parts)?;
-        self.book = book;
-        self.undo.step_forward();
+        let book = reached(self.alloc, entry, &self.book)?;
+        let present = mem::replace(&mut self.book, book);
+        self.undo.take_undone();
+        self.undo.put_done(Entry::Whole(present));
         Ok(())
+    }
+}
+
+// The workbook that a step leads to, as a copy.
+fn reached(alloc: Global, entry: &Entry, book: &Book) -> Result<Book, AllocError>
+    ensures { IfOk result (λ copy. stored copy ≡ over entry.now (stored book.now)) }
+{
+    match entry {
+        Entry::Changes(parts) => {
+            let mut copy = book.copied(alloc)?;
+            copy.undo(alloc, parts)?;
+            Ok(copy)
+        }
+        Entry::Whole(whole) => whole.copied(alloc),
     }
 }
 
@@ -105,7 +122,7 @@ impl Parts {
 pub(crate) fn room(
     alloc: Global,
     undo: &mut UndoBook<Entry>,
-    batch: &mut Option<Entry>,
+    batch: &mut Option<Changes>,
 ) -> Result<Vec<Part>, AllocError>
     ensures list { IfOk result (λ room. (room.items ≡ []) × (vec_len room < vec_capacity room)) }
     ensures room { OnOk result (HasRoom batch.new undo.new) }
@@ -122,7 +139,7 @@ pub(crate) fn room(
 // Notes what an operation changed: as a step, or in the open batch. Nothing can be redone afterwards.
 pub(crate) fn note(
     undo: &mut UndoBook<Entry>,
-    batch: &mut Option<Entry>,
+    batch: &mut Option<Changes>,
     room: Vec<Part>,
     part: Part,
 )
@@ -145,18 +162,18 @@ fn push_step(undo: &mut UndoBook<Entry>, mut parts: Vec<Part>, part: Part)
     requires empty { parts.items ≡ [] }
     requires list { vec_len parts < vec_capacity parts }
     requires room { 0 < undo.old.spare }
-    ensures { (e : _) × (e.parts.items ≡ part ∷ []) × Adds e undo.old undo.new }
+    ensures { Adds (part ∷ []) undo.old undo.new }
 {
     parts.push_reserved(part);
-    push(undo, Entry { parts });
+    push(undo, parts);
 }
 
-// Adds a step, for which there is room.
-fn push(undo: &mut UndoBook<Entry>, entry: Entry)
+// Adds changes as a step, for which there is room.
+fn push(undo: &mut UndoBook<Entry>, parts: Vec<Part>)
     requires { 0 < undo.old.spare }
-    ensures { Adds entry undo.old undo.new }
+    ensures { Adds parts.items undo.old undo.new }
 {
-    match undo.push(entry) {
+    match undo.push(Entry::Changes(parts)) {
         Ok(_) => (),
         Err(_) => unreachable!(),
     }
@@ -170,13 +187,13 @@ fn forget_undone(undo: &mut UndoBook<Entry>)
 }
 
 // Adds the changes of a batch as a step, where there are any.
-fn close(undo: &mut UndoBook<Entry>, batch: Option<Entry>)
+fn close(undo: &mut UndoBook<Entry>, batch: Option<Changes>)
     requires { 0 < undo.old.spare }
     ensures { Closes batch undo.old undo.new }
 {
-    if let Some(entry) = batch {
-        if !entry.parts.is_empty() {
-            push(undo, entry);
+    if let Some(changes) = batch {
+        if !changes.parts.is_empty() {
+            push(undo, changes.parts);
         }
     }
 }

@@ -165,7 +165,7 @@ closed_kept d batch false s start = s.undo
 
 closed_steps : (d : State) (batch : Batch) (b : Bool) → batch.changed ≡ b → IsSound d → ClearedBy (Some batch) d.redo → length (if b then kept d batch.start else d.undo) + length d.redo ≤ d.limit
 closed_steps d batch true e s cleared =
-    let none = ap length (cleared e) in
+    let none = cleared e in
     let k = kept_few d batch.start in
     omega (arith, none, k)
 closed_steps d batch false e s cleared = s.steps

@@ -1,5 +1,5 @@
 -- What holds of every session that operations reach. Source: this project's own.
-use Rattle.std.specs.Prelude.{◌≡◌, ◌<◌, ◌≤◌, ◌+◌, ℕ, true, List, [], length, Option, Some, None, All, IsTrue, ⊤}
+use Rattle.std.specs.Prelude.{◌≡◌, ◌<◌, ◌≤◌, ◌+◌, ℕ, true, List, length, Option, Some, None, All, IsTrue, ⊤}
 use Rattle.std.specs.FinMap as map
 use Rattle.cell_addr.specs.declared.place.Place.{Place}
 use Rattle.cell_addr.specs.Place.{IsInside}
@@ -35,7 +35,7 @@ IsSoundBatch next_sheet (Some batch) = IsSoundBook next_sheet batch.start
 
 abbrev pub ClearedBy : Option Batch → List Workbook → Type 0
 ClearedBy None redo = ⊤
-ClearedBy (Some batch) redo = batch.changed ≡ true → redo ≡ []
+ClearedBy (Some batch) redo = batch.changed ≡ true → length redo ≡ 0
 
 pub record IsSound (d : State) : Type 0 where
   pub book : IsSoundBook d.next_sheet d.book

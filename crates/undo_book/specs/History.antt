@@ -54,6 +54,17 @@ module _ {E : Type 0} where
   abbrev pub without_next : History E → History E
   without_next h = record h { undone = all_but_last 1 h.undone }
 
+  -- the newest entry that is done is gone
+  abbrev pub without_newest : History E → History E
+  without_newest h = record h { done = all_but_last 1 h.done }
+
+  -- one entry more is done, or undone; the others stay
+  abbrev pub with_done : E → History E → History E
+  with_done e h = record h { done = h.done ++ e ∷ [] }
+
+  abbrev pub with_undone : E → History E → History E
+  with_undone e h = record h { undone = h.undone ++ e ∷ [] }
+
   -- the same but for the room
   abbrev pub with_spare : ℕ → History E → History E
   with_spare n h = record h { spare = n }

@@ -75,5 +75,9 @@ fn steps_go_back_and_forward(rt: HostRuntime) -> Result<(), AllocError> {
     assert!(rt; book.done() == [2].as_slice() && book.undone() == [3].as_slice());
     assert!(rt; book.take_undone() == Some(3) && book.take_undone().is_none());
     assert!(rt; !book.step_forward() && book.done() == [2].as_slice());
+    assert!(rt; book.take_done() == Some(2) && book.take_done().is_none());
+    book.put_undone(4);
+    book.put_done(5);
+    assert!(rt; book.done() == [5].as_slice() && book.undone() == [4].as_slice());
     Ok(())
 }

@@ -1,7 +1,7 @@
 // The two lists of entries.
 ghost use Rattle.std.specs.Prelude.{◌≡◌, ◌+◌, ◌<◌, ◌≤◌, ◌↔◌, ◌++◌, [], length, IsTrue, IfOk, OnOk, OnErr, IsOk, vec_len, vec_capacity};
 ghost use Rattle.std.specs.Option.{option_to_list};
-ghost use Rattle.undo_book.specs.History.{IsWithinLimit, all_but_last, last_of, left_by, pushed, stepped_back, stepped_forward, with_spare, without_next};
+ghost use Rattle.undo_book.specs.History.{IsWithinLimit, all_but_last, last_of, left_by, pushed, stepped_back, stepped_forward, with_done, with_spare, with_undone, without_newest, without_next};
 
 use std::alloc::{AllocError, Global};
 use std::marker::Model;
@@ -138,6 +138,32 @@ impl<E: Drop> UndoBook<E> {
         ensures rest { self.new ≡ without_next self.old }
     {
         self.undone.pop()
+    }
+
+    /// Takes the newest entry that is done out of the book. `None` exactly where none is done.
+    pub fn take_done(&mut self) -> Option<E>
+        ensures entry { option_to_list result ≡ last_of 1 self.old.done }
+        ensures rest { self.new ≡ without_newest self.old }
+    {
+        self.done.pop()
+    }
+
+    /// Puts an entry to those that are done, as the newest; the others stay. There must be a place for it, as there is
+    /// after one was taken out. Takes no memory.
+    pub fn put_done(&mut self, entry: E)
+        requires { length self.old.done + length self.old.undone < self.old.limit }
+        ensures { self.new ≡ with_done entry self.old }
+    {
+        self.done.push_reserved(entry);
+    }
+
+    /// Puts an entry to those that are undone, as the one that [`UndoBook::step_forward`] takes; the others stay. There must
+    /// be a place for it, as there is after one was taken out. Takes no memory.
+    pub fn put_undone(&mut self, entry: E)
+        requires { length self.old.done + length self.old.undone < self.old.limit }
+        ensures { self.new ≡ with_undone entry self.old }
+    {
+        self.undone.push_reserved(entry);
     }
 
     /// Moves the newest entry to those that are undone, as their last, and answers whether there was one. Takes no

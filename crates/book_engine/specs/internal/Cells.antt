@@ -8,9 +8,6 @@ use Rattle.grid_store.specs.declared.cell.Cell.TheVariants as cell
 use Rattle.book_model.specs.Changes.{placed}
 use Rattle.book_model.specs.Workbook.{Workbook}
 use Rattle.book_engine.specs.Formulas.{Numbered, stood}
-use Rattle.book_engine.specs.Steps.{cells_redone, cells_undone, exchanged}
-use Rattle.book_engine.specs.Stored.{Stored}
-use Rattle.book_engine.specs.declared.held.CellChange.{CellChange}
 use Rattle.book_engine.specs.declared.held.Held.{Held}
 use Rattle.book_engine.specs.declared.held.Held.TheVariants as held
 
@@ -32,14 +29,6 @@ IsHeldIn (Some (held.Formula n f)) stands = stands n ≡ Some (stood f)
 abbrev pub with_emptied : List (Place × Cell) → Contents → Contents
 with_emptied [] m = m
 with_emptied (e ∷ es) m = with_emptied es (fin.remove m e.0)
-
--- a change of a cell leads from one kept workbook to the next, and back
-abbrev pub IsChange : CellChange → Stored → Stored → Type 0
-IsChange c before after = (exchanged c.at c.before c.after before ≡ after) × (exchanged c.at c.after c.before after ≡ before)
-
--- so do changes one after the other
-abbrev pub AreChanged : List CellChange → Stored → Stored → Type 0
-AreChanged cs before after = (cells_redone cs before ≡ after) × (cells_undone cs after ≡ before)
 
 -- a workbook with other contents, and with another content of one cell
 abbrev pub with_cells : Contents → Workbook → Workbook

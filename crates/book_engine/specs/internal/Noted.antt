@@ -1,22 +1,29 @@
 -- What an operation leaves behind for undo.
-use Rattle.std.specs.Prelude.{◌≡◌, ◌++◌, ◌<◌, ℕ, List, [], ◌∷◌, Option, Some, None, vec_len, vec_capacity}
+use Rattle.std.specs.Prelude.{◌≡◌, ◌++◌, ◌<◌, List, [], ◌∷◌, Option, Some, None, vec_len, vec_capacity}
 use Rattle.undo_book.specs.History.{History, pushed}
 use Rattle.book_engine.specs.declared.history.Entry.{Entry}
+use Rattle.book_engine.specs.declared.history.Entry.TheVariants as entry
 use Rattle.book_engine.specs.declared.history.Part.{Part}
+use Rattle.book_engine.specs.declared.parts.Changes.{Changes}
 
--- the steps as an entry is added
-abbrev pub Adds : Entry → History Entry → History Entry → Type 0
-Adds e old new = (new.done ≡ (pushed e old).done) × (new.undone ≡ []) × (new.limit ≡ old.limit)
+-- the step is that of these changes
+abbrev pub Holds : Entry → List Part → Type 0
+Holds (entry.Changes parts) ps = parts.items ≡ ps
+Holds (entry.Whole book) ps = ⊥
+
+-- the steps as one of these changes is added
+abbrev pub Adds : List Part → History Entry → History Entry → Type 0
+Adds ps old new = (e : Entry) × Holds e ps × (new.done ≡ (pushed e old).done) × (new.undone ≡ []) × (new.limit ≡ old.limit)
 
 -- what an operation changed is a step, or the last part of the open batch's
-abbrev pub Notes : Part → Option Entry → History Entry → Option Entry → History Entry → Type 0
-Notes p None old batch new = (batch ≡ None) × ((e : Entry) × (e.parts.items ≡ p ∷ []) × Adds e old new)
+abbrev pub Notes : Part → Option Changes → History Entry → Option Changes → History Entry → Type 0
+Notes p None old batch new = (batch ≡ None) × Adds (p ∷ []) old new
 Notes p (Some batch) old grown new =
-    ((e : Entry) × (grown ≡ Some e) × (e.parts.items ≡ batch.parts.items ++ p ∷ []))
+    ((b : Changes) × (grown ≡ Some b) × (b.parts.items ≡ batch.parts.items ++ p ∷ []))
     × (new.done ≡ old.done) × (new.undone ≡ []) × (new.limit ≡ old.limit)
 
 -- there is room for what an operation changed
-abbrev pub HasRoom : Option Entry → History Entry → Type 0
+abbrev pub HasRoom : Option Changes → History Entry → Type 0
 HasRoom None steps = 0 < steps.spare
 HasRoom (Some batch) steps = vec_len batch.parts < vec_capacity batch.parts
 
@@ -24,15 +31,15 @@ HasRoom (Some batch) steps = vec_len batch.parts < vec_capacity batch.parts
 abbrev pub SameSteps : History Entry → History Entry → Type 0
 SameSteps old new = (new.done ≡ old.done) × (new.undone ≡ old.undone) × (new.limit ≡ old.limit)
 
-abbrev pub SameBatch : Option Entry → Option Entry → Type 0
+abbrev pub SameBatch : Option Changes → Option Changes → Type 0
 SameBatch None new = new ≡ None
-SameBatch (Some old) new = (e : Entry) × (new ≡ Some e) × (e.parts.items ≡ old.parts.items)
+SameBatch (Some old) new = (b : Changes) × (new ≡ Some b) × (b.parts.items ≡ old.parts.items)
 
 -- a batch is closed: with changes it is a step
-abbrev pub ClosesParts : Entry → List Part → History Entry → History Entry → Type 0
-ClosesParts e [] old new = SameSteps old new
-ClosesParts e (p ∷ ps) old new = Adds e old new
+abbrev pub ClosesParts : List Part → History Entry → History Entry → Type 0
+ClosesParts [] old new = SameSteps old new
+ClosesParts (p ∷ ps) old new = Adds (p ∷ ps) old new
 
-abbrev pub Closes : Option Entry → History Entry → History Entry → Type 0
+abbrev pub Closes : Option Changes → History Entry → History Entry → Type 0
 Closes None old new = SameSteps old new
-Closes (Some e) old new = ClosesParts e e.parts.items old new
+Closes (Some batch) old new = ClosesParts batch.parts.items old new

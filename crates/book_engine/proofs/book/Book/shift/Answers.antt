@@ -1,27 +1,29 @@
-use Rattle.std.proofs.Common.{◌≡◌, ◌∙◌, sym, ap, subst}
-use Rattle.grid_store.specs.Grid.{cells_of}
+use Rattle.std.proofs.Common.{rules, ◌≡◌, IfOk, OnOk, OnErr, ℕ, ◌+◌, ◌-◌, ◌*◌, ◌<◌, ◌≤◌, length, ◌/◌, ◌%◌, Bool, true, false, nat_eq, nat_lt, List, [], ◌∷◌, ◌++◌, slice_index_or, slice_set, bit_and, bit_or, w8, w32, w64, Bor, MutBor}
 use Rattle.name_table.specs.Listed.{listed}
-use Rattle.book_engine.specs.Formulas.{numbered}
-use Rattle.book_engine.specs.Seen.{state_of}
-use Rattle.book_engine.specs.Stored.{AllStand, contents_of}
-use Rattle.book_engine.proofs.ShiftedContents.{cells_inside, contents-shifted, stand-shifted}
-use Rattle.book_engine.proofs.Turning.{shifted_state, sound_inside}
-use Rattle.book_engine.proofs.parts.Parts.shift.Goals as goal
+use Rattle.shift_core.specs.Form.{form_of}
+use Rattle.shift_core.specs.Maps.{AreInside}
+use Rattle.shift_core.specs.Sound.{IsSound}
+use Rattle.book_model.specs.Changes.{sheets_left, shifted}
+use Rattle.book_model.specs.Operation as op
+use Rattle.book_engine.specs.Engine.{NoAnswer}
+use Rattle.book_engine.specs.Seen.{Fits, state_of}
+use Rattle.book_engine.specs.Steps.{part_undone, sheets_before}
+use Rattle.book_engine.specs.Stored.{Stand, book_of, stored}
+use Rattle.book_engine.specs.internal.Turns.{Turns}
+use Rattle.book_engine.proofs.book.Book.shift.Goals as goal
 
+-- src/shifting.rt:62:12
+pub invariant_of-result : goal.invariant_of-result
+invariant_of-result c = ?
+
+-- src/shifting.rt:43:5
 pub returns-clause-ok : goal.returns-clause-ok
-returns-clause-ok c =
-    let one = numbered c.args.self.now.formulas in
-    let two = numbered c.in_ok-formulas.formulas in
-    let cells = cells_of c.args.self.now.grid in
-    let d = state_of c.args.self.now in
-    let inside = cells_inside one cells (sound_inside d c.requires.fits.0) in
-    shifted_state d c.args.s.now (listed c.leave.new.names) (contents_of two (cells_of c.apply.new.self)) c.leave.ensures
-    (ap (contents_of two) c.in_ok-apply.ensures.moved ∙ contents-shifted c.args.s.now one two cells c.requires.sound inside c.requires.fits.1 c.in_ok-formulas.ensures)
+returns-clause-ok c = ?
 
+-- src/shifting.rt:43:5
+pub returns-clause-back : goal.returns-clause-back
+returns-clause-back c = ?
+
+-- src/shifting.rt:43:5
 pub returns-clause-stand : goal.returns-clause-stand
-returns-clause-stand c =
-    let one = numbered c.args.self.now.formulas in
-    let two = numbered c.in_ok-formulas.formulas in
-    let cells = cells_of c.args.self.now.grid in
-    let inside = cells_inside one cells (sound_inside (state_of c.args.self.now) c.requires.fits.0) in
-    subst (AllStand two) (sym c.in_ok-apply.ensures.moved) (stand-shifted c.args.s.now one two cells c.requires.sound inside c.requires.fits.1 c.in_ok-formulas.ensures)
+returns-clause-stand c = ?

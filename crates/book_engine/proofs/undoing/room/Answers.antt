@@ -1,0 +1,17 @@
+use Rattle.std.proofs.Common.{rules, true, false, ◌≡◌, ◌<◌, ◌++◌, ◌∷◌, [], length, vec_capacity, vec_len, IfOk, OnErr, IfSome, OnOk, option_map, Option, None, Some, ℕ, ◌+◌, ◌-◌, ◌*◌, ◌≤◌, ◌/◌, ◌%◌, Bool, nat_eq, nat_lt, List, slice_index_or, slice_set, bit_and, bit_or, w8, w32, w64, Bor, MutBor}
+use Rattle.book_model.specs.Operation as op
+use Rattle.book_engine.specs.Engine.{NoAnswer}
+use Rattle.book_engine.specs.Seen.{Fits, state_of}
+use Rattle.book_engine.specs.Steps.{over}
+use Rattle.book_engine.specs.Stored.{stored}
+use Rattle.book_engine.specs.internal.Noted.{Adds, Closes, HasRoom, Notes, SameBatch, SameSteps}
+use Rattle.book_engine.specs.internal.Turns.{Turns}
+use Rattle.book_engine.proofs.undoing.room.Goals as goal
+
+-- src/undoing.rt:133:23
+pub returns-in_err-reserve-in-Some-clause-batch : goal.returns-in_err-reserve-in-Some-clause-batch
+returns-in_err-reserve-in-Some-clause-batch c = ?
+
+-- src/undoing.rt:122:1
+pub returns-clause-batch : goal.returns-clause-batch
+returns-clause-batch c = ?
