@@ -29,12 +29,12 @@ impl Book {
     }
 
     // An equal workbook. Costs about its cells.
-    pub(crate) fn copied(&self, alloc: Global) -> Result<Book, AllocError>
+    pub(crate) fn copied(&self) -> Result<Book, AllocError>
         ensures { IfOk result (λ book. stored book ≡ stored self.now) }
     {
         Ok(Book {
             formulas: self.formulas.copied()?,
-            grid: self.grid.copied(alloc)?,
+            grid: self.grid.copied()?,
             names: self.names.copied()?,
         })
     }

@@ -77,7 +77,7 @@ impl Book {
         ensures err { OnErr result (stored self.new ≡ stored self.old) }
         ensures stand { Stand (stored self.new) }
     {
-        let filled = self.grid.listed(alloc, area)?;
+        let filled = self.grid.listed(area)?;
         let mut changes = Vec::with_capacity(alloc, filled.items().len())?;
         for (at, _) in filled.items() {
             let change = self.empty(*at);

@@ -130,7 +130,7 @@ impl Parts {
         requires { Fits self.now }
         ensures { IfOk result (λ workbook. book_of workbook ≡ (state_of self.now).book.cells) }
     {
-        let mut cells = self.book.grid.all(self.alloc)?;
+        let mut cells = self.book.grid.all()?;
         let mut workbook = Workbook::new(self.alloc);
         while let Some(at) = next_place(&mut cells) {
             let content = self.content_at(at)?;

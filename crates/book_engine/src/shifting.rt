@@ -20,7 +20,7 @@ use crate::undoing::{note, room};
 use formula_tree::Pool;
 use name_table::Names;
 use shift_core::{Form, Shift};
-use std::alloc::{AllocError, Global};
+use std::alloc::AllocError;
 use std::mem;
 
 impl Parts {
@@ -32,7 +32,7 @@ impl Parts {
     {
         self.check_structural(s)?;
         let room = room(self.alloc, &mut self.undo, &mut self.batch)?;
-        let part = self.book.shift(self.alloc, &mut self.pool, s)?;
+        let part = self.book.shift(&mut self.pool, s)?;
         note(&mut self.undo, &mut self.batch, room, part);
         Ok(())
     }
@@ -40,12 +40,7 @@ impl Parts {
 
 impl Book {
     // Moves the cells and takes all formulas along; what isn't reached is lost. All that can fail comes first.
-    pub(crate) fn shift(
-        &mut self,
-        alloc: Global,
-        pool: &mut Pool,
-        s: &Shift,
-    ) -> Result<Part, AllocError>
+    pub(crate) fn shift(&mut self, pool: &mut Pool, s: &Shift) -> Result<Part, AllocError>
         requires sound { IsSound s.now }
         requires inside { AreInside (book_of (stored self.old)).cells }
         requires stand { Stand (stored self.old) }
@@ -56,7 +51,7 @@ impl Book {
     {
         let names = names_before(&self.names, s)?;
         let next = self.formulas.shifted(pool, s)?;
-        let removed = self.grid.apply(alloc, s)?;
+        let removed = self.grid.apply(s)?;
         let formulas = mem::replace(&mut self.formulas, next);
         leave(&mut self.names, s);
         Ok(Part::Shifted(ShiftChange {

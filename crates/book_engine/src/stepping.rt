@@ -67,7 +67,7 @@ impl Book {
         ensures { OnOk result (stored self.new ≡ part_undone (parts.Shifted change.now) (stored self.old)) }
     {
         let removed = copied(alloc, &change.removed)?;
-        self.grid.put_back(alloc, &change.shift, removed)?;
+        self.grid.put_back(&change.shift, removed)?;
         self.formulas = change.formulas.copied()?;
         if let Some(names) = &change.names {
             self.names = names.copied()?;
@@ -126,7 +126,7 @@ fn cell_of(alloc: Global, held: &Held) -> Result<Cell, AllocError>
 fn copied(alloc: Global, cells: &CellList) -> Result<CellList, AllocError>
     ensures { IfOk result (λ copy. items_of copy ≡ items_of cells.now) }
 {
-    let mut copy = CellList::new(alloc);
+    let mut copy = CellList::new(alloc)?;
     for (at, cell) in cells.items() {
         copy.push(*at, cell.copied(alloc)?)?;
     }

@@ -110,11 +110,11 @@ fn reached(alloc: Global, entry: &Entry, book: &Book) -> Result<Book, AllocError
 {
     match entry {
         Entry::Changes(parts) => {
-            let mut copy = book.copied(alloc)?;
+            let mut copy = book.copied()?;
             copy.undo(alloc, parts)?;
             Ok(copy)
         }
-        Entry::Whole(whole) => whole.copied(alloc),
+        Entry::Whole(whole) => whole.copied(),
     }
 }
 

@@ -3,3 +3,5 @@ pub mod Lists
 pub mod Choosing
 pub mod Data
 pub mod BlockFilling
+pub mod BlockChanges
+pub mod FilledCells

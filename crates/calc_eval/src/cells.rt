@@ -51,7 +51,7 @@ pub fn summary_of<C: Cells>(alloc: Global, cells: &C, block: Block) -> Result<Su
 }
 
 // How many lines there are from the first to the last.
-fn extent(first: u32, last: u32) -> u32
+pub(crate) fn extent(first: u32, last: u32) -> u32
     requires order { first ≤ last }
     requires within { last < 2 ^ 31 }
     ensures extent { result ≡ suc last - first }

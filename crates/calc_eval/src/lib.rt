@@ -19,9 +19,11 @@ mod argument;
 mod call;
 mod cells;
 mod customs;
+mod filled;
 mod view;
 mod walk;
 
 pub use cells::{Cells, area_of, summary_of};
+pub use filled::{filled_area, filled_summary};
 pub use view::{NameView, View};
 pub use walk::eval;

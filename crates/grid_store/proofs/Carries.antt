@@ -1,5 +1,5 @@
 -- What carried maps have at a place, by the rule that leads back. Serves operations on a grid.
-use Rattle.std.proofs.Common.{◌≡◌, ◌∙◌, sym, ap, refl, subst, ◌↔◌, Bool, true, false, cond, List, [], ◌∷◌, Option, Some, None, option_map, option_and_then, IsSome, is_some, is_none, not, filter, filter_map}
+use Rattle.std.proofs.Common.{◌≡◌, ◌∙◌, sym, refl, subst, ◌↔◌, Bool, cond, List, [], ◌∷◌, Option, Some, None, option_and_then, IsSome, is_none, filter}
 use Rattle.std.specs.FinMap as map
 use Rattle.std.specs.FinMap.{entries, get, get-entries, get-from_entries}
 use Rattle.std.specs.List.{AllByRecursion}
@@ -11,7 +11,7 @@ use Rattle.cell_addr.specs.declared.place.Place.{Place}
 use Rattle.cell_addr.proofs.Places.{place_cmp-IsTotalOrder, place_cmp-IsAntisymmetric}
 use Rattle.shift_core.specs.Maps.{AreInside, PlaceMap}
 use Rattle.shift_core.specs.Sound.{IsSoundForm}
-use Rattle.shift_core.specs.Tables.{by_line, place_moved, place_returned}
+use Rattle.shift_core.specs.Tables.{by_line}
 use Rattle.shift_core.specs.declared.edit.Edit.{Edit}
 use Rattle.shift_core.specs.declared.form.Form.{Form}
 use Rattle.shift_core.specs.declared.form.Form.TheVariants.{Lines}
@@ -21,7 +21,7 @@ use Rattle.shift_core.proofs.PlaceLaws.{place_moved_returns, place_returned_goes
 use Rattle.grid_store.specs.internal.Ways.{carried_map, form_goes, line_goes, lost_by, turned}
 use Rattle.grid_store.specs.declared.way.Way.{Way}
 use Rattle.grid_store.specs.declared.way.Way.TheVariants.{Forth, Back}
-use Rattle.grid_store.proofs.PlaceMaps.{entries-kept, get-kept, same_places}
+use Rattle.grid_store.proofs.PlaceMaps.{entries-kept}
 
 -- the other way leads back
 pub returns : (w : Way) (f : Form) (p q : Place) → IsSoundForm f → IsInside p → form_goes w f p ≡ Some q → form_goes (turned w) f q ≡ Some p

@@ -1,5 +1,5 @@
 -- Places and keys lead to and fro. Serves all calls of a grid.
-use Rattle.std.proofs.Common.{◌≡◌, ◌∙◌, sym, ap, refl, subst, ◌↔◌, ℕ, ◌<◌, Option, Some, None, option_map, option_and_then, IsSome, is_some}
+use Rattle.std.proofs.Common.{◌≡◌, ◌∙◌, sym, ap, refl, subst, ℕ, ◌<◌, Option, Some, None, option_map, option_and_then, IsSome}
 use Rattle.std.proofs.lemmas.Option.{same_Some}
 use Rattle.cell_addr.specs.Place.{IsInside}
 use Rattle.cell_addr.specs.declared.place.Place.{Place}

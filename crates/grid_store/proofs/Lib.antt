@@ -10,3 +10,5 @@ pub mod LostCells
 pub mod Unchanged
 pub mod Fills
 pub mod CarriedCells
+pub mod Exchanges
+pub mod SameKeys

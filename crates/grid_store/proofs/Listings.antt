@@ -1,7 +1,9 @@
 -- How far a block's cells are found, key by key of its rows. Serves the lists of cells.
 use Rattle.std.proofs.Common.{◌≡◌, ◌∙◌, sym, ap, refl, subst, ℕ, ◌+◌, ◌-◌, ◌<◌, ◌≤◌, ◌⊎◌, inl, inr, Bool, true, false, cond, List, [], ◌∷◌, Option, Some, None, IsSome, is_some, not, ◌&&◌, arith}
-use Rattle.std.specs.BTreeMap.Range.{IsEntryInRange, entries_between, range_contains}
-use Rattle.std.specs.Ordering.{is_le, nat_cmp, ordering_then}
+use Rattle.std.specs.BTreeMap.Range.{IsEntryInRange, IsRangeOf, entries_between, range_contains}
+use Rattle.std.specs.Ordering.{is_gt, is_le, nat_cmp, ordering_then}
+use Rattle.std.specs.declared.cmp.Ordering.TheVariants.{Less}
+use Rattle.std.specs.Prelude.{IfSome, slice_get}
 use Rattle.std.specs.declared.ops.Bound.{Bound}
 use Rattle.std.specs.declared.ops.Bound.TheVariants.{Included, Excluded}
 use Rattle.std.proofs.lemmas.Bool.Decides.{nat_tests}
@@ -33,7 +35,7 @@ use Rattle.grid_store.specs.declared.cell.Cell.{Cell}
 use Rattle.grid_store.specs.declared.key.CellKey.{CellKey}
 use Rattle.grid_store.specs.internal.Listing.{AreCellsOf, AreLinesAt, HasNone, HasRows, IsAdded, StillHas}
 use Rattle.grid_store.proofs.KeyOrder.{key_cmp-IsTotalOrder, key_cmp-IsAntisymmetric}
-use Rattle.grid_store.proofs.KeyPlaces.{inside_key, key_line, key_of_place, key_sheet, place_of_key}
+use Rattle.grid_store.proofs.KeyPlaces.{inside_key, key_col, key_line, key_of_place, key_sheet, place_of_key}
 use Rattle.grid_store.proofs.Views.{get-seen_at, kept, key_of_seen, seen}
 
 sum : (a b : ℕ) → b ≤ a → a ≡ b + (a - b)
@@ -43,12 +45,16 @@ sum a b le = omega arith
 abbrev pub IsOn : ℕ → Run → CellKey → Type 0
 IsOn sheet lines k = (k.sheet ≡ sheet) × (lines.to ≤ k.row) × (k.row < lines.to + lines.count)
 
--- the block's cells on some lines, as far as their keys have been gone through
-pub record Progress (rows cols : SheetLines) (es : List (CellKey × Cell)) (area : Block) (lines : Run) (before found : BTreeMap Place Cell) (rest : List (CellKey × Cell)) : Type 0 where
+-- the key is of the sheet and of this line of rows, and the line of its column is one of these
+abbrev pub IsIn : ℕ → ℕ → Run → CellKey → Type 0
+IsIn sheet row lines k = (k.sheet ≡ sheet) × (k.row ≡ row) × (lines.to ≤ k.col) × (k.col < lines.to + lines.count)
+
+-- the block's cells on one line of rows and some lines of columns, as far as their keys have been gone through
+pub record Progress (rows cols : SheetLines) (es : List (CellKey × Cell)) (area : Block) (row : ℕ) (lines : Run) (before found : BTreeMap Place Cell) (rest : List (CellKey × Cell)) : Type 0 where
   pub cells : AreCellsOf area (seen rows cols es) found
   pub still : StillHas before found
   pub entries : AllByRecursion (λ e. kept es e.0 ≡ Some e.1) rest
-  pub pending : (k : CellKey) (q : Place) → IsSome (kept es k) → IsOn area.sheet lines k → place_at rows cols k ≡ Some q → covers area q ≡ true → IsSome (tree.get place_cmp found q) ⊎ IsSome (kept rest k)
+  pub pending : (k : CellKey) (q : Place) → IsSome (kept es k) → IsIn area.sheet row lines k → place_at rows cols k ≡ Some q → covers area q ≡ true → IsSome (tree.get place_cmp found q) ⊎ IsSome (kept rest k)
 
 -- the key of a place in the block is on the lines of its row
 on_lines : (rows cols : SheetLines) (area : Block) (lines : Run) (q : Place) (k : CellKey) → AreLinesAt (table_of rows area.sheet) lines → Covers area q → key_at rows cols q ≡ Some k → lines.from ≤ q.row → q.row < lines.from + lines.count
@@ -60,21 +66,31 @@ on_lines rows cols area lines q k lines_at c key low high =
     let row : k.row ≡ lines.to + (q.row - lines.from) = same_Some k.row _ (sym line ∙ ap (λ s. line_at (table_of rows s) q.row) (sym c.0) ∙ at) in
     (sym (key_sheet rows cols q k key) ∙ sym c.0, omega arith, omega arith)
 
+-- the key of a place in the block is on the line of its column
+in_lines : (rows cols : SheetLines) (area : Block) (row : ℕ) (lines : Run) (q : Place) (k : CellKey) → AreLinesAt (table_of cols area.sheet) lines → Covers area q → key_at rows cols q ≡ Some k → k.row ≡ row → lines.from ≤ q.col → q.col < lines.from + lines.count
+    → IsIn area.sheet row lines k
+in_lines rows cols area row lines q k lines_at c key on low high =
+    let line : line_at (table_of cols q.sheet) q.col ≡ Some k.col = key_col rows cols q k key in
+    let at : line_at (table_of cols area.sheet) q.col ≡ Some (lines.to + (q.col - lines.from)) =
+    ap (line_at (table_of cols area.sheet)) (sum q.col lines.from low) ∙ lines_at (q.col - lines.from) (omega arith) in
+    let col : k.col ≡ lines.to + (q.col - lines.from) = same_Some k.col _ (sym line ∙ ap (λ s. line_at (table_of cols s) q.col) (sym c.0) ∙ at) in
+    (sym (key_sheet rows cols q k key) ∙ sym c.0, on, omega arith, omega arith)
+
 same_place_test : (p q : Place) → (is_at (place_cmp p) q ≡ true) → p ≡ q
 same_place_test p q h = (eq_by_cmp-decides place_cmp-IsTotalOrder place_cmp-IsAntisymmetric p q).0 h
 
 same_key_test : (k l : CellKey) → (is_at (key_cmp k) l ≡ true) → k ≡ l
 same_key_test k l h = (eq_by_cmp-decides key_cmp-IsTotalOrder key_cmp-IsAntisymmetric k l).0 h
 
-module _ (rows cols : SheetLines) (es : List (CellKey × Cell)) (area : Block) (lines : Run) (before : BTreeMap Place Cell) where
+module _ (rows cols : SheetLines) (es : List (CellKey × Cell)) (area : Block) (row : ℕ) (lines : Run) (before : BTreeMap Place Cell) where
   -- the first of what is left is not in the block
   passed_on : (e : CellKey × Cell) (rest : List (CellKey × Cell)) (k : CellKey) (q : Place) (b : Bool) (P : Type 0) → is_at (key_cmp k) e.0 ≡ b → (place_at rows cols e.0 ≡ Some q → covers area q ≡ true → ⊥)
       → place_at rows cols k ≡ Some q → covers area q ≡ true → IsSome (cond b (Some e.1) (kept rest k)) → P ⊎ IsSome (kept rest k)
   passed_on e rest k q true P same out at there some = absurd (out (ap (place_at rows cols) (sym (same_key_test k e.0 same)) ∙ at) there)
   passed_on e rest k q false P same out at there some = inr some
 
-  pub pass : (found : BTreeMap Place Cell) (e : CellKey × Cell) (rest : List (CellKey × Cell)) → Progress rows cols es area lines before found (e ∷ rest)
-      → ((q : Place) → place_at rows cols e.0 ≡ Some q → covers area q ≡ true → ⊥) → Progress rows cols es area lines before found rest
+  pub pass : (found : BTreeMap Place Cell) (e : CellKey × Cell) (rest : List (CellKey × Cell)) → Progress rows cols es area row lines before found (e ∷ rest)
+      → ((q : Place) → place_at rows cols e.0 ≡ Some q → covers area q ≡ true → ⊥) → Progress rows cols es area row lines before found rest
   pass found e rest p out = record {
     cells = p.cells;
     still = p.still;
@@ -106,8 +122,8 @@ module _ (rows cols : SheetLines) (es : List (CellKey × Cell)) (area : Block) (
       inl (ap is_some (added q ∙ ap (λ b. cond b (Some e.1) (tree.get place_cmp found q)) hit))
   added_pending found new e rest at k q false same here added there some = inr some
 
-  pub take_up : (found new : BTreeMap Place Cell) (e : CellKey × Cell) (rest : List (CellKey × Cell)) (at : Place) → Progress rows cols es area lines before found (e ∷ rest)
-      → place_at rows cols e.0 ≡ Some at → covers area at ≡ true → IsAdded found at e.1 new → Progress rows cols es area lines before new rest
+  pub take_up : (found new : BTreeMap Place Cell) (e : CellKey × Cell) (rest : List (CellKey × Cell)) (at : Place) → Progress rows cols es area row lines before found (e ∷ rest)
+      → place_at rows cols e.0 ≡ Some at → covers area at ≡ true → IsAdded found at e.1 new → Progress rows cols es area row lines before new rest
   take_up found new e rest at p here there added = record {
     cells = λ q c h. added_cell found at q e.1 c (is_at (place_cmp at) q) refl there (get-seen_at rows cols es at e.0 (key_of_place rows cols e.0 at here) ∙ p.entries.0) (p.cells q c) (sym (added q) ∙ h);
     still = λ q some. subst IsSome (sym (added q)) (still_or (is_at (place_cmp at) q) e.1 (tree.get place_cmp found q) (p.still q some));
@@ -119,57 +135,124 @@ module _ (rows cols : SheetLines) (es : List (CellKey × Cell)) (area : Block) (
   }
 
   -- where no key is left, all cells on the lines are found
-  pub gone_through : (found : BTreeMap Place Cell) → Progress rows cols es area lines before found [] → AreLinesAt (table_of rows area.sheet) lines → HasRows area (seen rows cols es) lines.from (lines.from + lines.count) found
-  gone_through found p lines_at q there some low high =
-      let c = Covers-from_covers area q there in
-      let w = key_of_seen rows cols es q some in
-      elim (p.pending w.0 q w.2 (on_lines rows cols area lines q w.0 lines_at c w.1 low high) (place_of_key rows cols q w.0 w.1) there) [
+  pub gone_through : (found : BTreeMap Place Cell) → Progress rows cols es area row lines before found [] → AreLinesAt (table_of cols area.sheet) lines
+      → (k : CellKey) (q : Place) → IsSome (kept es k) → k.row ≡ row → place_at rows cols k ≡ Some q → covers area q ≡ true → lines.from ≤ q.col → q.col < lines.from + lines.count → IsSome (tree.get place_cmp found q)
+  gone_through found p lines_at k q some on at there low high =
+      elim (p.pending k q some (in_lines rows cols area row lines q k lines_at (Covers-from_covers area q there) (key_of_place rows cols k q at) on low high) at there) [
         | inl h ↦ h
         | inr h ↦ cc
       ]
-
--- the first key on some lines of a sheet, and the first past them
-abbrev pub first_on : ℕ → Run → CellKey
-first_on sheet lines = record { sheet = sheet; row = lines.to; col = 0 }
-
-abbrev pub end_on : ℕ → Run → CellKey
-end_on sheet lines = record { sheet = sheet; row = lines.to + lines.count; col = 0 }
-
-from_first : (sheet a r c s : ℕ) → s ≡ sheet → a ≤ r → is_le (ordering_then (nat_cmp sheet s) (ordering_then (nat_cmp a r) (nat_cmp 0 c))) ≡ true
-from_first sheet a r c s e le = grind (arith, nat_tests)
-
-before_end : (sheet b r c s : ℕ) → s ≡ sheet → r < b → is_le (ordering_then (nat_cmp sheet s) (ordering_then (nat_cmp b r) (nat_cmp 0 c))) ≡ false
-before_end sheet b r c s e lt = grind (arith, nat_tests)
 
 both : (a b : Bool) → a ≡ true → b ≡ false → (a && not b) ≡ true
 both true false e f = refl
 both true true e f = cc
 both false b e f = cc
 
-on_range : (sheet : ℕ) (lines : Run) (k : CellKey) → IsOn sheet lines k → range_contains key_cmp (Included (first_on sheet lines)) (Excluded (end_on sheet lines)) k ≡ true
-on_range sheet lines k on = both _ _ (from_first sheet lines.to k.row k.col k.sheet on.0 on.1) (before_end sheet (lines.to + lines.count) k.row k.col k.sheet on.0 on.2)
-
--- the keys on some lines are those of their range
-pub kept_on : (sheet : ℕ) (lines : Run) (es : List (CellKey × Cell)) (k : CellKey) → IsOn sheet lines k
-    → kept (entries_between key_cmp (Included (first_on sheet lines)) (Excluded (end_on sheet lines)) es) k ≡ kept es k
-kept_on sheet lines es k on =
-    lookup-filter-keys (is_at (key_cmp k)) (range_contains key_cmp (Included (first_on sheet lines)) (Excluded (end_on sheet lines))) true
-    (λ l same. ap (range_contains key_cmp (Included (first_on sheet lines)) (Excluded (end_on sheet lines))) (sym (same_key_test k l same)) ∙ on_range sheet lines k on) es
-
 values_only : (lo hi : Bound CellKey) (m : BTreeMap CellKey Cell) (rest : List (CellKey × Cell)) → AllByRecursion (IsEntryInRange key_cmp lo hi m) rest → AllByRecursion (λ e. kept m.entries e.0 ≡ Some e.1) rest
 values_only lo hi m [] h = tt
 values_only lo hi m (e ∷ rest) h = (h.0.1, values_only lo hi m rest h.1)
 
+-- the first key on one line of rows and some lines of columns, and the first past them
+abbrev pub first_in : ℕ → ℕ → Run → CellKey
+first_in sheet row lines = record { sheet = sheet; row = row; col = lines.to }
+
+abbrev pub end_in : ℕ → ℕ → Run → CellKey
+end_in sheet row lines = record { sheet = sheet; row = row; col = lines.to + lines.count }
+
+from_first_in : (sheet a b c r s : ℕ) → s ≡ sheet → r ≡ b → a ≤ c → is_le (ordering_then (nat_cmp sheet s) (ordering_then (nat_cmp b r) (nat_cmp a c))) ≡ true
+from_first_in sheet a b c r s e f le = grind (arith, nat_tests)
+
+before_end_in : (sheet a b c r s : ℕ) → s ≡ sheet → r ≡ b → c < a → is_le (ordering_then (nat_cmp sheet s) (ordering_then (nat_cmp b r) (nat_cmp a c))) ≡ false
+before_end_in sheet a b c r s e f lt = grind (arith, nat_tests)
+
+in_range : (sheet row : ℕ) (lines : Run) (k : CellKey) → IsIn sheet row lines k → range_contains key_cmp (Included (first_in sheet row lines)) (Excluded (end_in sheet row lines)) k ≡ true
+in_range sheet row lines k on =
+    both _ _ (from_first_in sheet lines.to row k.col k.row k.sheet on.0 on.1 on.2) (before_end_in sheet (lines.to + lines.count) row k.col k.row k.sheet on.0 on.1 on.3)
+
+-- the keys on them are those of their range
+kept_in : (sheet row : ℕ) (lines : Run) (es : List (CellKey × Cell)) (k : CellKey) → IsIn sheet row lines k
+    → kept (entries_between key_cmp (Included (first_in sheet row lines)) (Excluded (end_in sheet row lines)) es) k ≡ kept es k
+kept_in sheet row lines es k on =
+    lookup-filter-keys (is_at (key_cmp k)) (range_contains key_cmp (Included (first_in sheet row lines)) (Excluded (end_in sheet row lines))) true
+    (λ l same. ap (range_contains key_cmp (Included (first_in sheet row lines)) (Excluded (end_in sheet row lines))) (sym (same_key_test k l same)) ∙ in_range sheet row lines k on) es
+
 -- before the first key
-pub begun : (rows cols : SheetLines) (m : BTreeMap CellKey Cell) (area : Block) (lines : Run) (found : BTreeMap Place Cell) (range rest : List (CellKey × Cell)) → AreCellsOf area (seen rows cols m.entries) found
-    → rest ≡ range → range ≡ entries_between key_cmp (Included (first_on area.sheet lines)) (Excluded (end_on area.sheet lines)) m.entries
-    → All (IsEntryInRange key_cmp (Included (first_on area.sheet lines)) (Excluded (end_on area.sheet lines)) m) range → Progress rows cols m.entries area lines found found rest
-begun rows cols m area lines found range rest cells same between all = record {
-  cells = cells;
-  still = λ q some. some;
-  entries = subst (AllByRecursion (λ e. kept m.entries e.0 ≡ Some e.1)) (sym same) (values_only (Included (first_on area.sheet lines)) (Excluded (end_on area.sheet lines)) m range (recursion_from_All (IsEntryInRange key_cmp (Included (first_on area.sheet lines)) (Excluded (end_on area.sheet lines)) m) range all));
-  pending = λ k q some on at there. inr (subst IsSome (sym (ap (λ r. kept r k) (same ∙ between) ∙ kept_on area.sheet lines m.entries k on)) some);
-}
+pub begun : (rows cols : SheetLines) (m : BTreeMap CellKey Cell) (area : Block) (row : ℕ) (lines : Run) (found : BTreeMap Place Cell) (range rest : List (CellKey × Cell)) → AreCellsOf area (seen rows cols m.entries) found
+    → rest ≡ range → range ≡ entries_between key_cmp (Included (first_in area.sheet row lines)) (Excluded (end_in area.sheet row lines)) m.entries
+    → All (IsEntryInRange key_cmp (Included (first_in area.sheet row lines)) (Excluded (end_in area.sheet row lines)) m) range → Progress rows cols m.entries area row lines found found rest
+begun rows cols m area row lines found range rest cells same between all =
+    let first = Included (first_in area.sheet row lines) in
+    let end = Excluded (end_in area.sheet row lines) in record {
+      cells = cells;
+      still = λ q some. some;
+      entries = subst (AllByRecursion (λ e. kept m.entries e.0 ≡ Some e.1)) (sym same) (values_only first end m range (recursion_from_All (IsEntryInRange key_cmp first end m) range all));
+      pending = λ k q some on at there. inr (subst IsSome (sym (ap (λ r. kept r k) (same ∙ between) ∙ kept_in area.sheet row lines m.entries k on)) some);
+    }
+
+in_sheet : (sheet low high s r c : ℕ) → is_gt (ordering_then (nat_cmp sheet s) (ordering_then (nat_cmp low r) (nat_cmp 0 c))) ≡ false → ordering_then (nat_cmp s sheet) (ordering_then (nat_cmp r high) (nat_cmp c 0)) ≡ Less
+    → (s ≡ sheet) × (low ≤ r) × (r < high)
+in_sheet sheet low high s r c from upto = (grind (arith, nat_tests), grind (arith, nat_tests), grind (arith, nat_tests))
+
+in_rows : (sheet low high s r c : ℕ) → s ≡ sheet → low ≤ r → r < high
+    → (is_gt (ordering_then (nat_cmp sheet s) (ordering_then (nat_cmp low r) (nat_cmp 0 c))) ≡ false) × (ordering_then (nat_cmp s sheet) (ordering_then (nat_cmp r high) (nat_cmp c 0)) ≡ Less)
+in_rows sheet low high s r c e f g = (grind (arith, nat_tests), grind (arith, nat_tests))
+
+row_order : (sheet s t a b c d : ℕ) → s ≡ sheet → t ≡ sheet → is_gt (ordering_then (nat_cmp s t) (ordering_then (nat_cmp a b) (nat_cmp c d))) ≡ false → a ≤ b
+row_order sheet s t a b c d e f g = grind (arith, nat_tests)
+
+abbrev pub RowsRange : BTreeMap CellKey Cell → ℕ → ℕ → ℕ → List (CellKey × Cell) → Type 0
+RowsRange m sheet low high range = IsRangeOf key_cmp (Included (record { sheet = sheet; row = low; col = 0 })) (Excluded (record { sheet = sheet; row = high; col = 0 })) m range
+
+-- the first key of some rows' range is of those rows, and none of the rows before it has a key
+pub first_row : (m : BTreeMap CellKey Cell) (sheet low high : ℕ) (e : CellKey × Cell) (rest range : List (CellKey × Cell)) → range ≡ e ∷ rest → RowsRange m sheet low high range
+    → (low ≤ e.0.row) × (e.0.row < high) × ((k : CellKey) → IsSome (kept m.entries k) → k.sheet ≡ sheet → low ≤ k.row → k.row < e.0.row → ⊥)
+first_row m sheet low high e rest range is parts =
+    let one : IsEntryInRange key_cmp (Included (record { sheet = sheet; row = low; col = 0 })) (Excluded (record { sheet = sheet; row = high; col = 0 })) m e =
+    subst (λ (r : List (CellKey × Cell)). IfSome (slice_get r 0) (IsEntryInRange key_cmp (Included (record { sheet = sheet; row = low; col = 0 })) (Excluded (record { sheet = sheet; row = high; col = 0 })) m)) is parts.1 in
+    let own = in_sheet sheet low high e.0.sheet e.0.row e.0.col one.0.0 one.0.1 in (
+      own.1,
+      own.2,
+      λ k some on from under.
+          let ahead : IfSome (slice_get (e ∷ rest) 0) (λ f. is_gt (key_cmp f.0 k) ≡ false) =
+          subst (λ (r : List (CellKey × Cell)). IfSome (slice_get r 0) (λ f. is_gt (key_cmp f.0 k) ≡ false)) is (parts.2 k (in_rows sheet low high k.sheet k.row k.col on from (omega (arith, under, own.2))) some) in
+          let order = row_order sheet e.0.sheet k.sheet e.0.row k.row e.0.col k.col own.0 on ahead in absurd (omega (arith, order, under)),
+    )
+
+-- where the range is empty, none of the rows has a key
+pub no_row : (m : BTreeMap CellKey Cell) (sheet low high : ℕ) (range : List (CellKey × Cell)) → range ≡ [] → RowsRange m sheet low high range
+    → (k : CellKey) → IsSome (kept m.entries k) → k.sheet ≡ sheet → low ≤ k.row → k.row < high → ⊥
+no_row m sheet low high range is parts k some on from under =
+    both_ways _ (ap is_some (parts.5 is k (in_rows sheet low high k.sheet k.row k.col on from under))) some
+
+pub cases_lt : (a b : ℕ) → (a < b) ⊎ (b ≤ a)
+cases_lt a b = grind arith
+
+less : (a b c d : ℕ) → c ≡ d → a < d → c ≤ b → a < b
+less a b c d e h k = omega arith
+
+-- the key of a cell in the block is of its sheet
+pub covers_sheet : (rows cols : SheetLines) (area : Block) (k : CellKey) (q : Place) → place_at rows cols k ≡ Some q → covers area q ≡ true → k.sheet ≡ area.sheet
+covers_sheet rows cols area k q at there = sym (key_sheet rows cols q k (key_of_place rows cols k q at)) ∙ sym (Covers-from_covers area q there).0
+
+-- past the sheet's last column no cell stands
+pub stands_before : (rows cols : SheetLines) → rows.plain.limit ≡ ROWS → cols.plain.limit ≡ COLS → (sheet col : ℕ) → (col < (table_of cols sheet).limit → ⊥)
+    → (k : CellKey) (q : Place) → place_at rows cols k ≡ Some q → q.col < col
+stands_before rows cols rl cl sheet col past k q at =
+    let i = inside_key rows cols rl cl q k (key_of_place rows cols k q at) in
+    let limit : (table_of cols sheet).limit ≡ COLS = cols.limits sheet ∙ cl in
+    elim (cases_lt col (table_of cols sheet).limit) [
+      | inl short ↦ absurd (past short)
+      | inr long ↦ less q.col col (table_of cols sheet).limit COLS limit i.1 long
+    ]
+
+-- where the cells on the lines of some rows are found, those of the rows are
+pub rows_found : (rows cols : SheetLines) (es : List (CellKey × Cell)) (area : Block) (lines : Run) (found : BTreeMap Place Cell) → AreLinesAt (table_of rows area.sheet) lines
+    → ((k : CellKey) (q : Place) → IsSome (kept es k) → place_at rows cols k ≡ Some q → covers area q ≡ true → lines.to ≤ k.row → k.row < lines.to + lines.count → IsSome (tree.get place_cmp found q))
+    → HasRows area (seen rows cols es) lines.from (lines.from + lines.count) found
+rows_found rows cols es area lines found lines_at h q there some low high =
+    let w = key_of_seen rows cols es q some in
+    let on = on_lines rows cols area lines q w.0 lines_at (Covers-from_covers area q there) w.1 low high in
+    h w.0 q w.2 (place_of_key rows cols q w.0 w.1) there on.1 on.2
 
 -- what is found at a place, where all of the block is
 module _ (area : Block) (m : PlaceMap Cell) (found : BTreeMap Place Cell) (cells : AreCellsOf area m found) (rows : HasRows area m 0 (area.bottom + 1) found) where
@@ -190,12 +273,6 @@ module _ (area : Block) (m : PlaceMap Cell) (found : BTreeMap Place Cell) (cells
       ∙ all_found q (covers area q) (tree.get place_cmp found q) (map.get m q) refl refl refl
       ∙ sym (map.get-retain_keys m (covers area) q (λ x t. ap (covers area) (sym (place_cmp-IsAntisymmetric q x t))))))
 
-cases_lt : (a b : ℕ) → (a < b) ⊎ (b ≤ a)
-cases_lt a b = grind arith
-
-less : (a b c d : ℕ) → c ≡ d → a < d → c ≤ b → a < b
-less a b c d e h k = omega arith
-
 -- past the sheet's last row no cell is seen
 pub seen_below : (rows cols : SheetLines) (es : List (CellKey × Cell)) → rows.plain.limit ≡ ROWS → cols.plain.limit ≡ COLS → (sheet row : ℕ) → (row < (table_of rows sheet).limit → ⊥)
     → (q : Place) → IsSome (map.get (seen rows cols es) q) → q.row < row
@@ -209,16 +286,16 @@ seen_below rows cols es rl cl sheet row past q some =
     ]
 
 -- keys on some lines gone through, none of which is in the block
-pub record Search (rows cols : SheetLines) (es : List (CellKey × Cell)) (area : Block) (lines : Run) (rest : List (CellKey × Cell)) : Type 0 where
+pub record Search (rows cols : SheetLines) (es : List (CellKey × Cell)) (area : Block) (row : ℕ) (lines : Run) (rest : List (CellKey × Cell)) : Type 0 where
   pub entries : AllByRecursion (λ e. kept es e.0 ≡ Some e.1) rest
-  pub pending : (k : CellKey) (q : Place) → IsSome (kept es k) → IsOn area.sheet lines k → place_at rows cols k ≡ Some q → covers area q ≡ true → IsSome (kept rest k)
+  pub pending : (k : CellKey) (q : Place) → IsSome (kept es k) → IsIn area.sheet row lines k → place_at rows cols k ≡ Some q → covers area q ≡ true → IsSome (kept rest k)
 
-pub search_begun : (rows cols : SheetLines) (m : BTreeMap CellKey Cell) (area : Block) (lines : Run) (range rest : List (CellKey × Cell))
-    → rest ≡ range → range ≡ entries_between key_cmp (Included (first_on area.sheet lines)) (Excluded (end_on area.sheet lines)) m.entries
-    → All (IsEntryInRange key_cmp (Included (first_on area.sheet lines)) (Excluded (end_on area.sheet lines)) m) range → Search rows cols m.entries area lines rest
-search_begun rows cols m area lines range rest same between all = record {
-  entries = subst (AllByRecursion (λ e. kept m.entries e.0 ≡ Some e.1)) (sym same) (values_only (Included (first_on area.sheet lines)) (Excluded (end_on area.sheet lines)) m range (recursion_from_All (IsEntryInRange key_cmp (Included (first_on area.sheet lines)) (Excluded (end_on area.sheet lines)) m) range all));
-  pending = λ k q some on at there. subst IsSome (sym (ap (λ r. kept r k) (same ∙ between) ∙ kept_on area.sheet lines m.entries k on)) some;
+pub search_begun : (rows cols : SheetLines) (m : BTreeMap CellKey Cell) (area : Block) (row : ℕ) (lines : Run) (range rest : List (CellKey × Cell))
+    → rest ≡ range → range ≡ entries_between key_cmp (Included (first_in area.sheet row lines)) (Excluded (end_in area.sheet row lines)) m.entries
+    → All (IsEntryInRange key_cmp (Included (first_in area.sheet row lines)) (Excluded (end_in area.sheet row lines)) m) range → Search rows cols m.entries area row lines rest
+search_begun rows cols m area row lines range rest same between all = record {
+  entries = subst (AllByRecursion (λ e. kept m.entries e.0 ≡ Some e.1)) (sym same) (values_only (Included (first_in area.sheet row lines)) (Excluded (end_in area.sheet row lines)) m range (recursion_from_All (IsEntryInRange key_cmp (Included (first_in area.sheet row lines)) (Excluded (end_in area.sheet row lines)) m) range all));
+  pending = λ k q some on at there. subst IsSome (sym (ap (λ r. kept r k) (same ∙ between) ∙ kept_in area.sheet row lines m.entries k on)) some;
 }
 
 next_pending : (rows cols : SheetLines) (area : Block) (e : CellKey × Cell) (rest : List (CellKey × Cell)) (k : CellKey) (q : Place) (b : Bool) → is_at (key_cmp k) e.0 ≡ b → (place_at rows cols e.0 ≡ Some q → covers area q ≡ true → ⊥)
@@ -226,20 +303,27 @@ next_pending : (rows cols : SheetLines) (area : Block) (e : CellKey × Cell) (re
 next_pending rows cols area e rest k q true same out at there some = absurd (out (ap (place_at rows cols) (sym (same_key_test k e.0 same)) ∙ at) there)
 next_pending rows cols area e rest k q false same out at there some = some
 
-pub search_on : (rows cols : SheetLines) (es : List (CellKey × Cell)) (area : Block) (lines : Run) (e : CellKey × Cell) (rest : List (CellKey × Cell)) → Search rows cols es area lines (e ∷ rest)
-    → ((q : Place) → place_at rows cols e.0 ≡ Some q → covers area q ≡ true → ⊥) → Search rows cols es area lines rest
-search_on rows cols es area lines e rest s out = record {
+pub search_on : (rows cols : SheetLines) (es : List (CellKey × Cell)) (area : Block) (row : ℕ) (lines : Run) (e : CellKey × Cell) (rest : List (CellKey × Cell)) → Search rows cols es area row lines (e ∷ rest)
+    → ((q : Place) → place_at rows cols e.0 ≡ Some q → covers area q ≡ true → ⊥) → Search rows cols es area row lines rest
+search_on rows cols es area row lines e rest s out = record {
   entries = s.entries.1;
   pending = λ k q some on at there. next_pending rows cols area e rest k q (is_at (key_cmp k) e.0) refl (out q) at there (s.pending k q some on at there);
 }
 
-pub search_hit : (rows cols : SheetLines) (es : List (CellKey × Cell)) (area : Block) (lines : Run) (e : CellKey × Cell) (rest : List (CellKey × Cell)) (at : Place) → Search rows cols es area lines (e ∷ rest)
+pub search_hit : (rows cols : SheetLines) (es : List (CellKey × Cell)) (area : Block) (row : ℕ) (lines : Run) (e : CellKey × Cell) (rest : List (CellKey × Cell)) (at : Place) → Search rows cols es area row lines (e ∷ rest)
     → place_at rows cols e.0 ≡ Some at → covers area at ≡ true → HasAny area (seen rows cols es)
-search_hit rows cols es area lines e rest at s here there = (at, there, ap is_some (get-seen_at rows cols es at e.0 (key_of_place rows cols e.0 at here) ∙ s.entries.0))
+search_hit rows cols es area row lines e rest at s here there = (at, there, ap is_some (get-seen_at rows cols es at e.0 (key_of_place rows cols e.0 at here) ∙ s.entries.0))
 
-pub search_over : (rows cols : SheetLines) (es : List (CellKey × Cell)) (area : Block) (lines : Run) → Search rows cols es area lines [] → AreLinesAt (table_of rows area.sheet) lines → HasNone area (seen rows cols es) lines.from (lines.from + lines.count)
-search_over rows cols es area lines s lines_at q there some low high =
-    let c = Covers-from_covers area q there in
+pub search_over : (rows cols : SheetLines) (es : List (CellKey × Cell)) (area : Block) (row : ℕ) (lines : Run) → Search rows cols es area row lines [] → AreLinesAt (table_of cols area.sheet) lines
+    → (k : CellKey) (q : Place) → IsSome (kept es k) → k.row ≡ row → place_at rows cols k ≡ Some q → covers area q ≡ true → lines.from ≤ q.col → q.col < lines.from + lines.count → ⊥
+search_over rows cols es area row lines s lines_at k q some on at there low high =
+    let left = s.pending k q some (in_lines rows cols area row lines q k lines_at (Covers-from_covers area q there) (key_of_place rows cols k q at) on low high) at there in cc
+
+-- where no cell on the lines of some rows is in the block, none of the rows' is
+pub rows_none : (rows cols : SheetLines) (es : List (CellKey × Cell)) (area : Block) (lines : Run) → AreLinesAt (table_of rows area.sheet) lines
+    → ((k : CellKey) (q : Place) → IsSome (kept es k) → place_at rows cols k ≡ Some q → covers area q ≡ true → lines.to ≤ k.row → k.row < lines.to + lines.count → ⊥)
+    → HasNone area (seen rows cols es) lines.from (lines.from + lines.count)
+rows_none rows cols es area lines lines_at h q there some low high =
     let w = key_of_seen rows cols es q some in
-    let on = on_lines rows cols area lines q w.0 lines_at c w.1 low high in
-    let left = s.pending w.0 q w.2 on (place_of_key rows cols q w.0 w.1) there in cc
+    let on = on_lines rows cols area lines q w.0 lines_at (Covers-from_covers area q there) w.1 low high in
+    h w.0 q w.2 (place_of_key rows cols q w.0 w.1) there on.1 on.2

@@ -1,5 +1,5 @@
 -- The cells that an edit of lines loses, by the block of the lost lines. Serves edits of lines.
-use Rattle.std.proofs.Common.{◌≡◌, ◌∙◌, sym, ap, refl, subst, ℕ, ◌<◌, ◌≤◌, ◌-◌, ◌↔◌, Bool, true, false, cond, not, ◌&&◌, nat_le, ◌==◌, List, [], ◌∷◌, Option, Some, None, option_map, IsSome, is_some, is_none, filter, filter_map, arith}
+use Rattle.std.proofs.Common.{◌≡◌, ◌∙◌, sym, ap, refl, subst, ℕ, ◌<◌, ◌-◌, ◌↔◌, Bool, true, false, cond, not, ◌&&◌, nat_le, ◌==◌, List, [], ◌∷◌, Option, Some, None, option_map, IsSome, is_some, is_none, filter, filter_map, arith}
 use Rattle.std.proofs.lemmas.Bool.{both_ways}
 use Rattle.std.proofs.lemmas.Bool.Decides.{nat_tests}
 use Rattle.std.specs.FinMap as map
@@ -13,7 +13,6 @@ use Rattle.cell_addr.specs.declared.axis.Span.{Span}
 use Rattle.cell_addr.specs.declared.place.Place.{Place}
 use Rattle.cell_addr.specs.declared.place.TheConstants.{ROWS, COLS}
 use Rattle.shift_core.specs.Maps.{AreInside, PlaceMap}
-use Rattle.shift_core.specs.Tables.{by_line}
 use Rattle.shift_core.specs.declared.edit.Edit.{Edit}
 use Rattle.shift_core.specs.declared.form.Form.TheVariants.{Lines}
 use Rattle.shift_core.proofs.Axes.{line_inside}

@@ -1,22 +1,18 @@
 -- Maps from places by what they have at each: parts by a test, and maps without the places of a list.
-use Rattle.std.proofs.Common.{◌≡◌, ◌∙◌, sym, ap, refl, subst, Bool, true, false, cond, not, List, [], ◌∷◌, ◌++◌, Option, Some, None, IsSome, is_some, is_none, filter, filter_map, option_map, option_and_then, ◌↔◌}
+use Rattle.std.proofs.Common.{◌≡◌, ◌∙◌, sym, ap, refl, Bool, true, false, cond, not, List, [], ◌∷◌, Option, Some, None, is_some, filter}
 use Rattle.std.specs.FinMap as map
-use Rattle.std.specs.FinMap.{find, entries, get, get-entries, get-from_entries, get-remove, get-retain_keys, same_map, entries_sorted}
+use Rattle.std.specs.FinMap.{entries, get, get-entries, get-remove, get-retain_keys, same_map, entries_sorted}
 use Rattle.std.specs.FinMap.Entries.{where_key, find-where_key, is_sorted-where_key, same_entries}
-use Rattle.std.specs.List.{AllByRecursion}
 use Rattle.std.specs.Ordering.{eq_by_cmp}
-use Rattle.std.proofs.lemmas.Bool.{both_ways}
 use Rattle.cell_addr.specs.Order.{place_cmp}
-use Rattle.cell_addr.specs.Place.{IsInside, covers}
+use Rattle.cell_addr.specs.Place.{covers}
 use Rattle.cell_addr.specs.declared.place.Block.{Block}
 use Rattle.cell_addr.specs.declared.place.Place.{Place}
 use Rattle.cell_addr.proofs.Places.{place_cmp-IsTotalOrder, place_cmp-IsAntisymmetric}
-use Rattle.shift_core.specs.Maps.{AreInside, PlaceMap}
-use Rattle.shift_core.proofs.CarriedEntries.{eq_by_cmp-decides, find-carried, find-carried_nowhere, find-carried_somewhere}
-use Rattle.shift_core.proofs.MovedMaps.{each_place, find_place}
+use Rattle.shift_core.specs.Maps.{PlaceMap}
+use Rattle.shift_core.proofs.MovedMaps.{find_place}
 use Rattle.grid_store.specs.Grid.{outside, within}
 use Rattle.grid_store.specs.internal.Lists.{without}
-use Rattle.grid_store.specs.internal.Ways.{carried_map, lost_by}
 
 -- maps that have the same at each place
 pub same_places : {X : Type 0} (m n : PlaceMap X) → ((q : Place) → get m q ≡ get n q) → m ≡ n

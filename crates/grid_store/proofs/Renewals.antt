@@ -1,18 +1,16 @@
 -- What a grid stands for once lines of a sheet are renewed: each key at the place that its line comes to. Serves inserts, deletions and moves
 -- of rows and columns.
-use Rattle.std.proofs.Common.{◌≡◌, ◌≢◌, ◌∙◌, sym, ap, refl, subst, ℕ, ◌<◌, ◌≤◌, ◌⊎◌, inl, inr, Bool, true, false, ◌==◌, List, Option, Some, None, option_map, option_and_then, IsSome, IsSomeAnd, is_some, arith}
+use Rattle.std.proofs.Common.{◌≡◌, ◌∙◌, sym, ap, refl, subst, ℕ, ◌<◌, ◌≤◌, inl, inr, false, ◌==◌, List, Option, Some, None, option_map, option_and_then, IsSome, IsSomeAnd, arith}
 use Rattle.std.proofs.lemmas.Bool.{ne_eqb}
-use Rattle.std.proofs.lemmas.Option.{same_Some}
-use Rattle.cell_addr.specs.Axis.{limit_of, line_of, with_line}
+use Rattle.cell_addr.specs.Axis.{limit_of, line_of}
 use Rattle.cell_addr.specs.Place.{IsInside}
 use Rattle.cell_addr.specs.declared.axis.Axis.{Axis}
 use Rattle.cell_addr.specs.declared.axis.Axis.TheVariants.{Rows, Cols}
 use Rattle.cell_addr.specs.declared.place.Place.{Place}
-use Rattle.cell_addr.specs.declared.place.TheConstants.{ROWS, COLS}
 use Rattle.shift_core.specs.Form.{across}
 use Rattle.shift_core.specs.Tables.{by_line}
 use Rattle.shift_core.proofs.Axes.{across-with_line, cases_by_line, line_inside, line_of-with_line, lost_line, sheet-with_line}
-use Rattle.stable_lines.specs.Lines.{AreRenewed, ComesTo, line_at, position_of}
+use Rattle.stable_lines.specs.Lines.{AreRenewed, ComesTo, line_at}
 use Rattle.stable_lines.specs.Sheets.{table_of}
 use Rattle.stable_lines.specs.declared.sheets.SheetLines.{SheetLines}
 use Rattle.stable_lines.specs.declared.table.LineTable.{LineTable}

@@ -1,5 +1,5 @@
 -- What a grid stands for once lines of a sheet are renewed is the map that the edit carries.
-use Rattle.std.proofs.Common.{◌≡◌, ◌∙◌, sym, ap, refl, subst, ℕ, Bool, List, Option, Some, None, option_and_then, IsSome, is_some}
+use Rattle.std.proofs.Common.{◌≡◌, ◌∙◌, sym, ap, refl, ℕ, List, Option, Some, None, option_and_then, IsSome, is_some}
 use Rattle.std.specs.FinMap.{get}
 use Rattle.std.proofs.lemmas.Bool.{both_ways}
 use Rattle.cell_addr.specs.Axis.{limit_of}

@@ -1,8 +1,7 @@
 -- A grid whose lines are the same at all positions stands for the same map. Serves copies.
-use Rattle.std.proofs.Common.{◌≡◌, ◌∙◌, sym, ap, refl, ℕ, List, Option, option_map, option_and_then, filter_map}
+use Rattle.std.proofs.Common.{◌≡◌, List, option_map, option_and_then, filter_map}
 use Rattle.std.specs.FinMap.{from_entries}
-use Rattle.stable_lines.specs.Lines.{position_of}
-use Rattle.stable_lines.specs.Sheets.{AreUnchanged, table_of}
+use Rattle.stable_lines.specs.Sheets.{AreUnchanged}
 use Rattle.stable_lines.specs.declared.sheets.SheetLines.{SheetLines}
 use Rattle.grid_store.specs.Keys.{place_at}
 use Rattle.grid_store.specs.declared.cell.Cell.{Cell}

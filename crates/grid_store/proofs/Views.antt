@@ -1,21 +1,19 @@
 -- The map that kept cells stand for: what it has at a place, and changes at one place. Serves the calls of a grid.
-use Rattle.std.proofs.Common.{◌≡◌, ◌∙◌, sym, ap, refl, subst, ◌↔◌, Bool, true, false, cond, List, [], ◌∷◌, length, ℕ, Option, Some, None, option_map, option_and_then, option_copied, IsSome, is_some, filter_map, Bor, Result, Ok, Err, OnOk, OnErr, suc, ◌+◌, arith}
+use Rattle.std.proofs.Common.{◌≡◌, ◌∙◌, sym, ap, refl, subst, ◌↔◌, Bool, true, false, cond, List, [], ◌∷◌, length, Option, Some, None, option_map, option_and_then, IsSome, is_some, filter_map, Result, Ok, Err, OnOk, OnErr, suc, ◌+◌, arith}
 use Rattle.std.specs.declared.cmp.Ordering.TheVariants.{Less}
 use Rattle.std.specs.List.Sorted.{IsStrictlySortedBy}
-use Rattle.std.specs.BTreeMap as tree
 use Rattle.std.specs.BTreeMap.{is_at}
-use Rattle.std.specs.FinMap.{FinMap, find, entries, empty, get, insert, remove, from_entries, get-entries, get-from_entries, get-insert, get-remove, same_map, contains_key, len, len-insert, len-empty}
+use Rattle.std.specs.FinMap.{find, get, insert, remove, from_entries, get-from_entries, get-insert, get-remove, same_map, contains_key, len, len-insert, len-empty}
 use Rattle.std.specs.List.{AllByRecursion, cons_option}
 use Rattle.std.specs.Map.{lookup, keys_of}
 use Rattle.std.specs.Ordering.{eq_by_cmp, is_eq}
 use Rattle.std.proofs.lemmas.Option.{same_Some}
 use Rattle.cell_addr.specs.Order.{place_cmp}
-use Rattle.cell_addr.specs.Place.{IsInside}
 use Rattle.cell_addr.specs.declared.place.Place.{Place}
 use Rattle.cell_addr.proofs.Entries.{lookup-find}
 use Rattle.cell_addr.proofs.Places.{place_cmp-IsTotalOrder, place_cmp-IsAntisymmetric}
 use Rattle.shift_core.specs.Maps.{PlaceMap}
-use Rattle.shift_core.proofs.CarriedEntries.{carried_entry, eq_by_cmp-decides, find-carried, find-carried_nowhere, same_test}
+use Rattle.shift_core.proofs.CarriedEntries.{eq_by_cmp-decides, find-carried, find-carried_nowhere, same_test}
 use Rattle.stable_lines.specs.declared.sheets.SheetLines.{SheetLines}
 use Rattle.grid_store.specs.Grid.{placed}
 use Rattle.grid_store.specs.Keys.{key_at, key_cmp, place_at}

@@ -1,5 +1,5 @@
 -- Where cells are kept: under the lines of their rows and columns. Source: this project's own.
-use Rattle.std.specs.Prelude.{ℕ, Option, option_map, option_and_then}
+use Rattle.std.specs.Prelude.{Option, option_map, option_and_then}
 use Rattle.std.specs.declared.cmp.Ordering.{Ordering}
 use Rattle.std.specs.Ordering.{nat_cmp, ordering_then}
 use Rattle.cell_addr.specs.declared.place.Place.{Place}

@@ -3,3 +3,4 @@ pub mod Listing
 pub mod Lists
 pub mod Ways
 pub mod Renewal
+pub mod Exchange

@@ -17,13 +17,12 @@ use crate::way::{Way, lost_lines};
 use cell_addr::{Axis, Block, COLS, ROWS};
 use shift_core::Edit;
 use stable_lines::LineTable;
-use std::alloc::{AllocError, Global};
+use std::alloc::AllocError;
 
 impl Grid {
     // Edits the lines of a sheet: each cell stays under its key, and those of lost lines are handed out.
     pub(crate) fn carry_lines(
         &mut self,
-        alloc: Global,
         way: Way,
         sheet: u32,
         axis: Axis,
@@ -35,15 +34,16 @@ impl Grid {
         ensures err { OnErr result (cells_of self.new ≡ cells_of self.old) }
     {
         self.reserve(axis, sheet)?;
-        let table = self.renewed(alloc, way, sheet, axis, edit)?;
-        let lost = self.clear_lost(alloc, way, sheet, axis, edit)?;
+        let table = self.renewed(way, sheet, axis, edit)?;
+        let lost = self.clear_lost(way, sheet, axis, edit)?;
         self.renew(way, sheet, axis, edit, table);
         Ok(lost)
     }
 
     // Keeps room for another table of the sheet's lines.
-    fn reserve(&mut self, axis: Axis, sheet: u32) -> Result<(), AllocError>
+    pub(crate) fn reserve(&mut self, axis: Axis, sheet: u32) -> Result<(), AllocError>
         ensures cells { cells_of self.new ≡ cells_of self.old }
+        ensures keys { self.new.cells ≡ self.old.cells }
         ensures room { OnOk result (HasRoom (along axis self.new.rows self.new.cols) sheet) }
     {
         match axis {
@@ -53,9 +53,8 @@ impl Grid {
     }
 
     // The sheet's lines after the edit.
-    fn renewed(
+    pub(crate) fn renewed(
         &self,
-        alloc: Global,
         way: Way,
         sheet: u32,
         axis: Axis,
@@ -69,15 +68,14 @@ impl Grid {
             Axis::Cols => &self.cols,
         };
         match way {
-            Way::Forth => lines.table(sheet).edited(alloc, edit),
-            Way::Back => lines.table(sheet).unedited(alloc, edit),
+            Way::Forth => lines.table(sheet).edited(self.alloc, edit),
+            Way::Back => lines.table(sheet).unedited(self.alloc, edit),
         }
     }
 
     // Empties what the edit loses.
     fn clear_lost(
         &mut self,
-        alloc: Global,
         way: Way,
         sheet: u32,
         axis: Axis,
@@ -89,18 +87,19 @@ impl Grid {
         ensures lines { KeepsLines self.old self.new }
     {
         match lost_lines(way, edit, axis.limit()) {
-            Some(span) => self.clear(alloc, whole(sheet).with_span(axis, span)),
-            None => Ok(CellList::new(alloc)),
+            Some(span) => self.clear(whole(sheet).with_span(axis, span)),
+            None => Ok(CellList::new(self.alloc)?),
         }
     }
 
     // Puts the lines after the edit in place of those before it.
-    fn renew(&mut self, way: Way, sheet: u32, axis: Axis, edit: Edit, table: LineTable)
+    pub(crate) fn renew(&mut self, way: Way, sheet: u32, axis: Axis, edit: Edit, table: LineTable)
         requires sound { IsSoundEdit (limit_of axis) edit }
         requires room { HasRoom (along axis self.old.rows self.old.cols) sheet }
         requires renewed { AreRenewed (line_goes (turned way) (limit_of axis) edit) (table_of (along axis self.old.rows self.old.cols) sheet) table }
         requires kept { (p : Place) → IsSome (map.get (cells_of self.old) p) → IsSome (form_goes way (Lines sheet axis edit) p) }
-        ensures { cells_of self.new ≡ carried_map (form_goes way (Lines sheet axis edit)) (cells_of self.old) }
+        ensures carried { cells_of self.new ≡ carried_map (form_goes way (Lines sheet axis edit)) (cells_of self.old) }
+        ensures keys { self.new.cells ≡ self.old.cells }
     {
         match axis {
             Axis::Rows => self.rows.replace(sheet, table),

@@ -8,18 +8,18 @@ use crate::cell::Cell;
 use crate::grid::Grid;
 use crate::list::CellList;
 use cell_addr::{Block, Place};
-use std::alloc::{AllocError, Global};
+use std::alloc::AllocError;
 
 impl Grid {
     /// Empties the block, and answers what was filled in it, row by row. Costs about what `listed` does. For want of memory the
     /// grid is as it was.
-    pub fn clear(&mut self, alloc: Global, area: Block) -> Result<CellList, AllocError>
+    pub fn clear(&mut self, area: Block) -> Result<CellList, AllocError>
         ensures removed { IfOk result (λ list. items_of list ≡ map.entries (within area (cells_of self.old))) }
         ensures cleared { OnOk result (cells_of self.new ≡ outside area (cells_of self.old)) }
         ensures err { OnErr result (cells_of self.new ≡ cells_of self.old) }
         ensures lines { KeepsLines self.old self.new }
     {
-        let list = self.listed(alloc, area)?;
+        let list = self.listed(area)?;
         self.empty(list.items());
         Ok(list)
     }

@@ -12,11 +12,12 @@ use std::collections::BTreeMap;
 
 impl Grid {
     /// An equal grid. Costs the number of filled cells.
-    pub fn copied(&self, alloc: Global) -> Result<Grid, AllocError>
+    pub fn copied(&self) -> Result<Grid, AllocError>
         ensures { IfOk result (λ copy. cells_of copy ≡ cells_of self.now) }
     {
         Ok(Grid {
-            cells: copied_cells(alloc, &self.cells)?,
+            alloc: self.alloc,
+            cells: copied_cells(self.alloc, &self.cells)?,
             rows: self.rows.copied()?,
             cols: self.cols.copied()?,
         })

@@ -15,6 +15,7 @@ use std::collections::BTreeMap;
 /// The filled cells of a workbook: a finite map from places to cells.
 #[derive(Drop)]
 pub struct Grid {
+    pub(crate) alloc: Global,
     pub(crate) cells: BTreeMap<CellKey, Cell>,
     pub(crate) rows: SheetLines,
     pub(crate) cols: SheetLines,
@@ -35,6 +36,7 @@ impl Grid {
         ensures { IfOk result (λ grid. cells_of grid ≡ map.empty) }
     {
         Ok(Grid {
+            alloc,
             cells: BTreeMap::new(alloc),
             rows: SheetLines::new(alloc, ROWS)?,
             cols: SheetLines::new(alloc, COLS)?,
@@ -90,6 +92,7 @@ impl Grid {
         ensures ok { OnOk result (cells_of self.new ≡ map.insert (cells_of self.old) at cell) }
         ensures err { OnErr result (cells_of self.new ≡ cells_of self.old) }
         ensures filled { IsSome (map.get (cells_of self.old) at) → IsOk result }
+        ensures lines { KeepsLines self.old self.new }
     {
         let Some(key) = self.key(at) else {
             return Err(AllocError);

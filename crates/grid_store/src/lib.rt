@@ -5,9 +5,9 @@
 //! cells that it loses, and not that of all cells, and a block is listed by what is filled in its rows.
 //!
 //! ```text
-//! grid.put(alloc, at, Cell::Number(n))?;
-//! let removed = grid.apply(alloc, &Shift::DeleteRows { sheet: 0, at: 3, count: 2 })?;
-//! grid.put_back(alloc, &Shift::DeleteRows { sheet: 0, at: 3, count: 2 }, removed)?;
+//! grid.put(at, Cell::Number(n))?;
+//! let removed = grid.apply(&Shift::DeleteRows { sheet: 0, at: 3, count: 2 })?;
+//! grid.put_back(&Shift::DeleteRows { sheet: 0, at: 3, count: 2 }, removed)?;
 //! ```
 #![tactic(auto)]
 
@@ -15,12 +15,14 @@ mod cell;
 mod change;
 mod clearing;
 mod copy;
+mod exchange;
 mod grid;
 mod key;
 mod list;
 mod listing;
 mod moving;
 mod pushing;
+mod restoring;
 #[cfg(test)]
 mod tests;
 mod way;

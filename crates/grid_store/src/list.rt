@@ -1,5 +1,5 @@
 // Lists of cells with their places.
-ghost use Rattle.std.specs.Prelude.{◌≡◌, ◌++◌, ◌∷◌, [], OnOk, OnErr, MatchOption, IsTrue, ◌↔◌};
+ghost use Rattle.std.specs.Prelude.{◌≡◌, ◌++◌, ◌∷◌, [], IfOk, OnOk, OnErr, MatchOption, IsTrue, map, ◌↔◌};
 
 use crate::cell::Cell;
 use cell_addr::Place;
@@ -14,13 +14,13 @@ pub struct CellList {
 impl CellList {
     ghost use Rattle.grid_store.specs.Grid.{AreListedInside, items_of};
 
-    /// A list without cells. Takes no memory.
-    pub fn new(alloc: Global) -> CellList
-        ensures { items_of result ≡ [] }
+    /// A list without cells.
+    pub fn new(alloc: Global) -> Result<CellList, AllocError>
+        ensures { IfOk result (λ list. items_of list ≡ []) }
     {
-        CellList {
+        Ok(CellList {
             list: Vec::new(alloc),
-        }
+        })
     }
 
     /// Adds a cell at the end. For want of memory the list is as it was.
@@ -44,6 +44,17 @@ impl CellList {
         ensures { MatchOption result (items_of self.old ≡ []) (λ last. items_of self.old ≡ items_of self.new ++ last ∷ []) }
     {
         self.list.pop()
+    }
+
+    // The places of the cells, in order.
+    pub(crate) fn places(&self, alloc: Global) -> Result<Vec<Place>, AllocError>
+        ensures { IfOk result (λ places. places.items ≡ map (λ e. e.0) (items_of self.now)) }
+    {
+        let mut places = Vec::new(alloc);
+        for (at, _) in &self.list {
+            places.push(*at)?;
+        }
+        Ok(places)
     }
 
     // The list of the cells with their places.

@@ -1,11 +1,11 @@
 // The filled cells of a block, in the order of their places.
-ghost use Rattle.std.specs.Prelude.{◌≡◌, ◌+◌, ◌<◌, IfOk, OnOk};
+ghost use Rattle.std.specs.Prelude.{◌≡◌, ◌+◌, ◌<◌, ◌≤◌, IfNone, IfOk, IfSome, OnOk};
 ghost use Rattle.std.specs.BTreeMap.{IsEmpty, IsOrdered};
 ghost use Rattle.cell_addr.specs.Order.{place_cmp};
 ghost use Rattle.std.specs.FinMap as map;
 ghost use Rattle.stable_lines.specs.Sheets.{table_of};
 ghost use Rattle.grid_store.specs.Grid.{cells_of, items_of, within};
-ghost use Rattle.grid_store.specs.internal.Listing.{AreCellsOf, AreLinesAt, IsAdded, HasRows, StillHas};
+ghost use Rattle.grid_store.specs.internal.Listing.{AreCellsOf, AreLinesAt, HasCols, HasLines, HasRows, IsAdded, KeepsNone, StillHas};
 
 use crate::cell::Cell;
 use crate::grid::Grid;
@@ -17,24 +17,24 @@ use std::alloc::{AllocError, Global};
 use std::collections::BTreeMap;
 
 impl Grid {
-    /// Copies of the filled cells of the block, row by row. Costs about the number of filled cells in its rows,
-    /// however many rows it has.
-    pub fn listed(&self, alloc: Global, area: Block) -> Result<CellList, AllocError>
+    /// Copies of the filled cells of the block, row by row. Costs about their number and that of its rows that hold any cell, these
+    /// as often as the lines of its columns stand in runs; not the number of its rows, nor of the cells beside it.
+    pub fn listed(&self, area: Block) -> Result<CellList, AllocError>
         ensures { IfOk result (λ list. items_of list ≡ map.entries (within area (cells_of self.now))) }
     {
-        let mut found = BTreeMap::new(alloc);
-        self.find(alloc, area, &mut found)?;
-        in_order(alloc, found)
+        let mut found = BTreeMap::new(self.alloc);
+        self.find(area, &mut found)?;
+        in_order(self.alloc, found)
     }
 
     /// Copies of all filled cells with their places, in no order that is told. Costs the number of filled cells.
-    pub fn all(&self, alloc: Global) -> Result<CellList, AllocError>
+    pub fn all(&self) -> Result<CellList, AllocError>
         ensures { IfOk result (λ list. map.from_entries (items_of list) ≡ cells_of self.now) }
     {
-        let mut list = CellList::new(alloc);
+        let mut list = CellList::new(self.alloc)?;
         for (key, cell) in &self.cells {
             if let Some(at) = self.place(*key) {
-                let cell = cell.copied(alloc)?;
+                let cell = cell.copied(self.alloc)?;
                 list.push(at, cell)?;
             }
         }
@@ -42,12 +42,7 @@ impl Grid {
     }
 
     // Finds the filled cells of the block, by its runs of rows whose lines follow one another.
-    fn find(
-        &self,
-        alloc: Global,
-        area: Block,
-        found: &mut BTreeMap<Place, Cell>,
-    ) -> Result<(), AllocError>
+    fn find(&self, area: Block, found: &mut BTreeMap<Place, Cell>) -> Result<(), AllocError>
         requires { IsEmpty found.old }
         ensures cells { OnOk result (AreCellsOf area (cells_of self.now) found.new) }
         ensures rows { OnOk result (HasRows area (cells_of self.now) 0 (area.bottom + 1) found.new) }
@@ -59,16 +54,15 @@ impl Grid {
                 return Ok(());
             };
             let count = run.count.min((area.bottom - row) as u64 + 1);
-            self.find_on(alloc, area, Run { count, ..run }, found)?;
+            self.find_on(area, Run { count, ..run }, found)?;
             row += count as u32;
         }
         Ok(())
     }
 
-    // Finds the filled cells of the block that are on these lines.
+    // Finds the filled cells of the block that are on these lines of rows, one after the other of those that hold any.
     fn find_on(
         &self,
-        alloc: Global,
         area: Block,
         lines: Run,
         found: &mut BTreeMap<Place, Cell>,
@@ -80,21 +74,89 @@ impl Grid {
         ensures rows { OnOk result (HasRows area (cells_of self.now) lines.from (lines.from + lines.count) found.new) }
         ensures still { OnOk result (StillHas found.old found.new) }
     {
+        let end = lines.to + lines.count;
+        let mut row = lines.to;
+        while let Some(line) = self.filled_line(area.sheet, row, end) {
+            self.find_in_row(area, line, found)?;
+            row = line + 1;
+        }
+        Ok(())
+    }
+
+    // The first of the sheet's lines of rows, from `row` to before `end`, that holds a cell.
+    pub(crate) fn filled_line(&self, sheet: u32, row: u64, end: u64) -> Option<u64>
+        requires { row ≤ end }
+        ensures within { IfSome result (λ line. (row ≤ line) × (line < end)) }
+        ensures before { IfSome result (KeepsNone self.now sheet row) }
+        ensures none { IfNone result (KeepsNone self.now sheet row end) }
+    {
+        let first = CellKey { sheet, row, col: 0 };
+        let end = CellKey {
+            sheet,
+            row: end,
+            col: 0,
+        };
+        match self.cells.range(first..end).next() {
+            Some((key, _cell)) => Some(key.row),
+            None => None,
+        }
+    }
+
+    // Finds the filled cells of the block that are on one line of rows, by its runs of columns whose lines follow one another.
+    fn find_in_row(
+        &self,
+        area: Block,
+        row: u64,
+        found: &mut BTreeMap<Place, Cell>,
+    ) -> Result<(), AllocError>
+        requires { AreCellsOf area (cells_of self.now) found.old }
+        ensures cells { OnOk result (AreCellsOf area (cells_of self.now) found.new) }
+        ensures line { OnOk result (HasLines self.now area row (row + 1) found.new) }
+        ensures still { OnOk result (StillHas found.old found.new) }
+    {
+        let table = self.cols.table(area.sheet);
+        let mut col = area.left;
+        while col <= area.right {
+            let Some(run) = table.run_from(col) else {
+                return Ok(());
+            };
+            let count = run.count.min((area.right - col) as u64 + 1);
+            self.find_between(area, row, Run { count, ..run }, found)?;
+            col += count as u32;
+        }
+        Ok(())
+    }
+
+    // Finds the filled cells of the block that are on one line of rows and these lines of columns.
+    fn find_between(
+        &self,
+        area: Block,
+        row: u64,
+        lines: Run,
+        found: &mut BTreeMap<Place, Cell>,
+    ) -> Result<(), AllocError>
+        requires cells { AreCellsOf area (cells_of self.now) found.old }
+        requires lines { AreLinesAt (table_of self.now.cols area.sheet) lines }
+        requires sum { lines.to + lines.count < 18446744073709551616 }
+        ensures cells { OnOk result (AreCellsOf area (cells_of self.now) found.new) }
+        ensures cols { OnOk result (HasCols self.now area row lines.from (lines.from + lines.count) found.new) }
+        ensures still { OnOk result (StillHas found.old found.new) }
+    {
         let sheet = area.sheet;
         let first = CellKey {
             sheet,
-            row: lines.to,
-            col: 0,
+            row,
+            col: lines.to,
         };
         let end = CellKey {
             sheet,
-            row: lines.to + lines.count,
-            col: 0,
+            row,
+            col: lines.to + lines.count,
         };
         for (key, cell) in self.cells.range(first..end) {
             if let Some(at) = self.place(*key) {
                 if area.holds(at) {
-                    add(alloc, found, at, cell)?;
+                    add(self.alloc, found, at, cell)?;
                 }
             }
         }
@@ -121,7 +183,7 @@ fn in_order(alloc: Global, found: BTreeMap<Place, Cell>) -> Result<CellList, All
     ensures { IfOk result (λ list. (items_of list ≡ found.entries) × IsOrdered place_cmp found) }
 {
     let _many = found.len();
-    let mut list = CellList::new(alloc);
+    let mut list = CellList::new(alloc)?;
     for (at, cell) in found {
         list.push(at, cell)?;
     }

@@ -1,15 +1,14 @@
 // Blocks of cells that are moved, and all structural operations on the grid.
-ghost use Rattle.std.specs.Prelude.{◌≡◌, IfOk, OnOk, OnErr, filter_map};
-ghost use Rattle.std.specs.FinMap as map;
-ghost use Rattle.cell_addr.specs.Place.{IsInside};
+ghost use Rattle.std.specs.Prelude.{◌≡◌, ◌++◌, IfOk, OnOk, OnErr, filter, filter_map, map, not};
+ghost use Rattle.cell_addr.specs.Place.{covers};
 ghost use Rattle.shift_core.specs.Maps.{lost_entries, moved_map, restored_map};
 ghost use Rattle.shift_core.specs.Sound.{IsSound, IsSoundForm};
 ghost use Rattle.shift_core.specs.declared.form.Form.TheVariants.{Cells};
+ghost use Rattle.grid_store.specs.declared.way.Way.TheVariants.{Back};
 ghost use Rattle.grid_store.specs.Grid.{AreListedInside, cells_of, items_of};
 ghost use Rattle.grid_store.specs.internal.Lists.{AreEachInside, carried_entry, with_entries};
 ghost use Rattle.grid_store.specs.internal.Ways.{carried_map, form_goes, goes, lost_by, onto_block, from_block};
 
-use crate::cell::Cell;
 use crate::change::whole;
 use crate::grid::Grid;
 use crate::list::CellList;
@@ -22,97 +21,80 @@ impl Grid {
     /// Does the operation: each cell goes where its place goes. The cells whose places are lost are handed out with those places, row by row.
     ///
     /// An insert, a deletion or a move of rows or columns costs the number of runs of rows that follow one another and what it
-    /// loses; a dropped sheet costs its cells; a move of a block costs the number of filled cells. For want of memory the grid is as it was.
-    pub fn apply(&mut self, alloc: Global, s: &Shift) -> Result<CellList, AllocError>
+    /// loses; a dropped sheet costs its cells; a move of a block those of its two blocks. For want of memory the grid is as it was.
+    pub fn apply(&mut self, s: &Shift) -> Result<CellList, AllocError>
         requires { IsSound s.now }
         ensures moved { OnOk result (cells_of self.new ≡ moved_map s.now (cells_of self.old)) }
         ensures removed { IfOk result (λ list. items_of list ≡ lost_entries s.now (cells_of self.old)) }
         ensures err { OnErr result (cells_of self.new ≡ cells_of self.old) }
     {
-        self.carry(alloc, s, Way::Forth)
+        match s.form() {
+            Form::Lines { sheet, axis, edit } => self.carry_lines(Way::Forth, sheet, axis, edit),
+            Form::Cells { source, to } => {
+                let none = CellList::new(self.alloc)?;
+                self.carry_cells(Way::Forth, source, to, none)
+            }
+            Form::Sheet { sheet } => self.clear(whole(sheet)),
+        }
     }
 
     /// Takes the operation back: the removed cells come to their places, and each other cell to the place that it came from.
     ///
-    /// Costs what the operation does; where cells were removed, the number of filled cells. For want of memory the grid is as it was.
-    pub fn put_back(
-        &mut self,
-        alloc: Global,
-        s: &Shift,
-        removed: CellList,
-    ) -> Result<(), AllocError>
+    /// Costs what the operation does, the cells that are put back, and where there are some the runs of lines of all sheets. Where cells
+    /// stand that an edit of lines loses as it is taken back, of which an operation leaves none, it costs the number of filled cells.
+    /// For want of memory the grid is as it was.
+    pub fn put_back(&mut self, s: &Shift, removed: CellList) -> Result<(), AllocError>
         requires sound { IsSound s.now }
         requires inside { AreListedInside (items_of removed) }
         ensures restored { OnOk result (cells_of self.new ≡ restored_map s.now (items_of removed) (cells_of self.old)) }
         ensures err { OnErr result (cells_of self.new ≡ cells_of self.old) }
     {
-        if removed.items().is_empty() {
-            self.carry(alloc, s, Way::Back)?;
-            return Ok(());
-        }
-        let mut next = self.copied(alloc)?;
-        next.carry(alloc, s, Way::Back)?;
-        next.fill(removed)?;
-        *self = next;
-        Ok(())
+        self.restore(s, removed)
     }
 
-    // Does the operation, or takes it back but for the cells that it removed.
-    fn carry(&mut self, alloc: Global, s: &Shift, way: Way) -> Result<CellList, AllocError>
-        requires { IsSound s.now }
-        ensures carried { OnOk result (cells_of self.new ≡ carried_map (goes way s.now) (cells_of self.old)) }
-        ensures lost { IfOk result (λ list. items_of list ≡ lost_by (goes way s.now) (cells_of self.old)) }
+    // Takes the operation back, and puts the removed cells over what stands then.
+    fn restore(&mut self, s: &Shift, removed: CellList) -> Result<(), AllocError>
+        requires sound { IsSound s.now }
+        requires inside { AreEachInside (items_of removed) }
+        ensures restored { OnOk result (cells_of self.new ≡ with_entries (items_of removed) (carried_map (goes Back s.now) (cells_of self.old))) }
         ensures err { OnErr result (cells_of self.new ≡ cells_of self.old) }
     {
         match s.form() {
-            Form::Lines { sheet, axis, edit } => self.carry_lines(alloc, way, sheet, axis, edit),
-            Form::Cells { source, to } => self.carry_cells(alloc, way, source, to),
-            Form::Sheet { sheet } => self.clear(alloc, whole(sheet)),
+            Form::Lines { sheet, axis, edit } => self.restore_lines(sheet, axis, edit, removed),
+            Form::Cells { source, to } => {
+                self.carry_cells(Way::Back, source, to, removed)?;
+                Ok(())
+            }
+            Form::Sheet { sheet } => {
+                let there = self.listed(whole(sheet))?;
+                let emptied = there.places(self.alloc)?;
+                self.exchange(&emptied, removed)
+            }
         }
     }
 
-    // Moves the cells of a block over those of another.
+    // Moves the cells of a block over those of another, and puts more cells over what stands then.
     fn carry_cells(
         &mut self,
-        alloc: Global,
         way: Way,
         source: Block,
         to: Place,
+        more: CellList,
     ) -> Result<CellList, AllocError>
-        requires { IsSoundForm (Cells source to) }
-        ensures carried { OnOk result (cells_of self.new ≡ carried_map (form_goes way (Cells source to)) (cells_of self.old)) }
+        requires sound { IsSoundForm (Cells source to) }
+        requires inside { AreEachInside (items_of more) }
+        ensures carried { OnOk result (cells_of self.new ≡ with_entries (items_of more) (carried_map (form_goes way (Cells source to)) (cells_of self.old))) }
         ensures lost { IfOk result (λ list. items_of list ≡ lost_by (form_goes way (Cells source to)) (cells_of self.old)) }
         ensures err { OnErr result (cells_of self.new ≡ cells_of self.old) }
     {
         let (from, onto) = blocks(way, source, to);
-        let mut next = self.copied(alloc)?;
-        let moved = next.clear(alloc, from)?;
-        let lost = next.clear(alloc, onto)?;
-        let placed = carried(alloc, way, source, to, moved)?;
-        next.fill(placed)?;
-        *self = next;
+        let moved = self.listed(from)?;
+        let there = self.listed(onto)?;
+        let emptied = both_places(self.alloc, &moved, &there)?;
+        let lost = beside(self.alloc, there, from)?;
+        let placed = carried(way, source, to, moved, more)?;
+        self.exchange(&emptied, placed)?;
         Ok(lost)
-    }
-
-    // Fills the places of the list; of two cells at one place the first counts.
-    fn fill(&mut self, list: CellList) -> Result<(), AllocError>
-        requires { AreEachInside (items_of list) }
-        ensures { OnOk result (cells_of self.new ≡ with_entries (items_of list) (cells_of self.old)) }
-    {
-        let mut list = list;
-        while let Some((at, cell)) = list.pop() {
-            self.set(at, cell)?;
-        }
-        Ok(())
-    }
-
-    // Fills the cell at the place.
-    fn set(&mut self, at: Place, cell: Cell) -> Result<(), AllocError>
-        requires { IsInside at }
-        ensures { OnOk result (cells_of self.new ≡ map.insert (cells_of self.old) at cell) }
-    {
-        self.put(at, cell)?;
-        Ok(())
     }
 }
 
@@ -135,27 +117,51 @@ fn blocks(way: Way, source: Block, to: Place) -> (Block, Block)
     }
 }
 
-// The cells of the list where their places go, those of lost places gone.
+// The places of the cells of both lists.
+fn both_places(alloc: Global, first: &CellList, second: &CellList) -> Result<Vec<Place>, AllocError>
+    ensures { IfOk result (λ places. places.items ≡ map (λ e. e.0) (items_of first.now) ++ map (λ e. e.0) (items_of second.now)) }
+{
+    let mut places = first.places(alloc)?;
+    for (at, _) in second.items() {
+        places.push(*at)?;
+    }
+    Ok(places)
+}
+
+// The cells of the list that are in no place of the block.
+fn beside(alloc: Global, list: CellList, area: Block) -> Result<CellList, AllocError>
+    ensures { IfOk result (λ kept. items_of kept ≡ filter (λ e. not (covers area e.0)) (items_of list)) }
+{
+    let mut kept = CellList::new(alloc)?;
+    for (at, cell) in list.into_items() {
+        if !area.holds(at) {
+            kept.push(at, cell)?;
+        }
+    }
+    Ok(kept)
+}
+
+// More cells, and behind them those of the list where their places go, those of lost places gone.
 fn carried(
-    alloc: Global,
     way: Way,
     source: Block,
     to: Place,
     list: CellList,
+    more: CellList,
 ) -> Result<CellList, AllocError>
     requires { IsSoundForm (Cells source to) }
-    ensures { IfOk result (λ moved. items_of moved ≡ filter_map (carried_entry (form_goes way (Cells source to))) (items_of list)) }
+    ensures { IfOk result (λ all. items_of all ≡ items_of more ++ filter_map (carried_entry (form_goes way (Cells source to))) (items_of list)) }
 {
     let s = Shift::MoveBlock { source, to };
-    let mut moved = CellList::new(alloc);
+    let mut all = more;
     for (at, cell) in list.into_items() {
         let goes = match way {
             Way::Forth => moved_place(&s, at),
             Way::Back => back_place(&s, at),
         };
         if let Some(at) = goes {
-            moved.push(at, cell)?;
+            all.push(at, cell)?;
         }
     }
-    Ok(moved)
+    Ok(all)
 }

@@ -5,8 +5,7 @@ ghost use Rattle.cell_addr.specs.declared.place.Place.{Place};
 ghost use Rattle.shift_core.specs.declared.form.Form.TheVariants.{Lines};
 ghost use Rattle.stable_lines.specs.Sheets.{table_of};
 ghost use Rattle.grid_store.specs.Grid.{HasAny, PushesEntryOff, cells_of};
-ghost use Rattle.grid_store.specs.declared.way.Way.TheVariants.{Forth};
-ghost use Rattle.grid_store.specs.internal.Listing.{AreLinesAt, HasNone};
+ghost use Rattle.grid_store.specs.internal.Listing.{AreLinesAt, HasNone, LacksCols, LacksLines};
 ghost use Rattle.grid_store.specs.internal.Ways.{form_goes};
 
 use crate::change::whole;
@@ -19,7 +18,7 @@ use stable_lines::Run;
 
 impl Grid {
     /// Whether the operation is an insert of rows or columns that pushes a filled cell off the sheet. Takes no memory; costs about
-    /// the number of filled cells in the rows that are looked through.
+    /// the number of rows that hold any cell among those that are looked through.
     pub fn pushed_off(&self, s: &Shift) -> bool
         ensures { IsTrue result ↔ PushesEntryOff s.now (cells_of self.now) }
     {
@@ -28,16 +27,16 @@ impl Grid {
                 sheet,
                 axis,
                 edit: Edit::Insert { at, count },
-            } => self.loses_any(sheet, axis, Edit::Insert { at, count }),
+            } => self.loses_any(Way::Forth, sheet, axis, Edit::Insert { at, count }),
             _ => false,
         }
     }
 
-    // Whether the edit loses a filled cell.
-    fn loses_any(&self, sheet: u32, axis: Axis, edit: Edit) -> bool
-        ensures { IsTrue result ↔ ((p : Place) × IsSome (map.get (cells_of self.now) p) × (form_goes Forth (Lines sheet axis edit) p ≡ None)) }
+    // Whether the edit loses a filled cell on this way.
+    pub(crate) fn loses_any(&self, way: Way, sheet: u32, axis: Axis, edit: Edit) -> bool
+        ensures { IsTrue result ↔ ((p : Place) × IsSome (map.get (cells_of self.now) p) × (form_goes way (Lines sheet axis edit) p ≡ None)) }
     {
-        match lost_lines(Way::Forth, edit, axis.limit()) {
+        match lost_lines(way, edit, axis.limit()) {
             Some(span) => self.has_any(whole(sheet).with_span(axis, span)),
             None => false,
         }
@@ -62,23 +61,61 @@ impl Grid {
         false
     }
 
-    // Whether a cell of the block on these lines is filled.
+    // Whether a cell of the block on these lines of rows is filled.
     fn has_any_on(&self, area: Block, lines: Run) -> bool
         requires lines { AreLinesAt (table_of self.now.rows area.sheet) lines }
         requires sum { lines.to + lines.count < 18446744073709551616 }
         ensures found { IsTrue result → HasAny area (cells_of self.now) }
         ensures none { result ≡ false → HasNone area (cells_of self.now) lines.from (lines.from + lines.count) }
     {
+        let end = lines.to + lines.count;
+        let mut row = lines.to;
+        while let Some(line) = self.filled_line(area.sheet, row, end) {
+            if self.has_any_in_row(area, line) {
+                return true;
+            }
+            row = line + 1;
+        }
+        false
+    }
+
+    // Whether a cell of the block on one line of rows is filled.
+    fn has_any_in_row(&self, area: Block, row: u64) -> bool
+        ensures found { IsTrue result → HasAny area (cells_of self.now) }
+        ensures none { result ≡ false → LacksLines self.now area row (row + 1) }
+    {
+        let table = self.cols.table(area.sheet);
+        let mut col = area.left;
+        while col <= area.right {
+            let Some(run) = table.run_from(col) else {
+                return false;
+            };
+            let count = run.count.min((area.right - col) as u64 + 1);
+            if self.has_any_between(area, row, Run { count, ..run }) {
+                return true;
+            }
+            col += count as u32;
+        }
+        false
+    }
+
+    // Whether a cell of the block on one line of rows and these lines of columns is filled.
+    fn has_any_between(&self, area: Block, row: u64, lines: Run) -> bool
+        requires lines { AreLinesAt (table_of self.now.cols area.sheet) lines }
+        requires sum { lines.to + lines.count < 18446744073709551616 }
+        ensures found { IsTrue result → HasAny area (cells_of self.now) }
+        ensures none { result ≡ false → LacksCols self.now area row lines.from (lines.from + lines.count) }
+    {
         let sheet = area.sheet;
         let first = CellKey {
             sheet,
-            row: lines.to,
-            col: 0,
+            row,
+            col: lines.to,
         };
         let end = CellKey {
             sheet,
-            row: lines.to + lines.count,
-            col: 0,
+            row,
+            col: lines.to + lines.count,
         };
         for (key, _cell) in self.cells.range(first..end) {
             if let Some(at) = self.place(*key) {

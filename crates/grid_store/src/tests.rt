@@ -217,11 +217,11 @@ fn operations_are_done_and_taken_back(rt: HostRuntime) -> Result<(), AllocError>
     for (shift, cells, removed) in &OPERATIONS {
         assert!(rt; sound(shift));
         let mut grid = filled(rt.alloc(), &FILLED)?;
-        let copy = grid.copied(rt.alloc())?;
-        let list = grid.apply(rt.alloc(), shift)?;
+        let copy = grid.copied()?;
+        let list = grid.apply(shift)?;
         assert!(rt; has(&grid, cells) && lists(&list, removed) && has(&copy, &AS_FILLED));
         assert!(rt; list.inside());
-        grid.put_back(rt.alloc(), shift, list)?;
+        grid.put_back(shift, list)?;
         assert!(rt; has(&grid, &AS_FILLED));
     }
     Ok(())
@@ -248,12 +248,12 @@ fn cells_are_filled_listed_and_emptied(rt: HostRuntime) -> Result<(), AllocError
         bottom: 39_999,
         right: 5,
     };
-    let list = grid.listed(rt.alloc(), rows)?;
+    let list = grid.listed(rows)?;
     assert!(rt; lists(&list, &[(0, 3, 1), (0, 3, 2), (0, 4, 0), (0, 9, 5)]));
-    let list = grid.clear(rt.alloc(), rows)?;
+    let list = grid.clear(rows)?;
     assert!(rt; lists(&list, &[(0, 3, 1), (0, 3, 2), (0, 4, 0), (0, 9, 5)]) && grid.filled() == 3);
     let text = Text::from_str(rt.alloc(), "ab")?;
-    let mut list = CellList::new(rt.alloc());
+    let mut list = CellList::new(rt.alloc())?;
     list.push(place((0, 1, 1)), Cell::Text(text))?;
     for (_, cell) in list.items() {
         let copy = cell.copied(rt.alloc())?;

@@ -1,1 +1,4 @@
 pub mod SheetEntries
+pub mod WordNumbers
+pub mod KeyOrder
+pub mod Holders

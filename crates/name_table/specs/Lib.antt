@@ -1,2 +1,7 @@
 pub mod SheetLists
 pub mod Listed
+pub mod Words
+pub mod Scopes
+pub mod Named
+pub mod internal
+pub mod Laws

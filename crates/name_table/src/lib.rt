@@ -1,12 +1,30 @@
-//! The names of a workbook: its list of sheets.
+//! The names of a workbook: its list of sheets, and its named expressions.
 //!
-//! [`Names`] stands for a list of pairs of a sheet's number and name, in the order in which a user sees the sheets. No
-//! number and no name stands twice, where names are compared with their ASCII letters folded. It is the
-//! [`cell_addr::SheetNames`] by which formulas are read and printed.
+//! [`Names`] stands for three things. The list of sheets has pairs of a sheet's number and name, in the order in which a user
+//! sees the sheets; no number and no name stands twice, where names are compared with their ASCII letters folded. It is the
+//! [`cell_addr::SheetNames`] by which formulas are read and printed. The list of words has texts in small letters, each once, and
+//! a word is numbered by its place in it. The named expressions are a finite map from [`NameKey`]s, each a scope and a word, to
+//! holders, numbers under which the caller keeps their formulas.
+//!
+//! ```text
+//! let rate = names.word("Rate")?;                       // and the same number for RATE
+//! names.add(None, rate, 7)?;                            // for the whole workbook
+//! names.add(Some(2), rate, 8)?;                         // for sheet 2
+//! names.find(rate, 2) == Some((Some(2), 8))             // and on other sheets Some((None, 7))
+//! ```
 #![tactic(auto)]
 
+mod copy;
+mod key;
+mod laws;
+mod list;
+mod named;
 mod names;
 #[cfg(test)]
 mod tests;
+mod words;
 
+pub use key::NameKey;
+pub use laws::words_are_numbered;
+pub use list::NameList;
 pub use names::Names;

@@ -1,30 +1,48 @@
-// The list of sheets.
-ghost use Rattle.std.specs.Prelude.{◌≡◌, ◌≤◌, ◌↔◌, IfOk, OnOk, OnErr, IsSome, IsTrue, [], insert, length, slice_get, option_map};
+// Tables of names, and the calls on their list of sheets.
+ghost use Rattle.std.specs.Prelude.{◌≡◌, ◌≤◌, ◌↔◌, ◌<◌, IfOk, OnOk, OnErr, IsSome, IsTrue, [], insert, length, map, slice_get, option_map};
 ghost use Rattle.cell_addr.specs.Sheets.{id_in, name_in, AreSheets};
+ghost use Rattle.std.specs.BTreeMap as tree;
+ghost use Rattle.folded_key.specs.Key.{text_of};
+ghost use Rattle.name_table.specs.Scopes.{key_cmp};
 ghost use Rattle.name_table.specs.SheetLists.{CanJoin, IsFree, renamed_in, left_in, index_in};
+ghost use Rattle.name_table.specs.declared.key.NameKey.{NameKey};
 
+use crate::key::NameKey;
+use crate::words::Words;
 use cell_addr::{SheetNames, Text, same_folded};
 use indexmap::IndexMap;
 use std::alloc::{AllocError, Global};
+use std::collections::BTreeMap;
 
-/// The sheets of a workbook by number and name, in order.
+/// The sheets of a workbook by number and name, in order; words by their numbers; and holders of named expressions by
+/// scope and word.
 #[derive(Drop)]
 pub struct Names {
-    alloc: Global,
-    sheets: IndexMap<u32, Text>,
+    pub(crate) alloc: Global,
+    pub(crate) sheets: IndexMap<u32, Text>,
+    pub(crate) words: Words,
+    pub(crate) holders: BTreeMap<NameKey, u64>,
     ghost proper: { AreSheets sheets.entries },
+    // The word of each named expression is known.
+    pub ghost known: { (k : NameKey) → IsSome (tree.get key_cmp holders k) → k.word < length (map text_of words.spellings.keys) },
 }
 
 impl Names {
     ghost use Rattle.name_table.specs.Listed.{listed};
+    ghost use Rattle.name_table.specs.Named.{KeepsNames, names_of, words_of};
+    ghost use Rattle.std.specs.FinMap as map;
 
-    /// No sheets.
+    /// No sheets, no words and no named expressions.
     pub fn new(alloc: Global) -> Result<Names, AllocError>
-        ensures { IfOk result (λ names. listed names ≡ []) }
+        ensures sheets { IfOk result (λ names. listed names ≡ []) }
+        ensures words { IfOk result (λ names. words_of names ≡ []) }
+        ensures names { IfOk result (λ names. names_of names ≡ map.empty) }
     {
         Ok(Names {
             alloc,
             sheets: IndexMap::new(alloc),
+            words: Words::new(alloc),
+            holders: BTreeMap::new(alloc),
         })
     }
 
@@ -49,6 +67,7 @@ impl Names {
         requires new { CanJoin id name.now (listed self.old) }
         ensures ok { OnOk result (listed self.new ≡ insert (listed self.old) index (id, name.now)) }
         ensures err { OnErr result (listed self.new ≡ listed self.old) }
+        ensures names { KeepsNames self.old self.new }
     {
         let name = Text::from_str(self.alloc, name)?;
         put_in(&mut self.sheets, index, id, name)?;
@@ -62,6 +81,7 @@ impl Names {
         requires free { IsFree id name.now (listed self.old) }
         ensures ok { OnOk result (listed self.new ≡ renamed_in id name.now (listed self.old)) }
         ensures err { OnErr result (listed self.new ≡ listed self.old) }
+        ensures names { KeepsNames self.old self.new }
     {
         let name = Text::from_str(self.alloc, name)?;
         put_again(&mut self.sheets, id, name)?;
@@ -69,11 +89,12 @@ impl Names {
     }
 
     /// Takes the sheet of this number out of the list, and answers where it stood and its name. `None` where no sheet has
-    /// the number. Costs about the number of sheets behind it.
+    /// the number. Names of the sheet's own scope stay. Costs about the number of sheets behind it.
     pub fn remove_sheet(&mut self, id: u32) -> Option<(usize, Text)>
         ensures index { option_map (λ r. r.0) result ≡ index_in id (listed self.old) }
         ensures name { option_map (λ r. r.1) result ≡ name_in (listed self.old) id }
         ensures rest { listed self.new ≡ left_in id (listed self.old) }
+        ensures names { KeepsNames self.old self.new }
     {
         take_out(&mut self.sheets, id)
     }
@@ -84,18 +105,6 @@ impl Names {
     {
         let (id, _) = self.sheets.get_index(index)?;
         Some(*id)
-    }
-
-    /// An equal table. Costs about the size of the names.
-    pub fn copied(&self) -> Result<Names, AllocError>
-        ensures { IfOk result (λ names. listed names ≡ listed self.now) }
-    {
-        let mut copy = Names::new(self.alloc)?;
-        'sheets: for (id, name) in self.sheets.iter() {
-            let index = copy.len();
-            copy.add_sheet(index, *id, name.as_str())?;
-        }
-        Ok(copy)
     }
 }
 

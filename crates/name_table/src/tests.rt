@@ -1,4 +1,4 @@
-use super::Names;
+use super::{NameKey, Names};
 use cell_addr::{SheetNames, Text};
 use std::alloc::AllocError;
 
@@ -21,5 +21,46 @@ fn sheets_keep_their_order(rt: HostRuntime) -> Result<(), AllocError> {
     assert!(rt; copy.id_of("plan") == Some(0));
     assert!(rt; copy.name_of(2).map(Text::as_str) == Some("Stock"));
     assert!(rt; copy.len() == 3);
+    Ok(())
+}
+
+// Gives the scope a name of the text's word, where it has none. Answers the word's number.
+fn define(
+    names: &mut Names,
+    scope: Option<u32>,
+    text: &str,
+    holder: u64,
+) -> Result<u64, AllocError> {
+    let word = names.word(text)?;
+    if names.holder(scope, word).is_none() {
+        names.add(scope, word, holder)?;
+    }
+    Ok(word)
+}
+
+// A sheet's own name is found before that of the whole workbook, and each is listed, copied and taken out by itself.
+#[test]
+fn names_are_found_by_scope(rt: HostRuntime) -> Result<(), AllocError> {
+    let mut names = Names::new(rt.alloc())?;
+    let rate = define(&mut names, None, "Rate", 7)?;
+    let tax = define(&mut names, None, "tax", 9)?;
+    assert!(rt;
+        define(&mut names, Some(2), "RATE", 8)? == rate && names.known("rAtE") == Some(rate)
+    );
+    assert!(rt; names.known("rates").is_none());
+    assert!(rt; names.spelling(rate).map(Text::as_str) == Some("rate"));
+    let copy = names.copied()?;
+    assert!(rt; names.find(rate, 2) == Some((Some(2), 8)));
+    assert!(rt; names.find(rate, 1) == Some((None, 7)));
+    assert!(rt; names.remove(Some(2), rate) == Some(8) && names.remove(Some(2), tax).is_none());
+    assert!(rt; names.find(rate, 2) == Some((None, 7)) && names.find(2, 2).is_none());
+    let list = copy.listed(None)?;
+    assert!(rt; list.items() == [(rate, 7), (tax, 9)].as_slice());
+    let last = NameKey {
+        scope: Some(2),
+        word: rate,
+    };
+    let all = copy.all()?;
+    assert!(rt; all.len() == 3 && all.last() == Some(&(last, 8)));
     Ok(())
 }

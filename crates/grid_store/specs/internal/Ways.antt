@@ -1,5 +1,5 @@
 -- The two ways of a structural operation: forth as it is done, and back as it is taken back.
-use Rattle.std.specs.Prelude.{◌≡◌, ◌-◌, ℕ, Bool, false, ◌&&◌, nat_le, Option, Some, None, option_map, List, filter, filter_map, is_none}
+use Rattle.std.specs.Prelude.{◌-◌, ℕ, Bool, false, ◌&&◌, nat_le, Option, Some, None, option_map, List, filter, filter_map, is_none}
 use Rattle.std.specs.FinMap as map
 use Rattle.cell_addr.specs.declared.axis.Span.{Span}
 use Rattle.cell_addr.specs.declared.place.Block.{Block}

@@ -7,4 +7,5 @@ use Rattle.grid_store.proofs.moving.carried.Given as goal
 
 abbrev pub invariant-loop-at : goal.invariant-loop-at
 invariant-loop-at l =
-    items_of l.moved ++ filter_map (carried_entry (form_goes l.fn.way (Cells l.fn.source l.fn.to))) l.at-iterator.rest.items ≡ filter_map (carried_entry (form_goes l.fn.way (Cells l.fn.source l.fn.to))) (items_of l.fn.list)
+    let goes = form_goes l.fn.way (Cells l.fn.source l.fn.to) in
+    items_of l.all ++ filter_map (carried_entry goes) l.at-iterator.rest.items ≡ items_of l.fn.more ++ filter_map (carried_entry goes) (items_of l.fn.list)

@@ -1,5 +1,5 @@
 -- A listed sheet gets another name, and the list stays proper.
-use Rattle.std.proofs.Common.{◌≡◌, ◌∙◌, sym, subst}
+use Rattle.std.proofs.Common.{◌∙◌, sym, subst}
 use Rattle.cell_addr.specs.Sheets.{AreSheets}
 use Rattle.name_table.proofs.SheetEntries.{put-again, sheets-renamed}
 use Rattle.name_table.proofs.names.put_again.Goals as goal

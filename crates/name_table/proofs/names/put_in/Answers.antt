@@ -1,5 +1,5 @@
 -- A new sheet stands at the index, and the list stays proper.
-use Rattle.std.proofs.Common.{◌≡◌, ◌∙◌, sym, subst, insert}
+use Rattle.std.proofs.Common.{◌∙◌, sym, subst}
 use Rattle.std.specs.Prelude.{IsSome}
 use Rattle.cell_addr.specs.Sheets.{AreSheets}
 use Rattle.name_table.proofs.SheetEntries.{put-at, new-lacks, lookup-lacks, sheets-inserted}

@@ -1,5 +1,5 @@
 -- The sheet of a number is taken out, and the list stays proper.
-use Rattle.std.proofs.Common.{◌≡◌, ◌∙◌, sym, ap, subst, None, option_map}
+use Rattle.std.proofs.Common.{◌∙◌, sym, ap, subst, option_map}
 use Rattle.cell_addr.specs.Sheets.{AreSheets}
 use Rattle.name_table.proofs.SheetEntries.{taken-out, sheets-left, lookup-name}
 use Rattle.name_table.proofs.names.take_out.Goals as goal

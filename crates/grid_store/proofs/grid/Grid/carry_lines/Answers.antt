@@ -1,5 +1,4 @@
-use Rattle.std.proofs.Common.{◌≡◌, ◌∙◌, sym, ap, is_some}
-use Rattle.cell_addr.specs.declared.place.Place.{Place}
+use Rattle.std.proofs.Common.{◌∙◌, ap, is_some}
 use Rattle.shift_core.specs.declared.form.Form.TheVariants.{Lines}
 use Rattle.grid_store.specs.Grid.{cells_of}
 use Rattle.grid_store.specs.internal.Ways.{carried_map, form_goes}
@@ -13,4 +12,4 @@ renew-requires-clause-kept c = λ p some.
 pub returns-clause-carried : goal.returns-clause-carried
 returns-clause-carried c =
     let goes = form_goes c.args.way (Lines c.args.sheet c.args.axis c.args.edit) in
-    c.renew.ensures ∙ ap (carried_map goes) c.in_ok-lost.ensures.kept ∙ carried-kept goes (cells_of c.reserve.new.self) ∙ ap (carried_map goes) c.reserve.ensures.cells
+    c.renew.ensures.carried ∙ ap (carried_map goes) c.in_ok-lost.ensures.kept ∙ carried-kept goes (cells_of c.reserve.new.self) ∙ ap (carried_map goes) c.reserve.ensures.cells

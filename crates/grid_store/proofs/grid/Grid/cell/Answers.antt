@@ -1,4 +1,4 @@
-use Rattle.std.proofs.Common.{◌≡◌, ◌∙◌, sym, ap, option_copied, option_and_then}
+use Rattle.std.proofs.Common.{◌∙◌, sym, ap, option_copied, option_and_then}
 use Rattle.grid_store.proofs.Views.{get-seen, get-seen_at, kept}
 use Rattle.grid_store.proofs.grid.Grid.cell.Goals as goal
 

@@ -1,4 +1,4 @@
-use Rattle.std.proofs.Common.{◌≡◌, ◌∙◌, ap}
+use Rattle.std.proofs.Common.{◌∙◌, ap}
 use Rattle.grid_store.specs.Grid.{cells_of}
 use Rattle.grid_store.specs.internal.Lists.{without}
 use Rattle.grid_store.proofs.PlaceMaps.{without-within}

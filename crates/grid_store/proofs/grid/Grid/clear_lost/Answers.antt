@@ -1,21 +1,21 @@
-use Rattle.std.proofs.Common.{◌≡◌, ◌∙◌, sym, ap, subst, ℕ, ◌<◌, None, Some, is_none, OnOk, IfOk}
+use Rattle.std.proofs.Common.{◌≡◌, ◌∙◌, sym, ap, subst, ℕ, ◌<◌, None, Some, is_none}
 use Rattle.std.specs.FinMap as map
 use Rattle.std.proofs.lemmas.Result.{IfOk-weaker, on_ok_weaker}
-use Rattle.cell_addr.specs.Axis.{limit_of, with_span}
-use Rattle.grid_store.specs.Grid.{cells_of, items_of, outside, within}
+use Rattle.cell_addr.specs.Axis.{with_span}
+use Rattle.grid_store.specs.Grid.{cells_of, outside, within}
 use Rattle.grid_store.specs.internal.Ways.{line_goes, span_has, whole}
 use Rattle.grid_store.proofs.LostCells.{all_kept, kept_outside, lost_within, nothing_lost}
 use Rattle.grid_store.proofs.RenewedCells.{seen_inside}
 use Rattle.grid_store.proofs.grid.Grid.clear_lost.Goals as goal
 
-pub returns-in-None-clause-lost : goal.returns-in-None-clause-lost
-returns-in-None-clause-lost c =
+pub returns-in_ok-new-in-None-clause-lost : goal.returns-in_ok-new-in-None-clause-lost
+returns-in_ok-new-in-None-clause-lost c =
     let g = c.args.self.now in
     let lost = subst (λ n. (line : ℕ) → line < n → span_has None line ≡ is_none (line_goes c.args.way n c.args.edit line)) c.limit.ensures c.in-None.ensures.lost in
-    c.new.ensures ∙ sym (nothing_lost c.args.way c.args.sheet c.args.axis c.args.edit (cells_of g) (seen_inside g.rows g.cols g.cells.entries g.rows_limit g.cols_limit) lost)
+    c.in_ok-new-in-None.ensures ∙ sym (nothing_lost c.args.way c.args.sheet c.args.axis c.args.edit (cells_of g) (seen_inside g.rows g.cols g.cells.entries g.rows_limit g.cols_limit) lost)
 
-pub returns-in-None-clause-kept : goal.returns-in-None-clause-kept
-returns-in-None-clause-kept c =
+pub returns-in_ok-new-in-None-clause-kept : goal.returns-in_ok-new-in-None-clause-kept
+returns-in_ok-new-in-None-clause-kept c =
     let g = c.args.self.now in
     let lost = subst (λ n. (line : ℕ) → line < n → span_has None line ≡ is_none (line_goes c.args.way n c.args.edit line)) c.limit.ensures c.in-None.ensures.lost in
     all_kept c.args.way c.args.sheet c.args.axis c.args.edit (cells_of g) (seen_inside g.rows g.cols g.cells.entries g.rows_limit g.cols_limit) lost

@@ -1,4 +1,4 @@
-use Rattle.std.proofs.Common.{◌≡◌, ◌∙◌, sym, ap, subst, IsSome}
+use Rattle.std.proofs.Common.{◌∙◌, sym, ap, subst, IsSome}
 use Rattle.grid_store.proofs.Unchanged.{place_unchanged, seen_unchanged}
 use Rattle.grid_store.proofs.Views.{kept, seen}
 use Rattle.grid_store.proofs.grid.Grid.copied.Goals as goal

@@ -1,4 +1,4 @@
-use Rattle.std.proofs.Common.{◌≡◌, ◌∙◌, sym}
+use Rattle.std.proofs.Common.{◌∙◌, sym}
 use Rattle.grid_store.proofs.Views.{len-seen}
 use Rattle.grid_store.proofs.grid.Grid.filled.Goals as goal
 

@@ -1,5 +1,4 @@
-use Rattle.std.proofs.Common.{◌<◌, ◌≤◌, false, true, arith}
-use Rattle.std.proofs.lemmas.Bool.{both_ways}
+use Rattle.std.proofs.Common.{◌<◌, arith}
 use Rattle.stable_lines.specs.Sheets.{table_of}
 use Rattle.grid_store.proofs.Listings.{seen_below}
 use Rattle.grid_store.proofs.grid.Grid.find.Goals as goal

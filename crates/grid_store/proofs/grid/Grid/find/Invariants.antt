@@ -1,4 +1,4 @@
-use Rattle.std.proofs.Common.{ℕ, ◌+◌, ◌-◌, ◌≤◌}
+use Rattle.std.proofs.Common.{◌+◌, ◌-◌}
 use Rattle.grid_store.specs.Grid.{cells_of}
 use Rattle.grid_store.specs.internal.Listing.{AreCellsOf, HasRows}
 use Rattle.grid_store.proofs.grid.Grid.find.Given as goal

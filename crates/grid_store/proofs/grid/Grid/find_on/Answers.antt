@@ -1,40 +1,15 @@
-use Rattle.std.proofs.Common.{◌≡◌, ◌∙◌, sym, ap, subst, ◌+◌, ◌<◌, ◌≤◌, [], true, false, Some}
-use Rattle.std.proofs.lemmas.Bool.{both_ways}
-use Rattle.std.proofs.lemmas.Option.{same_Some}
-use Rattle.cell_addr.specs.Place.{covers}
-use Rattle.grid_store.proofs.Listings.{Progress, begun, gone_through, pass, take_up}
+-- The cells on the lines are those of the rows.
+use Rattle.std.proofs.Common.{inl, inr}
+use Rattle.grid_store.proofs.Listings.{cases_lt, covers_sheet, rows_found}
 use Rattle.grid_store.proofs.grid.Grid.find_on.Goals as goal
-
-pub loop-key-init : goal.loop-key-init
-loop-key-init c =
-    let g = c.args.self.now in
-    begun g.rows g.cols g.cells c.args.area c.args.lines c.args.found.now c.range-key-items.result c.into_iter-key-iterator.result c.requires.cells
-    c.into_iter-key-iterator.ensures.into_iter_gives (c.range-key-items.ensures.between tt) (c.range-key-items.ensures.in_range tt).0
-
-pub loop-key-preserved-in-Continue-1 : goal.loop-key-preserved-in-Continue-1
-loop-key-preserved-in-Continue-1 c =
-    let g = c.args.self.now in
-    take_up g.rows g.cols g.cells.entries c.args.area c.args.lines c.args.found.now c.loop-key.found c.add.new.found (c.in-Some.key.now, c.in-Some.cell.now) c.next.new.self c.in-Some-place.at
-    (subst (λ r. Progress g.rows g.cols g.cells.entries c.args.area c.args.lines c.args.found.now c.loop-key.found r) c.in-Some.ensures.steps c.loop-key.invariant)
-    (sym c.in-Some-place.ensures) (sym c.holds.ensures.test ∙ c.if-holds.true) c.in_ok-add.ensures
-
-pub loop-key-preserved-else-holds : goal.loop-key-preserved-else-holds
-loop-key-preserved-else-holds c =
-    let g = c.args.self.now in
-    pass g.rows g.cols g.cells.entries c.args.area c.args.lines c.args.found.now c.loop-key.found (c.in-Some.key.now, c.in-Some.cell.now) c.next.new.self
-    (subst (λ r. Progress g.rows g.cols g.cells.entries c.args.area c.args.lines c.args.found.now c.loop-key.found r) c.in-Some.ensures.steps c.loop-key.invariant)
-    (λ q at there.
-    let same = same_Some c.in-Some-place.at q (c.in-Some-place.ensures ∙ at) in
-    both_ways (covers c.args.area c.in-Some-place.at) (sym c.holds.ensures.test ∙ c.if-holds.false) (ap (covers c.args.area) same ∙ there))
-
-pub returns-clause-cells : goal.returns-clause-cells
-returns-clause-cells c = c.loop-key.invariant.cells
 
 pub returns-clause-rows : goal.returns-clause-rows
 returns-clause-rows c =
     let g = c.args.self.now in
-    gone_through g.rows g.cols g.cells.entries c.args.area c.args.lines c.args.found.now c.loop-key.found
-    (subst (λ r. Progress g.rows g.cols g.cells.entries c.args.area c.args.lines c.args.found.now c.loop-key.found r) c.in-None.ensures.steps.0 c.loop-key.invariant) c.requires.lines
-
-pub returns-clause-still : goal.returns-clause-still
-returns-clause-still c = c.loop-key.invariant.still
+    let i = c.loop-line.invariant in
+    rows_found g.rows g.cols g.cells.entries c.args.area c.args.lines c.loop-line.found c.requires.lines
+    (λ k q some at there low high.
+    elim (cases_lt k.row c.loop-line.row) [
+      | inl before ↦ i.lines k q some at there low before
+      | inr after ↦ absurd (c.in_default.ensures.none k some (covers_sheet g.rows g.cols c.args.area k q at there) after high)
+    ])

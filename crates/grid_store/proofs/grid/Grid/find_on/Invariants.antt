@@ -1,5 +1,16 @@
-use Rattle.grid_store.proofs.Listings.{Progress}
+use Rattle.std.proofs.Common.{◌+◌, ◌-◌, ◌≤◌}
+use Rattle.grid_store.specs.Grid.{cells_of}
+use Rattle.grid_store.specs.internal.Listing.{AreCellsOf, HasLines, StillHas}
 use Rattle.grid_store.proofs.grid.Grid.find_on.Given as goal
 
-abbrev pub invariant-loop-key : goal.invariant-loop-key
-invariant-loop-key l = Progress l.self.rows l.self.cols l.self.cells.entries l.area l.fn.lines l.initial.found l.found l.key-iterator
+abbrev pub invariant-loop-line : goal.invariant-loop-line
+invariant-loop-line l = record {
+  cells : AreCellsOf l.area (cells_of l.self) l.found;
+  lines : HasLines l.self l.area l.fn.lines.to l.row l.found;
+  still : StillHas l.initial.found l.found;
+  from : l.fn.lines.to ≤ l.row;
+  within : l.row ≤ l.fn.lines.to + l.fn.lines.count;
+}
+
+abbrev pub decreases-loop-line : goal.decreases-loop-line
+decreases-loop-line l = l.fn.lines.to + l.fn.lines.count - l.row

@@ -1,4 +1,4 @@
-use Rattle.std.proofs.Common.{◌<◌, ◌≤◌, zero-le, arith}
+use Rattle.std.proofs.Common.{◌<◌, arith}
 use Rattle.stable_lines.specs.Sheets.{table_of}
 use Rattle.grid_store.proofs.Listings.{seen_below}
 use Rattle.grid_store.proofs.grid.Grid.has_any.Goals as goal

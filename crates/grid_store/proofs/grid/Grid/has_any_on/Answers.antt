@@ -1,31 +1,14 @@
-use Rattle.std.proofs.Common.{◌≡◌, ◌∙◌, sym, ap, subst, Some}
-use Rattle.std.proofs.lemmas.Bool.{both_ways}
-use Rattle.std.proofs.lemmas.Option.{same_Some}
-use Rattle.cell_addr.specs.Place.{covers}
-use Rattle.grid_store.proofs.Listings.{Search, search_begun, search_hit, search_on, search_over}
+-- The cells on the lines are those of the rows.
+use Rattle.std.proofs.Common.{inl, inr}
+use Rattle.grid_store.proofs.Listings.{cases_lt, covers_sheet, rows_none}
 use Rattle.grid_store.proofs.grid.Grid.has_any_on.Goals as goal
-
-pub loop-key-init : goal.loop-key-init
-loop-key-init c =
-    let g = c.args.self.now in
-    search_begun g.rows g.cols g.cells c.args.area c.args.lines c.range-key-items.result c.into_iter-key-iterator.result c.into_iter-key-iterator.ensures.into_iter_gives (c.range-key-items.ensures.between tt) (c.range-key-items.ensures.in_range tt).0
-
-pub loop-key-preserved-else-holds : goal.loop-key-preserved-else-holds
-loop-key-preserved-else-holds c =
-    let g = c.args.self.now in
-    search_on g.rows g.cols g.cells.entries c.args.area c.args.lines (c.in-Some.key.now, c.in-Some._cell.now) c.next.new.self
-    (subst (Search g.rows g.cols g.cells.entries c.args.area c.args.lines) c.in-Some.ensures.steps c.loop-key.invariant)
-    (λ q at there.
-    let same = same_Some c.in-Some-place.at q (c.in-Some-place.ensures ∙ at) in
-    both_ways (covers c.args.area c.in-Some-place.at) (sym c.holds.ensures.test ∙ c.if-holds.false) (ap (covers c.args.area) same ∙ there))
-
-pub returns-then-holds-clause-found : goal.returns-then-holds-clause-found
-returns-then-holds-clause-found c = λ _.
-    let g = c.args.self.now in
-    search_hit g.rows g.cols g.cells.entries c.args.area c.args.lines (c.in-Some.key.now, c.in-Some._cell.now) c.next.new.self c.in-Some-place.at
-    (subst (Search g.rows g.cols g.cells.entries c.args.area c.args.lines) c.in-Some.ensures.steps c.loop-key.invariant) (sym c.in-Some-place.ensures) (sym c.holds.ensures.test ∙ c.if-holds.true)
 
 pub returns-clause-none : goal.returns-clause-none
 returns-clause-none c = λ _.
     let g = c.args.self.now in
-    search_over g.rows g.cols g.cells.entries c.args.area c.args.lines (subst (Search g.rows g.cols g.cells.entries c.args.area c.args.lines) c.in-None.ensures.steps.0 c.loop-key.invariant) c.requires.lines
+    rows_none g.rows g.cols g.cells.entries c.args.area c.args.lines c.requires.lines
+    (λ k q some at there low high.
+    elim (cases_lt k.row c.loop-line.row) [
+      | inl before ↦ c.loop-line.invariant.lines k q some at there low before
+      | inr after ↦ c.in_default.ensures.none k some (covers_sheet g.rows g.cols c.args.area k q at there) after high
+    ])

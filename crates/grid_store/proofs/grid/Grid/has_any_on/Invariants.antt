@@ -1,5 +1,13 @@
-use Rattle.grid_store.proofs.Listings.{Search}
+use Rattle.std.proofs.Common.{◌+◌, ◌-◌, ◌≤◌}
+use Rattle.grid_store.specs.internal.Listing.{LacksLines}
 use Rattle.grid_store.proofs.grid.Grid.has_any_on.Given as goal
 
-abbrev pub invariant-loop-key : goal.invariant-loop-key
-invariant-loop-key l = Search l.self.rows l.self.cols l.self.cells.entries l.area l.fn.lines l.key-iterator
+abbrev pub invariant-loop-line : goal.invariant-loop-line
+invariant-loop-line l = record {
+  lines : LacksLines l.self l.area l.fn.lines.to l.row;
+  from : l.fn.lines.to ≤ l.row;
+  within : l.row ≤ l.fn.lines.to + l.fn.lines.count;
+}
+
+abbrev pub decreases-loop-line : goal.decreases-loop-line
+decreases-loop-line l = l.fn.lines.to + l.fn.lines.count - l.row

@@ -1,4 +1,4 @@
-use Rattle.std.proofs.Common.{◌≡◌, ◌∙◌}
+use Rattle.std.proofs.Common.{◌∙◌}
 use Rattle.cell_addr.specs.Axis.{limit_of}
 use Rattle.grid_store.specs.internal.Ways.{line_goes, turned}
 use Rattle.grid_store.proofs.RenewedCells.{renewed_cells, renewed_standing}
@@ -26,14 +26,14 @@ invariant_of-self-in-Cols c =
       standing = renewed_standing c.args.way c.args.sheet c.args.axis c.args.edit c.requires.sound g.rows g.cols g.rows put.new.self renewal g.rows_limit g.cols_limit g.cells.entries g.standing c.requires.kept;
     }
 
-pub returns-in-Rows : goal.returns-in-Rows
-returns-in-Rows c =
+pub returns-in-Rows-clause-carried : goal.returns-in-Rows-clause-carried
+returns-in-Rows-clause-carried c =
     let g = c.args.self.now in
     let renewal = renewed_rows c.args.axis c.in-Rows.is c.args.sheet (line_goes (turned c.args.way) (limit_of c.args.axis) c.args.edit) g.rows g.cols c.replace.new.self c.args.table c.requires.renewed c.replace.ensures.replaced c.replace.ensures.others in
     renewed_cells c.args.way c.args.sheet c.args.axis c.args.edit c.requires.sound g.rows g.cols c.replace.new.self g.cols renewal g.rows_limit g.cols_limit g.cells.entries g.standing (c.replace.ensures.limit ∙ g.rows_limit) g.cols_limit
 
-pub returns-in-Cols : goal.returns-in-Cols
-returns-in-Cols c =
+pub returns-in-Cols-clause-carried : goal.returns-in-Cols-clause-carried
+returns-in-Cols-clause-carried c =
     let g = c.args.self.now in
     let put = c.replace-in-Cols in
     let renewal = renewed_cols c.args.axis c.in-Cols.is c.args.sheet (line_goes (turned c.args.way) (limit_of c.args.axis) c.args.edit) g.rows g.cols put.new.self c.args.table c.requires.renewed put.ensures.replaced put.ensures.others in

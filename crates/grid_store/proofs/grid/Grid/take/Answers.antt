@@ -1,4 +1,4 @@
-use Rattle.std.proofs.Common.{◌≡◌, ◌∙◌, sym, ap, None, option_and_then}
+use Rattle.std.proofs.Common.{◌∙◌, sym, ap, None, option_and_then}
 use Rattle.grid_store.proofs.Views.{get-seen, get-seen_at, kept, remove-absent, seen-remove, standing_after}
 use Rattle.grid_store.proofs.grid.Grid.take.Goals as goal
 

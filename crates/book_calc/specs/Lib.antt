@@ -1,0 +1,4 @@
+pub mod Names
+pub mod Book
+pub mod Values
+pub mod internal

@@ -1,0 +1,29 @@
+-- Cells that are emptied and filled together: lists of places, and maps over them.
+use Rattle.std.specs.Prelude.{◌≡◌, Bool, true, false, List, [], ◌∷◌, IsSome}
+use Rattle.std.specs.FinMap as map
+use Rattle.std.specs.List.{AllByRecursion, list_any}
+use Rattle.std.specs.Ordering.{eq_by_cmp}
+use Rattle.cell_addr.specs.Order.{place_cmp}
+use Rattle.cell_addr.specs.declared.place.Place.{Place}
+use Rattle.shift_core.specs.Maps.{PlaceMap}
+
+-- the place is one of these
+abbrev pub is_among : List Place → Place → Bool
+is_among places q = list_any (eq_by_cmp place_cmp q) places
+
+-- the map without the places
+abbrev pub without_places : {X : Type 0} → List Place → PlaceMap X → PlaceMap X
+without_places [] m = m
+without_places (p ∷ ps) m = without_places ps (map.remove m p)
+
+-- the maps have the same but at these places
+abbrev pub HasSame : {X : Type 0} → List Place → PlaceMap X → PlaceMap X → Type 0
+HasSame places old new = (q : Place) → is_among places q ≡ false → map.get new q ≡ map.get old q
+
+-- each of these places is filled
+abbrev pub HasAll : {X : Type 0} → List Place → PlaceMap X → Type 0
+HasAll places m = (q : Place) → is_among places q ≡ true → IsSome (map.get m q)
+
+-- the place of each entry is filled
+abbrev pub AreFilled : {X : Type 0} → List (Place × X) → PlaceMap X → Type 0
+AreFilled es m = AllByRecursion (λ e. IsSome (map.get m e.0)) es

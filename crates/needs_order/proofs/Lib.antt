@@ -1,0 +1,10 @@
+pub mod Lists
+pub mod Marks
+pub mod Leads
+pub mod Stretches
+pub mod Opening
+pub mod Merging
+pub mod Closing
+pub mod Visits
+pub mod Steps
+pub mod AllClosed
