@@ -11,9 +11,12 @@ use Rattle.grid_store.specs.declared.cell.Cell.{Cell}
 use Rattle.grid_store.specs.declared.cell.Cell.TheVariants as cell
 use Rattle.shift_core.specs.Maps.{PlaceMap}
 use Rattle.book_model.proofs.Contents.{is_at}
+use Rattle.book_model.specs.Workbook.{Workbook}
+use Rattle.cell_values.specs.Workbook.{Book as Contents}
 use Rattle.book_engine.specs.Formulas.{Numbered, Stood, stood}
-use Rattle.book_engine.specs.Steps.{cell_held, exchanged, released, with_cell, with_held}
-use Rattle.book_engine.specs.Stored.{AllStand, StandsAt, Stored}
+use Rattle.book_engine.specs.Steps.{cell_held, cells_undone, exchanged, released, with_cell, with_held}
+use Rattle.book_engine.specs.Stored.{AllStand, StandsAt, Stored, contents_of}
+use Rattle.book_engine.specs.declared.held.CellChange.{CellChange}
 use Rattle.book_engine.specs.declared.held.Held.{Held}
 use Rattle.book_engine.specs.declared.held.Held.TheVariants as held
 use Rattle.book_engine.specs.internal.Cells.{HoldsOf, IsHeldIn, IsPlain}
@@ -157,3 +160,13 @@ holds_after one two cells at c n f all put e m is = subst IsSome (sym (put m)) (
     go : (t : Bool) → IsSome (one m) → IsSome (cond t (Some f) (one m))
     go true s = refl
     go false s = s
+
+-- the workbook where the contents are these
+pub same_book : (sheets : List (ℕ × List ℕ)) (stands : Numbered) (new : PlaceMap Cell) (m : Contents) (cells : PlaceMap Cell) → new ≡ cells → contents_of stands cells ≡ m
+    → ◌≡◌ {A = Workbook} (record { sheets = sheets; cells = contents_of stands new }) (record { sheets = sheets; cells = m })
+same_book sheets stands new m cells e f = ap (λ x. record { sheets = sheets; cells = x }) (ap (contents_of stands) e ∙ f)
+
+-- of changes one after the other the last is taken back first
+pub one_more : (cs : List CellChange) (c : CellChange) (k : Stored) → cells_undone (cs ++ c ∷ []) k ≡ cells_undone cs (exchanged c.at c.before k)
+one_more [] c k = refl
+one_more (d ∷ cs) c k = ap (exchanged d.at d.before) (one_more cs c k)

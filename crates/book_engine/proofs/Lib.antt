@@ -11,4 +11,5 @@ pub mod FilledCells
 pub mod GivenBooks
 pub mod FilledWorkbooks
 pub mod GivenExamples
+pub mod Changing
 pub mod AnyCalls

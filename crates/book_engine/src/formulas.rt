@@ -142,10 +142,19 @@ impl Formulas {
         ensures ok { OnOk result (ChangesAt number (Some (stood formula)) (numbered self.old) (numbered self.new)) }
     {
         let index = number as usize;
+        self.lengthen(index)?;
+        self.slots[index] = Some(formula);
+        Ok(())
+    }
+
+    // Adds empty slots until there is one of this number.
+    fn lengthen(&mut self, index: usize) -> Result<(), AllocError>
+        ensures long { OnOk result (index < length (slots_of self.new)) }
+        ensures same { (k : _) → numbered self.new k ≡ numbered self.old k }
+    {
         while self.slots.len() <= index {
             self.slots.push(None)?;
         }
-        self.slots[index] = Some(formula);
         Ok(())
     }
 

@@ -130,7 +130,7 @@ pub(crate) fn room(
     ensures batch { SameBatch batch.old batch.new }
 {
     match batch {
-        Some(open) => open.parts.reserve(1)?,
+        Some(changes) => changes.parts.reserve(1)?,
         None => undo.reserve()?,
     }
     Vec::with_capacity(alloc, 1)
@@ -149,8 +149,8 @@ pub(crate) fn note(
     ensures { Notes part batch.old undo.old batch.new undo.new }
 {
     match batch {
-        Some(open) => {
-            open.parts.push_reserved(part);
+        Some(changes) => {
+            changes.parts.push_reserved(part);
             forget_undone(undo);
         }
         None => push_step(undo, room, part),

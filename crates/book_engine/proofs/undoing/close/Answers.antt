@@ -1,13 +1,18 @@
-use Rattle.std.proofs.Common.{rules, true, false, ◌≡◌, ◌<◌, ◌++◌, ◌∷◌, [], length, vec_capacity, vec_len, IfOk, OnErr, IfSome, OnOk, option_map, Option, None, Some, ℕ, ◌+◌, ◌-◌, ◌*◌, ◌≤◌, ◌/◌, ◌%◌, Bool, nat_eq, nat_lt, List, slice_index_or, slice_set, bit_and, bit_or, w8, w32, w64, Bor, MutBor}
-use Rattle.book_model.specs.Operation as op
-use Rattle.book_engine.specs.Engine.{NoAnswer}
-use Rattle.book_engine.specs.Seen.{Fits, state_of}
-use Rattle.book_engine.specs.Steps.{over}
-use Rattle.book_engine.specs.Stored.{stored}
-use Rattle.book_engine.specs.internal.Noted.{Adds, Closes, HasRoom, Notes, SameBatch, SameSteps}
-use Rattle.book_engine.specs.internal.Turns.{Turns}
+use Rattle.std.proofs.Common.{◌≡◌, sym, subst, arith, ◌==◌, length, List, [], ◌∷◌}
+use Rattle.std.proofs.lemmas.Bool.Decides.{nat_tests}
+use Rattle.std.specs.Prelude.{vec_len, false}
+use Rattle.undo_book.specs.History.{History}
+use Rattle.book_engine.specs.declared.history.Entry.{Entry}
+use Rattle.book_engine.specs.declared.history.Part.{Part}
+use Rattle.book_engine.specs.internal.Noted.{Adds, Closes, ClosesParts}
 use Rattle.book_engine.proofs.undoing.close.Goals as goal
 
--- src/undoing.rt:190:1
+closes : (ps : List Part) (old new : History Entry) → (length ps == 0) ≡ false → Adds ps old new → ClosesParts ps old new
+closes [] old new some adds = absurd (grind (arith, nat_tests))
+closes (p ∷ ps) old new some adds = adds
+
 pub returns-then-not-is_empty : goal.returns-then-not-is_empty
-returns-then-not-is_empty c = ?
+returns-then-not-is_empty c =
+    let parts = c.in-Some.changes.parts in
+    let some : (length parts.items == 0) ≡ false = grind (arith, nat_tests, c.is_empty.ensures, c.if-not-is_empty.true, parts.ok.0) in
+    subst (λ b. Closes b c.args.undo.now c.push.new.undo) (sym c.in-Some.is) (closes parts.items c.args.undo.now c.push.new.undo some c.push.ensures)

@@ -1,25 +1,35 @@
-use Rattle.std.proofs.Common.{rules, true, false, ◌≡◌, ◌<◌, ◌++◌, ◌∷◌, [], length, vec_capacity, vec_len, IfOk, OnErr, IfSome, OnOk, option_map, Option, None, Some, ℕ, ◌+◌, ◌-◌, ◌*◌, ◌≤◌, ◌/◌, ◌%◌, Bool, nat_eq, nat_lt, List, slice_index_or, slice_set, bit_and, bit_or, w8, w32, w64, Bor, MutBor}
-use Rattle.book_model.specs.Operation as op
-use Rattle.book_engine.specs.Engine.{NoAnswer}
-use Rattle.book_engine.specs.Seen.{Fits, state_of}
-use Rattle.book_engine.specs.Steps.{over}
-use Rattle.book_engine.specs.Stored.{stored}
-use Rattle.book_engine.specs.internal.Noted.{Adds, Closes, HasRoom, Notes, SameBatch, SameSteps}
-use Rattle.book_engine.specs.internal.Turns.{Turns}
+use Rattle.std.proofs.Common.{◌≡◌, ◌∙◌, sym, ap, refl, arith, length, ◌-◌, ◌<◌, ℕ, List, [], ◌∷◌, Option, Some, None, Bool, true, false, is_some}
+use Rattle.std.specs.Option.{option_to_list}
+use Rattle.std.proofs.lemmas.List.{length-take, length-drop}
+use Rattle.undo_book.specs.History.{all_but_last, last_of}
+use Rattle.book_engine.specs.declared.history.Entry.{Entry}
 use Rattle.book_engine.proofs.undoing.forget_undone.Goals as goal
 
--- src/undoing.rt:186:5
-pub loop-init : goal.loop-init
-loop-init c = ?
+some_last : (r : Option Entry) (xs : List Entry) → is_some r ≡ true → option_to_list r ≡ last_of 1 xs → length (all_but_last 1 xs) < length xs
+some_last None xs e l = cc
+some_last (Some x) xs e l =
+    let a = ap length l in
+    let b = length-drop (length xs - 1) xs in
+    let t = length-take (length xs - 1) xs in
+    omega (arith, a, b, t)
 
--- src/undoing.rt:186:5
+none_left : (r : Option Entry) (xs : List Entry) → is_some r ≡ false → option_to_list r ≡ last_of 1 xs → all_but_last 1 xs ≡ []
+none_left None [] e l = refl
+none_left None (x ∷ xs) e l =
+    let a = ap length l in
+    let b = length-drop (length (x ∷ xs) - 1) (x ∷ xs) in
+    absurd (omega (arith, a, b))
+none_left (Some y) xs e l = cc
+
 pub loop-smaller : goal.loop-smaller
-loop-smaller c = ?
+loop-smaller c =
+    let less = some_last c.take_undone.result c.loop.undo.undone (sym c.is_some.ensures ∙ c.if-is_some.true) c.take_undone.ensures.entry in
+    let rest = ap (λ h. length h.undone) c.take_undone.ensures.rest in
+    omega (arith, less, rest)
 
--- src/undoing.rt:186:5
-pub loop-preserved : goal.loop-preserved
-loop-preserved c = ?
-
--- src/undoing.rt:183:1
 pub returns : goal.returns
-returns c = ?
+returns c = (
+  ap (λ h. h.done) c.take_undone.ensures.rest ∙ c.loop.invariant.0,
+  ap (λ h. h.undone) c.take_undone.ensures.rest ∙ none_left c.take_undone.result c.loop.undo.undone (sym c.is_some.ensures ∙ c.if-is_some.false) c.take_undone.ensures.entry,
+  ap (λ h. h.limit) c.take_undone.ensures.rest ∙ c.loop.invariant.1,
+)

@@ -1,13 +1,6 @@
-use Rattle.std.proofs.Common.{rules, true, false, ◌≡◌, ◌<◌, ◌++◌, ◌∷◌, [], length, vec_capacity, vec_len, IfOk, OnErr, IfSome, OnOk, option_map, Option, None, Some, ℕ, ◌+◌, ◌-◌, ◌*◌, ◌≤◌, ◌/◌, ◌%◌, Bool, nat_eq, nat_lt, List, slice_index_or, slice_set, bit_and, bit_or, w8, w32, w64, Bor, MutBor}
-use Rattle.book_model.specs.Operation as op
-use Rattle.book_engine.specs.Engine.{NoAnswer}
-use Rattle.book_engine.specs.Seen.{Fits, state_of}
-use Rattle.book_engine.specs.Steps.{over}
-use Rattle.book_engine.specs.Stored.{stored}
-use Rattle.book_engine.specs.internal.Noted.{Adds, Closes, HasRoom, Notes, SameBatch, SameSteps}
-use Rattle.book_engine.specs.internal.Turns.{Turns}
+use Rattle.std.proofs.Common.{◌≡◌, ◌∙◌, ap, subst, ◌++◌, ◌∷◌, []}
+use Rattle.book_engine.specs.internal.Noted.{Adds}
 use Rattle.book_engine.proofs.undoing.push_step.Goals as goal
 
--- src/undoing.rt:161:1
 pub returns : goal.returns
-returns c = ?
+returns c = subst (λ ps. Adds ps c.args.undo.now c.push.new.undo) (c.push_reserved.ensures.items ∙ ap (λ l. l ++ c.args.part ∷ []) c.requires.empty) c.push.ensures

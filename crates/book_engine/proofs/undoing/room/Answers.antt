@@ -1,17 +1,14 @@
-use Rattle.std.proofs.Common.{rules, true, false, ◌≡◌, ◌<◌, ◌++◌, ◌∷◌, [], length, vec_capacity, vec_len, IfOk, OnErr, IfSome, OnOk, option_map, Option, None, Some, ℕ, ◌+◌, ◌-◌, ◌*◌, ◌≤◌, ◌/◌, ◌%◌, Bool, nat_eq, nat_lt, List, slice_index_or, slice_set, bit_and, bit_or, w8, w32, w64, Bor, MutBor}
-use Rattle.book_model.specs.Operation as op
-use Rattle.book_engine.specs.Engine.{NoAnswer}
-use Rattle.book_engine.specs.Seen.{Fits, state_of}
-use Rattle.book_engine.specs.Steps.{over}
-use Rattle.book_engine.specs.Stored.{stored}
-use Rattle.book_engine.specs.internal.Noted.{Adds, Closes, HasRoom, Notes, SameBatch, SameSteps}
-use Rattle.book_engine.specs.internal.Turns.{Turns}
+use Rattle.std.proofs.Common.{◌≡◌, ◌∙◌, sym, ap, refl, subst, Some}
+use Rattle.book_engine.specs.internal.Noted.{SameBatch}
 use Rattle.book_engine.proofs.undoing.room.Goals as goal
+use Rattle.book_engine.proofs.undoing.room.Goals.{in-Some+in_ok-reserve-in-Some, in-None+in_ok-reserve-in-None}
 
--- src/undoing.rt:133:23
 pub returns-in_err-reserve-in-Some-clause-batch : goal.returns-in_err-reserve-in-Some-clause-batch
-returns-in_err-reserve-in-Some-clause-batch c = ?
+returns-in_err-reserve-in-Some-clause-batch c =
+    subst (λ b. SameBatch b (Some (record { parts = c.reserve.new.self }))) (sym c.in-Some.is) (record { parts = c.reserve.new.self }, refl, c.in_err-reserve-in-Some.ensures.items)
 
--- src/undoing.rt:122:1
 pub returns-clause-batch : goal.returns-clause-batch
-returns-clause-batch c = ?
+returns-clause-batch c = elim c.match-batch.branch [
+  | in-Some+in_ok-reserve-in-Some w ↦ subst (λ b. SameBatch b c.match-batch.batch) (sym w.in-Some.is) (record { parts = w.reserve.new.self }, w.batch-is, w.in_ok-reserve-in-Some.ensures.items)
+  | in-None+in_ok-reserve-in-None w ↦ subst (λ b. SameBatch b c.match-batch.batch) (sym w.in-None.is) w.batch-is
+]

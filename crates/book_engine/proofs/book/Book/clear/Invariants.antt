@@ -1,14 +1,15 @@
-use Rattle.std.proofs.Common.{◌≡◌, None, Some, OnOk, OnErr, IfOk, option_map, ℕ, ◌+◌, ◌-◌, ◌*◌, ◌<◌, ◌≤◌, length}
-use Rattle.cell_addr.specs.Place.{IsInside, covers}
-use Rattle.cell_values.specs.Workbook as content
-use Rattle.shift_core.specs.Maps.{AreInside}
-use Rattle.book_model.specs.Changes.{emptied}
-use Rattle.book_engine.specs.Formula.{tree_at}
-use Rattle.book_engine.specs.Formulas.{numbered}
-use Rattle.book_engine.specs.Steps.{cell_held, cells_undone, exchanged, released}
-use Rattle.book_engine.specs.Stored.{Stand, book_of, content_of, stored}
-use Rattle.book_engine.specs.internal.Cells.{HoldsOf, IsHeldIn, IsPlain, with_content_at}
+use Rattle.std.proofs.Common.{◌≡◌, ◌≤◌, ◌+◌, drop}
+use Rattle.std.specs.Prelude.{vec_len, vec_capacity, length}
+use Rattle.name_table.specs.Listed.{listed}
+use Rattle.book_engine.specs.Steps.{cells_undone}
+use Rattle.book_engine.specs.Stored.{Stand, book_of, stored}
+use Rattle.book_engine.specs.internal.Cells.{with_cells, with_emptied}
 use Rattle.book_engine.proofs.book.Book.clear.Given as goal
 
 abbrev pub invariant-loop-at : goal.invariant-loop-at
-invariant-loop-at l = ?
+invariant-loop-at l = record {
+  room : vec_len l.changes + length l.at-items ≤ vec_capacity l.changes + l.at-index;
+  book : with_cells (with_emptied (drop l.at-index l.at-items) (book_of (stored l.self)).cells) (book_of (stored l.self)) ≡ with_cells (with_emptied l.at-items (book_of (stored l.fn.self)).cells) (book_of (stored l.fn.self));
+  back : cells_undone l.changes.items (stored l.self) ≡ stored l.fn.self;
+  stand : Stand (stored l.self);
+}
