@@ -74,7 +74,7 @@ none_released None stands k h = refl
 none_released (Some c) stands k h = released_plain c stands k h
 
 -- what stands where the cell holds again what it held
-with_released : (b : Option Held) (s t : Numbered) (k : ℕ) → s k ≡ t k → with_held b s k ≡ with_held b t k
+pub with_released : (b : Option Held) (s t : Numbered) (k : ℕ) → s k ≡ t k → with_held b s k ≡ with_held b t k
 with_released None s t k e = e
 with_released (Some (held.Plain c)) s t k e = e
 with_released (Some (held.Formula m g)) s t k e = ap (cond (k == m) (Some (stood g))) e

@@ -12,4 +12,5 @@ pub mod GivenBooks
 pub mod FilledWorkbooks
 pub mod GivenExamples
 pub mod Changing
+pub mod Reached
 pub mod AnyCalls

@@ -139,7 +139,7 @@ impl Formulas {
 
     /// Keeps a formula under this number, in place of the one there, if any.
     pub fn put(&mut self, number: u64, formula: Formula) -> Result<(), AllocError>
-        ensures ok { OnOk result (ChangesAt number (Some (stood formula)) (numbered self.old) (numbered self.new)) }
+        ensures { OnOk result (ChangesAt number (Some (stood formula)) (numbered self.old) (numbered self.new)) }
     {
         let index = number as usize;
         self.lengthen(index)?;

@@ -8,7 +8,7 @@ ghost use Rattle.name_table.specs.SheetLists.{CanJoin, IsFree};
 ghost use Rattle.book_engine.specs.Engine.{NoAnswer};
 ghost use Rattle.book_engine.specs.Seen.{Fits, state_of};
 ghost use Rattle.book_engine.specs.Steps.{part_undone};
-ghost use Rattle.book_engine.specs.Stored.{book_of, stored};
+ghost use Rattle.book_engine.specs.Stored.{Stand, book_of, stored};
 ghost use Rattle.book_engine.specs.internal.Turns.{Turns};
 
 use crate::book::Book;
@@ -56,8 +56,7 @@ impl Book {
         ensures ok { OnOk result (book_of (stored self.new) ≡ with_sheet number name.now (book_of (stored self.old))) }
         ensures back { IfOk result (λ part. part_undone part (stored self.new) ≡ stored self.old) }
         ensures err { OnErr result (stored self.new ≡ stored self.old) }
-        ensures formulas { self.new.formulas ≡ self.old.formulas }
-        ensures grid { self.new.grid ≡ self.old.grid }
+        ensures stand { Stand (stored self.old) → Stand (stored self.new) }
     {
         let mut names = self.names.copied()?;
         let index = names.len();
@@ -72,8 +71,7 @@ impl Book {
         ensures ok { OnOk result (book_of (stored self.new) ≡ renamed sheet name.now (book_of (stored self.old))) }
         ensures back { IfOk result (λ part. part_undone part (stored self.new) ≡ stored self.old) }
         ensures err { OnErr result (stored self.new ≡ stored self.old) }
-        ensures formulas { self.new.formulas ≡ self.old.formulas }
-        ensures grid { self.new.grid ≡ self.old.grid }
+        ensures stand { Stand (stored self.old) → Stand (stored self.new) }
     {
         let mut names = self.names.copied()?;
         names.rename(sheet, name)?;

@@ -59,7 +59,8 @@ impl Book {
     {
         take_out(&mut self.formulas, self.grid.cell(at));
         keep(&mut self.formulas, to)?;
-        fill(alloc, &mut self.grid, at, to)
+        fill(alloc, &mut self.grid, at, to)?;
+        Ok(())
     }
 
     // Takes a structural operation back.

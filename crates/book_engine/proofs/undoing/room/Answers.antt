@@ -10,5 +10,5 @@ returns-in_err-reserve-in-Some-clause-batch c =
 pub returns-clause-batch : goal.returns-clause-batch
 returns-clause-batch c = elim c.match-batch.branch [
   | in-Some+in_ok-reserve-in-Some w ↦ subst (λ b. SameBatch b c.match-batch.batch) (sym w.in-Some.is) (record { parts = w.reserve.new.self }, w.batch-is, w.in_ok-reserve-in-Some.ensures.items)
-  | in-None+in_ok-reserve-in-None w ↦ subst (λ b. SameBatch b c.match-batch.batch) (sym w.in-None.is) w.batch-is
+  | in-None+in_ok-reserve-in-None w ↦ subst (λ b. SameBatch b c.match-batch.batch) (sym w.in-None.is) (w.batch-is ∙ w.in-None.is)
 ]
