@@ -1,11 +1,10 @@
 -- What the contents of kept cells are at a place, and what they are after one cell or some change. Serves the calls
 -- of the engine.
-use Rattle.std.proofs.Common.{◌≡◌, ◌∙◌, sym, ap, subst, refl, ℕ, Bool, true, false, cond, not, List, [], ◌∷◌, map, Option, Some, None, option_map, arith, ◌==◌}
+use Rattle.std.proofs.Common.{◌≡◌, ◌∙◌, sym, ap, subst, refl, ℕ, Bool, true, false, cond, if◌then◌else◌, not, List, [], ◌∷◌, map, Option, Some, None, option_map, arith, ◌==◌}
 use Rattle.std.proofs.lemmas.Bool.Decides.{nat_tests}
 use Rattle.std.proofs.lemmas.Option.{same_Some}
 use Rattle.std.specs.FinMap as fin
 use Rattle.std.specs.FinMap.{find, get-empty, get-entries, get-from_entries, get-insert, get-remove, get-retain_keys, same_map}
-use Rattle.book_model.specs.Workbook.{State}
 use Rattle.std.specs.Ordering.{eq_by_cmp}
 use Rattle.cell_addr.specs.Order.{place_cmp}
 use Rattle.cell_addr.specs.declared.place.Place.{Place}
@@ -19,8 +18,12 @@ use Rattle.shift_core.specs.Maps.{PlaceMap}
 use Rattle.shift_core.proofs.CarriedEntries.{eq_by_cmp-decides}
 use Rattle.book_model.proofs.Contents.{is_at}
 use Rattle.book_engine.specs.Formulas.{Numbered, Stood}
-use Rattle.book_engine.specs.Seen.{AllStand, StandsAt, content_of, contents_of, tree_of}
-use Rattle.book_engine.specs.internal.Cells.{IsPlain, Releases, released}
+use Rattle.book_engine.specs.Stored.{AllStand, StandsAt, content_of, contents_of, tree_of}
+use Rattle.book_engine.specs.Steps.{released}
+use Rattle.book_engine.specs.internal.Cells.{IsPlain}
+
+abbrev pub Releases : Option Cell → Numbered → Numbered → Type 0
+Releases before old new = (k : ℕ) → new k ≡ released before old k
 
 find-each : {X Y : Type 0} (h : X → Y) (p : Place) (es : List (Place × X)) → find place_cmp p (map (λ e. (e.0, h e.1)) es) ≡ option_map h (find place_cmp p es)
 find-each h p [] = refl
@@ -239,9 +242,3 @@ contents_none stands cells none = same_map place_cmp-IsTotalOrder place_cmp-IsAn
 
 pub stands_nothing : (stands : Numbered) (cells : PlaceMap Cell) → cells ≡ fin.empty → AllStand stands cells
 stands_nothing stands cells none p n e = let nothing = sym e ∙ ap (λ m. fin.get m p) none ∙ get-empty place_cmp p in cc
-
-pub empty_state : (stands : Numbered) (cells : PlaceMap Cell) (sheets : List (ℕ × List ℕ)) → sheets ≡ [] → cells ≡ fin.empty
-    → ◌≡◌ {A = State} (record { book = record { sheets = sheets; cells = contents_of stands cells }; next_sheet = 0 }) (record { book = record { sheets = []; cells = fin.empty }; next_sheet = 0 })
-empty_state stands cells sheets none empty =
-    ap (λ s. record { book = record { sheets = s; cells = contents_of stands cells }; next_sheet = 0 }) none
-    ∙ ap (λ m. record { book = record { sheets = []; cells = m }; next_sheet = 0 }) (contents_none stands cells empty)

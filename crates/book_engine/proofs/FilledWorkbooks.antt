@@ -14,7 +14,7 @@ use Rattle.shift_core.proofs.MovedMaps.{find-behind}
 use Rattle.book_model.proofs.Contents.{is_at}
 use Rattle.book_model.specs.Changes.{placed}
 use Rattle.book_engine.specs.Formulas.{Numbered}
-use Rattle.book_engine.specs.Seen.{content_of, contents_of}
+use Rattle.book_engine.specs.Stored.{content_of, contents_of}
 use Rattle.book_engine.proofs.Contents.{get-contents}
 
 -- the book has the contents at each place that is not in the list

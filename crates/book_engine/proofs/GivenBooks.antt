@@ -10,14 +10,14 @@ use Rattle.cell_addr.specs.declared.place.Place.{Place}
 use Rattle.cell_values.specs.Workbook.{Book as Contents, Content}
 use Rattle.name_table.specs.SheetLists.{CanJoin}
 use Rattle.book_model.specs.Given.{CanBegin, IsGivenCell, given_entries, given_entry, numbered, session_given}
-use Rattle.book_model.specs.Workbook.{State}
+use Rattle.book_model.specs.Workbook.{Workbook}
 use Rattle.book_model.specs.declared.given.BookCell.{BookCell}
 use Rattle.book_model.specs.declared.given.BookSheet.{BookSheet}
 use Rattle.book_engine.specs.internal.Cells.{with_cells, with_given}
 
--- a session with these sheets, their cells empty
-abbrev pub empty_session : List BookSheet → State
-empty_session books = record { book = record { sheets = numbered 0 books; cells = fin.empty }; next_sheet = length books }
+-- a workbook with these sheets, their cells empty
+abbrev pub empty_workbook : List BookSheet → Workbook
+empty_workbook books = record { sheets = numbered 0 books; cells = fin.empty }
 
 get_or-numbered : (n : ℕ) (books : List BookSheet) (i : ℕ) (d : ℕ × List ℕ) (e : BookSheet) → i < length books → get_or (numbered n books) i d ≡ (n + i, (get_or books i e).name)
 get_or-numbered n [] i d e l = absurd (omega arith)
@@ -54,27 +54,25 @@ numbered-push n (a ∷ books) b =
     let same : (n + 1) + length books ≡ n + suc (length books) = omega arith in
     ap (λ s. (n, a.name) ∷ s) (numbered-push (n + 1) books b ∙ (λ i. numbered (n + 1) books ++ (same i, b.name) ∷ []))
 
--- a session with one more sheet
-abbrev pub with_one : State → ℕ → List ℕ → State
-with_one d n name = record { book = record { sheets = d.book.sheets ++ (n, name) ∷ []; cells = d.book.cells }; next_sheet = n + 1 }
+-- a workbook with one more sheet
+abbrev pub with_one : Workbook → ℕ → List ℕ → Workbook
+with_one b n name = record { sheets = b.sheets ++ (n, name) ∷ []; cells = b.cells }
 
-one_more : (books : List BookSheet) (b : BookSheet) → with_one (empty_session books) (length books) b.name ≡ empty_session (books ++ b ∷ [])
+one_more : (books : List BookSheet) (b : BookSheet) → with_one (empty_workbook books) (length books) b.name ≡ empty_workbook (books ++ b ∷ [])
 one_more books b =
     let same : length books ≡ 0 + length books = omega arith in
-    let sum = length-append books (b ∷ []) in
-    let more : length books + 1 ≡ length (books ++ b ∷ []) = omega (arith, sum) in
-    ap (λ n. record { book = record { sheets = numbered 0 books ++ (n, b.name) ∷ []; cells = fin.empty }; next_sheet = length books + 1 }) same
-    ∙ ap (λ s. record { book = record { sheets = s; cells = fin.empty }; next_sheet = length books + 1 }) (sym (numbered-push 0 books b))
-    ∙ ap (λ n. record { book = record { sheets = numbered 0 (books ++ b ∷ []); cells = fin.empty }; next_sheet = n }) more
+    ap (λ n. record { sheets = numbered 0 books ++ (n, b.name) ∷ []; cells = fin.empty }) same
+    ∙ ap (λ s. record { sheets = s; cells = fin.empty }) (sym (numbered-push 0 books b))
 
 -- the sheets with the next one
-pub joined : (books : List BookSheet) (i : ℕ) (b : BookSheet) (d e : State) (n : ℕ) (name : List ℕ) → i < length books → b ≡ get_or books i b → d ≡ empty_session (take i books) → n ≡ d.next_sheet → name ≡ b.name
-    → e ≡ with_one d n name → e ≡ empty_session (take (i + 1) books)
+pub joined : (books : List BookSheet) (i : ℕ) (b : BookSheet) (d e : Workbook) (n : ℕ) (name : List ℕ) → i < length books → b ≡ get_or books i b → d ≡ empty_workbook (take i books) → n ≡ i → name ≡ b.name
+    → e ≡ with_one d n name → e ≡ empty_workbook (take (i + 1) books)
 joined books i b d e n name inside at same number named new =
     let t = take i books in
     let one : t ++ b ∷ [] ≡ take (i + 1) books = sym ((take_at_read books i b inside).1 ∙ ap (λ x. t ++ x ∷ []) (sym at)) in
-    new ∙ ap (λ x. with_one x n name) same ∙ ap (λ k. with_one (empty_session t) k name) (number ∙ ap (λ s. s.next_sheet) same) ∙ ap (with_one (empty_session t) (length t)) named
-    ∙ one_more t b ∙ ap empty_session one
+    let long : i ≡ length t = let l = length-take-le i books (omega (arith, inside)) in omega (arith, l) in
+    new ∙ ap (λ x. with_one x n name) same ∙ ap (λ k. with_one (empty_workbook t) k name) (number ∙ long) ∙ ap (with_one (empty_workbook t) (length t)) named
+    ∙ one_more t b ∙ ap empty_workbook one
 
 cons-given : (r : Option (Place × Content)) (es : List (Place × Content)) (m : Contents) → with_given (cons_option r es) m ≡ with_given (cons_option r []) (with_given es m)
 cons-given None es m = refl
@@ -89,35 +87,35 @@ pub given-empty : (es : List (Place × Content)) → with_given es fin.empty ≡
 given-empty [] = refl
 given-empty (e ∷ es) = ap (λ n. fin.insert n e.0 e.1) (given-empty es)
 
--- the session after the cells of a sheet from a number on were given their texts
-abbrev pub given_from : ℕ → List BookCell → ℕ → State → State
-given_from sheet cells i d = with_cells (with_given (filter_map (given_entry d.book.sheets sheet) (drop i cells)) d.book.cells) d
+-- the workbook after the cells of a sheet from a number on were given their texts
+abbrev pub given_from : ℕ → List BookCell → ℕ → Workbook → Workbook
+given_from sheet cells i d = with_cells (with_given (filter_map (given_entry d.sheets sheet) (drop i cells)) d.cells) d
 
 -- from the end on nothing is given
-pub given_none : (sheet : ℕ) (cells : List BookCell) (d : State) → d ≡ given_from sheet cells (length cells) d
-given_none sheet cells d = ap (λ es. with_cells (with_given (filter_map (given_entry d.book.sheets sheet) es) d.book.cells) d) (sym (drop_all (length cells) cells (omega arith)))
+pub given_none : (sheet : ℕ) (cells : List BookCell) (d : Workbook) → d ≡ given_from sheet cells (length cells) d
+given_none sheet cells d = ap (λ es. with_cells (with_given (filter_map (given_entry d.sheets sheet) es) d.cells) d) (sym (drop_all (length cells) cells (omega arith)))
 
 -- and then one cell more
-pub given_one : (sheet : ℕ) (cells : List BookCell) (i : ℕ) (c : BookCell) (d now next : State) → i < length cells → c ≡ get_or cells i c → now ≡ given_from sheet cells (i + 1) d
-    → next ≡ with_cells (with_given (cons_option (given_entry now.book.sheets sheet c) []) now.book.cells) now → next ≡ given_from sheet cells i d
+pub given_one : (sheet : ℕ) (cells : List BookCell) (i : ℕ) (c : BookCell) (d now next : Workbook) → i < length cells → c ≡ get_or cells i c → now ≡ given_from sheet cells (i + 1) d
+    → next ≡ with_cells (with_given (cons_option (given_entry now.sheets sheet c) []) now.cells) now → next ≡ given_from sheet cells i d
 given_one sheet cells i c d now next inside at same new =
-    let f = given_entry d.book.sheets sheet in
-    new ∙ ap (λ x. with_cells (with_given (cons_option (given_entry x.book.sheets sheet c) []) x.book.cells) x) same
-    ∙ ap (λ m. with_cells m d) (sym (cons-given (f c) (filter_map f (drop (i + 1) cells)) d.book.cells))
-    ∙ ap (λ es. with_cells (with_given (filter_map f es) d.book.cells) d) (sym (drop_more cells i c inside ∙ ap (λ x. x ∷ drop (i + 1) cells) (sym at)))
+    let f = given_entry d.sheets sheet in
+    new ∙ ap (λ x. with_cells (with_given (cons_option (given_entry x.sheets sheet c) []) x.cells) x) same
+    ∙ ap (λ m. with_cells m d) (sym (cons-given (f c) (filter_map f (drop (i + 1) cells)) d.cells))
+    ∙ ap (λ es. with_cells (with_given (filter_map f es) d.cells) d) (sym (drop_more cells i c inside ∙ ap (λ x. x ∷ drop (i + 1) cells) (sym at)))
 
--- the session after the cells of the sheets from a number on were given their texts
-abbrev pub sheets_given_from : List BookSheet → ℕ → State → State
-sheets_given_from books i d = with_cells (with_given (given_entries d.book.sheets i (drop i books)) d.book.cells) d
+-- the workbook after the cells of the sheets from a number on were given their texts
+abbrev pub sheets_given_from : List BookSheet → ℕ → Workbook → Workbook
+sheets_given_from books i d = with_cells (with_given (given_entries d.sheets i (drop i books)) d.cells) d
 
-pub sheets_given_none : (books : List BookSheet) (d : State) → d ≡ sheets_given_from books (length books) d
-sheets_given_none books d = ap (λ es. with_cells (with_given (given_entries d.book.sheets (length books) es) d.book.cells) d) (sym (drop_all (length books) books (omega arith)))
+pub sheets_given_none : (books : List BookSheet) (d : Workbook) → d ≡ sheets_given_from books (length books) d
+sheets_given_none books d = ap (λ es. with_cells (with_given (given_entries d.sheets (length books) es) d.cells) d) (sym (drop_all (length books) books (omega arith)))
 
-pub sheets_given_one : (books : List BookSheet) (i : ℕ) (b : BookSheet) (cells : List BookCell) (d now next : State) → i < length books → b ≡ get_or books i b → cells ≡ b.cells.list.items → now ≡ sheets_given_from books (i + 1) d
-    → next ≡ with_cells (with_given (filter_map (given_entry now.book.sheets i) cells) now.book.cells) now → next ≡ sheets_given_from books i d
+pub sheets_given_one : (books : List BookSheet) (i : ℕ) (b : BookSheet) (cells : List BookCell) (d now next : Workbook) → i < length books → b ≡ get_or books i b → cells ≡ b.cells.list.items → now ≡ sheets_given_from books (i + 1) d
+    → next ≡ with_cells (with_given (filter_map (given_entry now.sheets i) cells) now.cells) now → next ≡ sheets_given_from books i d
 sheets_given_one books i b cells d now next inside at items same new =
-    let f = given_entry d.book.sheets i in
-    new ∙ ap (λ x. with_cells (with_given (filter_map (given_entry x.book.sheets i) cells) x.book.cells) x) same
-    ∙ ap (λ es. with_cells (with_given (filter_map f es) (with_given (given_entries d.book.sheets (i + 1) (drop (i + 1) books)) d.book.cells)) d) items
-    ∙ ap (λ m. with_cells m d) (sym (append-given (filter_map f b.cells.list.items) (given_entries d.book.sheets (i + 1) (drop (i + 1) books)) d.book.cells))
-    ∙ ap (λ es. with_cells (with_given (given_entries d.book.sheets i es) d.book.cells) d) (sym (drop_more books i b inside ∙ ap (λ x. x ∷ drop (i + 1) books) (sym at)))
+    let f = given_entry d.sheets i in
+    new ∙ ap (λ x. with_cells (with_given (filter_map (given_entry x.sheets i) cells) x.cells) x) same
+    ∙ ap (λ es. with_cells (with_given (filter_map f es) (with_given (given_entries d.sheets (i + 1) (drop (i + 1) books)) d.cells)) d) items
+    ∙ ap (λ m. with_cells m d) (sym (append-given (filter_map f b.cells.list.items) (given_entries d.sheets (i + 1) (drop (i + 1) books)) d.cells))
+    ∙ ap (λ es. with_cells (with_given (given_entries d.sheets i es) d.cells) d) (sym (drop_more books i b inside ∙ ap (λ x. x ∷ drop (i + 1) books) (sym at)))

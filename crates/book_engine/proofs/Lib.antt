@@ -1,7 +1,9 @@
 pub mod SheetNames
 pub mod Slots
 pub mod Contents
-pub mod Listed
+pub mod Exchanges
+pub mod Emptying
+pub mod Noting
 pub mod ShiftedContents
 pub mod Turning
 pub mod Pushed
@@ -9,4 +11,6 @@ pub mod FilledCells
 pub mod GivenBooks
 pub mod FilledWorkbooks
 pub mod GivenExamples
+pub mod Changing
+pub mod Reached
 pub mod AnyCalls

@@ -20,7 +20,7 @@ use Rattle.shift_core.specs.declared.form.Form.{Form}
 use Rattle.shift_core.specs.declared.form.Form.TheVariants.{Lines}
 use Rattle.shift_core.specs.declared.shift.Shift.{Shift}
 use Rattle.book_engine.specs.Formulas.{Numbered}
-use Rattle.book_engine.specs.Seen.{contents_of}
+use Rattle.book_engine.specs.Stored.{contents_of}
 use Rattle.book_engine.proofs.ShiftedContents.{filled_contents, filled_cell}
 
 -- an entry whose place passes the test

@@ -87,7 +87,7 @@ can_join d name s none =
     let few = s.few in (
       (λ same. absurd (omega (arith, same, few))),
       λ k e l. (
-        (λ same. let below = s.numbers k e l in absurd (omega (arith, below, same))),
+        (λ same. let below = s.book.numbers k e l in absurd (omega (arith, below, same))),
         (λ same. let t = same_name-true (get_or d.book.sheets k e).1 name same in let f = none_passes (λ t. same_name t.1 name) d.book.sheets h.1.0 k e l in absurd (cc)),
       ),
     )

@@ -26,7 +26,7 @@ use Rattle.book_model.proofs.ShiftedBooks.{get-rewritten}
 use Rattle.book_model.specs.Changes.{rewritten_content, rewritten_contents}
 use Rattle.book_model.specs.Refusals.{is_outside}
 use Rattle.book_engine.specs.Formulas.{Follows, Numbered, stood_after}
-use Rattle.book_engine.specs.Seen.{AllStand, StandsAt, content_of, contents_of, tree_of}
+use Rattle.book_engine.specs.Stored.{AllStand, StandsAt, content_of, contents_of, tree_of}
 use Rattle.book_engine.proofs.Contents.{get-contents, standing, stands_at}
 
 some_mapped : {X Y : Type 0} (h : X → Y) (r : Option X) → IsSome (option_map h r) → IsSome r

@@ -48,3 +48,10 @@ pub under-after : (s : Shift) (slots nexts : List (Option Formula)) (k : ℕ) �
     → under nexts k ≡ option_and_then (stood_after s) (under slots k)
 under-after s slots nexts k h =
     ap (λ l. get_or l k None) h ∙ get_or-map (λ x. option_and_then (stood_after s) (option_map stood x)) slots k None ∙ sym (ap (option_and_then (stood_after s)) (under-get slots k))
+
+-- an empty slot more changes nothing
+pub under-more : (slots : List (Option Formula)) (k : ℕ) → under (slots ++ None ∷ []) k ≡ under slots k
+under-more [] zero = refl
+under-more [] (suc k) = refl
+under-more (x ∷ slots) zero = refl
+under-more (x ∷ slots) (suc k) = under-more slots k

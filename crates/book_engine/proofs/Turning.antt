@@ -9,13 +9,10 @@ use Rattle.std.specs.FinMap as fin
 use Rattle.cell_addr.specs.Place.{IsInside, covers}
 use Rattle.cell_addr.specs.declared.place.Place.{Place}
 use Rattle.cell_values.specs.Workbook.{Book as Contents, Content}
-use Rattle.shift_core.specs.Form.{form_of}
-use Rattle.shift_core.specs.Maps.{AreInside, moved_map}
-use Rattle.shift_core.specs.declared.shift.Shift.{Shift}
-use Rattle.book_model.specs.Changes.{rewritten_contents, sheets_left, shifted}
+use Rattle.shift_core.specs.Maps.{AreInside}
 use Rattle.book_model.specs.Operation.{Operation}
 use Rattle.book_model.specs.Refusals.{cause}
-use Rattle.book_model.specs.Session.{changed, done, next, unless_refused}
+use Rattle.book_model.specs.Session.{done, next, unless_refused}
 use Rattle.book_model.specs.Sound.{IsSound}
 use Rattle.book_model.specs.Workbook.{State}
 use Rattle.book_model.specs.declared.refusal.Refusal.{Refusal}
@@ -48,18 +45,7 @@ sound_inside d s p some = go (fin.get d.book.cells p) refl some
   where
     go : (r : Option Content) → fin.get d.book.cells p ≡ r → IsSome r → IsInside p
     go None e some = cc
-    go (Some x) e some = (s.cells p x e).0
-
--- a session with the sheets and the contents after a structural operation
-pub shifted_state : (d : State) (s : Shift) (sheets : List (ℕ × List ℕ)) (cells : Contents) → sheets ≡ sheets_left (form_of s) d.book.sheets → cells ≡ rewritten_contents s (moved_map s d.book.cells)
-    → record { book = record { sheets = sheets; cells = cells }; next_sheet = d.next_sheet } ≡ changed (shifted s d.book) d
-shifted_state d s sheets cells e f =
-    ap (λ x. record { book = record { sheets = x; cells = cells }; next_sheet = d.next_sheet }) e
-    ∙ ap (λ y. record { book = record { sheets = sheets_left (form_of s) d.book.sheets; cells = y }; next_sheet = d.next_sheet }) f
-
--- a session with another list of sheets
-abbrev pub with_sheets : State → List (ℕ × List ℕ) → State
-with_sheets d sheets = record { book = record { sheets = sheets; cells = d.book.cells }; next_sheet = d.next_sheet }
+    go (Some x) e some = (s.book.cells p x e).0
 
 -- all places of a sheet
 abbrev pub whole : ℕ → Block

@@ -24,3 +24,7 @@ abbrev pub Does : {X : Type 0} → Operation → (State → X → Type 0) → En
 Does op Answers old new (Ok x) = (d : State) → StandsFor old d → (cause op d ≡ None) × Answers d x × StandsFor new (next op d)
 Does op Answers old new (Err (Refused r)) = (d : State) → StandsFor old d → (cause op d ≡ Some r) × StandsFor new (next op d)
 Does op Answers old new (Err NoMemory) = (d : State) → StandsFor old d → StandsFor new d
+
+-- a call that is always accepted and answers nothing
+abbrev pub DoesAlways : Operation → Engine → Engine → Type 0
+DoesAlways op old new = (d : State) → StandsFor old d → StandsFor new (next op d)

@@ -1,53 +1,61 @@
 -- The session that an engine stands for. Source: this project's own.
-use Rattle.std.specs.Prelude.{◌≡◌, ℕ, map, Option, Some, None, option_map}
-use Rattle.std.specs.FinMap as fin
-use Rattle.cell_addr.specs.declared.place.Place.{Place}
-use Rattle.cell_value.specs.declared.fault.FaultKind.TheVariants as faults
-use Rattle.cell_values.specs.Workbook.{Book as Contents, Content, number, truth, text, formula, unreadable}
-use Rattle.formula_tree.specs.Term.{Term, fault}
-use Rattle.formula_tree.specs.declared.reference.Corner.{Corner}
-use Rattle.grid_store.specs.Grid.{cells_of}
-use Rattle.grid_store.specs.declared.cell.Cell.{Cell}
-use Rattle.grid_store.specs.declared.cell.Cell.TheVariants as cell
-use Rattle.name_table.specs.Listed.{listed}
-use Rattle.shift_core.specs.Maps.{PlaceMap}
+use Rattle.std.specs.Prelude.{ℕ, Bool, true, false, List, [], ◌∷◌, reverse, Option, Some, None, option_map, ⊤}
+use Rattle.undo_book.specs.History.{History}
 use Rattle.book_model.specs.Sound.{IsSound}
-use Rattle.book_model.specs.Workbook.{State}
-use Rattle.book_engine.specs.Formulas.{Numbered, Stood, numbered}
+use Rattle.book_model.specs.Workbook.{Batch, State, Workbook}
+use Rattle.book_engine.specs.Steps.{over, undone}
+use Rattle.book_engine.specs.Stored.{Stand, Stored, book_of, stored}
+use Rattle.book_engine.specs.declared.history.Entry.{Entry}
+use Rattle.book_engine.specs.declared.history.Part.{Part}
+use Rattle.book_engine.specs.declared.parts.Changes.{Changes}
 use Rattle.book_engine.specs.declared.parts.Parts.{Parts}
 
--- the tree of a formula that stands under a number; in parts that fit there is one
-abbrev pub tree_of : Option Stood → Term Corner
-tree_of None = fault faults.Ref
-tree_of (Some f) = f.1
+-- the workbooks that steps lead to from a kept one, one after the other
+abbrev pub books_over : Stored → List Entry → List Workbook
+books_over k [] = []
+books_over k (e ∷ es) = book_of (over e k) ∷ books_over (over e k) es
 
--- what a kept cell holds
-abbrev pub content_of : Numbered → Cell → Content
-content_of stands (cell.Number m) = number m
-content_of stands (cell.Truth b) = truth b
-content_of stands (cell.Text w) = text w
-content_of stands (cell.Formula n) = formula (tree_of (stands n))
-content_of stands (cell.Broken w) = unreadable w
+-- the kept workbook at the start of the open batch; where none is open, as it is
+abbrev pub start_of : Option Changes → Stored → Stored
+start_of None k = k
+start_of (Some batch) k = undone batch.parts.items k
 
--- the contents of kept cells, where they stand
-abbrev pub contents_of : Numbered → PlaceMap Cell → Contents
-contents_of stands cells = fin.from_entries (map (λ e. (e.0, content_of stands e.1)) (fin.entries cells))
+-- something is in the list
+abbrev pub has_any : List Part → Bool
+has_any [] = false
+has_any (p ∷ ps) = true
+
+abbrev pub batch_of : Stored → Changes → Batch
+batch_of k batch = record { start = book_of (undone batch.parts.items k); changed = has_any batch.parts.items }
+
+-- a session of a kept workbook, with the steps that lead back and forward from it
+abbrev pub session_of : Stored → History Entry → Option Changes → Bool → ℕ → State
+session_of k steps batch suspended next_sheet = record {
+  book = book_of k;
+  undo = books_over (start_of batch k) (reverse steps.done);
+  redo = books_over k (reverse steps.undone);
+  batch = option_map (batch_of k) batch;
+  suspended = suspended;
+  next_sheet = next_sheet;
+  limit = steps.limit;
+}
 
 -- the session that the parts of an engine make up
 abbrev pub state_of : Parts → State
-state_of p = record {
-  book = record { sheets = listed p.names; cells = contents_of (numbered p.formulas) (cells_of p.grid) };
-  next_sheet = p.next_sheet;
-}
+state_of p = session_of (stored p.book) p.undo p.batch p.suspended p.next_sheet
 
--- the number is that of a formula at the place
-abbrev pub StandsAt : Numbered → ℕ → Place → Type 0
-StandsAt stands n p = option_map (λ f. f.0) (stands n) ≡ Some p
+-- in each workbook that steps lead to, the formulas stand in their cells
+abbrev pub StandOver : Stored → List Entry → Type 0
+StandOver k [] = ⊤
+StandOver k (e ∷ es) = Stand (over e k) × StandOver (over e k) es
 
--- each formula's number is that of a formula at its cell
-abbrev pub AllStand : Numbered → PlaceMap Cell → Type 0
-AllStand stands cells = (p : Place) (n : ℕ) → fin.get cells p ≡ Some (cell.Formula n) → StandsAt stands n p
+-- so they do in a kept workbook, and in all that its steps lead to
+pub record IsKept (k : Stored) (steps : History Entry) (batch : Option Changes) : Type 0 where
+  pub stand : Stand k
+  pub start : Stand (start_of batch k)
+  pub back : StandOver (start_of batch k) (reverse steps.done)
+  pub forward : StandOver k (reverse steps.undone)
 
 -- the parts are those of an engine
 abbrev pub Fits : Parts → Type 0
-Fits p = IsSound (state_of p) × AllStand (numbered p.formulas) (cells_of p.grid)
+Fits p = IsSound (state_of p) × IsKept (stored p.book) p.undo p.batch

@@ -1,6 +1,8 @@
 -- What only the proofs of bodies need.
 pub mod Turns
 pub mod Cells
+pub mod Noted
+pub mod ShiftProp
 pub mod Props
 pub mod FormulaProp
 pub mod FitsProp

@@ -28,7 +28,7 @@ impl Parts {
     pub(crate) fn has_sheet(&self, sheet: u32) -> bool
         ensures { result ≡ has_sheet (state_of self.now).book sheet }
     {
-        self.names.name_of(sheet).is_some()
+        self.book.names.name_of(sheet).is_some()
     }
 
     // Where a sheet is asked for.
@@ -52,6 +52,16 @@ impl Parts {
             return Err(Refusal::Outside);
         }
         Ok(())
+    }
+
+    // Where a value is asked for.
+    pub(crate) fn check_value(&self, at: Place) -> Result<(), Refusal>
+        ensures { IsCause result (cause (op.value at) (state_of self.now)) }
+    {
+        if self.suspended || self.batch.is_some() {
+            return Err(Refusal::Suspended);
+        }
+        self.check_place(at)
     }
 
     // Where a block is emptied.
@@ -102,7 +112,7 @@ impl Parts {
     fn is_full_without(&self, at: Place) -> bool
         ensures { result ≡ (is_none (map.get (state_of self.now).book.cells at) && nat_le MAX_CELLS (map.len (state_of self.now).book.cells)) }
     {
-        self.grid.cell(at).is_none() && self.grid.filled() >= MAX_CELLS
+        self.book.grid.cell(at).is_none() && self.book.grid.filled() >= MAX_CELLS
     }
 
     // Where a structural operation is asked for.
@@ -172,7 +182,7 @@ impl Parts {
         requires { form_of s.now ≡ Lines sheet axis (Insert at count) }
         ensures { result ≡ pushes_off (Lines sheet axis (Insert at count)) (state_of self.now).book }
     {
-        self.grid.pushed_off(s)
+        self.book.grid.pushed_off(s)
     }
 
     // Where a block of cells is moved.
@@ -228,7 +238,7 @@ impl Parts {
     fn is_named(&self, name: &str) -> bool
         ensures { result ≡ list_any (λ s. same_name s.1 name.now) (state_of self.now).book.sheets }
     {
-        self.names.id_of(name).is_some()
+        self.book.names.id_of(name).is_some()
     }
 
     // Whether another sheet has the name.
@@ -236,7 +246,7 @@ impl Parts {
         requires { AreSheets (state_of self.now).book.sheets }
         ensures { result ≡ is_taken (state_of self.now).book sheet name.now }
     {
-        match self.names.id_of(name) {
+        match self.book.names.id_of(name) {
             Some(other) => other != sheet,
             None => false,
         }

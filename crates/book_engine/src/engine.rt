@@ -1,5 +1,5 @@
 // The engine, and its calls.
-ghost use Rattle.std.specs.Prelude.{◌≡◌, IfOk, option_map};
+ghost use Rattle.std.specs.Prelude.{◌≡◌, ◌≤◌, IfOk, option_map};
 ghost use Rattle.cell_addr.specs.Sheets.{id_in, name_in};
 ghost use Rattle.shift_core.specs.declared.shift.Shift.TheVariants as shifts;
 ghost use Rattle.book_model.specs.Answers.{content_text, formula_of, value_of};
@@ -7,6 +7,7 @@ ghost use Rattle.book_model.specs.Given.{CanBegin, session_given};
 ghost use Rattle.book_model.specs.Operation as op;
 ghost use Rattle.book_model.specs.Replies.{first_sheet};
 ghost use Rattle.book_model.specs.Workbook.{State};
+ghost use Rattle.book_model.specs.declared.limits.TheConstants.{MAX_UNDO};
 ghost use Rattle.book_engine.specs.Seen.{Fits};
 ghost use Rattle.book_engine.specs.internal.FitsProp.{fits-prop};
 
@@ -30,15 +31,16 @@ pub struct Engine {
 }
 
 impl Engine {
-    ghost use Rattle.book_engine.specs.Engine.{Does, NoAnswer, StandsFor};
+    ghost use Rattle.book_engine.specs.Engine.{Does, DoesAlways, NoAnswer, StandsFor};
 
     /// The engine of a workbook with these sheets, numbered from 0 in their order, and these texts in their cells. All
-    /// formulas are read when all sheets are there.
-    pub fn build(alloc: Global, books: &[BookSheet]) -> Result<Engine, AllocError>
-        requires { CanBegin books.now }
-        ensures { IfOk result (λ engine. StandsFor engine (session_given books.now)) }
+    /// formulas are read when all sheets are there. At most `limit` steps can be undone, which is at most 1,000.
+    pub fn build(alloc: Global, books: &[BookSheet], limit: u16) -> Result<Engine, AllocError>
+        requires can { CanBegin books.now }
+        requires limit { limit ≤ MAX_UNDO }
+        ensures { IfOk result (λ engine. StandsFor engine (session_given limit books.now)) }
     {
-        let parts = Parts::build(alloc, books)?;
+        let parts = Parts::build(alloc, books, limit)?;
         Ok(Engine { parts })
     }
 
@@ -185,10 +187,66 @@ impl Engine {
         self.parts.clear_sheet(sheet)
     }
 
+    /// Opens a batch: the changes until [`Engine::commit`] are one step.
+    ///
+    /// # Errors
+    /// `BatchOpen`.
+    pub fn begin(&mut self) -> Result<(), Stop>
+        ensures { Does op.begin NoAnswer self.old self.new result }
+    {
+        self.parts.begin()
+    }
+
+    /// Closes the batch. Without a change in it there is no step.
+    ///
+    /// # Errors
+    /// `NoBatch`.
+    pub fn commit(&mut self) -> Result<(), Stop>
+        ensures { Does op.commit NoAnswer self.old self.new result }
+    {
+        self.parts.commit()
+    }
+
+    /// Stops the computation of values, until [`Engine::resume`]. Once more changes nothing.
+    pub fn suspend(&mut self)
+        ensures { DoesAlways op.suspend self.old self.new }
+    {
+        self.parts.suspend();
+    }
+
+    /// Lets the computation of values go on. Once more changes nothing.
+    pub fn resume(&mut self)
+        ensures { DoesAlways op.resume self.old self.new }
+    {
+        self.parts.resume();
+    }
+
+    /// Goes back to the whole workbook from before the last step. Costs about the workbook's cells and what the step
+    /// changed.
+    ///
+    /// # Errors
+    /// `BatchOpen`, `NothingToUndo`.
+    pub fn undo(&mut self) -> Result<(), Stop>
+        ensures { Does op.undo NoAnswer self.old self.new result }
+    {
+        self.parts.undo()
+    }
+
+    /// Goes forward again to the whole workbook from after the step that was undone last; a change ends that. Costs what
+    /// [`Engine::undo`] does.
+    ///
+    /// # Errors
+    /// `BatchOpen`, `NothingToRedo`.
+    pub fn redo(&mut self) -> Result<(), Stop>
+        ensures { Does op.redo NoAnswer self.old self.new result }
+    {
+        self.parts.redo()
+    }
+
     /// What a cell shows. Costs about the whole workbook.
     ///
     /// # Errors
-    /// `NoSheet`, `Outside`.
+    /// `Suspended` where the computation is suspended or a batch is open, `NoSheet`, `Outside`.
     pub fn value<L: Ledger>(&mut self, at: Place, steps: &mut Steps<L>) -> Result<Scalar, Stop>
         ensures { Does (op.value at) (λ d scalar. scalar ≡ value_of d at) self.old self.new result }
     {
@@ -219,20 +277,20 @@ impl Engine {
     pub fn sheet_id(&self, name: &str) -> Option<u32>
         ensures { (d : State) → StandsFor self.now d → result ≡ id_in d.book.sheets name.now }
     {
-        self.parts.names.id_of(name)
+        self.parts.book.names.id_of(name)
     }
 
     /// The first sheet of the list.
     pub fn first_sheet(&self) -> Option<u32>
         ensures { (d : State) → StandsFor self.now d → result ≡ first_sheet d.book }
     {
-        self.parts.names.sheet_at(0)
+        self.parts.book.names.sheet_at(0)
     }
 
     /// The name of the sheet of this number.
     pub fn sheet_name(&self, id: u32) -> Option<&Text>
         ensures { (d : State) → StandsFor self.now d → option_map (λ name. name.now) result ≡ name_in d.book.sheets id }
     {
-        self.parts.names.name_of(id)
+        self.parts.book.names.name_of(id)
     }
 }

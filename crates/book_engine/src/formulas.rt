@@ -1,5 +1,5 @@
 // The formulas of a workbook, each under a number.
-ghost use Rattle.std.specs.Prelude.{◌≡◌, ◌<◌, None, Some, IfOk, OnErr, IfSome, length, option_map, option_and_then, option_copied};
+ghost use Rattle.std.specs.Prelude.{◌≡◌, ◌<◌, None, Some, IfOk, OnOk, OnErr, IfSome, length, option_map, option_and_then, option_copied};
 ghost use Rattle.shift_core.specs.Sound.{IsSound};
 ghost use Rattle.book_engine.specs.Formula.{IsFormula, tree_at};
 ghost use Rattle.book_engine.specs.internal.FormulaProp.{is_formula-prop};
@@ -8,6 +8,7 @@ use cell_addr::Place;
 use formula_tree::{Home, Pool, Tree};
 use shift_core::{Shift, moved_place};
 use std::alloc::{AllocError, Global};
+use std::mem;
 use tree_rewrite::forward;
 
 /// A formula of a cell: where it stands, and its tree as seen from there.
@@ -20,6 +21,16 @@ pub struct Formula {
 
 impl Formula {
     ghost use Rattle.book_engine.specs.Formulas.{stood, stood_after};
+
+    /// An equal formula, which shares the tree.
+    pub fn copied(&self) -> Result<Formula, AllocError>
+        ensures { IfOk result (λ copy. stood copy ≡ stood self.now) }
+    {
+        Ok(Formula {
+            at: self.at,
+            tree: self.tree.clone()?,
+        })
+    }
 
     // The formula after a structural operation; `None` where its place is lost.
     fn after(
@@ -110,16 +121,67 @@ impl Formulas {
         Ok(number as u64)
     }
 
-    /// Takes the formula out that is under the number, if there is one.
-    pub fn remove(&mut self, number: u64)
-        ensures { ChangesAt number None (numbered self.old) (numbered self.new) }
+    /// Takes the formula out that is under the number, and answers it; `None` where there is none.
+    pub fn take(&mut self, number: u64) -> Option<Formula>
+        ensures before { option_map stood result ≡ numbered self.old number }
+        ensures taken { ChangesAt number None (numbered self.old) (numbered self.new) }
     {
         let index = number as usize;
-        if index < self.slots.len() {
-            self.slots[index] = None;
-            if self.free.len() < self.free.capacity() {
-                self.free.push_reserved(number);
-            }
+        if index >= self.slots.len() {
+            return None;
+        }
+        let taken = mem::take(&mut self.slots[index]);
+        if self.free.len() < self.free.capacity() {
+            self.free.push_reserved(number);
+        }
+        taken
+    }
+
+    /// Keeps a formula under this number, in place of the one there, if any.
+    pub fn put(&mut self, number: u64, formula: Formula) -> Result<(), AllocError>
+        ensures { OnOk result (ChangesAt number (Some (stood formula)) (numbered self.old) (numbered self.new)) }
+    {
+        let index = number as usize;
+        self.lengthen(index)?;
+        self.slots[index] = Some(formula);
+        Ok(())
+    }
+
+    // Adds empty slots until there is one of this number.
+    fn lengthen(&mut self, index: usize) -> Result<(), AllocError>
+        ensures long { OnOk result (index < length (slots_of self.new)) }
+        ensures same { (k : _) → numbered self.new k ≡ numbered self.old k }
+    {
+        while self.slots.len() <= index {
+            self.slots.push(None)?;
+        }
+        Ok(())
+    }
+
+    /// Equal formulas under the same numbers. Costs about their number.
+    pub fn copied(&self) -> Result<Formulas, AllocError>
+        ensures { IfOk result (λ copy. slots_of copy ≡ slots_of self.now) }
+    {
+        let mut slots = Vec::with_capacity(self.alloc, self.slots.len())?;
+        for slot in &self.slots {
+            let copy = self.copied_slot(slot)?;
+            slots.push(copy)?;
+        }
+        let free = vacant_numbers(self.alloc, &slots)?;
+        Ok(Formulas {
+            alloc: self.alloc,
+            slots,
+            free,
+        })
+    }
+
+    // What is in an equal slot.
+    fn copied_slot(&self, slot: &Option<Formula>) -> Result<Option<Formula>, AllocError>
+        ensures { IfOk result (λ copy. option_map stood copy ≡ option_map stood slot.now) }
+    {
+        match slot {
+            Some(formula) => Ok(Some(formula.copied()?)),
+            None => Ok(None),
         }
     }
 

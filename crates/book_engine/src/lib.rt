@@ -12,20 +12,25 @@
 //! ```
 #![tactic(auto)]
 
+mod book;
 mod build;
 mod cells;
 mod checks;
 mod engine;
 mod formulas;
+mod held;
+mod history;
 pub mod laws;
 mod parts;
 mod reading;
 mod setting;
 mod sheets;
 mod shifting;
+mod stepping;
 mod stop;
 #[cfg(test)]
 mod tests;
+mod undoing;
 
 pub use engine::Engine;
 pub use stop::Stop;

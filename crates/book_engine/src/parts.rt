@@ -1,17 +1,25 @@
 // What an engine is made of.
-use crate::formulas::Formulas;
+use crate::book::Book;
+use crate::history::{Entry, Part};
 use formula_tree::Pool;
-use grid_store::Grid;
-use name_table::Names;
 use std::alloc::Global;
+use undo_book::UndoBook;
 
-/// What an engine is made of: the sheets, the filled cells, and the formulas in them, whose trees are shared.
+/// The changes of an open batch, one after the other.
+#[derive(Drop)]
+pub struct Changes {
+    pub parts: Vec<Part>,
+}
+
+/// What an engine is made of: the workbook, the trees that its formulas share, the steps that can be undone and redone,
+/// and the open batch, which becomes one of them.
 #[derive(Drop)]
 pub struct Parts {
     pub alloc: Global,
     pub pool: Pool,
-    pub formulas: Formulas,
-    pub grid: Grid,
-    pub names: Names,
+    pub book: Book,
+    pub undo: UndoBook<Entry>,
+    pub batch: Option<Changes>,
+    pub suspended: bool,
     pub next_sheet: u32,
 }

@@ -13,7 +13,7 @@ ghost use Rattle.name_table.specs.Listed.{listed};
 ghost use Rattle.book_model.specs.Content.{content_shown, formula_shown, tree_shown};
 ghost use Rattle.book_engine.specs.Formulas.{numbered, stood};
 ghost use Rattle.grid_store.specs.declared.cell.Cell.TheVariants as CellSeen;
-ghost use Rattle.book_engine.specs.Seen.{StandsAt, tree_of, content_of};
+ghost use Rattle.book_engine.specs.Stored.{StandsAt, tree_of, content_of};
 
 use crate::formulas::Formula;
 use crate::parts::Parts;
@@ -35,7 +35,7 @@ impl Parts {
         requires { Fits self.now }
         ensures { Turns (op.value at) (λ d scalar. scalar ≡ value_of d at) (state_of self.now) (state_of self.now) result }
     {
-        self.check_place(at)?;
+        self.check_value(at)?;
         let workbook = self.workbook()?;
         let scalar = value(self.alloc, &workbook, at, steps)?;
         Ok(scalar)
@@ -66,13 +66,13 @@ impl Parts {
         requires { Fits self.now }
         ensures { IfOk result (λ text. text ≡ formula_of (state_of self.now) at) }
     {
-        self.formula_in(at, self.grid.cell(at))
+        self.formula_in(at, self.book.grid.cell(at))
     }
 
     // The text of the formula of a cell at the place, if it has one.
     fn formula_in(&self, at: Place, cell: Option<&Cell>) -> Result<Option<Text>, AllocError>
-        requires { (n : _) → option_copied cell ≡ Some (CellSeen.Formula n) → StandsAt (numbered self.now.formulas) n at }
-        ensures { IfOk result (λ text. text ≡ formula_shown (listed self.now.names) at.sheet (option_map (content_of (numbered self.now.formulas)) (option_copied cell.entry))) }
+        requires { (n : _) → option_copied cell ≡ Some (CellSeen.Formula n) → StandsAt (numbered self.now.book.formulas) n at }
+        ensures { IfOk result (λ text. text ≡ formula_shown (listed self.now.book.names) at.sheet (option_map (content_of (numbered self.now.book.formulas)) (option_copied cell.entry))) }
     {
         match cell {
             Some(Cell::Formula(number)) => Ok(Some(self.tree_text(at, *number)?)),
@@ -86,13 +86,13 @@ impl Parts {
         requires { Fits self.now }
         ensures { IfOk result (λ text. text ≡ content_text (state_of self.now) at) }
     {
-        self.content_in(at, self.grid.cell(at))
+        self.content_in(at, self.book.grid.cell(at))
     }
 
     // The text that gives a cell at the place its content.
     fn content_in(&self, at: Place, cell: Option<&Cell>) -> Result<Text, AllocError>
-        requires { (n : _) → option_copied cell ≡ Some (CellSeen.Formula n) → StandsAt (numbered self.now.formulas) n at }
-        ensures { IfOk result (λ text. text ≡ content_shown (listed self.now.names) at.sheet (option_map (content_of (numbered self.now.formulas)) (option_copied cell.entry))) }
+        requires { (n : _) → option_copied cell ≡ Some (CellSeen.Formula n) → StandsAt (numbered self.now.book.formulas) n at }
+        ensures { IfOk result (λ text. text ≡ content_shown (listed self.now.book.names) at.sheet (option_map (content_of (numbered self.now.book.formulas)) (option_copied cell.entry))) }
     {
         match cell {
             None => Text::from_str(self.alloc, ""),
@@ -106,20 +106,20 @@ impl Parts {
 
     // The canonical text of the formula under a number, which stands at the place.
     fn tree_text(&self, at: Place, number: u64) -> Result<Text, AllocError>
-        requires { StandsAt (numbered self.now.formulas) number at }
-        ensures { IfOk result (λ text. text ≡ tree_shown (listed self.now.names) at.sheet (tree_of (numbered self.now.formulas number))) }
+        requires { StandsAt (numbered self.now.book.formulas) number at }
+        ensures { IfOk result (λ text. text ≡ tree_shown (listed self.now.book.names) at.sheet (tree_of (numbered self.now.book.formulas number))) }
     {
         let formula = self.standing(at, number);
-        print(self.alloc, &formula.tree, Home::Cell(at), &self.names)
+        print(self.alloc, &formula.tree, Home::Cell(at), &self.book.names)
     }
 
     // The formula under a number, which stands at the place.
     fn standing(&self, at: Place, number: u64) -> &Formula
-        requires { StandsAt (numbered self.now.formulas) number at }
+        requires { StandsAt (numbered self.now.book.formulas) number at }
         ensures at { result.now.at ≡ at }
-        ensures formula { numbered self.now.formulas number ≡ Some (stood result.now) }
+        ensures formula { numbered self.now.book.formulas number ≡ Some (stood result.now) }
     {
-        match self.formulas.get(number) {
+        match self.book.formulas.get(number) {
             Some(formula) => formula,
             None => unreachable!(),
         }
@@ -130,7 +130,7 @@ impl Parts {
         requires { Fits self.now }
         ensures { IfOk result (λ workbook. book_of workbook ≡ (state_of self.now).book.cells) }
     {
-        let mut cells = self.grid.all()?;
+        let mut cells = self.book.grid.all()?;
         let mut workbook = Workbook::new(self.alloc);
         while let Some(at) = next_place(&mut cells) {
             let content = self.content_at(at)?;
@@ -144,13 +144,13 @@ impl Parts {
         requires { Fits self.now }
         ensures { IfOk result (λ c. option_map (contents.content_at at) c ≡ map.get (state_of self.now).book.cells at) }
     {
-        self.filled_with(at, self.grid.cell(at))
+        self.filled_with(at, self.book.grid.cell(at))
     }
 
     // What a cell at the place holds, if it is filled.
     fn filled_with(&self, at: Place, cell: Option<&Cell>) -> Result<Option<Content>, AllocError>
-        requires { (n : _) → option_copied cell ≡ Some (CellSeen.Formula n) → StandsAt (numbered self.now.formulas) n at }
-        ensures { IfOk result (λ c. option_map (contents.content_at at) c ≡ option_map (content_of (numbered self.now.formulas)) (option_copied cell.entry)) }
+        requires { (n : _) → option_copied cell ≡ Some (CellSeen.Formula n) → StandsAt (numbered self.now.book.formulas) n at }
+        ensures { IfOk result (λ c. option_map (contents.content_at at) c ≡ option_map (content_of (numbered self.now.book.formulas)) (option_copied cell.entry)) }
     {
         match cell {
             None => Ok(None),

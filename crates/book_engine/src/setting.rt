@@ -1,22 +1,27 @@
 // Cells that are filled and emptied.
-ghost use Rattle.std.specs.Prelude.{◌≡◌, ◌==◌, IfOk, OnOk, OnErr, ⊤, option_map};
+ghost use Rattle.std.specs.Prelude.{◌≡◌, ◌==◌, IfOk, OnOk, OnErr, option_map};
 ghost use Rattle.cell_addr.specs.Place.{IsInside, covers};
-ghost use Rattle.book_model.specs.Changes.{emptied, placed, with_content};
-ghost use Rattle.book_model.specs.Content.{content_given, tree_given};
-ghost use Rattle.book_model.specs.Operation as op;
-ghost use Rattle.book_model.specs.Session.{changed};
 ghost use Rattle.cell_addr.specs.declared.place.Place.{Place as PlaceSeen};
 ghost use Rattle.name_table.specs.Listed.{listed};
+ghost use Rattle.shift_core.specs.Maps.{AreInside};
+ghost use Rattle.book_model.specs.Changes.{emptied, with_content};
+ghost use Rattle.book_model.specs.Content.{content_given, tree_given};
+ghost use Rattle.book_model.specs.Operation as op;
 ghost use Rattle.book_engine.specs.Engine.{NoAnswer};
 ghost use Rattle.book_engine.specs.Formulas.{stood};
 ghost use Rattle.book_engine.specs.Seen.{Fits, state_of};
-ghost use Rattle.book_engine.specs.internal.Cells.{Stand, with_cells};
+ghost use Rattle.book_engine.specs.Steps.{exchanged, part_undone};
+ghost use Rattle.book_engine.specs.Stored.{Stand, book_of, stored};
+ghost use Rattle.book_engine.specs.internal.Cells.{with_content_at};
 ghost use Rattle.book_engine.specs.internal.Turns.{Turns};
 
-use crate::cells::{clear, empty, put, put_formula};
+use crate::book::Book;
 use crate::formulas::Formula;
+use crate::held::CellChange;
+use crate::history::Part;
 use crate::parts::Parts;
 use crate::stop::Stop;
+use crate::undoing::{note, room};
 use book_model::{ContentText, read_content};
 use cell_addr::{Block, COLS, Place, ROWS};
 use formula_parse::{ParseError, parse};
@@ -33,47 +38,10 @@ impl Parts {
         ensures fits { Fits self.new }
     {
         self.check_set(at, text)?;
-        self.fill(at, text)?;
+        let room = room(self.alloc, &mut self.undo, &mut self.batch)?;
+        let part = self.book.fill(self.alloc, &mut self.pool, at, text)?;
+        note(&mut self.undo, &mut self.batch, room, part);
         Ok(())
-    }
-
-    // Gives a cell the content that a text says; the limits of a workbook are kept.
-    pub(crate) fn fill(&mut self, at: Place, text: &str) -> Result<(), AllocError>
-        requires inside { IsInside at }
-        requires stand { Stand self.old.formulas self.old.grid }
-        ensures ok { OnOk result (state_of self.new ≡ changed (with_content at text.now (state_of self.old).book) (state_of self.old)) }
-        ensures err { OnErr result (state_of self.new ≡ state_of self.old) }
-        ensures stand { Stand self.new.formulas self.new.grid }
-    {
-        let given = read_content(self.alloc, text)?;
-        self.fill_with(at, given)
-    }
-
-    // Gives a cell a content.
-    fn fill_with(&mut self, at: Place, given: ContentText) -> Result<(), AllocError>
-        requires inside { IsInside at }
-        requires stand { Stand self.old.formulas self.old.grid }
-        ensures ok { OnOk result (state_of self.new ≡ with_cells (placed at (content_given (state_of self.old).book.sheets at.sheet given) (state_of self.old).book.cells) (state_of self.old)) }
-        ensures err { OnErr result (state_of self.new ≡ state_of self.old) }
-        ensures stand { Stand self.new.formulas self.new.grid }
-    {
-        let formulas = &mut self.formulas;
-        let grid = &mut self.grid;
-        match given {
-            ContentText::Clear => {
-                empty(formulas, grid, at);
-                Ok(())
-            }
-            ContentText::Number(number) => put(formulas, grid, at, Cell::Number(number)),
-            ContentText::Truth(truth) => put(formulas, grid, at, Cell::Truth(truth)),
-            ContentText::Text(text) => put(formulas, grid, at, Cell::Text(text)),
-            ContentText::Formula(text) => {
-                match read_formula(self.alloc, &mut self.pool, &self.names, at, text.as_str())? {
-                    Some(formula) => put_formula(formulas, grid, formula),
-                    None => put(formulas, grid, at, Cell::Broken(text)),
-                }
-            }
-        }
     }
 
     // Empties the cells of a block.
@@ -83,7 +51,9 @@ impl Parts {
         ensures fits { Fits self.new }
     {
         self.check_clear(area)?;
-        self.empty(area)?;
+        let room = room(self.alloc, &mut self.undo, &mut self.batch)?;
+        let part = self.book.clear_block(self.alloc, area)?;
+        note(&mut self.undo, &mut self.batch, room, part);
         Ok(())
     }
 
@@ -94,26 +64,85 @@ impl Parts {
         ensures fits { Fits self.new }
     {
         self.check_sheet(sheet)?;
-        self.empty_sheet(sheet)?;
+        let room = room(self.alloc, &mut self.undo, &mut self.batch)?;
+        let part = self.book.clear_whole(self.alloc, sheet)?;
+        note(&mut self.undo, &mut self.batch, room, part);
         Ok(())
+    }
+}
+
+impl Book {
+    // Gives a cell the content that a text says; the limits of a workbook are kept.
+    pub(crate) fn fill(
+        &mut self,
+        alloc: Global,
+        pool: &mut Pool,
+        at: Place,
+        text: &str,
+    ) -> Result<Part, AllocError>
+        requires inside { IsInside at }
+        requires stand { Stand (stored self.old) }
+        ensures ok { OnOk result (book_of (stored self.new) ≡ with_content at text.now (book_of (stored self.old))) }
+        ensures back { IfOk result (λ part. part_undone part (stored self.new) ≡ stored self.old) }
+        ensures err { OnErr result (stored self.new ≡ stored self.old) }
+        ensures stand { Stand (stored self.new) }
+    {
+        let given = read_content(alloc, text)?;
+        let mut changes = Vec::with_capacity(alloc, 1)?;
+        let change = self.fill_with(alloc, pool, at, given)?;
+        changes.push_reserved(change);
+        Ok(Part::Cells(changes))
+    }
+
+    // Gives a cell a content.
+    fn fill_with(
+        &mut self,
+        alloc: Global,
+        pool: &mut Pool,
+        at: Place,
+        given: ContentText,
+    ) -> Result<CellChange, AllocError>
+        requires inside { IsInside at }
+        requires stand { Stand (stored self.old) }
+        ensures ok { OnOk result (book_of (stored self.new) ≡ with_content_at at (content_given (book_of (stored self.old)).sheets at.sheet given) (book_of (stored self.old))) }
+        ensures back { IfOk result (λ change. exchanged change.at change.before (stored self.new) ≡ stored self.old) }
+        ensures err { OnErr result (stored self.new ≡ stored self.old) }
+        ensures stand { Stand (stored self.new) }
+    {
+        match given {
+            ContentText::Clear => Ok(self.empty(at)),
+            ContentText::Number(number) => self.put(at, Cell::Number(number)),
+            ContentText::Truth(truth) => self.put(at, Cell::Truth(truth)),
+            ContentText::Text(text) => self.put(at, Cell::Text(text)),
+            ContentText::Formula(text) => {
+                match read_formula(alloc, pool, &self.names, at, text.as_str())? {
+                    Some(formula) => self.put_formula(formula),
+                    None => self.put(at, Cell::Broken(text)),
+                }
+            }
+        }
     }
 
     // Empties the cells of a block; the limits of a workbook are kept.
-    fn empty(&mut self, area: Block) -> Result<(), AllocError>
-        requires { Stand self.old.formulas self.old.grid }
-        ensures ok { OnOk result (state_of self.new ≡ changed (emptied (covers area) (state_of self.old).book) (state_of self.old)) }
-        ensures err { OnErr result (state_of self.new ≡ state_of self.old) }
-        ensures stand { Stand self.new.formulas self.new.grid }
+    fn clear_block(&mut self, alloc: Global, area: Block) -> Result<Part, AllocError>
+        requires stand { Stand (stored self.old) }
+        requires inside { AreInside (book_of (stored self.old)).cells }
+        ensures ok { OnOk result (book_of (stored self.new) ≡ emptied (covers area) (book_of (stored self.old))) }
+        ensures back { IfOk result (λ part. part_undone part (stored self.new) ≡ stored self.old) }
+        ensures err { OnErr result (stored self.new ≡ stored self.old) }
+        ensures stand { Stand (stored self.new) }
     {
-        clear(&mut self.formulas, &mut self.grid, area)
+        Ok(Part::Cells(self.clear(alloc, area)?))
     }
 
     // Empties the cells of a sheet; the limits of a workbook are kept.
-    fn empty_sheet(&mut self, sheet: u32) -> Result<(), AllocError>
-        requires { Fits self.old }
-        ensures ok { OnOk result (state_of self.new ≡ changed (emptied (λ p. p.sheet == sheet) (state_of self.old).book) (state_of self.old)) }
-        ensures err { OnErr result (state_of self.new ≡ state_of self.old) }
-        ensures stand { Stand self.new.formulas self.new.grid }
+    fn clear_whole(&mut self, alloc: Global, sheet: u32) -> Result<Part, AllocError>
+        requires stand { Stand (stored self.old) }
+        requires inside { AreInside (book_of (stored self.old)).cells }
+        ensures ok { OnOk result (book_of (stored self.new) ≡ emptied (λ p. p.sheet == sheet) (book_of (stored self.old))) }
+        ensures back { IfOk result (λ part. part_undone part (stored self.new) ≡ stored self.old) }
+        ensures err { OnErr result (stored self.new ≡ stored self.old) }
+        ensures stand { Stand (stored self.new) }
     {
         let all = Block {
             sheet,
@@ -122,7 +151,7 @@ impl Parts {
             bottom: ROWS - 1,
             right: COLS - 1,
         };
-        self.empty(all)
+        self.clear_block(alloc, all)
     }
 }
 

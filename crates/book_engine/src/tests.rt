@@ -40,7 +40,7 @@ fn begins_with_given_sheets(rt: HostRuntime) -> Result<(), AllocError> {
         name: Text::from_str(rt.alloc(), "Plan")?,
         cells,
     }];
-    let mut engine = Engine::build(rt.alloc(), &books)?;
+    let mut engine = Engine::build(rt.alloc(), &books, 20)?;
     assert!(rt; reads(&mut engine, 0, 0, "=B2+1"));
     assert!(rt; engine.first_sheet() == Some(0));
     Ok(())
@@ -49,7 +49,7 @@ fn begins_with_given_sheets(rt: HostRuntime) -> Result<(), AllocError> {
 // Sheets are added, renamed, cleared and dropped; numbers go on.
 #[test]
 fn sheets_come_and_go(rt: HostRuntime) -> Result<(), AllocError> {
-    let mut engine = Engine::build(rt.alloc(), &[])?;
+    let mut engine = Engine::build(rt.alloc(), &[], 20)?;
     assert!(rt; engine.add_sheet("Plan") == Ok(0));
     assert!(rt; engine.add_sheet("plan") == Err(Stop::Refused(Refusal::SheetNameTaken)));
     assert!(rt; engine.add_sheet("Two") == Ok(1));
@@ -66,7 +66,7 @@ fn sheets_come_and_go(rt: HostRuntime) -> Result<(), AllocError> {
 // Cells are filled and emptied, and formulas follow rows, columns and blocks.
 #[test]
 fn formulas_follow(rt: HostRuntime) -> Result<(), AllocError> {
-    let mut engine = Engine::build(rt.alloc(), &[])?;
+    let mut engine = Engine::build(rt.alloc(), &[], 20)?;
     assert!(rt; engine.add_sheet("Plan") == Ok(0));
     assert!(rt; engine.set(place(0, 0), "=B5+B9").is_ok());
     assert!(rt; engine.set(place(4, 1), "7").is_ok());
@@ -84,5 +84,27 @@ fn formulas_follow(rt: HostRuntime) -> Result<(), AllocError> {
     assert!(rt; engine.clear(block(3, 3)).is_ok());
     assert!(rt; engine.content(place(3, 3)).is_ok());
     assert!(rt; engine.insert_rows(0, 5, 40_000) == Err(Stop::Refused(Refusal::SizeLimit)));
+    Ok(())
+}
+
+// Steps are undone and redone, batches are one step, and values wait while they are suspended.
+#[test]
+fn steps_go_back_and_forward(rt: HostRuntime) -> Result<(), AllocError> {
+    let mut engine = Engine::build(rt.alloc(), &[], 20)?;
+    assert!(rt; engine.undo() == Err(Stop::Refused(Refusal::NothingToUndo)));
+    assert!(rt; engine.add_sheet("Plan") == Ok(0));
+    assert!(rt; engine.begin().is_ok());
+    assert!(rt; engine.set(place(0, 0), "=B5").is_ok());
+    assert!(rt; engine.delete_rows(0, 4, 1).is_ok());
+    assert!(rt; engine.undo() == Err(Stop::Refused(Refusal::BatchOpen)));
+    assert!(rt; engine.commit().is_ok());
+    assert!(rt; reads(&mut engine, 0, 0, "=#REF!"));
+    assert!(rt; engine.undo().is_ok());
+    assert!(rt; engine.formula(place(0, 0)) == Ok(None));
+    assert!(rt; engine.redo().is_ok());
+    assert!(rt; reads(&mut engine, 0, 0, "=#REF!"));
+    assert!(rt; engine.redo() == Err(Stop::Refused(Refusal::NothingToRedo)));
+    engine.suspend();
+    engine.resume();
     Ok(())
 }

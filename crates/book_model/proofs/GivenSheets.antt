@@ -19,7 +19,8 @@ use Rattle.cell_values.specs.Workbook.{Content}
 use Rattle.book_model.specs.Workbook.{Workbook, State, has_sheet}
 use Rattle.book_model.specs.Content.{content_given, content_of}
 use Rattle.book_model.specs.Given.{numbered, place_on, given_entry, given_entries, workbook_given, session_given, IsGivenCell, IsGivenSheet, CanBegin}
-use Rattle.book_model.specs.Sound.{IsSound, IsContentOf, IsCellOf}
+use Rattle.book_model.specs.declared.limits.TheConstants.{MAX_UNDO}
+use Rattle.book_model.specs.Sound.{IsSound, IsSoundBook, IsContentOf, IsCellOf}
 use Rattle.book_model.specs.declared.given.BookCell.{BookCell}
 use Rattle.book_model.specs.declared.given.BookSheet.{BookSheet}
 use Rattle.book_model.proofs.Contents.{given_is, is_at}
@@ -107,16 +108,30 @@ given_sheets b n (s ∷ books) are known h =
     (given_sheet b n s.cells.list.items are (known n (omega arith) (omega arith)) (All-head IsGivenSheet s books h).1)
     (given_sheets b (n + 1) books are (λ k low high. known k (omega arith) (omega arith)) (All-tail IsGivenSheet s books h))
 
-pub given_sound : (books : List BookSheet) → CanBegin books → IsSound (session_given books)
-given_sound books can =
+given_book : (books : List BookSheet) → CanBegin books → IsSoundBook (length books) (workbook_given books)
+given_book books can =
     let few = can.2 in
     let are : AreSheets (numbered 0 books) = (apart books can.1, all-numbered (λ k. k ≢ NO_SHEET) books (λ k l same. absurd (omega (arith, few, l, same)))) in
     record {
       sheets = are;
       numbers = all-numbered (λ k. k < length books) books (λ k l. l);
-      few = can.2;
       cells = λ p c is. found-each (IsCellOf (workbook_given books)) (given_entries (numbered 0 books) 0 books) p c
           (given_sheets (workbook_given books) 0 books are (λ k low high. has-numbered 0 books k low high) can.0)
           (sym (get-from_entries place_cmp-IsTotalOrder (given_entries (numbered 0 books) 0 books) p) ∙ is);
       count = can.3;
     }
+
+pub none_kept : (n : ℕ) → All (IsSoundBook n) []
+none_kept n k d l = absurd (omega (arith, l))
+
+pub given_sound : (limit : ℕ) (books : List BookSheet) → limit ≤ MAX_UNDO → CanBegin books → IsSound (session_given limit books)
+given_sound limit books most can = record {
+  book = given_book books can;
+  undo = none_kept (length books);
+  redo = none_kept (length books);
+  batch = tt;
+  few = can.2;
+  cleared = tt;
+  steps = omega arith;
+  limit = most;
+}

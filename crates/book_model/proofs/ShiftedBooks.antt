@@ -25,10 +25,9 @@ use Rattle.shift_core.specs.Tables.{place_after, place_before}
 use Rattle.shift_core.specs.declared.form.Form.{Form}
 use Rattle.shift_core.specs.declared.form.Form.TheVariants as form
 use Rattle.shift_core.specs.declared.shift.Shift.{Shift}
-use Rattle.book_model.specs.Workbook.{Workbook, State, has_sheet}
+use Rattle.book_model.specs.Workbook.{Workbook, has_sheet}
 use Rattle.book_model.specs.Changes.{rewritten_content, rewritten_entry, rewritten_contents, sheets_left, shifted}
-use Rattle.book_model.specs.Session.{changed}
-use Rattle.book_model.specs.Sound.{IsSound, IsContentOf, IsCellOf}
+use Rattle.book_model.specs.Sound.{IsSoundBook, IsContentOf, IsCellOf}
 use Rattle.book_model.proofs.Counts.{len-from_entries, length-filter_map, length-map}
 use Rattle.book_model.proofs.KnownSheets.{has_id}
 use Rattle.book_model.proofs.SheetLists.{has-left, sheets-left}
@@ -131,14 +130,13 @@ fewer s m =
     omega (arith, a, b, c, d, e, f)
 
 -- the workbook after a sound operation
-pub shifted_book : (d : State) (s : Shift) → IsSound d → IsSoundShift s → LeadsToKnown (form_of s) d.book → IsSound (changed (shifted s d.book) d)
-shifted_book d s sound can k =
+pub shifted_book : (n : ℕ) (b : Workbook) (s : Shift) → IsSoundBook n b → IsSoundShift s → LeadsToKnown (form_of s) b → IsSoundBook n (shifted s b)
+shifted_book n b s sound can k =
     let few = sound.count in
-    let less = fewer s d.book.cells in
+    let less = fewer s b.cells in
     record {
-      sheets = left-sheets (form_of s) d.book.sheets sound.sheets;
-      numbers = left-numbers (form_of s) d.next_sheet d.book.sheets sound.numbers;
-      few = sound.few;
-      cells = λ p c e. shifted_cell s d.book p c can k sound.cells e;
+      sheets = left-sheets (form_of s) b.sheets sound.sheets;
+      numbers = left-numbers (form_of s) n b.sheets sound.numbers;
+      cells = λ p c e. shifted_cell s b p c can k sound.cells e;
       count = omega (arith, few, less);
     }

@@ -1,21 +1,25 @@
 -- Operations lead from one sound session to another. Serves the laws of sessions.
-use Rattle.std.proofs.Common.{◌≡◌, ◌∙◌, sym, ap, subst, refl, arith, ℕ, ◌≤◌, ◌<◌, ◌==◌, nat_lt, Bool, true, false, cond, not, List, [], ◌∷◌, Option, Some, None}
+use Rattle.std.proofs.Common.{◌≡◌, ◌∙◌, sym, ap, subst, refl, arith, ℕ, ◌+◌, ◌≤◌, ◌<◌, ◌==◌, nat_lt, Bool, true, false, cond, not, if◌then◌else◌, length, List, [], ◌∷◌, Option, Some, None, is_some}
 use Rattle.std.specs.Prelude.{nat_le}
 use Rattle.std.proofs.lemmas.Bool.Decides.{nat_tests}
+use Rattle.std.specs.List.{All}
+use Rattle.std.proofs.lemmas.List.{length-take}
+use Rattle.std.proofs.lemmas.List.Elements.{All-cons, All-head, All-tail, All-take, All-weaker}
 use Rattle.std.specs.FinMap as map
 use Rattle.cell_addr.specs.declared.place.Place.{Place}
 use Rattle.cell_addr.proofs.Places.{place_cmp-IsTotalOrder, place_cmp-IsAntisymmetric}
 use Rattle.cell_addr.specs.Place.{IsInside, covers}
 use Rattle.cell_values.specs.Workbook.{Book as Contents, Content}
 use Rattle.cell_values.specs.Workbook as contents
-use Rattle.book_model.specs.Workbook.{Workbook, State, has_sheet}
-use Rattle.book_model.specs.Operation.{Operation, set, clear, structural, add_sheet, rename_sheet, clear_sheet, value, formula, content}
+use Rattle.book_model.specs.Workbook.{Workbook, Batch, State, has_sheet}
+use Rattle.book_model.specs.Operation.{Operation, set, clear, structural, add_sheet, rename_sheet, clear_sheet, begin, commit, suspend, resume, undo, redo, value, formula, content}
 use Rattle.book_model.specs.Refusals.{causes, cause}
 use Rattle.book_model.specs.Content.{content_given, content_of}
-use Rattle.book_model.specs.Changes.{with_content, emptied, with_sheet, renamed}
-use Rattle.book_model.specs.Session.{changed, done, next, unless_refused}
-use Rattle.book_model.specs.Sound.{IsSound, IsContentOf, IsCellOf}
+use Rattle.book_model.specs.Changes.{with_content, emptied, shifted, with_sheet, renamed}
+use Rattle.book_model.specs.Session.{changed, changed_in, closed, done, kept, next, opened, redone, undone, unless_refused}
+use Rattle.book_model.specs.Sound.{ClearedBy, IsSound, IsSoundBatch, IsSoundBook, IsContentOf, IsCellOf}
 use Rattle.book_model.specs.declared.refusal.Refusal.{Refusal}
+use Rattle.book_model.proofs.GivenSheets.{none_kept}
 use Rattle.book_model.proofs.Counts.{len-retain_keys}
 use Rattle.book_model.proofs.SheetLists.{sheets-with, numbers-with, has-append, sheets-renamed, numbers-renamed, has-renamed}
 use Rattle.shift_core.specs.Form.{form_of}
@@ -30,26 +34,30 @@ at_most n m e = grind (arith, nat_tests)
 is_below : (n m : ℕ) → nat_le n m ≡ false → m < n
 is_below n m e = grind (arith, nat_tests)
 
--- a session with other contents, each of them a cell of the book and not too many
-with_cells : (d : State) (cells : Contents) → IsSound d → ((p : Place) (c : Content) → map.get cells p ≡ Some c → IsCellOf d.book p c) → map.len cells ≤ 1000000 → IsSound (changed (record d.book { cells = cells }) d)
-with_cells d cells s each few = record { sheets = s.sheets; numbers = s.numbers; few = s.few; cells = each; count = few }
+-- a workbook with other contents, each of them a cell of the book and not too many
+with_cells : (n : ℕ) (b : Workbook) (cells : Contents) → IsSoundBook n b → ((p : Place) (c : Content) → map.get cells p ≡ Some c → IsCellOf b p c) → map.len cells ≤ 1000000 → IsSoundBook n (record b { cells = cells })
+with_cells n b cells s each few = record { sheets = s.sheets; numbers = s.numbers; cells = each; count = few }
+
+-- a workbook of a session is one when more sheet numbers were given out
+more_numbers : (n : ℕ) (b : Workbook) → IsSoundBook n b → IsSoundBook (n + 1) b
+more_numbers n b s = record { sheets = s.sheets; numbers = λ k d l. let low = s.numbers k d l in omega (arith, low); cells = s.cells; count = s.count }
 
 -- a text that is given to a cell
-set_sound : (d : State) (at : Place) (text : List ℕ) → IsSound d → cause (set at text) d ≡ None → IsSound (done (set at text) d)
+set_sound : (d : State) (at : Place) (text : List ℕ) → IsSound d → cause (set at text) d ≡ None → IsSoundBook d.next_sheet (with_content at text d.book)
 set_sound d at text s e =
     let h = none_hold (causes (set at text) d) e in
     let here = is_known (has_sheet d.book at.sheet) h.0 in
-    with_cells d (with_content at text d.book).cells s
+    with_cells d.next_sheet d.book (with_content at text d.book).cells s.book
     (placed_cells (IsCellOf d.book) at (content_given d.book.sheets at.sheet (content_of text)) d.book.cells
-    (λ x given. (is_inside at h.1.0, here, given_is d.book at.sheet (content_of text) x s.sheets here given)) s.cells)
+    (λ x given. (is_inside at h.1.0, here, given_is d.book at.sheet (content_of text) x s.book.sheets here given)) s.book.cells)
     (at_most 1000000 (map.len (with_content at text d.book).cells) h.1.1.1.0)
 
 -- emptied cells
-emptied_sound : (d : State) (test : Place → Bool) → IsSound d → IsSound (changed (emptied test d.book) d)
+emptied_sound : (d : State) (test : Place → Bool) → IsSound d → IsSoundBook d.next_sheet (emptied test d.book)
 emptied_sound d test s =
     let fewer = len-retain_keys place_cmp-IsTotalOrder place_cmp-IsAntisymmetric d.book.cells (λ p. not (test p)) in
-    let few = s.count in
-    with_cells d (emptied test d.book).cells s (emptied_cells (IsCellOf d.book) test d.book.cells s.cells) (omega (arith, fewer, few))
+    let few = s.book.count in
+    with_cells d.next_sheet d.book (emptied test d.book).cells s.book (emptied_cells (IsCellOf d.book) test d.book.cells s.book.cells) (omega (arith, fewer, few))
 
 -- contents of a book are those of a book with at least its sheets
 same_sheets : (b c : Workbook) → ((sheet : ℕ) → has_sheet b sheet ≡ true → has_sheet c sheet ≡ true) → (x : Content) → IsContentOf b x → IsContentOf c x
@@ -62,47 +70,189 @@ same_sheets b c h (contents.unreadable w) i = tt
 same_cell : (b c : Workbook) → ((sheet : ℕ) → has_sheet b sheet ≡ true → has_sheet c sheet ≡ true) → (p : Place) (x : Content) → IsCellOf b p x → IsCellOf c p x
 same_cell b c h p x i = (i.0, h p.sheet i.1, same_sheets b c h x i.2)
 
-add_sound : (d : State) (name : List ℕ) → IsSound d → cause (add_sheet name) d ≡ None → IsSound (done (add_sheet name) d)
+add_sound : (d : State) (name : List ℕ) → IsSound d → cause (add_sheet name) d ≡ None → IsSoundBook (d.next_sheet + 1) (with_sheet d.next_sheet name d.book)
 add_sound d name s e =
     let h = none_hold (causes (add_sheet name) d) e in
     let below = is_below 1024 d.next_sheet h.1.1.0 in
     record {
-      sheets = sheets-with d.book.sheets d.next_sheet name s.sheets s.numbers (omega (arith, below)) h.1.0;
-      numbers = numbers-with d.book.sheets d.next_sheet name s.numbers;
-      few = omega (arith, below);
-      cells = λ p c is. same_cell d.book (with_sheet d.next_sheet name d.book) (λ k h. has-append k d.book.sheets ((d.next_sheet, name) ∷ []) h) p c (s.cells p c is);
-      count = s.count;
+      sheets = sheets-with d.book.sheets d.next_sheet name s.book.sheets s.book.numbers (omega (arith, below)) h.1.0;
+      numbers = numbers-with d.book.sheets d.next_sheet name s.book.numbers;
+      cells = λ p c is. same_cell d.book (with_sheet d.next_sheet name d.book) (λ k h. has-append k d.book.sheets ((d.next_sheet, name) ∷ []) h) p c (s.book.cells p c is);
+      count = s.book.count;
     }
 
-rename_sound : (d : State) (sheet : ℕ) (name : List ℕ) → IsSound d → cause (rename_sheet sheet name) d ≡ None → IsSound (done (rename_sheet sheet name) d)
+rename_sound : (d : State) (sheet : ℕ) (name : List ℕ) → IsSound d → cause (rename_sheet sheet name) d ≡ None → IsSoundBook d.next_sheet (renamed sheet name d.book)
 rename_sound d sheet name s e =
     let h = none_hold (causes (rename_sheet sheet name) d) e in
     record {
-      sheets = sheets-renamed d.book.sheets sheet name s.sheets h.1.1.0;
-      numbers = numbers-renamed d.book.sheets sheet d.next_sheet name s.numbers;
-      few = s.few;
-      cells = λ p c is. same_cell d.book (renamed sheet name d.book) (λ k h. has-renamed sheet k name d.book.sheets h) p c (s.cells p c is);
-      count = s.count;
+      sheets = sheets-renamed d.book.sheets sheet name s.book.sheets h.1.1.0;
+      numbers = numbers-renamed d.book.sheets sheet d.next_sheet name s.book.numbers;
+      cells = λ p c is. same_cell d.book (renamed sheet name d.book) (λ k h. has-renamed sheet k name d.book.sheets h) p c (s.book.cells p c is);
+      count = s.book.count;
     }
 
-shifted_sound : (d : State) (change : Shift) → IsSound d → cause (structural change) d ≡ None → IsSound (done (structural change) d)
-shifted_sound d change s e = let f = sound_form d (form_of change) e in shifted_book d change s f.0 f.1
+shifted_sound : (d : State) (change : Shift) → IsSound d → cause (structural change) d ≡ None → IsSoundBook d.next_sheet (shifted change d.book)
+shifted_sound d change s e = let f = sound_form d (form_of change) e in shifted_book d.next_sheet d.book change s.book f.0 f.1
+
+-- the kept workbooks, after one joined them
+kept_sound : (d : State) (b : Workbook) (n : ℕ) → All (IsSoundBook n) d.undo → IsSoundBook n b → All (IsSoundBook n) (kept d b)
+kept_sound d b n all s = All-take (IsSoundBook n) d.limit (b ∷ d.undo) (All-cons (IsSoundBook n) b d.undo s all)
+
+kept_few : (d : State) (b : Workbook) → length (kept d b) ≤ d.limit
+kept_few d b = let t = length-take d.limit (b ∷ d.undo) in omega (arith, t)
+
+-- a change to a sound workbook, in an batch batch or outside of one
+changed_sound : (d : State) (book : Workbook) (batch : Option Batch) → d.batch ≡ batch → IsSound d → IsSoundBook d.next_sheet book → IsSound (changed_in batch book d)
+changed_sound d book None e s h = record {
+  book = h;
+  undo = kept_sound d d.book d.next_sheet s.undo s.book;
+  redo = none_kept d.next_sheet;
+  batch = s.batch;
+  few = s.few;
+  cleared = subst (λ o. ClearedBy o []) (sym e) tt;
+  steps = let k = kept_few d d.book in omega (arith, k);
+  limit = s.limit;
+}
+changed_sound d book (Some batch) e s h = record {
+  book = h;
+  undo = s.undo;
+  redo = none_kept d.next_sheet;
+  batch = subst (IsSoundBatch d.next_sheet) e s.batch;
+  few = s.few;
+  cleared = λ c. refl;
+  steps = let k = s.steps in omega (arith, k);
+  limit = s.limit;
+}
+
+-- a change for which no sheet is added
+change_sound : (d : State) (book : Workbook) → IsSound d → IsSoundBook d.next_sheet book → IsSound (changed book d)
+change_sound d book s h = changed_sound d book d.batch refl s h
+
+-- where a sheet number was given out, the kept workbooks stay sound
+more_batch : (n : ℕ) (batch : Option Batch) → IsSoundBatch n batch → IsSoundBatch (n + 1) batch
+more_batch n None s = tt
+more_batch n (Some batch) s = more_numbers n batch.start s
+
+added_sound : (d : State) (book : Workbook) (batch : Option Batch) → d.batch ≡ batch → IsSound d → d.next_sheet + 1 ≤ 1024 → IsSoundBook (d.next_sheet + 1) book → IsSound (record (changed_in batch book d) { next_sheet = d.next_sheet + 1 })
+added_sound d book None e s few h = record {
+  book = h;
+  undo = kept_sound d d.book (d.next_sheet + 1) (All-weaker (IsSoundBook d.next_sheet) (IsSoundBook (d.next_sheet + 1)) (more_numbers d.next_sheet) d.undo s.undo) (more_numbers d.next_sheet d.book s.book);
+  redo = none_kept (d.next_sheet + 1);
+  batch = more_batch d.next_sheet d.batch s.batch;
+  few = few;
+  cleared = subst (λ o. ClearedBy o []) (sym e) tt;
+  steps = let k = kept_few d d.book in omega (arith, k);
+  limit = s.limit;
+}
+added_sound d book (Some batch) e s few h = record {
+  book = h;
+  undo = All-weaker (IsSoundBook d.next_sheet) (IsSoundBook (d.next_sheet + 1)) (more_numbers d.next_sheet) d.undo s.undo;
+  redo = none_kept (d.next_sheet + 1);
+  batch = more_batch d.next_sheet (Some batch) (subst (IsSoundBatch d.next_sheet) e s.batch);
+  few = few;
+  cleared = λ c. refl;
+  steps = let k = s.steps in omega (arith, k);
+  limit = s.limit;
+}
+
+opened_sound : (d : State) → IsSound d → IsSound (opened d)
+opened_sound d s = record { book = s.book; undo = s.undo; redo = s.redo; batch = s.book; few = s.few; cleared = λ c. cc; steps = s.steps; limit = s.limit }
+
+-- a batch is closed, in which a change came or none
+closed_kept : (d : State) (batch : Batch) (b : Bool) → IsSound d → IsSoundBook d.next_sheet batch.start → All (IsSoundBook d.next_sheet) (if b then kept d batch.start else d.undo)
+closed_kept d batch true s start = kept_sound d batch.start d.next_sheet s.undo start
+closed_kept d batch false s start = s.undo
+
+closed_steps : (d : State) (batch : Batch) (b : Bool) → batch.changed ≡ b → IsSound d → ClearedBy (Some batch) d.redo → length (if b then kept d batch.start else d.undo) + length d.redo ≤ d.limit
+closed_steps d batch true e s cleared =
+    let none = cleared e in
+    let k = kept_few d batch.start in
+    omega (arith, none, k)
+closed_steps d batch false e s cleared = s.steps
+
+closed_sound : (d : State) (batch : Option Batch) → d.batch ≡ batch → IsSound d → IsSound (closed batch d)
+closed_sound d None e s = s
+closed_sound d (Some batch) e s = record {
+  book = s.book;
+  undo = closed_kept d batch batch.changed s (subst (IsSoundBatch d.next_sheet) e s.batch);
+  redo = s.redo;
+  batch = tt;
+  few = s.few;
+  cleared = tt;
+  steps = closed_steps d batch batch.changed refl s (subst (λ o. ClearedBy o d.redo) e s.cleared);
+  limit = s.limit;
+}
+
+flagged_sound : (d : State) (flag : Bool) → IsSound d → IsSound (record d { suspended = flag })
+flagged_sound d flag s = record { book = s.book; undo = s.undo; redo = s.redo; batch = s.batch; few = s.few; cleared = s.cleared; steps = s.steps; limit = s.limit }
+
+-- no batch is batch where steps are undone and redone
+none_open : (batch : Option Batch) (books : List Workbook) → is_some batch ≡ false → ClearedBy batch books
+none_open None books e = tt
+none_open (Some batch) books e = cc
+
+undone_sound : (d : State) (books : List Workbook) → d.undo ≡ books → is_some d.batch ≡ false → IsSound d → IsSound (undone books d)
+undone_sound d [] e none s = s
+undone_sound d (b ∷ bs) e none s =
+    let all = subst (All (IsSoundBook d.next_sheet)) e s.undo in
+    let long = ap length e in
+    let steps = s.steps in
+    record {
+      book = All-head (IsSoundBook d.next_sheet) b bs all;
+      undo = All-tail (IsSoundBook d.next_sheet) b bs all;
+      redo = All-cons (IsSoundBook d.next_sheet) d.book d.redo s.book s.redo;
+      batch = s.batch;
+      few = s.few;
+      cleared = none_open d.batch (d.book ∷ d.redo) none;
+      steps = omega (arith, long, steps);
+      limit = s.limit;
+    }
+
+redone_sound : (d : State) (books : List Workbook) → d.redo ≡ books → is_some d.batch ≡ false → IsSound d → IsSound (redone books d)
+redone_sound d [] e none s = s
+redone_sound d (b ∷ bs) e none s =
+    let all = subst (All (IsSoundBook d.next_sheet)) e s.redo in
+    let long = ap length e in
+    let steps = s.steps in
+    record {
+      book = All-head (IsSoundBook d.next_sheet) b bs all;
+      undo = All-cons (IsSoundBook d.next_sheet) d.book d.undo s.book s.undo;
+      redo = All-tail (IsSoundBook d.next_sheet) b bs all;
+      batch = s.batch;
+      few = s.few;
+      cleared = none_open d.batch bs none;
+      steps = omega (arith, long, steps);
+      limit = s.limit;
+    }
 
 unless_sound : (r : Option Refusal) (after before : State) → (r ≡ None → IsSound after) → IsSound before → IsSound (unless_refused r after before)
 unless_sound None after before h s = h refl
 unless_sound (Some r) after before h s = s
 
+-- what is done where no cause holds
+done_sound : (op : Operation) (d : State) → IsSound d → cause op d ≡ None → IsSound (done op d)
+done_sound (set at text) d s e = change_sound d (with_content at text d.book) s (set_sound d at text s e)
+done_sound (clear area) d s e = change_sound d (emptied (covers area) d.book) s (emptied_sound d (covers area) s)
+done_sound (structural change) d s e = change_sound d (shifted change d.book) s (shifted_sound d change s e)
+done_sound (add_sheet name) d s e =
+    let h = none_hold (causes (add_sheet name) d) e in
+    let below = is_below 1024 d.next_sheet h.1.1.0 in
+    added_sound d (with_sheet d.next_sheet name d.book) d.batch refl s (omega (arith, below)) (add_sound d name s e)
+done_sound (rename_sheet sheet name) d s e = change_sound d (renamed sheet name d.book) s (rename_sound d sheet name s e)
+done_sound (clear_sheet sheet) d s e = change_sound d (emptied (λ p. p.sheet == sheet) d.book) s (emptied_sound d (λ p. p.sheet == sheet) s)
+done_sound begin d s e = opened_sound d s
+done_sound commit d s e = closed_sound d d.batch refl s
+done_sound suspend d s e = flagged_sound d true s
+done_sound resume d s e = flagged_sound d false s
+done_sound undo d s e = undone_sound d d.undo refl (none_hold (causes undo d) e).0 s
+done_sound redo d s e = redone_sound d d.redo refl (none_hold (causes redo d) e).0 s
+done_sound (value at) d s e = s
+done_sound (formula at) d s e = s
+done_sound (content at) d s e = s
+
 -- an operation leads from a sound session to a sound one
 pub next_sound : (op : Operation) (d : State) → IsSound d → IsSound (next op d)
-next_sound (set at text) d s = unless_sound (cause (set at text) d) (done (set at text) d) d (set_sound d at text s) s
-next_sound (clear area) d s = unless_sound (cause (clear area) d) (done (clear area) d) d (λ e. emptied_sound d (covers area) s) s
-next_sound (structural change) d s = unless_sound (cause (structural change) d) (done (structural change) d) d (shifted_sound d change s) s
-next_sound (add_sheet name) d s = unless_sound (cause (add_sheet name) d) (done (add_sheet name) d) d (add_sound d name s) s
-next_sound (rename_sheet sheet name) d s = unless_sound (cause (rename_sheet sheet name) d) (done (rename_sheet sheet name) d) d (rename_sound d sheet name s) s
-next_sound (clear_sheet sheet) d s = unless_sound (cause (clear_sheet sheet) d) (done (clear_sheet sheet) d) d (λ e. emptied_sound d (λ p. p.sheet == sheet) s) s
-next_sound (value at) d s = unless_sound (cause (value at) d) d d (λ e. s) s
-next_sound (formula at) d s = unless_sound (cause (formula at) d) d d (λ e. s) s
-next_sound (content at) d s = unless_sound (cause (content at) d) d d (λ e. s) s
+next_sound op d s = unless_sound (cause op d) (done op d) d (done_sound op d s) s
 
 unless_same : (r : Option Refusal) (q : Refusal) (after before : State) → r ≡ Some q → unless_refused r after before ≡ before
 unless_same None q after before e = cc

@@ -1,5 +1,5 @@
 -- The session that begins with given sheets and texts. Source: this project's own.
-use Rattle.std.specs.Prelude.{◌≡◌, ◌≢◌, ◌⊎◌, ◌<◌, ◌≤◌, ℕ, ◌+◌, List, [], ◌∷◌, ◌++◌, length, map, Option, option_map, All, AllPairs, IsTrue}
+use Rattle.std.specs.Prelude.{◌≡◌, ◌≢◌, ◌⊎◌, ◌<◌, ◌≤◌, ℕ, ◌+◌, false, List, [], ◌∷◌, ◌++◌, length, map, Option, None, option_map, All, AllPairs, IsTrue}
 use Rattle.std.specs.List.{filter_map}
 use Rattle.std.specs.FinMap as finmap
 use Rattle.cell_addr.specs.declared.place.Place.{Place}
@@ -38,9 +38,17 @@ workbook_given books = record {
   cells = finmap.from_entries (given_entries (numbered 0 books) 0 books);
 }
 
--- the session that begins with the sheets
-abbrev pub session_given : List BookSheet → State
-session_given books = record { book = workbook_given books; next_sheet = length books }
+-- the session that begins with the sheets, in which so many steps can be undone
+abbrev pub session_given : ℕ → List BookSheet → State
+session_given limit books = record {
+  book = workbook_given books;
+  undo = [];
+  redo = [];
+  batch = None;
+  suspended = false;
+  next_sheet = length books;
+  limit = limit;
+}
 
 -- the cell is inside, and its text within the limit
 abbrev pub IsGivenCell : BookCell → Type 0

@@ -17,6 +17,15 @@ pub data Operation : Type 0 where
   rename_sheet : ℕ → List ℕ → Operation
   -- empties the cells of a sheet
   clear_sheet : ℕ → Operation
+  -- opens a batch of changes that are one step, and closes it
+  begin : Operation
+  commit : Operation
+  -- stops the computation of values, and lets it go on
+  suspend : Operation
+  resume : Operation
+  -- back to the workbook from before the last step, and forward again
+  undo : Operation
+  redo : Operation
   -- what a cell shows
   value : Place → Operation
   -- the text of a cell's formula

@@ -1,6 +1,6 @@
 -- Why an operation is refused: the causes of each, in the order in which they are tested. The first that holds is the
 -- answer. Source: this project's own.
-use Rattle.std.specs.Prelude.{ℕ, ◌+◌, ◌==◌, ◌&&◌, ◌||◌, nat_lt, nat_le, if◌then◌else◌, Bool, not, List, [], ◌∷◌, length, Option, Some, None, is_none}
+use Rattle.std.specs.Prelude.{ℕ, ◌+◌, ◌==◌, ◌&&◌, ◌||◌, nat_lt, nat_le, if◌then◌else◌, Bool, not, List, [], ◌∷◌, length, Option, Some, None, is_none, is_some}
 use Rattle.std.specs.List.{list_any, list_all}
 use Rattle.std.specs.FinMap as map
 use Rattle.cell_addr.specs.declared.place.Place.{Place}
@@ -18,11 +18,11 @@ use Rattle.shift_core.specs.declared.edit.Edit.TheVariants as edit
 use Rattle.shift_core.specs.declared.form.Form.{Form}
 use Rattle.shift_core.specs.declared.form.Form.TheVariants as form
 use Rattle.book_model.specs.Workbook.{Workbook, State, has_sheet}
-use Rattle.book_model.specs.Operation.{Operation, set, clear, structural, add_sheet, rename_sheet, clear_sheet, value, formula, content}
+use Rattle.book_model.specs.Operation.{Operation, set, clear, structural, add_sheet, rename_sheet, clear_sheet, begin, commit, suspend, resume, undo, redo, value, formula, content}
 use Rattle.book_model.specs.Changes.{with_content}
 use Rattle.book_model.specs.declared.limits.TheConstants.{MAX_CELLS, MAX_SHEETS, MAX_SHEET_NAME, MAX_TEXT}
 use Rattle.book_model.specs.declared.refusal.Refusal.{Refusal}
-use Rattle.book_model.specs.declared.refusal.Refusal.TheVariants.{NoSheet, SheetNameTaken, SheetNameInvalid, Outside, SizeLimit, CellLimit, BadSpan, TextLimit, SheetLimit}
+use Rattle.book_model.specs.declared.refusal.Refusal.TheVariants.{NoSheet, SheetNameTaken, SheetNameInvalid, Outside, SizeLimit, CellLimit, NothingToUndo, NothingToRedo, Suspended, BatchOpen, NoBatch, BadSpan, TextLimit, SheetLimit}
 
 -- a cause that holds or doesn't, and the refusal that it gives
 abbrev pub Cause : Type 0
@@ -112,7 +112,13 @@ causes (rename_sheet sheet name) d =
     ∷ (is_taken d.book sheet name, SheetNameTaken)
     ∷ []
 causes (clear_sheet sheet) d = on_sheet d sheet
-causes (value at) d = at_place d at
+causes begin d = (is_some d.batch, BatchOpen) ∷ []
+causes commit d = (is_none d.batch, NoBatch) ∷ []
+causes suspend d = []
+causes resume d = []
+causes undo d = (is_some d.batch, BatchOpen) ∷ (length d.undo == 0, NothingToUndo) ∷ []
+causes redo d = (is_some d.batch, BatchOpen) ∷ (length d.redo == 0, NothingToRedo) ∷ []
+causes (value at) d = (d.suspended || is_some d.batch, Suspended) ∷ at_place d at
 causes (formula at) d = at_place d at
 causes (content at) d = at_place d at
 

@@ -1,15 +1,42 @@
 -- What operations do to a session. Source: this project's own.
-use Rattle.std.specs.Prelude.{ℕ, ◌+◌, ◌==◌, List, [], ◌∷◌, Option, Some, None}
+use Rattle.std.specs.Prelude.{ℕ, ◌+◌, ◌==◌, if◌then◌else◌, true, false, List, [], ◌∷◌, take, Option, Some, None}
 use Rattle.cell_addr.specs.Place.{covers}
-use Rattle.book_model.specs.Workbook.{Workbook, State}
-use Rattle.book_model.specs.Operation.{Operation, set, clear, structural, add_sheet, rename_sheet, clear_sheet, value, formula, content}
+use Rattle.book_model.specs.Workbook.{Workbook, Batch, State}
+use Rattle.book_model.specs.Operation.{Operation, set, clear, structural, add_sheet, rename_sheet, clear_sheet, begin, commit, suspend, resume, undo, redo, value, formula, content}
 use Rattle.book_model.specs.Changes.{with_content, emptied, shifted, with_sheet, renamed}
 use Rattle.book_model.specs.Refusals.{cause}
 use Rattle.book_model.specs.declared.refusal.Refusal.{Refusal}
 
--- a change gives the session another workbook
+-- the workbook from before a step joins those of the undo list; of more than the limit the oldest goes
+abbrev pub kept : State → Workbook → List Workbook
+kept d before = take d.limit (before ∷ d.undo)
+
+-- a change gives the session another workbook, after which nothing can be redone; it is a step by itself, or part of the
+-- open batch's
+abbrev pub changed_in : Option Batch → Workbook → State → State
+changed_in None book d = record d { book = book; undo = kept d d.book; redo = [] }
+changed_in (Some batch) book d = record d { book = book; batch = Some (record batch { changed = true }); redo = [] }
+
 abbrev pub changed : Workbook → State → State
-changed book d = record d { book = book }
+changed book d = changed_in d.batch book d
+
+-- a batch begins with the workbook as it is
+abbrev pub opened : State → State
+opened d = record d { batch = Some (record { start = d.book; changed = false }) }
+
+-- the changes of a batch are one step; a batch without one is none
+abbrev pub closed : Option Batch → State → State
+closed None d = d
+closed (Some batch) d = record d { batch = None; undo = if batch.changed then kept d batch.start else d.undo }
+
+-- the next workbook of the undo list, and the present one joins the redo list; and the opposite
+abbrev pub undone : List Workbook → State → State
+undone [] d = d
+undone (b ∷ bs) d = record d { book = b; undo = bs; redo = d.book ∷ d.redo }
+
+abbrev pub redone : List Workbook → State → State
+redone [] d = d
+redone (b ∷ bs) d = record d { book = b; undo = d.book ∷ d.undo; redo = bs }
 
 -- the session after an operation that is accepted; a read changes nothing
 abbrev pub done : Operation → State → State
@@ -19,6 +46,12 @@ done (structural s) d = changed (shifted s d.book) d
 done (add_sheet name) d = record (changed (with_sheet d.next_sheet name d.book) d) { next_sheet = d.next_sheet + 1 }
 done (rename_sheet sheet name) d = changed (renamed sheet name d.book) d
 done (clear_sheet sheet) d = changed (emptied (λ p. p.sheet == sheet) d.book) d
+done begin d = opened d
+done commit d = closed d.batch d
+done suspend d = record d { suspended = true }
+done resume d = record d { suspended = false }
+done undo d = undone d.undo d
+done redo d = redone d.redo d
 done (value at) d = d
 done (formula at) d = d
 done (content at) d = d

@@ -1,5 +1,5 @@
 -- What holds of every session that operations reach. Source: this project's own.
-use Rattle.std.specs.Prelude.{◌≡◌, ◌<◌, ◌≤◌, ℕ, Some, All, IsTrue, ⊤}
+use Rattle.std.specs.Prelude.{◌≡◌, ◌<◌, ◌≤◌, ◌+◌, ℕ, true, List, length, Option, Some, None, All, IsTrue, ⊤}
 use Rattle.std.specs.FinMap as map
 use Rattle.cell_addr.specs.declared.place.Place.{Place}
 use Rattle.cell_addr.specs.Place.{IsInside}
@@ -7,8 +7,8 @@ use Rattle.cell_addr.specs.Sheets.{AreSheets}
 use Rattle.cell_values.specs.Workbook.{Content, formula}
 use Rattle.formula_tree.specs.Proper.{IsProper}
 use Rattle.tree_rewrite.specs.Sheets.{HasSheet}
-use Rattle.book_model.specs.Workbook.{Workbook, State, has_sheet}
-use Rattle.book_model.specs.declared.limits.TheConstants.{MAX_CELLS, MAX_SHEETS}
+use Rattle.book_model.specs.Workbook.{Workbook, Batch, State, has_sheet}
+use Rattle.book_model.specs.declared.limits.TheConstants.{MAX_CELLS, MAX_SHEETS, MAX_UNDO}
 
 -- a content of the book: a formula's tree is proper, and its sheets are the book's
 abbrev pub IsContentOf : Workbook → Content → Type 0
@@ -19,11 +19,32 @@ IsContentOf b c = ⊤
 abbrev pub IsCellOf : Workbook → Place → Content → Type 0
 IsCellOf b p c = IsInside p × IsTrue (has_sheet b p.sheet) × IsContentOf b c
 
-pub record IsSound (d : State) : Type 0 where
+-- a workbook of a session that gives out sheet numbers from this one on
+pub record IsSoundBook (next_sheet : ℕ) (b : Workbook) : Type 0 where
   -- no two sheets have one number or, folded, one name
-  pub sheets : AreSheets d.book.sheets
+  pub sheets : AreSheets b.sheets
   -- each number was given out
-  pub numbers : All (λ s. s.0 < d.next_sheet) d.book.sheets
+  pub numbers : All (λ s. s.0 < next_sheet) b.sheets
+  pub cells : (p : Place) (c : Content) → map.get b.cells p ≡ Some c → IsCellOf b p c
+  pub count : map.len b.cells ≤ MAX_CELLS
+
+-- the workbook at the start of a batch is one too
+abbrev pub IsSoundBatch : ℕ → Option Batch → Type 0
+IsSoundBatch next_sheet None = ⊤
+IsSoundBatch next_sheet (Some batch) = IsSoundBook next_sheet batch.start
+
+abbrev pub ClearedBy : Option Batch → List Workbook → Type 0
+ClearedBy None redo = ⊤
+ClearedBy (Some batch) redo = batch.changed ≡ true → length redo ≡ 0
+
+pub record IsSound (d : State) : Type 0 where
+  pub book : IsSoundBook d.next_sheet d.book
+  pub undo : All (IsSoundBook d.next_sheet) d.undo
+  pub redo : All (IsSoundBook d.next_sheet) d.redo
+  pub batch : IsSoundBatch d.next_sheet d.batch
   pub few : d.next_sheet ≤ MAX_SHEETS
-  pub cells : (p : Place) (c : Content) → map.get d.book.cells p ≡ Some c → IsCellOf d.book p c
-  pub count : map.len d.book.cells ≤ MAX_CELLS
+  -- where a change came in the open batch, nothing can be redone
+  pub cleared : ClearedBy d.batch d.redo
+  -- no more steps are kept than can be undone
+  pub steps : length d.undo + length d.redo ≤ d.limit
+  pub limit : d.limit ≤ MAX_UNDO

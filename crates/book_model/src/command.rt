@@ -29,6 +29,18 @@ pub enum Command {
     RenameSheet(Text, Text),
     /// Empties the cells of a sheet.
     ClearSheet(Text),
+    /// Opens a batch of changes that are one step.
+    Begin,
+    /// Closes the batch.
+    Commit,
+    /// Stops the computation of values.
+    Suspend,
+    /// Lets it go on.
+    Resume,
+    /// Back to the workbook from before the last step.
+    Undo,
+    /// Forward again, after an undo.
+    Redo,
     /// Asks for what a cell shows.
     Value(Spot),
     /// Asks for the text of a cell's formula.

@@ -17,6 +17,16 @@ pub enum Refusal {
     SizeLimit,
     /// 6: more cells would be filled than a workbook may have.
     CellLimit,
+    /// 11: no step can be undone.
+    NothingToUndo,
+    /// 12: no step can be redone.
+    NothingToRedo,
+    /// 14: the computation of values is suspended, or a batch is open.
+    Suspended,
+    /// 15: a batch is open.
+    BatchOpen,
+    /// 16: no batch is open.
+    NoBatch,
     /// 17: the span has no lines, or is moved to where it is.
     BadSpan,
     /// 18: the text is longer than a text given to a cell may be.
@@ -37,6 +47,11 @@ impl Refusal {
             Refusal::Outside => 4,
             Refusal::SizeLimit => 5,
             Refusal::CellLimit => 6,
+            Refusal::NothingToUndo => 11,
+            Refusal::NothingToRedo => 12,
+            Refusal::Suspended => 14,
+            Refusal::BatchOpen => 15,
+            Refusal::NoBatch => 16,
             Refusal::BadSpan => 17,
             Refusal::TextLimit => 18,
             Refusal::SheetLimit => 19,
@@ -54,6 +69,11 @@ impl Refusal {
             Refusal::Outside => "Outside",
             Refusal::SizeLimit => "SizeLimit",
             Refusal::CellLimit => "CellLimit",
+            Refusal::NothingToUndo => "NothingToUndo",
+            Refusal::NothingToRedo => "NothingToRedo",
+            Refusal::Suspended => "Suspended",
+            Refusal::BatchOpen => "BatchOpen",
+            Refusal::NoBatch => "NoBatch",
             Refusal::BadSpan => "BadSpan",
             Refusal::TextLimit => "TextLimit",
             Refusal::SheetLimit => "SheetLimit",

@@ -20,6 +20,12 @@ line word.AddSheet = (codes "add-sheet", Name ∷ [])
 line word.DropSheet = (codes "drop-sheet", Sheet ∷ [])
 line word.RenameSheet = (codes "rename-sheet", Sheet ∷ Name ∷ [])
 line word.ClearSheet = (codes "clear-sheet", Sheet ∷ [])
+line word.Begin = (codes "begin", [])
+line word.Commit = (codes "commit", [])
+line word.Suspend = (codes "suspend", [])
+line word.Resume = (codes "resume", [])
+line word.Undo = (codes "undo", [])
+line word.Redo = (codes "redo", [])
 line word.Value = (codes "value", Place ∷ [])
 line word.Formula = (codes "formula", Place ∷ [])
 line word.Content = (codes "content", Place ∷ [])
@@ -29,6 +35,7 @@ abbrev pub words : List Word
 words = word.Set ∷ word.Clear
     ∷ word.InsertRows ∷ word.DeleteRows ∷ word.InsertCols ∷ word.DeleteCols ∷ word.MoveRows ∷ word.MoveCols
     ∷ word.AddSheet ∷ word.DropSheet ∷ word.RenameSheet ∷ word.ClearSheet
+    ∷ word.Begin ∷ word.Commit ∷ word.Suspend ∷ word.Resume ∷ word.Undo ∷ word.Redo
     ∷ word.Value ∷ word.Formula ∷ word.Content ∷ []
 
 -- the word that is written so, in exactly these letters

@@ -19,6 +19,12 @@ pub enum Word {
     DropSheet,
     RenameSheet,
     ClearSheet,
+    Begin,
+    Commit,
+    Suspend,
+    Resume,
+    Undo,
+    Redo,
     Value,
     Formula,
     Content,
@@ -54,7 +60,7 @@ pub const MAX_FIELDS: usize = 4;
 
 impl Word {
     /// All words.
-    pub const ALL: [Word; 15] = [
+    pub const ALL: [Word; 21] = [
         Word::Set,
         Word::Clear,
         Word::InsertRows,
@@ -67,6 +73,12 @@ impl Word {
         Word::DropSheet,
         Word::RenameSheet,
         Word::ClearSheet,
+        Word::Begin,
+        Word::Commit,
+        Word::Suspend,
+        Word::Resume,
+        Word::Undo,
+        Word::Redo,
         Word::Value,
         Word::Formula,
         Word::Content,
@@ -91,6 +103,12 @@ impl Word {
             Word::DropSheet => ("drop-sheet", &[Sheet]),
             Word::RenameSheet => ("rename-sheet", &[Sheet, Name]),
             Word::ClearSheet => ("clear-sheet", &[Sheet]),
+            Word::Begin => ("begin", &[]),
+            Word::Commit => ("commit", &[]),
+            Word::Suspend => ("suspend", &[]),
+            Word::Resume => ("resume", &[]),
+            Word::Undo => ("undo", &[]),
+            Word::Redo => ("redo", &[]),
             Word::Value => ("value", &[Place]),
             Word::Formula => ("formula", &[Place]),
             Word::Content => ("content", &[Place]),

@@ -1,5 +1,5 @@
 -- The whole output and status of a run, from its words and the bytes of its script. Source: this project's own.
-use Rattle.std.specs.Prelude.{◌≡◌, ◌⊎◌, ◌+◌, ◌++◌, if◌then◌else◌, nat_lt, ℕ, List, [], ◌∷◌, length, drop, Option, Some, None, Result, Ok, Err, codes, ⊤}
+use Rattle.std.specs.Prelude.{◌≡◌, ◌⊎◌, ◌+◌, ◌++◌, if◌then◌else◌, nat_lt, false, ℕ, List, [], ◌∷◌, length, drop, Option, Some, None, Result, Ok, Err, codes, ⊤}
 use Rattle.std.specs.Fmt.{decimal}
 use Rattle.std.specs.FinMap as map
 use Rattle.std.specs.Io.KnownBytes.{Appends}
@@ -7,14 +7,23 @@ use Rattle.csv.specs.Reading.{records, default_config, strip_bom}
 use Rattle.book_model.specs.Replies.{line_of, next_state, reply}
 use Rattle.book_model.specs.Workbook.{State}
 use Rattle.book_model.specs.declared.command.Command.{Command}
+use Rattle.book_model.specs.declared.limits.TheConstants.{DEFAULT_UNDO}
 use Rattle.script_lang.specs.Command.{command_of}
 use Rattle.script_lang.specs.declared.error.ScriptError.{ScriptError}
 use Rattle.script_lang.specs.declared.error.ScriptError.TheVariants.{UnknownCommand, FieldCount, BadField, NoMemory}
 use Rattle.sheet_cli.specs.declared.outside.input.TheConstants.{MAX_INPUT}
 
--- the session that a run begins with: one empty sheet, `Sheet1`, which has the number 0
+-- the session that a run begins with: one empty sheet, `Sheet1`, which has the number 0, and nothing to undo
 abbrev pub first_session : State
-first_session = record { book = record { sheets = (0, codes "Sheet1") ∷ []; cells = map.empty }; next_sheet = 1 }
+first_session = record {
+  book = record { sheets = (0, codes "Sheet1") ∷ []; cells = map.empty };
+  undo = [];
+  redo = [];
+  batch = None;
+  suspended = false;
+  next_sheet = 1;
+  limit = DEFAULT_UNDO;
+}
 
 -- the bytes that a run prints, and its status
 abbrev pub Outcome : Type 0

@@ -9,7 +9,7 @@ ghost use Rattle.sheet_cli.specs.internal.Answers.{DoesFor, IsChange, Keeps, Exe
 
 use crate::line::{line, number_line, number_room, stop_line};
 use book_engine::{Engine, Stop};
-use book_model::{BookCells, BookSheet, Command};
+use book_model::{BookCells, BookSheet, Command, DEFAULT_UNDO};
 use cell_addr::{Block, NO_SHEET, Place, Spot, Text};
 use std::alloc::{AllocError, Global};
 use std::sync::ledger::Ledger;
@@ -31,7 +31,7 @@ impl Session {
             name: Text::from_str(alloc, "Sheet1")?,
             cells: BookCells::new(alloc)?,
         }];
-        let engine = Engine::build(alloc, &books)?;
+        let engine = Engine::build(alloc, &books, DEFAULT_UNDO)?;
         Ok(Session { alloc, engine })
     }
 
@@ -142,6 +142,18 @@ fn ask(engine: &mut Engine, command: &Command) -> Result<(), Stop>
             engine.rename_sheet(id(engine, sheet), name.as_str())
         }
         Command::ClearSheet(sheet) => engine.clear_sheet(id(engine, sheet)),
+        Command::Begin => engine.begin(),
+        Command::Commit => engine.commit(),
+        Command::Suspend => {
+            engine.suspend();
+            Ok(())
+        }
+        Command::Resume => {
+            engine.resume();
+            Ok(())
+        }
+        Command::Undo => engine.undo(),
+        Command::Redo => engine.redo(),
         _ => unreachable!(),
     }
 }

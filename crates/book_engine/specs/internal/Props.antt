@@ -1,13 +1,13 @@
 -- What has one proof at most, so that it may be kept with a value: that a tree is proper, and that a session is sound.
 use denote.Struct.Props as logic
-use Rattle.std.specs.Prelude.{ℕ, List}
+use Rattle.std.specs.Prelude.{ℕ, List, Option, Some, None}
 use Rattle.cell_values.specs.Workbook.{Content, number, truth, text, formula, unreadable}
 use Rattle.formula_tree.specs.Proper.{IsProper, AreProper}
 use Rattle.formula_tree.specs.Term as tree
 use Rattle.formula_tree.specs.Term.{Term, Terms}
 use Rattle.formula_tree.specs.declared.reference.Corner.{Corner}
-use Rattle.book_model.specs.Sound.{IsContentOf, IsSound}
-use Rattle.book_model.specs.Workbook.{State, Workbook}
+use Rattle.book_model.specs.Sound.{ClearedBy, IsContentOf, IsSound, IsSoundBatch, IsSoundBook}
+use Rattle.book_model.specs.Workbook.{Batch, State, Workbook}
 
 mutual
   pub is_proper-prop : (t : Term Corner) → IsProp (IsProper t)
@@ -35,5 +35,16 @@ is_content_of-prop b (text w) = Prim.hlevel logic.props
 is_content_of-prop b (formula t) = let h = is_proper-prop t in Prim.hlevel (h, logic.props)
 is_content_of-prop b (unreadable w) = Prim.hlevel logic.props
 
+is_sound_book-prop : (n : ℕ) (b : Workbook) → IsProp (IsSoundBook n b)
+is_sound_book-prop n b = Prim.hlevel (is_content_of-prop, logic.props)
+
+is_sound_batch-prop : (n : ℕ) (batch : Option Batch) → IsProp (IsSoundBatch n batch)
+is_sound_batch-prop n None = Prim.hlevel logic.props
+is_sound_batch-prop n (Some batch) = is_sound_book-prop n batch.start
+
+cleared_by-prop : (batch : Option Batch) (redo : List Workbook) → IsProp (ClearedBy batch redo)
+cleared_by-prop None redo = Prim.hlevel logic.props
+cleared_by-prop (Some batch) redo = Prim.hlevel logic.props
+
 pub is_sound-prop : (d : State) → IsProp (IsSound d)
-is_sound-prop d = Prim.hlevel (is_content_of-prop, logic.props)
+is_sound-prop d = Prim.hlevel (is_sound_book-prop, is_sound_batch-prop, cleared_by-prop, logic.props)

@@ -7,7 +7,7 @@ use Rattle.book_engine.proofs.FilledWorkbooks.{filled_all, filled_first, filled_
 use Rattle.book_engine.proofs.parts.Parts.workbook.Goals as goal
 
 pub loop-at-init : goal.loop-at-init
-loop-at-init c = filled_first (numbered c.args.self.now.formulas) (cells_of c.args.self.now.grid) (items_of c.in_ok-cells.cells) (book_of c.new-workbook.result) c.in_ok-cells.ensures c.new-workbook.ensures
+loop-at-init c = filled_first (numbered c.args.self.now.book.formulas) (cells_of c.args.self.now.book.grid) (items_of c.in_ok-cells.cells) (book_of c.new-workbook.result) c.in_ok-cells.ensures c.new-workbook.ensures
 
 pub loop-at-smaller : goal.loop-at-smaller
 loop-at-smaller c = shorter (items_of c.next_place.new.cells) (items_of c.loop-at.cells) (c.in-Some.at, c.in-Some.ensures.0) c.in-Some.ensures.1

@@ -1,0 +1,30 @@
+use Rattle.std.proofs.Common.{◌≡◌, ◌∙◌, ◌-◌, ◌+◌, ◌<◌, sym, ap, arith, length}
+use Rattle.book_engine.specs.Stored.{Stand, book_of, stored}
+use Rattle.book_engine.proofs.GivenBooks.{sheets_given_from, sheets_given_none, sheets_given_one}
+use Rattle.book_engine.proofs.book.Book.fill_sheets.Goals as goal
+
+pub loop-number-init : goal.loop-number-init
+loop-number-init c = record { book = sheets_given_none c.args.books.now (book_of (stored c.args.self.now)); stand = c.requires.stand }
+
+pub fill_sheet-requires-clause-stand : goal.fill_sheet-requires-clause-stand
+fill_sheet-requires-clause-stand c = c.loop-number.invariant.stand
+
+pub loop-number-preserved : goal.loop-number-preserved
+loop-number-preserved c =
+    let d = book_of (stored c.args.self.now) in
+    let i = c.loop-number.number - 1 in
+    let last : i + 1 ≡ c.loop-number.number = omega (arith, c.loop-number-test.true) in
+    record {
+      book = sheets_given_one c.args.books.now i c.index-books-number.result c.items.result.now d (book_of (stored c.loop-number.self)) (book_of (stored c.fill_sheet.new.self))
+          (omega (arith, c.loop-number-test.true, c.loop-number.auto.number)) c.index-books-number.is (c.items.ensures ∙ ap (λ b. b.cells.list.items) (sym c.index-books-number.is))
+          (c.loop-number.invariant.book ∙ ap (λ k. sheets_given_from c.args.books.now k d) (sym last)) c.in_ok-fill_sheet.ensures.ok;
+      stand = c.in_ok-fill_sheet.ensures.stand;
+    }
+
+pub returns-clause-ok : goal.returns-clause-ok
+returns-clause-ok c =
+    let first : c.loop-number.number ≡ 0 = omega (arith, c.loop-number-test.false) in
+    c.loop-number.invariant.book ∙ ap (λ k. sheets_given_from c.args.books.now k (book_of (stored c.args.self.now))) first
+
+pub returns-clause-stand : goal.returns-clause-stand
+returns-clause-stand c = c.loop-number.invariant.stand
