@@ -1,5 +1,6 @@
 // The sheets that files are.
 ghost use Rattle.std.specs.Prelude.{◌≡◌, [], ◌∷◌, IfOk, IsOkUnless, IsUtf8};
+ghost use Rattle.std.specs.Str.{is_utf8};
 ghost use Rattle.csv.specs.Records.{AllText, fields_of};
 ghost use Rattle.book_model.specs.Given.{IsGivenSheet};
 ghost use Rattle.book_files.specs.Books.{AnswersSheet, behind_slashes, book_sheet_of, field_fault, file_cells, record_cells, sheet_name_of, without_ending};
@@ -45,7 +46,7 @@ pub fn read_book(
     // A session can begin with the sheet.
     ensures given { IfOk result IsGivenSheet }
 {
-    if str::from_utf8(bytes).is_err() {
+    if !is_text(bytes) {
         return Err(BookFault::NotUtf8);
     }
     let sheet = sheet_name(name);
@@ -57,6 +58,13 @@ pub fn read_book(
         name: Text::from_str(alloc, sheet)?,
         cells,
     })
+}
+
+// Whether the bytes are UTF-8.
+fn is_text(bytes: &[u8]) -> bool
+    ensures { result ≡ is_utf8 bytes.now }
+{
+    str::from_utf8(bytes).is_ok()
 }
 
 // The name of the sheet that the file of a name is.
@@ -112,8 +120,10 @@ fn read_record(
     requires { AllText (fields_of fields.now) }
     ensures { Fills filled (record_cells row 0 (fields_of fields.now)) cells.old.list.items cells.new.list.items result }
 {
-    'fields: for (col, field) in fields.iter().enumerate() {
+    let mut col = 0;
+    'fields: while let Some(field) = fields.get(col) {
         read_field(alloc, cells, filled, row, col, field)?;
+        col += 1;
     }
     Ok(())
 }

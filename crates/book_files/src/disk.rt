@@ -1,6 +1,6 @@
 // The files of the system.
 ghost use Rattle.std.specs.Prelude.{◌≡◌, ◌≤◌, None};
-ghost use Rattle.book_files.specs.Folder.{Files, LoadSays, faults_after_load};
+ghost use Rattle.book_files.specs.Folder.{LoadsOf};
 ghost use Rattle.book_files.specs.Outside.{Rose};
 
 use crate::error::LoadError;

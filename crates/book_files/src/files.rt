@@ -1,6 +1,6 @@
 // Files in memory.
-ghost use Rattle.std.specs.Prelude.{◌≡◌, ◌≢◌, ◌≤◌, ◌↔◌, ◌++◌, ℕ, List, Some, Ok, Err, vec_len, IfOk, OnOk, OnErr, IsErrOf, Contains};
-ghost use Rattle.book_files.specs.Folder.{Files, LoadSays, faults_after_load, files_of, load_of, no_files, with_file};
+ghost use Rattle.std.specs.Prelude.{◌≡◌, ◌≢◌, ◌≤◌, ◌↔◌, ℕ, List, Some, vec_len, IfOk, OnOk, OnErr, IsErrOf, Contains};
+ghost use Rattle.book_files.specs.Folder.{Loads, LoadsOf, faults_after_load, files_of, load_of, no_files, with_file};
 ghost use Rattle.book_files.specs.Outside.{Rose, counted};
 
 use crate::error::LoadError;
@@ -40,11 +40,7 @@ impl FileMap {
     // A copy of the bytes of the file of this name.
     fn load(&self, alloc: Global, name: &str, limit: usize) -> Result<Vec<u8>, LoadError>
         ensures limit { IfOk result (λ v. vec_len v ≤ limit) }
-        ensures bytes { IfOk result (λ v. load_of limit (files_of self.now name.now) ≡ Ok v.items) }
-        ensures missing { result ≡ Err LoadError.Missing
-            → load_of limit (files_of self.now name.now) ≡ Err LoadError.Missing }
-        ensures too_long { result ≡ Err LoadError.TooLong
-            → load_of limit (files_of self.now name.now) ≡ Err LoadError.TooLong }
+        ensures loads { Loads (load_of limit (files_of self.now name.now)) result }
         ensures calm { result ≢ Err LoadError.Failed }
     {
         let Some(bytes) = self.files.get(name) else {
@@ -80,7 +76,10 @@ impl Folder for CalmFolder {
     ghost faults = { λ _. 0 };
 
     fn load(&mut self, alloc: Global, name: &str, limit: usize) -> Result<Vec<u8>, LoadError>
+        ensures limit { IfOk result (λ v. vec_len v ≤ limit) }
+        ensures loads { Loads (load_of limit (files_of self.old.files name.now)) result }
         ensures calm { result ≢ Err LoadError.Failed }
+        ensures stays { self.new ≡ self.old }
     {
         self.files.load(alloc, name, limit)
     }
@@ -115,11 +114,14 @@ impl Folder for MemFolder {
     ghost faults = { λ s. s.faults };
 
     fn load(&mut self, alloc: Global, name: &str, limit: usize) -> Result<Vec<u8>, LoadError>
+        ensures limit { IfOk result (λ v. vec_len v ≤ limit) }
+        ensures loads { Loads (load_of limit (files_of self.old.files name.now)) result }
         ensures fails { IsErrOf result LoadError.Failed ↔ Contains self.old.fails.items (counted self.old.calls) }
         ensures after { self.new ≡ record self.old {
-            calls = counted self.old.calls;
-            faults = faults_after_load self.old.faults result;
+          calls = counted self.old.calls;
+          faults = faults_after_load self.old.faults result;
         } }
+        ensures later { self.old.faults ≤ self.new.faults }
     {
         self.calls = self.calls.saturating_add(1);
         if self.fails.contains(&self.calls) {

@@ -1,7 +1,7 @@
 // What has files by their names.
-ghost use Rattle.std.specs.Prelude.{◌≡◌, ◌≤◌, ℕ, vec_len, IfOk, Ok, Err};
+ghost use Rattle.std.specs.Prelude.{◌≡◌, ◌≤◌, ℕ, vec_len, IfOk};
 ghost use Rattle.std.specs.declared.option.Option.{Option};
-ghost use Rattle.book_files.specs.Folder.{Files, LoadSays};
+ghost use Rattle.book_files.specs.Folder.{Files, LoadsOf};
 ghost use Rattle.book_files.specs.Outside.{Rose};
 
 use crate::error::LoadError;
@@ -25,11 +25,7 @@ pub trait Folder {
     ///   [`LoadError::TooLong`] exactly where the file has more bytes than the limit.
     fn load(&mut self, alloc: Global, name: &str, limit: usize) -> Result<Vec<u8>, LoadError>
         ensures limit { IfOk result (λ v. vec_len v ≤ limit) }
-        ensures bytes { IfOk result (λ v. LoadSays (files self.old) name.now limit (Ok v.items)) }
-        ensures missing { result ≡ Err LoadError.Missing
-            → LoadSays (files self.old) name.now limit (Err LoadError.Missing) }
-        ensures too_long { result ≡ Err LoadError.TooLong
-            → LoadSays (files self.old) name.now limit (Err LoadError.TooLong) }
+        ensures loads { LoadsOf (files self.old) name.now limit result }
         ensures stays { files self.new ≡ files self.old }
 
         // The count of faults never falls, and a failure is a fault.

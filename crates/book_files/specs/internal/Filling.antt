@@ -12,11 +12,15 @@ HasRead filled old all new left =
     (first_fault (filled + length old) all ≡ first_fault (filled + length new) left)
     × (old ++ filter is_filled all ≡ new ++ filter is_filled left)
 
--- fields were read, whatever stands behind them, or the first fault of them was told; want of memory is free
+-- the first fault of fields is told, whatever stands behind them; want of memory is free
+abbrev pub Refuses : ℕ → List BookCell → List BookCell → BookFault → Type 0
+Refuses filled fields old NoMemory = ⊤
+Refuses filled fields old e = (rest : List BookCell) → first_fault (filled + length old) (fields ++ rest) ≡ Some e
+
+-- fields were read, whatever stands behind them, or refused
 abbrev pub Fills : {T : Type 0} → ℕ → List BookCell → List BookCell → List BookCell → Result T BookFault → Type 0
 Fills filled fields old new (Ok x) = (rest : List BookCell) → HasRead filled old (fields ++ rest) new rest
-Fills filled fields old new (Err NoMemory) = ⊤
-Fills filled fields old new (Err e) = (rest : List BookCell) → first_fault (filled + length old) (fields ++ rest) ≡ Some e
+Fills filled fields old new (Err e) = Refuses filled fields old e
 
 -- all fields were read, or the first fault was told; want of memory is free
 abbrev pub FillsAll : ℕ → List BookCell → Result BookCells BookFault → Type 0
