@@ -1,1 +1,2 @@
 pub mod Tariffs
+pub mod internal
