@@ -51,10 +51,11 @@ fn levied(amount: i64) -> Scalar
     requires { IsInside amount }
     ensures { result ≡ tiered amount LEVY }
 {
-    match begun(&LEVY, amount) {
-        0 => Scalar::Fault(FaultKind::Num),
-        count => rounded(total(count - 1, amount.unsigned_abs())),
+    let count = begun(&LEVY, amount);
+    if count == 0 {
+        return Scalar::Fault(FaultKind::Num);
     }
+    rounded(total(count - 1, amount.unsigned_abs()))
 }
 
 // The levy on an amount that ends in this tier, in millionths of millionths.

@@ -1,5 +1,5 @@
 // The rules that the two functions answer.
-ghost use Rattle.std.specs.Prelude.{◌≡◌, ◌×◌, IfOk, All};
+ghost use Rattle.std.specs.Prelude.{◌≡◌, IfOk, All};
 ghost use Rattle.fix_num.specs.Number.{IsInside};
 ghost use Rattle.tariffs.specs.Tariffs.{levy, postage};
 

@@ -1,5 +1,5 @@
 -- The table is parted by the number, and the search finds where.
-use Rattle.std.proofs.Common.{ℤ, ◌×◌, rules}
+use Rattle.std.proofs.Common.{ℤ, rules}
 use Rattle.std.specs.Prelude.{int_le}
 use Rattle.std.proofs.lemmas.List.Sorted.{IsPartitionPoint-from_clause}
 use Rattle.tariffs.proofs.Risen.{risen-parted}
