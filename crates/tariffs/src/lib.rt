@@ -12,10 +12,12 @@
 mod answers;
 mod rules;
 mod search;
+mod stored;
 mod tables;
 #[cfg(test)]
 mod tests;
 
 pub use answers::{levy, postage};
 pub use rules::{levy_rule, postage_rule};
+pub use stored::customs;
 pub use tables::{LEVY, POSTAGE};

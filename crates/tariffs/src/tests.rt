@@ -1,4 +1,8 @@
 // What the two tariffs answer.
+ghost use Rattle.std.specs.Prelude.{◌≡◌};
+ghost use Rattle.custom_fn.specs.Rule.{rule_value};
+ghost use Rattle.tariffs.specs.Tariffs as tariff;
+
 use super::*;
 use cell_value::Scalar;
 use fix_num::Fixed;
@@ -33,5 +37,30 @@ fn answers_by_tables(rt: HostRuntime) -> Result<(), Fail> {
     }
     assert!(rt; postage_rule(rt.alloc()).is_ok());
     assert!(rt; levy_rule(rt.alloc()).is_ok());
+    Ok(())
+}
+
+#[test]
+fn both_are_registered(rt: HostRuntime) -> Result<(), Fail> {
+    let alloc = rt.alloc();
+    let by_weight = Box::new(
+        alloc,
+        |x: &Scalar| -> Scalar
+            ensures { result ≡ rule_value tariff.postage x.now }
+        { postage(x) },
+    )?;
+    let by_amount = Box::new(
+        alloc,
+        |x: &Scalar| -> Scalar
+            ensures { result ≡ rule_value tariff.levy x.now }
+        { levy(x) },
+    )?;
+    let registry = customs(alloc, by_weight, by_amount)?;
+    assert!(rt; registry.find("postage").is_some());
+    let Some(custom) = registry.find("Levy") else {
+        assert!(rt; false);
+        return Ok(());
+    };
+    assert!(rt; millionths(&custom.answer(&Scalar::Truth(true))) == Some(100_000));
     Ok(())
 }
