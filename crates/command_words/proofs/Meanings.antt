@@ -1,8 +1,8 @@
 -- What accepted words passed, and what read words mean. It serves the reader of words.
-use Rattle.std.proofs.Common.{◌≡◌, ◌∙◌, sym, ap, subst, refl, ℕ, ◌==◌, Bool, true, cond, List, [], length, None}
+use Rattle.std.proofs.Common.{◌≡◌, ◌∙◌, sym, ap, subst, refl, ℕ, ◌==◌, true, cond, List, [], length, None}
 use Rattle.std.proofs.lemmas.Bool.{and_parts}
 use Rattle.clap.specs.Words.{App, Row, fault_of, is_simple, is_simple_and_free, matches_of}
-use Rattle.command_words.specs.Words.{Given, Said, given_of, is_accepted, is_number, meaning, passes, said_of, sheet_app}
+use Rattle.command_words.specs.Words.{Given, given_of, is_accepted, is_number, meaning, passes, said_of, sheet_app}
 
 -- the numbers of what is accepted are in their ranges
 pub numbers-pass : (g : Given) → is_accepted g ≡ true → (passes (is_number 4 0 1000) g.undo_limit ≡ true) × (passes (is_number 5 1 10000) g.generate ≡ true)

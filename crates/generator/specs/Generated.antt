@@ -1,6 +1,6 @@
 -- A list of commands of any size: a column of numbers, the sums from its top to each row, and rows put in and taken out
 -- that are undone again. Source: this project's own.
-use Rattle.std.specs.Prelude.{ℕ, zero, suc, ◌+◌, ◌-◌, ◌*◌, ◌/◌, ◌%◌, List, [], ◌∷◌, ◌++◌, codes}
+use Rattle.std.specs.Prelude.{ℕ, zero, suc, ◌-◌, ◌*◌, ◌/◌, ◌%◌, List, [], ◌∷◌, ◌++◌, codes}
 use Rattle.std.specs.Fmt.{decimal}
 use Rattle.cell_addr.specs.Address.{spot_at}
 use Rattle.cell_addr.specs.declared.spot.Spot.{Spot}

@@ -1,5 +1,5 @@
 -- Tables that rise are parted by each number. It serves the search by halves.
-use Rattle.std.proofs.Common.{◌≡◌, arith, ℕ, zero, suc, ℤ, ◌<◌, ◌≤◌, Bool, true, false, refl, List, [], ◌∷◌, length, get_or}
+use Rattle.std.proofs.Common.{◌≡◌, arith, ℕ, zero, suc, ℤ, ◌<◌, Bool, true, false, refl, List, [], ◌∷◌, length, get_or}
 use Rattle.std.specs.Prelude.{int_le, int_lt}
 use Rattle.std.specs.List.Sorted.{IsPartitionedBy}
 use Rattle.std.proofs.lemmas.Bool.{and_parts}

@@ -1,5 +1,5 @@
 -- What the two tables answer of a number that begins so many of their rows. It serves the two functions.
-use Rattle.std.proofs.Common.{◌≡◌, ◌≢◌, ◌∙◌, ap, arith, refl, ℕ, zero, suc, ℤ, pos, negsuc, ◌+◌, ◌-◌, ◌*◌, ◌<◌, ◌≤◌, true, false, Some, None}
+use Rattle.std.proofs.Common.{◌≡◌, ◌≢◌, ap, arith, refl, ℕ, zero, suc, ℤ, pos, negsuc, ◌-◌, ◌<◌, ◌≤◌, true, false, None}
 use Rattle.std.specs.Prelude.{int_le, unsigned_abs}
 use Rattle.std.specs.List.{AllWithin}
 use Rattle.std.proofs.lemmas.Bool.Decides.{nat_tests}

@@ -1,7 +1,7 @@
 //! The program's two custom functions: the postage of a weight and a levy on an amount.
 //!
 //! [`postage`] and [`levy`] answer what the rules [`postage_rule`] and [`levy_rule`] say, but search
-//! their tables by halves:
+//! their tables by halves. [`customs`] is the registry of both, over two calls that its caller makes:
 //!
 //! ```text
 //! postage(0.5)    2.75, since the second band begins there

@@ -1,5 +1,5 @@
 -- The levy on an amount by the tier that it ends in.
-use Rattle.std.specs.Prelude.{ℕ, ℤ, ◌+◌, ◌-◌, ◌*◌, unsigned_abs, pos}
+use Rattle.std.specs.Prelude.{ℕ, ◌+◌, ◌-◌, ◌*◌, unsigned_abs, pos}
 use Rattle.std.specs.List.{slice_index_or}
 use Rattle.fix_num.specs.declared.number.TheConstants.{ONE}
 use Rattle.tariffs.specs.declared.tables.TheConstants.{LEVY, LEVIED_BELOW}
