@@ -24,7 +24,12 @@ fn shown(alloc: Global, name: &str, bytes: &[u8], filled: u32) -> Result<String,
 fn reads_books(rt: HostRuntime) -> Result<(), Fail> {
     let cases: [(&str, &[u8], u32, &str); 12] = [
         ("a.csv", b"1,2", 0, "a|0,0,1|0,1,2"),
-        ("b/a.x", b"1,,\"\"\n\n\"\"\n,=A1\r\n", 0, "a.x|0,0,1|2,1,=A1"),
+        (
+            "b/a.x",
+            b"1,,\"\"\n\n\"\"\n,=A1\r\n",
+            0,
+            "a.x|0,0,1|2,1,=A1",
+        ),
         ("/c/.csv", b"1", 0, "sheet name invalid"),
         ("a.CSV", b"", 1_000_000, "a.CSV"),
         ("a.csv", b"\xFF", 0, "not UTF-8"),
