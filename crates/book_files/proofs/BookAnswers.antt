@@ -1,5 +1,5 @@
 -- The sheet of a file by what its fields fill. It serves the reader of books.
-use Rattle.std.proofs.Common.{◌≡◌, ◌∙◌, sym, ap, refl, arith, ℕ, ◌+◌, Bool, true, false, List, [], ◌++◌, Bor, Some, None, Result, Ok, Err}
+use Rattle.std.proofs.Common.{◌≡◌, ◌∙◌, sym, ap, refl, arith, ℕ, ◌+◌, Bool, true, false, List, [], Bor, Some, None, Result, Ok, Err}
 use Rattle.std.specs.Prelude.{IsUtf8, MatchResult, filter}
 use Rattle.std.specs.Result.{is_ok}
 use Rattle.std.specs.Str.{is_utf8}

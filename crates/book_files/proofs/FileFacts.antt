@@ -1,5 +1,5 @@
 -- Files by name after one was put among them. It serves the map of files.
-use Rattle.std.proofs.Common.{◌≡◌, ◌∙◌, ap, subst, refl, ℕ, Bool, true, false, cond, List, Option, Some, None}
+use Rattle.std.proofs.Common.{◌≡◌, ◌∙◌, ap, subst, refl, ℕ, Bool, true, false, cond, List, Option, Some}
 use Rattle.std.specs.Prelude.{bytes_eq, option_map, string_bytes, string_cmp, String}
 use Rattle.std.specs.Ordering.{nat_cmp}
 use Rattle.std.specs.Cmp.Lexicographic.{slice_cmp}

@@ -1,9 +1,8 @@
 -- A sheet filled field by field and row by row. It serves the loops over fields and records.
-use Rattle.std.proofs.Common.{◌≡◌, ◌∙◌, sym, ap, subst, refl, arith, ℕ, zero, suc, ◌+◌, List, [], ◌∷◌, ◌++◌, length, drop, Option, Some, None, Err, add-one}
-use Rattle.std.specs.Prelude.{⊤}
+use Rattle.std.proofs.Common.{◌≡◌, ◌∙◌, sym, ap, subst, refl, arith, ℕ, zero, suc, ◌+◌, List, [], ◌∷◌, ◌++◌, length, drop, Some, None, Err, add-one}
 use Rattle.csv.specs.Records.{field_at}
 use Rattle.book_model.specs.declared.given.BookCell.{BookCell}
-use Rattle.book_files.specs.Books.{record_cells, table_cells, first_fault, is_filled}
+use Rattle.book_files.specs.Books.{record_cells, table_cells, first_fault}
 use Rattle.book_files.specs.internal.Filling.{FillsAll, HasRead, Refuses}
 use Rattle.book_files.specs.declared.fault.BookFault.{BookFault}
 use Rattle.book_files.specs.declared.fault.BookFault.TheVariants.{NotUtf8, BadSheetName, Rows, Columns, FieldLength, Cells, NoMemory}

@@ -1,5 +1,5 @@
 -- The files of a folder by their names, and what the load of one says. Source: this project's own.
-use Rattle.std.specs.Prelude.{◌≡◌, ◌+◌, if◌then◌else◌, nat_lt, ℕ, List, length, Option, Some, None, option_map, Result, Ok, Err, bytes_eq, ⊤}
+use Rattle.std.specs.Prelude.{◌≡◌, if◌then◌else◌, nat_lt, ℕ, List, length, Option, Some, None, option_map, Result, Ok, Err, bytes_eq, ⊤}
 use Rattle.std.specs.BTreeMap.{get_by_text}
 use Rattle.std.specs.declared.alloc.Global.{Global}
 use Rattle.std.specs.declared.vec.Vec.{Vec}

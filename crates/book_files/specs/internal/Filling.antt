@@ -1,5 +1,5 @@
 -- How a sheet is filled field by field.
-use Rattle.std.specs.Prelude.{◌≡◌, ◌+◌, ℕ, List, [], ◌++◌, length, filter, Option, Some, Result, Ok, Err, ⊤}
+use Rattle.std.specs.Prelude.{◌≡◌, ◌+◌, ℕ, List, [], ◌++◌, length, filter, Some, Result, Ok, Err, ⊤}
 use Rattle.book_model.specs.declared.given.BookCell.{BookCell}
 use Rattle.book_model.specs.declared.given.BookCells.{BookCells}
 use Rattle.book_files.specs.Books.{first_fault, is_filled}

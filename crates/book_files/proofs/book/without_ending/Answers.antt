@@ -1,5 +1,5 @@
 -- Where the ending isn't found the name hasn't it.
-use Rattle.std.proofs.Common.{ap, sym, cond, take, length, ◌-◌, false, codes}
+use Rattle.std.proofs.Common.{ap, cond, take, length, ◌-◌, false, codes}
 use Rattle.std.proofs.lemmas.Str.Pattern.{ends_text}
 use Rattle.book_files.proofs.book.without_ending.Goals as goal
 
