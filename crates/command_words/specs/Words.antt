@@ -40,9 +40,13 @@ sheet_app =
     (option_rule (codes "generate")))
     (other_rule (codes "book"))
 
+-- the byte of `-`
+abbrev pub dash : ℕ
+dash = 45
+
 abbrev pub begins_with_dash : List ℕ → Bool
 begins_with_dash [] = false
-begins_with_dash (c ∷ cs) = c == 45
+begins_with_dash (c ∷ cs) = c == dash
 
 -- the value of an option isn't empty and doesn't begin with a dash
 abbrev pub is_value : List ℕ → Bool
