@@ -1,5 +1,5 @@
 // The engine, and its calls.
-ghost use Rattle.std.specs.Prelude.{◌≡◌, ◌≤◌, IfOk, option_map};
+ghost use Rattle.std.specs.Prelude.{◌≡◌, ◌≤◌, IfOk, length, option_map};
 ghost use Rattle.cell_addr.specs.Sheets.{id_in, name_in};
 ghost use Rattle.shift_core.specs.declared.shift.Shift.TheVariants as shifts;
 ghost use Rattle.book_model.specs.Answers.{content_text, formula_of, value_of};
@@ -11,6 +11,7 @@ ghost use Rattle.book_model.specs.declared.limits.TheConstants.{MAX_UNDO};
 ghost use Rattle.book_engine.specs.Seen.{Fits};
 ghost use Rattle.book_engine.specs.internal.FitsProp.{fits-prop};
 
+use crate::history::Entry;
 use crate::parts::Parts;
 use crate::stop::Stop;
 use book_model::BookSheet;
@@ -20,6 +21,7 @@ use shift_core::Shift;
 use std::alloc::{AllocError, Global};
 use std::sync::ledger::Ledger;
 use steps::Steps;
+use undo_book::UndoBook;
 
 /// A workbook of several sheets, with all calls that change it and ask about it.
 ///
@@ -292,5 +294,14 @@ impl Engine {
         ensures { (d : State) → StandsFor self.now d → option_map (λ name. name.now) result ≡ name_in d.book.sheets id }
     {
         self.parts.book.names.name_of(id)
+    }
+
+    /// The steps that can be undone and redone.
+    pub fn entries(&self) -> &UndoBook<Entry>
+        ensures done { (d : State) → StandsFor self.now d → length result.now.done ≡ length d.undo }
+        ensures undone { (d : State) → StandsFor self.now d → length result.now.undone ≡ length d.redo }
+        ensures limit { (d : State) → StandsFor self.now d → result.now.limit ≡ d.limit }
+    {
+        &self.parts.undo
     }
 }

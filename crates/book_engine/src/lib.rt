@@ -5,7 +5,7 @@
 //! answers why, and changes nothing.
 //!
 //! ```text
-//! let mut engine = Engine::build(alloc, &sheets)?;
+//! let mut engine = Engine::build(alloc, &sheets, 20)?;
 //! engine.set(a1, "=B2*2")?;
 //! engine.insert_rows(sheet, 1, 1)?;
 //! engine.formula(a1)?       // =B3*2
@@ -33,4 +33,5 @@ mod tests;
 mod undoing;
 
 pub use engine::Engine;
+pub use history::Entry;
 pub use stop::Stop;

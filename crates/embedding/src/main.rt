@@ -23,6 +23,9 @@ const CELLS: [(u32, u32, &str); 7] = [
     (2, 2, "=C1+C2"),
 ];
 
+// How many steps can be undone.
+const UNDO_LIMIT: u16 = 20;
+
 fn main(rt: HostRuntime) -> ExitCode {
     let Ok(total) = work_out::<Brand>(rt.alloc(), Blank::new(1)) else {
         return ExitCode::FAILURE;
@@ -39,7 +42,7 @@ fn work_out<L: Ledger>(alloc: Global, blank: Blank) -> Result<Text, Stop>
     requires parts { blank.parts ≡ L.parts }
     requires some { 0 < blank.parts }
 {
-    let mut engine = Engine::build(alloc, &[])?;
+    let mut engine = Engine::build(alloc, &[], UNDO_LIMIT)?;
     let sheet = engine.add_sheet("Invoice")?;
     for (row, col, text) in CELLS {
         engine.set(Place { sheet, row, col }, text)?;
