@@ -14,3 +14,4 @@ pub mod GivenExamples
 pub mod Changing
 pub mod Reached
 pub mod AnyCalls
+pub mod Counted

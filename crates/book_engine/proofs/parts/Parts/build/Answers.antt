@@ -9,8 +9,7 @@ use Rattle.book_engine.proofs.parts.Parts.build.Goals as goal
 pub returns-clause-fits : goal.returns-clause-fits
 returns-clause-fits c =
     let k = stored c.in_ok-book.book in
-    let same = c.in_ok-new.ensures in
-    (
+    let same = c.in_ok-new.ensures in (
       subst IsSound (sym (λ i. record {
         book = c.in_ok-book.ensures.book i;
         undo = books_over k (reverse (same i).done);
