@@ -1,3 +1,6 @@
+ghost use Rattle.std.specs.Prelude.{◌≤◌};
+ghost use Rattle.book_model.specs.declared.limits.TheConstants.{MAX_UNDO};
+
 use super::{Engine, Stop};
 use book_model::{BookCell, BookCells, BookSheet, Refusal};
 use cell_addr::{Block, Place, Text};
@@ -106,5 +109,29 @@ fn steps_go_back_and_forward(rt: HostRuntime) -> Result<(), AllocError> {
     assert!(rt; engine.redo() == Err(Stop::Refused(Refusal::NothingToRedo)));
     engine.suspend();
     engine.resume();
+    Ok(())
+}
+
+// How many steps are kept of three changes; `None` where none of them can be undone.
+fn kept(rt: &HostRuntime, limit: u16) -> Result<Option<usize>, AllocError>
+    requires { limit ≤ MAX_UNDO }
+{
+    let mut engine = Engine::build(rt.alloc(), &[], limit)?;
+    let _added = engine.add_sheet("Plan");
+    let _set = engine.set(place(0, 0), "1");
+    let _again = engine.set(place(0, 0), "2");
+    let steps = engine.entries().done().len();
+    match engine.undo() {
+        Ok(()) => Ok(Some(steps)),
+        Err(_) => Ok(None),
+    }
+}
+
+// No more steps are kept than can be undone.
+#[test]
+fn steps_are_kept_up_to_the_limit(rt: HostRuntime) -> Result<(), AllocError> {
+    assert!(rt; kept(&rt, 0)? == None);
+    assert!(rt; kept(&rt, 1)? == Some(1));
+    assert!(rt; kept(&rt, 1_000)? == Some(3));
     Ok(())
 }
