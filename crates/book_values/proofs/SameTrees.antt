@@ -1,16 +1,15 @@
 -- Workbooks whose cells and names hold the same show the same. Serves the laws.
-use Rattle.std.proofs.Common.{◌≡◌, ◌∙◌, sym, ap, refl, ℕ, ℤ, Bool, true, cond, List, Option, Some, None, is_some, option_map, option_and_then}
+use Rattle.std.proofs.Common.{◌≡◌, ◌∙◌, sym, ap, refl, ℕ, ℤ, cond, List, Option, Some, None, is_some, option_map, option_and_then}
 use Rattle.std.specs.FinMap.{get}
 use Rattle.std.specs.List.{list_any}
 use Rattle.std.specs.Cmp.{both_ways}
-use Rattle.cell_addr.specs.declared.place.Place.{Place}
 use Rattle.cell_value.specs.declared.scalar.Scalar.{Scalar}
 use Rattle.custom_fn.specs.declared.rule.Rule.{Rule}
 use Rattle.formula_tree.specs.Links.{names_in}
 use Rattle.formula_tree.specs.Reference.{sheet_of}
 use Rattle.formula_tree.specs.Term.{Term}
 use Rattle.formula_tree.specs.declared.reference.Corner.{Corner}
-use Rattle.calc_terms.specs.World.{Named, World}
+use Rattle.calc_terms.specs.World.{World}
 use Rattle.value_network.specs.Network.{LeadsTo, at_once, after, cyclic}
 use Rattle.book_values.proofs.Networks.{cycles_return, nothing_else_unfolds, values_unfold}
 use Rattle.book_values.specs.Laws.{AreAlike, ValuesAlike}
