@@ -14,4 +14,5 @@ pub mod FilledWorkbooks
 pub mod GivenExamples
 pub mod Changing
 pub mod Reached
+pub mod Counted
 pub mod AnyCalls
