@@ -15,4 +15,5 @@ pub mod GivenExamples
 pub mod Changing
 pub mod Reached
 pub mod Counted
+pub mod Causes
 pub mod AnyCalls

@@ -18,6 +18,5 @@ returns-in-Ok c =
     let s = c.in-Ok.ensures.spelt in
     let given = t.2 ∙ ap Some (sym t.1) in (
       ap (λ b. cond b (Some TextLimit) (cond (is_none _) (Some BadFormula) None)) (short (length c.args.text.now) c.if-text-gt-MAX_TEXT.false) ∙ ap (λ o. cond (is_none o) (Some BadFormula) None) given,
-      given,
-      subst IsProper (sym s.1) (spelled-proper (sheet_of c.args.home) (id_in (listed c.args.sheets.now)) c.args.text.now s.0 s.2),
+      (given, subst IsProper (sym s.1) (spelled-proper (sheet_of c.args.home) (id_in (listed c.args.sheets.now)) c.args.text.now s.0 s.2)),
     )

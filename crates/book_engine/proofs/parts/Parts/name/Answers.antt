@@ -1,0 +1,20 @@
+use Rattle.std.proofs.Common.{◌≡◌, ◌∙◌, ap}
+use Rattle.book_model.specs.Session.{changed}
+use Rattle.book_engine.specs.Seen.{state_of}
+use Rattle.book_engine.specs.Stored.{book_of, stored}
+use Rattle.book_engine.proofs.Noting.{noted, noted_kept, same_kept, same_session}
+use Rattle.book_engine.proofs.parts.Parts.name.Goals as goal
+
+pub returns-clause-ok : goal.returns-clause-ok
+returns-clause-ok c =
+    let p = c.args.self.now in
+    noted (stored p.book) (stored c.name.new.self) c.room.new.undo c.note.new.undo c.room.new.batch c.note.new.batch c.in_ok-part.part p.suspended p.next_sheet c.in_ok-part.ensures.back c.note.ensures
+    ∙ ap (changed (book_of (stored c.name.new.self))) (same_session (stored p.book) p.undo c.room.new.undo p.batch c.room.new.batch p.suspended p.next_sheet c.in_ok-room.ensures.steps c.in_ok-room.ensures.batch)
+    ∙ ap (λ b. changed b (state_of p)) c.in_ok-part.ensures.ok
+
+pub returns-clause-kept : goal.returns-clause-kept
+returns-clause-kept c =
+    let p = c.args.self.now in
+    noted_kept (stored p.book) (stored c.name.new.self) c.room.new.undo c.note.new.undo c.room.new.batch c.note.new.batch c.in_ok-part.part c.in_ok-part.ensures.back c.note.ensures
+    (same_kept (stored p.book) p.undo c.room.new.undo p.batch c.room.new.batch c.in_ok-room.ensures.steps c.in_ok-room.ensures.batch c.requires.fits.1)
+    (c.in_ok-part.ensures.stand c.requires.fits.1.stand)
