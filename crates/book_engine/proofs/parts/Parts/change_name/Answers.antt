@@ -1,4 +1,5 @@
 use Rattle.std.proofs.Common.{◌≡◌, ◌∙◌, sym, ap, not, ◌∷◌, [], List, ℕ, Option}
+use Rattle.std.proofs.lemmas.Result.{err_from_is_err_and}
 use Rattle.book_values.specs.Names.{key_of}
 use Rattle.book_model.specs.Changes.{name_tree, with_name}
 use Rattle.book_model.specs.Names.{is_name}
@@ -21,13 +22,16 @@ pub returns-in_err-check_known_name-clause-turns : goal.returns-in_err-check_kno
 returns-in_err-check_known_name-clause-turns c =
     let d = state_of c.args.self.now in
     let some = front (first d c.args.name.now c.args.scope) (of_name_text c.args.text.now (name_tree c.args.scope c.args.text.now d.book)) _ c.in_err-check_known_name.ensures in
-    (some, next_refused (op.change_name c.args.name.now c.args.scope c.args.text.now) d _ some)
+    let p = err_from_is_err_and c.from_residual.result c.from_residual.ensures.1 in
+    rw (p.1, p.2) (some, next_refused (op.change_name c.args.name.now c.args.scope c.args.text.now) d _ some)
 
 pub returns-in_err-tree-clause-turns : goal.returns-in_err-tree-clause-turns
 returns-in_err-tree-clause-turns c =
     let d = state_of c.args.self.now in
     let causes = of_name_text c.args.text.now (name_tree c.args.scope c.args.text.now d.book) in
-    reads_turn (op.change_name c.args.name.now c.args.scope c.args.text.now) d causes _ NoAnswer _ (behind (first d c.args.name.now c.args.scope) causes c.in_ok-check_known_name.ensures) c.in_err-tree.ensures
+    let p = err_from_is_err_and c.from_residual-in_err-tree.result c.from_residual-in_err-tree.ensures.1 in
+    let turned = reads_turn {X = Unit {0}} {Y = Unit {0}} (op.change_name c.args.name.now c.args.scope c.args.text.now) d causes (λ x. Unit {0}) NoAnswer _ (behind (first d c.args.name.now c.args.scope) causes c.in_ok-check_known_name.ensures) c.in_err-tree.ensures in
+    rw (p.1, p.2) turned
 
 pub returns-clause-fits : goal.returns-clause-fits
 returns-clause-fits c =
