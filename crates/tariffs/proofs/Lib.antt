@@ -1,0 +1,3 @@
+pub mod NewNames
+pub mod Risen
+pub mod TableCases

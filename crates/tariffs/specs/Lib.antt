@@ -1,0 +1,2 @@
+pub mod Tariffs
+pub mod internal
