@@ -3,6 +3,7 @@ ghost use Rattle.std.specs.Prelude.{◌≡◌, ◌≢◌, ◌⊎◌, ◌<◌, �
 ghost use Rattle.std.specs.Io.KnownBytes.{Appends};
 ghost use Rattle.book_model.specs.Replies.{line_of};
 ghost use Rattle.csv.specs.Records.{fields_of};
+ghost use Rattle.custom_fn.specs.Registry.{customs_of};
 ghost use Rattle.script_lang.specs.Command.{command_of};
 ghost use Rattle.book_files.specs.Outside.{Rose};
 ghost use Rattle.sheet_cli.specs.internal.Answers.{AnswersRecord};
@@ -12,6 +13,7 @@ use crate::line::line;
 use crate::session::Session;
 use book_files::{LoadError, MAX_INPUT, Records, Sink, Source, WriteError, read_all};
 use csv::ByteRecord;
+use custom_fn::Registry;
 use script_lang::{ScriptError, command};
 use std::alloc::{AllocError, Global};
 use std::sync::ledger::Ledger;
@@ -69,7 +71,8 @@ impl From<WriteError> for Stop {
 /// Does all that the program does, and answers its status.
 ///
 /// No word is accepted yet: each gives the usage line and status 2. The script is read from the
-/// source to its end; its records are commands, each answered by one line in one write. The statuses:
+/// source to its end; its records are commands, each answered by one line in one write. Formulas can call the custom
+/// functions of the registry, and `day` is the serial number of today, counted from 1899-12-30. The statuses:
 ///
 /// - 0: the script was read and answered.
 /// - 2: there is a word.
@@ -83,10 +86,12 @@ pub fn run<I: Source, O: Sink, L: Ledger>(
     words: &[String],
     input: &mut I,
     out: &mut O,
+    day: i32,
+    registry: Registry,
     steps: &mut Steps<L>,
 ) -> u8
     // Where source and sink tell their bytes, the sink holds what it held and then the defined bytes.
-    ensures output { result ≢ 5 → result ≢ 6 → result ≢ 7 → PrintsFor (I.left input.old) (O.taken out.old) (O.taken out.new) result (outcome (length words.now)) }
+    ensures output { result ≢ 5 → result ≢ 6 → result ≢ 7 → PrintsFor (I.left input.old) (O.taken out.old) (O.taken out.new) result (outcome (customs_of registry) day (length words.now)) }
 
     // Status 2 is for words alone.
     ensures usage { result ≢ 6 → result ≢ 7 → (result ≡ 2) ↔ (0 < length words.now) }
@@ -99,7 +104,7 @@ pub fn run<I: Source, O: Sink, L: Ledger>(
     ensures source { WasRead result (I.left input.old) (I.left input.new) }
     ensures status_range { IsStatus result }
 {
-    match run_to_end(alloc, words, input, out, steps) {
+    match run_to_end(alloc, words, input, out, day, registry, steps) {
         Ok(status) => status,
         Err(Stop::ReadFault) => READ_FAULT,
         Err(Stop::WriteFault) => WRITE_FAULT,
@@ -113,9 +118,11 @@ fn run_to_end<I: Source, O: Sink, L: Ledger>(
     words: &[String],
     input: &mut I,
     out: &mut O,
+    day: i32,
+    registry: Registry,
     steps: &mut Steps<L>,
 ) -> Result<u8, Stop>
-    ensures output { IfOk result (λ status. PrintsFor (I.left input.old) (O.taken out.old) (O.taken out.new) status (outcome (length words.now))) }
+    ensures output { IfOk result (λ status. PrintsFor (I.left input.old) (O.taken out.old) (O.taken out.new) status (outcome (customs_of registry) day (length words.now))) }
     ensures usage { IfOk result (λ status. (status ≡ 2) ↔ (0 < length words.now)) }
     ensures no_words { IsErrOf result Stop.ReadFault → length words.now ≡ 0 }
     ensures read_fault { IsErrOf result Stop.ReadFault → Rose (I.faults input.old) (I.faults input.new) }
@@ -128,7 +135,7 @@ fn run_to_end<I: Source, O: Sink, L: Ledger>(
         return Ok(WRONG_WORDS);
     }
     match read_all(alloc, input) {
-        Ok(script) => run_script(alloc, &script, out, steps),
+        Ok(script) => run_script(alloc, &script, out, day, registry, steps),
         Err(LoadError::TooLong) => {
             print(alloc, out, "input too long")?;
             Ok(TOO_LONG)
@@ -146,15 +153,17 @@ fn run_script<O: Sink, L: Ledger>(
     alloc: Global,
     script: &[u8],
     out: &mut O,
+    day: i32,
+    registry: Registry,
     steps: &mut Steps<L>,
 ) -> Result<u8, Stop>
     requires { length script.now ≤ MAX_INPUT }
-    ensures output { IfOk result (λ status. Appends (O.taken out.old) (O.taken out.new) (script_outcome script.now).0 × (status ≡ (script_outcome script.now).1)) }
+    ensures output { IfOk result (λ status. Appends (O.taken out.old) (O.taken out.new) (script_outcome (customs_of registry) day script.now).0 × (status ≡ (script_outcome (customs_of registry) day script.now).1)) }
     ensures no_read_fault { IsErrOf result Stop.ReadFault → ⊥ }
     ensures write_fault { IsErrOf result Stop.WriteFault → Rose (O.faults out.old) (O.faults out.new) }
     ensures status_range { IfOk result (λ status. (status ≡ 0) ⊎ (status ≡ 3)) }
 {
-    let mut session = Session::new(alloc)?;
+    let mut session = Session::new(alloc, registry, day)?;
     let mut records = Records::open(alloc, script);
     let mut number: u64 = 0;
     'records: while records.advance()? {

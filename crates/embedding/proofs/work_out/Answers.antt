@@ -2,5 +2,5 @@
 use Rattle.book_engine.proofs.GivenExamples.{no_sheets}
 use Rattle.embedding.proofs.work_out.Goals as goal
 
-pub build-requires : goal.build-requires
-build-requires g c = no_sheets
+pub build-requires-clause-can : goal.build-requires-clause-can
+build-requires-clause-can g c = no_sheets

@@ -1,5 +1,6 @@
 -- Each record that is answered takes the output one step further, and the last one completes it.
 use Rattle.std.proofs.Common.{ap, refl, arith, length, Ok}
+use Rattle.custom_fn.specs.Registry.{customs_of}
 use Rattle.sheet_cli.specs.Run.{first_session}
 use Rattle.sheet_cli.proofs.Outcomes.{completes-start, goes_on, stops, ends, short_script, few_records}
 use Rattle.sheet_cli.proofs.program.run_script.Goals as goal
@@ -8,7 +9,7 @@ pub records-init : goal.records-init
 records-init g c =
     let few = few_records c.args.script.now in
     rw c.open-records.ensures (record {
-      leads = (first_session, (c.in_ok-session.ensures, completes-start _ _, refl));
+      leads = (first_session (customs_of c.args.registry) c.args.day, (c.in_ok-session.ensures, completes-start _ _, refl));
       counted = omega (arith, few, c.requires);
       later = omega arith;
     })
@@ -30,10 +31,10 @@ returns-then-branch-2-clause-output g c =
     let inv = c.records.invariant in
     let found = c.in_ok-advance.ensures.found (ap Ok c.if-branch.true) in
     let did = rw (c.if-branch-2.true, c.fields.ensures) at c.in_ok-run_record.ensures.answered in
-    rw (short_script c.args.script.now c.requires) (stops _ _ _ _ _ _ _ _ _ _ found did inv.leads)
+    rw (short_script (customs_of c.args.registry) c.args.day c.args.script.now c.requires) (stops _ _ _ _ _ _ _ _ _ _ found did inv.leads)
 
 pub returns-clause-output : goal.returns-clause-output
 returns-clause-output g c =
     let inv = c.records.invariant in
     let end = c.in_ok-advance.ensures.end (ap Ok c.if-branch.false) in
-    rw (short_script c.args.script.now c.requires) (ends _ _ c.records.session.engine _ _ _ end inv.leads)
+    rw (short_script (customs_of c.args.registry) c.args.day c.args.script.now c.requires) (ends _ _ c.records.session.engine _ _ _ end inv.leads)
