@@ -11,14 +11,22 @@ use Rattle.book_model.specs.declared.limits.TheConstants.{MAX_CELLS, MAX_TEXT}
 use Rattle.book_files.specs.declared.fault.BookFault.{BookFault}
 use Rattle.book_files.specs.declared.fault.BookFault.TheVariants.{NotUtf8, BadSheetName, Rows, Columns, FieldLength, Cells, NoMemory}
 
--- the part of a file's name behind the last slash
+-- the byte of `/`
+abbrev pub slash : ℕ
+slash = 47
+
+-- the part of a file's name behind the last slash: as long as there is a slash, the first byte is left out
 abbrev pub behind_slashes : List ℕ → List ℕ
 behind_slashes [] = []
-behind_slashes (c ∷ cs) = if list_any (λ b. b == 47) (c ∷ cs) then behind_slashes cs else c ∷ cs
+behind_slashes (c ∷ cs) = if list_any (λ b. b == slash) (c ∷ cs) then behind_slashes cs else c ∷ cs
 
--- a name without `.csv` at its end
+-- how the name of a file of CSV ends
+abbrev pub ending : List ℕ
+ending = codes ".csv"
+
+-- a name without that at its end
 abbrev pub without_ending : List ℕ → List ℕ
-without_ending name = if ends_with nat_eq name (codes ".csv") then take (length name - 4) name else name
+without_ending name = if ends_with nat_eq name ending then take (length name - length ending) name else name
 
 -- the name of the sheet that the file of a name is
 abbrev pub sheet_name_of : List ℕ → List ℕ
