@@ -128,7 +128,11 @@ fn names_come_and_go(rt: HostRuntime) -> Result<(), AllocError> {
     let relative = engine.add_name("BAD", None, "=Plan!A1");
     assert!(rt; relative == Err(Stop::Refused(Refusal::RelativeAddress)));
     assert!(rt; engine.add_name("Rate", Some(0), "=$A$1").is_ok());
-    assert!(rt; engine.change_name("rate", Some(0), "=SUM($A$1:$A$2)").is_ok());
+    assert!(rt;
+        engine
+            .change_name("rate", Some(0), "=SUM($A$1:$A$2)")
+            .is_ok()
+    );
     assert!(rt; engine.drop_sheet(0).is_ok());
     assert!(rt; engine.remove_name("rate", Some(0)) == Err(Stop::Refused(Refusal::NoSheet)));
     assert!(rt; engine.undo().is_ok());
