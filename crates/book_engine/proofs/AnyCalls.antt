@@ -1,10 +1,7 @@
 -- Any list of calls follows the plain machine. Serves the laws.
-use Rattle.std.proofs.Common.{◌≡◌, List, [], ◌∷◌, Result, Ok, Err}
-use Rattle.book_model.specs.Operation.{Operation}
-use Rattle.book_model.specs.Session.{after_all, next}
-use Rattle.book_model.specs.Workbook.{State}
-use Rattle.book_engine.specs.Calls.{AnyCallsFollow, CallsLead, Runs, start, asked, wanted}
-use Rattle.book_engine.specs.Engine.{StandsFor}
+use Rattle.std.proofs.Common.{Ok, Err}
+use Rattle.book_model.specs.Session.{next}
+use Rattle.book_engine.specs.Calls.{AnyCallsFollow, CallsLead, start, asked, wanted}
 use Rattle.book_engine.specs.declared.engine.Engine.{Engine}
 use Rattle.book_engine.specs.declared.stop.Stop.TheVariants.{Refused, NoMemory}
 

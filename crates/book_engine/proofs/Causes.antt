@@ -1,5 +1,5 @@
 -- The causes of a refusal, tested in two parts. Serves the calls on names, and the values of names and tried formulas.
-use Rattle.std.proofs.Common.{◌≡◌, ◌∙◌, sym, ap, refl, cond, Bool, true, false, List, [], ◌∷◌, ◌++◌, Option, Some, None, is_some, Result, Ok, Err}
+use Rattle.std.proofs.Common.{◌≡◌, ◌∙◌, refl, cond, Bool, true, false, List, [], ◌∷◌, ◌++◌, Option, Some, None, is_some, Err}
 use Rattle.std.specs.Option.{is_none}
 use Rattle.book_model.specs.Operation.{Operation}
 use Rattle.book_model.specs.Refusals.{Cause, cause, first_cause}

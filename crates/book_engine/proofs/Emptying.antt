@@ -1,7 +1,7 @@
 -- Cells of a block that are emptied one after the other, and places of listed cells. Serves blocks that are emptied and
 -- structural operations.
-use Rattle.std.proofs.Common.{◌≡◌, ◌∙◌, sym, ap, subst, refl, ℕ, Bool, true, false, cond, not, List, [], ◌∷◌, Option, Some, None, IsSome, is_some, is_none, option_map}
-use Rattle.std.specs.List.{All, AllByRecursion}
+use Rattle.std.proofs.Common.{◌≡◌, ◌∙◌, sym, ap, subst, refl, Bool, true, false, cond, not, List, [], ◌∷◌, Option, Some, None, IsSome, is_some, is_none, option_map}
+use Rattle.std.specs.List.{All}
 use Rattle.std.specs.FinMap as fin
 use Rattle.std.specs.FinMap.{find, get-entries, get-remove, get-retain_keys, same_map}
 use Rattle.std.specs.Ordering.{eq_by_cmp}

@@ -1,15 +1,15 @@
 -- Sheets that an engine begins with, and the texts that are given to their cells from the last to the first. Serves
 -- the making of an engine.
-use Rattle.std.proofs.Common.{◌≡◌, ◌≢◌, ◌∙◌, sym, ap, subst, refl, arith, ℕ, zero, suc, ◌≤◌, ◌<◌, ◌+◌, ◌-◌, List, [], ◌∷◌, ◌++◌, length, get_or, take, drop, Option, Some, None}
-use Rattle.std.specs.List.{All, AllPairs, filter_map, cons_option}
+use Rattle.std.proofs.Common.{◌≡◌, ◌∙◌, sym, ap, refl, arith, ℕ, zero, suc, ◌<◌, ◌+◌, List, [], ◌∷◌, ◌++◌, length, get_or, take, drop, Option, Some, None}
+use Rattle.std.specs.List.{filter_map, cons_option}
 use Rattle.std.specs.FinMap as fin
-use Rattle.std.proofs.lemmas.List.{drop_more, get_or-take, length-take-le, length-append, drop_all}
+use Rattle.std.proofs.lemmas.List.{drop_more, get_or-take, length-take-le, drop_all}
 use Rattle.std.proofs.lemmas.Grind.{take_at_read}
 use Rattle.cell_addr.specs.Text.{folded}
 use Rattle.cell_addr.specs.declared.place.Place.{Place}
 use Rattle.cell_values.specs.Workbook.{Book as Contents, Content}
 use Rattle.name_table.specs.SheetLists.{CanJoin}
-use Rattle.book_model.specs.Given.{CanBegin, IsGivenCell, given_entries, given_entry, numbered, session_given}
+use Rattle.book_model.specs.Given.{CanBegin, given_entries, given_entry, numbered}
 use Rattle.book_model.specs.Workbook.{Workbook}
 use Rattle.book_model.specs.declared.given.BookCell.{BookCell}
 use Rattle.book_model.specs.declared.given.BookSheet.{BookSheet}

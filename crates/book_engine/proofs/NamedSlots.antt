@@ -1,11 +1,11 @@
 -- The names that slots hold, as one is changed and after a structural operation. Serves the named expressions of a workbook.
-use Rattle.std.proofs.Common.{◌≡◌, ◌≢◌, ◌∙◌, sym, ap, subst, refl, arith, ℕ, zero, suc, ◌<◌, Bool, true, false, cond, not, ◌||◌, List, [], ◌∷◌, ◌++◌, length, map, drop, get_or, set, ◌+◌, Option, Some, None, inl, inr, is_some, option_map}
+use Rattle.std.proofs.Common.{◌≡◌, ◌≢◌, ◌∙◌, sym, ap, subst, refl, arith, ℕ, zero, suc, ◌<◌, Bool, true, false, cond, ◌||◌, List, [], ◌∷◌, ◌++◌, length, map, drop, get_or, set, ◌+◌, Option, Some, None, is_some, option_map}
 use Rattle.std.specs.Cmp.{both_ways}
 use Rattle.std.specs.FinMap as fin
 use Rattle.std.specs.FinMap.{find, get-empty, get-entries, same_map}
 use Rattle.std.specs.List.{list_any}
 use Rattle.std.specs.Ordering.{eq_by_cmp}
-use Rattle.std.proofs.lemmas.Bool.{and_parts, cases_Bool, false≢true, or_cases, or_left, or_right}
+use Rattle.std.proofs.lemmas.Bool.{false≢true}
 use Rattle.shift_core.proofs.CarriedEntries.{eq_by_cmp-decides}
 use Rattle.shift_core.specs.Form.{form_of}
 use Rattle.shift_core.specs.declared.shift.Shift.{Shift}

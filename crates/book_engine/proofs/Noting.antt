@@ -5,12 +5,11 @@ use Rattle.std.proofs.Math.Seq.{take-append_seam}
 use Rattle.std.proofs.lemmas.Bool.{cases_lt}
 use Rattle.std.proofs.lemmas.List.{length-drop, length-reverse, reverse-append, take-append-drop, take_all}
 use Rattle.undo_book.proofs.LastEntries.{all_but_last-end}
-use Rattle.undo_book.specs.History.{History, all_but_last, last_of, pushed, with_done, with_spare, with_undone, without_newest, without_next}
+use Rattle.undo_book.specs.History.{History, all_but_last, last_of, with_done, with_spare, with_undone, without_newest, without_next}
 use Rattle.book_model.specs.Session.{changed, closed, kept, redone as session_redone, undone as session_undone}
-use Rattle.book_model.specs.Workbook.{Batch, State, Workbook}
 use Rattle.book_engine.specs.Seen.{IsKept, StandOver, batch_of, books_over, has_any, session_of, start_of}
 use Rattle.book_engine.specs.Steps.{over, part_undone, undone}
-use Rattle.book_engine.specs.Stored.{Stand, Stored, book_of, stored}
+use Rattle.book_engine.specs.Stored.{Stand, Stored, book_of}
 use Rattle.book_engine.specs.declared.history.Entry.{Entry}
 use Rattle.book_engine.specs.declared.history.Entry.TheVariants as entry
 use Rattle.book_engine.specs.declared.history.Part.{Part}

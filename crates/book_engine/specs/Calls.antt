@@ -1,5 +1,5 @@
 -- Any list of calls of an engine, each accepted or refused, changes and reads in any mixture. Source: this project's own.
-use Rattle.std.specs.Prelude.{◌≡◌, List, [], ◌∷◌, Result, Ok, Err}
+use Rattle.std.specs.Prelude.{List, [], ◌∷◌, Result, Err}
 use Rattle.book_model.specs.Operation.{Operation}
 use Rattle.book_model.specs.Session.{after_all, next}
 use Rattle.book_model.specs.Workbook.{State}

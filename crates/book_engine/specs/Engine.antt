@@ -1,5 +1,5 @@
 -- What a call of an engine does. Source: this project's own.
-use Rattle.std.specs.Prelude.{◌≡◌, Option, Some, None, Result, Ok, Err, ⊤}
+use Rattle.std.specs.Prelude.{◌≡◌, Some, None, Result, Ok, Err, ⊤}
 use Rattle.custom_fn.specs.Registry.{customs_of}
 use Rattle.book_model.specs.Operation.{Operation}
 use Rattle.book_model.specs.Refusals.{cause}

@@ -1,5 +1,5 @@
 -- What operations changed in a kept workbook, and how that is taken back. Source: this project's own.
-use Rattle.std.specs.Prelude.{◌≡◌, ◌==◌, if◌then◌else◌, ℕ, List, [], ◌∷◌, Option, Some, None, option_map}
+use Rattle.std.specs.Prelude.{◌==◌, if◌then◌else◌, ℕ, List, [], ◌∷◌, Option, Some, None, option_map}
 use Rattle.std.specs.FinMap as fin
 use Rattle.cell_addr.specs.declared.place.Place.{Place}
 use Rattle.grid_store.specs.Grid.{items_of}
@@ -19,7 +19,6 @@ use Rattle.book_engine.specs.declared.history.Entry.{Entry}
 use Rattle.book_engine.specs.declared.history.Entry.TheVariants as entry
 use Rattle.book_engine.specs.declared.history.Part.{Part}
 use Rattle.book_engine.specs.declared.history.Part.TheVariants as part
-use Rattle.book_engine.specs.declared.history.ShiftChange.{ShiftChange}
 
 -- the cell of what a cell held
 abbrev pub cell_held : Held → Cell

@@ -1,11 +1,11 @@
 //! A workbook engine that applications embed.
 //!
-//! An [`Engine`] holds a workbook of several sheets. Its calls change cells and sheets, move, insert and delete rows and
-//! columns, and read values and formulas; every formula follows each structural operation. A call that is refused
-//! answers why, and changes nothing.
+//! An [`Engine`] holds a workbook of several sheets. Its calls change cells, sheets and named expressions, move, insert
+//! and delete rows and columns, and read values and formulas; every formula follows each structural operation. A call
+//! that is refused answers why, and changes nothing.
 //!
 //! ```text
-//! let mut engine = Engine::build(alloc, &sheets)?;
+//! let mut engine = Engine::build(alloc, &sheets, 20, registry, day)?;
 //! engine.set(a1, "=B2*2")?;
 //! engine.insert_rows(sheet, 1, 1)?;
 //! engine.formula(a1)?       // =B3*2

@@ -1,4 +1,4 @@
-use Rattle.std.proofs.Common.{◌≡◌, ◌∙◌, sym, ap}
+use Rattle.std.proofs.Common.{◌∙◌, sym, ap}
 use Rattle.formula_tree.specs.Reference.{base_of, corner_at}
 use Rattle.formula_tree.specs.Term.{each_corner_all}
 use Rattle.formula_tree.proofs.RelativeNodes.{relative_list-trees}

@@ -1,4 +1,4 @@
-use Rattle.std.proofs.Common.{◌≡◌, ◌∙◌, ap}
+use Rattle.std.proofs.Common.{◌∙◌, ap}
 use Rattle.std.specs.FinMap as fin
 use Rattle.book_model.specs.Names.{with_tree}
 use Rattle.book_engine.specs.Expressions.{names_in, slot_of}

@@ -1,4 +1,4 @@
-use Rattle.std.proofs.Common.{◌≡◌, ◌∙◌, sym, ap, subst, Some, None}
+use Rattle.std.proofs.Common.{◌∙◌, sym, ap, subst}
 use Rattle.std.specs.FinMap as fin
 use Rattle.grid_store.specs.Grid.{cells_of}
 use Rattle.grid_store.specs.declared.cell.Cell.TheVariants as cell

@@ -1,8 +1,7 @@
-use Rattle.std.proofs.Common.{◌≡◌, ◌∙◌, sym, ap, subst}
+use Rattle.std.proofs.Common.{◌∙◌, sym, ap, subst}
 use Rattle.std.specs.List.{All}
 use Rattle.cell_addr.specs.Place.{IsInside}
 use Rattle.grid_store.specs.Grid.{cells_of, items_of}
-use Rattle.name_table.specs.Listed.{listed}
 use Rattle.shift_core.specs.Maps.{moved_map, restored_map}
 use Rattle.shift_core.proofs.MovedMaps.{restored_moved}
 use Rattle.book_engine.specs.Expressions.{names_in}

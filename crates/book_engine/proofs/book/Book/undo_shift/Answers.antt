@@ -1,4 +1,4 @@
-use Rattle.std.proofs.Common.{◌≡◌, ◌∙◌, sym, ap, get_or, None}
+use Rattle.std.proofs.Common.{◌∙◌, sym, ap, get_or, None}
 use Rattle.grid_store.specs.Grid.{cells_of}
 use Rattle.name_table.specs.Listed.{listed}
 use Rattle.shift_core.specs.Maps.{restored_map}

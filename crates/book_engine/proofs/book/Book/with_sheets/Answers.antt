@@ -1,8 +1,7 @@
-use Rattle.std.proofs.Common.{◌≡◌, ◌∙◌, sym, ap, subst, arith, refl, length, take}
-use Rattle.std.specs.FinMap as fin
+use Rattle.std.proofs.Common.{◌∙◌, ap, arith, refl}
 use Rattle.std.proofs.lemmas.List.{take_all}
 use Rattle.name_table.specs.Listed.{listed}
-use Rattle.book_engine.specs.Stored.{Stand, book_of, stored}
+use Rattle.book_engine.specs.Stored.{book_of, stored}
 use Rattle.book_engine.proofs.Contents.{contents_none, stands_nothing}
 use Rattle.book_engine.proofs.GivenBooks.{can_join_given, empty_workbook, joined}
 use Rattle.book_engine.proofs.book.Book.with_sheets.Goals as goal

@@ -1,4 +1,4 @@
-use Rattle.std.proofs.Common.{◌≡◌, ◌∙◌, sym, ap, length, reverse}
+use Rattle.std.proofs.Common.{◌∙◌, sym, ap, length}
 use Rattle.book_model.specs.Workbook.{State}
 use Rattle.book_engine.specs.Seen.{start_of}
 use Rattle.book_engine.specs.Stored.{stored}

@@ -1,13 +1,11 @@
-use Rattle.std.proofs.Common.{◌≡◌, ◌∙◌, sym, ap, subst, Some, None, cond, not, true, option_map}
+use Rattle.std.proofs.Common.{◌≡◌, ◌∙◌, sym, ap, subst, Some, None, cond, true, option_map}
 use Rattle.std.proofs.lemmas.Option.{same_Some}
 use Rattle.book_model.proofs.Accepted.{is_known}
 use Rattle.book_model.specs.Changes.{stays}
 use Rattle.book_values.specs.Names.{key_of}
-use Rattle.book_values.specs.Workbook.{scope_sheet}
 use Rattle.formula_tree.specs.Proper.{IsProper}
 use Rattle.formula_tree.specs.Relative.{relative}
 use Rattle.formula_tree.specs.StandsFor.{at_home}
-use Rattle.formula_tree.specs.declared.reference.Home.TheVariants as homes
 use Rattle.shift_core.specs.Form.{form_of}
 use Rattle.tree_rewrite.specs.References.{FitsSheets}
 use Rattle.tree_rewrite.specs.Rewritten.{home_after, rewritten}

@@ -1,4 +1,4 @@
-use Rattle.std.proofs.Common.{◌≡◌, ◌∙◌, sym, ap}
+use Rattle.std.proofs.Common.{◌∙◌, sym, ap}
 use Rattle.std.specs.Option.{is_some}
 use Rattle.book_values.specs.Names.{key_of}
 use Rattle.book_engine.specs.Expressions.{slots_of}

@@ -1,4 +1,4 @@
-use Rattle.std.proofs.Common.{◌≡◌, ◌∙◌, sym, ap, subst, map, ◌++◌, ◌∷◌, [], Bool, true, false, cond}
+use Rattle.std.proofs.Common.{◌∙◌, sym, ap, subst, map, ◌++◌, ◌∷◌, [], Bool, true, false, cond}
 use Rattle.std.specs.Result.{is_ok}
 use Rattle.std.proofs.lemmas.List.{map-append}
 use Rattle.book_values.specs.Names.{key_of}

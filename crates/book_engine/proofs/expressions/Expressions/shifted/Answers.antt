@@ -1,4 +1,4 @@
-use Rattle.std.proofs.Common.{◌≡◌, ◌∙◌, ap, arith, map, length}
+use Rattle.std.proofs.Common.{◌≡◌, ◌∙◌, ap, arith, map}
 use Rattle.std.proofs.lemmas.List.{take_all}
 use Rattle.book_engine.specs.Expressions.{names_under, slot_after, slot_of}
 use Rattle.book_engine.proofs.NamedSlots.{after-slots, apart-same, keys-after, names-shifted}

@@ -1,4 +1,4 @@
-use Rattle.std.proofs.Common.{◌≡◌, ◌∙◌, sym, ap, not, ◌∷◌, [], List, ℕ, Option}
+use Rattle.std.proofs.Common.{◌∙◌, sym, ap, not, ◌∷◌, [], List, ℕ, Option}
 use Rattle.std.proofs.lemmas.Result.{err_from_is_err_and}
 use Rattle.book_values.specs.Names.{key_of}
 use Rattle.book_model.specs.Changes.{name_tree, with_name}

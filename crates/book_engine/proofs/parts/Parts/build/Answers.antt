@@ -1,5 +1,4 @@
-use Rattle.std.proofs.Common.{◌≡◌, ◌∙◌, sym, ap, subst, reverse, length, false, None, [], pos}
-use Rattle.book_model.specs.Given.{session_given}
+use Rattle.std.proofs.Common.{sym, subst, reverse, length, false, None, [], pos}
 use Rattle.book_model.specs.Sound.{IsSound}
 use Rattle.book_model.proofs.GivenSheets.{given_sound}
 use Rattle.book_engine.specs.Seen.{StandOver, books_over}
@@ -9,8 +8,7 @@ use Rattle.book_engine.proofs.parts.Parts.build.Goals as goal
 pub returns-clause-fits : goal.returns-clause-fits
 returns-clause-fits c =
     let k = stored c.in_ok-book.book in
-    let same = c.in_ok-new.ensures in
-    (
+    let same = c.in_ok-new.ensures in (
       subst IsSound (sym (λ i. record {
         book = c.in_ok-book.ensures.book i;
         undo = books_over k (reverse (same i).done);

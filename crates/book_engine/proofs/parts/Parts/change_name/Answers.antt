@@ -1,8 +1,7 @@
-use Rattle.std.proofs.Common.{◌≡◌, ◌∙◌, sym, ap, not, ◌∷◌, [], List, ℕ, Option}
+use Rattle.std.proofs.Common.{◌∙◌, sym, ap, not, ◌∷◌, [], List, ℕ, Option}
 use Rattle.std.proofs.lemmas.Result.{err_from_is_err_and}
 use Rattle.book_values.specs.Names.{key_of}
 use Rattle.book_model.specs.Changes.{name_tree, with_name}
-use Rattle.book_model.specs.Names.{is_name}
 use Rattle.book_model.specs.Operation as op
 use Rattle.book_model.specs.Refusals.{Cause, of_name_text}
 use Rattle.book_model.specs.Session.{changed}

@@ -1,4 +1,4 @@
-use Rattle.std.proofs.Common.{◌≡◌, ◌∙◌, sym, ap, cond, not, ◌∷◌, [], Some, None}
+use Rattle.std.proofs.Common.{◌∙◌, sym, ap, cond, ◌∷◌, [], Some, None}
 use Rattle.std.specs.FinMap as map
 use Rattle.std.specs.Option.{is_none}
 use Rattle.book_values.specs.Names.{found}

@@ -1,4 +1,4 @@
-use Rattle.std.proofs.Common.{◌≡◌, ◌∙◌, sym}
+use Rattle.std.proofs.Common.{◌∙◌, sym}
 use Rattle.book_engine.specs.Seen.{state_of}
 use Rattle.book_engine.proofs.NamedSlots.{found-global, found-own}
 use Rattle.book_engine.proofs.parts.Parts.finds.Goals as goal

@@ -1,4 +1,4 @@
-use Rattle.std.proofs.Common.{◌≡◌, ◌∙◌, ap, arith, sym, refl, length, ◌++◌, ◌∷◌, []}
+use Rattle.std.proofs.Common.{◌∙◌, refl}
 use Rattle.grid_store.specs.Grid.{cells_of, items_of}
 use Rattle.book_calc.specs.Book.{workbook_of}
 use Rattle.book_engine.specs.Formulas.{numbered}
