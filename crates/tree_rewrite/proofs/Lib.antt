@@ -1,6 +1,7 @@
 pub mod EachReferences
 pub mod Inside
 pub mod Parts
+pub mod Walking
 pub mod Passing
 pub mod Levels
 pub mod OnSheets

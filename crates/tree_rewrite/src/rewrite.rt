@@ -10,10 +10,13 @@ ghost use Rattle.tree_rewrite.specs.References.{FitsSheets};
 ghost use Rattle.tree_rewrite.specs.Rewritten.{rewritten, returned, home_after, home_before};
 ghost use Rattle.formula_tree.specs.Term.{Term};
 ghost use Rattle.formula_tree.specs.declared.reference.Ref.{Ref};
-ghost use Rattle.tree_rewrite.specs.internal.Passage.{Becomes, term_of, tree_in, home_in};
+ghost use Rattle.tree_rewrite.specs.Replaced.{Becomes};
+ghost use Rattle.tree_rewrite.specs.internal.Passage.{tree_in, home_in};
+ghost use Rattle.tree_rewrite.specs.internal.Walk.{term_of};
 
 use crate::direction::Direction;
 use crate::passage::Passage;
+use crate::replacement::replaced;
 use formula_tree::{Home, Pool, Tree};
 use shift_core::Shift;
 use std::alloc::{AllocError, Global};
@@ -96,13 +99,12 @@ fn pass(
         unreachable!()
     };
     let passage = Passage {
-        alloc,
         direction,
         shift: *s,
         from: home,
         to,
     };
-    let changed = passage.part(tree)?;
+    let changed = replaced(alloc, &passage, tree)?;
     let tree = shared_or_kept(pool, changed, tree)?;
     Ok((tree, to))
 }

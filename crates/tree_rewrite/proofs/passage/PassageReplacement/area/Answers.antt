@@ -5,7 +5,8 @@ use Rattle.formula_tree.specs.Reference.{base_of, corner_at, block_of}
 use Rattle.shift_core.specs.Carried.{first_place, last_place}
 use Rattle.tree_rewrite.specs.internal.Passage.{block_in}
 use Rattle.tree_rewrite.proofs.Passing as passing
-use Rattle.tree_rewrite.proofs.passage.Passage.area.Goals as goal
+use Rattle.tree_rewrite.proofs.Walking as walking
+use Rattle.tree_rewrite.proofs.passage.PassageReplacement.area.Goals as goal
 
 -- a test has one answer
 other : (b : Bool) → b ≡ false → b ≡ true → ⊥
@@ -20,7 +21,7 @@ returns-in_default c =
     passing.corners-block p.direction p.shift c.at-top.result c.at-bottom.result top bottom c.block_to.result _ c.at-top.ensures c.at-bottom.ensures c.block_to.ensures
     (sym c.block.ensures ∙ c.in_default.is) in
     let is = passing.area-lost p c.args.first c.args.last lost in
-    (passing.relative-Fault faults.Ref ∙ sym is, λ q. passing.fault-no_area faults.Ref c.args.first c.args.last (sym is ∙ q))
+    (walking.relative-Fault faults.Ref ∙ sym is, λ q. walking.fault-no_area faults.Ref c.args.first c.args.last (sym is ∙ q))
 
 pub of-new_first-requires-clause-corner : goal.of-new_first-requires-clause-corner
 of-new_first-requires-clause-corner c =
@@ -30,7 +31,7 @@ of-new_first-requires-clause-corner c =
     let goes : block_in p.direction p.shift (block_of top bottom) ≡ Some c.in-Some.block =
     passing.corners-block p.direction p.shift c.at-top.result c.at-bottom.result top bottom c.block_to.result _ c.at-top.ensures c.at-bottom.ensures c.block_to.ensures
     (sym c.block.ensures ∙ c.in-Some.is) in
-    subst IsInside (sym c.first_place.ensures) (passing.area-inside p c.args.first c.args.last c.in-Some.block c.requires.sound c.requires.fits goes).0
+    subst IsInside (sym c.first_place.ensures) (passing.area-inside p c.args.first c.args.last c.in-Some.block c.requires.0 c.requires.2 goes).0
 
 pub of-new_last-requires-clause-corner : goal.of-new_last-requires-clause-corner
 of-new_last-requires-clause-corner c =
@@ -40,7 +41,7 @@ of-new_last-requires-clause-corner c =
     let goes : block_in p.direction p.shift (block_of top bottom) ≡ Some c.in-Some.block =
     passing.corners-block p.direction p.shift c.at-top.result c.at-bottom.result top bottom c.block_to.result _ c.at-top.ensures c.at-bottom.ensures c.block_to.ensures
     (sym c.block.ensures ∙ c.in-Some.is) in
-    subst IsInside (sym c.last_place.ensures) (passing.area-inside p c.args.first c.args.last c.in-Some.block c.requires.sound c.requires.fits goes).1
+    subst IsInside (sym c.last_place.ensures) (passing.area-inside p c.args.first c.args.last c.in-Some.block c.requires.0 c.requires.2 goes).1
 
 pub returns-then-both_same : goal.returns-then-both_same
 returns-then-both_same c =
@@ -66,6 +67,6 @@ returns c =
     let first = passing.ref-at p.to c.at-top.result top c.first_place.result (first_place c.in-Some.block) c.of-new_first.result c.at-top.ensures c.first_place.ensures c.of-new_first.ensures in
     let last = passing.ref-at p.to c.at-bottom.result bottom c.last_place.result (last_place c.in-Some.block) c.of-new_last.result c.at-bottom.ensures c.last_place.ensures c.of-new_last.ensures in
     let is = passing.area-goes p c.args.first c.args.last c.in-Some.block goes ∙ passing.same-area _ _ _ _ (sym first) (sym last) in (
-      passing.relative-Area c.of-new_first.result c.of-new_last.result ∙ sym is,
-      λ q. other c.both_same.result c.if-both_same.false (c.both_same.ensures.1 (passing.area-parts c.of-new_first.result c.of-new_last.result c.args.first c.args.last (sym is ∙ q))),
+      walking.relative-Area c.of-new_first.result c.of-new_last.result ∙ sym is,
+      λ q. other c.both_same.result c.if-both_same.false (c.both_same.ensures.1 (walking.area-parts c.of-new_first.result c.of-new_last.result c.args.first c.args.last (sym is ∙ q))),
     )
