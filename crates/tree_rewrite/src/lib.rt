@@ -28,5 +28,5 @@ mod tests;
 mod walk;
 
 pub use loss::loses;
-pub use replacement::{Replacement, replaced};
+pub use replacement::{Replacement, changed_area, changed_cell, replaced};
 pub use rewrite::{backward, forward};

@@ -1,9 +1,7 @@
 // References taken over a structural operation.
-ghost use Rattle.std.specs.Prelude.{◌≡◌, ◌↔◌, IsTrue};
-
 use crate::corners::{first_place, last_place};
 use crate::direction::Direction;
-use crate::replacement::Replacement;
+use crate::replacement::{Replacement, changed_area, changed_cell};
 use cell_value::FaultKind;
 use formula_tree::{Corner, Home, Node, Ref};
 use shift_core::Shift;
@@ -28,20 +26,15 @@ impl Replacement for Passage {
 
     ghost for_area = { area_passed };
 
-    // What a reference becomes; None where it stays as it is.
     fn reference(&self, reference: Ref) -> Option<Node> {
         let corner = reference.at(self.from);
         let Some(at) = self.direction.place(&self.shift, corner.at) else {
             return Some(Node::Fault(FaultKind::Ref));
         };
         let new = Ref::of(Corner { at, ..corner }, self.to);
-        if same(new, reference) {
-            return None;
-        }
-        Some(Node::Cell(new))
+        changed_cell(new, reference)
     }
 
-    // What a block becomes; None where it stays as it is.
     fn area(&self, first: Ref, last: Ref) -> Option<Node> {
         let (top, bottom) = (first.at(self.from), last.at(self.from));
         let Some(block) = self.direction.block(&self.shift, top.block_to(bottom)) else {
@@ -56,23 +49,6 @@ impl Replacement for Passage {
             ..bottom
         };
         let (new_first, new_last) = (Ref::of(top, self.to), Ref::of(bottom, self.to));
-        if both_same((new_first, new_last), (first, last)) {
-            return None;
-        }
-        Some(Node::Area(new_first, new_last))
+        changed_area((new_first, new_last), (first, last))
     }
-}
-
-// Whether the references are the same. Part by part, since no clause says what `==` on whole ones means.
-fn same(a: Ref, b: Ref) -> bool
-    ensures { IsTrue result ↔ (a ≡ b) }
-{
-    a.sheet == b.sheet && a.row == b.row && a.col == b.col
-}
-
-// Whether the first references are the same, and the last ones are.
-fn both_same(a: (Ref, Ref), b: (Ref, Ref)) -> bool
-    ensures { IsTrue result ↔ ((a.0 ≡ b.0) × (a.1 ≡ b.1)) }
-{
-    same(a.0, b.0) && same(a.1, b.1)
 }

@@ -8,11 +8,7 @@ ghost use Rattle.shift_core.specs.Sound.{IsSound};
 ghost use Rattle.tree_rewrite.specs.Pooled.{HoldsChanged};
 ghost use Rattle.tree_rewrite.specs.References.{FitsSheets};
 ghost use Rattle.tree_rewrite.specs.Rewritten.{rewritten, returned, home_after, home_before};
-ghost use Rattle.formula_tree.specs.Term.{Term};
-ghost use Rattle.formula_tree.specs.declared.reference.Ref.{Ref};
-ghost use Rattle.tree_rewrite.specs.Replaced.{Becomes};
 ghost use Rattle.tree_rewrite.specs.internal.Passage.{tree_in, home_in};
-ghost use Rattle.tree_rewrite.specs.internal.Walk.{term_of};
 
 use crate::direction::Direction;
 use crate::passage::Passage;
@@ -104,20 +100,6 @@ fn pass(
         from: home,
         to,
     };
-    let changed = replaced(alloc, &passage, tree)?;
-    let tree = shared_or_kept(pool, changed, tree)?;
+    let tree = replaced(alloc, pool, &passage, tree)?;
     Ok((tree, to))
-}
-
-// The changed tree as the pool shares it, or the old one, which isn't put into the pool.
-fn shared_or_kept(pool: &mut Pool, changed: Option<Tree>, old: &Tree) -> Result<Tree, AllocError>
-    ensures tree { (after : Term Ref) → Becomes term_of changed (term_of old.now) after → IfOk result (λ tree. term_of tree ≡ after) }
-    ensures held { (after : Term Ref) → Becomes term_of changed (term_of old.now) after →
-        IfOk result (λ tree. HoldsChanged (held pool.old) (term_of old.now) after (held pool.new)) }
-    ensures err { OnErr result (held pool.new ≡ held pool.old) }
-{
-    match changed {
-        Some(tree) => pool.share(tree),
-        None => Ok(old.clone()?),
-    }
 }
