@@ -6,4 +6,5 @@ pub mod Passing
 pub mod Levels
 pub mod OnSheets
 pub mod Returns
+pub mod Pastes
 pub mod CallerLemmas

@@ -1,12 +1,12 @@
 -- What the passage makes of references and blocks, and of trees. Serves the passage of trees.
-use Rattle.std.proofs.Common.{◌≡◌, ◌∙◌, sym, ap, refl, arith, Option, Some, None}
+use Rattle.std.proofs.Common.{◌≡◌, ◌∙◌, sym, ap, arith, Option, Some, None}
 use Rattle.cell_addr.specs.Place.{IsInside}
 use Rattle.cell_addr.specs.declared.place.Place.{Place}
 use Rattle.cell_addr.specs.declared.place.Block.{Block}
 use Rattle.cell_value.specs.declared.fault.FaultKind.TheVariants as faults
 use Rattle.formula_tree.specs.Reference.{IsHomeInside, base_of, corner_at, ref_from, block_of}
 use Rattle.formula_tree.specs.StandsFor.{at_home, from_home}
-use Rattle.formula_tree.specs.Term.{Term, number, text, truth, fault, cell, area, name, prefix, percent, binary, call, paren, Terms, no_terms, term, mapped, mapped_all, each_corner_all}
+use Rattle.formula_tree.specs.Term.{Term, number, text, truth, fault, cell, area, name, prefix, percent, binary, call, paren, Terms, no_terms, term, mapped, each_corner_all}
 use Rattle.formula_tree.specs.declared.reference.Home.{Home}
 use Rattle.formula_tree.specs.declared.reference.Ref.{Ref}
 use Rattle.shift_core.specs.Carried.{first_place, last_place}
@@ -16,7 +16,8 @@ use Rattle.formula_tree.specs.declared.reference.Corner.{Corner}
 use Rattle.shift_core.specs.declared.shift.Shift.{Shift}
 use Rattle.tree_rewrite.specs.declared.direction.Direction.{Direction}
 use Rattle.tree_rewrite.specs.declared.passage.Passage.{Passage}
-use Rattle.tree_rewrite.specs.internal.Passage.{all_placed_by, place_in, block_in, tree_in, Fits, passed, cell_passed, area_passed, TakesCell, TakesArea}
+use Rattle.tree_rewrite.specs.internal.Passage.{place_in, block_in, tree_in, Fits, passed, cell_passed, area_passed, TakesCell, TakesArea}
+use Rattle.tree_rewrite.proofs.EachReferences.{mapped-seen}
 use Rattle.tree_rewrite.proofs.Inside.{place_in-inside, block_in-inside, tree_in-fits, fits-back}
 use Rattle.tree_rewrite.specs.References.{EachReference, EachReferenceOfAll, IsReferenceInside, IsAreaInside, FitsSheets}
 
@@ -75,27 +76,10 @@ unfolding passed
 passed-at_home p t sound h = fits-back p.to (tree_in p.direction p.shift (at_home p.from t)) (tree_in-fits p.direction p.shift (at_home p.from t) sound h)
 
 -- what a passage makes of a tree is what it makes of each of its references
-mutual
-  unfolding passed
-
-  pub passed-each : (p : Passage) (t : Term Ref) → mapped (cell_passed p) (area_passed p) t ≡ passed p t
-  passed-each p (number m) = refl
-  passed-each p (text w) = refl
-  passed-each p (truth b) = refl
-  passed-each p (fault f) = refl
-  passed-each p (cell r) = refl
-  passed-each p (area r q) = refl
-  passed-each p (name w) = refl
-  passed-each p (prefix s t) = ap (prefix s) (passed-each p t)
-  passed-each p (percent t) = ap (λ x. percent x) (passed-each p t)
-  passed-each p (binary o l r) = ap (λ x. binary o x (mapped (cell_passed p) (area_passed p) r)) (passed-each p l) ∙ ap (binary o (passed p l)) (passed-each p r)
-  passed-each p (call w ts) = ap (call w) (all_passed-each p ts)
-  passed-each p (paren t) = ap (λ x. paren x) (passed-each p t)
-
-  all_passed-each : (p : Passage) (ts : Terms Ref) → mapped_all (cell_passed p) (area_passed p) ts
-      ≡ each_corner_all (ref_from (base_of p.to)) (all_placed_by (place_in p.direction p.shift) (block_in p.direction p.shift) (each_corner_all (corner_at (base_of p.from)) ts))
-  all_passed-each p no_terms = refl
-  all_passed-each p (term t ts) = ap (λ x. term x (mapped_all (cell_passed p) (area_passed p) ts)) (passed-each p t) ∙ ap (term (passed p t)) (all_passed-each p ts)
+pub passed-each : (p : Passage) (t : Term Ref) → mapped (cell_passed p) (area_passed p) t ≡ passed p t
+unfolding passed
+passed-each p t =
+    mapped-seen (corner_at (base_of p.from)) (λ c. cell_at c (place_in p.direction p.shift c.at)) (λ c d. area_at c d (block_in p.direction p.shift (block_of c d))) (ref_from (base_of p.to)) t
 
 -- a sound passage between homes takes all references that fit
 mutual

@@ -1,6 +1,6 @@
 -- What a formula becomes where a copy of it is pasted. Source: HyperFormula's guide in outline, and this project's
 -- own in the exact rules.
-use Rattle.std.specs.Prelude.{ℕ, ◌+ℤ◌, ◌-ℤ◌, pos, Bool, ◌&&◌, ◌==◌, if◌then◌else◌, nat_lt, List, Option, Some, None, is_some}
+use Rattle.std.specs.Prelude.{◌≡◌, ◌≢◌, ℕ, ◌≤◌, ◌+ℤ◌, ◌-ℤ◌, pos, Bool, ◌&&◌, ◌==◌, if◌then◌else◌, nat_lt, List, Option, Some, None, is_some}
 use Rattle.cell_addr.specs.Sheets.{name_in}
 use Rattle.cell_addr.specs.declared.place.Place.{Place}
 use Rattle.cell_addr.specs.declared.place.TheConstants.{ROWS, COLS}
@@ -10,6 +10,7 @@ use Rattle.formula_tree.specs.Term.{Term, mapped}
 use Rattle.formula_tree.specs.declared.address.Address.{Address}
 use Rattle.formula_tree.specs.declared.reference.Corner.{Corner}
 use Rattle.formula_tree.specs.declared.reference.Home.{Home}
+use Rattle.tree_rewrite.specs.References.{EachReference}
 
 -- a row or column with a `$` stays, and another one goes as far as the formula does
 abbrev pub line_pasted : ℕ → ℕ → Bool → ℕ → ℕ
@@ -52,3 +53,18 @@ area_pasted sheets from to c d =
 -- the tree of a formula that is copied from the first home and pasted at the second one, in a workbook of these sheets
 abbrev pub pasted : List (ℕ × List ℕ) → Home → Home → Term Corner → Term Corner
 pasted sheets from to = mapped (cell_pasted sheets (base_of from) (base_of to)) (area_pasted sheets (base_of from) (base_of to))
+
+-- a reference isn't lost: its sheet is listed, and it is within the limits
+abbrev pub IsThere : List (ℕ × List ℕ) → Place → Place → Corner → Type 0
+IsThere sheets from to c = sheet_if sheets (sheet_pasted from to c.at.sheet) (is_inside (address_pasted from to c)) ≢ None
+
+-- so is no corner of a block, and they stay in order
+pub record IsAreaThere (sheets : List (ℕ × List ℕ)) (from to : Place) (c d : Corner) : Type 0 where
+  pub there : sheet_if sheets (sheet_pasted from to c.at.sheet) (is_inside (address_pasted from to c) && is_inside (address_pasted from to d)) ≢ None
+  pub sheet : c.at.sheet ≡ d.at.sheet
+  pub rows : (address_pasted from to c).row ≤ (address_pasted from to d).row
+  pub cols : (address_pasted from to c).col ≤ (address_pasted from to d).col
+
+-- each reference and each block of the tree
+abbrev pub AreThere : List (ℕ × List ℕ) → Home → Home → Term Corner → Type 0
+AreThere sheets from to = EachReference (IsThere sheets (base_of from) (base_of to)) (IsAreaThere sheets (base_of from) (base_of to))
