@@ -2,7 +2,7 @@
 use Rattle.std.specs.Prelude.{List}
 use Rattle.cell_addr.specs.declared.place.Place.{Place}
 use Rattle.clip_board.specs.declared.clip.Clip.{Clip}
-use Rattle.clip_board.specs.declared.clip.Clip.TheVariants.{Nothing, Copied, Cut}
+use Rattle.clip_board.specs.declared.clip.Clip.TheVariants.{Nothing, Cut}
 use Rattle.clip_board.specs.declared.clip.CopyItem.{CopyItem}
 use Rattle.clip_board.specs.declared.clip.CopyList.{CopyList}
 

@@ -13,6 +13,8 @@
 
 mod clip;
 mod paste;
+#[cfg(test)]
+mod tests;
 
 pub use clip::{Clip, CopyItem, CopyList};
 pub use paste::pasted;
