@@ -1,23 +1,28 @@
 -- Operations lead from one sound session to another. Serves the laws of sessions.
-use Rattle.std.proofs.Common.{◌≡◌, ◌∙◌, sym, ap, subst, refl, arith, ℕ, ◌+◌, ◌≤◌, ◌<◌, ◌==◌, nat_lt, Bool, true, false, cond, not, if◌then◌else◌, length, List, [], ◌∷◌, Option, Some, None, is_some}
+use Rattle.std.proofs.Common.{◌≡◌, sym, ap, subst, refl, arith, ℕ, ◌+◌, ◌≤◌, ◌<◌, ◌==◌, nat_lt, Bool, true, false, not, if◌then◌else◌, length, List, [], ◌∷◌, Option, Some, None, is_some}
 use Rattle.std.specs.Prelude.{nat_le}
 use Rattle.std.proofs.lemmas.Bool.Decides.{nat_tests}
 use Rattle.std.specs.List.{All}
+use Rattle.std.proofs.lemmas.Option.{same_Some}
 use Rattle.std.proofs.lemmas.List.{length-take}
 use Rattle.std.proofs.lemmas.List.Elements.{All-cons, All-head, All-tail, All-take, All-weaker}
 use Rattle.std.specs.FinMap as map
 use Rattle.cell_addr.specs.declared.place.Place.{Place}
 use Rattle.cell_addr.proofs.Places.{place_cmp-IsTotalOrder, place_cmp-IsAntisymmetric}
-use Rattle.cell_addr.specs.Place.{IsInside, covers}
+use Rattle.cell_addr.specs.Place.{covers}
 use Rattle.cell_values.specs.Workbook.{Book as Contents, Content}
 use Rattle.cell_values.specs.Workbook as contents
-use Rattle.book_model.specs.Workbook.{Workbook, Batch, State, has_sheet}
-use Rattle.book_model.specs.Operation.{Operation, set, clear, structural, add_sheet, rename_sheet, clear_sheet, begin, commit, suspend, resume, undo, redo, value, formula, content}
-use Rattle.book_model.specs.Refusals.{causes, cause}
+use Rattle.formula_tree.specs.Term.{Term}
+use Rattle.formula_tree.specs.declared.reference.Corner.{Corner}
+use Rattle.book_values.specs.Names.{Key, key_of}
+use Rattle.book_model.specs.Names.{are_absolute}
+use Rattle.book_model.specs.Workbook.{Workbook, Batch, State, has_scope, has_sheet}
+use Rattle.book_model.specs.Operation.{Operation, set, clear, structural, add_sheet, rename_sheet, clear_sheet, add_name, change_name, remove_name, begin, commit, suspend, resume, undo, redo, value, formula, content, name_value, try_formula}
+use Rattle.book_model.specs.Refusals.{causes, cause, is_relative}
 use Rattle.book_model.specs.Content.{content_given, content_of}
-use Rattle.book_model.specs.Changes.{with_content, emptied, shifted, with_sheet, renamed}
+use Rattle.book_model.specs.Changes.{with_content, emptied, shifted, with_sheet, renamed, named, unnamed, name_tree, with_name}
 use Rattle.book_model.specs.Session.{changed, changed_in, closed, done, kept, next, opened, redone, undone, unless_refused}
-use Rattle.book_model.specs.Sound.{ClearedBy, IsSound, IsSoundBatch, IsSoundBook, IsContentOf, IsCellOf}
+use Rattle.book_model.specs.Sound.{ClearedBy, IsSound, IsSoundBatch, IsSoundBook, IsContentOf, IsCellOf, IsNameOf}
 use Rattle.book_model.specs.declared.refusal.Refusal.{Refusal}
 use Rattle.book_model.proofs.GivenSheets.{none_kept}
 use Rattle.book_model.proofs.Counts.{len-retain_keys}
@@ -26,7 +31,8 @@ use Rattle.shift_core.specs.Form.{form_of}
 use Rattle.shift_core.specs.declared.shift.Shift.{Shift}
 use Rattle.book_model.proofs.Accepted.{none_hold, is_known, is_inside, sound_form}
 use Rattle.book_model.proofs.ShiftedBooks.{shifted_book}
-use Rattle.book_model.proofs.Contents.{given_is, placed_cells, emptied_cells}
+use Rattle.book_model.proofs.Contents.{given_is, named_is, placed_cells, emptied_cells}
+use Rattle.book_model.proofs.NameMaps.{changed_names}
 
 at_most : (n m : ℕ) → nat_lt n m ≡ false → m ≤ n
 at_most n m e = grind (arith, nat_tests)
@@ -36,11 +42,11 @@ is_below n m e = grind (arith, nat_tests)
 
 -- a workbook with other contents, each of them a cell of the book and not too many
 with_cells : (n : ℕ) (b : Workbook) (cells : Contents) → IsSoundBook n b → ((p : Place) (c : Content) → map.get cells p ≡ Some c → IsCellOf b p c) → map.len cells ≤ 1000000 → IsSoundBook n (record b { cells = cells })
-with_cells n b cells s each few = record { sheets = s.sheets; numbers = s.numbers; cells = each; count = few }
+with_cells n b cells s each few = record { sheets = s.sheets; numbers = s.numbers; cells = each; count = few; names = s.names }
 
 -- a workbook of a session is one when more sheet numbers were given out
 more_numbers : (n : ℕ) (b : Workbook) → IsSoundBook n b → IsSoundBook (n + 1) b
-more_numbers n b s = record { sheets = s.sheets; numbers = λ k d l. let low = s.numbers k d l in omega (arith, low); cells = s.cells; count = s.count }
+more_numbers n b s = record { sheets = s.sheets; numbers = λ k d l. let low = s.numbers k d l in omega (arith, low); cells = s.cells; count = s.count; names = s.names }
 
 -- a text that is given to a cell
 set_sound : (d : State) (at : Place) (text : List ℕ) → IsSound d → cause (set at text) d ≡ None → IsSoundBook d.next_sheet (with_content at text d.book)
@@ -70,6 +76,14 @@ same_sheets b c h (contents.unreadable w) i = tt
 same_cell : (b c : Workbook) → ((sheet : ℕ) → has_sheet b sheet ≡ true → has_sheet c sheet ≡ true) → (p : Place) (x : Content) → IsCellOf b p x → IsCellOf c p x
 same_cell b c h p x i = (i.0, h p.sheet i.1, same_sheets b c h x i.2)
 
+-- so is a name
+same_named : (b c : Workbook) → ((sheet : ℕ) → has_sheet b sheet ≡ true → has_sheet c sheet ≡ true) → (key : Key) (t : Term Corner) → IsNameOf b key t → IsNameOf c key t
+same_named b c h key t i = (scoped key.scope i.0, same_sheets b c h (contents.formula t) i.1)
+  where
+    scoped : (scope : Option ℕ) → has_scope b scope ≡ true → has_scope c scope ≡ true
+    scoped None e = refl
+    scoped (Some sheet) e = h sheet e
+
 add_sound : (d : State) (name : List ℕ) → IsSound d → cause (add_sheet name) d ≡ None → IsSoundBook (d.next_sheet + 1) (with_sheet d.next_sheet name d.book)
 add_sound d name s e =
     let h = none_hold (causes (add_sheet name) d) e in
@@ -79,6 +93,7 @@ add_sound d name s e =
       numbers = numbers-with d.book.sheets d.next_sheet name s.book.numbers;
       cells = λ p c is. same_cell d.book (with_sheet d.next_sheet name d.book) (λ k h. has-append k d.book.sheets ((d.next_sheet, name) ∷ []) h) p c (s.book.cells p c is);
       count = s.book.count;
+      names = λ key t is. same_named d.book (with_sheet d.next_sheet name d.book) (λ k h. has-append k d.book.sheets ((d.next_sheet, name) ∷ []) h) key t (s.book.names key t is);
     }
 
 rename_sound : (d : State) (sheet : ℕ) (name : List ℕ) → IsSound d → cause (rename_sheet sheet name) d ≡ None → IsSoundBook d.next_sheet (renamed sheet name d.book)
@@ -89,10 +104,29 @@ rename_sound d sheet name s e =
       numbers = numbers-renamed d.book.sheets sheet d.next_sheet name s.book.numbers;
       cells = λ p c is. same_cell d.book (renamed sheet name d.book) (λ k h. has-renamed sheet k name d.book.sheets h) p c (s.book.cells p c is);
       count = s.book.count;
+      names = λ key t is. same_named d.book (renamed sheet name d.book) (λ k h. has-renamed sheet k name d.book.sheets h) key t (s.book.names key t is);
     }
 
 shifted_sound : (d : State) (change : Shift) → IsSound d → cause (structural change) d ≡ None → IsSoundBook d.next_sheet (shifted change d.book)
 shifted_sound d change s e = let f = sound_form d (form_of change) e in shifted_book d.next_sheet d.book change s.book f.0 f.1
+
+fixed_of : (tree : Option (Term Corner)) (t : Term Corner) → is_relative tree ≡ false → tree ≡ Some t → are_absolute t ≡ true
+fixed_of None t h e = cc
+fixed_of (Some u) t h e = let same : u ≡ t = same_Some u t e in subst (λ x. are_absolute x ≡ true) same (is_known (are_absolute u) h)
+
+-- a workbook with another tree of one name, which is one of the book, or none
+renamed_sound : (n : ℕ) (b : Workbook) (key : Key) (tree : Option (Term Corner)) → IsSoundBook n b → ((t : Term Corner) → tree ≡ Some t → IsNameOf b key t) → IsSoundBook n (with_name key tree b)
+renamed_sound n b key tree s new = record { sheets = s.sheets; numbers = s.numbers; cells = s.cells; count = s.count; names = changed_names (IsNameOf b) key tree b.names new s.names }
+
+-- a text that is given to a name
+named_sound : (d : State) (name : List ℕ) (scope : Option ℕ) (text : List ℕ) → IsSound d → not (has_scope d.book scope) ≡ false → is_relative (name_tree scope text d.book) ≡ false → IsSoundBook d.next_sheet (named name scope text d.book)
+named_sound d name scope text s here fixed =
+    let known = is_known (has_scope d.book scope) here in
+    renamed_sound d.next_sheet d.book (key_of scope name) (name_tree scope text d.book) s.book
+    (λ t is. (known, named_is d.book scope text t s.book.sheets known is (fixed_of (name_tree scope text d.book) t fixed is)))
+
+unnamed_sound : (d : State) (name : List ℕ) (scope : Option ℕ) → IsSound d → IsSoundBook d.next_sheet (unnamed name scope d.book)
+unnamed_sound d name scope s = renamed_sound d.next_sheet d.book (key_of scope name) None s.book (λ t is. cc)
 
 -- the kept workbooks, after one joined them
 kept_sound : (d : State) (b : Workbook) (n : ℕ) → All (IsSoundBook n) d.undo → IsSoundBook n b → All (IsSoundBook n) (kept d b)
@@ -240,6 +274,13 @@ done_sound (add_sheet name) d s e =
     added_sound d (with_sheet d.next_sheet name d.book) d.batch refl s (omega (arith, below)) (add_sound d name s e)
 done_sound (rename_sheet sheet name) d s e = change_sound d (renamed sheet name d.book) s (rename_sound d sheet name s e)
 done_sound (clear_sheet sheet) d s e = change_sound d (emptied (λ p. p.sheet == sheet) d.book) s (emptied_sound d (λ p. p.sheet == sheet) s)
+done_sound (add_name name scope text) d s e =
+    let h = none_hold (causes (add_name name scope text) d) e in
+    change_sound d (named name scope text d.book) s (named_sound d name scope text s h.0 h.1.1.1.1.1.0)
+done_sound (change_name name scope text) d s e =
+    let h = none_hold (causes (change_name name scope text) d) e in
+    change_sound d (named name scope text d.book) s (named_sound d name scope text s h.0 h.1.1.1.1.0)
+done_sound (remove_name name scope) d s e = change_sound d (unnamed name scope d.book) s (unnamed_sound d name scope s)
 done_sound begin d s e = opened_sound d s
 done_sound commit d s e = closed_sound d d.batch refl s
 done_sound suspend d s e = flagged_sound d true s
@@ -249,6 +290,8 @@ done_sound redo d s e = redone_sound d d.redo refl (none_hold (causes redo d) e)
 done_sound (value at) d s e = s
 done_sound (formula at) d s e = s
 done_sound (content at) d s e = s
+done_sound (name_value name sheet) d s e = s
+done_sound (try_formula sheet text) d s e = s
 
 -- an operation leads from a sound session to a sound one
 pub next_sound : (op : Operation) (d : State) → IsSound d → IsSound (next op d)

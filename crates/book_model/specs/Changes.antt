@@ -5,14 +5,19 @@ use Rattle.std.specs.Prelude.{ℕ, ◌==◌, if◌then◌else◌, Bool, not, Lis
 use Rattle.std.specs.FinMap as map
 use Rattle.cell_addr.specs.declared.place.Place.{Place}
 use Rattle.cell_values.specs.Workbook.{Book as Contents, Content, formula}
+use Rattle.formula_tree.specs.Term.{Term}
+use Rattle.formula_tree.specs.declared.reference.Corner.{Corner}
 use Rattle.shift_core.specs.Form.{form_of}
 use Rattle.shift_core.specs.Maps.{moved_map}
 use Rattle.shift_core.specs.declared.form.Form.{Form}
 use Rattle.shift_core.specs.declared.form.Form.TheVariants as form
 use Rattle.shift_core.specs.declared.shift.Shift.{Shift}
 use Rattle.tree_rewrite.specs.Rewritten.{rewritten}
+use Rattle.book_values.specs.Names.{Key, key_of}
+use Rattle.book_values.specs.Workbook.{scope_sheet}
+use Rattle.book_model.specs.Names.{NameMap, is_on_sheet, with_tree}
 use Rattle.book_model.specs.Workbook.{Workbook}
-use Rattle.book_model.specs.Content.{content_given, content_of}
+use Rattle.book_model.specs.Content.{content_given, content_of, tree_given}
 
 -- the contents where a place has this one, or none
 abbrev pub placed : Place → Option Content → Contents → Contents
@@ -44,11 +49,25 @@ abbrev pub sheets_left : Form → List (ℕ × List ℕ) → List (ℕ × List �
 sheets_left (form.Sheet dropped) sheets = filter (λ sheet. not (sheet.0 == dropped)) sheets
 sheets_left _ sheets = sheets
 
--- a structural operation: each cell moves or is gone, the formulas of all that stay follow, and a dropped sheet is gone
+-- the names that an operation leaves: those of a dropped sheet go
+abbrev pub names_left : Form → NameMap → NameMap
+names_left (form.Sheet dropped) names = map.retain_keys names (λ key. not (is_on_sheet dropped key))
+names_left _ names = names
+
+-- each name's formula after the operation; names don't move
+abbrev pub rewritten_tree : Shift → Key × Term Corner → Key × Term Corner
+rewritten_tree s e = (e.0, rewritten s e.1)
+
+abbrev pub rewritten_names : Shift → NameMap → NameMap
+rewritten_names s names = map.from_entries (std.map (rewritten_tree s) (map.entries names))
+
+-- a structural operation: each cell moves or is gone, the formulas of all cells and names that stay follow, and a dropped
+-- sheet is gone with its names
 abbrev pub shifted : Shift → Workbook → Workbook
 shifted s b = record {
   sheets = sheets_left (form_of s) b.sheets;
   cells = rewritten_contents s (moved_map s b.cells);
+  names = rewritten_names s (names_left (form_of s) b.names);
 }
 
 -- a new sheet at the end of the list
@@ -61,3 +80,18 @@ renamed_sheet id name sheet = if sheet.0 == id then (id, name) else sheet
 -- a sheet gets another name; formulas keep pointing at it
 abbrev pub renamed : ℕ → List ℕ → Workbook → Workbook
 renamed id name b = record b { sheets = std.map (renamed_sheet id name) b.sheets }
+
+-- the tree that a text spells for a name of a scope, if it has one
+abbrev pub name_tree : Option ℕ → List ℕ → Workbook → Option (Term Corner)
+name_tree scope text b = tree_given b.sheets (scope_sheet scope) text
+
+-- a name has this tree, or there is none of the name
+abbrev pub with_name : Key → Option (Term Corner) → Workbook → Workbook
+with_name key tree b = record b { names = with_tree key tree b.names }
+
+-- a name of a scope has the tree that a text spells; and it is gone
+abbrev pub named : List ℕ → Option ℕ → List ℕ → Workbook → Workbook
+named name scope text b = with_name (key_of scope name) (name_tree scope text b) b
+
+abbrev pub unnamed : List ℕ → Option ℕ → Workbook → Workbook
+unnamed name scope b = with_name (key_of scope name) None b

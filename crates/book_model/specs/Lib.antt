@@ -1,3 +1,4 @@
+pub mod Names
 pub mod Workbook
 pub mod Content
 pub mod Operation

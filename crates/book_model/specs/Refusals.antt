@@ -1,15 +1,16 @@
 -- Why an operation is refused: the causes of each, in the order in which they are tested. The first that holds is the
 -- answer. Source: this project's own.
-use Rattle.std.specs.Prelude.{ℕ, ◌+◌, ◌==◌, ◌&&◌, ◌||◌, nat_lt, nat_le, if◌then◌else◌, Bool, not, List, [], ◌∷◌, length, Option, Some, None, is_none, is_some}
+use Rattle.std.specs.Prelude.{ℕ, ◌+◌, ◌==◌, ◌&&◌, ◌||◌, nat_lt, nat_le, if◌then◌else◌, Bool, false, not, List, [], ◌∷◌, length, Option, Some, None, is_none, is_some}
 use Rattle.std.specs.List.{list_any, list_all}
 use Rattle.std.specs.FinMap as map
 use Rattle.cell_addr.specs.declared.place.Place.{Place}
 use Rattle.cell_addr.specs.declared.place.Block.{Block}
 use Rattle.cell_addr.specs.declared.place.TheConstants.{ROWS, COLS}
-use Rattle.cell_addr.specs.declared.axis.Axis.{Axis}
 use Rattle.cell_addr.specs.Axis.{limit_of}
 use Rattle.cell_addr.specs.Place.{same_block}
 use Rattle.cell_addr.specs.Sheets.{same_name}
+use Rattle.formula_tree.specs.Term.{Term}
+use Rattle.formula_tree.specs.declared.reference.Corner.{Corner}
 use Rattle.shift_core.specs.Carried.{destination}
 use Rattle.shift_core.specs.Form.{form_of}
 use Rattle.shift_core.specs.Tables.{place_moved}
@@ -17,12 +18,15 @@ use Rattle.shift_core.specs.declared.edit.Edit.{Edit}
 use Rattle.shift_core.specs.declared.edit.Edit.TheVariants as edit
 use Rattle.shift_core.specs.declared.form.Form.{Form}
 use Rattle.shift_core.specs.declared.form.Form.TheVariants as form
-use Rattle.book_model.specs.Workbook.{Workbook, State, has_sheet}
-use Rattle.book_model.specs.Operation.{Operation, set, clear, structural, add_sheet, rename_sheet, clear_sheet, begin, commit, suspend, resume, undo, redo, value, formula, content}
-use Rattle.book_model.specs.Changes.{with_content}
+use Rattle.book_values.specs.Names.{found, key_of}
+use Rattle.book_model.specs.Content.{tree_given}
+use Rattle.book_model.specs.Names.{are_absolute, is_name}
+use Rattle.book_model.specs.Workbook.{Workbook, State, has_name, has_scope, has_sheet}
+use Rattle.book_model.specs.Operation.{Operation, set, clear, structural, add_sheet, rename_sheet, clear_sheet, add_name, change_name, remove_name, begin, commit, suspend, resume, undo, redo, value, formula, content, name_value, try_formula}
+use Rattle.book_model.specs.Changes.{name_tree, with_content}
 use Rattle.book_model.specs.declared.limits.TheConstants.{MAX_CELLS, MAX_SHEETS, MAX_SHEET_NAME, MAX_TEXT}
 use Rattle.book_model.specs.declared.refusal.Refusal.{Refusal}
-use Rattle.book_model.specs.declared.refusal.Refusal.TheVariants.{NoSheet, SheetNameTaken, SheetNameInvalid, Outside, SizeLimit, CellLimit, NothingToUndo, NothingToRedo, Suspended, BatchOpen, NoBatch, BadSpan, TextLimit, SheetLimit}
+use Rattle.book_model.specs.declared.refusal.Refusal.TheVariants.{NoSheet, SheetNameTaken, SheetNameInvalid, Outside, SizeLimit, CellLimit, NameTaken, NameInvalid, NoSuchName, RelativeAddress, NothingToUndo, NothingToRedo, Suspended, BatchOpen, NoBatch, BadSpan, TextLimit, SheetLimit, BadFormula}
 
 -- a cause that holds or doesn't, and the refusal that it gives
 abbrev pub Cause : Type 0
@@ -91,6 +95,23 @@ of_form d (form.Cells source to) =
     ∷ []
 of_form d (form.Sheet sheet) = on_sheet d sheet
 
+-- values aren't computed now
+abbrev pub is_suspended : State → Bool
+is_suspended d = d.suspended || is_some d.batch
+
+-- a formula is relative: one of its corners lacks a `$`, or its sheet
+abbrev pub is_relative : Option (Term Corner) → Bool
+is_relative (Some t) = not (are_absolute t)
+is_relative None = false
+
+-- a text is given to a name
+abbrev pub of_name_text : State → Option ℕ → List ℕ → List Cause
+of_name_text d scope text =
+    (nat_lt MAX_TEXT (length text), TextLimit)
+    ∷ (is_none (name_tree scope text d.book), BadFormula)
+    ∷ (is_relative (name_tree scope text d.book), RelativeAddress)
+    ∷ []
+
 -- the table of refusals, a line for each operation
 abbrev pub causes : Operation → State → List Cause
 causes (set at text) d =
@@ -112,15 +133,39 @@ causes (rename_sheet sheet name) d =
     ∷ (is_taken d.book sheet name, SheetNameTaken)
     ∷ []
 causes (clear_sheet sheet) d = on_sheet d sheet
+causes (add_name name scope text) d =
+    (not (has_scope d.book scope), NoSheet)
+    ∷ (not (is_name name), NameInvalid)
+    ∷ (has_name d.book (key_of scope name), NameTaken)
+    ∷ of_name_text d scope text
+causes (change_name name scope text) d =
+    (not (has_scope d.book scope), NoSheet)
+    ∷ (not (has_name d.book (key_of scope name)), NoSuchName)
+    ∷ of_name_text d scope text
+causes (remove_name name scope) d =
+    (not (has_scope d.book scope), NoSheet)
+    ∷ (not (has_name d.book (key_of scope name)), NoSuchName)
+    ∷ []
 causes begin d = (is_some d.batch, BatchOpen) ∷ []
 causes commit d = (is_none d.batch, NoBatch) ∷ []
 causes suspend d = []
 causes resume d = []
 causes undo d = (is_some d.batch, BatchOpen) ∷ (length d.undo == 0, NothingToUndo) ∷ []
 causes redo d = (is_some d.batch, BatchOpen) ∷ (length d.redo == 0, NothingToRedo) ∷ []
-causes (value at) d = (d.suspended || is_some d.batch, Suspended) ∷ at_place d at
+causes (value at) d = (is_suspended d, Suspended) ∷ at_place d at
 causes (formula at) d = at_place d at
 causes (content at) d = at_place d at
+causes (name_value name sheet) d =
+    (is_suspended d, Suspended)
+    ∷ (not (has_sheet d.book sheet), NoSheet)
+    ∷ (is_none (found (map.entries d.book.names) name sheet), NoSuchName)
+    ∷ []
+causes (try_formula sheet text) d =
+    (is_suspended d, Suspended)
+    ∷ (not (has_sheet d.book sheet), NoSheet)
+    ∷ (nat_lt MAX_TEXT (length text), TextLimit)
+    ∷ (is_none (tree_given d.book.sheets sheet text), BadFormula)
+    ∷ []
 
 -- why an operation is refused in a session, if it is
 abbrev pub cause : Operation → State → Option Refusal

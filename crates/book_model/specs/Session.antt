@@ -1,9 +1,9 @@
 -- What operations do to a session. Source: this project's own.
-use Rattle.std.specs.Prelude.{ℕ, ◌+◌, ◌==◌, if◌then◌else◌, true, false, List, [], ◌∷◌, take, Option, Some, None}
+use Rattle.std.specs.Prelude.{◌+◌, ◌==◌, if◌then◌else◌, true, false, List, [], ◌∷◌, take, Option, Some, None}
 use Rattle.cell_addr.specs.Place.{covers}
 use Rattle.book_model.specs.Workbook.{Workbook, Batch, State}
-use Rattle.book_model.specs.Operation.{Operation, set, clear, structural, add_sheet, rename_sheet, clear_sheet, begin, commit, suspend, resume, undo, redo, value, formula, content}
-use Rattle.book_model.specs.Changes.{with_content, emptied, shifted, with_sheet, renamed}
+use Rattle.book_model.specs.Operation.{Operation, set, clear, structural, add_sheet, rename_sheet, clear_sheet, add_name, change_name, remove_name, begin, commit, suspend, resume, undo, redo, value, formula, content, name_value, try_formula}
+use Rattle.book_model.specs.Changes.{with_content, emptied, shifted, with_sheet, renamed, named, unnamed}
 use Rattle.book_model.specs.Refusals.{cause}
 use Rattle.book_model.specs.declared.refusal.Refusal.{Refusal}
 
@@ -46,6 +46,9 @@ done (structural s) d = changed (shifted s d.book) d
 done (add_sheet name) d = record (changed (with_sheet d.next_sheet name d.book) d) { next_sheet = d.next_sheet + 1 }
 done (rename_sheet sheet name) d = changed (renamed sheet name d.book) d
 done (clear_sheet sheet) d = changed (emptied (λ p. p.sheet == sheet) d.book) d
+done (add_name name scope text) d = changed (named name scope text d.book) d
+done (change_name name scope text) d = changed (named name scope text d.book) d
+done (remove_name name scope) d = changed (unnamed name scope d.book) d
 done begin d = opened d
 done commit d = closed d.batch d
 done suspend d = record d { suspended = true }
@@ -55,6 +58,8 @@ done redo d = redone d.redo d
 done (value at) d = d
 done (formula at) d = d
 done (content at) d = d
+done (name_value name sheet) d = d
+done (try_formula sheet text) d = d
 
 -- a refusal changes nothing
 abbrev pub unless_refused : Option Refusal → State → State → State

@@ -6,8 +6,11 @@ use Rattle.cell_addr.specs.Place.{IsInside}
 use Rattle.cell_addr.specs.Sheets.{AreSheets}
 use Rattle.cell_values.specs.Workbook.{Content, formula}
 use Rattle.formula_tree.specs.Proper.{IsProper}
+use Rattle.formula_tree.specs.Term.{Term}
+use Rattle.formula_tree.specs.declared.reference.Corner.{Corner}
 use Rattle.tree_rewrite.specs.Sheets.{HasSheet}
-use Rattle.book_model.specs.Workbook.{Workbook, Batch, State, has_sheet}
+use Rattle.book_values.specs.Names.{Key}
+use Rattle.book_model.specs.Workbook.{Workbook, Batch, State, has_scope, has_sheet}
 use Rattle.book_model.specs.declared.limits.TheConstants.{MAX_CELLS, MAX_SHEETS, MAX_UNDO}
 
 -- a content of the book: a formula's tree is proper, and its sheets are the book's
@@ -19,6 +22,10 @@ IsContentOf b c = ⊤
 abbrev pub IsCellOf : Workbook → Place → Content → Type 0
 IsCellOf b p c = IsInside p × IsTrue (has_sheet b p.sheet) × IsContentOf b c
 
+-- a name of the book: its scope is one, and its tree is a content of the book
+abbrev pub IsNameOf : Workbook → Key → Term Corner → Type 0
+IsNameOf b key t = IsTrue (has_scope b key.scope) × IsContentOf b (formula t)
+
 -- a workbook of a session that gives out sheet numbers from this one on
 pub record IsSoundBook (next_sheet : ℕ) (b : Workbook) : Type 0 where
   -- no two sheets have one number or, folded, one name
@@ -27,6 +34,7 @@ pub record IsSoundBook (next_sheet : ℕ) (b : Workbook) : Type 0 where
   pub numbers : All (λ s. s.0 < next_sheet) b.sheets
   pub cells : (p : Place) (c : Content) → map.get b.cells p ≡ Some c → IsCellOf b p c
   pub count : map.len b.cells ≤ MAX_CELLS
+  pub names : (key : Key) (t : Term Corner) → map.get b.names key ≡ Some t → IsNameOf b key t
 
 -- the workbook at the start of a batch is one too
 abbrev pub IsSoundBatch : ℕ → Option Batch → Type 0
