@@ -13,13 +13,12 @@ use Rattle.formula_tree.specs.Term.{Term, number, text, truth, fault, cell, area
 use Rattle.formula_tree.specs.declared.reference.Corner.{Corner}
 use Rattle.shift_core.specs.Form.{form_of}
 use Rattle.shift_core.specs.declared.form.Form.{Form}
-use Rattle.shift_core.specs.declared.form.Form.TheVariants as form
 use Rattle.shift_core.specs.declared.shift.Shift.{Shift}
 use Rattle.tree_rewrite.specs.Rewritten.{rewritten}
 use Rattle.tree_rewrite.specs.Sheets.{HasSheet, SomeHasSheet}
 use Rattle.book_values.specs.Names.{Key}
-use Rattle.book_model.specs.Changes.{names_left, rewritten_names, rewritten_tree}
-use Rattle.book_model.specs.Names.{NameMap, all_are_absolute, are_absolute, is_absolute, is_on_sheet, key_cmp, with_tree}
+use Rattle.book_model.specs.Changes.{rewritten_names, rewritten_tree, stays}
+use Rattle.book_model.specs.Names.{NameMap, all_are_absolute, are_absolute, is_absolute, key_cmp, with_tree}
 use Rattle.book_model.proofs.NameOrder.{key_cmp-IsTotalOrder, key_cmp-IsAntisymmetric}
 
 pub find-mapped : {K X Y : Type 0} (R : K → K → Ordering) (h : X → Y) (q : K) (es : List (K × X)) → find R q (map (λ e. (e.0, h e.1)) es) ≡ option_map h (find R q es)
@@ -38,18 +37,12 @@ get-rewritten s m key =
     ∙ find-mapped key_cmp (rewritten s) key (fin.entries m)
     ∙ ap (option_map (rewritten s)) (sym (get-entries m key))
 
--- a name stays where its sheet isn't dropped
-abbrev pub stays : Form → Key → Bool
-stays (form.Sheet dropped) key = not (is_on_sheet dropped key)
-stays _ key = true
+-- what stands under a name of those that stay
+pub get-left : (f : Form) (m : NameMap) (key : Key) → fin.get (fin.retain_keys m (stays f)) key ≡ cond (stays f key) (fin.get m key) None
+get-left f m key = get-retain_keys m (stays f) key (λ k t. ap (stays f) (sym (key_cmp-IsAntisymmetric key k t)))
 
-pub get-left : (f : Form) (m : NameMap) (key : Key) → fin.get (names_left f m) key ≡ cond (stays f key) (fin.get m key) None
-get-left (form.Lines sheet axis edit) m key = refl
-get-left (form.Cells source to) m key = refl
-get-left (form.Sheet dropped) m key = get-retain_keys m (λ k. not (is_on_sheet dropped k)) key (λ k t. ap (λ j. not (is_on_sheet dropped j)) (sym (key_cmp-IsAntisymmetric key k t)))
-
-pub get-after : (s : Shift) (m : NameMap) (key : Key) → fin.get (rewritten_names s (names_left (form_of s) m)) key ≡ option_map (rewritten s) (cond (stays (form_of s) key) (fin.get m key) None)
-get-after s m key = get-rewritten s (names_left (form_of s) m) key ∙ ap (option_map (rewritten s)) (get-left (form_of s) m key)
+pub get-after : (s : Shift) (m : NameMap) (key : Key) → fin.get (rewritten_names s (fin.retain_keys m (stays (form_of s)))) key ≡ option_map (rewritten s) (cond (stays (form_of s) key) (fin.get m key) None)
+get-after s m key = get-rewritten s (fin.retain_keys m (stays (form_of s))) key ∙ ap (option_map (rewritten s)) (get-left (form_of s) m key)
 
 left-some : (b : Bool) (f : Option (Term Corner)) (t : Term Corner) → cond b f None ≡ Some t → (b ≡ true) × (f ≡ Some t)
 left-some true f t e = (refl, e)
@@ -60,7 +53,7 @@ mapped-some h None t e = cc
 mapped-some h (Some u) t e = (u, refl, same_Some _ _ e)
 
 -- where a name's tree after an operation comes from
-pub name-came : (s : Shift) (m : NameMap) (key : Key) (t : Term Corner) → fin.get (rewritten_names s (names_left (form_of s) m)) key ≡ Some t
+pub name-came : (s : Shift) (m : NameMap) (key : Key) (t : Term Corner) → fin.get (rewritten_names s (fin.retain_keys m (stays (form_of s)))) key ≡ Some t
     → (u : Term Corner) × (stays (form_of s) key ≡ true) × (fin.get m key ≡ Some u) × (rewritten s u ≡ t)
 name-came s m key t e =
     let u = mapped-some (rewritten s) (cond (stays (form_of s) key) (fin.get m key) None) t (sym (get-after s m key) ∙ e) in

@@ -30,11 +30,11 @@ use Rattle.formula_tree.specs.Term.{Term}
 use Rattle.formula_tree.specs.declared.reference.Corner.{Corner}
 use Rattle.book_values.specs.Names.{Key}
 use Rattle.book_model.specs.Workbook.{Workbook, has_scope, has_sheet}
-use Rattle.book_model.specs.Changes.{rewritten_content, rewritten_entry, rewritten_contents, sheets_left, shifted}
+use Rattle.book_model.specs.Changes.{rewritten_content, rewritten_entry, rewritten_contents, sheets_left, shifted, stays}
 use Rattle.book_model.specs.Sound.{IsSoundBook, IsContentOf, IsCellOf, IsNameOf}
 use Rattle.book_model.proofs.Counts.{len-from_entries, length-filter_map, length-map}
 use Rattle.book_model.proofs.KnownSheets.{has_id}
-use Rattle.book_model.proofs.NameMaps.{name-came, stays}
+use Rattle.book_model.proofs.NameMaps.{name-came}
 use Rattle.book_model.proofs.SheetLists.{has-left, sheets-left}
 
 find-rewritten : (s : Shift) (p : Place) (es : List (Place × Content)) → find place_cmp p (map (rewritten_entry s) es) ≡ option_map (rewritten_content s) (find place_cmp p es)

@@ -1,7 +1,7 @@
 -- The workbook after each change: every formula of every sheet follows a structural operation at once.
 -- Source: HyperFormula's guide in outline, and this project's own in the exact rules.
 use Rattle.std.specs.Prelude as std
-use Rattle.std.specs.Prelude.{ℕ, ◌==◌, if◌then◌else◌, Bool, not, List, [], ◌∷◌, ◌++◌, filter, Option, Some, None}
+use Rattle.std.specs.Prelude.{ℕ, ◌==◌, if◌then◌else◌, Bool, true, not, List, [], ◌∷◌, ◌++◌, filter, Option, Some, None}
 use Rattle.std.specs.FinMap as map
 use Rattle.cell_addr.specs.declared.place.Place.{Place}
 use Rattle.cell_values.specs.Workbook.{Book as Contents, Content, formula}
@@ -49,10 +49,10 @@ abbrev pub sheets_left : Form → List (ℕ × List ℕ) → List (ℕ × List �
 sheets_left (form.Sheet dropped) sheets = filter (λ sheet. not (sheet.0 == dropped)) sheets
 sheets_left _ sheets = sheets
 
--- the names that an operation leaves: those of a dropped sheet go
-abbrev pub names_left : Form → NameMap → NameMap
-names_left (form.Sheet dropped) names = map.retain_keys names (λ key. not (is_on_sheet dropped key))
-names_left _ names = names
+-- a name stays over an operation unless its sheet is dropped
+abbrev pub stays : Form → Key → Bool
+stays (form.Sheet dropped) key = not (is_on_sheet dropped key)
+stays _ key = true
 
 -- each name's formula after the operation; names don't move
 abbrev pub rewritten_tree : Shift → Key × Term Corner → Key × Term Corner
@@ -67,7 +67,7 @@ abbrev pub shifted : Shift → Workbook → Workbook
 shifted s b = record {
   sheets = sheets_left (form_of s) b.sheets;
   cells = rewritten_contents s (moved_map s b.cells);
-  names = rewritten_names s (names_left (form_of s) b.names);
+  names = rewritten_names s (map.retain_keys b.names (stays (form_of s)));
 }
 
 -- a new sheet at the end of the list

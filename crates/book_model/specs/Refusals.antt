@@ -104,12 +104,16 @@ abbrev pub is_relative : Option (Term Corner) → Bool
 is_relative (Some t) = not (are_absolute t)
 is_relative None = false
 
--- a text is given to a name
-abbrev pub of_name_text : State → Option ℕ → List ℕ → List Cause
-of_name_text d scope text =
+-- a formula is tried, as a text that has this tree, or none
+abbrev pub of_tried_text : List ℕ → Option (Term Corner) → List Cause
+of_tried_text text tree = (nat_lt MAX_TEXT (length text), TextLimit) ∷ (is_none tree, BadFormula) ∷ []
+
+-- such a text is given to a name
+abbrev pub of_name_text : List ℕ → Option (Term Corner) → List Cause
+of_name_text text tree =
     (nat_lt MAX_TEXT (length text), TextLimit)
-    ∷ (is_none (name_tree scope text d.book), BadFormula)
-    ∷ (is_relative (name_tree scope text d.book), RelativeAddress)
+    ∷ (is_none tree, BadFormula)
+    ∷ (is_relative tree, RelativeAddress)
     ∷ []
 
 -- the table of refusals, a line for each operation
@@ -137,11 +141,11 @@ causes (add_name name scope text) d =
     (not (has_scope d.book scope), NoSheet)
     ∷ (not (is_name name), NameInvalid)
     ∷ (has_name d.book (key_of scope name), NameTaken)
-    ∷ of_name_text d scope text
+    ∷ of_name_text text (name_tree scope text d.book)
 causes (change_name name scope text) d =
     (not (has_scope d.book scope), NoSheet)
     ∷ (not (has_name d.book (key_of scope name)), NoSuchName)
-    ∷ of_name_text d scope text
+    ∷ of_name_text text (name_tree scope text d.book)
 causes (remove_name name scope) d =
     (not (has_scope d.book scope), NoSheet)
     ∷ (not (has_name d.book (key_of scope name)), NoSuchName)
@@ -163,9 +167,7 @@ causes (name_value name sheet) d =
 causes (try_formula sheet text) d =
     (is_suspended d, Suspended)
     ∷ (not (has_sheet d.book sheet), NoSheet)
-    ∷ (nat_lt MAX_TEXT (length text), TextLimit)
-    ∷ (is_none (tree_given d.book.sheets sheet text), BadFormula)
-    ∷ []
+    ∷ of_tried_text text (tree_given d.book.sheets sheet text)
 
 -- why an operation is refused in a session, if it is
 abbrev pub cause : Operation → State → Option Refusal
