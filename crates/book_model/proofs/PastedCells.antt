@@ -107,17 +107,19 @@ find-pasted sheets area at q (e ∷ es) inside =
     ∙ step sheets area at q e (filter_map (entry_pasted sheets area at) es) (find place_cmp (source_of area at q) es) (covers area e.0) (covers (destination area at) q)
     (eq_by_cmp place_cmp q (carried_place area at e.0)) (eq_by_cmp place_cmp (source_of area at q) e.0) inside refl refl refl refl (find-pasted sheets area at q es inside)
 
--- what stands at a place after a copy was pasted: in the destination what it took from the copy, and else what stood there
-pub get-pasted : (area : Block) (cells : Contents) (at : Place) (b : Workbook) (q : Place) → IsBlockInside area
-    → fin.get (with_copy area cells at b).cells q
-    ≡ cond (covers (destination area at) q) (option_map (pasted_content b.sheets (source_of area at q) q) (fin.get cells (source_of area at q))) (fin.get b.cells q)
-get-pasted area cells at b q inside =
-    get-from_entries place_cmp-IsTotalOrder (filter_map (entry_pasted b.sheets area at) (fin.entries cells) ++ fin.entries kept) q
-    ∙ find-onto q (filter_map (entry_pasted b.sheets area at) (fin.entries cells)) (fin.entries kept)
-    ∙ ap (λ r. either r (find place_cmp q (fin.entries kept))) (find-pasted b.sheets area at q (fin.entries cells) inside)
-    ∙ ap (λ r. either (given_at b.sheets area at q (find place_cmp (source_of area at q) (fin.entries cells))) r) (sym (get-entries kept q) ∙ left)
-    ∙ ap (λ r. either (given_at b.sheets area at q r) (cond (not (covers (destination area at) q)) (fin.get b.cells q) None)) (sym (get-entries cells (source_of area at q)))
-    ∙ chosen (covers (destination area at) q) (option_map (pasted_content b.sheets (source_of area at q) q) (fin.get cells (source_of area at q)))
+chosen : (c : Bool) (r old : Option Content) → either (cond c r None) (cond (not c) old None) ≡ cond c r old
+chosen true (Some x) old = refl
+chosen true None old = refl
+chosen false r old = refl
+
+-- entries that come to the destination, over the cells outside of it
+pub over-kept : (area : Block) (at : Place) (b : Workbook) (es : List (Place × Content)) (q : Place) → IsBlockInside area
+    → either (find place_cmp q (filter_map (entry_pasted b.sheets area at) es)) (fin.get (fin.retain_keys b.cells (λ p. not (covers (destination area at) p))) q)
+    ≡ cond (covers (destination area at) q) (option_map (pasted_content b.sheets (source_of area at q) q) (find place_cmp (source_of area at q) es)) (fin.get b.cells q)
+over-kept area at b es q inside =
+    ap (λ r. either r (fin.get kept q)) (find-pasted b.sheets area at q es inside)
+    ∙ ap (λ r. either (given_at b.sheets area at q (find place_cmp (source_of area at q) es)) r) left
+    ∙ chosen (covers (destination area at) q) (option_map (pasted_content b.sheets (source_of area at q) q) (find place_cmp (source_of area at q) es)) (fin.get b.cells q)
   where
     kept : Contents
     kept = fin.retain_keys b.cells (λ p. not (covers (destination area at) p))
@@ -125,10 +127,19 @@ get-pasted area cells at b q inside =
     left : fin.get kept q ≡ cond (not (covers (destination area at) q)) (fin.get b.cells q) None
     left = get-retain_keys b.cells (λ p. not (covers (destination area at) p)) q (λ p t. ap (λ x. not (covers (destination area at) x)) (sym (place_cmp-IsAntisymmetric q p t)))
 
-    chosen : (c : Bool) (r : Option Content) → either (cond c r None) (cond (not c) (fin.get b.cells q) None) ≡ cond c r (fin.get b.cells q)
-    chosen true (Some x) = refl
-    chosen true None = refl
-    chosen false r = refl
+-- what stands at a place after a copy was pasted: in the destination what it took from the copy, and else what stood there
+pub get-pasted : (area : Block) (cells : Contents) (at : Place) (b : Workbook) (q : Place) → IsBlockInside area
+    → fin.get (with_copy area cells at b).cells q
+    ≡ cond (covers (destination area at) q) (option_map (pasted_content b.sheets (source_of area at q) q) (fin.get cells (source_of area at q))) (fin.get b.cells q)
+get-pasted area cells at b q inside =
+    get-from_entries place_cmp-IsTotalOrder (filter_map (entry_pasted b.sheets area at) (fin.entries cells) ++ fin.entries kept) q
+    ∙ find-onto q (filter_map (entry_pasted b.sheets area at) (fin.entries cells)) (fin.entries kept)
+    ∙ ap (either (find place_cmp q (filter_map (entry_pasted b.sheets area at) (fin.entries cells)))) (sym (get-entries kept q))
+    ∙ over-kept area at b (fin.entries cells) q inside
+    ∙ ap (λ r. cond (covers (destination area at) q) (option_map (pasted_content b.sheets (source_of area at q) q) r) (fin.get b.cells q)) (sym (get-entries cells (source_of area at q)))
+  where
+    kept : Contents
+    kept = fin.retain_keys b.cells (λ p. not (covers (destination area at) p))
 
 named-of : (r : Option (List ℕ)) → is_some r ≡ true → (w : List ℕ) × (r ≡ Some w)
 named-of None h = cc
