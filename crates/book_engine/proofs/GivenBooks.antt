@@ -17,7 +17,7 @@ use Rattle.book_engine.specs.internal.Cells.{with_cells, with_given}
 
 -- a workbook with these sheets, their cells empty
 abbrev pub empty_workbook : List BookSheet → Workbook
-empty_workbook books = record { sheets = numbered 0 books; cells = fin.empty }
+empty_workbook books = record { sheets = numbered 0 books; cells = fin.empty; names = fin.empty }
 
 get_or-numbered : (n : ℕ) (books : List BookSheet) (i : ℕ) (d : ℕ × List ℕ) (e : BookSheet) → i < length books → get_or (numbered n books) i d ≡ (n + i, (get_or books i e).name)
 get_or-numbered n [] i d e l = absurd (omega arith)
@@ -56,13 +56,13 @@ numbered-push n (a ∷ books) b =
 
 -- a workbook with one more sheet
 abbrev pub with_one : Workbook → ℕ → List ℕ → Workbook
-with_one b n name = record { sheets = b.sheets ++ (n, name) ∷ []; cells = b.cells }
+with_one b n name = record { sheets = b.sheets ++ (n, name) ∷ []; cells = b.cells; names = b.names }
 
 one_more : (books : List BookSheet) (b : BookSheet) → with_one (empty_workbook books) (length books) b.name ≡ empty_workbook (books ++ b ∷ [])
 one_more books b =
     let same : length books ≡ 0 + length books = omega arith in
-    ap (λ n. record { sheets = numbered 0 books ++ (n, b.name) ∷ []; cells = fin.empty }) same
-    ∙ ap (λ s. record { sheets = s; cells = fin.empty }) (sym (numbered-push 0 books b))
+    ap (λ n. record { sheets = numbered 0 books ++ (n, b.name) ∷ []; cells = fin.empty; names = fin.empty }) same
+    ∙ ap (λ s. record { sheets = s; cells = fin.empty; names = fin.empty }) (sym (numbered-push 0 books b))
 
 -- the sheets with the next one
 pub joined : (books : List BookSheet) (i : ℕ) (b : BookSheet) (d e : Workbook) (n : ℕ) (name : List ℕ) → i < length books → b ≡ get_or books i b → d ≡ empty_workbook (take i books) → n ≡ i → name ≡ b.name

@@ -1,5 +1,6 @@
 pub mod SheetNames
 pub mod Slots
+pub mod NamedSlots
 pub mod Contents
 pub mod Exchanges
 pub mod Emptying

@@ -1,6 +1,6 @@
 -- What a change leaves behind for undo, and what steps back and forward find. Serves the calls that change a workbook,
 -- batches, undo and redo.
-use Rattle.std.proofs.Common.{◌≡◌, ◌∙◌, sym, ap, subst, refl, arith, inl, inr, ℕ, zero, suc, ◌<◌, ◌≤◌, ◌-◌, Bool, true, false, if◌then◌else◌, List, [], ◌∷◌, ◌++◌, length, reverse, take, drop, Option, Some, None, option_map}
+use Rattle.std.proofs.Common.{pos, ◌≡◌, ◌∙◌, sym, ap, subst, refl, arith, inl, inr, ℕ, zero, suc, ◌<◌, ◌≤◌, ◌-◌, Bool, true, false, if◌then◌else◌, List, [], ◌∷◌, ◌++◌, length, reverse, take, drop, Option, Some, None, option_map}
 use Rattle.std.proofs.Math.Seq.{take-append_seam}
 use Rattle.std.proofs.lemmas.Bool.{cases_lt}
 use Rattle.std.proofs.lemmas.List.{length-drop, length-reverse, reverse-append, take-append-drop, take_all}
@@ -65,6 +65,8 @@ same_session k h g None c s n steps batch = λ i. record {
   suspended = s;
   next_sheet = n;
   limit = steps.2 i;
+  customs = [];
+  today = pos 0;
 }
 same_session k h g (Some b) c s n steps batch = subst (λ o. session_of k g o s n ≡ session_of k h (Some b) s n) (sym batch.1) (λ j. record {
   book = book_of k;
@@ -74,6 +76,8 @@ same_session k h g (Some b) c s n steps batch = subst (λ o. session_of k g o s 
   suspended = s;
   next_sheet = n;
   limit = steps.2 j;
+  customs = [];
+  today = pos 0;
 })
 
 pub same_kept : (k : Stored) (h g : History Entry) (b c : Option Changes) → SameSteps h g → SameBatch b c → IsKept k h b → IsKept k g c
@@ -123,6 +127,8 @@ noted k new h g None c p s n part notes = subst (λ o. session_of new g o s n �
   suspended = s;
   next_sheet = n;
   limit = notes.1.4 j;
+  customs = [];
+  today = pos 0;
 })
 noted k new h g (Some b) c p s n part notes =
     let u : undone notes.0.0.parts.items new ≡ undone b.parts.items k = ap (λ ps. undone ps new) notes.0.2 ∙ undone-append b.parts.items p new ∙ ap (undone b.parts.items) part in
@@ -135,6 +141,8 @@ noted k new h g (Some b) c p s n part notes =
       suspended = s;
       next_sheet = n;
       limit = notes.3 i;
+      customs = [];
+      today = pos 0;
     })
 
 pub noted_kept : (k new : Stored) (h g : History Entry) (b c : Option Changes) (p : Part) → part_undone p new ≡ k → Notes p b h c g → IsKept k h b → Stand new → IsKept new g c
@@ -172,6 +180,8 @@ closed_some k h g b [] s n is closes cleared =
       suspended = s;
       next_sheet = n;
       limit = closes.2 i;
+      customs = [];
+      today = pos 0;
     })
 closed_some k h g b (p ∷ ps) s n is closes cleared =
     let any : has_any b.parts.items ≡ true = ap has_any is in
@@ -185,6 +195,8 @@ closed_some k h g b (p ∷ ps) s n is closes cleared =
       suspended = s;
       next_sheet = n;
       limit = closes.4 i;
+      customs = [];
+      today = pos 0;
     })
 
 pub closed_session : (k : Stored) (h g : History Entry) (b : Option Changes) (s : Bool) (n : ℕ) → Closes b h g → ((c : Changes) → b ≡ Some c → has_any c.parts.items ≡ true → length (books_over k (reverse h.undone)) ≡ 0)
@@ -231,6 +243,8 @@ module _ (k new : Stored) (h g : History Entry) (e w : Entry) (ys : List Entry) 
         suspended = s;
         next_sheet = n;
         limit = (steps i).limit;
+        customs = [];
+        today = pos 0;
       })
 
   pub undone_kept : IsKept k h None → IsKept new g None
@@ -264,6 +278,8 @@ module _ (k new : Stored) (h g : History Entry) (e w : Entry) (ys : List Entry) 
         suspended = s;
         next_sheet = n;
         limit = (steps i).limit;
+        customs = [];
+        today = pos 0;
       })
 
   pub redone_kept : IsKept k h None → IsKept new g None

@@ -1,5 +1,7 @@
 pub mod Formula
 pub mod Formulas
+pub mod Named
+pub mod Expressions
 pub mod Stored
 pub mod Steps
 pub mod Seen

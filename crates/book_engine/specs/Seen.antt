@@ -1,5 +1,6 @@
 -- The session that an engine stands for. Source: this project's own.
-use Rattle.std.specs.Prelude.{ℕ, Bool, true, false, List, [], ◌∷◌, reverse, Option, Some, None, option_map, ⊤}
+use Rattle.std.specs.Prelude.{ℕ, ℤ, pos, Bool, true, false, List, [], ◌∷◌, reverse, Option, Some, None, option_map, ⊤}
+use Rattle.custom_fn.specs.declared.rule.Rule.{Rule}
 use Rattle.undo_book.specs.History.{History}
 use Rattle.book_model.specs.Sound.{IsSound}
 use Rattle.book_model.specs.Workbook.{Batch, State, Workbook}
@@ -28,7 +29,7 @@ has_any (p ∷ ps) = true
 abbrev pub batch_of : Stored → Changes → Batch
 batch_of k batch = record { start = book_of (undone batch.parts.items k); changed = has_any batch.parts.items }
 
--- a session of a kept workbook, with the steps that lead back and forward from it
+-- a session of a kept workbook, with the steps that lead back and forward from it; without custom functions, on day 0
 abbrev pub session_of : Stored → History Entry → Option Changes → Bool → ℕ → State
 session_of k steps batch suspended next_sheet = record {
   book = book_of k;
@@ -38,11 +39,17 @@ session_of k steps batch suspended next_sheet = record {
   suspended = suspended;
   next_sheet = next_sheet;
   limit = steps.limit;
+  customs = [];
+  today = pos 0;
 }
 
 -- the session that the parts of an engine make up
 abbrev pub state_of : Parts → State
 state_of p = session_of (stored p.book) p.undo p.batch p.suspended p.next_sheet
+
+-- the session with these custom functions, on this day
+abbrev pub with_rules : List (List ℕ × Rule) → ℤ → State → State
+with_rules customs today d = record d { customs = customs; today = today }
 
 -- in each workbook that steps lead to, the formulas stand in their cells
 abbrev pub StandOver : Stored → List Entry → Type 0

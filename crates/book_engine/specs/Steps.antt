@@ -8,6 +8,8 @@ use Rattle.grid_store.specs.declared.cell.Cell.TheVariants as cell
 use Rattle.name_table.specs.Listed.{listed}
 use Rattle.name_table.specs.declared.names.Names.{Names}
 use Rattle.shift_core.specs.Maps.{PlaceMap, restored_map}
+use Rattle.book_model.specs.Names.{with_tree}
+use Rattle.book_engine.specs.Expressions.{names_in, slot_of}
 use Rattle.book_engine.specs.Formulas.{Numbered, numbered, stood}
 use Rattle.book_engine.specs.Stored.{Stored, stored}
 use Rattle.book_engine.specs.declared.held.CellChange.{CellChange}
@@ -63,8 +65,10 @@ part_undone (part.Shifted c) k = record {
   stands = numbered c.formulas;
   cells = restored_map c.shift (items_of c.removed) k.cells;
   sheets = sheets_before c.names k.sheets;
+  names = names_in c.expressions;
 }
 part_undone (part.Sheets names) k = record k { sheets = listed names }
+part_undone (part.Named e) k = record k { names = with_tree (slot_of e).0 (slot_of e).1 k.names }
 
 -- what several operations changed is taken back, the last one first
 abbrev pub undone : List Part → Stored → Stored

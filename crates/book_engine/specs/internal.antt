@@ -1,5 +1,6 @@
 -- What only the proofs of bodies need.
 pub mod Turns
+pub mod Names
 pub mod Cells
 pub mod Noted
 pub mod ShiftProp

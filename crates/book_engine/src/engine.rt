@@ -1,8 +1,9 @@
 // The engine, and its calls.
-ghost use Rattle.std.specs.Prelude.{◌≡◌, ◌≤◌, IfOk, option_map};
+ghost use Rattle.std.specs.Prelude.{◌≡◌, ◌≤◌, IfOk, length, option_map};
 ghost use Rattle.cell_addr.specs.Sheets.{id_in, name_in};
 ghost use Rattle.shift_core.specs.declared.shift.Shift.TheVariants as shifts;
-ghost use Rattle.book_model.specs.Answers.{content_text, formula_of, value_of};
+ghost use Rattle.custom_fn.specs.Registry.{customs_of};
+ghost use Rattle.book_model.specs.Answers.{content_text, formula_of, name_value_of, tried_value, value_of};
 ghost use Rattle.book_model.specs.Given.{CanBegin, session_given};
 ghost use Rattle.book_model.specs.Operation as op;
 ghost use Rattle.book_model.specs.Replies.{first_sheet};
@@ -11,15 +12,18 @@ ghost use Rattle.book_model.specs.declared.limits.TheConstants.{MAX_UNDO};
 ghost use Rattle.book_engine.specs.Seen.{Fits};
 ghost use Rattle.book_engine.specs.internal.FitsProp.{fits-prop};
 
+use crate::history::Entry;
 use crate::parts::Parts;
 use crate::stop::Stop;
 use book_model::BookSheet;
 use cell_addr::{Block, Place, SheetNames, Text};
 use cell_value::Scalar;
+use custom_fn::Registry;
 use shift_core::Shift;
 use std::alloc::{AllocError, Global};
 use std::sync::ledger::Ledger;
 use steps::Steps;
+use undo_book::UndoBook;
 
 /// A workbook of several sheets, with all calls that change it and ask about it.
 ///
@@ -27,6 +31,8 @@ use steps::Steps;
 #[derive(Drop)]
 pub struct Engine {
     parts: Parts,
+    registry: Registry,
+    day: i32,
     ghost fits: { Fits parts } by { fits-prop parts },
 }
 
@@ -34,14 +40,25 @@ impl Engine {
     ghost use Rattle.book_engine.specs.Engine.{Does, DoesAlways, NoAnswer, StandsFor};
 
     /// The engine of a workbook with these sheets, numbered from 0 in their order, and these texts in their cells. All
-    /// formulas are read when all sheets are there. At most `limit` steps can be undone, which is at most 1,000.
-    pub fn build(alloc: Global, books: &[BookSheet], limit: u16) -> Result<Engine, AllocError>
+    /// formulas are read when all sheets are there. At most `limit` steps can be undone, which is at most 1,000. Formulas
+    /// call the custom functions of the registry, and TODAY is the day of this serial number.
+    pub fn build(
+        alloc: Global,
+        books: &[BookSheet],
+        limit: u16,
+        registry: Registry,
+        day: i32,
+    ) -> Result<Engine, AllocError>
         requires can { CanBegin books.now }
         requires limit { limit ≤ MAX_UNDO }
-        ensures { IfOk result (λ engine. StandsFor engine (session_given limit books.now)) }
+        ensures { IfOk result (λ engine. StandsFor engine (session_given limit (customs_of registry) day books.now)) }
     {
         let parts = Parts::build(alloc, books, limit)?;
-        Ok(Engine { parts })
+        Ok(Engine {
+            parts,
+            registry,
+            day,
+        })
     }
 
     /// Gives a cell the content that the text says: nothing, a formula, a number, a truth value or a text. A formula that
@@ -187,6 +204,41 @@ impl Engine {
         self.parts.clear_sheet(sheet)
     }
 
+    /// Adds a name with the formula of the text: in the scope of a sheet, or of the whole workbook where there is none. Every
+    /// reference of it has both `$`, and in a name of the whole workbook its sheet.
+    ///
+    /// # Errors
+    /// `NoSheet` for a scope that doesn't exist, `NameInvalid` where the word isn't of the form of a name
+    /// ([`book_model::is_name`]), `NameTaken` where the scope has the name, in some case of its ASCII letters, `TextLimit`
+    /// past 8,192 bytes, `BadFormula` where the text is no formula, `RelativeAddress` where a reference lacks a `$` or its
+    /// sheet; the first that holds.
+    pub fn add_name(&mut self, name: &str, scope: Option<u32>, text: &str) -> Result<(), Stop>
+        ensures { Does (op.add_name name.now scope text.now) NoAnswer self.old self.new result }
+    {
+        self.parts.add_name(name, scope, text)
+    }
+
+    /// Gives a name of the scope another formula.
+    ///
+    /// # Errors
+    /// `NoSheet`, `NoSuchName` where the scope hasn't the name, and `TextLimit`, `BadFormula` and `RelativeAddress` as for
+    /// [`Engine::add_name`].
+    pub fn change_name(&mut self, name: &str, scope: Option<u32>, text: &str) -> Result<(), Stop>
+        ensures { Does (op.change_name name.now scope text.now) NoAnswer self.old self.new result }
+    {
+        self.parts.change_name(name, scope, text)
+    }
+
+    /// Takes a name of the scope away.
+    ///
+    /// # Errors
+    /// `NoSheet`, `NoSuchName`.
+    pub fn remove_name(&mut self, name: &str, scope: Option<u32>) -> Result<(), Stop>
+        ensures { Does (op.remove_name name.now scope) NoAnswer self.old self.new result }
+    {
+        self.parts.remove_name(name, scope)
+    }
+
     /// Opens a batch: the changes until [`Engine::commit`] are one step.
     ///
     /// # Errors
@@ -250,7 +302,40 @@ impl Engine {
     pub fn value<L: Ledger>(&mut self, at: Place, steps: &mut Steps<L>) -> Result<Scalar, Stop>
         ensures { Does (op.value at) (λ d scalar. scalar ≡ value_of d at) self.old self.new result }
     {
-        self.parts.value(at, steps)
+        self.parts.value(at, &self.registry, self.day, steps)
+    }
+
+    /// What a name shows that the word finds on the sheet, in any case of its ASCII letters: the sheet's own, else that of
+    /// the whole workbook. Costs about the whole workbook.
+    ///
+    /// # Errors
+    /// `Suspended`, `NoSheet`, `NoSuchName` where neither scope has the name.
+    pub fn name_value<L: Ledger>(
+        &mut self,
+        name: &str,
+        sheet: u32,
+        steps: &mut Steps<L>,
+    ) -> Result<Scalar, Stop>
+        ensures { Does (op.name_value name.now sheet) (λ d scalar. scalar ≡ name_value_of d name.now sheet) self.old self.new result }
+    {
+        self.parts
+            .name_value(name, sheet, &self.registry, self.day, steps)
+    }
+
+    /// What the formula of the text would show in the first cell of the sheet. Costs about the whole workbook.
+    ///
+    /// # Errors
+    /// `Suspended`, `NoSheet`, `TextLimit` past 8,192 bytes, `BadFormula` where the text is no formula.
+    pub fn try_formula<L: Ledger>(
+        &mut self,
+        sheet: u32,
+        text: &str,
+        steps: &mut Steps<L>,
+    ) -> Result<Scalar, Stop>
+        ensures { Does (op.try_formula sheet text.now) (λ d scalar. scalar ≡ tried_value d sheet text.now) self.old self.new result }
+    {
+        self.parts
+            .try_formula(sheet, text, &self.registry, self.day, steps)
     }
 
     /// The canonical text of a cell's formula, or the kept text of an unreadable one; `None` where the cell has none.
@@ -292,5 +377,14 @@ impl Engine {
         ensures { (d : State) → StandsFor self.now d → option_map (λ name. name.now) result ≡ name_in d.book.sheets id }
     {
         self.parts.book.names.name_of(id)
+    }
+
+    /// The steps that can be undone and redone.
+    pub fn entries(&self) -> &UndoBook<Entry>
+        ensures done { (d : State) → StandsFor self.now d → length result.now.done ≡ length d.undo }
+        ensures undone { (d : State) → StandsFor self.now d → length result.now.undone ≡ length d.redo }
+        ensures limit { (d : State) → StandsFor self.now d → result.now.limit ≡ d.limit }
+    {
+        &self.parts.undo
     }
 }

@@ -12,15 +12,18 @@
 //! ```
 #![tactic(auto)]
 
+mod absolute;
 mod book;
 mod build;
 mod cells;
 mod checks;
 mod engine;
+mod expressions;
 mod formulas;
 mod held;
 mod history;
 pub mod laws;
+mod naming;
 mod parts;
 mod reading;
 mod setting;
@@ -33,4 +36,5 @@ mod tests;
 mod undoing;
 
 pub use engine::Engine;
+pub use history::Entry;
 pub use stop::Stop;

@@ -38,6 +38,10 @@ impl Book {
                 self.names = names.copied()?;
                 Ok(())
             }
+            Part::Named(expression) => {
+                self.expressions.set(expression.copied(alloc)?)?;
+                Ok(())
+            }
         }
     }
 
@@ -70,6 +74,7 @@ impl Book {
         let removed = copied(alloc, &change.removed)?;
         self.grid.put_back(&change.shift, removed)?;
         self.formulas = change.formulas.copied()?;
+        self.expressions = change.expressions.copied()?;
         if let Some(names) = &change.names {
             self.names = names.copied()?;
         }

@@ -12,8 +12,9 @@ loop-number-init c =
     let k = stored c.in_ok-book.book in
     let cells = ap (λ z. z.cells) c.in_ok-book.ensures in
     let sheets = ap (λ z. z.sheets) c.in_ok-book.ensures in
+    let names = ap (λ z. z.names) c.in_ok-book.ensures in
     let contents = contents_none k.stands k.cells cells in
-    record { book = λ i. record { sheets = sheets i; cells = contents i }; stand = stands_nothing k.stands k.cells cells }
+    record { book = λ i. record { sheets = sheets i; cells = contents i; names = names i }; stand = stands_nothing k.stands k.cells cells }
 
 pub join-requires : goal.join-requires
 join-requires c =

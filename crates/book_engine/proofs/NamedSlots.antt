@@ -1,0 +1,182 @@
+-- The names that slots hold, as one is changed and after a structural operation. Serves the named expressions of a workbook.
+use Rattle.std.proofs.Common.{◌≡◌, ◌≢◌, ◌∙◌, sym, ap, subst, refl, arith, ℕ, zero, suc, ◌<◌, Bool, true, false, cond, not, ◌||◌, List, [], ◌∷◌, ◌++◌, length, map, get_or, set, Option, Some, None, inl, inr, option_map}
+use Rattle.std.specs.Cmp.{both_ways}
+use Rattle.std.specs.FinMap as fin
+use Rattle.std.specs.FinMap.{get-empty, same_map}
+use Rattle.std.specs.List.{list_any}
+use Rattle.std.specs.Ordering.{eq_by_cmp}
+use Rattle.std.proofs.lemmas.Bool.{and_parts, cases_Bool, false≢true, or_cases, or_left, or_right}
+use Rattle.shift_core.proofs.CarriedEntries.{eq_by_cmp-decides}
+use Rattle.shift_core.specs.Form.{form_of}
+use Rattle.shift_core.specs.declared.shift.Shift.{Shift}
+use Rattle.tree_rewrite.specs.Rewritten.{rewritten}
+use Rattle.formula_tree.specs.Term.{Term}
+use Rattle.formula_tree.specs.declared.reference.Corner.{Corner}
+use Rattle.book_values.specs.Names.{Key, key_of, same_key}
+use Rattle.book_values.proofs.Keys.{same_key-equal, same_key-self}
+use Rattle.book_model.proofs.NameMaps.{get-after, get-with}
+use Rattle.book_model.proofs.NameOrder.{key_cmp-IsAntisymmetric, key_cmp-IsTotalOrder}
+use Rattle.book_model.specs.Changes.{rewritten_names, stays}
+use Rattle.book_model.specs.Names.{NameMap, key_cmp, with_tree}
+use Rattle.book_engine.specs.Expressions.{Slot, names_under, slot_after, slot_of}
+use Rattle.book_engine.specs.Named.{AreApart}
+use Rattle.book_engine.specs.declared.expressions.Expression.{Expression}
+
+-- the two tests of names are one
+pub key-tests : (a b : Key) → eq_by_cmp key_cmp a b ≡ same_key a b
+key-tests a b = both_ways (eq_by_cmp key_cmp a b) (same_key a b)
+    (λ h. subst (λ c. same_key a c ≡ true) ((eq_by_cmp-decides key_cmp-IsTotalOrder key_cmp-IsAntisymmetric a b).0 h) (same_key-self a))
+    (λ h. (eq_by_cmp-decides key_cmp-IsTotalOrder key_cmp-IsAntisymmetric a b).1 (same_key-equal a b h))
+
+pub is-key : (a b : Key) → eq_by_cmp key_cmp a b ≡ true → a ≡ b
+is-key a b h = (eq_by_cmp-decides key_cmp-IsTotalOrder key_cmp-IsAntisymmetric a b).0 h
+
+pub key-itself : (a b : Key) → a ≡ b → eq_by_cmp key_cmp a b ≡ true
+key-itself a b h = (eq_by_cmp-decides key_cmp-IsTotalOrder key_cmp-IsAntisymmetric a b).1 h
+
+-- maps of names are the same where they answer alike
+pub same_names : (m n : NameMap) → ((q : Key) → fin.get m q ≡ fin.get n q) → m ≡ n
+same_names m n h = same_map key_cmp-IsTotalOrder key_cmp-IsAntisymmetric m n h
+
+twice : (b : Bool) (v w r : Option (Term Corner)) → cond b v r ≡ cond b v (cond b w r)
+twice true v w r = refl
+twice false v w r = refl
+
+-- a name that is changed twice is as the second time says
+pub changed-twice : (k l : Key) (v w : Option (Term Corner)) (m : NameMap) → l ≡ k → with_tree k v m ≡ with_tree k v (with_tree l w m)
+changed-twice k l v w m same = same_names _ _ (λ q.
+    get-with k v m q ∙ twice (eq_by_cmp key_cmp q k) v w (fin.get m q)
+    ∙ sym (get-with k v (with_tree l w m) q ∙ ap (cond (eq_by_cmp key_cmp q k) v) (get-with l w m q ∙ ap (λ x. cond (eq_by_cmp key_cmp q x) w (fin.get m q)) same)))
+
+-- two names are changed in either order
+pub changed-both : (k l : Key) (v w : Option (Term Corner)) (m : NameMap) → l ≢ k → with_tree l w (with_tree k v m) ≡ with_tree k v (with_tree l w m)
+changed-both k l v w m other = same_names _ _ (λ q.
+    get-with l w (with_tree k v m) q ∙ ap (cond (eq_by_cmp key_cmp q l) w) (get-with k v m q)
+    ∙ go q (eq_by_cmp key_cmp q l) (eq_by_cmp key_cmp q k) refl refl
+    ∙ sym (get-with k v (with_tree l w m) q ∙ ap (cond (eq_by_cmp key_cmp q k) v) (get-with l w m q)))
+  where
+    go : (q : Key) (b c : Bool) → eq_by_cmp key_cmp q l ≡ b → eq_by_cmp key_cmp q k ≡ c → cond b w (cond c v (fin.get m q)) ≡ cond c v (cond b w (fin.get m q))
+    go q true true i j = absurd (other (sym (is-key q l i) ∙ is-key q k j))
+    go q true false i j = refl
+    go q false true i j = refl
+    go q false false i j = refl
+
+-- a name that is changed and changed back
+pub changed-back : (k : Key) (v : Option (Term Corner)) (m : NameMap) → with_tree k (fin.get m k) (with_tree k v m) ≡ m
+changed-back k v m = same_names _ _ (λ q.
+    get-with k (fin.get m k) (with_tree k v m) q ∙ ap (cond (eq_by_cmp key_cmp q k) (fin.get m k)) (get-with k v m q) ∙ go q (eq_by_cmp key_cmp q k) refl)
+  where
+    go : (q : Key) (b : Bool) → eq_by_cmp key_cmp q k ≡ b → cond b (fin.get m k) (cond b v (fin.get m q)) ≡ fin.get m q
+    go q true i = ap (fin.get m) (sym (is-key q k i))
+    go q false i = refl
+
+turned : (a b : Key) → same_key a b ≡ false → same_key b a ≡ false
+turned a b h = go (same_key b a) refl
+  where
+    go : (c : Bool) → same_key b a ≡ c → c ≡ false
+    go true e = absurd (false≢true (sym h ∙ subst (λ x. same_key a x ≡ true) (sym (same_key-equal b a e)) (same_key-self a)))
+    go false e = refl
+
+neither : (a b : Bool) → (a || b) ≡ false → (a ≡ false) × (b ≡ false)
+neither true b h = absurd (cc)
+neither false b h = (refl, h)
+
+differs : (a b : Key) → same_key a b ≡ false → a ≢ b
+differs a b h e = false≢true (sym h ∙ subst (λ x. same_key a x ≡ true) e (same_key-self a))
+
+-- a name that no slot is of has no tree
+pub get-absent : (slots : List Slot) (k : Key) → list_any (λ slot. same_key slot.0 k) slots ≡ false → fin.get (names_under slots) k ≡ None
+get-absent [] k h = get-empty key_cmp k
+get-absent (e ∷ es) k h =
+    let n = neither (same_key e.0 k) (list_any (λ slot. same_key slot.0 k) es) h in
+    get-with e.0 e.1 (names_under es) k
+    ∙ ap (λ b. cond b e.1 (fin.get (names_under es) k)) (key-tests k e.0 ∙ turned e.0 k n.0)
+    ∙ get-absent es k n.1
+
+-- a slot's name isn't that of an earlier one
+apart-at : (e : Key) (es : List Slot) (i : ℕ) (d : Slot) → list_any (same_key e) (map (λ s. s.0) es) ≡ false → i < length es → e ≢ (get_or es i d).0
+apart-at e [] i d h l = absurd (omega (arith, l))
+apart-at e (f ∷ es) zero d h l = differs e f.0 (neither (same_key e f.0) (list_any (same_key e) (map (λ s. s.0) es)) h).0
+apart-at e (f ∷ es) (suc i) d h l = apart-at e es i d (neither (same_key e f.0) (list_any (same_key e) (map (λ s. s.0) es)) h).1 (omega (arith, l))
+
+-- what a slot's name has
+pub get-at : (slots : List Slot) (i : ℕ) (d : Slot) (k : Key) → AreApart (map (λ s. s.0) slots) → i < length slots → (get_or slots i d).0 ≡ k → fin.get (names_under slots) k ≡ (get_or slots i d).1
+get-at [] i d k apart l same = absurd (omega (arith, l))
+get-at (e ∷ es) zero d k apart l same = get-with e.0 e.1 (names_under es) k ∙ ap (λ b. cond b e.1 (fin.get (names_under es) k)) (key-itself k e.0 (sym same))
+get-at (e ∷ es) (suc i) d k apart l same =
+    let other : e.0 ≢ k = λ h. apart-at e.0 es i d apart.0 (omega (arith, l)) (h ∙ sym same) in
+    get-with e.0 e.1 (names_under es) k ∙ go other (eq_by_cmp key_cmp k e.0) refl ∙ get-at es i d k apart.1 (omega (arith, l)) same
+  where
+    go : e.0 ≢ k → (b : Bool) → eq_by_cmp key_cmp k e.0 ≡ b → cond b e.1 (fin.get (names_under es) k) ≡ fin.get (names_under es) k
+    go other true h = absurd (other (sym (is-key k e.0 h)))
+    go other false h = refl
+
+-- the slot of a name is changed
+pub names-set : (slots : List Slot) (i : ℕ) (d : Slot) (k : Key) (v : Option (Term Corner)) → AreApart (map (λ s. s.0) slots) → i < length slots → (get_or slots i d).0 ≡ k
+    → names_under (set slots i (k, v)) ≡ with_tree k v (names_under slots)
+names-set [] i d k v apart l same = absurd (omega (arith, l))
+names-set (e ∷ es) zero d k v apart l same = changed-twice k e.0 v e.1 (names_under es) same
+names-set (e ∷ es) (suc i) d k v apart l same =
+    ap (with_tree e.0 e.1) (names-set es i d k v apart.1 (omega (arith, l)) same)
+    ∙ changed-both k e.0 v e.1 (names_under es) (λ h. apart-at e.0 es i d apart.0 (omega (arith, l)) (h ∙ sym same))
+
+-- a slot is put at the end for a name that has none
+pub names-push : (slots : List Slot) (k : Key) (v : Option (Term Corner)) → list_any (λ slot. same_key slot.0 k) slots ≡ false → names_under (slots ++ (k, v) ∷ []) ≡ with_tree k v (names_under slots)
+names-push [] k v h = refl
+names-push (e ∷ es) k v h =
+    let n = neither (same_key e.0 k) (list_any (λ slot. same_key slot.0 k) es) h in
+    ap (with_tree e.0 e.1) (names-push es k v n.1) ∙ changed-both k e.0 v e.1 (names_under es) (differs e.0 k n.0)
+
+any-push : (e k : Key) (keys : List Key) → list_any (same_key e) keys ≡ false → same_key e k ≡ false → list_any (same_key e) (keys ++ k ∷ []) ≡ false
+any-push e k [] h i = rw i refl
+any-push e k (x ∷ xs) h i = let n = neither (same_key e x) (list_any (same_key e) xs) h in rw (n.0) (any-push e k xs n.1 i)
+
+-- and the names stay apart
+pub apart-push : (slots : List Slot) (k : Key) (v : Option (Term Corner)) → AreApart (map (λ s. s.0) slots) → list_any (λ slot. same_key slot.0 k) slots ≡ false → AreApart (map (λ s. s.0) (slots ++ (k, v) ∷ []))
+apart-push [] k v apart h = (refl, tt)
+apart-push (e ∷ es) k v apart h =
+    let n = neither (same_key e.0 k) (list_any (λ slot. same_key slot.0 k) es) h in
+    (pushed es apart.0 n.0, apart-push es k v apart.1 n.1)
+  where
+    pushed : (fs : List Slot) → list_any (same_key e.0) (map (λ s. s.0) fs) ≡ false → same_key e.0 k ≡ false → list_any (same_key e.0) (map (λ s. s.0) (fs ++ (k, v) ∷ [])) ≡ false
+    pushed [] i j = rw j refl
+    pushed (f ∷ fs) i j = let m = neither (same_key e.0 f.0) (list_any (same_key e.0) (map (λ s. s.0) fs)) i in rw (m.0) (pushed fs m.1 j)
+
+-- the keys of expressions are those of their slots
+pub keys-slots : (es : List Expression) → map (λ e. key_of e.scope e.word) es ≡ map (λ s. s.0) (map slot_of es)
+keys-slots [] = refl
+keys-slots (e ∷ es) = ap (λ ks. key_of e.scope e.word ∷ ks) (keys-slots es)
+
+pub set-same : (slots : List Slot) (i : ℕ) (d : Slot) (k : Key) (v : Option (Term Corner)) → i < length slots → (get_or slots i d).0 ≡ k → map (λ s. s.0) (set slots i (k, v)) ≡ map (λ s. s.0) slots
+set-same [] i d k v l same = absurd (omega (arith, l))
+set-same (e ∷ es) zero d k v l same = ap (λ x. x ∷ map (λ s. s.0) es) (sym same)
+set-same (e ∷ es) (suc i) d k v l same = ap (λ ks. e.0 ∷ ks) (set-same es i d k v (omega (arith, l)) same)
+
+pub keys-after : (s : Shift) (slots : List Slot) → map (λ e. e.0) (map (slot_after s) slots) ≡ map (λ e. e.0) slots
+keys-after s [] = refl
+keys-after s (e ∷ es) = ap (λ ks. e.0 ∷ ks) (keys-after s es)
+
+stays-or : (f : Term Corner → Term Corner) (b : Bool) (o : Option (Term Corner)) → cond b (option_map f o) None ≡ option_map f (cond b o None)
+stays-or f true o = refl
+stays-or f false o = refl
+
+get-shifted : (s : Shift) (slots : List Slot) (q : Key) → fin.get (names_under (map (slot_after s) slots)) q ≡ option_map (rewritten s) (cond (stays (form_of s) q) (fin.get (names_under slots) q) None)
+get-shifted s [] q =
+    get-empty key_cmp q ∙ go (stays (form_of s) q) ∙ sym (ap (λ r. option_map (rewritten s) (cond (stays (form_of s) q) r None)) (get-empty key_cmp q))
+  where
+    go : (b : Bool) → None ≡ option_map (rewritten s) (cond b None None)
+    go true = refl
+    go false = refl
+get-shifted s (e ∷ es) q =
+    get-with e.0 (slot_after s e).1 (names_under (map (slot_after s) es)) q
+    ∙ go (eq_by_cmp key_cmp q e.0) refl
+    ∙ sym (ap (λ r. option_map (rewritten s) (cond (stays (form_of s) q) r None)) (get-with e.0 e.1 (names_under es) q))
+  where
+    go : (b : Bool) → eq_by_cmp key_cmp q e.0 ≡ b
+        → cond b (slot_after s e).1 (fin.get (names_under (map (slot_after s) es)) q) ≡ option_map (rewritten s) (cond (stays (form_of s) q) (cond b e.1 (fin.get (names_under es) q)) None)
+    go true h = stays-or (rewritten s) (stays (form_of s) e.0) e.1 ∙ ap (λ k. option_map (rewritten s) (cond (stays (form_of s) k) e.1 None)) (sym (is-key q e.0 h))
+    go false h = get-shifted s es q
+
+-- the names after a structural operation
+pub names-shifted : (s : Shift) (slots : List Slot) → names_under (map (slot_after s) slots) ≡ rewritten_names s (fin.retain_keys (names_under slots) (stays (form_of s)))
+names-shifted s slots = same_names _ _ (λ q. get-shifted s slots q ∙ sym (get-after s (names_under slots) q))
