@@ -15,3 +15,5 @@ pub mod GivenExamples
 pub mod Changing
 pub mod Reached
 pub mod AnyCalls
+pub mod PastedBooks
+pub mod CopiedCells

@@ -50,8 +50,7 @@ module _ (k new : Stored) (h g : History Entry) (b : Option Changes) (s : Bool) 
       let some : cause op.undo d ≡ None = ap (λ t. cond t (Some NothingToUndo) None) (some_books k h.done split.0 e split.1) in
       let accepted = subst (λ o. cause op.undo (session_of k h o s n) ≡ None) (sym none) some in
       let turned = subst (λ o. session_of new g o s n ≡ next op.undo (session_of k h o s n)) (sym none)
-          (undone_session k new h g e w split.0 split.1 is whole steps s n ∙ sym (next_done op.undo d some)) in
-      (
+      (undone_session k new h g e w split.0 split.1 is whole steps s n ∙ sym (next_done op.undo d some)) in (
         accepted,
         turned,
         subst IsSound (sym turned) (next_sound op.undo (session_of k h b s n) sound),
@@ -66,8 +65,7 @@ module _ (k new : Stored) (h g : History Entry) (b : Option Changes) (s : Bool) 
       let some : cause op.redo d ≡ None = ap (λ t. cond t (Some NothingToRedo) None) (some_books k h.undone split.0 e split.1) in
       let accepted = subst (λ o. cause op.redo (session_of k h o s n) ≡ None) (sym none) some in
       let turned = subst (λ o. session_of new g o s n ≡ next op.redo (session_of k h o s n)) (sym none)
-          (redone_session k new h g e w split.0 split.1 is whole steps s n ∙ sym (next_done op.redo d some)) in
-      (
+      (redone_session k new h g e w split.0 split.1 is whole steps s n ∙ sym (next_done op.redo d some)) in (
         accepted,
         turned,
         subst IsSound (sym turned) (next_sound op.redo (session_of k h b s n) sound),

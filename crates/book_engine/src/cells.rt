@@ -69,7 +69,11 @@ impl Book {
     }
 
     // Empties the cells of a block, and answers what each of them held.
-    pub(crate) fn clear(&mut self, alloc: Global, area: Block) -> Result<Vec<CellChange>, AllocError>
+    pub(crate) fn clear(
+        &mut self,
+        alloc: Global,
+        area: Block,
+    ) -> Result<Vec<CellChange>, AllocError>
         requires stand { Stand (stored self.old) }
         requires inside { AreInside (book_of (stored self.old)).cells }
         ensures ok { OnOk result (book_of (stored self.new) ≡ emptied (covers area) (book_of (stored self.old))) }

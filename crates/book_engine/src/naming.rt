@@ -82,12 +82,7 @@ impl Parts {
     }
 
     // Gives a name a tree, or none, as a change.
-    fn name(
-        &mut self,
-        name: &str,
-        scope: Option<u32>,
-        tree: Option<Tree>,
-    ) -> Result<(), AllocError>
+    fn name(&mut self, name: &str, scope: Option<u32>, tree: Option<Tree>) -> Result<(), AllocError>
         requires fits { Fits self.old }
         requires proper { IsProperIn scope tree }
         ensures ok { OnOk result (state_of self.new ≡ changed (with_name (key_of scope name.now) (option_map (tree_in_scope scope) tree) (state_of self.old).book) (state_of self.old)) }

@@ -296,12 +296,7 @@ fn put_name(workbook: &mut Workbook, expression: &Expression) -> Result<(), Allo
 }
 
 // What a name shows that the word finds on the sheet; `#NAME?` where it finds none.
-fn named_value(
-    alloc: Global,
-    values: &Values,
-    name: &str,
-    sheet: u32,
-) -> Result<Scalar, AllocError>
+fn named_value(alloc: Global, values: &Values, name: &str, sheet: u32) -> Result<Scalar, AllocError>
     ensures { IfOk result (λ scalar. scalar ≡ unwrap_or (option_map (λ key. shown_in values.now (nodes.name key)) (found (workbook_in values.now).names name.now sheet)) (scalars.Fault faults.Name)) }
 {
     match values.named(name, sheet) {

@@ -102,12 +102,7 @@ fn keep(formulas: &mut Formulas, to: &Option<Held>) -> Result<(), AllocError>
 }
 
 // Fills a cell with what it held, or empties it.
-fn fill(
-    alloc: Global,
-    grid: &mut Grid,
-    at: Place,
-    to: &Option<Held>,
-) -> Result<(), AllocError>
+fn fill(alloc: Global, grid: &mut Grid, at: Place, to: &Option<Held>) -> Result<(), AllocError>
     requires { IsInside at }
     ensures { OnOk result (cells_of grid.new ≡ with_cell at (option_map cell_held to.now) (cells_of grid.old)) }
 {

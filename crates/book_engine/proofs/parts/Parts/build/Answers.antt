@@ -1,4 +1,5 @@
 use Rattle.std.proofs.Common.{◌≡◌, ◌∙◌, sym, ap, subst, reverse, length, false, None, [], pos}
+use Rattle.book_model.specs.Clipboard.{nothing}
 use Rattle.book_model.specs.Given.{session_given}
 use Rattle.book_model.specs.Sound.{IsSound}
 use Rattle.book_model.proofs.GivenSheets.{given_sound}
@@ -9,8 +10,7 @@ use Rattle.book_engine.proofs.parts.Parts.build.Goals as goal
 pub returns-clause-fits : goal.returns-clause-fits
 returns-clause-fits c =
     let k = stored c.in_ok-book.book in
-    let same = c.in_ok-new.ensures in
-    (
+    let same = c.in_ok-new.ensures in (
       subst IsSound (sym (λ i. record {
         book = c.in_ok-book.ensures.book i;
         undo = books_over k (reverse (same i).done);
@@ -21,6 +21,7 @@ returns-clause-fits c =
         limit = (same i).limit;
         customs = [];
         today = pos 0;
+        clip = nothing;
       })) (given_sound c.args.limit [] (pos 0) c.args.books.now c.requires.limit c.requires.can),
       record {
         stand = c.in_ok-book.ensures.stand;
