@@ -81,9 +81,12 @@ copied-more stands cells es i e old new x h is so push holds =
     ap (map entry_copied) push ∙ map-append entry_copied old ((e.0, x) ∷ []) ∙ ap (λ l. l ++ (e.0, content_copied e.0 x) ∷ []) so
     ∙ ap (λ r. filter_map (held_at stands cells) (take i es) ++ cons_option r []) (one (fin.get cells e.0) holds) ∙ sym (more-held stands cells es i e h is)
   where
-    one : (r : Option Cell) → Some (content_copied e.0 x) ≡ option_map (content_of stands) r → Some (e.0, content_copied e.0 x) ≡ option_map (λ c. (e.0, content_of stands c)) r
+    placed : Content → Place × Content
+    placed y = (e.0, y)
+
+    one : (r : Option Cell) → Some (content_copied e.0 x) ≡ option_map (content_of stands) r → Some (placed (content_copied e.0 x)) ≡ option_map (λ c. placed (content_of stands c)) r
     one None g = cc
-    one (Some c) g = ap (option_map (λ y. (e.0, y))) g
+    one (Some c) g = ap (option_map placed) g
 
 pub copied-none : (stands : Numbered) (cells : PlaceMap Cell) (es : List (Place × Cell)) (i : ℕ) (e : Place × Cell) (old : List (Place × CopyItem)) → i < length es → e ≡ get_or es i e
     → map entry_copied old ≡ filter_map (held_at stands cells) (take i es) → None ≡ option_map (content_of stands) (fin.get cells e.0)
@@ -107,13 +110,15 @@ copied-proper (at, item.Kept (cell.Text w)) h = tt
 copied-proper (at, item.Kept (cell.Formula n)) h = absurd (h.1 n refl)
 copied-proper (at, item.Kept (cell.Broken w)) h = tt
 
+first-or : (b : Bool) (x c : Content) (r : Option Content) → cond b (Some x) r ≡ Some c → IsProperContent x → (r ≡ Some c → IsProperContent c) → IsProperContent c
+first-or true x c r h proper more = let same : x ≡ c = cc in subst IsProperContent same proper
+first-or false x c r h proper more = more h
+
 found-copied : (p : Place) (c : Content) (items : List (Place × CopyItem)) → All IsCopied items → find place_cmp p (map entry_copied items) ≡ Some c → IsProperContent c
 found-copied p c [] all h = cc
-found-copied p c (e ∷ items) all h = go (eq_by_cmp place_cmp p e.0) h
-  where
-    go : (b : Bool) → cond b (Some (content_copied e.0 e.1)) (find place_cmp p (map entry_copied items)) ≡ Some c → IsProperContent c
-    go true g = subst IsProperContent (cc) (copied-proper e (All-head IsCopied e items all))
-    go false g = found-copied p c items (All-tail IsCopied e items all) g
+found-copied p c (e ∷ items) all h =
+    first-or (eq_by_cmp place_cmp p e.0) (content_copied e.0 e.1) c (find place_cmp p (map entry_copied items)) h (copied-proper e (All-head IsCopied e items all))
+    (found-copied p c items (All-tail IsCopied e items all))
 
 -- what copied cells held is proper
 pub copied-sound : (items : List (Place × CopyItem)) → All IsCopied items → (p : Place) (c : Content) → fin.get (contents_copied items) p ≡ Some c → IsProperContent c

@@ -17,3 +17,4 @@ pub mod Reached
 pub mod AnyCalls
 pub mod PastedBooks
 pub mod CopiedCells
+pub mod PastedSteps
