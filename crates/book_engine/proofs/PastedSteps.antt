@@ -1,6 +1,7 @@
 -- What a paste of copied cells comes to, where it is accepted and where it wants memory. Serves the paste of a copy.
-use Rattle.std.proofs.Common.{◌≡◌, ◌∙◌, sym, ap, subst, refl, ℕ, ◌<◌, Bool, true, false, cond, not, List, Option, Some, None}
+use Rattle.std.proofs.Common.{◌≡◌, ◌∙◌, sym, ap, subst, refl, arith, ℕ, ◌<◌, ◌≤◌, Bool, true, false, cond, not, List, Option, Some, None}
 use Rattle.std.specs.Prelude.{nat_lt}
+use Rattle.std.proofs.lemmas.Bool.Decides.{nat_tests}
 use Rattle.std.specs.List.{All}
 use Rattle.std.specs.FinMap as fin
 use Rattle.undo_book.specs.History.{History}
@@ -46,6 +47,13 @@ pub three-first : (a b c : Bool) (q r s t : Refusal) → cond a (Some q) (cond b
 three-first true b c q r s t h = h
 three-first false true c q r s t h = h
 three-first false false c q r s t h = cc
+
+-- the number of cells, as it is counted
+pub too-many : (n m : ℕ) → m ≡ n → 1000000 < n → nat_lt 1000000 m ≡ true
+too-many n m e h = grind (arith, nat_tests)
+
+pub few-enough : (n m : ℕ) → m ≡ n → n ≤ 1000000 → nat_lt 1000000 m ≡ false
+few-enough n m e h = grind (arith, nat_tests)
 
 -- a change, where something waits to be pasted
 changed-clip : (c : Clipboard) (b : Workbook) (d : State) → with_clipboard (without_cut c) (changed b d) ≡ changed b (with_clipboard c d)
