@@ -3,6 +3,7 @@ use Rattle.std.specs.Prelude.{ℕ, ℤ, pos, Bool, true, false, List, [], ◌∷
 use Rattle.custom_fn.specs.declared.rule.Rule.{Rule}
 use Rattle.std.specs.List.{All}
 use Rattle.cell_addr.specs.Place.{IsBlockInside}
+use Rattle.cell_addr.specs.declared.place.Block.{Block}
 use Rattle.clip_board.specs.Clips.{items_of}
 use Rattle.clip_board.specs.declared.clip.Clip.{Clip}
 use Rattle.clip_board.specs.declared.clip.Clip.TheVariants as clips
@@ -65,6 +66,11 @@ abbrev pub clip_of : Clip → Clipboard
 clip_of clips.Nothing = nothing
 clip_of (clips.Copied area cells) = copied area (contents_copied (items_of cells))
 clip_of (clips.Cut area) = moving area
+
+-- the block that is cut, if one is
+abbrev pub area_moving : Clipboard → Option Block
+area_moving (moving area) = Some area
+area_moving clip = None
 
 -- the session where this waits to be pasted
 abbrev pub with_clipboard : Clipboard → State → State

@@ -307,15 +307,13 @@ impl Engine {
     pub fn paste(&mut self, at: Place) -> Result<(), Stop>
         ensures { Does (op.paste at) NoAnswer self.old self.new result }
     {
-        match &self.waiting.clip {
-            Clip::Nothing => Err(Stop::Refused(Refusal::NothingToPaste)),
+        if let Some(source) = self.waiting.cut_area() {
+            return self.move_block(source, at);
+        }
+        let waiting = &self.waiting;
+        match &waiting.clip {
             Clip::Copied(area, cells) => self.parts.paste(*area, cells.items(), at),
-            Clip::Cut(area) => {
-                let source = *area;
-                self.parts.structural(&Shift::MoveBlock { source, to: at })?;
-                self.waiting.clear_cut();
-                Ok(())
-            }
+            Clip::Nothing | Clip::Cut(_) => Err(Stop::Refused(Refusal::NothingToPaste)),
         }
     }
 

@@ -1,7 +1,7 @@
 // What waits to be pasted.
 ghost use Rattle.std.specs.Prelude.{◌≡◌};
 ghost use Rattle.book_model.specs.Clipboard.{moving, nothing, without_cut};
-ghost use Rattle.book_engine.specs.Seen.{CanPaste, clip_of};
+ghost use Rattle.book_engine.specs.Seen.{CanPaste, area_moving, clip_of};
 ghost use Rattle.book_engine.specs.internal.WaitingProp.{can_paste-prop};
 
 use cell_addr::Block;
@@ -30,6 +30,16 @@ impl Waiting {
     {
         Waiting {
             clip: Clip::cut_of(area),
+        }
+    }
+
+    // The block that is cut, if one is.
+    pub(crate) fn cut_area(&self) -> Option<Block>
+        ensures { result ≡ area_moving (clip_of self.now.clip) }
+    {
+        match &self.clip {
+            Clip::Cut(area) => Some(*area),
+            Clip::Nothing | Clip::Copied(_, _) => None,
         }
     }
 
