@@ -14,6 +14,7 @@ pub mod FilledWorkbooks
 pub mod GivenExamples
 pub mod Changing
 pub mod Reached
+pub mod Counted
 pub mod AnyCalls
 pub mod PastedBooks
 pub mod CopiedCells

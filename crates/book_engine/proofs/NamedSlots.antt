@@ -1,8 +1,8 @@
 -- The names that slots hold, as one is changed and after a structural operation. Serves the named expressions of a workbook.
-use Rattle.std.proofs.Common.{◌≡◌, ◌≢◌, ◌∙◌, sym, ap, subst, refl, arith, ℕ, zero, suc, ◌<◌, Bool, true, false, cond, not, ◌||◌, List, [], ◌∷◌, ◌++◌, length, map, get_or, set, Option, Some, None, inl, inr, option_map}
+use Rattle.std.proofs.Common.{◌≡◌, ◌≢◌, ◌∙◌, sym, ap, subst, refl, arith, ℕ, zero, suc, ◌<◌, Bool, true, false, cond, not, ◌||◌, List, [], ◌∷◌, ◌++◌, length, map, drop, get_or, set, ◌+◌, Option, Some, None, inl, inr, option_map}
 use Rattle.std.specs.Cmp.{both_ways}
 use Rattle.std.specs.FinMap as fin
-use Rattle.std.specs.FinMap.{get-empty, same_map}
+use Rattle.std.specs.FinMap.{find, get-empty, get-entries, same_map}
 use Rattle.std.specs.List.{list_any}
 use Rattle.std.specs.Ordering.{eq_by_cmp}
 use Rattle.std.proofs.lemmas.Bool.{and_parts, cases_Bool, false≢true, or_cases, or_left, or_right}
@@ -12,7 +12,10 @@ use Rattle.shift_core.specs.declared.shift.Shift.{Shift}
 use Rattle.tree_rewrite.specs.Rewritten.{rewritten}
 use Rattle.formula_tree.specs.Term.{Term}
 use Rattle.formula_tree.specs.declared.reference.Corner.{Corner}
-use Rattle.book_values.specs.Names.{Key, key_of, same_key}
+use Rattle.std.proofs.lemmas.List.{drop_more, get_or-map, length-map, map-append, map-drop}
+use Rattle.book_calc.specs.Names.{with_name}
+use Rattle.book_values.specs.Names.{Key, Names, key_of, same_key, tree_in}
+use Rattle.book_engine.specs.internal.Names.{with_slot}
 use Rattle.book_values.proofs.Keys.{same_key-equal, same_key-self}
 use Rattle.book_model.proofs.NameMaps.{get-after, get-with}
 use Rattle.book_model.proofs.NameOrder.{key_cmp-IsAntisymmetric, key_cmp-IsTotalOrder}
@@ -147,6 +150,21 @@ pub keys-slots : (es : List Expression) → map (λ e. key_of e.scope e.word) es
 keys-slots [] = refl
 keys-slots (e ∷ es) = ap (λ ks. key_of e.scope e.word ∷ ks) (keys-slots es)
 
+-- a name that is put at the end of expressions
+pub apart-pushed : (es : List Expression) (e : Expression) → AreApart (map (λ e. key_of e.scope e.word) es) → list_any (λ slot. same_key slot.0 (slot_of e).0) (map slot_of es) ≡ false
+    → AreApart (map (λ e. key_of e.scope e.word) (es ++ e ∷ []))
+apart-pushed es e apart h =
+    subst AreApart (sym (keys-slots (es ++ e ∷ []) ∙ ap (map (λ s. s.0)) (map-append slot_of es (e ∷ []))))
+    (apart-push (map slot_of es) (slot_of e).0 (slot_of e).1 (subst AreApart (keys-slots es) apart) h)
+
+-- expressions with the same keys are apart
+pub apart-same : (es fs : List Expression) → map (λ s. s.0) (map slot_of fs) ≡ map (λ s. s.0) (map slot_of es) → AreApart (map (λ e. key_of e.scope e.word) es) → AreApart (map (λ e. key_of e.scope e.word) fs)
+apart-same es fs same apart = subst AreApart (keys-slots es ∙ sym same ∙ sym (keys-slots fs)) apart
+
+pub after-slots : (s : Shift) (es : List Expression) → map (λ e. slot_after s (slot_of e)) es ≡ map (slot_after s) (map slot_of es)
+after-slots s [] = refl
+after-slots s (e ∷ es) = ap (λ r. slot_after s (slot_of e) ∷ r) (after-slots s es)
+
 pub set-same : (slots : List Slot) (i : ℕ) (d : Slot) (k : Key) (v : Option (Term Corner)) → i < length slots → (get_or slots i d).0 ≡ k → map (λ s. s.0) (set slots i (k, v)) ≡ map (λ s. s.0) slots
 set-same [] i d k v l same = absurd (omega (arith, l))
 set-same (e ∷ es) zero d k v l same = ap (λ x. x ∷ map (λ s. s.0) es) (sym same)
@@ -169,14 +187,89 @@ get-shifted s [] q =
     go false = refl
 get-shifted s (e ∷ es) q =
     get-with e.0 (slot_after s e).1 (names_under (map (slot_after s) es)) q
-    ∙ go (eq_by_cmp key_cmp q e.0) refl
+    ∙ go (get-shifted s es q) (eq_by_cmp key_cmp q e.0) refl
     ∙ sym (ap (λ r. option_map (rewritten s) (cond (stays (form_of s) q) r None)) (get-with e.0 e.1 (names_under es) q))
   where
-    go : (b : Bool) → eq_by_cmp key_cmp q e.0 ≡ b
+    go : fin.get (names_under (map (slot_after s) es)) q ≡ option_map (rewritten s) (cond (stays (form_of s) q) (fin.get (names_under es) q) None)
+        → (b : Bool) → eq_by_cmp key_cmp q e.0 ≡ b
         → cond b (slot_after s e).1 (fin.get (names_under (map (slot_after s) es)) q) ≡ option_map (rewritten s) (cond (stays (form_of s) q) (cond b e.1 (fin.get (names_under es) q)) None)
-    go true h = stays-or (rewritten s) (stays (form_of s) e.0) e.1 ∙ ap (λ k. option_map (rewritten s) (cond (stays (form_of s) k) e.1 None)) (sym (is-key q e.0 h))
-    go false h = get-shifted s es q
+    go rest true h = stays-or (rewritten s) (stays (form_of s) e.0) e.1 ∙ ap (λ k. option_map (rewritten s) (cond (stays (form_of s) k) e.1 None)) (sym (is-key q e.0 h))
+    go rest false h = rest
 
 -- the names after a structural operation
 pub names-shifted : (s : Shift) (slots : List Slot) → names_under (map (slot_after s) slots) ≡ rewritten_names s (fin.retain_keys (names_under slots) (stays (form_of s)))
 names-shifted s slots = same_names _ _ (λ q. get-shifted s slots q ∙ sym (get-after s (names_under slots) q))
+
+-- a list of names has this tree under a name after the name is put into it
+put-first : (k l q : Key) (t u : Term Corner) (x : Option (Term Corner)) → k ≡ l → cond (same_key k q) (Some t) x ≡ cond (same_key k q) (Some t) (cond (same_key l q) (Some u) x)
+put-first k l q t u x same = twice (same_key k q) (Some t) (Some u) x ∙ ap (λ z. cond (same_key k q) (Some t) (cond (same_key z q) (Some u) x)) same
+
+put-later : (k l q : Key) (t u : Term Corner) (x : Option (Term Corner)) (b c : Bool) → same_key k l ≡ false → same_key k q ≡ b → same_key l q ≡ c → cond c (Some u) (cond b (Some t) x) ≡ cond b (Some t) (cond c (Some u) x)
+put-later k l q t u x true true apart h i = absurd (differs k l apart (same_key-equal k q h ∙ sym (same_key-equal l q i)))
+put-later k l q t u x true false apart h i = refl
+put-later k l q t u x false true apart h i = refl
+put-later k l q t u x false false apart h i = refl
+
+put-step : (k : Key) (t : Term Corner) (e : Key × Term Corner) (es : Names) (q : Key) (b : Bool) → same_key k e.0 ≡ b → tree_in (with_name es k t) q ≡ cond (same_key k q) (Some t) (tree_in es q)
+    → tree_in (cond b ((k, t) ∷ es) (e ∷ with_name es k t)) q ≡ cond (same_key k q) (Some t) (cond (same_key e.0 q) (Some e.1) (tree_in es q))
+put-step k t e es q true h rest = put-first k e.0 q t e.1 (tree_in es q) (same_key-equal k e.0 h)
+put-step k t e es q false h rest = ap (cond (same_key e.0 q) (Some e.1)) rest ∙ put-later k e.0 q t e.1 (tree_in es q) (same_key k q) (same_key e.0 q) h refl refl
+
+tree_in-with : (names : Names) (k : Key) (t : Term Corner) (q : Key) → tree_in (with_name names k t) q ≡ cond (same_key k q) (Some t) (tree_in names q)
+tree_in-with [] k t q = refl
+tree_in-with (e ∷ es) k t q = put-step k t e es q (same_key k e.0) refl (tree_in-with es k t q)
+
+-- a name that stands apart from slots has no tree in them
+get-apart : (slots : List Slot) (k : Key) → list_any (same_key k) (map (λ s. s.0) slots) ≡ false → fin.get (names_under slots) k ≡ None
+get-apart [] k h = get-empty key_cmp k
+get-apart (e ∷ es) k h =
+    let n = neither (same_key k e.0) (list_any (same_key k) (map (λ s. s.0) es)) h in
+    get-with e.0 e.1 (names_under es) k ∙ ap (λ b. cond b e.1 (fin.get (names_under es) k)) (key-tests k e.0 ∙ n.0) ∙ get-apart es k n.1
+
+turned-test : (a b : Key) → same_key a b ≡ same_key b a
+turned-test a b = both_ways (same_key a b) (same_key b a)
+    (λ h. subst (λ x. same_key x a ≡ true) (same_key-equal a b h) (same_key-self a))
+    (λ h. subst (λ x. same_key x b ≡ true) (same_key-equal b a h) (same_key-self b))
+
+-- names are put one by one, the last one first
+pub slot-put : (slot : Slot) (rest : List Slot) (names : Names) → list_any (same_key slot.0) (map (λ s. s.0) rest) ≡ false → ((q : Key) → tree_in names q ≡ fin.get (names_under rest) q)
+    → (q : Key) → tree_in (with_slot slot names) q ≡ fin.get (names_under (slot ∷ rest)) q
+slot-put (k, Some t) rest names apart h q =
+    tree_in-with names k t q
+    ∙ (λ i. cond ((turned-test k q ∙ sym (key-tests q k)) i) (Some t) (h q i))
+    ∙ sym (get-with k (Some t) (names_under rest) q)
+slot-put (k, None) rest names apart h q = h q ∙ go (eq_by_cmp key_cmp q k) refl ∙ sym (get-with k None (names_under rest) q)
+  where
+    go : (b : Bool) → eq_by_cmp key_cmp q k ≡ b → fin.get (names_under rest) q ≡ cond b None (fin.get (names_under rest) q)
+    go true i = ap (fin.get (names_under rest)) (is-key q k i) ∙ get-apart rest k apart
+    go false i = refl
+
+-- each name stands apart from those behind it
+pub apart-from : (slots : List Slot) (i : ℕ) (d : Slot) → AreApart (map (λ s. s.0) slots) → i < length slots → list_any (same_key (get_or slots i d).0) (map (λ s. s.0) (drop (suc i) slots)) ≡ false
+apart-from [] i d apart l = absurd (omega (arith, l))
+apart-from (e ∷ es) zero d apart l = apart.0
+apart-from (e ∷ es) (suc i) d apart l = apart-from es i d apart.1 (omega (arith, l))
+
+find-tree : (es : Names) (q : Key) → tree_in es q ≡ find key_cmp q es
+find-tree [] q = refl
+find-tree (e ∷ es) q = (λ i. cond ((turned-test e.0 q ∙ sym (key-tests q e.0)) i) (Some e.1) (find-tree es q i))
+
+-- the entries of a map of names have its trees
+pub tree_in-entries : (m : NameMap) (q : Key) → tree_in (fin.entries m) q ≡ fin.get m q
+tree_in-entries m q = find-tree (fin.entries m) q ∙ sym (get-entries m q)
+
+-- one more expression is put
+pub expression-put : (es : List Expression) (i : ℕ) (e : Expression) (old new : Names) → AreApart (map (λ e. key_of e.scope e.word) es) → i < length es → e ≡ get_or es i e
+    → ((q : Key) → tree_in old q ≡ fin.get (names_under (map slot_of (drop (i + 1) es))) q) → new ≡ with_slot (slot_of e) old
+    → (q : Key) → tree_in new q ≡ fin.get (names_under (map slot_of (drop i es))) q
+expression-put es i e old new apart l at h is q =
+    let long = length-map slot_of es in
+    let slots = map slot_of es in
+    let here : get_or slots i (slot_of e) ≡ slot_of e = get_or-map slot_of es i e (slot_of e) l ∙ ap slot_of (sym at) in
+    let one : i + 1 ≡ suc i = omega arith in
+    let next : map slot_of (drop (i + 1) es) ≡ drop (suc i) slots = ap (λ n. map slot_of (drop n es)) one ∙ map-drop slot_of es (suc i) in
+    let alone : list_any (same_key (slot_of e).0) (map (λ s. s.0) (map slot_of (drop (i + 1) es))) ≡ false =
+    subst (λ r. list_any (same_key (slot_of e).0) (map (λ s. s.0) r) ≡ false) (sym next)
+    (subst (λ s. list_any (same_key s.0) (map (λ s. s.0) (drop (suc i) slots)) ≡ false) here (apart-from slots i (slot_of e) (subst AreApart (keys-slots es) apart) (omega (arith, l, long)))) in
+    ap (λ n. tree_in n q) is ∙ slot-put (slot_of e) (map slot_of (drop (i + 1) es)) old alone h q
+    ∙ ap (λ r. fin.get (names_under (map slot_of r)) q) (sym (drop_more es i e l ∙ ap (λ x. x ∷ drop (i + 1) es) (sym at)))

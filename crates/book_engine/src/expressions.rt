@@ -78,9 +78,10 @@ impl Expression {
         match &self.tree {
             Some(tree) => {
                 let (tree, _) = forward(alloc, pool, tree, home_in(self.scope), s)?;
+                let word = self.word.copy(alloc)?;
                 Ok(Expression {
                     scope: self.scope,
-                    word: self.word.copy(alloc)?,
+                    word,
                     tree: Some(tree),
                 })
             }

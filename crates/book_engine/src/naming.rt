@@ -105,7 +105,8 @@ impl Book {
         ensures err { OnErr result (stored self.new ≡ stored self.old) }
         ensures stand { Stand (stored self.old) → Stand (stored self.new) }
     {
-        Ok(Part::Named(self.expressions.set(expression)?))
+        let before = self.expressions.set(expression)?;
+        Ok(Part::Named(before))
     }
 }
 

@@ -196,7 +196,8 @@ impl Parts {
         ensures found { IfOk result (λ values. (word : _) (sheet : _) → found (workbook_in values).names word sheet ≡ found (map.entries (state_of self.now).book.names) word sheet) }
     {
         let workbook = self.workbook()?;
-        calculated(self.alloc, workbook, registry, day, steps)
+        let values = calculated(self.alloc, workbook, registry, day, steps)?;
+        Ok(values)
     }
 
     // The whole workbook, as values are worked out from.
@@ -231,9 +232,9 @@ impl Parts {
         ensures cells { OnOk result ((workbook_of workbook.new).cells ≡ (workbook_of workbook.old).cells) }
         ensures names { OnOk result ((key : Key) → tree_in (workbook_of workbook.new).names key ≡ map.get (state_of self.now).book.names key) }
     {
-        let names = self.book.expressions.items();
-        'names: for index in (0..names.len()).rev() {
-            put_name(workbook, &names[index])?;
+        let expressions = self.book.expressions.items();
+        'names: for index in (0..expressions.len()).rev() {
+            put_name(workbook, &expressions[index])?;
         }
         Ok(())
     }

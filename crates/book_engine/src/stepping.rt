@@ -39,7 +39,8 @@ impl Book {
                 Ok(())
             }
             Part::Named(expression) => {
-                self.expressions.set(expression.copied(alloc)?)?;
+                let before = expression.copied(alloc)?;
+                self.expressions.set(before)?;
                 Ok(())
             }
         }

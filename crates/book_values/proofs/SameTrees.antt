@@ -19,7 +19,7 @@ use Rattle.book_values.specs.Workbook.{Node, Workbook, content_tree, home_of, ne
 use Rattle.book_values.specs.Workbook as nodes
 
 module _ (b c : Workbook) (alike : AreAlike b c) where
-  found_same : (word : List ℕ) (sheet : ℕ) → found b.names word sheet ≡ found c.names word sheet
+  pub found_same : (word : List ℕ) (sheet : ℕ) → found b.names word sheet ≡ found c.names word sheet
   found_same word sheet =
       ap (λ o. cond (is_some o) (Some (key_of (Some sheet) word)) (cond (is_some (tree_in b.names (key_of None word))) (Some (key_of None word)) None)) (alike.trees (key_of (Some sheet) word))
       ∙ ap (λ o. cond (is_some (tree_in c.names (key_of (Some sheet) word))) (Some (key_of (Some sheet) word)) (cond (is_some o) (Some (key_of None word)) None)) (alike.trees (key_of None word))

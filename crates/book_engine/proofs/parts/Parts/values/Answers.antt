@@ -1,0 +1,29 @@
+use Rattle.std.proofs.Common.{◌≡◌, ◌∙◌, sym, ap}
+use Rattle.std.specs.FinMap as fin
+use Rattle.custom_fn.specs.Registry.{customs_of}
+use Rattle.book_values.proofs.SameTrees.{found_same, values_alike}
+use Rattle.book_values.specs.Names.{found}
+use Rattle.book_values.specs.Values.{world_of}
+use Rattle.book_calc.specs.Book.{workbook_of}
+use Rattle.book_calc.specs.Values.{shown}
+use Rattle.book_model.specs.Answers.{valued}
+use Rattle.book_engine.specs.Seen.{state_of}
+use Rattle.book_engine.proofs.parts.Parts.values.Goals as goal
+
+pub returns-clause-shown : goal.returns-clause-shown
+returns-clause-shown g c = λ a.
+    c.in_ok-values.ensures.shown a ∙ (values_alike (workbook_of c.in_ok-workbook.workbook) (valued (state_of c.args.self.now).book) c.in_ok-workbook.ensures).0 (customs_of c.args.registry.now) c.args.day a
+
+pub returns-clause-world : goal.returns-clause-world
+returns-clause-world g c =
+    let v = c.in_ok-values.values in
+    let b = (state_of c.args.self.now).book in
+    let alike = values_alike (workbook_of c.in_ok-workbook.workbook) (valued b) c.in_ok-workbook.ensures in
+    (λ i. world_of (c.in_ok-values.ensures.book i).names (c.in_ok-values.ensures.day i) (shown v))
+    ∙ alike.1 c.args.day (shown v)
+    ∙ (λ i. world_of (fin.entries b.names) c.args.day (λ a. (c.in_ok-values.ensures.shown a ∙ alike.0 (customs_of c.args.registry.now) c.args.day a) i))
+
+pub returns-clause-found : goal.returns-clause-found
+returns-clause-found g c = λ word sheet.
+    ap (λ b. found b.names word sheet) c.in_ok-values.ensures.book
+    ∙ found_same (workbook_of c.in_ok-workbook.workbook) (valued (state_of c.args.self.now).book) c.in_ok-workbook.ensures word sheet
