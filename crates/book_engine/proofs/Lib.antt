@@ -15,6 +15,7 @@ pub mod GivenExamples
 pub mod Changing
 pub mod Reached
 pub mod Counted
+pub mod Causes
 pub mod AnyCalls
 pub mod PastedBooks
 pub mod CopiedCells

@@ -1,5 +1,5 @@
 -- The names that slots hold, as one is changed and after a structural operation. Serves the named expressions of a workbook.
-use Rattle.std.proofs.Common.{◌≡◌, ◌≢◌, ◌∙◌, sym, ap, subst, refl, arith, ℕ, zero, suc, ◌<◌, Bool, true, false, cond, not, ◌||◌, List, [], ◌∷◌, ◌++◌, length, map, drop, get_or, set, ◌+◌, Option, Some, None, inl, inr, option_map}
+use Rattle.std.proofs.Common.{◌≡◌, ◌≢◌, ◌∙◌, sym, ap, subst, refl, arith, ℕ, zero, suc, ◌<◌, Bool, true, false, cond, not, ◌||◌, List, [], ◌∷◌, ◌++◌, length, map, drop, get_or, set, ◌+◌, Option, Some, None, inl, inr, is_some, option_map}
 use Rattle.std.specs.Cmp.{both_ways}
 use Rattle.std.specs.FinMap as fin
 use Rattle.std.specs.FinMap.{find, get-empty, get-entries, same_map}
@@ -12,17 +12,18 @@ use Rattle.shift_core.specs.declared.shift.Shift.{Shift}
 use Rattle.tree_rewrite.specs.Rewritten.{rewritten}
 use Rattle.formula_tree.specs.Term.{Term}
 use Rattle.formula_tree.specs.declared.reference.Corner.{Corner}
-use Rattle.std.proofs.lemmas.List.{drop_more, get_or-map, length-map, map-append, map-drop}
+use Rattle.std.proofs.lemmas.List.{drop-map, drop_more, get_or-map, map-append, map-set}
 use Rattle.book_calc.specs.Names.{with_name}
-use Rattle.book_values.specs.Names.{Key, Names, key_of, same_key, tree_in}
+use Rattle.book_values.specs.Names.{Key, Names, found, key_of, same_key, tree_in}
 use Rattle.book_engine.specs.internal.Names.{with_slot}
 use Rattle.book_values.proofs.Keys.{same_key-equal, same_key-self}
+use Rattle.book_model.proofs.Counts.{length-map}
 use Rattle.book_model.proofs.NameMaps.{get-after, get-with}
 use Rattle.book_model.proofs.NameOrder.{key_cmp-IsAntisymmetric, key_cmp-IsTotalOrder}
 use Rattle.book_model.specs.Changes.{rewritten_names, stays}
 use Rattle.book_model.specs.Names.{NameMap, key_cmp, with_tree}
 use Rattle.book_engine.specs.Expressions.{Slot, names_under, slot_after, slot_of}
-use Rattle.book_engine.specs.Named.{AreApart}
+use Rattle.book_engine.specs.Named.{AreApart, tree_in_scope}
 use Rattle.book_engine.specs.declared.expressions.Expression.{Expression}
 
 -- the two tests of names are one
@@ -267,9 +268,71 @@ expression-put es i e old new apart l at h is q =
     let slots = map slot_of es in
     let here : get_or slots i (slot_of e) ≡ slot_of e = get_or-map slot_of es i e (slot_of e) l ∙ ap slot_of (sym at) in
     let one : i + 1 ≡ suc i = omega arith in
-    let next : map slot_of (drop (i + 1) es) ≡ drop (suc i) slots = ap (λ n. map slot_of (drop n es)) one ∙ map-drop slot_of es (suc i) in
+    let next : map slot_of (drop (i + 1) es) ≡ drop (suc i) slots = ap (λ n. map slot_of (drop n es)) one ∙ sym (drop-map slot_of (suc i) es) in
     let alone : list_any (same_key (slot_of e).0) (map (λ s. s.0) (map slot_of (drop (i + 1) es))) ≡ false =
     subst (λ r. list_any (same_key (slot_of e).0) (map (λ s. s.0) r) ≡ false) (sym next)
     (subst (λ s. list_any (same_key s.0) (map (λ s. s.0) (drop (suc i) slots)) ≡ false) here (apart-from slots i (slot_of e) (subst AreApart (keys-slots es) apart) (omega (arith, l, long)))) in
     ap (λ n. tree_in n q) is ∙ slot-put (slot_of e) (map slot_of (drop (i + 1) es)) old alone h q
     ∙ ap (λ r. fin.get (names_under (map slot_of r)) q) (sym (drop_more es i e l ∙ ap (λ x. x ∷ drop (i + 1) es) (sym at)))
+
+at-index : (es : List Expression) (i : ℕ) (e : Expression) (d : Slot) → i < length (map slot_of es) → e ≡ get_or es i e → get_or (map slot_of es) i d ≡ slot_of e
+at-index es i e d l at = let long = length-map slot_of es in get_or-map slot_of es i e d (omega (arith, l, long)) ∙ ap slot_of (sym at)
+
+is_some-map : {X Y : Type 0} (f : X → Y) (o : Option X) → is_some o ≡ is_some (option_map f o)
+is_some-map f None = refl
+is_some-map f (Some x) = refl
+
+-- an expression has a tree exactly where there is one of its name
+pub has-at : (es : List Expression) (i : ℕ) (e : Expression) (k : Key) → AreApart (map (λ e. key_of e.scope e.word) es) → e ≡ get_or es i e → (i < length (map slot_of es)) × ((get_or (map slot_of es) i (k, None)).0 ≡ k)
+    → is_some e.tree ≡ is_some (fin.get (names_under (map slot_of es)) k)
+has-at es i e k apart at there =
+    is_some-map (tree_in_scope e.scope) e.tree
+    ∙ ap (λ s. is_some s.1) (sym (at-index es i e (k, None) there.0 at))
+    ∙ ap is_some (sym (get-at (map slot_of es) i (k, None) k (subst AreApart (keys-slots es) apart) there.0 there.1))
+
+-- the name at the index is the one that is set
+abbrev pub IsThere : List Expression → ℕ → Key → Type 0
+IsThere es i k = (i < length (map slot_of es)) × ((get_or (map slot_of es) i (k, None)).0 ≡ k)
+
+set-named : (es : List Expression) (i : ℕ) (named : Expression) → AreApart (map (λ e. key_of e.scope e.word) es) → IsThere es i (slot_of named).0
+    → AreApart (map (λ e. key_of e.scope e.word) (set es i named)) × (names_under (map slot_of (set es i named)) ≡ with_tree (slot_of named).0 (slot_of named).1 (names_under (map slot_of es)))
+set-named es i named apart there =
+    let k = (slot_of named).0 in
+    let v = (slot_of named).1 in (
+      apart-same es (set es i named) (ap (map (λ s. s.0)) (map-set slot_of es i named) ∙ set-same (map slot_of es) i (k, None) k v there.0 there.1) apart,
+      ap names_under (map-set slot_of es i named) ∙ names-set (map slot_of es) i (k, None) k v (subst AreApart (keys-slots es) apart) there.0 there.1,
+    )
+
+pub set-expression : (es : List Expression) (i : ℕ) (named dest : Expression) (w : List ℕ) → AreApart (map (λ e. key_of e.scope e.word) es) → IsThere es i (key_of named.scope w) → w ≡ named.word → dest ≡ named
+    → AreApart (map (λ e. key_of e.scope e.word) (set es i dest)) × (names_under (map slot_of (set es i dest)) ≡ with_tree (slot_of named).0 (slot_of named).1 (names_under (map slot_of es)))
+set-expression es i named dest w apart there word after =
+    subst (λ x. AreApart (map (λ e. key_of e.scope e.word) (set es i x)) × (names_under (map slot_of (set es i x)) ≡ with_tree (slot_of named).0 (slot_of named).1 (names_under (map slot_of es)))) (sym after)
+    (set-named es i named apart (subst (λ v. IsThere es i (key_of named.scope v)) word there))
+
+-- and this is what it was
+pub before-at : (es : List Expression) (i : ℕ) (named e : Expression) (w : List ℕ) → AreApart (map (λ e. key_of e.scope e.word) es) → IsThere es i (key_of named.scope w) → w ≡ named.word → e ≡ get_or es i e
+    → slot_of e ≡ ((slot_of named).0, fin.get (names_under (map slot_of es)) (slot_of named).0)
+before-at es i named e w apart there word at =
+    let k = (slot_of named).0 in
+    let t = subst (λ v. IsThere es i (key_of named.scope v)) word there in
+    let slot = at-index es i e (k, None) t.0 at in
+    let first = ap (λ s. s.0) (sym slot) ∙ t.1 in
+    let second = ap (λ s. s.1) (sym slot) ∙ sym (get-at (map slot_of es) i (k, None) k (subst AreApart (keys-slots es) apart) t.0 t.1) in
+    λ j. (first j, second j)
+
+-- a word that finds a sheet's own name, and one that doesn't
+pub found-own : (m : NameMap) (word : List ℕ) (sheet : ℕ) → is_some (fin.get m (key_of (Some sheet) word)) ≡ true → true ≡ is_some (found (fin.entries m) word sheet)
+found-own m word sheet h =
+    sym (ap (λ b. is_some (cond b (Some (key_of (Some sheet) word)) (cond (is_some (tree_in (fin.entries m) (key_of None word))) (Some (key_of None word)) None)))
+    (ap is_some (tree_in-entries m (key_of (Some sheet) word)) ∙ h))
+
+pub found-global : (m : NameMap) (word : List ℕ) (sheet : ℕ) → is_some (fin.get m (key_of (Some sheet) word)) ≡ false → is_some (fin.get m (key_of None word)) ≡ is_some (found (fin.entries m) word sheet)
+found-global m word sheet h =
+    sym (ap (λ b. is_some (cond b (Some (key_of (Some sheet) word)) (cond (is_some (tree_in (fin.entries m) (key_of None word))) (Some (key_of None word)) None)))
+    (ap is_some (tree_in-entries m (key_of (Some sheet) word)) ∙ h)
+    ∙ only (is_some (tree_in (fin.entries m) (key_of None word))) (key_of None word)
+    ∙ ap is_some (tree_in-entries m (key_of None word)))
+  where
+    only : (b : Bool) (k : Key) → is_some (cond b (Some k) None) ≡ b
+    only true k = refl
+    only false k = refl

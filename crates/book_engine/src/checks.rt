@@ -1,5 +1,5 @@
 // Why operations are refused.
-ghost use Rattle.std.specs.Prelude.{◌≡◌, ◌+◌, ◌&&◌, ◌∷◌, [], not, is_none, nat_le, nat_lt};
+ghost use Rattle.std.specs.Prelude.{◌≡◌, ◌+◌, ◌&&◌, ◌∷◌, [], not, is_none, is_some, nat_le, nat_lt};
 ghost use Rattle.cell_addr.specs.Place.{IsBlockInside};
 ghost use Rattle.std.specs.FinMap as map;
 ghost use Rattle.std.specs.List.{list_any};
@@ -11,7 +11,7 @@ ghost use Rattle.book_model.specs.Refusals.{at_place, cause, first_cause, is_blo
 ghost use Rattle.book_model.specs.Names.{is_name};
 ghost use Rattle.book_model.specs.Workbook.{has_name, has_scope, has_sheet};
 ghost use Rattle.book_model.specs.declared.refusal.Refusal.TheVariants as refusals;
-ghost use Rattle.book_values.specs.Names.{key_of};
+ghost use Rattle.book_values.specs.Names.{found, key_of};
 ghost use Rattle.book_engine.specs.Seen.{Fits, state_of};
 ghost use Rattle.book_engine.specs.internal.Turns.{IsCause};
 ghost use Rattle.book_model.specs.Workbook.{State};
@@ -82,10 +82,20 @@ impl Parts {
         ensures { IsCause result (cause (op.name_value name.now sheet) (state_of self.now)) }
     {
         self.check_on_sheet(sheet)?;
-        if !self.has_name(name, Some(sheet)) && !self.has_name(name, None) {
+        if !self.finds(name, sheet) {
             return Err(Refusal::NoSuchName);
         }
         Ok(())
+    }
+
+    // Whether the word finds a name on the sheet: the sheet's own, or one of the whole workbook.
+    fn finds(&self, name: &str, sheet: u32) -> bool
+        ensures { result ≡ is_some (found (map.entries (state_of self.now).book.names) name.now sheet) }
+    {
+        if self.has_name(name, Some(sheet)) {
+            return true;
+        }
+        self.has_name(name, None)
     }
 
     // Where a name is added, before its text is looked at.

@@ -14,7 +14,7 @@ pub names-init : goal.names-init
 names-init c = record {
   cells = refl;
   names = λ key.
-      ap (λ n. tree_in n key) c.requires ∙ sym (ap (λ r. fin.get (names_under (map slot_of r)) key) (drop_all (length c.items-expressions.result.now) c.items-expressions.result.now (omega arith)) ∙ get-empty key_cmp key);
+      ap (λ n. tree_in n key) c.requires.empty ∙ sym (ap (λ r. fin.get (names_under (map slot_of r)) key) (drop_all (length c.items-expressions.result.now) c.items-expressions.result.now (omega arith)) ∙ get-empty key_cmp key);
 }
 
 pub names-preserved : goal.names-preserved
