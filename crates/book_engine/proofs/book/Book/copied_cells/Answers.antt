@@ -36,13 +36,13 @@ cells-preserved c =
     let holds = c.in_ok-item.ensures.content in
     elim c.match-branch-4.branch [
       | in-Some+in_ok-push w ↦
-        let push = ap items_of w.list-is ∙ w.in_ok-push.ensures.ok in
-        let one = subst (λ r. IfSome r (λ x. IsCopied (e.0, x))) w.in-Some.is c.in_ok-item.ensures.copied in
-        record {
-          held = copied-more stands cells items i e old (items_of c.match-branch-4.list) w.in-Some.item c.cells-test.true c.cells-item.is c.cells.invariant.held push
-              (sym (ap (option_map (content_copied e.0)) w.in-Some.is) ∙ holds);
-          copied = subst (All IsCopied) (sym push) (All-push IsCopied old (e.0, w.in-Some.item) c.cells.invariant.copied one);
-        }
+          let push = ap items_of w.list-is ∙ w.in_ok-push.ensures.ok in
+          let one = subst (λ r. IfSome r (λ x. IsCopied (e.0, x))) w.in-Some.is c.in_ok-item.ensures.copied in
+          record {
+            held = copied-more stands cells items i e old (items_of c.match-branch-4.list) w.in-Some.item c.cells-test.true c.cells-item.is c.cells.invariant.held push
+                (sym (ap (option_map (content_copied e.0)) w.in-Some.is) ∙ holds);
+            copied = subst (All IsCopied) (sym push) (All-push IsCopied old (e.0, w.in-Some.item) c.cells.invariant.copied one);
+          }
       | in_default w ↦ record {
         held = ap (λ l. map entry_copied (items_of l)) w.list-is
             ∙ copied-none stands cells items i e old c.cells-test.true c.cells-item.is c.cells.invariant.held (sym (ap (option_map (content_copied e.0)) w.in_default.is) ∙ holds);

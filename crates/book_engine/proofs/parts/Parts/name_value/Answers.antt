@@ -28,8 +28,8 @@ returns g c =
     let v = c.in_ok-values.values in (
       c.in_ok-check_name_value.ensures,
       c.in_ok-scalar.ensures
-      ∙ ap (λ o. unwrap_or (option_map (λ key. calc.shown v (name key)) o) (scalar.Fault fault.Name)) (c.in_ok-values.ensures.found c.args.name.now c.args.sheet)
-      ∙ of_name (with_rules customs c.args.day d) (calc.shown v) (found (map.entries d.book.names) c.args.name.now c.args.sheet)
-      (λ a. c.in_ok-values.ensures.shown a ∙ ap (λ n. shown (with_rules customs n d) a) (to_z-of_z _ _ c.ranges.day)),
+          ∙ ap (λ o. unwrap_or (option_map (λ key. calc.shown v (name key)) o) (scalar.Fault fault.Name)) (c.in_ok-values.ensures.found c.args.name.now c.args.sheet)
+          ∙ of_name (with_rules customs c.args.day d) (calc.shown v) (found (map.entries d.book.names) c.args.name.now c.args.sheet)
+          (λ a. c.in_ok-values.ensures.shown a ∙ ap (λ n. shown (with_rules customs n d) a) (to_z-of_z _ _ c.ranges.day)),
       sym (next_done (op.name_value c.args.name.now c.args.sheet) (with_rules customs c.args.day d) c.in_ok-check_name_value.ensures),
     )
