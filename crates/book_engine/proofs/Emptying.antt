@@ -38,7 +38,7 @@ get-emptied (e ∷ es) m q =
     go true b r is = none b
     go false b r is = ap (λ x. cond x None (fin.get m q)) (sym is)
 
-found_within : (area : Block) (cells : PlaceMap Cell) (q : Place) → find place_cmp q (fin.entries (within area cells)) ≡ cond (covers area q) (fin.get cells q) None
+pub found_within : (area : Block) (cells : PlaceMap Cell) (q : Place) → find place_cmp q (fin.entries (within area cells)) ≡ cond (covers area q) (fin.get cells q) None
 found_within area cells q =
     sym (get-entries (within area cells) q) ∙ get-retain_keys cells (covers area) q (λ p t. ap (covers area) (sym (place_cmp-IsAntisymmetric q p t)))
 

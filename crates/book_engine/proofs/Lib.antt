@@ -17,3 +17,6 @@ pub mod Reached
 pub mod Counted
 pub mod Causes
 pub mod AnyCalls
+pub mod PastedBooks
+pub mod CopiedCells
+pub mod PastedSteps

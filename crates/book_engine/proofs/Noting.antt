@@ -6,6 +6,7 @@ use Rattle.std.proofs.lemmas.Bool.{cases_lt}
 use Rattle.std.proofs.lemmas.List.{length-drop, length-reverse, reverse-append, take-append-drop, take_all}
 use Rattle.undo_book.proofs.LastEntries.{all_but_last-end}
 use Rattle.undo_book.specs.History.{History, all_but_last, last_of, with_done, with_spare, with_undone, without_newest, without_next}
+use Rattle.book_model.specs.Clipboard.{nothing}
 use Rattle.book_model.specs.Session.{changed, closed, kept, redone as session_redone, undone as session_undone}
 use Rattle.book_engine.specs.Seen.{IsKept, StandOver, batch_of, books_over, has_any, session_of, start_of}
 use Rattle.book_engine.specs.Steps.{over, part_undone, undone}
@@ -66,6 +67,7 @@ same_session k h g None c s n steps batch = λ i. record {
   limit = steps.2 i;
   customs = [];
   today = pos 0;
+  clip = nothing;
 }
 same_session k h g (Some b) c s n steps batch = subst (λ o. session_of k g o s n ≡ session_of k h (Some b) s n) (sym batch.1) (λ j. record {
   book = book_of k;
@@ -77,6 +79,7 @@ same_session k h g (Some b) c s n steps batch = subst (λ o. session_of k g o s 
   limit = steps.2 j;
   customs = [];
   today = pos 0;
+  clip = nothing;
 })
 
 pub same_kept : (k : Stored) (h g : History Entry) (b c : Option Changes) → SameSteps h g → SameBatch b c → IsKept k h b → IsKept k g c
@@ -128,6 +131,7 @@ noted k new h g None c p s n part notes = subst (λ o. session_of new g o s n �
   limit = notes.1.4 j;
   customs = [];
   today = pos 0;
+  clip = nothing;
 })
 noted k new h g (Some b) c p s n part notes =
     let u : undone notes.0.0.parts.items new ≡ undone b.parts.items k = ap (λ ps. undone ps new) notes.0.2 ∙ undone-append b.parts.items p new ∙ ap (undone b.parts.items) part in
@@ -142,6 +146,7 @@ noted k new h g (Some b) c p s n part notes =
       limit = notes.3 i;
       customs = [];
       today = pos 0;
+      clip = nothing;
     })
 
 pub noted_kept : (k new : Stored) (h g : History Entry) (b c : Option Changes) (p : Part) → part_undone p new ≡ k → Notes p b h c g → IsKept k h b → Stand new → IsKept new g c
@@ -181,6 +186,7 @@ closed_some k h g b [] s n is closes cleared =
       limit = closes.2 i;
       customs = [];
       today = pos 0;
+      clip = nothing;
     })
 closed_some k h g b (p ∷ ps) s n is closes cleared =
     let any : has_any b.parts.items ≡ true = ap has_any is in
@@ -196,6 +202,7 @@ closed_some k h g b (p ∷ ps) s n is closes cleared =
       limit = closes.4 i;
       customs = [];
       today = pos 0;
+      clip = nothing;
     })
 
 pub closed_session : (k : Stored) (h g : History Entry) (b : Option Changes) (s : Bool) (n : ℕ) → Closes b h g → ((c : Changes) → b ≡ Some c → has_any c.parts.items ≡ true → length (books_over k (reverse h.undone)) ≡ 0)
@@ -244,6 +251,7 @@ module _ (k new : Stored) (h g : History Entry) (e w : Entry) (ys : List Entry) 
         limit = (steps i).limit;
         customs = [];
         today = pos 0;
+        clip = nothing;
       })
 
   pub undone_kept : IsKept k h None → IsKept new g None
@@ -279,6 +287,7 @@ module _ (k new : Stored) (h g : History Entry) (e w : Entry) (ys : List Entry) 
         limit = (steps i).limit;
         customs = [];
         today = pos 0;
+        clip = nothing;
       })
 
   pub redone_kept : IsKept k h None → IsKept new g None

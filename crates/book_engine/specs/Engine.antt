@@ -5,14 +5,14 @@ use Rattle.book_model.specs.Operation.{Operation}
 use Rattle.book_model.specs.Refusals.{cause}
 use Rattle.book_model.specs.Session.{next}
 use Rattle.book_model.specs.Workbook.{State}
-use Rattle.book_engine.specs.Seen.{state_of, with_rules}
+use Rattle.book_engine.specs.Seen.{clip_of, state_of, with_clipboard, with_rules}
 use Rattle.book_engine.specs.declared.engine.Engine.{Engine}
 use Rattle.book_engine.specs.declared.stop.Stop.{Stop}
 use Rattle.book_engine.specs.declared.stop.Stop.TheVariants.{Refused, NoMemory}
 
 -- the engine is in this session
 abbrev pub StandsFor : {I : _} {D : _} {g : _} → Engine I D g → State → Type 0
-StandsFor engine d = with_rules (customs_of engine.registry) engine.day (state_of engine.parts) ≡ d
+StandsFor engine d = with_rules (customs_of engine.registry) engine.day (with_clipboard (clip_of engine.waiting.clip) (state_of engine.parts)) ≡ d
 
 -- an operation that answers nothing
 abbrev pub NoAnswer : {X : Type 0} → State → X → Type 0

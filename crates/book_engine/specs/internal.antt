@@ -7,3 +7,4 @@ pub mod ShiftProp
 pub mod Props
 pub mod FormulaProp
 pub mod FitsProp
+pub mod WaitingProp

@@ -384,7 +384,7 @@ fn is_block_outside(area: Block) -> bool
 }
 
 // Whether the block of the size of another one, which is inside, ends outside a sheet where it begins at the place.
-fn ends_outside(source: Block, to: Place) -> bool
+pub(crate) fn ends_outside(source: Block, to: Place) -> bool
     requires { IsBlockInside source }
     ensures { result ≡ is_block_outside (destination source to) }
 {

@@ -17,6 +17,7 @@ mod book;
 mod build;
 mod cells;
 mod checks;
+mod copying;
 mod engine;
 mod expressions;
 mod formulas;
@@ -25,6 +26,7 @@ mod history;
 pub mod laws;
 mod naming;
 mod parts;
+mod pasting;
 mod reading;
 mod setting;
 mod sheets;
@@ -34,6 +36,7 @@ mod stop;
 #[cfg(test)]
 mod tests;
 mod undoing;
+mod waiting;
 
 pub use engine::Engine;
 pub use history::Entry;

@@ -45,7 +45,7 @@ both_known false c e = cc
 pub is_inside : (p : Place) → is_outside p ≡ false → IsInside p
 is_inside p e = grind (arith, nat_tests)
 
-is_block_inside : (b : Block) → is_block_outside b ≡ false → IsBlockInside b
+pub is_block_inside : (b : Block) → is_block_outside b ≡ false → IsBlockInside b
 is_block_inside b e = grind (arith, nat_tests)
 
 same_is : (b c : Block) → b ≡ c → same_block b c ≡ true

@@ -132,6 +132,7 @@ given_sound limit customs today books most can = record {
   undo = none_kept (length books);
   redo = none_kept (length books);
   batch = tt;
+  clip = tt;
   few = can.2;
   cleared = tt;
   steps = omega arith;

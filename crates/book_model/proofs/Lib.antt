@@ -6,5 +6,6 @@ pub mod ShiftedBooks
 pub mod NameOrder
 pub mod NameMaps
 pub mod Accepted
+pub mod PastedCells
 pub mod SoundSteps
 pub mod GivenSheets

@@ -7,31 +7,36 @@ use Rattle.std.proofs.lemmas.Option.{same_Some}
 use Rattle.std.proofs.lemmas.List.{length-take}
 use Rattle.std.proofs.lemmas.List.Elements.{All-cons, All-head, All-tail, All-take, All-weaker}
 use Rattle.std.specs.FinMap as map
+use Rattle.cell_addr.specs.declared.place.Block.{Block}
 use Rattle.cell_addr.specs.declared.place.Place.{Place}
 use Rattle.cell_addr.proofs.Places.{place_cmp-IsTotalOrder, place_cmp-IsAntisymmetric}
-use Rattle.cell_addr.specs.Place.{covers}
+use Rattle.cell_addr.specs.Place.{IsBlockInside, covers}
 use Rattle.cell_values.specs.Workbook.{Book as Contents, Content}
 use Rattle.cell_values.specs.Workbook as contents
 use Rattle.formula_tree.specs.Term.{Term}
 use Rattle.formula_tree.specs.declared.reference.Corner.{Corner}
 use Rattle.book_values.specs.Names.{Key, key_of}
+use Rattle.book_model.specs.Clipboard.{Clipboard, nothing, copied, moving, copy_of, without_cut}
 use Rattle.book_model.specs.Names.{are_absolute}
 use Rattle.book_model.specs.Workbook.{Workbook, Batch, State, has_scope, has_sheet}
-use Rattle.book_model.specs.Operation.{Operation, set, clear, structural, add_sheet, rename_sheet, clear_sheet, add_name, change_name, remove_name, begin, commit, suspend, resume, undo, redo, value, formula, content, name_value, try_formula}
-use Rattle.book_model.specs.Refusals.{causes, cause, is_relative}
+use Rattle.book_model.specs.Operation.{Operation, set, clear, structural, add_sheet, rename_sheet, clear_sheet, add_name, change_name, remove_name, begin, commit, suspend, resume, undo, redo, copy, cut, paste, value, formula, content, precedents, dependents, name_value, try_formula}
+use Rattle.book_model.specs.Refusals.{causes, cause, first_cause, is_relative, of_clip}
 use Rattle.book_model.specs.Content.{content_given, content_of}
-use Rattle.book_model.specs.Changes.{with_content, emptied, shifted, with_sheet, renamed, named, unnamed, name_tree, with_name}
+use Rattle.book_model.specs.Changes.{with_content, emptied, shifted, with_sheet, renamed, named, unnamed, name_tree, with_clip, with_copy, with_name}
 use Rattle.book_model.specs.Session.{changed, changed_in, closed, done, kept, next, opened, redone, undone, unless_refused}
-use Rattle.book_model.specs.Sound.{ClearedBy, IsSound, IsSoundBatch, IsSoundBook, IsContentOf, IsCellOf, IsNameOf}
+use Rattle.book_model.specs.Sound.{ClearedBy, IsSound, IsSoundBatch, IsSoundBook, IsSoundClip, IsContentOf, IsCellOf, IsNameOf}
 use Rattle.book_model.specs.declared.refusal.Refusal.{Refusal}
 use Rattle.book_model.proofs.GivenSheets.{none_kept}
 use Rattle.book_model.proofs.Counts.{len-retain_keys}
 use Rattle.book_model.proofs.SheetLists.{sheets-with, numbers-with, has-append, sheets-renamed, numbers-renamed, has-renamed}
+use Rattle.shift_core.specs.Carried.{destination}
 use Rattle.shift_core.specs.Form.{form_of}
 use Rattle.shift_core.specs.declared.shift.Shift.{Shift}
-use Rattle.book_model.proofs.Accepted.{none_hold, is_known, is_inside, sound_form}
+use Rattle.shift_core.specs.declared.shift.Shift.TheVariants.{MoveBlock}
+use Rattle.book_model.proofs.Accepted.{none_hold, is_known, is_inside, is_block_inside, sound_form}
 use Rattle.book_model.proofs.ShiftedBooks.{shifted_book}
 use Rattle.book_model.proofs.Contents.{given_is, named_is, placed_cells, emptied_cells}
+use Rattle.book_model.proofs.PastedCells.{content-proper, copied-from, pasted-cells}
 use Rattle.book_model.proofs.NameMaps.{changed_names}
 
 at_most : (n m : ℕ) → nat_lt n m ≡ false → m ≤ n
@@ -110,6 +115,20 @@ rename_sound d sheet name s e =
 shifted_sound : (d : State) (change : Shift) → IsSound d → cause (structural change) d ≡ None → IsSoundBook d.next_sheet (shifted change d.book)
 shifted_sound d change s e = let f = sound_form d (form_of change) e in shifted_book d.next_sheet d.book change s.book f.0 f.1
 
+-- what waits is pasted
+pasted_sound : (d : State) (clip : Clipboard) (at : Place) → IsSound d → IsSoundClip clip → first_cause (of_clip d clip at) ≡ None → IsSoundBook d.next_sheet (with_clip clip at d.book)
+pasted_sound d nothing at s i e = cc
+pasted_sound d (copied area cells) at s i e =
+    let h = none_hold (of_clip d (copied area cells) at) e in
+    with_cells d.next_sheet d.book (with_copy area cells at d.book).cells s.book
+    (pasted-cells d.book area cells at i.0 (is_block_inside (destination area at) h.1.0) (is_known (has_sheet d.book at.sheet) h.0) i.1 s.book.cells)
+    (at_most 1000000 (map.len (with_copy area cells at d.book).cells) h.1.1.0)
+pasted_sound d (moving area) at s i e =
+    let f = sound_form d (form_of (MoveBlock area at)) e in shifted_book d.next_sheet d.book (MoveBlock area at) s.book f.0 f.1
+
+copied_sound : (d : State) (area : Block) → IsSound d → IsBlockInside area → IsSoundClip (copy_of area d.book.cells)
+copied_sound d area s i = (i, λ p c e. content-proper d.book c (s.book.cells p c (copied-from area d.book.cells p c e)).2)
+
 fixed_of : (tree : Option (Term Corner)) (t : Term Corner) → is_relative tree ≡ false → tree ≡ Some t → are_absolute t ≡ true
 fixed_of None t h e = cc
 fixed_of (Some u) t h e = let same : u ≡ t = same_Some u t e in subst (λ x. are_absolute x ≡ true) same (is_known (are_absolute u) h)
@@ -135,6 +154,12 @@ kept_sound d b n all s = All-take (IsSoundBook n) d.limit (b ∷ d.undo) (All-co
 kept_few : (d : State) (b : Workbook) → length (kept d b) ≤ d.limit
 kept_few d b = let t = length-take d.limit (b ∷ d.undo) in omega (arith, t)
 
+-- what waits to be pasted stays sound where a pending cut ends
+clip_sound : (clip : Clipboard) → IsSoundClip clip → IsSoundClip (without_cut clip)
+clip_sound nothing s = tt
+clip_sound (copied area cells) s = s
+clip_sound (moving area) s = tt
+
 -- a change to a sound workbook, in an batch batch or outside of one
 changed_sound : (d : State) (book : Workbook) (batch : Option Batch) → d.batch ≡ batch → IsSound d → IsSoundBook d.next_sheet book → IsSound (changed_in batch book d)
 changed_sound d book None e s h = record {
@@ -142,6 +167,7 @@ changed_sound d book None e s h = record {
   undo = kept_sound d d.book d.next_sheet s.undo s.book;
   redo = none_kept d.next_sheet;
   batch = s.batch;
+  clip = clip_sound d.clip s.clip;
   few = s.few;
   cleared = subst (λ o. ClearedBy o []) (sym e) tt;
   steps = let k = kept_few d d.book in omega (arith, k);
@@ -152,6 +178,7 @@ changed_sound d book (Some batch) e s h = record {
   undo = s.undo;
   redo = none_kept d.next_sheet;
   batch = subst (IsSoundBatch d.next_sheet) e s.batch;
+  clip = clip_sound d.clip s.clip;
   few = s.few;
   cleared = λ c. refl;
   steps = let k = s.steps in omega (arith, k);
@@ -173,6 +200,7 @@ added_sound d book None e s few h = record {
   undo = kept_sound d d.book (d.next_sheet + 1) (All-weaker (IsSoundBook d.next_sheet) (IsSoundBook (d.next_sheet + 1)) (more_numbers d.next_sheet) d.undo s.undo) (more_numbers d.next_sheet d.book s.book);
   redo = none_kept (d.next_sheet + 1);
   batch = more_batch d.next_sheet d.batch s.batch;
+  clip = clip_sound d.clip s.clip;
   few = few;
   cleared = subst (λ o. ClearedBy o []) (sym e) tt;
   steps = let k = kept_few d d.book in omega (arith, k);
@@ -183,6 +211,7 @@ added_sound d book (Some batch) e s few h = record {
   undo = All-weaker (IsSoundBook d.next_sheet) (IsSoundBook (d.next_sheet + 1)) (more_numbers d.next_sheet) d.undo s.undo;
   redo = none_kept (d.next_sheet + 1);
   batch = more_batch d.next_sheet (Some batch) (subst (IsSoundBatch d.next_sheet) e s.batch);
+  clip = clip_sound d.clip s.clip;
   few = few;
   cleared = λ c. refl;
   steps = let k = s.steps in omega (arith, k);
@@ -190,7 +219,7 @@ added_sound d book (Some batch) e s few h = record {
 }
 
 opened_sound : (d : State) → IsSound d → IsSound (opened d)
-opened_sound d s = record { book = s.book; undo = s.undo; redo = s.redo; batch = s.book; few = s.few; cleared = λ c. cc; steps = s.steps; limit = s.limit }
+opened_sound d s = record { book = s.book; undo = s.undo; redo = s.redo; batch = s.book; clip = s.clip; few = s.few; cleared = λ c. cc; steps = s.steps; limit = s.limit }
 
 -- a batch is closed, in which a change came or none
 closed_kept : (d : State) (batch : Batch) (b : Bool) → IsSound d → IsSoundBook d.next_sheet batch.start → All (IsSoundBook d.next_sheet) (if b then kept d batch.start else d.undo)
@@ -211,6 +240,7 @@ closed_sound d (Some batch) e s = record {
   undo = closed_kept d batch batch.changed s (subst (IsSoundBatch d.next_sheet) e s.batch);
   redo = s.redo;
   batch = tt;
+  clip = s.clip;
   few = s.few;
   cleared = tt;
   steps = closed_steps d batch batch.changed refl s (subst (λ o. ClearedBy o d.redo) e s.cleared);
@@ -218,7 +248,11 @@ closed_sound d (Some batch) e s = record {
 }
 
 flagged_sound : (d : State) (flag : Bool) → IsSound d → IsSound (record d { suspended = flag })
-flagged_sound d flag s = record { book = s.book; undo = s.undo; redo = s.redo; batch = s.batch; few = s.few; cleared = s.cleared; steps = s.steps; limit = s.limit }
+flagged_sound d flag s = record { book = s.book; undo = s.undo; redo = s.redo; batch = s.batch; clip = s.clip; few = s.few; cleared = s.cleared; steps = s.steps; limit = s.limit }
+
+-- what waits to be pasted is another one
+clipped_sound : (d : State) (clip : Clipboard) → IsSoundClip clip → IsSound d → IsSound (record d { clip = clip })
+clipped_sound d clip i s = record { book = s.book; undo = s.undo; redo = s.redo; batch = s.batch; clip = i; few = s.few; cleared = s.cleared; steps = s.steps; limit = s.limit }
 
 -- no batch is batch where steps are undone and redone
 none_open : (batch : Option Batch) (books : List Workbook) → is_some batch ≡ false → ClearedBy batch books
@@ -236,6 +270,7 @@ undone_sound d (b ∷ bs) e none s =
       undo = All-tail (IsSoundBook d.next_sheet) b bs all;
       redo = All-cons (IsSoundBook d.next_sheet) d.book d.redo s.book s.redo;
       batch = s.batch;
+      clip = clip_sound d.clip s.clip;
       few = s.few;
       cleared = none_open d.batch (d.book ∷ d.redo) none;
       steps = omega (arith, long, steps);
@@ -253,6 +288,7 @@ redone_sound d (b ∷ bs) e none s =
       undo = All-cons (IsSoundBook d.next_sheet) d.book d.undo s.book s.undo;
       redo = All-tail (IsSoundBook d.next_sheet) b bs all;
       batch = s.batch;
+      clip = clip_sound d.clip s.clip;
       few = s.few;
       cleared = none_open d.batch bs none;
       steps = omega (arith, long, steps);
@@ -281,6 +317,9 @@ done_sound (change_name name scope text) d s e =
     let h = none_hold (causes (change_name name scope text) d) e in
     change_sound d (named name scope text d.book) s (named_sound d name scope text s h.0 h.1.1.1.1.0)
 done_sound (remove_name name scope) d s e = change_sound d (unnamed name scope d.book) s (unnamed_sound d name scope s)
+done_sound (copy area) d s e = let h = none_hold (causes (copy area) d) e in clipped_sound d (copy_of area d.book.cells) (copied_sound d area s (is_block_inside area h.1.0)) s
+done_sound (cut area) d s e = clipped_sound d (moving area) tt s
+done_sound (paste at) d s e = change_sound d (with_clip d.clip at d.book) s (pasted_sound d d.clip at s s.clip e)
 done_sound begin d s e = opened_sound d s
 done_sound commit d s e = closed_sound d d.batch refl s
 done_sound suspend d s e = flagged_sound d true s
@@ -290,6 +329,8 @@ done_sound redo d s e = redone_sound d d.redo refl (none_hold (causes redo d) e)
 done_sound (value at) d s e = s
 done_sound (formula at) d s e = s
 done_sound (content at) d s e = s
+done_sound (precedents at) d s e = s
+done_sound (dependents at) d s e = s
 done_sound (name_value name sheet) d s e = s
 done_sound (try_formula sheet text) d s e = s
 

@@ -3,18 +3,26 @@
 use Rattle.std.specs.Prelude as std
 use Rattle.std.specs.Prelude.{ℕ, ◌==◌, if◌then◌else◌, Bool, true, not, List, [], ◌∷◌, ◌++◌, filter, Option, Some, None}
 use Rattle.std.specs.FinMap as map
+use Rattle.std.specs.List.{filter_map}
+use Rattle.cell_addr.specs.Place.{covers}
+use Rattle.cell_addr.specs.declared.place.Block.{Block}
 use Rattle.cell_addr.specs.declared.place.Place.{Place}
 use Rattle.cell_values.specs.Workbook.{Book as Contents, Content, formula}
 use Rattle.formula_tree.specs.Term.{Term}
 use Rattle.formula_tree.specs.declared.reference.Corner.{Corner}
+use Rattle.formula_tree.specs.declared.reference.Home.TheVariants as homes
+use Rattle.shift_core.specs.Carried.{carried_place, destination}
 use Rattle.shift_core.specs.Form.{form_of}
 use Rattle.shift_core.specs.Maps.{moved_map}
 use Rattle.shift_core.specs.declared.form.Form.{Form}
 use Rattle.shift_core.specs.declared.form.Form.TheVariants as form
 use Rattle.shift_core.specs.declared.shift.Shift.{Shift}
+use Rattle.shift_core.specs.declared.shift.Shift.TheVariants.{MoveBlock}
+use Rattle.tree_rewrite.specs.Pasted.{pasted}
 use Rattle.tree_rewrite.specs.Rewritten.{rewritten}
 use Rattle.book_values.specs.Names.{Key, key_of}
 use Rattle.book_values.specs.Workbook.{scope_sheet}
+use Rattle.book_model.specs.Clipboard.{Clipboard, nothing, copied, moving}
 use Rattle.book_model.specs.Names.{NameMap, is_on_sheet, with_tree}
 use Rattle.book_model.specs.Workbook.{Workbook}
 use Rattle.book_model.specs.Content.{content_given, content_of, tree_given}
@@ -69,6 +77,30 @@ shifted s b = record {
   cells = rewritten_contents s (moved_map s b.cells);
   names = rewritten_names s (map.retain_keys b.names (stays (form_of s)));
 }
+
+-- a content copied from the first place and pasted at the second one
+abbrev pub pasted_content : List (ℕ × List ℕ) → Place → Place → Content → Content
+pasted_content sheets from to (formula t) = formula (pasted sheets (homes.Cell from) (homes.Cell to) t)
+pasted_content sheets from to c = c
+
+-- a copied cell of a block, as far from the place as it was from the block's first cell
+abbrev pub entry_pasted : List (ℕ × List ℕ) → Block → Place → Place × Content → Option (Place × Content)
+entry_pasted sheets area at e =
+    let to = carried_place area at e.0 in
+    if covers area e.0 then Some (to, pasted_content sheets e.0 to e.1) else None
+
+-- a copy of a block is pasted: its cells come to the block of its size that begins at the place, and what else stood there
+-- is gone
+abbrev pub with_copy : Block → Contents → Place → Workbook → Workbook
+with_copy area copy at b = record b {
+  cells = map.from_entries (filter_map (entry_pasted b.sheets area at) (map.entries copy) ++ map.entries (emptied (covers (destination area at)) b).cells);
+}
+
+-- what waits is pasted; a cut block moves
+abbrev pub with_clip : Clipboard → Place → Workbook → Workbook
+with_clip nothing at b = b
+with_clip (copied area cells) at b = with_copy area cells at b
+with_clip (moving area) at b = shifted (MoveBlock area at) b
 
 -- a new sheet at the end of the list
 abbrev pub with_sheet : ℕ → List ℕ → Workbook → Workbook

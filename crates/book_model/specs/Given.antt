@@ -7,6 +7,7 @@ use Rattle.cell_addr.specs.declared.place.TheConstants.{ROWS, COLS}
 use Rattle.cell_addr.specs.Text.{folded}
 use Rattle.cell_values.specs.Workbook.{Content}
 use Rattle.custom_fn.specs.declared.rule.Rule.{Rule}
+use Rattle.book_model.specs.Clipboard.{nothing}
 use Rattle.book_model.specs.Workbook.{Workbook, State}
 use Rattle.book_model.specs.Content.{content_given, content_of}
 use Rattle.book_model.specs.Refusals.{is_sheet_name}
@@ -48,6 +49,7 @@ session_given limit customs today books = record {
   undo = [];
   redo = [];
   batch = None;
+  clip = nothing;
   suspended = false;
   next_sheet = length books;
   limit = limit;

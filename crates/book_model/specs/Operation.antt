@@ -22,6 +22,11 @@ pub data Operation : Type 0 where
   -- gives a name another formula
   change_name : List ℕ → Option ℕ → List ℕ → Operation
   remove_name : List ℕ → Option ℕ → Operation
+  -- a block waits to be pasted: a copy of it, or itself, to be moved
+  copy : Block → Operation
+  cut : Block → Operation
+  -- what waits is pasted, its first cell at a place
+  paste : Place → Operation
   -- opens a batch of changes that are one step, and closes it
   begin : Operation
   commit : Operation
@@ -37,6 +42,9 @@ pub data Operation : Type 0 where
   formula : Place → Operation
   -- the text that gives a cell its content
   content : Place → Operation
+  -- the cells, blocks and names that a cell's formula needs, and the cells and names whose formulas need a cell
+  precedents : Place → Operation
+  dependents : Place → Operation
   -- what a name shows that a word finds on a sheet
   name_value : List ℕ → ℕ → Operation
   -- what a formula would show in the first cell of a sheet

@@ -2,7 +2,7 @@
 use Rattle.std.specs.Prelude.{◌≡◌, ◌<◌, ◌≤◌, ◌+◌, ℕ, true, List, length, Option, Some, None, All, IsTrue, ⊤}
 use Rattle.std.specs.FinMap as map
 use Rattle.cell_addr.specs.declared.place.Place.{Place}
-use Rattle.cell_addr.specs.Place.{IsInside}
+use Rattle.cell_addr.specs.Place.{IsBlockInside, IsInside}
 use Rattle.cell_addr.specs.Sheets.{AreSheets}
 use Rattle.cell_values.specs.Workbook.{Content, formula}
 use Rattle.formula_tree.specs.Proper.{IsProper}
@@ -10,6 +10,7 @@ use Rattle.formula_tree.specs.Term.{Term}
 use Rattle.formula_tree.specs.declared.reference.Corner.{Corner}
 use Rattle.tree_rewrite.specs.Sheets.{HasSheet}
 use Rattle.book_values.specs.Names.{Key}
+use Rattle.book_model.specs.Clipboard.{Clipboard, copied}
 use Rattle.book_model.specs.Workbook.{Workbook, Batch, State, has_scope, has_sheet}
 use Rattle.book_model.specs.declared.limits.TheConstants.{MAX_CELLS, MAX_SHEETS, MAX_UNDO}
 
@@ -41,6 +42,15 @@ abbrev pub IsSoundBatch : ℕ → Option Batch → Type 0
 IsSoundBatch next_sheet None = ⊤
 IsSoundBatch next_sheet (Some batch) = IsSoundBook next_sheet batch.start
 
+-- what was copied comes from cells within the limits of a sheet, whose formulas are proper; their sheets may be gone
+abbrev pub IsProperContent : Content → Type 0
+IsProperContent (formula t) = IsProper t
+IsProperContent c = ⊤
+
+abbrev pub IsSoundClip : Clipboard → Type 0
+IsSoundClip (copied area cells) = IsBlockInside area × ((p : Place) (c : Content) → map.get cells p ≡ Some c → IsProperContent c)
+IsSoundClip clip = ⊤
+
 abbrev pub ClearedBy : Option Batch → List Workbook → Type 0
 ClearedBy None redo = ⊤
 ClearedBy (Some batch) redo = batch.changed ≡ true → length redo ≡ 0
@@ -50,6 +60,7 @@ pub record IsSound (d : State) : Type 0 where
   pub undo : All (IsSoundBook d.next_sheet) d.undo
   pub redo : All (IsSoundBook d.next_sheet) d.redo
   pub batch : IsSoundBatch d.next_sheet d.batch
+  pub clip : IsSoundClip d.clip
   pub few : d.next_sheet ≤ MAX_SHEETS
   -- where a change came in the open batch, nothing can be redone
   pub cleared : ClearedBy d.batch d.redo

@@ -5,6 +5,7 @@ use Rattle.std.specs.List.{list_any}
 use Rattle.cell_values.specs.Workbook.{Book as Contents}
 use Rattle.custom_fn.specs.declared.rule.Rule.{Rule}
 use Rattle.book_values.specs.Names.{Key}
+use Rattle.book_model.specs.Clipboard.{Clipboard}
 use Rattle.book_model.specs.Names.{NameMap}
 
 -- a workbook: its sheets by number and name, in order, what its filled cells hold, and its named expressions
@@ -24,6 +25,8 @@ pub record State : Type 0 where
   pub undo : List Workbook
   pub redo : List Workbook
   pub batch : Option Batch
+  -- what was copied or cut
+  pub clip : Clipboard
   -- whether the computation of values is suspended
   pub suspended : Bool
   -- the number that the next new sheet gets

@@ -35,6 +35,14 @@ pub enum Command {
     ChangeName(Text, Text, Text),
     /// Removes a name, of a scope as in `AddName`.
     RemoveName(Text, Text),
+    /// Copies a block, which waits to be pasted.
+    Copy(Spot),
+    /// Cuts a block, which is moved where it is pasted.
+    Cut(Spot),
+    /// Pastes what was copied or cut, its first cell at a place.
+    Paste(Spot),
+    /// Moves a block, its first cell to a place.
+    MoveBlock(Spot, Spot),
     /// Opens a batch of changes that are one step.
     Begin,
     /// Closes the batch.
@@ -53,6 +61,10 @@ pub enum Command {
     Formula(Spot),
     /// Asks for the text that gives a cell its content.
     Content(Spot),
+    /// Asks for the cells, blocks and names that a cell's formula needs.
+    Precedents(Spot),
+    /// Asks for the cells and names whose formulas need a cell.
+    Dependents(Spot),
     /// Asks for what a name shows that a word finds on a sheet.
     NameValue(Text, Text),
     /// Asks for what a formula, as its text, would show in the first cell of a sheet, which comes first.

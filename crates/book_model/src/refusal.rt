@@ -29,6 +29,8 @@ pub enum Refusal {
     NothingToUndo,
     /// 12: no step can be redone.
     NothingToRedo,
+    /// 13: nothing was copied or cut.
+    NothingToPaste,
     /// 14: the computation of values is suspended, or a batch is open.
     Suspended,
     /// 15: a batch is open.
@@ -63,6 +65,7 @@ impl Refusal {
             Refusal::RelativeAddress => 10,
             Refusal::NothingToUndo => 11,
             Refusal::NothingToRedo => 12,
+            Refusal::NothingToPaste => 13,
             Refusal::Suspended => 14,
             Refusal::BatchOpen => 15,
             Refusal::NoBatch => 16,
@@ -90,6 +93,7 @@ impl Refusal {
             Refusal::RelativeAddress => "RelativeAddress",
             Refusal::NothingToUndo => "NothingToUndo",
             Refusal::NothingToRedo => "NothingToRedo",
+            Refusal::NothingToPaste => "NothingToPaste",
             Refusal::Suspended => "Suspended",
             Refusal::BatchOpen => "BatchOpen",
             Refusal::NoBatch => "NoBatch",

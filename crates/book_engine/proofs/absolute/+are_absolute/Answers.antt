@@ -2,7 +2,7 @@ use Rattle.std.proofs.Common.{◌∙◌, sym, ap}
 use Rattle.formula_tree.specs.Reference.{base_of, corner_at}
 use Rattle.formula_tree.specs.Term.{each_corner_all}
 use Rattle.formula_tree.proofs.RelativeNodes.{relative_list-trees}
-use Rattle.tree_rewrite.specs.internal.Passage.{terms_in}
+use Rattle.tree_rewrite.specs.internal.Walk.{terms_in}
 use Rattle.book_model.specs.Names.{all_are_absolute}
 use Rattle.book_engine.proofs.absolute.+are_absolute.Goals as goal
 

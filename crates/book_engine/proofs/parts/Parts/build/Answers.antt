@@ -1,4 +1,6 @@
-use Rattle.std.proofs.Common.{sym, subst, reverse, length, false, None, [], pos}
+use Rattle.std.proofs.Common.{◌≡◌, ◌∙◌, sym, ap, subst, reverse, length, false, None, [], pos}
+use Rattle.book_model.specs.Clipboard.{nothing}
+use Rattle.book_model.specs.Given.{session_given}
 use Rattle.book_model.specs.Sound.{IsSound}
 use Rattle.book_model.proofs.GivenSheets.{given_sound}
 use Rattle.book_engine.specs.Seen.{StandOver, books_over}
@@ -19,6 +21,7 @@ returns-clause-fits c =
         limit = (same i).limit;
         customs = [];
         today = pos 0;
+        clip = nothing;
       })) (given_sound c.args.limit [] (pos 0) c.args.books.now c.requires.limit c.requires.can),
       record {
         stand = c.in_ok-book.ensures.stand;
