@@ -1,5 +1,5 @@
 // The lines of a run's output.
-ghost use Rattle.std.specs.Prelude.{◌≡◌, ◌+◌, ◌++◌, ◌≤◌, [], codes, length, vec_capacity, vec_len, IfOk};
+ghost use Rattle.std.specs.Prelude.{◌≡◌, ◌+◌, ◌++◌, ◌∷◌, ◌<◌, ◌≤◌, [], codes, length, string_bytes, vec_capacity, vec_len, IfOk, OnOk};
 ghost use Rattle.std.specs.Fmt.{decimal};
 ghost use Rattle.book_model.specs.Replies.{line_of, refused_text};
 ghost use Rattle.sheet_cli.specs.internal.Answers.{IsLineOfStop};
@@ -43,10 +43,51 @@ pub fn stop_line(alloc: Global, stop: Stop) -> Result<Vec<u8>, AllocError>
 fn refused(alloc: Global, refusal: Refusal) -> Result<Vec<u8>, AllocError>
     ensures { IfOk result (λ line. line.items ≡ line_of (refused_text refusal)) }
 {
-    let number = refusal.number();
-    let mut text = format!(in alloc; "refused {number} ")?;
+    let mut text = String::from_str(alloc, "refused ")?;
+    push_number(&mut text, u64::from(refusal.number()))?;
+    text.push_str(" ")?;
     text.push_str(refusal.name())?;
     line(alloc, text.as_str())
+}
+
+/// Puts the digits of a number at the end of a text.
+pub fn push_number(text: &mut String, number: u64) -> Result<(), AllocError>
+    ensures { OnOk result (string_bytes text.new ≡ string_bytes text.old ++ decimal number) }
+{
+    if number < 10 {
+        push_digit(text, number)
+    } else {
+        push_number(text, number / 10)?;
+        push_digit(text, number % 10)
+    }
+}
+
+// Puts a digit at the end of a text.
+fn push_digit(text: &mut String, digit: u64) -> Result<(), AllocError>
+    requires { digit < 10 }
+    ensures { OnOk result (string_bytes text.new ≡ string_bytes text.old ++ (48 + digit) ∷ []) }
+{
+    text.push_str(digit_text(digit))?;
+    Ok(())
+}
+
+// The text of a digit.
+fn digit_text(digit: u64) -> &'static str
+    requires { digit < 10 }
+    ensures { result.now ≡ (48 + digit) ∷ [] }
+{
+    match digit {
+        0 => "0",
+        1 => "1",
+        2 => "2",
+        3 => "3",
+        4 => "4",
+        5 => "5",
+        6 => "6",
+        7 => "7",
+        8 => "8",
+        _ => "9",
+    }
 }
 
 /// Room for the line of a number.

@@ -1,5 +1,6 @@
 // The call that the program makes: the words and the script come in, lines and a status go out.
-ghost use Rattle.std.specs.Prelude.{◌≡◌, ◌≢◌, ◌⊎◌, ◌<◌, ◌≤◌, ◌↔◌, ℕ, ℤ, List, length, IfOk, OnOk, IsErrOf, string_bytes};
+ghost use Rattle.std.specs.Prelude.{◌≡◌, ◌≢◌, ◌⊎◌, ◌<◌, ◌≤◌, ◌↔◌, ◌++◌, ℕ, ℤ, List, codes, length, IfOk, OnOk, IsErrOf, string_bytes};
+ghost use Rattle.std.specs.Fmt.{decimal};
 ghost use Rattle.std.specs.Io.KnownBytes.{Appends};
 ghost use Rattle.book_model.specs.Replies.{line_of};
 ghost use Rattle.book_model.specs.Workbook.{State};
@@ -13,7 +14,7 @@ ghost use Rattle.book_files.specs.Outside.{Rose};
 ghost use Rattle.sheet_cli.specs.internal.Answers.{AnswersRecord};
 ghost use Rattle.sheet_cli.specs.Run.{IsEndStatus, IsStatus, PrintsFor, WasRead, cause_text, first_session, outcome, outcome_from, record_text};
 
-use crate::line::line;
+use crate::line::{line, push_number};
 use crate::session::Session;
 use book_files::{LoadError, MAX_INPUT, Records, Sink, Source, WriteError, read_all};
 use csv::ByteRecord;
@@ -211,7 +212,9 @@ fn run_record<O: Sink, L: Ledger>(
 fn record_text(alloc: Global, number: u64, cause: ScriptError) -> Result<String, AllocError>
     ensures { IfOk result (λ text. string_bytes text ≡ record_text number cause) }
 {
-    let mut text = format!(in alloc; "record {number}: ")?;
+    let mut text = String::from_str(alloc, "record ")?;
+    push_number(&mut text, number)?;
+    text.push_str(": ")?;
     let cause = cause_text(alloc, cause)?;
     text.push_str(&cause)?;
     Ok(text)
@@ -224,9 +227,18 @@ fn cause_text(alloc: Global, cause: ScriptError) -> Result<String, AllocError>
     match cause {
         ScriptError::UnknownCommand => String::from_str(alloc, "unknown command"),
         ScriptError::FieldCount => String::from_str(alloc, "field count"),
-        ScriptError::BadField(field) => format!(in alloc; "bad field {field}"),
+        ScriptError::BadField(field) => bad_field_text(alloc, field),
         ScriptError::NoMemory => String::from_str(alloc, "out of memory"),
     }
+}
+
+// That the field of this number is bad.
+fn bad_field_text(alloc: Global, field: u8) -> Result<String, AllocError>
+    ensures { IfOk result (λ text. string_bytes text ≡ codes "bad field " ++ decimal field) }
+{
+    let mut text = String::from_str(alloc, "bad field ")?;
+    push_number(&mut text, u64::from(field))?;
+    Ok(text)
 }
 
 // Writes the line of a text.
