@@ -3,7 +3,7 @@ ghost use Rattle.std.specs.Prelude.{◌≡◌, ◌≤◌, IfOk, option_map};
 ghost use Rattle.cell_addr.specs.Sheets.{id_in, name_in};
 ghost use Rattle.shift_core.specs.declared.shift.Shift.TheVariants as shifts;
 ghost use Rattle.book_model.specs.Answers.{content_text, formula_of, value_of};
-ghost use Rattle.book_model.specs.Given.{CanBegin, session_given};
+ghost use Rattle.book_model.specs.Given.{CanBegin, given_sheets, session_given};
 ghost use Rattle.book_model.specs.Operation as op;
 ghost use Rattle.book_model.specs.Replies.{first_sheet};
 ghost use Rattle.book_model.specs.Workbook.{State};
@@ -36,9 +36,9 @@ impl Engine {
     /// The engine of a workbook with these sheets, numbered from 0 in their order, and these texts in their cells. All
     /// formulas are read when all sheets are there. At most `limit` steps can be undone, which is at most 1,000.
     pub fn build(alloc: Global, books: &[BookSheet], limit: u16) -> Result<Engine, AllocError>
-        requires can { CanBegin books.now }
+        requires can { CanBegin (given_sheets books.now) }
         requires limit { limit ≤ MAX_UNDO }
-        ensures { IfOk result (λ engine. StandsFor engine (session_given limit books.now)) }
+        ensures { IfOk result (λ engine. StandsFor engine (session_given limit (given_sheets books.now))) }
     {
         let parts = Parts::build(alloc, books, limit)?;
         Ok(Engine { parts })

@@ -1,5 +1,6 @@
 use Rattle.std.proofs.Common.{◌≡◌, ◌∙◌, sym, ap, subst, reverse, length, false, None}
-use Rattle.book_model.specs.Given.{session_given}
+use Rattle.book_model.specs.Given.{given_sheet, given_sheets}
+use Rattle.std.proofs.lemmas.List.{length-map}
 use Rattle.book_model.specs.Sound.{IsSound}
 use Rattle.book_model.proofs.GivenSheets.{given_sound}
 use Rattle.book_engine.specs.Seen.{StandOver, books_over}
@@ -10,6 +11,7 @@ pub returns-clause-fits : goal.returns-clause-fits
 returns-clause-fits c =
     let k = stored c.in_ok-book.book in
     let same = c.in_ok-new.ensures in
+    let long = length-map c.args.books.now given_sheet in
     (
       subst IsSound (sym (λ i. record {
         book = c.in_ok-book.ensures.book i;
@@ -17,9 +19,9 @@ returns-clause-fits c =
         redo = books_over k (reverse (same i).undone);
         batch = None;
         suspended = false;
-        next_sheet = length c.args.books.now;
+        next_sheet = sym long i;
         limit = (same i).limit;
-      })) (given_sound c.args.limit c.args.books.now c.requires.limit c.requires.can),
+      })) (given_sound c.args.limit (given_sheets c.args.books.now) c.requires.limit c.requires.can),
       record {
         stand = c.in_ok-book.ensures.stand;
         start = c.in_ok-book.ensures.stand;
