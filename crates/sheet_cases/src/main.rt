@@ -23,8 +23,8 @@ mod tally;
 
 ghost use Rattle.std.specs.Prelude.{◌≡◌, ◌<◌};
 
+use book_files::{MemSink, MemSource};
 use case::{Case, CaseFile};
-use sheet_cli::outside::{MemSink, MemSource};
 use std::alloc::{AllocError, Global};
 use std::marker::Brand;
 use std::process::ExitCode;

@@ -2,5 +2,3 @@ pub mod Executed
 pub mod FirstSheet
 pub mod LineBytes
 pub mod Outcomes
-pub mod RecordSteps
-pub mod StreamFacts

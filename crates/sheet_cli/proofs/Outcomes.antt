@@ -15,7 +15,7 @@ use Rattle.book_engine.specs.Engine.{StandsFor}
 use Rattle.book_engine.specs.declared.engine.Engine.{Engine}
 use Rattle.script_lang.specs.Command.{command_of}
 use Rattle.script_lang.specs.declared.error.ScriptError.{ScriptError}
-use Rattle.sheet_cli.specs.Outside.{Loses}
+use Rattle.book_files.specs.Outside.{Loses}
 use Rattle.sheet_cli.specs.internal.Answers.{AnswersRecord}
 use Rattle.sheet_cli.specs.Run.{WasRead, first_session, Outcome, outcome_of, outcome_from, followed_by, record_line, script_outcome}
 

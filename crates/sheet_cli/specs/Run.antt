@@ -11,7 +11,7 @@ use Rattle.book_model.specs.declared.limits.TheConstants.{DEFAULT_UNDO}
 use Rattle.script_lang.specs.Command.{command_of}
 use Rattle.script_lang.specs.declared.error.ScriptError.{ScriptError}
 use Rattle.script_lang.specs.declared.error.ScriptError.TheVariants.{UnknownCommand, FieldCount, BadField, NoMemory}
-use Rattle.sheet_cli.specs.declared.outside.input.TheConstants.{MAX_INPUT}
+use Rattle.book_files.specs.declared.input.TheConstants.{MAX_INPUT}
 
 -- the session that a run begins with: one empty sheet, `Sheet1`, which has the number 0, and nothing to undo
 abbrev pub first_session : State

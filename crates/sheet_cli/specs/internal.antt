@@ -1,3 +1,2 @@
 -- What only the proofs of bodies need.
 pub mod Answers
-pub mod Records

@@ -1,8 +1,7 @@
 //! The command line of the workbook engine: what a run reads, and what it prints.
 //!
-//! [`run`] does all that the program does. [`outside`] has the streams that it is given: a
-//! [`outside::Source`] of bytes and a [`outside::Sink`] for them, over the standard streams or over
-//! memory.
+//! [`run`] does all that the program does. It is given a `Source` of bytes and a `Sink` for them, of
+//! `book_files`: the standard streams, or streams in memory.
 //!
 //! A script is a list of records, each a command that is answered by one line:
 //!
@@ -15,9 +14,7 @@
 #![tactic(auto)]
 
 mod line;
-pub mod outside;
 mod program;
-mod records;
 mod session;
 
 pub use program::run;

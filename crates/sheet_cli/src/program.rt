@@ -4,14 +4,13 @@ ghost use Rattle.std.specs.Io.KnownBytes.{Appends};
 ghost use Rattle.book_model.specs.Replies.{line_of};
 ghost use Rattle.csv.specs.Records.{fields_of};
 ghost use Rattle.script_lang.specs.Command.{command_of};
-ghost use Rattle.sheet_cli.specs.Outside.{Rose};
+ghost use Rattle.book_files.specs.Outside.{Rose};
 ghost use Rattle.sheet_cli.specs.internal.Answers.{AnswersRecord};
 ghost use Rattle.sheet_cli.specs.Run.{IsEndStatus, IsStatus, PrintsFor, WasRead, cause_text, outcome, record_text, script_outcome};
 
 use crate::line::line;
-use crate::outside::{LoadError, MAX_INPUT, Sink, Source, WriteError, read_all};
-use crate::records::Records;
 use crate::session::Session;
+use book_files::{LoadError, MAX_INPUT, Records, Sink, Source, WriteError, read_all};
 use csv::ByteRecord;
 use script_lang::{ScriptError, command};
 use std::alloc::{AllocError, Global};

@@ -4,7 +4,7 @@
 
 ghost use Rattle.std.specs.Prelude.{◌≡◌, ◌<◌};
 
-use sheet_cli::outside::{StdSink, StdSource};
+use book_files::{StdSink, StdSource};
 use sheet_cli::run;
 use std::marker::Brand;
 use std::process::ExitCode;

@@ -11,8 +11,8 @@ use Rattle.book_engine.specs.declared.engine.Engine.{Engine}
 use Rattle.book_engine.specs.declared.stop.Stop as engine
 use Rattle.book_engine.specs.declared.stop.Stop.TheVariants.{Refused, NoMemory}
 use Rattle.script_lang.specs.declared.error.ScriptError.{ScriptError}
-use Rattle.sheet_cli.specs.declared.outside.error.WriteError.{WriteError}
-use Rattle.sheet_cli.specs.declared.outside.error.WriteError.TheVariants as write
+use Rattle.book_files.specs.declared.error.WriteError.{WriteError}
+use Rattle.book_files.specs.declared.error.WriteError.TheVariants as write
 use Rattle.sheet_cli.specs.declared.program.Stop.{Stop}
 use Rattle.sheet_cli.specs.declared.program.Stop.TheVariants as stop
 use Rattle.sheet_cli.specs.Run.{record_line}

@@ -1,0 +1,9 @@
+pub mod BookAnswers
+pub mod FileFacts
+pub mod FillSteps
+pub mod GivenCells
+pub mod RecordCounts
+pub mod RecordSteps
+pub mod SheetNames
+pub mod StreamFacts
+pub mod TextFields

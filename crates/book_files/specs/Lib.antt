@@ -1,0 +1,4 @@
+pub mod Books
+pub mod Folder
+pub mod Outside
+pub mod internal

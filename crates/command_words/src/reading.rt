@@ -1,0 +1,218 @@
+// The words read.
+ghost use Rattle.std.specs.Prelude.{◌≡◌, ◌≤◌, ℕ, [], IfOk, Some, map, option_map, string_bytes, unwrap_or, not, codes};
+ghost use Rattle.std.specs.Option.{option_copied};
+ghost use Rattle.std.specs.List.{list_all};
+ghost use Rattle.clap.specs.Words.{all_of, app_of, first_of, found_of, rows_of};
+ghost use Rattle.digits.specs.Digits.{value};
+ghost use Rattle.command_words.specs.Words.{Answers, begins_with_dash, given_of, is_accepted, is_number, is_true, is_value, meaning, passes, said_of, sheet_app};
+ghost use Rattle.command_words.specs.internal.Found.{given, texts};
+
+use crate::error::WordsError;
+use crate::words::{DEFAULT_UNDO, GENERATE_DIGITS, MAX_GENERATE, MAX_UNDO, UNDO_DIGITS, Words};
+use cell_addr::Text;
+use clap::error::ErrorKind;
+use clap::{Arg, ArgAction, ArgMatches, Command};
+use digits::{all_digits, value_at_most};
+use std::alloc::{AllocError, Global};
+
+#[cfg(test)]
+mod tests;
+
+// Above each number that is accepted.
+const ABOVE: u64 = 100_000;
+
+/// What the words behind the program's name say.
+///
+/// An option's value is the next word, or stands behind `=`; it isn't empty and doesn't begin with
+/// `-`. The word `--` ends the options. No option or flag stands twice, and no other word begins
+/// with `-`. `--undo-limit` takes up to 4 digits of a value up to 1,000, and `--generate` up to 5
+/// digits of a value from 1 to 10,000; the latter stands with neither `--script` nor a book. Costs
+/// the length of the words.
+///
+/// # Errors
+/// `Usage` exactly where the words are outside this, and `NoMemory`.
+pub fn words(alloc: Global, words: &[String]) -> Result<Words, WordsError>
+    ensures { Answers result (meaning (map string_bytes words.now)) }
+{
+    let command = command(alloc)?;
+    match command.try_get_matches_from(words) {
+        Ok(matches) => said(alloc, &matches),
+        Err(error) if error.kind() == ErrorKind::OutOfMemory => Err(WordsError::NoMemory),
+        Err(_) => Err(WordsError::Usage),
+    }
+}
+
+// The command.
+fn command<'a>(alloc: Global) -> Result<Command<'a>, AllocError>
+    ensures { IfOk result (λ command. app_of command ≡ sheet_app) }
+{
+    Command::new(alloc, "sheetrun")
+        .no_binary_name(true)
+        .disable_help_flag(true)
+        .disable_version_flag(true)
+        .arg(option(alloc, "undo-limit"))?
+        .arg(
+            Arg::new(alloc, "strict")
+                .long("strict")
+                .action(ArgAction::SetTrue),
+        )?
+        .arg(option(alloc, "script"))?
+        .arg(option(alloc, "generate"))?
+        .arg(Arg::new(alloc, "book").action(ArgAction::Append))
+}
+
+// An option with one value.
+fn option(alloc: Global, name: &'static str) -> Arg<'static> {
+    Arg::new(alloc, name).long(name).action(ArgAction::Set)
+}
+
+// What was found says, where it is accepted.
+fn said(alloc: Global, matches: &ArgMatches<'_>) -> Result<Words, WordsError>
+    ensures { Answers result (said_of (given_of (rows_of (found_of matches.now)))) }
+{
+    let undo_limit = value_of(matches, "undo-limit");
+    let strict = is_true(value_of(matches, "strict"));
+    let script = value_of(matches, "script");
+    let generate = value_of(matches, "generate");
+    let books = books_of(matches);
+    if !is_accepted(undo_limit, strict, script, generate, books) {
+        return Err(WordsError::Usage);
+    }
+    Ok(Words {
+        undo_limit: undo_limit_of(undo_limit),
+        strict,
+        script: copied(alloc, script)?,
+        generate: size_of(generate),
+        books: copies(alloc, books)?,
+    })
+}
+
+// The value of an option or a flag, where it is there.
+fn value_of<'m>(matches: &'m ArgMatches<'_>, name: &str) -> Option<&'m str>
+    ensures { option_copied result ≡ first_of name.now (rows_of (found_of matches.now)) }
+{
+    matches.get_str(name)
+}
+
+// The other words, in order.
+fn books_of<'m>(matches: &'m ArgMatches<'m>) -> &'m [&'m str]
+    ensures { texts result.now ≡ unwrap_or (all_of (codes "book") (rows_of (found_of matches.now))) [] }
+{
+    match matches.get_strs("book") {
+        Some(books) => books,
+        None => &[],
+    }
+}
+
+// Whether what was found is accepted.
+fn is_accepted(
+    undo_limit: Option<&str>,
+    strict: bool,
+    script: Option<&str>,
+    generate: Option<&str>,
+    books: &[&str],
+) -> bool
+    ensures { result ≡ is_accepted (given (option_copied undo_limit) strict (option_copied script) (option_copied generate) (texts books.now)) }
+{
+    is_number(undo_limit, UNDO_DIGITS, 0, u64::from(MAX_UNDO))
+        && passes_as_value(script)
+        && is_number(generate, GENERATE_DIGITS, 1, u64::from(MAX_GENERATE))
+        && books.iter().all(|book| !begins_with_dash(book))
+        && (generate.is_none() || script.is_none() && books.is_empty())
+}
+
+// Whether a text that is there is a number between two others, of at most so many digits.
+fn is_number(text: Option<&str>, digits: usize, least: u64, most: u64) -> bool
+    requires { most ≤ 10000 }
+    ensures { result ≡ passes (is_number digits least most) (option_copied text) }
+{
+    match text {
+        Some(text) => is_number_text(text.as_bytes(), digits, least, most),
+        None => true,
+    }
+}
+
+// Whether the text is a number between two others, of at most so many digits.
+fn is_number_text(text: &[u8], digits: usize, least: u64, most: u64) -> bool
+    requires { most ≤ 10000 }
+    ensures { result ≡ is_number digits least most text.now }
+{
+    let value = value_at_most(text, ABOVE);
+    !text.is_empty()
+        && text.len() <= digits
+        && all_digits(text)
+        && least <= value
+        && value <= most
+}
+
+// Whether a text that is there isn't empty and doesn't begin with a dash.
+fn passes_as_value(text: Option<&str>) -> bool
+    ensures { result ≡ passes is_value (option_copied text) }
+{
+    match text {
+        Some(text) => !text.is_empty() && !begins_with_dash(text),
+        None => true,
+    }
+}
+
+fn begins_with_dash(text: &str) -> bool
+    ensures { result ≡ begins_with_dash text.now }
+{
+    match text.as_bytes() {
+        [first, ..] => *first == b'-',
+        [] => false,
+    }
+}
+
+// Whether a flag is set.
+fn is_true(text: Option<&str>) -> bool
+    ensures { result ≡ is_true (option_copied text) }
+{
+    match text {
+        Some(text) => text == "true",
+        None => false,
+    }
+}
+
+// How many steps are kept for undo, by the text of their number.
+fn undo_limit_of(text: Option<&str>) -> u16
+    requires { passes (is_number UNDO_DIGITS 0 MAX_UNDO) (option_copied text) ≡ true }
+    ensures { result ≡ unwrap_or (option_map value (option_copied text)) DEFAULT_UNDO }
+{
+    match text {
+        Some(text) => value_at_most(text.as_bytes(), u64::from(MAX_UNDO)) as u16,
+        None => DEFAULT_UNDO,
+    }
+}
+
+// The size of a generated list, by its text.
+fn size_of(text: Option<&str>) -> Option<u32>
+    requires { passes (is_number GENERATE_DIGITS 1 MAX_GENERATE) (option_copied text) ≡ true }
+    ensures { result ≡ option_map value (option_copied text) }
+{
+    match text {
+        Some(text) => Some(value_at_most(text.as_bytes(), u64::from(MAX_GENERATE)) as u32),
+        None => None,
+    }
+}
+
+// A copy of a text that is there.
+fn copied(alloc: Global, text: Option<&str>) -> Result<Option<Text>, AllocError>
+    ensures { IfOk result (λ copy. copy ≡ option_copied text) }
+{
+    match text {
+        Some(text) => Ok(Some(Text::from_str(alloc, text)?)),
+        None => Ok(None),
+    }
+}
+
+// Copies of texts, in their order.
+fn copies(alloc: Global, words: &[&str]) -> Result<Vec<Text>, AllocError>
+    ensures { IfOk result (λ copies. copies.items ≡ texts words.now) }
+{
+    let mut copies = Vec::new(alloc);
+    'words: for word in words {
+        copies.push(Text::from_str(alloc, word)?)?;
+    }
+    Ok(copies)
+}
