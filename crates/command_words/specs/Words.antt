@@ -7,8 +7,8 @@ use Rattle.clap.specs.declared.builder.action.ArgAction.TheVariants.{Set, SetTru
 use Rattle.digits.specs.Digits.{is_digit, value}
 use Rattle.command_words.specs.declared.error.WordsError.{WordsError}
 use Rattle.command_words.specs.declared.error.WordsError.TheVariants.{Usage, NoMemory}
-use Rattle.command_words.specs.declared.words.TheConstants.{DEFAULT_UNDO, UNDO_DIGITS, MAX_UNDO, GENERATE_DIGITS, MAX_GENERATE}
-use Rattle.command_words.specs.declared.words.Words.{Words}
+use Rattle.command_words.specs.declared.said.TheConstants.{DEFAULT_UNDO, UNDO_DIGITS, MAX_UNDO, GENERATE_DIGITS, MAX_GENERATE}
+use Rattle.command_words.specs.declared.said.Words.{Words}
 
 -- an option of this name, which has one value
 abbrev pub option_rule : List ℕ → Rule
@@ -89,8 +89,10 @@ stands_alone g = is_none g.generate || (is_none g.script && (length g.books == 0
 -- what was found is accepted: numbers in their ranges, no value and no other word that begins with a dash
 abbrev pub is_accepted : Given → Bool
 is_accepted g =
-    ((passes (is_number UNDO_DIGITS 0 MAX_UNDO) g.undo_limit && passes is_value g.script)
-    && (passes (is_number GENERATE_DIGITS 1 MAX_GENERATE) g.generate && list_all (λ book. not (begins_with_dash book)) g.books))
+    (((passes (is_number UNDO_DIGITS 0 MAX_UNDO) g.undo_limit
+    && passes is_value g.script)
+    && passes (is_number GENERATE_DIGITS 1 MAX_GENERATE) g.generate)
+    && list_all (λ book. not (begins_with_dash book)) g.books)
     && stands_alone g
 
 -- what accepted words say

@@ -15,8 +15,8 @@
 
 mod error;
 mod reading;
-mod words;
+mod said;
 
 pub use error::WordsError;
 pub use reading::words;
-pub use words::{DEFAULT_UNDO, GENERATE_DIGITS, MAX_GENERATE, MAX_UNDO, UNDO_DIGITS, Words};
+pub use said::{DEFAULT_UNDO, GENERATE_DIGITS, MAX_GENERATE, MAX_UNDO, UNDO_DIGITS, Words};

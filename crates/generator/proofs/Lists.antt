@@ -1,7 +1,7 @@
 -- Lists that grow by the commands of one number after the other. It serves the generator.
 use Rattle.std.proofs.Common.{◌≡◌, ◌∙◌, ap, refl, arith, ℕ, zero, suc, ◌+◌, ◌*◌, ◌/◌, List, [], ◌∷◌, ◌++◌, length, length-append, add-one}
 use Rattle.book_model.specs.declared.command.Command.{Command}
-use Rattle.generator.specs.Generated.{edit_commands, for_each, generated, row_commands}
+use Rattle.generator.specs.Generated.{edit_commands, for_each, row_commands}
 
 pub none : (f : ℕ → List Command) → for_each f 0 ≡ []
 unfolding for_each
@@ -25,8 +25,10 @@ long f k (suc n) h =
     let here = h (suc n) in
     omega (arith, before, size, here)
 
-pub length-generated : (n : ℕ) → length (generated n) ≡ 2 * n + 6 * (n / 100) + 2
-length-generated n =
+-- a list of rows, edits and two commands more has so many
+pub counted : (n j : ℕ) (items once twice : List Command) (a b : Command) → items ≡ for_each row_commands n ++ for_each (edit_commands n) j → j ≡ n / 100 → once ≡ items ++ a ∷ [] → twice ≡ once ++ b ∷ []
+    → length twice ≡ 2 * n + 6 * (n / 100) + 2
+counted n j items once twice a b is end first second =
     let rows = long row_commands 2 n (λ i. refl) in
-    let edits = long (edit_commands n) 6 (n / 100) (λ j. refl) in
-    omega (arith, rows, edits)
+    let edits = long (edit_commands n) 6 j (λ i. refl) in
+    omega (arith, end, rows, edits, ap length is, length-append (for_each row_commands n) (for_each (edit_commands n) j), ap length first, length-append items (a ∷ []), ap length second, length-append once (b ∷ []))

@@ -8,7 +8,9 @@ fn generates_commands(rt: HostRuntime) -> Result<(), Fail> {
         assert!(rt; generate(rt.alloc(), n)?.len() == count, "size {n}");
     }
     let commands = generate(rt.alloc(), 100)?;
-    assert!(rt; matches!(&commands[1], Command::Set(at, text) if at.left == 1 && text.as_str() == "=SUM($A$1:A1)"));
+    assert!(rt;
+        matches!(&commands[1], Command::Set(at, text) if at.left == 1 && text.as_str() == "=SUM($A$1:A1)")
+    );
     assert!(rt; matches!(&commands[200], Command::InsertRows(_, 13, 1)));
     Ok(())
 }
