@@ -52,12 +52,12 @@ answers_from d (c ∷ cs) = (record { line = reply c d; refused = is_refused d c
 -- the first refusal
 abbrev pub first_refusal : List Answered → Option (List ℕ)
 first_refusal [] = None
-first_refusal (a ∷ as) = if a.refused then Some a.line else first_refusal as
+first_refusal (a ∷ rest) = if a.refused then Some a.line else first_refusal rest
 
 -- how many bytes the lines have
 abbrev pub bytes_of : List Answered → ℕ
 bytes_of [] = 0
-bytes_of (a ∷ as) = length a.line + bytes_of as
+bytes_of (a ∷ rest) = length a.line + bytes_of rest
 
 -- how many commands there were, how many of them were refused, and how many bytes answer them
 abbrev pub summary : List Answered → List ℕ

@@ -1,17 +1,20 @@
 // What a run prints of its commands: a line for each, or a summary of all.
-ghost use Rattle.std.specs.Prelude.{◌≡◌, ◌+◌, ◌++◌, ◌∷◌, ◌≤◌, [], IfOk, IfSome, MatchOption, OnOk, OnErr, IsErrOf, codes, length, string_bytes};
-ghost use Rattle.std.specs.Fmt.{decimal};
-ghost use Rattle.book_files.specs.Outside.{AppendsPart, Rose};
+ghost use Rattle.std.specs.Prelude.{◌≡◌, ◌⊎◌, ◌+◌, ◌&&◌, ◌≤◌, IfOk, IfSome, OnErr, IsErrOf, length, string_bytes};
+ghost use Rattle.book_files.specs.Outside.{Rose};
 ghost use Rattle.book_files.specs.declared.input.TheConstants.{MAX_INPUT};
 ghost use Rattle.book_model.specs.Given.{CanBegin, given_sheets};
 ghost use Rattle.book_model.specs.Replies.{line_of};
 ghost use Rattle.book_model.specs.declared.limits.TheConstants.{MAX_UNDO};
 ghost use Rattle.command_words.specs.Words.{seen};
+ghost use Rattle.book_engine.specs.Engine.{StandsFor};
+ghost use Rattle.book_model.specs.Workbook.{State};
+ghost use Rattle.csv.specs.Reading.{default_config, records, strip_bom};
 ghost use Rattle.csv.specs.Records.{fields_of};
+ghost use Rattle.generator.specs.declared.TheConstants.{MAX_SIZE};
 ghost use Rattle.script_lang.specs.Command.{command_of};
-ghost use Rattle.sheet_cli.specs.Answering.{cause_text, record_text};
+ghost use Rattle.sheet_cli.specs.Answering.{answers_from, cause_text, outcome_from, record_text, summary_outcome};
 ghost use Rattle.sheet_cli.specs.Run.{generated_outcome, script_outcome};
-ghost use Rattle.sheet_cli.specs.internal.Answers.{AnswersPart, AnswersRecord};
+ghost use Rattle.sheet_cli.specs.internal.Answers.{AnswersCommand, AnswersPart, AnswersRecord, PartOfCommand};
 ghost use Rattle.sheet_cli.specs.internal.Ends.{EndsScript, Printed, PrintedLine};
 ghost use Rattle.sheet_cli.specs.internal.Tallied.{Adds, summary_of};
 
@@ -20,7 +23,7 @@ use crate::line::line;
 use crate::opening::empty_book;
 use crate::session::{Answer, Session};
 use book_files::{Records, Sink};
-use book_model::BookSheet;
+use book_model::{BookSheet, Command};
 use command_words::Words;
 use csv::ByteRecord;
 use generator::generate;
@@ -48,21 +51,31 @@ pub(crate) fn run_script<O: Sink, L: Ledger>(
 {
     let mut session = Session::new(alloc, &sheets, said.undo_limit)?;
     drop(sheets);
+    run_records(alloc, &mut session, said.strict, script, out, steps)
+}
+
+// Answers the records of a script in a session.
+fn run_records<O: Sink, L: Ledger>(
+    alloc: Global,
+    session: &mut Session,
+    strict: bool,
+    script: &[u8],
+    out: &mut O,
+    steps: &mut Steps<L>,
+) -> Result<u8, Stop>
+    requires { length script.now ≤ MAX_INPUT }
+    ensures printed { (d : State) → StandsFor session.old.engine d → Printed (outcome_from strict d 1 (records default_config (strip_bom script.now))) (O.taken out.old) (O.taken out.new) result }
+    ensures write_fault { IsErrOf result Stop.WriteFault → Rose (O.faults out.old) (O.faults out.new) }
+    ensures status { EndsScript result }
+{
     let mut records = Records::open(alloc, script);
     let mut number: u64 = 0;
     'records: while records.advance()? {
         number += 1;
-        let end = run_record(
-            alloc,
-            &mut session,
-            said.strict,
-            number,
-            records.fields(),
-            out,
-            steps,
-        )?;
-        if let Some(status) = end {
-            return Ok(status);
+        match run_record(alloc, session, strict, number, records.fields(), out, steps) {
+            Ok(None) => {}
+            Ok(Some(status)) => return Ok(status),
+            Err(stop) => return Err(stop),
         }
     }
     Ok(ANSWERED)
@@ -83,23 +96,61 @@ fn run_record<O: Sink, L: Ledger>(
     ensures no_read_fault { IsErrOf result Stop.ReadFault → ⊥ }
     ensures write_fault { IsErrOf result Stop.WriteFault → Rose (O.faults out.old) (O.faults out.new) }
     ensures later { O.faults out.old ≤ O.faults out.new }
+    ensures status { IfOk result (λ end. IfSome end (λ status. (status ≡ 1) ⊎ (status ≡ 3))) }
 {
     match command(alloc, fields) {
-        Ok(command) => {
-            let answer = session.execute(&command, steps)?;
-            out.write(&answer.line)?;
-            if strict && answer.refused {
-                return Ok(Some(REFUSED));
-            }
-            Ok(None)
-        }
+        Ok(command) => run_command(session, strict, &command, out, steps),
         Err(ScriptError::NoMemory) => Err(Stop::NoMemory),
         Err(cause) => {
-            let text = record_text(alloc, number, cause)?;
-            print(alloc, out, text.as_str())?;
+            refuse_record(alloc, number, cause, out)?;
             Ok(Some(NO_COMMAND))
         }
     }
+}
+
+// Answers a command. Where it ends the run, the status.
+fn run_command<O: Sink, L: Ledger>(
+    session: &mut Session,
+    strict: bool,
+    command: &Command,
+    out: &mut O,
+    steps: &mut Steps<L>,
+) -> Result<Option<u8>, Stop>
+    ensures answered { IfOk result (λ end. AnswersCommand strict command.now end session.old.engine session.new.engine (O.taken out.old) (O.taken out.new)) }
+    ensures part { OnErr result (PartOfCommand command.now session.old.engine (O.taken out.old) (O.taken out.new)) }
+    ensures no_read_fault { IsErrOf result Stop.ReadFault → ⊥ }
+    ensures write_fault { IsErrOf result Stop.WriteFault → Rose (O.faults out.old) (O.faults out.new) }
+    ensures later { O.faults out.old ≤ O.faults out.new }
+    ensures status { IfOk result (λ end. IfSome end (λ status. status ≡ 1)) }
+{
+    let answer = session.execute(command, steps)?;
+    write(out, &answer.line)?;
+    if is_last(strict, &answer) {
+        return Ok(Some(REFUSED));
+    }
+    Ok(None)
+}
+
+// Whether the answer is the last one of a run.
+fn is_last(strict: bool, answer: &Answer) -> bool
+    ensures { result ≡ (strict && answer.now.refused) }
+{
+    strict && answer.refused
+}
+
+// Says why a record is no command.
+fn refuse_record<O: Sink>(
+    alloc: Global,
+    number: u64,
+    cause: ScriptError,
+    out: &mut O,
+) -> Result<(), Stop>
+    ensures printed { PrintedLine (line_of (record_text number cause)) (O.taken out.old) (O.taken out.new) result }
+    ensures write_fault { IsErrOf result Stop.WriteFault → Rose (O.faults out.old) (O.faults out.new) }
+    ensures later { O.faults out.old ≤ O.faults out.new }
+{
+    let text = record_text(alloc, number, cause)?;
+    print(alloc, out, text.as_str())
 }
 
 // What a run says of a record that is no command.
@@ -143,22 +194,36 @@ pub(crate) fn run_generated<O: Sink, L: Ledger>(
     let commands = generate(alloc, size)?;
     let sheets = empty_book(alloc)?;
     let mut session = Session::new(alloc, &sheets, said.undo_limit)?;
-    let mut tally = Tally::default();
-    'commands: for command in &commands {
+    run_commands(alloc, &mut session, said.strict, &commands, out, steps)
+}
+
+// Executes commands in a session, and prints a summary, or the refusal that ends the run.
+fn run_commands<O: Sink, L: Ledger>(
+    alloc: Global,
+    session: &mut Session,
+    strict: bool,
+    commands: &[Command],
+    out: &mut O,
+    steps: &mut Steps<L>,
+) -> Result<u8, Stop>
+    ensures printed { (d : State) → StandsFor session.old.engine d → Printed (summary_outcome strict (answers_from d commands.now)) (O.taken out.old) (O.taken out.new) result }
+    ensures write_fault { IsErrOf result Stop.WriteFault → Rose (O.faults out.old) (O.faults out.new) }
+    ensures status { EndsScript result }
+{
+    let mut tally = Tally::none();
+    'commands: for command in commands {
         let answer = session.execute(command, steps)?;
-        if said.strict && answer.refused {
-            out.write(&answer.line)?;
-            return Ok(REFUSED);
+        if is_last(strict, &answer) {
+            return print_last(out, &answer.line, REFUSED);
         }
-        tally = tally.with(&answer).ok_or(Stop::NoMemory)?;
+        tally = tally.with(&answer)?;
     }
     let lines = tally.lines(alloc)?;
-    out.write(&lines)?;
-    Ok(ANSWERED)
+    print_last(out, &lines, ANSWERED)
 }
 
 /// How many commands were answered, how many of them were refused, and how many bytes the answers have.
-#[derive(Clone, Copy, Default)]
+#[derive(Clone, Copy)]
 pub struct Tally {
     commands: u64,
     refused: u64,
@@ -166,14 +231,25 @@ pub struct Tally {
 }
 
 impl Tally {
-    // The tally with one more answer. `None` for 2^64 bytes, which no memory holds.
-    fn with(self, answer: &Answer) -> Option<Tally>
-        ensures { IfSome result (λ tally. Adds answer.now.line.items answer.now.refused self tally) }
+    // No answer.
+    fn none() -> Tally
+        ensures { result ≡ record { commands = 0; refused = 0; bytes = 0 } }
     {
-        Some(Tally {
-            commands: self.commands.checked_add(1)?,
-            refused: self.refused.checked_add(u64::from(answer.refused))?,
-            bytes: self.bytes.checked_add(answer.line.len() as u64)?,
+        Tally {
+            commands: 0,
+            refused: 0,
+            bytes: 0,
+        }
+    }
+
+    // The tally with one more answer. 2^64 bytes or more are want of memory, since none holds them.
+    fn with(self, answer: &Answer) -> Result<Tally, AllocError>
+        ensures { IfOk result (λ tally. Adds answer.now.line.items answer.now.refused self tally) }
+    {
+        Ok(Tally {
+            commands: sum(self.commands, 1)?,
+            refused: sum(self.refused, u64::from(answer.refused))?,
+            bytes: sum(self.bytes, answer.line.len() as u64)?,
         })
     }
 
@@ -193,6 +269,16 @@ impl Tally {
     }
 }
 
+// A sum; one of 2^64 or more is want of memory.
+fn sum(a: u64, b: u64) -> Result<u64, AllocError>
+    ensures { IfOk result (λ sum. sum ≡ a + b) }
+{
+    match a.checked_add(b) {
+        Some(sum) => Ok(sum),
+        None => Err(AllocError),
+    }
+}
+
 /// Writes the line of a text.
 pub(crate) fn print<O: Sink>(alloc: Global, out: &mut O, text: &str) -> Result<(), Stop>
     ensures printed { PrintedLine (line_of text.now) (O.taken out.old) (O.taken out.new) result }
@@ -200,6 +286,25 @@ pub(crate) fn print<O: Sink>(alloc: Global, out: &mut O, text: &str) -> Result<(
     ensures later { O.faults out.old ≤ O.faults out.new }
 {
     let bytes = line(alloc, text)?;
-    out.write(&bytes)?;
+    write(out, &bytes)
+}
+
+// Writes the last bytes of a run that ends with this status.
+fn print_last<O: Sink>(out: &mut O, bytes: &[u8], status: u8) -> Result<u8, Stop>
+    ensures printed { Printed (bytes.now, status) (O.taken out.old) (O.taken out.new) result }
+    ensures write_fault { IsErrOf result Stop.WriteFault → Rose (O.faults out.old) (O.faults out.new) }
+    ensures status { IfOk result (λ end. end ≡ status) }
+{
+    write(out, bytes)?;
+    Ok(status)
+}
+
+// Writes bytes.
+fn write<O: Sink>(out: &mut O, bytes: &[u8]) -> Result<(), Stop>
+    ensures printed { PrintedLine bytes.now (O.taken out.old) (O.taken out.new) result }
+    ensures write_fault { IsErrOf result Stop.WriteFault → Rose (O.faults out.old) (O.faults out.new) }
+    ensures later { O.faults out.old ≤ O.faults out.new }
+{
+    out.write(bytes)?;
     Ok(())
 }

@@ -1,5 +1,5 @@
 // The books and the script that a run is told.
-ghost use Rattle.std.specs.Prelude.{◌≡◌, ◌⊎◌, ◌++◌, ◌∷◌, ◌≤◌, [], IfOk, IsErrOf, codes, length, string_bytes};
+ghost use Rattle.std.specs.Prelude.{◌≡◌, ◌⊎◌, ◌++◌, ◌∷◌, ◌≤◌, [], IfOk, OnOk, IsErrOf, codes, length, string_bytes};
 ghost use Rattle.book_files.specs.Books.{book_sheet_of};
 ghost use Rattle.book_files.specs.Folder.{load_of};
 ghost use Rattle.book_files.specs.Outside.{Rose};
@@ -38,9 +38,12 @@ pub(crate) fn open_books<F: Folder>(
     let mut sheets = Vec::new(alloc);
     let mut filled: u32 = 0;
     'books: for file in files {
-        let sheet = open_book(alloc, folder, &sheets, filled, file)?;
+        let sheet = match open_book(alloc, folder, &sheets, filled, file) {
+            Ok(sheet) => sheet,
+            Err(ending) => return Err(ending),
+        };
         filled += sheet.cells.items().len() as u32;
-        sheets.push(sheet)?;
+        join(&mut sheets, sheet)?;
     }
     Ok(sheets)
 }
@@ -53,7 +56,17 @@ pub(crate) fn empty_book(alloc: Global) -> Result<Vec<BookSheet>, AllocError>
         name: Text::from_str(alloc, "Sheet1")?,
         cells: BookCells::new(alloc)?,
     };
-    vec![in alloc; sheet]
+    let mut sheets = Vec::new(alloc);
+    sheets.push(sheet)?;
+    Ok(sheets)
+}
+
+// Puts a sheet behind the others.
+fn join(sheets: &mut Vec<BookSheet>, sheet: BookSheet) -> Result<(), AllocError>
+    ensures { OnOk result (sheets.new.items ≡ sheets.old.items ++ sheet ∷ []) }
+{
+    sheets.push(sheet)?;
+    Ok(())
 }
 
 // The sheet of the book of this file, which stands behind other sheets that fill so many cells.

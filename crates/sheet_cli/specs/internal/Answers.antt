@@ -50,17 +50,23 @@ IsLineOfStop NoMemory line = ⊥
 abbrev pub EndsAt : Bool → State → Command → Bool → Type 0
 EndsAt strict d c ends = (strict && is_refused d c) ≡ ends
 
--- a record was answered: the line of a command went to the sink, which the run ends with or goes on from in the next
--- session; what is no command gave the last line
+-- a command was answered: its line went to the sink, which the run ends with, or goes on from in the next session
+abbrev pub AnswersCommand : Bool → Command → Option ℕ → Engine → Engine → Option (List ℕ) → Option (List ℕ) → Type 0
+AnswersCommand strict c None before after old new = (d : State) → StandsFor before d → EndsAt strict d c false × Appends old new (reply c d) × StandsFor after (next_state c d)
+AnswersCommand strict c (Some status) before after old new = (d : State) → StandsFor before d → EndsAt strict d c true × Appends old new (reply c d) × (status ≡ 1)
+
+-- a record was answered: as its command, or by the last line where it is none
 abbrev pub AnswersRecord : Bool → Result Command ScriptError → ℕ → Option ℕ → Engine → Engine → Option (List ℕ) → Option (List ℕ) → Type 0
-AnswersRecord strict (Ok c) k None before after old new = (d : State) → StandsFor before d → EndsAt strict d c false × Appends old new (reply c d) × StandsFor after (next_state c d)
-AnswersRecord strict (Ok c) k (Some status) before after old new = (d : State) → StandsFor before d → EndsAt strict d c true × Appends old new (reply c d) × (status ≡ 1)
+AnswersRecord strict (Ok c) k end before after old new = AnswersCommand strict c end before after old new
 AnswersRecord strict (Err e) k None before after old new = ⊥
 AnswersRecord strict (Err e) k (Some status) before after old new = Appends old new (line_of (record_text k e)) × (status ≡ 3)
 
--- the front of the line that answers a record went to the sink
+-- the front of the line that answers a command, or a record, went to the sink
+abbrev pub PartOfCommand : Command → Engine → Option (List ℕ) → Option (List ℕ) → Type 0
+PartOfCommand c before old new = (d : State) → StandsFor before d → AppendsPart old new (reply c d)
+
 abbrev pub AnswersPart : Result Command ScriptError → ℕ → Engine → Option (List ℕ) → Option (List ℕ) → Type 0
-AnswersPart (Ok c) k before old new = (d : State) → StandsFor before d → AppendsPart old new (reply c d)
+AnswersPart (Ok c) k before old new = PartOfCommand c before old new
 AnswersPart (Err e) k before old new = AppendsPart old new (line_of (record_text k e))
 
 -- how a failed write stops a run

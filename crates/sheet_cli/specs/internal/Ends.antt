@@ -54,7 +54,7 @@ is_named _ = true
 abbrev pub TakesScript : {X : Type 0} → Option (List ℕ) → Result X Ending → Option (List ℕ) → Option (List ℕ) → Type 0
 TakesScript (Some file) r old new = new ≡ old
 TakesScript None (Ok x) old new = ((bs : List ℕ) × Consumes old new bs) × IsAtEnd new
-TakesScript None (Err (ending.Says text status)) old new = Loses old new (MAX_INPUT + 1)
+TakesScript None (Err (ending.Says text status)) old new = Loses old new (MAX_INPUT + 1) × (status ≡ 8)
 TakesScript None (Err _) old new = ⊤
 
 -- a sheet can stand behind others, which fill so many cells

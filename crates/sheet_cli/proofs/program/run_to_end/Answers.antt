@@ -1,7 +1,21 @@
--- A script that is too long was read up to one byte after the limit.
-use Rattle.std.proofs.Common.{ap, Err}
-use Rattle.sheet_cli.proofs.Outcomes.{was_read-too_long}
+use Rattle.std.proofs.Common.{rules, ◌≡◌, ◌≢◌, ◌⊎◌, ◌↔◌, None, Some, map, IfOk, OnOk, IsErrOf, string_bytes, ℕ, ◌+◌, ◌-◌, ◌*◌, ◌<◌, ◌≤◌, length, ◌/◌, ◌%◌, Bool, true, false, nat_eq, nat_lt, List, [], ◌∷◌, ◌++◌, slice_index_or, slice_set, bit_and, bit_or, Fits, w8, w32, w64, Bor, MutBor}
+use Rattle.std.specs.Io.KnownBytes.{Appends}
+use Rattle.book_files.specs.Outside.{Rose}
+use Rattle.command_words.specs.Words.{IsInRange, meaning, seen}
+use Rattle.sheet_cli.specs.Run.{IsEndStatus, IsStatus, Leaves, Prints, PrintsPart, WasRead, fault_line, outcome, outcome_meant, outcome_said, source_left, told_by}
+use Rattle.sheet_cli.specs.internal.Ends.{EndPrinted, IsSaidStatus, Reads, Runs}
 use Rattle.sheet_cli.proofs.program.run_to_end.Goals as goal
 
-pub returns-in_ok-print-in-Err-TooLong-clause-source : goal.returns-in_ok-print-in-Err-TooLong-clause-source
-returns-in_ok-print-in-Err-TooLong-clause-source g c = was_read-too_long _ _ (c.in-Err-TooLong.ensures.too_long (ap Err c.in-Err-TooLong.field-0-is))
+-- src/program.rt:94:13
+pub returns-in_err-print-in-Err-Usage-clause-runs :
+    goal.returns-in_err-print-in-Err-Usage-clause-runs
+returns-in_err-print-in-Err-Usage-clause-runs g c = ?
+
+-- src/program.rt:74:1
+pub returns-in-Ok-clause-runs : goal.returns-in-Ok-clause-runs
+returns-in-Ok-clause-runs g c = ?
+
+-- src/program.rt:74:1
+pub returns-in_ok-print-in-Err-Usage-clause-runs :
+    goal.returns-in_ok-print-in-Err-Usage-clause-runs
+returns-in_ok-print-in-Err-Usage-clause-runs g c = ?
