@@ -1,5 +1,5 @@
 -- The sheets of books, read one after the other: a session can begin with them. Serves the books that a run is told.
-use Rattle.std.proofs.Common.{◌≡◌, ◌≢◌, ◌∙◌, sym, ap, subst, refl, arith, ℕ, zero, suc, ◌+◌, ◌≤◌, ◌<◌, ◌&&◌, ◌||◌, Bool, true, false, cond, List, [], ◌∷◌, ◌++◌, length, filter, get_or, map, Option, Some, None, Result, Ok, Err, nat_le}
+use Rattle.std.proofs.Common.{◌≡◌, ◌≢◌, ◌∙◌, sym, ap, subst, refl, arith, ℕ, zero, suc, ◌+◌, ◌≤◌, ◌<◌, ◌&&◌, ◌||◌, Bool, true, false, cond, List, [], ◌∷◌, ◌++◌, length, filter, get_or, map, Option, Some, None, Result, Ok, Err, nat_le, nat_lt}
 use Rattle.std.specs.Prelude.{IsTrue, not}
 use Rattle.std.specs.List.{All, AllPairs, filter_map, list_any}
 use Rattle.std.specs.FinMap as fin
@@ -14,6 +14,7 @@ use Rattle.cell_addr.specs.Text.{folded}
 use Rattle.cell_addr.proofs.Places.{place_cmp-IsTotalOrder}
 use Rattle.book_files.specs.Books.{AnswersSheet, book_sheet_of, field_fault, filled_after, first_fault, is_filled, or_behind, sheet_name_of, sheet_unless, file_cells}
 use Rattle.book_files.specs.declared.fault.BookFault.{BookFault}
+use Rattle.book_files.specs.declared.fault.BookFault.TheVariants.{NotUtf8, BadSheetName, Rows, Columns, FieldLength, Cells}
 use Rattle.book_model.specs.Given.{CanBegin, GivenSheet, IsGivenCell, IsGivenSheet, StandApart, given_entries, given_entry, given_sheet, numbered, workbook_given}
 use Rattle.book_model.specs.declared.given.BookCell.{BookCell}
 use Rattle.book_model.specs.declared.given.BookSheet.{BookSheet}
@@ -110,7 +111,7 @@ and-true b = refl
 
 passes-count : (filled : ℕ) (c : BookCell) (b : Bool) → is_filled c ≡ b → field_fault filled c ≡ None → filled ≤ 1000000 → cond b (filled + 1) filled ≤ 1000000
 passes-count filled c true is none most =
-    let last = last_passes _ _ _ (is_filled c && nat_le 1000000 filled) _ _ _ _ none in
+    let last = last_passes (nat_le 40000 c.row) (nat_le 18278 c.col) (nat_lt 8192 (length c.text)) (is_filled c && nat_le 1000000 filled) Rows Columns FieldLength Cells none in
     let full : nat_le 1000000 filled ≡ false = sym (ap (λ t. t && nat_le 1000000 filled) is) ∙ last in
     grind (arith, nat_tests, full)
 passes-count filled c false is none most = most

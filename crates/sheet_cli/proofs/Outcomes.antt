@@ -1,6 +1,6 @@
 -- A run over the records of a script, one record at a time: what the call of the program promises rests on this.
 use Rattle.std.proofs.Common.{◌≡◌, ◌∙◌, sym, ap, subst, refl, arith, ℕ, zero, suc, ◌+◌, ◌≤◌, ◌&&◌, Bool, true, false, cond, List, [], ◌∷◌, ◌++◌, length, drop, take, Option, Some, None, Result, Ok, Err, append_assoc}
-use Rattle.std.specs.Prelude.{⊤}
+use Rattle.std.specs.Prelude.{⊤, IsErrAnd}
 use Rattle.std.proofs.lemmas.List.{append-nil}
 use Rattle.csv.specs.declared.parser.State.{State as Reading}
 use Rattle.csv.specs.declared.parser.State.TheVariants as st
@@ -214,7 +214,12 @@ wrote_part (Some xs) None bytes r write.NoMemory is part none = absurd (none is)
 wrote_part (Some xs) (Some ys) bytes r write.NoMemory is part none = (0, none is ∙ sym (append-nil xs))
 
 -- what was written of a line before a run was stopped
-pub line_part : {X : Type 0} (line : List ℕ) (old new : Option (List ℕ)) (s : Stop) → PrintedLine line old new {X} (Err s) → AppendsPart old new line
+pub line_part : {X : Type 0} (line : List ℕ) (old new : Option (List ℕ)) (s : Stop) → PrintedLine line old new {X = X} (Err s) → AppendsPart old new line
 line_part line old new stop.ReadFault printed = absurd printed
 line_part line old new stop.WriteFault printed = printed
 line_part line old new stop.NoMemory printed = printed
+
+-- want of memory stopped a run, of which a part was printed
+pub no_memory : (o : Outcome) (old new : Option (List ℕ)) (r : Result ℕ Stop) → IsErrAnd r (λ e. e ≡ stop.NoMemory) → AppendsPart old new o.0 → Printed o old new r
+no_memory o old new (Ok status) is part = absurd is
+no_memory o old new (Err e) is part = stopped o old new e (λ fault. cc) part

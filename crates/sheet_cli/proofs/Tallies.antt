@@ -1,5 +1,5 @@
 -- Answers counted one after the other: a summary is that of all. Serves the commands that a run generates.
-use Rattle.std.proofs.Common.{◌≡◌, ◌∙◌, sym, ap, subst, refl, arith, ℕ, ◌+◌, ◌&&◌, Bool, true, false, cond, List, [], ◌∷◌, ◌++◌, length, filter, codes, Option, Some, None}
+use Rattle.std.proofs.Common.{◌≡◌, ◌∙◌, sym, ap, subst, refl, arith, ℕ, suc, ◌+◌, ◌&&◌, Bool, true, false, cond, List, [], ◌∷◌, ◌++◌, length, filter, codes, Option, Some, None}
 use Rattle.std.specs.Fmt.{decimal}
 use Rattle.book_engine.specs.Engine.{StandsFor}
 use Rattle.book_engine.specs.declared.engine.Engine.{Engine}
@@ -34,7 +34,7 @@ tallied-start strict engine d commands t none stands =
     rw none (d, (stands, (zero _, zero _, zero _), λ s. refl))
 
 length-one : (b : Bool) (a : Answered) (rest : List Answered) → a.refused ≡ b → length (filter (λ x. x.refused) (a ∷ rest)) ≡ one_if b + length (filter (λ x. x.refused) rest)
-length-one true a rest is = rw is refl
+length-one true a rest is = let one : suc (length (filter (λ x. x.refused) rest)) ≡ 1 + length (filter (λ x. x.refused) rest) = omega arith in rw is one
 length-one false a rest is = let zero : 0 + length (filter (λ x. x.refused) rest) ≡ length (filter (λ x. x.refused) rest) = omega arith in rw is (sym zero)
 
 refusal-after : (strict : Bool) (a : Answered) (rest all : List Answered) → (strict && a.refused) ≡ false → EndsAlike strict (a ∷ rest) all → EndsAlike strict rest all

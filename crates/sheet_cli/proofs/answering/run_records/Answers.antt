@@ -1,43 +1,51 @@
-use Rattle.std.proofs.Common.{rules, ◌≡◌, ◌⊎◌, ◌+◌, ◌&&◌, ◌≤◌, IfOk, IfSome, OnErr, IsErrOf, length, string_bytes, ℕ, ◌-◌, ◌*◌, ◌<◌, ◌/◌, ◌%◌, Bool, true, false, nat_eq, nat_lt, List, [], ◌∷◌, ◌++◌, slice_index_or, slice_set, bit_and, bit_or, Fits, w8, w32, w64, Bor, MutBor}
-use Rattle.book_files.specs.Outside.{Rose}
-use Rattle.book_files.specs.declared.input.TheConstants.{MAX_INPUT}
-use Rattle.book_model.specs.Given.{CanBegin, given_sheets}
-use Rattle.book_model.specs.Replies.{line_of}
-use Rattle.book_model.specs.declared.limits.TheConstants.{MAX_UNDO}
-use Rattle.command_words.specs.Words.{seen}
-use Rattle.book_engine.specs.Engine.{StandsFor}
-use Rattle.book_model.specs.Workbook.{State}
-use Rattle.csv.specs.Reading.{default_config, records, strip_bom}
-use Rattle.csv.specs.Records.{fields_of}
-use Rattle.generator.specs.declared.TheConstants.{MAX_SIZE}
-use Rattle.script_lang.specs.Command.{command_of}
-use Rattle.sheet_cli.specs.Answering.{answers_from, cause_text, outcome_from, record_text, summary_outcome}
-use Rattle.sheet_cli.specs.Run.{generated_outcome, script_outcome}
-use Rattle.sheet_cli.specs.internal.Answers.{AnswersCommand, AnswersPart, AnswersRecord, PartOfCommand}
-use Rattle.sheet_cli.specs.internal.Ends.{EndsScript, Printed, PrintedLine}
-use Rattle.sheet_cli.specs.internal.Tallied.{Adds, summary_of}
+-- Each record that is answered takes the output one step further, and the last one completes it.
+use Rattle.std.proofs.Common.{ap, refl, arith, length, Ok, Err}
+use Rattle.csv.specs.Reading.{records, default_config, strip_bom}
+use Rattle.sheet_cli.specs.Answering.{outcome_from}
+use Rattle.sheet_cli.proofs.Outcomes.{breaks, completes-start, ends, few_records, goes_on, no_memory, so_far, stopped, stops}
 use Rattle.sheet_cli.proofs.answering.run_records.Goals as goal
 
--- src/answering.rt:73:5
 pub records-init : goal.records-init
-records-init g c = ?
+records-init g c =
+    let few = few_records c.args.script.now in
+    rw c.open-records.ensures (record {
+      leads = λ d stands. (d, (stands, completes-start _ _, refl));
+      counted = omega (arith, few, c.requires);
+      later = omega arith;
+    })
 
--- src/answering.rt:73:21
-pub returns-in_err-advance-clause-printed : goal.returns-in_err-advance-clause-printed
-returns-in_err-advance-clause-printed g c = ?
-
--- src/answering.rt:73:5
 pub records-preserved : goal.records-preserved
-records-preserved g c = ?
+records-preserved g c =
+    let inv = c.records.invariant in
+    let found = c.in_ok-advance.ensures.found (ap Ok c.if-branch.true) in
+    let did = rw (c.in-Ok-None.field-0-is, c.fields.ensures) at c.in-Ok-None.ensures.answered in
+    let shorter = ap length found in
+    record {
+      leads = λ d stands. goes_on _ _ _ _ _ _ _ _ _ _ _ found did (inv.leads d stands);
+      counted = omega (arith, shorter, inv.counted);
+      later = omega (arith, inv.later, c.in-Ok-None.ensures.later);
+    }
 
--- src/answering.rt:77:33
+pub returns-in_err-advance-clause-printed : goal.returns-in_err-advance-clause-printed
+returns-in_err-advance-clause-printed g c =
+    λ d stands. no_memory (outcome_from c.args.strict d 1 (records default_config (strip_bom c.args.script.now))) (g.O.Sink.taken c.args.out.now) (g.O.Sink.taken c.records.out) c.from_residual.result c.from_residual.ensures.1
+    (so_far _ _ _ _ _ _ _ (c.records.invariant.leads d stands))
+
 pub returns-in-Ok-Some-clause-printed : goal.returns-in-Ok-Some-clause-printed
-returns-in-Ok-Some-clause-printed g c = ?
+returns-in-Ok-Some-clause-printed g c =
+    let found = c.in_ok-advance.ensures.found (ap Ok c.if-branch.true) in
+    let did = rw (c.in-Ok-Some.field-0-is, c.fields.ensures) at c.in-Ok-Some.ensures.answered in
+    λ d stands. stops _ _ _ _ _ _ _ _ _ _ _ _ found did (c.records.invariant.leads d stands)
 
--- src/answering.rt:78:26
 pub returns-in-Err-clause-printed : goal.returns-in-Err-clause-printed
-returns-in-Err-clause-printed g c = ?
+returns-in-Err-clause-printed g c =
+    let found = c.in_ok-advance.ensures.found (ap Ok c.if-branch.true) in
+    let part = rw c.fields.ensures at c.in-Err.ensures.part in
+    λ d stands. stopped (outcome_from c.args.strict d 1 (records default_config (strip_bom c.args.script.now))) (g.O.Sink.taken c.args.out.now) (g.O.Sink.taken c.run_record.new.out) c.in-Err.stop
+    (λ fault. c.in-Err.ensures.no_read_fault (ap Err fault))
+    (breaks _ _ _ _ _ _ _ _ _ _ found part (c.records.invariant.leads d stands))
 
--- src/answering.rt:58:1
 pub returns-clause-printed : goal.returns-clause-printed
-returns-clause-printed g c = ?
+returns-clause-printed g c =
+    let end = c.in_ok-advance.ensures.end (ap Ok c.if-branch.false) in
+    λ d stands. ends _ _ _ c.records.session.engine _ _ _ end (c.records.invariant.leads d stands)

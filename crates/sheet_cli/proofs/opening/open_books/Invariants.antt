@@ -1,5 +1,5 @@
 -- The sheets that were read so far, and the books that are left, come to what all books come to.
-use Rattle.std.proofs.Common.{◌≡◌, ◌≤◌, drop, Some}
+use Rattle.std.proofs.Common.{◌≡◌, ◌≤◌, [], drop, Some}
 use Rattle.book_files.specs.Folder.{Files}
 use Rattle.book_model.specs.Given.{given_sheets}
 use Rattle.sheet_cli.specs.Opening.{books_joined}
