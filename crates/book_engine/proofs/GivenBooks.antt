@@ -1,15 +1,15 @@
 -- Sheets that an engine begins with, and the texts that are given to their cells from the last to the first. Serves
 -- the making of an engine.
-use Rattle.std.proofs.Common.{◌≡◌, ◌≢◌, ◌∙◌, sym, ap, subst, refl, arith, ℕ, zero, suc, ◌≤◌, ◌<◌, ◌+◌, ◌-◌, List, [], ◌∷◌, ◌++◌, length, get_or, take, drop, Option, Some, None}
-use Rattle.std.specs.List.{All, AllPairs, filter_map, cons_option}
+use Rattle.std.proofs.Common.{◌≡◌, ◌∙◌, sym, ap, refl, arith, ℕ, zero, suc, ◌<◌, ◌+◌, List, [], ◌∷◌, ◌++◌, length, get_or, take, drop, Option, Some, None}
+use Rattle.std.specs.List.{filter_map, cons_option}
 use Rattle.std.specs.FinMap as fin
-use Rattle.std.proofs.lemmas.List.{drop_more, get_or-take, length-take-le, length-append, drop_all}
+use Rattle.std.proofs.lemmas.List.{drop_more, get_or-take, length-take-le, drop_all}
 use Rattle.std.proofs.lemmas.Grind.{take_at_read}
 use Rattle.cell_addr.specs.Text.{folded}
 use Rattle.cell_addr.specs.declared.place.Place.{Place}
 use Rattle.cell_values.specs.Workbook.{Book as Contents, Content}
 use Rattle.name_table.specs.SheetLists.{CanJoin}
-use Rattle.book_model.specs.Given.{CanBegin, IsGivenCell, given_entries, given_entry, numbered, session_given}
+use Rattle.book_model.specs.Given.{CanBegin, given_entries, given_entry, numbered}
 use Rattle.book_model.specs.Workbook.{Workbook}
 use Rattle.book_model.specs.declared.given.BookCell.{BookCell}
 use Rattle.book_model.specs.declared.given.BookSheet.{BookSheet}
@@ -17,7 +17,7 @@ use Rattle.book_engine.specs.internal.Cells.{with_cells, with_given}
 
 -- a workbook with these sheets, their cells empty
 abbrev pub empty_workbook : List BookSheet → Workbook
-empty_workbook books = record { sheets = numbered 0 books; cells = fin.empty }
+empty_workbook books = record { sheets = numbered 0 books; cells = fin.empty; names = fin.empty }
 
 get_or-numbered : (n : ℕ) (books : List BookSheet) (i : ℕ) (d : ℕ × List ℕ) (e : BookSheet) → i < length books → get_or (numbered n books) i d ≡ (n + i, (get_or books i e).name)
 get_or-numbered n [] i d e l = absurd (omega arith)
@@ -56,13 +56,13 @@ numbered-push n (a ∷ books) b =
 
 -- a workbook with one more sheet
 abbrev pub with_one : Workbook → ℕ → List ℕ → Workbook
-with_one b n name = record { sheets = b.sheets ++ (n, name) ∷ []; cells = b.cells }
+with_one b n name = record { sheets = b.sheets ++ (n, name) ∷ []; cells = b.cells; names = b.names }
 
 one_more : (books : List BookSheet) (b : BookSheet) → with_one (empty_workbook books) (length books) b.name ≡ empty_workbook (books ++ b ∷ [])
 one_more books b =
     let same : length books ≡ 0 + length books = omega arith in
-    ap (λ n. record { sheets = numbered 0 books ++ (n, b.name) ∷ []; cells = fin.empty }) same
-    ∙ ap (λ s. record { sheets = s; cells = fin.empty }) (sym (numbered-push 0 books b))
+    ap (λ n. record { sheets = numbered 0 books ++ (n, b.name) ∷ []; cells = fin.empty; names = fin.empty }) same
+    ∙ ap (λ s. record { sheets = s; cells = fin.empty; names = fin.empty }) (sym (numbered-push 0 books b))
 
 -- the sheets with the next one
 pub joined : (books : List BookSheet) (i : ℕ) (b : BookSheet) (d e : Workbook) (n : ℕ) (name : List ℕ) → i < length books → b ≡ get_or books i b → d ≡ empty_workbook (take i books) → n ≡ i → name ≡ b.name

@@ -1,5 +1,5 @@
 -- Sheets that an engine can begin with: none, and one with one cell. Serves tests and examples.
-use Rattle.std.proofs.Common.{◌≡◌, ◌≢◌, ◌∙◌, sym, ap, refl, arith, ℕ, zero, suc, ◌<◌, ◌≤◌, List, [], ◌∷◌, ◌++◌, length, codes}
+use Rattle.std.proofs.Common.{◌≡◌, ◌≢◌, ap, refl, arith, zero, suc, ◌≤◌, List, [], ◌∷◌, ◌++◌, length, codes}
 use Rattle.std.specs.Prelude.{All, AllPairs}
 use Rattle.std.specs.List.{filter_map}
 use Rattle.std.specs.FinMap as fin
@@ -8,7 +8,7 @@ use Rattle.cell_addr.specs.Order.{place_cmp}
 use Rattle.cell_addr.specs.Text.{folded}
 use Rattle.cell_addr.proofs.Places.{place_cmp-IsTotalOrder}
 use Rattle.cell_values.specs.Workbook.{Content}
-use Rattle.book_model.specs.Given.{CanBegin, IsGivenCell, IsGivenSheet, StandApart, given_entries, given_entry, numbered, workbook_given}
+use Rattle.book_model.specs.Given.{CanBegin, IsGivenCell, IsGivenSheet, StandApart, given_entry, numbered, workbook_given}
 use Rattle.book_model.specs.declared.given.BookCell.{BookCell}
 use Rattle.book_model.specs.declared.given.BookSheet.{BookSheet}
 use Rattle.book_model.proofs.Counts.{len-from_entries, length-filter_map}

@@ -1,5 +1,5 @@
 // The engine of given sheets.
-ghost use Rattle.std.specs.Prelude.{◌≡◌, ◌≤◌, IfOk, OnOk, [], length, filter_map};
+ghost use Rattle.std.specs.Prelude.{◌≡◌, ◌≤◌, IfOk, OnOk, [], length, filter_map, pos};
 ghost use Rattle.std.specs.FinMap as map;
 ghost use Rattle.std.specs.List.{All, cons_option};
 ghost use Rattle.book_model.specs.Given.{CanBegin, IsGivenCell, given_entries, given_entry, numbered, session_given, workbook_given};
@@ -21,7 +21,7 @@ impl Parts {
     pub(crate) fn build(alloc: Global, books: &[BookSheet], limit: u16) -> Result<Parts, AllocError>
         requires can { CanBegin books.now }
         requires limit { limit ≤ MAX_UNDO }
-        ensures state { IfOk result (λ parts. state_of parts ≡ session_given limit books.now) }
+        ensures state { IfOk result (λ parts. state_of parts ≡ session_given limit [] (pos 0) books.now) }
         ensures fits { IfOk result Fits }
     {
         let mut pool = Pool::new(alloc)?;
@@ -53,7 +53,7 @@ impl Book {
     // The workbook of these sheets, their cells empty.
     fn with_sheets(alloc: Global, books: &[BookSheet]) -> Result<Book, AllocError>
         requires { CanBegin books.now }
-        ensures book { IfOk result (λ book. book_of (stored book) ≡ record { sheets = numbered 0 books.now; cells = map.empty }) }
+        ensures book { IfOk result (λ book. book_of (stored book) ≡ record { sheets = numbered 0 books.now; cells = map.empty; names = map.empty }) }
         ensures stand { IfOk result (λ book. Stand (stored book)) }
     {
         let mut book = Book::new(alloc)?;

@@ -2,7 +2,8 @@
 ghost use Rattle.std.specs.Prelude.{◌≡◌, ◌≤◌, IfOk, length, option_map};
 ghost use Rattle.cell_addr.specs.Sheets.{id_in, name_in};
 ghost use Rattle.shift_core.specs.declared.shift.Shift.TheVariants as shifts;
-ghost use Rattle.book_model.specs.Answers.{content_text, formula_of, value_of};
+ghost use Rattle.custom_fn.specs.Registry.{customs_of};
+ghost use Rattle.book_model.specs.Answers.{content_text, formula_of, name_value_of, tried_value, value_of};
 ghost use Rattle.book_model.specs.Given.{CanBegin, session_given};
 ghost use Rattle.book_model.specs.Operation as op;
 ghost use Rattle.book_model.specs.Replies.{first_sheet};
@@ -14,9 +15,12 @@ ghost use Rattle.book_engine.specs.internal.FitsProp.{fits-prop};
 use crate::history::Entry;
 use crate::parts::Parts;
 use crate::stop::Stop;
-use book_model::BookSheet;
+use crate::waiting::Waiting;
+use book_model::{BookSheet, Refusal};
 use cell_addr::{Block, Place, SheetNames, Text};
 use cell_value::Scalar;
+use clip_board::Clip;
+use custom_fn::Registry;
 use shift_core::Shift;
 use std::alloc::{AllocError, Global};
 use std::sync::ledger::Ledger;
@@ -29,6 +33,9 @@ use undo_book::UndoBook;
 #[derive(Drop)]
 pub struct Engine {
     parts: Parts,
+    waiting: Waiting,
+    registry: Registry,
+    day: i32,
     ghost fits: { Fits parts } by { fits-prop parts },
 }
 
@@ -36,14 +43,26 @@ impl Engine {
     ghost use Rattle.book_engine.specs.Engine.{Does, DoesAlways, NoAnswer, StandsFor};
 
     /// The engine of a workbook with these sheets, numbered from 0 in their order, and these texts in their cells. All
-    /// formulas are read when all sheets are there. At most `limit` steps can be undone, which is at most 1,000.
-    pub fn build(alloc: Global, books: &[BookSheet], limit: u16) -> Result<Engine, AllocError>
+    /// formulas are read when all sheets are there. At most `limit` steps can be undone, which is at most 1,000. Formulas
+    /// call the custom functions of the registry, and TODAY is the day of this serial number.
+    pub fn build(
+        alloc: Global,
+        books: &[BookSheet],
+        limit: u16,
+        registry: Registry,
+        day: i32,
+    ) -> Result<Engine, AllocError>
         requires can { CanBegin books.now }
         requires limit { limit ≤ MAX_UNDO }
-        ensures { IfOk result (λ engine. StandsFor engine (session_given limit books.now)) }
+        ensures { IfOk result (λ engine. StandsFor engine (session_given limit (customs_of registry) day books.now)) }
     {
         let parts = Parts::build(alloc, books, limit)?;
-        Ok(Engine { parts })
+        Ok(Engine {
+            parts,
+            waiting: Waiting::nothing(),
+            registry,
+            day,
+        })
     }
 
     /// Gives a cell the content that the text says: nothing, a formula, a number, a truth value or a text. A formula that
@@ -55,7 +74,9 @@ impl Engine {
     pub fn set(&mut self, at: Place, text: &str) -> Result<(), Stop>
         ensures { Does (op.set at text.now) NoAnswer self.old self.new result }
     {
-        self.parts.set(at, text)
+        self.parts.set(at, text)?;
+        self.waiting.clear_cut();
+        Ok(())
     }
 
     /// Empties the cells of a block.
@@ -65,7 +86,9 @@ impl Engine {
     pub fn clear(&mut self, area: Block) -> Result<(), Stop>
         ensures { Does (op.clear area) NoAnswer self.old self.new result }
     {
-        self.parts.clear(area)
+        self.parts.clear(area)?;
+        self.waiting.clear_cut();
+        Ok(())
     }
 
     /// Puts so many rows before a row of the sheet.
@@ -77,7 +100,9 @@ impl Engine {
         ensures { Does (op.structural (shifts.InsertRows sheet at count)) NoAnswer self.old self.new result }
     {
         self.parts
-            .structural(&Shift::InsertRows { sheet, at, count })
+            .structural(&Shift::InsertRows { sheet, at, count })?;
+        self.waiting.clear_cut();
+        Ok(())
     }
 
     /// Deletes so many rows of the sheet from a row on, with their cells.
@@ -88,7 +113,9 @@ impl Engine {
         ensures { Does (op.structural (shifts.DeleteRows sheet at count)) NoAnswer self.old self.new result }
     {
         self.parts
-            .structural(&Shift::DeleteRows { sheet, at, count })
+            .structural(&Shift::DeleteRows { sheet, at, count })?;
+        self.waiting.clear_cut();
+        Ok(())
     }
 
     /// Puts so many columns before a column of the sheet. Its errors are those of [`Engine::insert_rows`].
@@ -96,7 +123,9 @@ impl Engine {
         ensures { Does (op.structural (shifts.InsertCols sheet at count)) NoAnswer self.old self.new result }
     {
         self.parts
-            .structural(&Shift::InsertCols { sheet, at, count })
+            .structural(&Shift::InsertCols { sheet, at, count })?;
+        self.waiting.clear_cut();
+        Ok(())
     }
 
     /// Deletes so many columns of the sheet from a column on. Its errors are those of [`Engine::delete_rows`].
@@ -104,7 +133,9 @@ impl Engine {
         ensures { Does (op.structural (shifts.DeleteCols sheet at count)) NoAnswer self.old self.new result }
     {
         self.parts
-            .structural(&Shift::DeleteCols { sheet, at, count })
+            .structural(&Shift::DeleteCols { sheet, at, count })?;
+        self.waiting.clear_cut();
+        Ok(())
     }
 
     /// Moves so many rows of the sheet from a row on to before another row.
@@ -120,7 +151,9 @@ impl Engine {
             from,
             count,
             before,
-        })
+        })?;
+        self.waiting.clear_cut();
+        Ok(())
     }
 
     /// Moves so many columns of the sheet from a column on to before another one. Its errors are those of
@@ -133,7 +166,9 @@ impl Engine {
             from,
             count,
             before,
-        })
+        })?;
+        self.waiting.clear_cut();
+        Ok(())
     }
 
     /// Moves the cells of a block to the block of the same size that begins at a place. They replace what stood there, and
@@ -145,7 +180,9 @@ impl Engine {
     pub fn move_block(&mut self, source: Block, to: Place) -> Result<(), Stop>
         ensures { Does (op.structural (shifts.MoveBlock source to)) NoAnswer self.old self.new result }
     {
-        self.parts.structural(&Shift::MoveBlock { source, to })
+        self.parts.structural(&Shift::MoveBlock { source, to })?;
+        self.waiting.clear_cut();
+        Ok(())
     }
 
     /// Adds a sheet at the end of the list, and answers its number. A number is never given to another new sheet.
@@ -156,7 +193,9 @@ impl Engine {
     pub fn add_sheet(&mut self, name: &str) -> Result<u32, Stop>
         ensures { Does (op.add_sheet name.now) (λ d number. number ≡ d.next_sheet) self.old self.new result }
     {
-        self.parts.add_sheet(name)
+        let number = self.parts.add_sheet(name)?;
+        self.waiting.clear_cut();
+        Ok(number)
     }
 
     /// Drops a sheet with its cells. References to it are lost.
@@ -166,7 +205,9 @@ impl Engine {
     pub fn drop_sheet(&mut self, sheet: u32) -> Result<(), Stop>
         ensures { Does (op.structural (shifts.DropSheet sheet)) NoAnswer self.old self.new result }
     {
-        self.parts.structural(&Shift::DropSheet { sheet })
+        self.parts.structural(&Shift::DropSheet { sheet })?;
+        self.waiting.clear_cut();
+        Ok(())
     }
 
     /// Gives a sheet another name. Formulas keep pointing at it.
@@ -176,7 +217,9 @@ impl Engine {
     pub fn rename_sheet(&mut self, sheet: u32, name: &str) -> Result<(), Stop>
         ensures { Does (op.rename_sheet sheet name.now) NoAnswer self.old self.new result }
     {
-        self.parts.rename_sheet(sheet, name)
+        self.parts.rename_sheet(sheet, name)?;
+        self.waiting.clear_cut();
+        Ok(())
     }
 
     /// Empties the cells of a sheet.
@@ -186,7 +229,92 @@ impl Engine {
     pub fn clear_sheet(&mut self, sheet: u32) -> Result<(), Stop>
         ensures { Does (op.clear_sheet sheet) NoAnswer self.old self.new result }
     {
-        self.parts.clear_sheet(sheet)
+        self.parts.clear_sheet(sheet)?;
+        self.waiting.clear_cut();
+        Ok(())
+    }
+
+    /// Adds a name with the formula of the text: in the scope of a sheet, or of the whole workbook where there is none. Every
+    /// reference of it has both `$`, and in a name of the whole workbook its sheet.
+    ///
+    /// # Errors
+    /// `NoSheet` for a scope that doesn't exist, `NameInvalid` where the word isn't of the form of a name
+    /// ([`book_model::is_name`]), `NameTaken` where the scope has the name, in some case of its ASCII letters, `TextLimit`
+    /// past 8,192 bytes, `BadFormula` where the text is no formula, `RelativeAddress` where a reference lacks a `$` or its
+    /// sheet; the first that holds.
+    pub fn add_name(&mut self, name: &str, scope: Option<u32>, text: &str) -> Result<(), Stop>
+        ensures { Does (op.add_name name.now scope text.now) NoAnswer self.old self.new result }
+    {
+        self.parts.add_name(name, scope, text)?;
+        self.waiting.clear_cut();
+        Ok(())
+    }
+
+    /// Gives a name of the scope another formula.
+    ///
+    /// # Errors
+    /// `NoSheet`, `NoSuchName` where the scope hasn't the name, and `TextLimit`, `BadFormula` and `RelativeAddress` as for
+    /// [`Engine::add_name`].
+    pub fn change_name(&mut self, name: &str, scope: Option<u32>, text: &str) -> Result<(), Stop>
+        ensures { Does (op.change_name name.now scope text.now) NoAnswer self.old self.new result }
+    {
+        self.parts.change_name(name, scope, text)?;
+        self.waiting.clear_cut();
+        Ok(())
+    }
+
+    /// Takes a name of the scope away.
+    ///
+    /// # Errors
+    /// `NoSheet`, `NoSuchName`.
+    pub fn remove_name(&mut self, name: &str, scope: Option<u32>) -> Result<(), Stop>
+        ensures { Does (op.remove_name name.now scope) NoAnswer self.old self.new result }
+    {
+        self.parts.remove_name(name, scope)?;
+        self.waiting.clear_cut();
+        Ok(())
+    }
+
+    /// Copies a block: what its cells hold waits to be pasted, until something else is copied or cut. Later changes don't
+    /// reach it. It is no step. Costs about the filled cells of the block.
+    ///
+    /// # Errors
+    /// `NoSheet`, `Outside` where the block isn't within the limits of a sheet.
+    pub fn copy(&mut self, area: Block) -> Result<(), Stop>
+        ensures { Does (op.copy area) NoAnswer self.old self.new result }
+    {
+        self.waiting = self.parts.copied(area)?;
+        Ok(())
+    }
+
+    /// Cuts a block, which is moved where it is pasted; the next change ends that. It is no step. Its errors are those of
+    /// [`Engine::copy`].
+    pub fn cut(&mut self, area: Block) -> Result<(), Stop>
+        ensures { Does (op.cut area) NoAnswer self.old self.new result }
+    {
+        self.parts.check_clear(area)?;
+        self.waiting = Waiting::cut(area);
+        Ok(())
+    }
+
+    /// Pastes what waits, its first cell at a place. After a copy each cell of the block there holds what the copied one
+    /// held, or nothing, and formulas are as far from what they name as before; after a cut the block is moved, and nothing
+    /// waits then. Costs about the whole workbook.
+    ///
+    /// # Errors
+    /// `NothingToPaste`; then after a copy `NoSheet`, `Outside` where the block there isn't within the limits of a sheet,
+    /// `CellLimit` where more than 1,000,000 cells would be filled, and after a cut those of [`Engine::move_block`].
+    pub fn paste(&mut self, at: Place) -> Result<(), Stop>
+        ensures { Does (op.paste at) NoAnswer self.old self.new result }
+    {
+        if let Some(source) = self.waiting.cut_area() {
+            return self.move_block(source, at);
+        }
+        let waiting = &self.waiting;
+        match &waiting.clip {
+            Clip::Copied(area, cells) => self.parts.paste(*area, cells.items(), at),
+            Clip::Nothing | Clip::Cut(_) => Err(Stop::Refused(Refusal::NothingToPaste)),
+        }
     }
 
     /// Opens a batch: the changes until [`Engine::commit`] are one step.
@@ -231,7 +359,9 @@ impl Engine {
     pub fn undo(&mut self) -> Result<(), Stop>
         ensures { Does op.undo NoAnswer self.old self.new result }
     {
-        self.parts.undo()
+        self.parts.undo()?;
+        self.waiting.clear_cut();
+        Ok(())
     }
 
     /// Goes forward again to the whole workbook from after the step that was undone last; a change ends that. Costs what
@@ -242,7 +372,9 @@ impl Engine {
     pub fn redo(&mut self) -> Result<(), Stop>
         ensures { Does op.redo NoAnswer self.old self.new result }
     {
-        self.parts.redo()
+        self.parts.redo()?;
+        self.waiting.clear_cut();
+        Ok(())
     }
 
     /// What a cell shows. Costs about the whole workbook.
@@ -252,7 +384,40 @@ impl Engine {
     pub fn value<L: Ledger>(&mut self, at: Place, steps: &mut Steps<L>) -> Result<Scalar, Stop>
         ensures { Does (op.value at) (λ d scalar. scalar ≡ value_of d at) self.old self.new result }
     {
-        self.parts.value(at, steps)
+        self.parts.value(at, &self.registry, self.day, steps)
+    }
+
+    /// What a name shows that the word finds on the sheet, in any case of its ASCII letters: the sheet's own, else that of
+    /// the whole workbook. Costs about the whole workbook.
+    ///
+    /// # Errors
+    /// `Suspended`, `NoSheet`, `NoSuchName` where neither scope has the name.
+    pub fn name_value<L: Ledger>(
+        &mut self,
+        name: &str,
+        sheet: u32,
+        steps: &mut Steps<L>,
+    ) -> Result<Scalar, Stop>
+        ensures { Does (op.name_value name.now sheet) (λ d scalar. scalar ≡ name_value_of d name.now sheet) self.old self.new result }
+    {
+        self.parts
+            .name_value(name, sheet, &self.registry, self.day, steps)
+    }
+
+    /// What the formula of the text would show in the first cell of the sheet. Costs about the whole workbook.
+    ///
+    /// # Errors
+    /// `Suspended`, `NoSheet`, `TextLimit` past 8,192 bytes, `BadFormula` where the text is no formula.
+    pub fn try_formula<L: Ledger>(
+        &mut self,
+        sheet: u32,
+        text: &str,
+        steps: &mut Steps<L>,
+    ) -> Result<Scalar, Stop>
+        ensures { Does (op.try_formula sheet text.now) (λ d scalar. scalar ≡ tried_value d sheet text.now) self.old self.new result }
+    {
+        self.parts
+            .try_formula(sheet, text, &self.registry, self.day, steps)
     }
 
     /// The canonical text of a cell's formula, or the kept text of an unreadable one; `None` where the cell has none.

@@ -1,10 +1,16 @@
 ghost use Rattle.std.specs.Prelude.{◌≤◌};
 ghost use Rattle.book_model.specs.declared.limits.TheConstants.{MAX_UNDO};
+ghost use Rattle.std.specs.Prelude.{◌≡◌, ◌<◌};
 
 use super::{Engine, Stop};
 use book_model::{BookCell, BookCells, BookSheet, Refusal};
 use cell_addr::{Block, Place, Text};
+use cell_value::Scalar;
+use custom_fn::Registry;
 use std::alloc::AllocError;
+use std::marker::Brand;
+use std::sync::ledger::{Blank, Ledger};
+use steps::Steps;
 
 // The place of a row and a column on the first sheet that is added.
 fn place(row: u32, col: u32) -> Place {
@@ -43,7 +49,7 @@ fn begins_with_given_sheets(rt: HostRuntime) -> Result<(), AllocError> {
         name: Text::from_str(rt.alloc(), "Plan")?,
         cells,
     }];
-    let mut engine = Engine::build(rt.alloc(), &books, 20)?;
+    let mut engine = Engine::build(rt.alloc(), &books, 20, Registry::new(rt.alloc())?, 0)?;
     assert!(rt; reads(&mut engine, 0, 0, "=B2+1"));
     assert!(rt; engine.first_sheet() == Some(0));
     Ok(())
@@ -52,7 +58,7 @@ fn begins_with_given_sheets(rt: HostRuntime) -> Result<(), AllocError> {
 // Sheets are added, renamed, cleared and dropped; numbers go on.
 #[test]
 fn sheets_come_and_go(rt: HostRuntime) -> Result<(), AllocError> {
-    let mut engine = Engine::build(rt.alloc(), &[], 20)?;
+    let mut engine = Engine::build(rt.alloc(), &[], 20, Registry::new(rt.alloc())?, 0)?;
     assert!(rt; engine.add_sheet("Plan") == Ok(0));
     assert!(rt; engine.add_sheet("plan") == Err(Stop::Refused(Refusal::SheetNameTaken)));
     assert!(rt; engine.add_sheet("Two") == Ok(1));
@@ -69,7 +75,7 @@ fn sheets_come_and_go(rt: HostRuntime) -> Result<(), AllocError> {
 // Cells are filled and emptied, and formulas follow rows, columns and blocks.
 #[test]
 fn formulas_follow(rt: HostRuntime) -> Result<(), AllocError> {
-    let mut engine = Engine::build(rt.alloc(), &[], 20)?;
+    let mut engine = Engine::build(rt.alloc(), &[], 20, Registry::new(rt.alloc())?, 0)?;
     assert!(rt; engine.add_sheet("Plan") == Ok(0));
     assert!(rt; engine.set(place(0, 0), "=B5+B9").is_ok());
     assert!(rt; engine.set(place(4, 1), "7").is_ok());
@@ -93,7 +99,7 @@ fn formulas_follow(rt: HostRuntime) -> Result<(), AllocError> {
 // Steps are undone and redone, batches are one step, and values wait while they are suspended.
 #[test]
 fn steps_go_back_and_forward(rt: HostRuntime) -> Result<(), AllocError> {
-    let mut engine = Engine::build(rt.alloc(), &[], 20)?;
+    let mut engine = Engine::build(rt.alloc(), &[], 20, Registry::new(rt.alloc())?, 0)?;
     assert!(rt; engine.undo() == Err(Stop::Refused(Refusal::NothingToUndo)));
     assert!(rt; engine.add_sheet("Plan") == Ok(0));
     assert!(rt; engine.begin().is_ok());
@@ -107,6 +113,7 @@ fn steps_go_back_and_forward(rt: HostRuntime) -> Result<(), AllocError> {
     assert!(rt; engine.redo().is_ok());
     assert!(rt; reads(&mut engine, 0, 0, "=#REF!"));
     assert!(rt; engine.redo() == Err(Stop::Refused(Refusal::NothingToRedo)));
+    assert!(rt; engine.entries().done().len() == 2);
     engine.suspend();
     engine.resume();
     Ok(())
@@ -133,5 +140,51 @@ fn steps_are_kept_up_to_the_limit(rt: HostRuntime) -> Result<(), AllocError> {
     assert!(rt; kept(&rt, 0)? == None);
     assert!(rt; kept(&rt, 1)? == Some(1));
     assert!(rt; kept(&rt, 1_000)? == Some(3));
+// Names are added, changed and removed in their scopes; a step back gives them again.
+#[test]
+fn names_come_and_go(rt: HostRuntime) -> Result<(), AllocError> {
+    let mut engine = Engine::build(rt.alloc(), &[], 20, Registry::new(rt.alloc())?, 0)?;
+    assert!(rt; engine.add_sheet("Plan") == Ok(0));
+    assert!(rt; engine.add_name("RATE", None, "=2*3").is_ok());
+    assert!(rt; engine.add_name("rate", None, "=1") == Err(Stop::Refused(Refusal::NameTaken)));
+    assert!(rt; engine.add_name("A1", None, "=1") == Err(Stop::Refused(Refusal::NameInvalid)));
+    let relative = engine.add_name("BAD", None, "=Plan!A1");
+    assert!(rt; relative == Err(Stop::Refused(Refusal::RelativeAddress)));
+    assert!(rt; engine.add_name("Rate", Some(0), "=$A$1").is_ok());
+    assert!(rt;
+        engine
+            .change_name("rate", Some(0), "=SUM($A$1:$A$2)")
+            .is_ok()
+    );
+    assert!(rt; engine.drop_sheet(0).is_ok());
+    assert!(rt; engine.remove_name("rate", Some(0)) == Err(Stop::Refused(Refusal::NoSheet)));
+    assert!(rt; engine.undo().is_ok());
+    assert!(rt; engine.remove_name("rate", Some(0)).is_ok());
+    assert!(rt; engine.remove_name("rate", Some(0)) == Err(Stop::Refused(Refusal::NoSuchName)));
+    Ok(())
+}
+
+// Whether the first cell, a name and a formula all show TRUE.
+fn all_true<L: Ledger>(engine: &mut Engine, blank: Blank) -> Result<bool, Stop>
+    requires name { blank.name ≡ L.name }
+    requires parts { blank.parts ≡ L.parts }
+    requires some { 0 < blank.parts }
+{
+    let mut steps = Steps::<L>::new(blank);
+    let cell = engine.value(place(0, 0), &mut steps)?;
+    let name = engine.name_value("two", 0, &mut steps)?;
+    let tried = engine.try_formula(0, "=ISERROR(B1)", &mut steps)?;
+    Ok(cell == Scalar::Truth(true) && name == Scalar::Truth(true) && tried == Scalar::Truth(true))
+}
+
+// Formulas call functions and names, and only what is on a cycle is a cycle.
+#[test]
+fn values_follow_names(rt: HostRuntime) -> Result<(), AllocError> {
+    let mut engine = Engine::build(rt.alloc(), &[], 20, Registry::new(rt.alloc())?, 0)?;
+    assert!(rt; engine.add_sheet("Plan") == Ok(0));
+    assert!(rt; engine.add_name("Two", None, "=SUM(1,1)=2").is_ok());
+    assert!(rt; engine.set(place(0, 0), "=TWO").is_ok());
+    assert!(rt; engine.set(place(0, 1), "=B1").is_ok());
+    assert!(rt; all_true::<Brand>(&mut engine, Blank::new(1)) == Ok(true));
     Ok(())
 }

@@ -1,6 +1,6 @@
 -- A session that begins with given sheets is sound. Serves the laws of sessions.
-use Rattle.std.proofs.Common.{◌≡◌, ◌≢◌, ◌∙◌, sym, ap, subst, refl, arith, ℕ, zero, suc, ◌≤◌, ◌<◌, ◌+◌, ◌==◌, ◌||◌, Bool, true, false, cond, eqb, List, [], ◌∷◌, ◌++◌, length, get_or, Option, Some, None, option_map}
-use Rattle.std.specs.Prelude.{⊤, IsTrue}
+use Rattle.std.proofs.Common.{◌≡◌, ◌≢◌, ◌∙◌, sym, ap, subst, refl, arith, ℕ, ℤ, zero, suc, ◌≤◌, ◌<◌, ◌+◌, ◌||◌, Bool, true, false, cond, eqb, List, [], ◌∷◌, ◌++◌, length, get_or, Option, Some, None, option_map}
+use Rattle.std.specs.Prelude.{⊤}
 use Rattle.std.specs.List.{All, AllPairs, filter_map, cons_option}
 use Rattle.std.proofs.lemmas.Bool.{eq-eqb}
 use Rattle.std.proofs.lemmas.List.Elements.{All-head, All-tail}
@@ -9,18 +9,19 @@ use Rattle.std.specs.FinMap as fin
 use Rattle.std.specs.FinMap.{find, get-from_entries}
 use Rattle.std.specs.Ordering.{eq_by_cmp}
 use Rattle.cell_addr.specs.Order.{place_cmp}
-use Rattle.cell_addr.specs.Place.{IsInside}
 use Rattle.cell_addr.specs.Sheets.{AreSheets, AreApart}
 use Rattle.cell_addr.specs.Text.{folded}
 use Rattle.cell_addr.specs.declared.place.Place.{Place}
 use Rattle.cell_addr.specs.declared.place.TheConstants.{NO_SHEET}
 use Rattle.cell_addr.proofs.Places.{place_cmp-IsTotalOrder}
 use Rattle.cell_values.specs.Workbook.{Content}
-use Rattle.book_model.specs.Workbook.{Workbook, State, has_sheet}
+use Rattle.custom_fn.specs.declared.rule.Rule.{Rule}
+use Rattle.book_model.specs.Names.{key_cmp}
+use Rattle.book_model.specs.Workbook.{Workbook, has_sheet}
 use Rattle.book_model.specs.Content.{content_given, content_of}
 use Rattle.book_model.specs.Given.{numbered, place_on, given_entry, given_entries, workbook_given, session_given, IsGivenCell, IsGivenSheet, CanBegin}
 use Rattle.book_model.specs.declared.limits.TheConstants.{MAX_UNDO}
-use Rattle.book_model.specs.Sound.{IsSound, IsSoundBook, IsContentOf, IsCellOf}
+use Rattle.book_model.specs.Sound.{IsSound, IsSoundBook, IsCellOf}
 use Rattle.book_model.specs.declared.given.BookCell.{BookCell}
 use Rattle.book_model.specs.declared.given.BookSheet.{BookSheet}
 use Rattle.book_model.proofs.Contents.{given_is, is_at}
@@ -119,17 +120,19 @@ given_book books can =
           (given_sheets (workbook_given books) 0 books are (λ k low high. has-numbered 0 books k low high) can.0)
           (sym (get-from_entries place_cmp-IsTotalOrder (given_entries (numbered 0 books) 0 books) p) ∙ is);
       count = can.3;
+      names = λ key t e. let none = sym (fin.get-empty key_cmp key) ∙ e in cc;
     }
 
 pub none_kept : (n : ℕ) → All (IsSoundBook n) []
 none_kept n k d l = absurd (omega (arith, l))
 
-pub given_sound : (limit : ℕ) (books : List BookSheet) → limit ≤ MAX_UNDO → CanBegin books → IsSound (session_given limit books)
-given_sound limit books most can = record {
+pub given_sound : (limit : ℕ) (customs : List (List ℕ × Rule)) (today : ℤ) (books : List BookSheet) → limit ≤ MAX_UNDO → CanBegin books → IsSound (session_given limit customs today books)
+given_sound limit customs today books most can = record {
   book = given_book books can;
   undo = none_kept (length books);
   redo = none_kept (length books);
   batch = tt;
+  clip = tt;
   few = can.2;
   cleared = tt;
   steps = omega arith;

@@ -1,11 +1,13 @@
 -- The session that begins with given sheets and texts. Source: this project's own.
-use Rattle.std.specs.Prelude.{◌≡◌, ◌≢◌, ◌⊎◌, ◌<◌, ◌≤◌, ℕ, ◌+◌, false, List, [], ◌∷◌, ◌++◌, length, map, Option, None, option_map, All, AllPairs, IsTrue}
+use Rattle.std.specs.Prelude.{◌≢◌, ◌⊎◌, ◌<◌, ◌≤◌, ℕ, ℤ, ◌+◌, false, List, [], ◌∷◌, ◌++◌, length, Option, None, option_map, All, AllPairs, IsTrue}
 use Rattle.std.specs.List.{filter_map}
 use Rattle.std.specs.FinMap as finmap
 use Rattle.cell_addr.specs.declared.place.Place.{Place}
 use Rattle.cell_addr.specs.declared.place.TheConstants.{ROWS, COLS}
 use Rattle.cell_addr.specs.Text.{folded}
 use Rattle.cell_values.specs.Workbook.{Content}
+use Rattle.custom_fn.specs.declared.rule.Rule.{Rule}
+use Rattle.book_model.specs.Clipboard.{nothing}
 use Rattle.book_model.specs.Workbook.{Workbook, State}
 use Rattle.book_model.specs.Content.{content_given, content_of}
 use Rattle.book_model.specs.Refusals.{is_sheet_name}
@@ -31,23 +33,28 @@ abbrev pub given_entries : List (ℕ × List ℕ) → ℕ → List BookSheet →
 given_entries sheets n [] = []
 given_entries sheets n (s ∷ ss) = filter_map (given_entry sheets n) s.cells.list.items ++ given_entries sheets (n + 1) ss
 
--- the workbook of the sheets
+-- the workbook of the sheets, which has no names yet
 abbrev pub workbook_given : List BookSheet → Workbook
 workbook_given books = record {
   sheets = numbered 0 books;
   cells = finmap.from_entries (given_entries (numbered 0 books) 0 books);
+  names = finmap.empty;
 }
 
--- the session that begins with the sheets, in which so many steps can be undone
-abbrev pub session_given : ℕ → List BookSheet → State
-session_given limit books = record {
+-- the session that begins with the sheets, in which so many steps can be undone, with these custom functions and on this
+-- day
+abbrev pub session_given : ℕ → List (List ℕ × Rule) → ℤ → List BookSheet → State
+session_given limit customs today books = record {
   book = workbook_given books;
   undo = [];
   redo = [];
   batch = None;
+  clip = nothing;
   suspended = false;
   next_sheet = length books;
   limit = limit;
+  customs = customs;
+  today = today;
 }
 
 -- the cell is inside, and its text within the limit

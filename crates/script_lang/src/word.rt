@@ -2,7 +2,9 @@
 ghost use Rattle.std.specs.Prelude.{◌≡◌, ◌≤◌, length};
 ghost use Rattle.script_lang.specs.Words.{line, word_named};
 
-use FieldKind::{Block, Column, ColumnBefore, Count, Name, Place, Row, RowBefore, Sheet, Text};
+use FieldKind::{
+    Block, Column, ColumnBefore, Count, Name, Place, Row, RowBefore, Scope, Sheet, Text,
+};
 
 /// The word that a command begins with.
 #[derive(Clone, Copy, PartialEq, Eq, Debug)]
@@ -19,6 +21,9 @@ pub enum Word {
     DropSheet,
     RenameSheet,
     ClearSheet,
+    AddName,
+    ChangeName,
+    RemoveName,
     Begin,
     Commit,
     Suspend,
@@ -28,6 +33,8 @@ pub enum Word {
     Value,
     Formula,
     Content,
+    NameValue,
+    Try,
 }
 
 /// What a field says, and so which form it has.
@@ -39,6 +46,8 @@ pub enum FieldKind {
     Block,
     /// The name of a sheet of the book.
     Sheet,
+    /// The scope of a named expression: the name of a sheet of the book, or nothing for the whole workbook.
+    Scope,
     /// The row where something begins.
     Row,
     /// The column where something begins.
@@ -60,7 +69,7 @@ pub const MAX_FIELDS: usize = 4;
 
 impl Word {
     /// All words.
-    pub const ALL: [Word; 21] = [
+    pub const ALL: [Word; 26] = [
         Word::Set,
         Word::Clear,
         Word::InsertRows,
@@ -73,6 +82,9 @@ impl Word {
         Word::DropSheet,
         Word::RenameSheet,
         Word::ClearSheet,
+        Word::AddName,
+        Word::ChangeName,
+        Word::RemoveName,
         Word::Begin,
         Word::Commit,
         Word::Suspend,
@@ -82,6 +94,8 @@ impl Word {
         Word::Value,
         Word::Formula,
         Word::Content,
+        Word::NameValue,
+        Word::Try,
     ];
 
     /// The word's line in the table: how it is written, and the fields behind it.
@@ -103,6 +117,9 @@ impl Word {
             Word::DropSheet => ("drop-sheet", &[Sheet]),
             Word::RenameSheet => ("rename-sheet", &[Sheet, Name]),
             Word::ClearSheet => ("clear-sheet", &[Sheet]),
+            Word::AddName => ("add-name", &[Name, Scope, Text]),
+            Word::ChangeName => ("change-name", &[Name, Scope, Text]),
+            Word::RemoveName => ("remove-name", &[Name, Scope]),
             Word::Begin => ("begin", &[]),
             Word::Commit => ("commit", &[]),
             Word::Suspend => ("suspend", &[]),
@@ -112,6 +129,8 @@ impl Word {
             Word::Value => ("value", &[Place]),
             Word::Formula => ("formula", &[Place]),
             Word::Content => ("content", &[Place]),
+            Word::NameValue => ("name-value", &[Name, Sheet]),
+            Word::Try => ("try", &[Sheet, Text]),
         }
     }
 

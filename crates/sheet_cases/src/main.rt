@@ -22,9 +22,13 @@ mod case;
 mod tally;
 
 ghost use Rattle.std.specs.Prelude.{◌≡◌, ◌<◌};
+ghost use Rattle.custom_fn.specs.Rule.{rule_value};
+ghost use Rattle.tariffs.specs.Tariffs as tariff;
 
 use book_files::{MemSink, MemSource};
 use case::{Case, CaseFile};
+use cell_value::Scalar;
+use custom_fn::Registry;
 use std::alloc::{AllocError, Global};
 use std::marker::Brand;
 use std::process::ExitCode;
@@ -32,6 +36,10 @@ use std::sync::ledger::{Blank, Ledger};
 use std::{env, fs, io};
 use steps::Steps;
 use tally::Tally;
+use tariffs::{customs, levy, postage};
+
+// The day of every case: 2024-01-01.
+const TODAY: i32 = 45_292;
 
 // The columns that a case can fill, and their rows.
 const COLUMNS: &str = "ABCDEFGHIJKLMNOPQRSTUVWXYZ";
@@ -98,7 +106,16 @@ fn run_case<L: Ledger>(
     };
     let mut input = MemSource::new(script, case.failing_reads);
     let mut out = MemSink::new(rt.alloc(), case.failing_writes)?;
-    let status = sheet_cli::run(rt.alloc(), &case.words, &mut input, &mut out, steps);
+    let registry = registry(rt.alloc())?;
+    let status = sheet_cli::run(
+        rt.alloc(),
+        &case.words,
+        &mut input,
+        &mut out,
+        TODAY,
+        registry,
+        steps,
+    );
     let mut prints = "ok\n".repeat(rt.alloc(), case.filled as usize)?;
     prints.push_str(&case.prints)?;
     if status == case.status && out.bytes() == prints.as_bytes() {
@@ -113,6 +130,23 @@ fn run_case<L: Ledger>(
         Ok(printed) => print_differences(rt, printed, prints.as_str()),
         Err(_) => println!(rt; "        what was printed isn't UTF-8"),
     }
+}
+
+// The custom functions of every case: those of the program.
+fn registry(alloc: Global) -> Result<Registry, AllocError> {
+    let by_weight = Box::new(
+        alloc,
+        |x: &Scalar| -> Scalar
+            ensures { result ≡ rule_value tariff.postage x.now }
+        { postage(x) },
+    )?;
+    let on_amount = Box::new(
+        alloc,
+        |x: &Scalar| -> Scalar
+            ensures { result ≡ rule_value tariff.levy x.now }
+        { levy(x) },
+    )?;
+    customs(alloc, by_weight, on_amount)
 }
 
 // The lines of a script that fill so many cells, column by column; those of the columns A to Z at most.

@@ -17,16 +17,16 @@ on_err (Ok x) P p = tt
 on_err (Err e) P p = p
 
 -- a call that stopped
-pub stop_keeps : {X : Type 0} (op : Operation) (Answers : State → X → Type 0) (old new : Engine) (s : Stop) → Does op Answers old new (Err s) → Keeps old new
+pub stop_keeps : {I : _} {D : _} {g : _} {X : Type 0} (op : Operation) (Answers : State → X → Type 0) (old new : Engine I D g) (s : Stop) → Does op Answers old new (Err s) → Keeps old new
 stop_keeps op Answers old new (Refused r) did = λ d stands. let now = did d stands in rw now.0 at now.1
 stop_keeps op Answers old new NoMemory did = did
 
 -- the same, of what a command asks for
-pub stop_keeps_for : {X : Type 0} (c : Command) (Answers : State → X → Type 0) (old new : Engine) (s : Stop) → DoesFor c Answers old new (Err s) → Keeps old new
+pub stop_keeps_for : {I : _} {D : _} {g : _} {X : Type 0} (c : Command) (Answers : State → X → Type 0) (old new : Engine I D g) (s : Stop) → DoesFor c Answers old new (Err s) → Keeps old new
 stop_keeps_for c Answers old new (Refused r) did = λ d stands. let now = did d stands in rw now.0 at now.1
 stop_keeps_for c Answers old new NoMemory did = did
 
 -- a read
-pub read_keeps : {X : Type 0} (op : Operation) (Answers : State → X → Type 0) (old new : Engine) (x : X)
+pub read_keeps : {I : _} {D : _} {g : _} {X : Type 0} (op : Operation) (Answers : State → X → Type 0) (old new : Engine I D g) (x : X)
     → ((d : State) → done op d ≡ d) → Does op Answers old new (Ok x) → Keeps old new
 read_keeps op Answers old new x same did = λ d stands. let now = did d stands in rw (now.0, same d) at now.2

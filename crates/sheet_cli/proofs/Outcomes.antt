@@ -1,5 +1,5 @@
 -- A run over the records of a script, one record at a time: what the call of the program promises rests on this.
-use Rattle.std.proofs.Common.{◌≡◌, ◌∙◌, sym, ap, subst, refl, arith, ℕ, zero, suc, ◌+◌, ◌≤◌, nat_lt, Bool, true, false, cond, List, [], ◌∷◌, ◌++◌, length, drop, inl, inr, Option, Some, None, Result, Ok, Err, append_assoc}
+use Rattle.std.proofs.Common.{◌≡◌, ◌∙◌, sym, ap, subst, refl, arith, ℕ, ℤ, zero, suc, ◌+◌, ◌≤◌, nat_lt, Bool, true, false, cond, List, [], ◌∷◌, ◌++◌, length, drop, inl, inr, Option, Some, None, Result, Ok, Err, append_assoc}
 use Rattle.std.specs.Prelude.{⊤}
 use Rattle.std.proofs.lemmas.Bool.Decides.{nat_tests}
 use Rattle.std.proofs.lemmas.List.{append-nil}
@@ -7,6 +7,7 @@ use Rattle.csv.specs.declared.parser.State.{State as Reading}
 use Rattle.csv.specs.declared.parser.State.TheVariants as st
 use Rattle.csv.specs.Machine.{Read, next_record}
 use Rattle.csv.specs.Reading.{records, records_from, records_next, default_config, strip_bom, is_bom}
+use Rattle.custom_fn.specs.declared.rule.Rule.{Rule}
 use Rattle.std.specs.Io.KnownBytes.{Appends}
 use Rattle.book_model.specs.Replies.{next_state, reply}
 use Rattle.book_model.specs.Workbook.{State}
@@ -59,23 +60,23 @@ unfolding outcome_from
 outcome-more d k fields rest = refl
 
 -- the engine is in a session in which the records that are left, the first of them with this number, complete the whole
-abbrev pub Leads : Engine → ℕ → List (List (List ℕ)) → Option (List ℕ) → Option (List ℕ) → Outcome → Type 0
+abbrev pub Leads : {I : _} {D : _} {g : _} → Engine I D g → ℕ → List (List (List ℕ)) → Option (List ℕ) → Option (List ℕ) → Outcome → Type 0
 Leads engine k left old now whole = (d : State) × (StandsFor engine d × Completes old now (outcome_from d k left).0 whole.0 × ((outcome_from d k left).1 ≡ whole.1))
 
 -- the outcome of a record that did this and doesn't end the run: its reply, and the rest in the next session
-outcome-goes : (said : Result Command ScriptError) (k : ℕ) (before after : Engine) (d : State) (old new : Option (List ℕ)) (rest : State → Outcome) → AnswersRecord said k false before after old new → StandsFor before d
+outcome-goes : {I : _} {D : _} {g : _} (said : Result Command ScriptError) (k : ℕ) (before after : Engine I D g) (d : State) (old new : Option (List ℕ)) (rest : State → Outcome) → AnswersRecord said k false before after old new → StandsFor before d
     → (line : List ℕ) × (next : State) × (Appends old new line × StandsFor after next × (outcome_of d k said rest ≡ followed_by line (rest next)))
 outcome-goes (Ok command) k before after d old new rest did stands = let now = did d stands in (reply command d, next_state command d, (now.0, now.1, refl))
 outcome-goes (Err e) k before after d old new rest did stands = absurd did
 
 -- the outcome of a record that did this and ends the run: its line, and status 3
-outcome-ends : (said : Result Command ScriptError) (k : ℕ) (before after : Engine) (d : State) (old new : Option (List ℕ)) (rest : State → Outcome) → AnswersRecord said k true before after old new
+outcome-ends : {I : _} {D : _} {g : _} (said : Result Command ScriptError) (k : ℕ) (before after : Engine I D g) (d : State) (old new : Option (List ℕ)) (rest : State → Outcome) → AnswersRecord said k true before after old new
     → (line : List ℕ) × (Appends old new line × (outcome_of d k said rest ≡ (line, 3)))
 outcome-ends (Ok command) k before after d old new rest did = absurd did
 outcome-ends (Err e) k before after d old new rest did = (record_line k e, (did, refl))
 
 -- a record that doesn't end the run: what was written and the rest still make the whole
-pub goes_on : (old now new : Option (List ℕ)) (before after : Engine) (k : ℕ) (left rest : List (List (List ℕ))) (fields : List (List ℕ)) (whole : Outcome) → left ≡ fields ∷ rest → AnswersRecord (command_of fields) k false before after now new
+pub goes_on : {I : _} {D : _} {g : _} (old now new : Option (List ℕ)) (before after : Engine I D g) (k : ℕ) (left rest : List (List (List ℕ))) (fields : List (List ℕ)) (whole : Outcome) → left ≡ fields ∷ rest → AnswersRecord (command_of fields) k false before after now new
     → Leads before k left old now whole → Leads after (k + 1) rest old new whole
 goes_on old now new before after k left rest fields whole is did (d, (stands, written, status)) =
     let g = outcome-goes (command_of fields) k before after d now new (λ next. outcome_from next (k + 1) rest) did stands in
@@ -84,7 +85,7 @@ goes_on old now new before after k left rest fields whole is did (d, (stands, wr
     (g.1, (g.2.1, completes-write old now new g.0 (outcome_from g.1 (k + 1) rest).0 whole.0 (subst P e written) g.2.0, sym (ap (λ (o : Outcome). o.1) e) ∙ status))
 
 -- a record that is no command: what was written is the whole
-pub stops : (old now new : Option (List ℕ)) (before after : Engine) (k : ℕ) (left rest : List (List (List ℕ))) (fields : List (List ℕ)) (whole : Outcome) → left ≡ fields ∷ rest → AnswersRecord (command_of fields) k true before after now new
+pub stops : {I : _} {D : _} {g : _} (old now new : Option (List ℕ)) (before after : Engine I D g) (k : ℕ) (left rest : List (List (List ℕ))) (fields : List (List ℕ)) (whole : Outcome) → left ≡ fields ∷ rest → AnswersRecord (command_of fields) k true before after now new
     → Leads before k left old now whole → Appends old new whole.0 × (3 ≡ whole.1)
 stops old now new before after k left rest fields whole is did (d, (stands, written, status)) =
     let g = outcome-ends (command_of fields) k before after d now new (λ next. outcome_from next (k + 1) rest) did in
@@ -93,7 +94,7 @@ stops old now new before after k left rest fields whole is did (d, (stands, writ
     (completes-last old now new g.0 whole.0 (subst P e written) g.1.0, sym (ap (λ (o : Outcome). o.1) e) ∙ status)
 
 -- no record is left: what was written is the whole
-pub ends : (old now : Option (List ℕ)) (engine : Engine) (k : ℕ) (left : List (List (List ℕ))) (whole : Outcome) → left ≡ [] → Leads engine k left old now whole
+pub ends : {I : _} {D : _} {g : _} (old now : Option (List ℕ)) (engine : Engine I D g) (k : ℕ) (left : List (List (List ℕ))) (whole : Outcome) → left ≡ [] → Leads engine k left old now whole
     → Appends old now whole.0 × (0 ≡ whole.1)
 ends old now engine k left whole is (d, (stands, written, status)) =
     let e : outcome_from d k left ≡ ([], 0) = ap (λ l. outcome_from d k l) is ∙ outcome-none d k in
@@ -101,8 +102,9 @@ ends old now engine k left whole is (d, (stands, written, status)) =
     (completes-end old now whole.0 (subst P e written), sym (ap (λ (o : Outcome). o.1) e) ∙ status)
 
 -- a script that isn't too long is answered by its records
-pub short_script : (bytes : List ℕ) → length bytes ≤ 67108864 → script_outcome bytes ≡ outcome_from first_session 1 (records default_config (strip_bom bytes))
-short_script bytes short = let e : nat_lt 67108864 (length bytes) ≡ false = grind (arith, nat_tests) in rw e refl
+pub short_script : (customs : List (List ℕ × Rule)) (today : ℤ) (bytes : List ℕ) → length bytes ≤ 67108864
+    → script_outcome customs today bytes ≡ outcome_from (first_session customs today) 1 (records default_config (strip_bom bytes))
+short_script customs today bytes short = let e : nat_lt 67108864 (length bytes) ≡ false = grind (arith, nat_tests) in rw e refl
 
 long_next : (n : ℕ) (next : Option Read) → ((p : Read) → length (records_from default_config n p.1 p.2) ≤ n) → length (records_next (records_from default_config n) next) ≤ suc n
 long_next n None h = omega arith

@@ -1,8 +1,9 @@
 -- The whole output and status of a run, from its words and the bytes of its script. Source: this project's own.
-use Rattle.std.specs.Prelude.{◌≡◌, ◌⊎◌, ◌+◌, ◌++◌, if◌then◌else◌, nat_lt, false, ℕ, List, [], ◌∷◌, length, drop, Option, Some, None, Result, Ok, Err, codes, ⊤}
+use Rattle.std.specs.Prelude.{◌≡◌, ◌⊎◌, ◌+◌, ◌++◌, if◌then◌else◌, nat_lt, false, ℕ, ℤ, List, [], ◌∷◌, length, drop, Option, Some, None, Result, Ok, Err, codes, ⊤}
 use Rattle.std.specs.Fmt.{decimal}
 use Rattle.std.specs.FinMap as map
 use Rattle.std.specs.Io.KnownBytes.{Appends}
+use Rattle.custom_fn.specs.declared.rule.Rule.{Rule}
 use Rattle.csv.specs.Reading.{records, default_config, strip_bom}
 use Rattle.book_model.specs.Replies.{line_of, next_state, reply}
 use Rattle.book_model.specs.Workbook.{State}
@@ -13,16 +14,19 @@ use Rattle.script_lang.specs.declared.error.ScriptError.{ScriptError}
 use Rattle.script_lang.specs.declared.error.ScriptError.TheVariants.{UnknownCommand, FieldCount, BadField, NoMemory}
 use Rattle.book_files.specs.declared.input.TheConstants.{MAX_INPUT}
 
--- the session that a run begins with: one empty sheet, `Sheet1`, which has the number 0, and nothing to undo
-abbrev pub first_session : State
-first_session = record {
-  book = record { sheets = (0, codes "Sheet1") ∷ []; cells = map.empty };
+-- the session that a run begins with: one empty sheet, `Sheet1`, which has the number 0, and nothing to undo; its
+-- formulas know these custom functions and this day
+abbrev pub first_session : List (List ℕ × Rule) → ℤ → State
+first_session customs today = record {
+  book = record { sheets = (0, codes "Sheet1") ∷ []; cells = map.empty; names = map.empty };
   undo = [];
   redo = [];
   batch = None;
   suspended = false;
   next_sheet = 1;
   limit = DEFAULT_UNDO;
+  customs = customs;
+  today = today;
 }
 
 -- the bytes that a run prints, and its status
@@ -62,14 +66,14 @@ abbrev pub usage_line : List ℕ
 usage_line = line_of (codes "usage: sheetrun [--undo-limit N] [--strict] [--script FILE] [--generate N] [BOOK.csv ...]")
 
 -- the outcome of a script: too long, or its records from the first session on
-abbrev pub script_outcome : List ℕ → Outcome
-script_outcome bytes = if nat_lt MAX_INPUT (length bytes)
+abbrev pub script_outcome : List (List ℕ × Rule) → ℤ → List ℕ → Outcome
+script_outcome customs today bytes = if nat_lt MAX_INPUT (length bytes)
     then (line_of (codes "input too long"), 8)
-    else outcome_from first_session 1 (records default_config (strip_bom bytes))
+    else outcome_from (first_session customs today) 1 (records default_config (strip_bom bytes))
 
 -- the outcome of a run: every word is refused yet
-abbrev pub outcome : ℕ → List ℕ → Outcome
-outcome words bytes = if nat_lt 0 words then (usage_line, 2) else script_outcome bytes
+abbrev pub outcome : List (List ℕ × Rule) → ℤ → ℕ → List ℕ → Outcome
+outcome customs today words bytes = if nat_lt 0 words then (usage_line, 2) else script_outcome customs today bytes
 
 -- the statuses of a run that came to its end
 abbrev pub IsEndStatus : ℕ → Type 0

@@ -1,17 +1,23 @@
 // The call that the program makes: the words and the script come in, lines and a status go out.
-ghost use Rattle.std.specs.Prelude.{◌≡◌, ◌≢◌, ◌⊎◌, ◌<◌, ◌≤◌, ◌↔◌, length, IfOk, OnOk, IsErrOf, string_bytes};
+ghost use Rattle.std.specs.Prelude.{◌≡◌, ◌≢◌, ◌⊎◌, ◌<◌, ◌≤◌, ◌↔◌, ℕ, ℤ, List, length, IfOk, OnOk, IsErrOf, string_bytes};
 ghost use Rattle.std.specs.Io.KnownBytes.{Appends};
 ghost use Rattle.book_model.specs.Replies.{line_of};
+ghost use Rattle.book_model.specs.Workbook.{State};
+ghost use Rattle.csv.specs.Reading.{default_config, records, strip_bom};
 ghost use Rattle.csv.specs.Records.{fields_of};
+ghost use Rattle.book_engine.specs.Engine.{StandsFor};
+ghost use Rattle.custom_fn.specs.Registry.{customs_of};
+ghost use Rattle.custom_fn.specs.declared.rule.Rule.{Rule};
 ghost use Rattle.script_lang.specs.Command.{command_of};
 ghost use Rattle.book_files.specs.Outside.{Rose};
 ghost use Rattle.sheet_cli.specs.internal.Answers.{AnswersRecord};
-ghost use Rattle.sheet_cli.specs.Run.{IsEndStatus, IsStatus, PrintsFor, WasRead, cause_text, outcome, record_text, script_outcome};
+ghost use Rattle.sheet_cli.specs.Run.{IsEndStatus, IsStatus, PrintsFor, WasRead, cause_text, first_session, outcome, outcome_from, record_text};
 
 use crate::line::line;
 use crate::session::Session;
 use book_files::{LoadError, MAX_INPUT, Records, Sink, Source, WriteError, read_all};
 use csv::ByteRecord;
+use custom_fn::Registry;
 use script_lang::{ScriptError, command};
 use std::alloc::{AllocError, Global};
 use std::sync::ledger::Ledger;
@@ -69,7 +75,8 @@ impl From<WriteError> for Stop {
 /// Does all that the program does, and answers its status.
 ///
 /// No word is accepted yet: each gives the usage line and status 2. The script is read from the
-/// source to its end; its records are commands, each answered by one line in one write. The statuses:
+/// source to its end; its records are commands, each answered by one line in one write. Formulas can call the custom
+/// functions of the registry, and `day` is the serial number of today, counted from 1899-12-30. The statuses:
 ///
 /// - 0: the script was read and answered.
 /// - 2: there is a word.
@@ -83,10 +90,12 @@ pub fn run<I: Source, O: Sink, L: Ledger>(
     words: &[String],
     input: &mut I,
     out: &mut O,
+    day: i32,
+    registry: Registry,
     steps: &mut Steps<L>,
 ) -> u8
     // Where source and sink tell their bytes, the sink holds what it held and then the defined bytes.
-    ensures output { result ≢ 5 → result ≢ 6 → result ≢ 7 → PrintsFor (I.left input.old) (O.taken out.old) (O.taken out.new) result (outcome (length words.now)) }
+    ensures output { result ≢ 5 → result ≢ 6 → result ≢ 7 → PrintsFor (I.left input.old) (O.taken out.old) (O.taken out.new) result (outcome (customs_of registry) day (length words.now)) }
 
     // Status 2 is for words alone.
     ensures usage { result ≢ 6 → result ≢ 7 → (result ≡ 2) ↔ (0 < length words.now) }
@@ -99,7 +108,10 @@ pub fn run<I: Source, O: Sink, L: Ledger>(
     ensures source { WasRead result (I.left input.old) (I.left input.new) }
     ensures status_range { IsStatus result }
 {
-    match run_to_end(alloc, words, input, out, steps) {
+    let Ok(mut session) = Session::new(alloc, registry, day) else {
+        return NO_MEMORY;
+    };
+    match run_to_end(alloc, words, input, out, &mut session, steps) {
         Ok(status) => status,
         Err(Stop::ReadFault) => READ_FAULT,
         Err(Stop::WriteFault) => WRITE_FAULT,
@@ -107,15 +119,16 @@ pub fn run<I: Source, O: Sink, L: Ledger>(
     }
 }
 
-// A run up to its status, or to a fault or want of memory.
+// A run up to its status, or to a fault or want of memory, in a session that begins.
 fn run_to_end<I: Source, O: Sink, L: Ledger>(
     alloc: Global,
     words: &[String],
     input: &mut I,
     out: &mut O,
+    session: &mut Session,
     steps: &mut Steps<L>,
 ) -> Result<u8, Stop>
-    ensures output { IfOk result (λ status. PrintsFor (I.left input.old) (O.taken out.old) (O.taken out.new) status (outcome (length words.now))) }
+    ensures output { (customs : List (List ℕ × Rule)) (today : ℤ) → StandsFor session.old.engine (first_session customs today) → IfOk result (λ status. PrintsFor (I.left input.old) (O.taken out.old) (O.taken out.new) status (outcome customs today (length words.now))) }
     ensures usage { IfOk result (λ status. (status ≡ 2) ↔ (0 < length words.now)) }
     ensures no_words { IsErrOf result Stop.ReadFault → length words.now ≡ 0 }
     ensures read_fault { IsErrOf result Stop.ReadFault → Rose (I.faults input.old) (I.faults input.new) }
@@ -128,7 +141,7 @@ fn run_to_end<I: Source, O: Sink, L: Ledger>(
         return Ok(WRONG_WORDS);
     }
     match read_all(alloc, input) {
-        Ok(script) => run_script(alloc, &script, out, steps),
+        Ok(script) => run_script(alloc, session, &script, out, steps),
         Err(LoadError::TooLong) => {
             print(alloc, out, "input too long")?;
             Ok(TOO_LONG)
@@ -141,25 +154,24 @@ fn run_to_end<I: Source, O: Sink, L: Ledger>(
     }
 }
 
-// Answers the records of a script in order, up to its end or to one that is no command.
+// Answers the records of a script in order, up to its end or to one that is no command, in a session that begins.
 fn run_script<O: Sink, L: Ledger>(
     alloc: Global,
+    session: &mut Session,
     script: &[u8],
     out: &mut O,
     steps: &mut Steps<L>,
 ) -> Result<u8, Stop>
-    requires { length script.now ≤ MAX_INPUT }
-    ensures output { IfOk result (λ status. Appends (O.taken out.old) (O.taken out.new) (script_outcome script.now).0 × (status ≡ (script_outcome script.now).1)) }
+    ensures output { (d : State) → StandsFor session.old.engine d → IfOk result (λ status. Appends (O.taken out.old) (O.taken out.new) (outcome_from d 1 (records default_config (strip_bom script.now))).0 × (status ≡ (outcome_from d 1 (records default_config (strip_bom script.now))).1)) }
     ensures no_read_fault { IsErrOf result Stop.ReadFault → ⊥ }
     ensures write_fault { IsErrOf result Stop.WriteFault → Rose (O.faults out.old) (O.faults out.new) }
     ensures status_range { IfOk result (λ status. (status ≡ 0) ⊎ (status ≡ 3)) }
 {
-    let mut session = Session::new(alloc)?;
     let mut records = Records::open(alloc, script);
     let mut number: u64 = 0;
     'records: while records.advance()? {
         number += 1;
-        if run_record(alloc, &mut session, number, records.fields(), out, steps)? {
+        if run_record(alloc, session, number, records.fields(), out, steps)? {
             return Ok(NO_COMMAND);
         }
     }

@@ -1,7 +1,9 @@
 // What the commands of a script ask of the engine, and the lines that answer them.
 ghost use Rattle.std.specs.Prelude.{◌≡◌, IfOk, OnErr, codes};
-ghost use Rattle.book_model.specs.Replies.{block_of, next_state, place_of, reply, sheet_named, sheet_of};
+ghost use Rattle.book_model.specs.Replies.{block_of, line_of, place_of, scope_named, sheet_named, sheet_of};
 ghost use Rattle.book_model.specs.Workbook.{State};
+ghost use Rattle.cell_value.specs.Scalar.{shown_text};
+ghost use Rattle.custom_fn.specs.Registry.{customs_of};
 ghost use Rattle.book_model.specs.declared.command.Command.TheVariants as command;
 ghost use Rattle.book_engine.specs.Engine.{NoAnswer, StandsFor};
 ghost use Rattle.sheet_cli.specs.Run.{first_session};
@@ -11,6 +13,8 @@ use crate::line::{line, number_line, number_room, stop_line};
 use book_engine::{Engine, Stop};
 use book_model::{BookCells, BookSheet, Command, DEFAULT_UNDO};
 use cell_addr::{Block, NO_SHEET, Place, Spot, Text};
+use cell_value::Scalar;
+use custom_fn::Registry;
 use std::alloc::{AllocError, Global};
 use std::sync::ledger::Ledger;
 use steps::Steps;
@@ -23,15 +27,16 @@ pub struct Session {
 }
 
 impl Session {
-    /// A workbook with one empty sheet, `Sheet1`.
-    pub fn new(alloc: Global) -> Result<Session, AllocError>
-        ensures { IfOk result (λ session. StandsFor session.engine first_session) }
+    /// A workbook with one empty sheet, `Sheet1`, whose formulas can call these custom functions; the day is the serial
+    /// number of today.
+    pub fn new(alloc: Global, registry: Registry, day: i32) -> Result<Session, AllocError>
+        ensures { IfOk result (λ session. StandsFor session.engine (first_session (customs_of registry) day)) }
     {
         let books = [BookSheet {
             name: Text::from_str(alloc, "Sheet1")?,
             cells: BookCells::new(alloc)?,
         }];
-        let engine = Engine::build(alloc, &books, DEFAULT_UNDO)?;
+        let engine = Engine::build(alloc, &books, DEFAULT_UNDO, registry, day)?;
         Ok(Session { alloc, engine })
     }
 
@@ -49,6 +54,8 @@ impl Session {
             Command::Value(at) => self.value(at, steps),
             Command::Formula(at) => self.formula(at),
             Command::Content(at) => self.content(at),
+            Command::NameValue(name, sheet) => self.name_value(name, sheet, steps),
+            Command::Try(sheet, text) => self.try_formula(sheet, text, steps),
             _ => self.change(command),
         }
     }
@@ -85,10 +92,41 @@ impl Session {
     {
         let place = place(&self.engine, at);
         match self.engine.value(place, steps) {
-            Ok(scalar) => {
-                let shown = scalar.shown(self.alloc)?;
-                line(self.alloc, shown.as_str())
-            }
+            Ok(scalar) => scalar_line(self.alloc, &scalar),
+            Err(stop) => stop_line(self.alloc, stop),
+        }
+    }
+
+    // Answers what a name shows that the word finds on a sheet.
+    fn name_value<L: Ledger>(
+        &mut self,
+        name: &Text,
+        sheet: &Text,
+        steps: &mut Steps<L>,
+    ) -> Result<Vec<u8>, AllocError>
+        ensures ok { IfOk result (λ line. Executes (command.NameValue name.now sheet.now) self.old.engine self.new.engine line.items) }
+        ensures err { OnErr result (Keeps self.old.engine self.new.engine) }
+    {
+        let sheet = id(&self.engine, sheet);
+        match self.engine.name_value(name.as_str(), sheet, steps) {
+            Ok(scalar) => scalar_line(self.alloc, &scalar),
+            Err(stop) => stop_line(self.alloc, stop),
+        }
+    }
+
+    // Answers what a formula would show in the first cell of a sheet.
+    fn try_formula<L: Ledger>(
+        &mut self,
+        sheet: &Text,
+        text: &Text,
+        steps: &mut Steps<L>,
+    ) -> Result<Vec<u8>, AllocError>
+        ensures ok { IfOk result (λ line. Executes (command.Try sheet.now text.now) self.old.engine self.new.engine line.items) }
+        ensures err { OnErr result (Keeps self.old.engine self.new.engine) }
+    {
+        let sheet = id(&self.engine, sheet);
+        match self.engine.try_formula(sheet, text.as_str(), steps) {
+            Ok(scalar) => scalar_line(self.alloc, &scalar),
             Err(stop) => stop_line(self.alloc, stop),
         }
     }
@@ -119,6 +157,14 @@ impl Session {
     }
 }
 
+// The line of a value.
+fn scalar_line(alloc: Global, scalar: &Scalar) -> Result<Vec<u8>, AllocError>
+    ensures { IfOk result (λ line. line.items ≡ line_of (shown_text scalar.now)) }
+{
+    let shown = scalar.shown(alloc)?;
+    line(alloc, shown.as_str())
+}
+
 // Asks the engine for a change that answers nothing.
 fn ask(engine: &mut Engine, command: &Command) -> Result<(), Stop>
     requires { IsChange command.now }
@@ -142,6 +188,15 @@ fn ask(engine: &mut Engine, command: &Command) -> Result<(), Stop>
             engine.rename_sheet(id(engine, sheet), name.as_str())
         }
         Command::ClearSheet(sheet) => engine.clear_sheet(id(engine, sheet)),
+        Command::AddName(name, scope, text) => {
+            engine.add_name(name.as_str(), scope_of(engine, scope), text.as_str())
+        }
+        Command::ChangeName(name, scope, text) => {
+            engine.change_name(name.as_str(), scope_of(engine, scope), text.as_str())
+        }
+        Command::RemoveName(name, scope) => {
+            engine.remove_name(name.as_str(), scope_of(engine, scope))
+        }
         Command::Begin => engine.begin(),
         Command::Commit => engine.commit(),
         Command::Suspend => {
@@ -163,6 +218,17 @@ fn id(engine: &Engine, name: &Text) -> u32
     ensures { (d : State) → StandsFor engine.now d → result ≡ sheet_named d.book name.now }
 {
     engine.sheet_id(name.as_str()).unwrap_or(NO_SHEET)
+}
+
+// The scope of this name: the number of a sheet, or none where the name is empty.
+fn scope_of(engine: &Engine, name: &Text) -> Option<u32>
+    ensures { (d : State) → StandsFor engine.now d → result ≡ scope_named d.book name.now }
+{
+    if name.as_str().is_empty() {
+        None
+    } else {
+        Some(id(engine, name))
+    }
 }
 
 // The number of the sheet that an address names, or of the first one where it names none.

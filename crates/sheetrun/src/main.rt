@@ -1,19 +1,34 @@
-//! The program `sheetrun`: it makes the real streams and calls `run` of the library `sheet_cli`,
-//! which does everything else.
+//! The program `sheetrun`: it makes the real streams, the day and the custom functions, and calls
+//! `run` of the library `sheet_cli`, which does everything else.
 #![tactic(auto)]
 
 ghost use Rattle.std.specs.Prelude.{◌≡◌, ◌<◌};
+ghost use Rattle.custom_fn.specs.Rule.{rule_value};
+ghost use Rattle.tariffs.specs.Tariffs as tariff;
 
 use book_files::{StdSink, StdSource};
 use sheet_cli::run;
+use cell_value::Scalar;
+use custom_fn::Registry;
+use std::alloc::{AllocError, Global};
 use std::marker::Brand;
 use std::process::ExitCode;
 use std::sync::ledger::{Blank, Ledger};
+use std::time::{SystemTime, UNIX_EPOCH};
 use std::{env, io};
 use steps::Steps;
+use tariffs::{customs, levy, postage};
 
-// The status of a program that has no memory for its words.
+// The status of a program that has no memory for its words or its custom functions.
 const NO_MEMORY: u8 = 7;
+
+// The serial number of 1970-01-01.
+const EPOCH: i32 = 25_569;
+
+const SECONDS_A_DAY: u64 = 86_400;
+
+// A serial number of no date.
+const NO_DAY: i32 = -1;
 
 fn main(rt: HostRuntime) -> ExitCode {
     ExitCode::from(sheetrun::<Brand>(&rt, Blank::new(1)))
@@ -28,9 +43,53 @@ fn sheetrun<L: Ledger>(rt: &HostRuntime, blank: Blank) -> u8
     let mut steps = Steps::<L>::new(blank);
     let mut input = StdSource::new(rt);
     let mut out = StdSink::new(rt);
-    match words(rt) {
-        Ok(words) => run(rt.alloc(), &words, &mut input, &mut out, &mut steps),
-        Err(_) => NO_MEMORY,
+    let Ok(words) = words(rt) else {
+        return NO_MEMORY;
+    };
+    let Ok(registry) = registry(rt.alloc()) else {
+        return NO_MEMORY;
+    };
+    let day = today(rt);
+    run(
+        rt.alloc(),
+        &words,
+        &mut input,
+        &mut out,
+        day,
+        registry,
+        &mut steps,
+    )
+}
+
+// The program's custom functions.
+fn registry(alloc: Global) -> Result<Registry, AllocError> {
+    let by_weight = Box::new(
+        alloc,
+        |x: &Scalar| -> Scalar
+            ensures { result ≡ rule_value tariff.postage x.now }
+        { postage(x) },
+    )?;
+    let on_amount = Box::new(
+        alloc,
+        |x: &Scalar| -> Scalar
+            ensures { result ≡ rule_value tariff.levy x.now }
+        { levy(x) },
+    )?;
+    customs(alloc, by_weight, on_amount)
+}
+
+// The day of the system's clock. A clock that can't be read or that stands before 1970 gives no date, so that TODAY is
+// `#NUM!`.
+fn today(rt: &HostRuntime) -> i32 {
+    let Ok(now) = SystemTime::now(rt) else {
+        return NO_DAY;
+    };
+    let Ok(since) = now.duration_since(UNIX_EPOCH) else {
+        return NO_DAY;
+    };
+    match i32::try_from(since.as_secs() / SECONDS_A_DAY) {
+        Ok(days) => days.checked_add(EPOCH).unwrap_or(NO_DAY),
+        Err(_) => NO_DAY,
     }
 }
 

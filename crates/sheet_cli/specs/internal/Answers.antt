@@ -18,15 +18,15 @@ use Rattle.sheet_cli.specs.declared.program.Stop.TheVariants as stop
 use Rattle.sheet_cli.specs.Run.{record_line}
 
 -- the engine stays in the session that it was in
-abbrev pub Keeps : Engine → Engine → Type 0
+abbrev pub Keeps : {I : _} {D : _} {g : _} → Engine I D g → Engine I D g → Type 0
 Keeps old new = (d : State) → StandsFor old d → StandsFor new d
 
 -- a command was executed: whichever session the engine was in, this line answers it, and the engine is in the next one
-abbrev pub Executes : Command → Engine → Engine → List ℕ → Type 0
+abbrev pub Executes : {I : _} {D : _} {g : _} → Command → Engine I D g → Engine I D g → List ℕ → Type 0
 Executes c old new line = (d : State) → StandsFor old d → (line ≡ reply c d) × StandsFor new (next_state c d)
 
 -- a call for what a command asks for, whichever session the engine was in
-abbrev pub DoesFor : {X : Type 0} → Command → (State → X → Type 0) → Engine → Engine → Result X engine.Stop → Type 0
+abbrev pub DoesFor : {I : _} {D : _} {g : _} {X : Type 0} → Command → (State → X → Type 0) → Engine I D g → Engine I D g → Result X engine.Stop → Type 0
 DoesFor c Answers old new (Ok x) = (d : State) → StandsFor old d → (cause (operation_of d.book c) d ≡ None) × Answers d x × StandsFor new (next_state c d)
 DoesFor c Answers old new (Err (Refused r)) = (d : State) → StandsFor old d → (cause (operation_of d.book c) d ≡ Some r) × StandsFor new (next_state c d)
 DoesFor c Answers old new (Err NoMemory) = Keeps old new
@@ -37,6 +37,8 @@ IsChange (command.AddSheet name) = ⊥
 IsChange (command.Value at) = ⊥
 IsChange (command.Formula at) = ⊥
 IsChange (command.Content at) = ⊥
+IsChange (command.NameValue name sheet) = ⊥
+IsChange (command.Try sheet text) = ⊥
 IsChange _ = ⊤
 
 -- the line of a call that stopped; of want of memory there is none
@@ -46,7 +48,7 @@ IsLineOfStop NoMemory line = ⊥
 
 -- a record was answered: the line of a command went to the sink, and the engine is in the next session; what is no
 -- command gave the last line
-abbrev pub AnswersRecord : Result Command ScriptError → ℕ → Bool → Engine → Engine → Option (List ℕ) → Option (List ℕ) → Type 0
+abbrev pub AnswersRecord : {I : _} {D : _} {g : _} → Result Command ScriptError → ℕ → Bool → Engine I D g → Engine I D g → Option (List ℕ) → Option (List ℕ) → Type 0
 AnswersRecord (Ok c) k false before after old new = (d : State) → StandsFor before d → Appends old new (reply c d) × StandsFor after (next_state c d)
 AnswersRecord (Err e) k true before after old new = Appends old new (record_line k e)
 AnswersRecord _ k ends before after old new = ⊥

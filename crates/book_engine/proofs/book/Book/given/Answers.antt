@@ -1,4 +1,4 @@
-use Rattle.std.proofs.Common.{◌≡◌, ◌∙◌, ap}
+use Rattle.std.proofs.Common.{◌∙◌, ap}
 use Rattle.book_model.specs.Given.{given_entries, numbered}
 use Rattle.book_engine.specs.internal.Cells.{with_cells, with_given}
 use Rattle.book_engine.proofs.GivenBooks.{empty_workbook, given-empty}

@@ -6,11 +6,11 @@ use Rattle.book_engine.proofs.Counted.{steps_over}
 use Rattle.book_engine.proofs.engine.Engine.entries.Goals as goal
 
 pub returns-clause-done : goal.returns-clause-done
-returns-clause-done c = λ d same.
+returns-clause-done g c = λ d same.
     let p = c.args.self.now.parts in
     sym (steps_over (start_of p.batch (stored p.book)) p.undo.done) ∙ ap (λ (x : State). length x.undo) same
 
 pub returns-clause-undone : goal.returns-clause-undone
-returns-clause-undone c = λ d same.
+returns-clause-undone g c = λ d same.
     let p = c.args.self.now.parts in
     sym (steps_over (stored p.book) p.undo.undone) ∙ ap (λ (x : State). length x.redo) same

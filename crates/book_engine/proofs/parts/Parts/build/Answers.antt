@@ -1,4 +1,5 @@
-use Rattle.std.proofs.Common.{◌≡◌, ◌∙◌, sym, ap, subst, reverse, length, false, None}
+use Rattle.std.proofs.Common.{◌≡◌, ◌∙◌, sym, ap, subst, reverse, length, false, None, [], pos}
+use Rattle.book_model.specs.Clipboard.{nothing}
 use Rattle.book_model.specs.Given.{session_given}
 use Rattle.book_model.specs.Sound.{IsSound}
 use Rattle.book_model.proofs.GivenSheets.{given_sound}
@@ -18,7 +19,10 @@ returns-clause-fits c =
         suspended = false;
         next_sheet = length c.args.books.now;
         limit = (same i).limit;
-      })) (given_sound c.args.limit c.args.books.now c.requires.limit c.requires.can),
+        customs = [];
+        today = pos 0;
+        clip = nothing;
+      })) (given_sound c.args.limit [] (pos 0) c.args.books.now c.requires.limit c.requires.can),
       record {
         stand = c.in_ok-book.ensures.stand;
         start = c.in_ok-book.ensures.stand;
