@@ -4,7 +4,7 @@ ghost use Rattle.cell_addr.specs.Sheets.{id_in, name_in};
 ghost use Rattle.shift_core.specs.declared.shift.Shift.TheVariants as shifts;
 ghost use Rattle.custom_fn.specs.Registry.{customs_of};
 ghost use Rattle.book_model.specs.Answers.{content_text, formula_of, name_value_of, tried_value, value_of};
-ghost use Rattle.book_model.specs.Given.{CanBegin, session_given};
+ghost use Rattle.book_model.specs.Given.{CanBegin, given_sheets, session_given};
 ghost use Rattle.book_model.specs.Operation as op;
 ghost use Rattle.book_model.specs.Replies.{first_sheet};
 ghost use Rattle.book_model.specs.Workbook.{State};
@@ -52,9 +52,9 @@ impl Engine {
         registry: Registry,
         day: i32,
     ) -> Result<Engine, AllocError>
-        requires can { CanBegin books.now }
+        requires can { CanBegin (given_sheets books.now) }
         requires limit { limit ≤ MAX_UNDO }
-        ensures { IfOk result (λ engine. StandsFor engine (session_given limit (customs_of registry) day books.now)) }
+        ensures { IfOk result (λ engine. StandsFor engine (session_given limit (customs_of registry) day (given_sheets books.now))) }
     {
         let parts = Parts::build(alloc, books, limit)?;
         Ok(Engine {

@@ -28,7 +28,7 @@ mod standard;
 #[cfg(test)]
 mod tests;
 
-pub use book::read_book;
+pub use book::{read_book, sheet_name};
 pub use disk::DiskFolder;
 pub use error::{Failed, LoadError, WriteError};
 pub use fault::BookFault;

@@ -15,8 +15,19 @@ use Rattle.book_model.specs.declared.given.BookCell.{BookCell}
 use Rattle.book_model.specs.declared.given.BookSheet.{BookSheet}
 use Rattle.book_model.specs.declared.limits.TheConstants.{MAX_CELLS, MAX_SHEETS, MAX_TEXT}
 
+-- a sheet as it is given: its name, and texts for cells of it
+pub record GivenSheet : Type 0 where
+  pub name : List ℕ
+  pub cells : List BookCell
+
+abbrev pub given_sheet : BookSheet → GivenSheet
+given_sheet s = record { name = s.name; cells = s.cells.list.items }
+
+abbrev pub given_sheets : List BookSheet → List GivenSheet
+given_sheets books = map given_sheet books
+
 -- the sheets by number and name, numbered in order from here on
-abbrev pub numbered : ℕ → List BookSheet → List (ℕ × List ℕ)
+abbrev pub numbered : ℕ → List GivenSheet → List (ℕ × List ℕ)
 numbered n [] = []
 numbered n (s ∷ ss) = (n, s.name) ∷ numbered (n + 1) ss
 
@@ -29,12 +40,12 @@ abbrev pub given_entry : List (ℕ × List ℕ) → ℕ → BookCell → Option 
 given_entry sheets sheet c = option_map (λ x. (place_on sheet c, x)) (content_given sheets sheet (content_of c.text))
 
 -- what the texts give to the cells of sheets numbered from here on, where formulas may name each sheet of the list
-abbrev pub given_entries : List (ℕ × List ℕ) → ℕ → List BookSheet → List (Place × Content)
+abbrev pub given_entries : List (ℕ × List ℕ) → ℕ → List GivenSheet → List (Place × Content)
 given_entries sheets n [] = []
-given_entries sheets n (s ∷ ss) = filter_map (given_entry sheets n) s.cells.list.items ++ given_entries sheets (n + 1) ss
+given_entries sheets n (s ∷ ss) = filter_map (given_entry sheets n) s.cells ++ given_entries sheets (n + 1) ss
 
 -- the workbook of the sheets, which has no names yet
-abbrev pub workbook_given : List BookSheet → Workbook
+abbrev pub workbook_given : List GivenSheet → Workbook
 workbook_given books = record {
   sheets = numbered 0 books;
   cells = finmap.from_entries (given_entries (numbered 0 books) 0 books);
@@ -43,7 +54,7 @@ workbook_given books = record {
 
 -- the session that begins with the sheets, in which so many steps can be undone, with these custom functions and on this
 -- day
-abbrev pub session_given : ℕ → List (List ℕ × Rule) → ℤ → List BookSheet → State
+abbrev pub session_given : ℕ → List (List ℕ × Rule) → ℤ → List GivenSheet → State
 session_given limit customs today books = record {
   book = workbook_given books;
   undo = [];
@@ -66,11 +77,11 @@ abbrev pub StandApart : BookCell → BookCell → Type 0
 StandApart c e = (c.row ≢ e.row) ⊎ (c.col ≢ e.col)
 
 -- a sheet with a valid name, and its cells at distinct places
-abbrev pub IsGivenSheet : BookSheet → Type 0
-IsGivenSheet s = IsTrue (is_sheet_name s.name) × All IsGivenCell s.cells.list.items × AllPairs StandApart s.cells.list.items
+abbrev pub IsGivenSheet : GivenSheet → Type 0
+IsGivenSheet s = IsTrue (is_sheet_name s.name) × All IsGivenCell s.cells × AllPairs StandApart s.cells
 
 -- sheets that a session can begin with
-abbrev pub CanBegin : List BookSheet → Type 0
+abbrev pub CanBegin : List GivenSheet → Type 0
 CanBegin books = All IsGivenSheet books
     × AllPairs (λ s t. folded s.name ≢ folded t.name) books
     × (length books ≤ MAX_SHEETS)

@@ -5,15 +5,14 @@ use Rattle.book_model.specs.Operation.{Operation}
 use Rattle.book_model.specs.Workbook.{State}
 use Rattle.book_model.specs.Refusals.{cause}
 use Rattle.book_model.specs.Session.{next}
-use Rattle.book_model.specs.Given.{session_given, CanBegin}
+use Rattle.book_model.specs.Given.{GivenSheet, session_given, CanBegin}
 use Rattle.book_model.specs.Sound.{IsSound}
-use Rattle.book_model.specs.declared.given.BookSheet.{BookSheet}
 use Rattle.book_model.specs.declared.limits.TheConstants.{MAX_UNDO}
 use Rattle.book_model.specs.declared.refusal.Refusal.{Refusal}
 
 -- a session that begins with given sheets is sound, and operations lead from one sound session to another
 abbrev pub SessionsAreSound : Type 0
-SessionsAreSound = ((limit : ℕ) (customs : List (List ℕ × Rule)) (today : ℤ) (books : List BookSheet) → limit ≤ MAX_UNDO → CanBegin books → IsSound (session_given limit customs today books))
+SessionsAreSound = ((limit : ℕ) (customs : List (List ℕ × Rule)) (today : ℤ) (books : List GivenSheet) → limit ≤ MAX_UNDO → CanBegin books → IsSound (session_given limit customs today books))
     × ((op : Operation) (d : State) → IsSound d → IsSound (next op d))
 
 -- a refused operation leaves the session

@@ -1,2 +1,3 @@
 pub mod FoundRows
 pub mod Meanings
+pub mod Ranges

@@ -1,4 +1,5 @@
+pub mod Books
 pub mod Executed
-pub mod FirstSheet
 pub mod LineBytes
 pub mod Outcomes
+pub mod Tallies

@@ -1,2 +1,5 @@
+pub mod Outcome
+pub mod Opening
+pub mod Answering
 pub mod Run
 pub mod internal

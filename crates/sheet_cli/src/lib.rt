@@ -13,7 +13,10 @@
 //! ```
 #![tactic(auto)]
 
+mod answering;
+mod ending;
 mod line;
+mod opening;
 mod program;
 mod session;
 

@@ -1,23 +1,27 @@
 // What the commands of a script ask of the engine, and the lines that answer them.
-ghost use Rattle.std.specs.Prelude.{◌≡◌, IfOk, OnErr, codes};
-ghost use Rattle.book_model.specs.Replies.{block_of, line_of, place_of, scope_named, sheet_named, sheet_of};
+ghost use Rattle.std.specs.Prelude.{◌≡◌, ◌≤◌, IfOk, OnErr, codes, false, true};
+ghost use Rattle.book_model.specs.Given.{CanBegin, given_sheets, session_given};
+ghost use Rattle.book_model.specs.declared.limits.TheConstants.{MAX_UNDO};
+ghost use Rattle.book_model.specs.Replies.{block_of, line_of, place_of, sheet_named, sheet_of};
 ghost use Rattle.book_model.specs.Workbook.{State};
-ghost use Rattle.cell_value.specs.Scalar.{shown_text};
-ghost use Rattle.custom_fn.specs.Registry.{customs_of};
 ghost use Rattle.book_model.specs.declared.command.Command.TheVariants as command;
 ghost use Rattle.book_engine.specs.Engine.{NoAnswer, StandsFor};
-ghost use Rattle.sheet_cli.specs.Run.{first_session};
-ghost use Rattle.sheet_cli.specs.internal.Answers.{DoesFor, IsChange, Keeps, Executes};
+ghost use Rattle.sheet_cli.specs.internal.Answers.{DoesFor, Executes, IsChange, IsLineOfStop, Keeps};
 
 use crate::line::{line, number_line, number_room, stop_line};
 use book_engine::{Engine, Stop};
-use book_model::{BookCells, BookSheet, Command, DEFAULT_UNDO};
+use book_model::{BookSheet, Command};
 use cell_addr::{Block, NO_SHEET, Place, Spot, Text};
-use cell_value::Scalar;
-use custom_fn::Registry;
 use std::alloc::{AllocError, Global};
 use std::sync::ledger::Ledger;
 use steps::Steps;
+
+/// The line that answers a command, and whether the command is refused.
+#[derive(Drop)]
+pub struct Answer {
+    pub line: Vec<u8>,
+    pub refused: bool,
+}
 
 /// An engine, and the lines that it answers commands by.
 #[derive(Drop)]
@@ -27,16 +31,13 @@ pub struct Session {
 }
 
 impl Session {
-    /// A workbook with one empty sheet, `Sheet1`, whose formulas can call these custom functions; the day is the serial
-    /// number of today.
-    pub fn new(alloc: Global, registry: Registry, day: i32) -> Result<Session, AllocError>
-        ensures { IfOk result (λ session. StandsFor session.engine (first_session (customs_of registry) day)) }
+    /// The session of a workbook with these sheets, in which at most `limit` steps can be undone.
+    pub fn new(alloc: Global, sheets: &[BookSheet], limit: u16) -> Result<Session, AllocError>
+        requires can { CanBegin (given_sheets sheets.now) }
+        requires limit { limit ≤ MAX_UNDO }
+        ensures { IfOk result (λ session. StandsFor session.engine (session_given limit (given_sheets sheets.now))) }
     {
-        let books = [BookSheet {
-            name: Text::from_str(alloc, "Sheet1")?,
-            cells: BookCells::new(alloc)?,
-        }];
-        let engine = Engine::build(alloc, &books, DEFAULT_UNDO, registry, day)?;
+        let engine = Engine::build(alloc, sheets, limit)?;
         Ok(Session { alloc, engine })
     }
 
@@ -45,8 +46,8 @@ impl Session {
         &mut self,
         command: &Command,
         steps: &mut Steps<L>,
-    ) -> Result<Vec<u8>, AllocError>
-        ensures ok { IfOk result (λ line. Executes command.now self.old.engine self.new.engine line.items) }
+    ) -> Result<Answer, AllocError>
+        ensures ok { IfOk result (λ answer. Executes command.now self.old.engine self.new.engine answer.line.items answer.refused) }
         ensures err { OnErr result (Keeps self.old.engine self.new.engine) }
     {
         match command {
@@ -54,115 +55,104 @@ impl Session {
             Command::Value(at) => self.value(at, steps),
             Command::Formula(at) => self.formula(at),
             Command::Content(at) => self.content(at),
-            Command::NameValue(name, sheet) => self.name_value(name, sheet, steps),
-            Command::Try(sheet, text) => self.try_formula(sheet, text, steps),
             _ => self.change(command),
         }
     }
 
     // Executes a change that answers nothing. The line is made first, so that nothing fails after the change.
-    fn change(&mut self, command: &Command) -> Result<Vec<u8>, AllocError>
+    fn change(&mut self, command: &Command) -> Result<Answer, AllocError>
         requires { IsChange command.now }
-        ensures ok { IfOk result (λ line. Executes command.now self.old.engine self.new.engine line.items) }
+        ensures ok { IfOk result (λ answer. Executes command.now self.old.engine self.new.engine answer.line.items answer.refused) }
         ensures err { OnErr result (Keeps self.old.engine self.new.engine) }
     {
         let ok = line(self.alloc, "ok")?;
         match ask(&mut self.engine, command) {
-            Ok(()) => Ok(ok),
-            Err(stop) => stop_line(self.alloc, stop),
+            Ok(()) => Ok(accepted(ok)),
+            Err(stop) => stopped(self.alloc, stop),
         }
     }
 
     // Adds a sheet, and answers its number. Room for the line is made first, so that nothing fails after the change.
-    fn add_sheet(&mut self, name: &Text) -> Result<Vec<u8>, AllocError>
-        ensures ok { IfOk result (λ line. Executes (command.AddSheet name.now) self.old.engine self.new.engine line.items) }
+    fn add_sheet(&mut self, name: &Text) -> Result<Answer, AllocError>
+        ensures ok { IfOk result (λ answer. Executes (command.AddSheet name.now) self.old.engine self.new.engine answer.line.items answer.refused) }
         ensures err { OnErr result (Keeps self.old.engine self.new.engine) }
     {
         let room = number_room(self.alloc)?;
         match self.engine.add_sheet(name.as_str()) {
-            Ok(number) => Ok(number_line(room, number)),
-            Err(stop) => stop_line(self.alloc, stop),
+            Ok(number) => Ok(accepted(number_line(room, number))),
+            Err(stop) => stopped(self.alloc, stop),
         }
     }
 
     // Answers what a cell shows.
-    fn value<L: Ledger>(&mut self, at: &Spot, steps: &mut Steps<L>) -> Result<Vec<u8>, AllocError>
-        ensures ok { IfOk result (λ line. Executes (command.Value at.now) self.old.engine self.new.engine line.items) }
+    fn value<L: Ledger>(&mut self, at: &Spot, steps: &mut Steps<L>) -> Result<Answer, AllocError>
+        ensures ok { IfOk result (λ answer. Executes (command.Value at.now) self.old.engine self.new.engine answer.line.items answer.refused) }
         ensures err { OnErr result (Keeps self.old.engine self.new.engine) }
     {
         let place = place(&self.engine, at);
         match self.engine.value(place, steps) {
-            Ok(scalar) => scalar_line(self.alloc, &scalar),
-            Err(stop) => stop_line(self.alloc, stop),
-        }
-    }
-
-    // Answers what a name shows that the word finds on a sheet.
-    fn name_value<L: Ledger>(
-        &mut self,
-        name: &Text,
-        sheet: &Text,
-        steps: &mut Steps<L>,
-    ) -> Result<Vec<u8>, AllocError>
-        ensures ok { IfOk result (λ line. Executes (command.NameValue name.now sheet.now) self.old.engine self.new.engine line.items) }
-        ensures err { OnErr result (Keeps self.old.engine self.new.engine) }
-    {
-        let sheet = id(&self.engine, sheet);
-        match self.engine.name_value(name.as_str(), sheet, steps) {
-            Ok(scalar) => scalar_line(self.alloc, &scalar),
-            Err(stop) => stop_line(self.alloc, stop),
-        }
-    }
-
-    // Answers what a formula would show in the first cell of a sheet.
-    fn try_formula<L: Ledger>(
-        &mut self,
-        sheet: &Text,
-        text: &Text,
-        steps: &mut Steps<L>,
-    ) -> Result<Vec<u8>, AllocError>
-        ensures ok { IfOk result (λ line. Executes (command.Try sheet.now text.now) self.old.engine self.new.engine line.items) }
-        ensures err { OnErr result (Keeps self.old.engine self.new.engine) }
-    {
-        let sheet = id(&self.engine, sheet);
-        match self.engine.try_formula(sheet, text.as_str(), steps) {
-            Ok(scalar) => scalar_line(self.alloc, &scalar),
-            Err(stop) => stop_line(self.alloc, stop),
+            Ok(scalar) => {
+                let shown = scalar.shown(self.alloc)?;
+                shows(self.alloc, shown.as_str())
+            }
+            Err(stop) => stopped(self.alloc, stop),
         }
     }
 
     // Answers the text of a cell's formula, or `none`.
-    fn formula(&mut self, at: &Spot) -> Result<Vec<u8>, AllocError>
-        ensures ok { IfOk result (λ line. Executes (command.Formula at.now) self.old.engine self.new.engine line.items) }
+    fn formula(&mut self, at: &Spot) -> Result<Answer, AllocError>
+        ensures ok { IfOk result (λ answer. Executes (command.Formula at.now) self.old.engine self.new.engine answer.line.items answer.refused) }
         ensures err { OnErr result (Keeps self.old.engine self.new.engine) }
     {
         let place = place(&self.engine, at);
         match self.engine.formula(place) {
-            Ok(Some(text)) => line(self.alloc, text.as_str()),
-            Ok(None) => line(self.alloc, "none"),
-            Err(stop) => stop_line(self.alloc, stop),
+            Ok(Some(text)) => shows(self.alloc, text.as_str()),
+            Ok(None) => shows(self.alloc, "none"),
+            Err(stop) => stopped(self.alloc, stop),
         }
     }
 
     // Answers the text that gives a cell its content.
-    fn content(&mut self, at: &Spot) -> Result<Vec<u8>, AllocError>
-        ensures ok { IfOk result (λ line. Executes (command.Content at.now) self.old.engine self.new.engine line.items) }
+    fn content(&mut self, at: &Spot) -> Result<Answer, AllocError>
+        ensures ok { IfOk result (λ answer. Executes (command.Content at.now) self.old.engine self.new.engine answer.line.items answer.refused) }
         ensures err { OnErr result (Keeps self.old.engine self.new.engine) }
     {
         let place = place(&self.engine, at);
         match self.engine.content(place) {
-            Ok(text) => line(self.alloc, text.as_str()),
-            Err(stop) => stop_line(self.alloc, stop),
+            Ok(text) => shows(self.alloc, text.as_str()),
+            Err(stop) => stopped(self.alloc, stop),
         }
     }
 }
 
-// The line of a value.
-fn scalar_line(alloc: Global, scalar: &Scalar) -> Result<Vec<u8>, AllocError>
-    ensures { IfOk result (λ line. line.items ≡ line_of (shown_text scalar.now)) }
+// The answer to a command that is accepted.
+fn accepted(line: Vec<u8>) -> Answer
+    ensures line { result.line ≡ line }
+    ensures refused { result.refused ≡ false }
 {
-    let shown = scalar.shown(alloc)?;
-    line(alloc, shown.as_str())
+    Answer {
+        line,
+        refused: false,
+    }
+}
+
+// The answer of a text.
+fn shows(alloc: Global, text: &str) -> Result<Answer, AllocError>
+    ensures line { IfOk result (λ answer. answer.line.items ≡ line_of text.now) }
+    ensures refused { IfOk result (λ answer. answer.refused ≡ false) }
+{
+    Ok(accepted(line(alloc, text)?))
+}
+
+// The answer to a command whose call stopped: that it is refused, and why. To want of memory there is none.
+fn stopped(alloc: Global, stop: Stop) -> Result<Answer, AllocError>
+    ensures line { IfOk result (λ answer. IsLineOfStop stop answer.line.items) }
+    ensures refused { IfOk result (λ answer. answer.refused ≡ true) }
+{
+    Ok(Answer {
+        line: stop_line(alloc, stop)?,
+        refused: true,
+    })
 }
 
 // Asks the engine for a change that answers nothing.
@@ -188,15 +178,6 @@ fn ask(engine: &mut Engine, command: &Command) -> Result<(), Stop>
             engine.rename_sheet(id(engine, sheet), name.as_str())
         }
         Command::ClearSheet(sheet) => engine.clear_sheet(id(engine, sheet)),
-        Command::AddName(name, scope, text) => {
-            engine.add_name(name.as_str(), scope_of(engine, scope), text.as_str())
-        }
-        Command::ChangeName(name, scope, text) => {
-            engine.change_name(name.as_str(), scope_of(engine, scope), text.as_str())
-        }
-        Command::RemoveName(name, scope) => {
-            engine.remove_name(name.as_str(), scope_of(engine, scope))
-        }
         Command::Begin => engine.begin(),
         Command::Commit => engine.commit(),
         Command::Suspend => {
@@ -218,17 +199,6 @@ fn id(engine: &Engine, name: &Text) -> u32
     ensures { (d : State) → StandsFor engine.now d → result ≡ sheet_named d.book name.now }
 {
     engine.sheet_id(name.as_str()).unwrap_or(NO_SHEET)
-}
-
-// The scope of this name: the number of a sheet, or none where the name is empty.
-fn scope_of(engine: &Engine, name: &Text) -> Option<u32>
-    ensures { (d : State) → StandsFor engine.now d → result ≡ scope_named d.book name.now }
-{
-    if name.as_str().is_empty() {
-        None
-    } else {
-        Some(id(engine, name))
-    }
 }
 
 // The number of the sheet that an address names, or of the first one where it names none.
