@@ -4,6 +4,7 @@ ghost use Rattle.std.specs.Prelude.{◌≡◌, ◌<◌};
 
 use super::{Engine, Stop};
 use book_model::{BookCell, BookCells, BookSheet, Refusal};
+use calc_eval::Customs;
 use cell_addr::{Block, Place, Text};
 use cell_value::Scalar;
 use custom_fn::Registry;
@@ -29,7 +30,7 @@ fn block(bottom: u32, right: u32) -> Block {
 }
 
 // Whether the formula of the cell has this text.
-fn reads(engine: &mut Engine, row: u32, col: u32, text: &str) -> bool {
+fn reads<C: Customs>(engine: &mut Engine<C>, row: u32, col: u32, text: &str) -> bool {
     match engine.formula(place(row, col)) {
         Ok(Some(shown)) => shown.as_str() == text,
         _ => false,
@@ -165,7 +166,7 @@ fn names_come_and_go(rt: HostRuntime) -> Result<(), AllocError> {
 }
 
 // Whether the first cell, a name and a formula all show TRUE.
-fn all_true<L: Ledger>(engine: &mut Engine, blank: Blank) -> Result<bool, Stop>
+fn all_true<C: Customs, L: Ledger>(engine: &mut Engine<C>, blank: Blank) -> Result<bool, Stop>
     requires name { blank.name ≡ L.name }
     requires parts { blank.parts ≡ L.parts }
     requires some { 0 < blank.parts }
@@ -185,6 +186,6 @@ fn values_follow_names(rt: HostRuntime) -> Result<(), AllocError> {
     assert!(rt; engine.add_name("Two", None, "=SUM(1,1)=2").is_ok());
     assert!(rt; engine.set(place(0, 0), "=TWO").is_ok());
     assert!(rt; engine.set(place(0, 1), "=B1").is_ok());
-    assert!(rt; all_true::<Brand>(&mut engine, Blank::new(1)) == Ok(true));
+    assert!(rt; all_true::<_, Brand>(&mut engine, Blank::new(1)) == Ok(true));
     Ok(())
 }
