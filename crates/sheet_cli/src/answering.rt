@@ -11,6 +11,7 @@ ghost use Rattle.book_model.specs.Workbook.{State};
 ghost use Rattle.csv.specs.Reading.{default_config, records, strip_bom};
 ghost use Rattle.csv.specs.Records.{fields_of};
 ghost use Rattle.generator.specs.declared.TheConstants.{MAX_SIZE};
+ghost use Rattle.run_inputs.specs.Outcome.{ended};
 ghost use Rattle.script_lang.specs.Command.{command_of};
 ghost use Rattle.sheet_cli.specs.Answering.{answers_from, cause_text, outcome_from, record_text, summary_outcome};
 ghost use Rattle.sheet_cli.specs.Run.{generated_outcome, script_outcome};
@@ -294,14 +295,33 @@ pub(crate) fn print<O: Sink>(alloc: Global, out: &mut O, text: &str) -> Result<(
     write(out, &bytes)
 }
 
+/// Writes the line of a text, with which a run ends with this status.
+pub(crate) fn print_end<O: Sink>(
+    alloc: Global,
+    out: &mut O,
+    text: &str,
+    status: u8,
+) -> Result<u8, Stop>
+    ensures printed { Printed (ended status text.now) (O.taken out.old) (O.taken out.new) result }
+    ensures write_fault { IsErrOf result Stop.WriteFault → Rose (O.faults out.old) (O.faults out.new) }
+    ensures status { IfOk result (λ end. end ≡ status) }
+{
+    match print(alloc, out, text) {
+        Ok(()) => Ok(status),
+        Err(stop) => Err(stop),
+    }
+}
+
 // Writes the last bytes of a run that ends with this status.
 fn print_last<O: Sink>(out: &mut O, bytes: &[u8], status: u8) -> Result<u8, Stop>
     ensures printed { Printed (bytes.now, status) (O.taken out.old) (O.taken out.new) result }
     ensures write_fault { IsErrOf result Stop.WriteFault → Rose (O.faults out.old) (O.faults out.new) }
     ensures status { IfOk result (λ end. end ≡ status) }
 {
-    write(out, bytes)?;
-    Ok(status)
+    match write(out, bytes) {
+        Ok(()) => Ok(status),
+        Err(stop) => Err(stop),
+    }
 }
 
 // Writes bytes.

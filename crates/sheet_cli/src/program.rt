@@ -7,7 +7,7 @@ ghost use Rattle.run_inputs.specs.Opening.{told_by};
 ghost use Rattle.sheet_cli.specs.Run.{IsEndStatus, IsStatus, Leaves, Prints, PrintsPart, WasRead, fault_line, outcome, outcome_meant, outcome_said, source_left};
 ghost use Rattle.sheet_cli.specs.internal.Ends.{EndPrinted, IsSaidStatus, Reads, Runs};
 
-use crate::answering::{print, run_generated, run_script};
+use crate::answering::{print, print_end, run_generated, run_script};
 use crate::ending::{NO_MEMORY, READ_FAULT, Stop, WRITE_FAULT, WRONG_WORDS};
 use book_files::{Folder, Sink, Source};
 use calc_eval::Customs;
@@ -97,10 +97,7 @@ fn run_to_end<C: Customs, F: Folder, I: Source, O: Sink, L: Ledger>(
 {
     match read_words(alloc, words) {
         Ok(said) => run_said(alloc, &said, folder, input, out, day, registry, steps),
-        Err(WordsError::Usage) => {
-            print(alloc, out, USAGE)?;
-            Ok(WRONG_WORDS)
-        }
+        Err(WordsError::Usage) => print_end(alloc, out, USAGE, WRONG_WORDS),
         Err(WordsError::NoMemory) => Err(Stop::NoMemory),
     }
 }
@@ -165,14 +162,11 @@ fn end<O: Sink>(alloc: Global, out: &mut O, ending: Ending) -> Result<u8, Stop>
     ensures write_fault { IsErrOf result Stop.WriteFault → Rose (O.faults out.old) (O.faults out.new) }
 {
     match ending {
-        Ending::Says(text, status) => {
-            print(alloc, out, text.as_str())?;
-            Ok(status)
-        }
-        Ending::ReadFault => {
-            print(alloc, out, "read fault")?;
-            Err(Stop::ReadFault)
-        }
+        Ending::Says(text, status) => print_end(alloc, out, text.as_str(), status),
+        Ending::ReadFault => match print(alloc, out, "read fault") {
+            Ok(()) => Err(Stop::ReadFault),
+            Err(stop) => Err(stop),
+        },
         Ending::NoMemory => Err(Stop::NoMemory),
     }
 }
