@@ -2,7 +2,7 @@
 use Rattle.std.proofs.Common.{◌≡◌, ◌≢◌, ◌∙◌, sym, ap, subst, refl, arith, ℕ, zero, suc, ◌+◌, ◌≤◌, ◌<◌, ◌&&◌, ◌||◌, Bool, true, false, cond, List, [], ◌∷◌, ◌++◌, length, filter, get_or, map, Option, Some, None, Result, Ok, Err, nat_le, nat_lt}
 use Rattle.std.specs.Prelude.{IsTrue, not}
 use Rattle.std.specs.List.{All, AllPairs, filter_map, list_any}
-use Rattle.std.specs.FinMap as fin
+use Rattle.std.specs.Str.{is_utf8}
 use Rattle.std.proofs.lemmas.Bool.Decides.{nat_tests}
 use Rattle.std.proofs.lemmas.List.{length-append}
 use Rattle.std.proofs.lemmas.List.Elements.{All-push}
@@ -16,6 +16,7 @@ use Rattle.book_files.specs.Books.{AnswersSheet, book_sheet_of, field_fault, fil
 use Rattle.book_files.specs.declared.fault.BookFault.{BookFault}
 use Rattle.book_files.specs.declared.fault.BookFault.TheVariants.{NotUtf8, BadSheetName, Rows, Columns, FieldLength, Cells}
 use Rattle.book_model.specs.Given.{CanBegin, GivenSheet, IsGivenCell, IsGivenSheet, StandApart, given_entries, given_entry, given_sheet, numbered, workbook_given}
+use Rattle.book_model.specs.Refusals.{is_sheet_name}
 use Rattle.book_model.specs.declared.given.BookCell.{BookCell}
 use Rattle.book_model.specs.declared.given.BookSheet.{BookSheet}
 use Rattle.book_model.proofs.Counts.{len-from_entries, length-filter_map}
@@ -148,7 +149,7 @@ said-ok false false None name cells g e d h = (refl, cc)
 pub read_can : (sheets : List GivenSheet) (filled : ℕ) (file bytes : List ℕ) (s : BookSheet) → book_sheet_of file bytes filled ≡ Ok (given_sheet s) → IsGivenSheet (given_sheet s) → has_name sheets (sheet_name_of file) ≡ false → length sheets < 1024 → filled ≤ 1000000
     → CanFollow sheets filled (given_sheet s)
 read_can sheets filled file bytes s said given new few most =
-    let ok = said-ok _ _ (first_fault filled (file_cells bytes)) (sheet_name_of file) (file_cells bytes) (given_sheet s) _ _ said in
+    let ok = said-ok (not (is_utf8 bytes)) (not (is_sheet_name (sheet_name_of file))) (first_fault filled (file_cells bytes)) (sheet_name_of file) (file_cells bytes) (given_sheet s) NotUtf8 BadSheetName said in
     let name : sheet_name_of file ≡ s.name = ap (λ (g : GivenSheet). g.name) ok.1 in
     let cells : filter is_filled (file_cells bytes) ≡ s.cells.list.items = ap (λ (g : GivenSheet). g.cells) ok.1 in
     let fit = fields-fit filled (file_cells bytes) ok.0 most in

@@ -15,7 +15,23 @@ use book_model::{BookCells, BookSheet, MAX_SHEETS};
 use cell_addr::{Text, same_folded};
 use std::alloc::{AllocError, Global};
 
-/// The sheets that a run begins with: those of its books, or one empty sheet where it is given none.
+/// The sheets that a run begins with: those of its books, in the order of their files, or one empty sheet where it is
+/// given none. A session can begin with them.
+///
+/// Costs the bytes of the files, and for each file the names of the sheets before it.
+///
+/// # Errors
+///
+/// The first file that is no book ends the run.
+///
+/// - [`Ending::Says`] with [`NO_BOOK`] and the line `book FILE: CAUSE`. The causes, in the order in which they are
+///   tested: `missing`, `not UTF-8`, `sheet name invalid`, `sheet name taken` (in some case of its ASCII letters),
+///   `too many sheets`, and of the first field with which something is wrong `too many rows`, `too many columns`,
+///   `field too long` or `too many cells`, which counts the cells of the books before it.
+/// - [`Ending::Says`] with [`TOO_LONG`](crate::TOO_LONG) and `input too long`, where the file has more than [`MAX_INPUT`]
+///   bytes.
+/// - [`Ending::ReadFault`] only where the folder counted a fault.
+/// - [`Ending::NoMemory`] where memory ran out.
 pub fn open_books<F: Folder>(
     alloc: Global,
     folder: &mut F,
@@ -44,7 +60,7 @@ pub fn open_books<F: Folder>(
     Ok(sheets)
 }
 
-/// One empty sheet, `Sheet1`.
+/// One empty sheet, `Sheet1`: what a run without books begins with.
 pub fn empty_book(alloc: Global) -> Result<Vec<BookSheet>, AllocError>
     ensures { IfOk result (λ sheets. given_sheets sheets.items ≡ empty_sheet ∷ []) }
 {
@@ -52,9 +68,9 @@ pub fn empty_book(alloc: Global) -> Result<Vec<BookSheet>, AllocError>
         name: Text::from_str(alloc, "Sheet1")?,
         cells: BookCells::new(alloc)?,
     };
-    let mut sheets = Vec::new(alloc);
-    sheets.push(sheet)?;
-    Ok(sheets)
+    let mut book = Vec::new(alloc);
+    book.push(sheet)?;
+    Ok(book)
 }
 
 // Puts a sheet behind the others.

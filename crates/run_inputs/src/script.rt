@@ -13,7 +13,17 @@ use book_files::{Folder, LoadError, MAX_INPUT, Source, read_all};
 use cell_addr::Text;
 use std::alloc::{AllocError, Global};
 
-/// The bytes of the script: those of its file, or of the source where it has none.
+/// The bytes of the script, at most [`MAX_INPUT`]: those of its file, or of the source where it has none.
+///
+/// Of a script in a file nothing of the source is taken. Costs the bytes.
+///
+/// # Errors
+///
+/// - [`Ending::Says`] with [`NO_BOOK`] and the line `script FILE: missing`, where there is no such file.
+/// - [`Ending::Says`] with [`TOO_LONG`] and `input too long`, where there are more than [`MAX_INPUT`] bytes; of the
+///   source one more than that was taken then.
+/// - [`Ending::ReadFault`] only where the folder or the source counted a fault.
+/// - [`Ending::NoMemory`] where memory ran out.
 pub fn open_script<F: Folder, I: Source>(
     alloc: Global,
     folder: &mut F,
