@@ -1,4 +1,6 @@
+pub mod Endings
 pub mod Executed
 pub mod LineBytes
 pub mod Outcomes
+pub mod SourceRead
 pub mod Tallies

@@ -7,6 +7,7 @@ use Rattle.csv.specs.declared.parser.State.TheVariants as st
 use Rattle.csv.specs.Machine.{Read, next_record}
 use Rattle.csv.specs.Reading.{records, records_from, records_next, default_config, strip_bom, is_bom}
 use Rattle.std.specs.Io.KnownBytes.{Appends, Keeps}
+use Rattle.custom_fn.specs.declared.rule.Rule.{Rule}
 use Rattle.book_files.specs.Outside.{AppendsPart}
 use Rattle.book_files.specs.declared.error.WriteError.{WriteError}
 use Rattle.book_files.specs.declared.error.WriteError.TheVariants as write
@@ -104,68 +105,68 @@ unfolding outcome_from
 outcome-more strict d k fields rest = refl
 
 -- the engine is in a session in which the records that are left, the first of them with this number, complete the whole
-abbrev pub Leads : Bool → Engine → ℕ → List (List (List ℕ)) → Option (List ℕ) → Option (List ℕ) → Outcome → Type 0
-Leads strict engine k left old now whole = (d : State) × (StandsFor engine d × Completes old now (outcome_from strict d k left).0 whole.0 × ((outcome_from strict d k left).1 ≡ whole.1))
+abbrev pub Leads : {C : Type 0} → (C → List (List ℕ × Rule)) → Bool → Engine C → ℕ → List (List (List ℕ)) → Option (List ℕ) → Option (List ℕ) → Outcome → Type 0
+Leads customs strict engine k left old now whole = (d : State) × (StandsFor customs engine d × Completes old now (outcome_from strict d k left).0 whole.0 × ((outcome_from strict d k left).1 ≡ whole.1))
 
 -- the outcome of a record that did this and doesn't end the run: its reply, and the rest in the next session
-outcome-goes : (strict : Bool) (said : Result Command ScriptError) (k : ℕ) (before after : Engine) (d : State) (old new : Option (List ℕ)) (rest : State → Outcome) → AnswersRecord strict said k None before after old new → StandsFor before d
-    → (line : List ℕ) × (next : State) × (Appends old new line × StandsFor after next × (record_outcome strict d k said rest ≡ followed_by line (rest next)))
-outcome-goes strict (Ok command) k before after d old new rest did stands = let now = did d stands in (reply command d, next_state command d, (now.1, now.2, rw now.0 refl))
-outcome-goes strict (Err e) k before after d old new rest did stands = absurd did
+outcome-goes : {C : Type 0} (customs : C → List (List ℕ × Rule)) (strict : Bool) (said : Result Command ScriptError) (k : ℕ) (before after : Engine C) (d : State) (old new : Option (List ℕ)) (rest : State → Outcome) → AnswersRecord customs strict said k None before after old new → StandsFor customs before d
+    → (line : List ℕ) × (next : State) × (Appends old new line × StandsFor customs after next × (record_outcome strict d k said rest ≡ followed_by line (rest next)))
+outcome-goes customs strict (Ok command) k before after d old new rest did stands = let now = did d stands in (reply command d, next_state command d, (now.1, now.2, rw now.0 refl))
+outcome-goes customs strict (Err e) k before after d old new rest did stands = absurd did
 
 -- the outcome of a record that did this and ends the run: its line and its status
-outcome-ends : (strict : Bool) (said : Result Command ScriptError) (k status : ℕ) (before after : Engine) (d : State) (old new : Option (List ℕ)) (rest : State → Outcome) → AnswersRecord strict said k (Some status) before after old new → StandsFor before d
+outcome-ends : {C : Type 0} (customs : C → List (List ℕ × Rule)) (strict : Bool) (said : Result Command ScriptError) (k status : ℕ) (before after : Engine C) (d : State) (old new : Option (List ℕ)) (rest : State → Outcome) → AnswersRecord customs strict said k (Some status) before after old new → StandsFor customs before d
     → (line : List ℕ) × (Appends old new line × (record_outcome strict d k said rest ≡ (line, status)))
-outcome-ends strict (Ok command) k status before after d old new rest did stands = let now = did d stands in (reply command d, (now.1, rw (now.0, now.2) refl))
-outcome-ends strict (Err e) k status before after d old new rest did stands = (line_of (record_text k e), (did.0, rw did.1 refl))
+outcome-ends customs strict (Ok command) k status before after d old new rest did stands = let now = did d stands in (reply command d, (now.1, rw (now.0, now.2) refl))
+outcome-ends customs strict (Err e) k status before after d old new rest did stands = (line_of (record_text k e), (did.0, rw did.1 refl))
 
 -- the outcome of a record of whose line a part was written
-outcome-part : (strict : Bool) (said : Result Command ScriptError) (k : ℕ) (before : Engine) (d : State) (old new : Option (List ℕ)) (rest : State → Outcome) → AnswersPart said k before old new → StandsFor before d
+outcome-part : {C : Type 0} (customs : C → List (List ℕ × Rule)) (strict : Bool) (said : Result Command ScriptError) (k : ℕ) (before : Engine C) (d : State) (old new : Option (List ℕ)) (rest : State → Outcome) → AnswersPart customs said k before old new → StandsFor customs before d
     → AppendsPart old new (record_outcome strict d k said rest).0
-outcome-part strict (Ok command) k before d old new rest part stands = of (strict && is_refused d command)
+outcome-part customs strict (Ok command) k before d old new rest part stands = of (strict && is_refused d command)
   where
     of : (ends : Bool) → AppendsPart old new (cond ends (reply command d, 1) (followed_by (reply command d) (rest (next_state command d)))).0
     of true = part d stands
     of false = part-longer old new (reply command d) (rest (next_state command d)).0 (part d stands)
-outcome-part strict (Err e) k before d old new rest part stands = part
+outcome-part customs strict (Err e) k before d old new rest part stands = part
 
 -- a record that doesn't end the run: what was written and the rest still make the whole
-pub goes_on : (strict : Bool) (old now new : Option (List ℕ)) (before after : Engine) (k : ℕ) (left rest : List (List (List ℕ))) (fields : List (List ℕ)) (whole : Outcome) → left ≡ fields ∷ rest → AnswersRecord strict (command_of fields) k None before after now new
-    → Leads strict before k left old now whole → Leads strict after (k + 1) rest old new whole
-goes_on strict old now new before after k left rest fields whole is did (d, (stands, written, status)) =
-    let g = outcome-goes strict (command_of fields) k before after d now new (λ next. outcome_from strict next (k + 1) rest) did stands in
+pub goes_on : {C : Type 0} (customs : C → List (List ℕ × Rule)) (strict : Bool) (old now new : Option (List ℕ)) (before after : Engine C) (k : ℕ) (left rest : List (List (List ℕ))) (fields : List (List ℕ)) (whole : Outcome) → left ≡ fields ∷ rest → AnswersRecord customs strict (command_of fields) k None before after now new
+    → Leads customs strict before k left old now whole → Leads customs strict after (k + 1) rest old new whole
+goes_on customs strict old now new before after k left rest fields whole is did (d, (stands, written, status)) =
+    let g = outcome-goes customs strict (command_of fields) k before after d now new (λ next. outcome_from strict next (k + 1) rest) did stands in
     let e : outcome_from strict d k left ≡ followed_by g.0 (outcome_from strict g.1 (k + 1) rest) = ap (λ l. outcome_from strict d k l) is ∙ outcome-more strict d k fields rest ∙ g.2.2 in
     let P : Outcome → Type 0 = λ o. Completes old now o.0 whole.0 in
     (g.1, (g.2.1, completes-write old now new g.0 (outcome_from strict g.1 (k + 1) rest).0 whole.0 (subst P e written) g.2.0, sym (ap (λ (o : Outcome). o.1) e) ∙ status))
 
 -- a record that ends the run: what was written is the whole
-pub stops : (strict : Bool) (old now new : Option (List ℕ)) (before after : Engine) (k end : ℕ) (left rest : List (List (List ℕ))) (fields : List (List ℕ)) (whole : Outcome) → left ≡ fields ∷ rest → AnswersRecord strict (command_of fields) k (Some end) before after now new
-    → Leads strict before k left old now whole → Appends old new whole.0 × (end ≡ whole.1)
-stops strict old now new before after k end left rest fields whole is did (d, (stands, written, status)) =
-    let g = outcome-ends strict (command_of fields) k end before after d now new (λ next. outcome_from strict next (k + 1) rest) did stands in
+pub stops : {C : Type 0} (customs : C → List (List ℕ × Rule)) (strict : Bool) (old now new : Option (List ℕ)) (before after : Engine C) (k end : ℕ) (left rest : List (List (List ℕ))) (fields : List (List ℕ)) (whole : Outcome) → left ≡ fields ∷ rest → AnswersRecord customs strict (command_of fields) k (Some end) before after now new
+    → Leads customs strict before k left old now whole → Appends old new whole.0 × (end ≡ whole.1)
+stops customs strict old now new before after k end left rest fields whole is did (d, (stands, written, status)) =
+    let g = outcome-ends customs strict (command_of fields) k end before after d now new (λ next. outcome_from strict next (k + 1) rest) did stands in
     let e : outcome_from strict d k left ≡ (g.0, end) = ap (λ l. outcome_from strict d k l) is ∙ outcome-more strict d k fields rest ∙ g.1.1 in
     let P : Outcome → Type 0 = λ o. Completes old now o.0 whole.0 in
     (completes-last old now new g.0 whole.0 (subst P e written) g.1.0, sym (ap (λ (o : Outcome). o.1) e) ∙ status)
 
 -- a record that wasn't answered to its end: what was written is a part of the whole
-pub breaks : (strict : Bool) (old now new : Option (List ℕ)) (before : Engine) (k : ℕ) (left rest : List (List (List ℕ))) (fields : List (List ℕ)) (whole : Outcome) → left ≡ fields ∷ rest → AnswersPart (command_of fields) k before now new
-    → Leads strict before k left old now whole → AppendsPart old new whole.0
-breaks strict old now new before k left rest fields whole is part (d, (stands, written, status)) =
-    let p = outcome-part strict (command_of fields) k before d now new (λ next. outcome_from strict next (k + 1) rest) part stands in
+pub breaks : {C : Type 0} (customs : C → List (List ℕ × Rule)) (strict : Bool) (old now new : Option (List ℕ)) (before : Engine C) (k : ℕ) (left rest : List (List (List ℕ))) (fields : List (List ℕ)) (whole : Outcome) → left ≡ fields ∷ rest → AnswersPart customs (command_of fields) k before now new
+    → Leads customs strict before k left old now whole → AppendsPart old new whole.0
+breaks customs strict old now new before k left rest fields whole is part (d, (stands, written, status)) =
+    let p = outcome-part customs strict (command_of fields) k before d now new (λ next. outcome_from strict next (k + 1) rest) part stands in
     let e : outcome_from strict d k left ≡ record_outcome strict d k (command_of fields) (λ next. outcome_from strict next (k + 1) rest) = ap (λ l. outcome_from strict d k l) is ∙ outcome-more strict d k fields rest in
     completes-part old now new (outcome_from strict d k left).0 whole.0 written (subst (λ (o : Outcome). AppendsPart now new o.0) (sym e) p)
 
 -- no record is left: what was written is the whole
-pub ends : (strict : Bool) (old now : Option (List ℕ)) (engine : Engine) (k : ℕ) (left : List (List (List ℕ))) (whole : Outcome) → left ≡ [] → Leads strict engine k left old now whole
+pub ends : {C : Type 0} (customs : C → List (List ℕ × Rule)) (strict : Bool) (old now : Option (List ℕ)) (engine : Engine C) (k : ℕ) (left : List (List (List ℕ))) (whole : Outcome) → left ≡ [] → Leads customs strict engine k left old now whole
     → Appends old now whole.0 × (0 ≡ whole.1)
-ends strict old now engine k left whole is (d, (stands, written, status)) =
+ends customs strict old now engine k left whole is (d, (stands, written, status)) =
     let e : outcome_from strict d k left ≡ ([], 0) = ap (λ l. outcome_from strict d k l) is ∙ outcome-none strict d k in
     let P : Outcome → Type 0 = λ o. Completes old now o.0 whole.0 in
     (completes-end old now whole.0 (subst P e written), sym (ap (λ (o : Outcome). o.1) e) ∙ status)
 
 -- what was written so far is a part of the whole
-pub so_far : (strict : Bool) (old now : Option (List ℕ)) (engine : Engine) (k : ℕ) (left : List (List (List ℕ))) (whole : Outcome) → Leads strict engine k left old now whole → AppendsPart old now whole.0
-so_far strict old now engine k left whole (d, (stands, written, status)) = completes-so_far old now (outcome_from strict d k left).0 whole.0 written
+pub so_far : {C : Type 0} (customs : C → List (List ℕ × Rule)) (strict : Bool) (old now : Option (List ℕ)) (engine : Engine C) (k : ℕ) (left : List (List (List ℕ))) (whole : Outcome) → Leads customs strict engine k left old now whole → AppendsPart old now whole.0
+so_far customs strict old now engine k left whole (d, (stands, written, status)) = completes-so_far old now (outcome_from strict d k left).0 whole.0 written
 
 -- a part was printed before a run was stopped, though not by a fault in reading
 pub stopped : (o : Outcome) (old new : Option (List ℕ)) (s : Stop) → (s ≡ stop.ReadFault → ⊥) → AppendsPart old new o.0 → Printed o old new (Err s)
@@ -198,12 +199,12 @@ pub few_records : (bytes : List ℕ) → length (records default_config (strip_b
 few_records bytes = let l = long_from (length (strip_bom bytes) + 1) st.StartRecord (strip_bom bytes) in omega (arith, no_longer bytes)
 
 -- nothing of the line of a command, or of a record, was written
-pub no_part : (c : Command) (before : Engine) (old : Option (List ℕ)) → PartOfCommand c before old old
-no_part c before old = λ d stands. part-none old (reply c d)
+pub no_part : {C : Type 0} (customs : C → List (List ℕ × Rule)) (c : Command) (before : Engine C) (old : Option (List ℕ)) → PartOfCommand customs c before old old
+no_part customs c before old = λ d stands. part-none old (reply c d)
 
-pub nothing_answered : (said : Result Command ScriptError) (k : ℕ) (before : Engine) (old : Option (List ℕ)) → AnswersPart said k before old old
-nothing_answered (Ok c) k before old = no_part c before old
-nothing_answered (Err e) k before old = part-none old (line_of (record_text k e))
+pub nothing_answered : {C : Type 0} (customs : C → List (List ℕ × Rule)) (said : Result Command ScriptError) (k : ℕ) (before : Engine C) (old : Option (List ℕ)) → AnswersPart customs said k before old old
+nothing_answered customs (Ok c) k before old = no_part customs c before old
+nothing_answered customs (Err e) k before old = part-none old (line_of (record_text k e))
 
 -- what a failed write wrote
 pub wrote_part : (old new : Option (List ℕ)) (bytes : List ℕ) (r : Result ⊤ WriteError) (e : WriteError) → r ≡ Err e

@@ -1,6 +1,7 @@
 -- Answers counted one after the other: a summary is that of all. Serves the commands that a run generates.
 use Rattle.std.proofs.Common.{◌≡◌, ◌∙◌, sym, ap, subst, refl, arith, ℕ, suc, ◌+◌, ◌&&◌, Bool, true, false, cond, List, [], ◌∷◌, ◌++◌, length, filter, codes, Option, Some, None}
 use Rattle.std.specs.Fmt.{decimal}
+use Rattle.custom_fn.specs.declared.rule.Rule.{Rule}
 use Rattle.book_engine.specs.Engine.{StandsFor}
 use Rattle.book_engine.specs.declared.engine.Engine.{Engine}
 use Rattle.book_model.specs.Replies.{line_of, next_state, reply}
@@ -17,8 +18,8 @@ abbrev pub EndsAlike : Bool → List Answered → List Answered → Type 0
 EndsAlike strict rest all = strict ≡ true → first_refusal rest ≡ first_refusal all
 
 -- the engine is in a session in which the commands that are left complete all answers
-abbrev pub Tallied : Bool → Engine → Tally → List Command → List Answered → Type 0
-Tallied strict engine tally left all = (d : State) × (StandsFor engine d × Completes tally (answers_from d left) all × EndsAlike strict (answers_from d left) all)
+abbrev pub Tallied : {C : Type 0} → (C → List (List ℕ × Rule)) → Bool → Engine C → Tally → List Command → List Answered → Type 0
+Tallied customs strict engine tally left all = (d : State) × (StandsFor customs engine d × Completes tally (answers_from d left) all × EndsAlike strict (answers_from d left) all)
 
 answers-none : (d : State) → answers_from d [] ≡ []
 unfolding answers_from
@@ -28,8 +29,8 @@ answers-more : (d : State) (c : Command) (rest : List Command) → answers_from 
 unfolding answers_from
 answers-more d c rest = refl
 
-pub tallied-start : (strict : Bool) (engine : Engine) (d : State) (commands : List Command) (t : Tally) → t ≡ record { commands = 0; refused = 0; bytes = 0 } → StandsFor engine d → Tallied strict engine t commands (answers_from d commands)
-tallied-start strict engine d commands t none stands =
+pub tallied-start : {C : Type 0} (customs : C → List (List ℕ × Rule)) (strict : Bool) (engine : Engine C) (d : State) (commands : List Command) (t : Tally) → t ≡ record { commands = 0; refused = 0; bytes = 0 } → StandsFor customs engine d → Tallied customs strict engine t commands (answers_from d commands)
+tallied-start customs strict engine d commands t none stands =
     let zero : (n : ℕ) → 0 + n ≡ n = λ n. omega arith in
     rw none (d, (stands, (zero _, zero _, zero _), λ s. refl))
 
@@ -42,9 +43,9 @@ refusal-after true a rest all passes alike = λ s. rw passes at (alike s)
 refusal-after false a rest all passes alike = λ s. cc
 
 -- one more answer that doesn't end the run
-pub tallied-more : (strict : Bool) (before after : Engine) (t u : Tally) (c : Command) (line : List ℕ) (refused : Bool) (left rest : List Command) (all : List Answered) → left ≡ c ∷ rest → Executes c before after line refused → (strict && refused) ≡ false → Adds line refused t u
-    → Tallied strict before t left all → Tallied strict after u rest all
-tallied-more strict before after t u c line refused left rest all is did passes adds (d, (stands, counts, alike)) =
+pub tallied-more : {C : Type 0} (customs : C → List (List ℕ × Rule)) (strict : Bool) (before after : Engine C) (t u : Tally) (c : Command) (line : List ℕ) (refused : Bool) (left rest : List Command) (all : List Answered) → left ≡ c ∷ rest → Executes customs c before after line refused → (strict && refused) ≡ false → Adds line refused t u
+    → Tallied customs strict before t left all → Tallied customs strict after u rest all
+tallied-more customs strict before after t u c line refused left rest all is did passes adds (d, (stands, counts, alike)) =
     let now = did d stands in
     let a : Answered = record { line = reply c d; refused = is_refused d c } in
     let more : answers_from d left ≡ a ∷ answers_from (next_state c d) rest = ap (answers_from d) is ∙ answers-more d c rest in
@@ -59,9 +60,9 @@ and-both true b h = (refl, h)
 and-both false b h = cc
 
 -- an answer that ends the run
-pub tallied-ends : (strict : Bool) (before after : Engine) (t : Tally) (c : Command) (line : List ℕ) (refused : Bool) (left rest : List Command) (all : List Answered) → left ≡ c ∷ rest → Executes c before after line refused → (strict && refused) ≡ true
-    → Tallied strict before t left all → summary_outcome strict all ≡ (line, 1)
-tallied-ends strict before after t c line refused left rest all is did last (d, (stands, counts, alike)) =
+pub tallied-ends : {C : Type 0} (customs : C → List (List ℕ × Rule)) (strict : Bool) (before after : Engine C) (t : Tally) (c : Command) (line : List ℕ) (refused : Bool) (left rest : List Command) (all : List Answered) → left ≡ c ∷ rest → Executes customs c before after line refused → (strict && refused) ≡ true
+    → Tallied customs strict before t left all → summary_outcome strict all ≡ (line, 1)
+tallied-ends customs strict before after t c line refused left rest all is did last (d, (stands, counts, alike)) =
     let now = did d stands in
     let both = and-both strict refused last in
     let a : Answered = record { line = reply c d; refused = is_refused d c } in
@@ -72,8 +73,8 @@ tallied-ends strict before after t c line refused left rest all is did last (d, 
     rw (both.0, sym found, now.0) refl
 
 -- all answers were counted
-pub tallied-all : (strict : Bool) (engine : Engine) (t : Tally) (left : List Command) (all : List Answered) → left ≡ [] → Tallied strict engine t left all → summary_outcome strict all ≡ (summary_of t, 0)
-tallied-all strict engine t left all is (d, (stands, counts, alike)) =
+pub tallied-all : {C : Type 0} (customs : C → List (List ℕ × Rule)) (strict : Bool) (engine : Engine C) (t : Tally) (left : List Command) (all : List Answered) → left ≡ [] → Tallied customs strict engine t left all → summary_outcome strict all ≡ (summary_of t, 0)
+tallied-all customs strict engine t left all is (d, (stands, counts, alike)) =
     let none : answers_from d left ≡ [] = ap (answers_from d) is ∙ answers-none d in
     let counted = subst (λ r. Completes t r all) none counts in
     let commands : t.commands ≡ length all = omega (arith, counted.0) in

@@ -1,7 +1,8 @@
 -- The whole output and status of a run, from its words, the files that they name and the bytes of its source, and what
 -- is said of a run that doesn't come to its end. Source: this project's own.
-use Rattle.std.specs.Prelude.{◌≡◌, ◌⊎◌, ◌+◌, ◌&&◌, if◌then◌else◌, true, false, ℕ, Bool, List, [], ◌∷◌, drop, Option, Some, None, is_none, Result, Ok, Err, is_ok, codes, ⊤}
+use Rattle.std.specs.Prelude.{◌≡◌, ◌⊎◌, ◌+◌, ◌&&◌, if◌then◌else◌, true, false, ℕ, ℤ, Bool, List, [], ◌∷◌, drop, Option, Some, None, is_none, Result, Ok, Err, is_ok, codes, ⊤}
 use Rattle.std.specs.Io.KnownBytes.{Appends}
+use Rattle.custom_fn.specs.declared.rule.Rule.{Rule}
 use Rattle.csv.specs.Reading.{records, default_config, strip_bom}
 use Rattle.book_files.specs.Outside.{AppendsPart}
 use Rattle.book_files.specs.declared.input.TheConstants.{MAX_INPUT}
@@ -16,26 +17,26 @@ use Rattle.run_inputs.specs.Outcome.{Outcome, ended, or_end}
 abbrev pub usage : Outcome
 usage = ended 2 (codes "usage: sheetrun [--undo-limit N] [--strict] [--script FILE] [--generate N] [BOOK.csv ...]")
 
--- a script's outcome, from a session of these sheets on
-abbrev pub script_outcome : Said → List GivenSheet → List ℕ → Outcome
-script_outcome said sheets bytes = outcome_from said.strict (session_given said.undo_limit sheets) 1 (records default_config (strip_bom bytes))
+-- a script's outcome, from a session of these sheets on, with these custom functions and on this day
+abbrev pub script_outcome : List (List ℕ × Rule) → ℤ → Said → List GivenSheet → List ℕ → Outcome
+script_outcome customs day said sheets bytes = outcome_from said.strict (session_given said.undo_limit customs day sheets) 1 (records default_config (strip_bom bytes))
 
 -- the outcome of a generated list of commands of this size
-abbrev pub generated_outcome : Said → ℕ → Outcome
-generated_outcome said n = summary_outcome said.strict (answers_from (session_given said.undo_limit (empty_sheet ∷ [])) (generated n))
+abbrev pub generated_outcome : List (List ℕ × Rule) → ℤ → Said → ℕ → Outcome
+generated_outcome customs day said n = summary_outcome said.strict (answers_from (session_given said.undo_limit customs day (empty_sheet ∷ [])) (generated n))
 
 -- the outcome of words that say this: of a generated list, or of a script, once its books and then itself are there
-abbrev pub outcome_said : Option ℕ → Said → Told → Outcome
-outcome_said (Some n) said told = generated_outcome said n
-outcome_said None said told = or_end (sheets_told told.files said.books) (λ sheets. or_end (script_told told said.script) (script_outcome said sheets))
+abbrev pub outcome_said : List (List ℕ × Rule) → ℤ → Option ℕ → Said → Told → Outcome
+outcome_said customs day (Some n) said told = generated_outcome customs day said n
+outcome_said customs day None said told = or_end (sheets_told told.files said.books) (λ sheets. or_end (script_told told said.script) (script_outcome customs day said sheets))
 
-abbrev pub outcome_meant : Option Said → Told → Outcome
-outcome_meant None told = usage
-outcome_meant (Some said) told = outcome_said said.generate said told
+abbrev pub outcome_meant : List (List ℕ × Rule) → ℤ → Option Said → Told → Outcome
+outcome_meant customs day None told = usage
+outcome_meant customs day (Some said) told = outcome_said customs day said.generate said told
 
--- the outcome of a run
-abbrev pub outcome : List (List ℕ) → Told → Outcome
-outcome words told = outcome_meant (meaning words) told
+-- the outcome of a run, whose formulas know these custom functions and this day
+abbrev pub outcome : List (List ℕ × Rule) → ℤ → List (List ℕ) → Told → Outcome
+outcome customs day words told = outcome_meant customs day (meaning words) told
 
 -- what a run prints, and its status, are the outcome of what it is told
 abbrev pub Prints : Option Told → (Told → Outcome) → Option (List ℕ) → Option (List ℕ) → ℕ → Type 0

@@ -11,6 +11,7 @@ ghost use Rattle.book_model.specs.Workbook.{State};
 ghost use Rattle.csv.specs.Reading.{default_config, records, strip_bom};
 ghost use Rattle.csv.specs.Records.{fields_of};
 ghost use Rattle.generator.specs.declared.TheConstants.{MAX_SIZE};
+ghost use Rattle.run_inputs.specs.Outcome.{ended};
 ghost use Rattle.script_lang.specs.Command.{command_of};
 ghost use Rattle.sheet_cli.specs.Answering.{answers_from, cause_text, outcome_from, record_text, summary_outcome};
 ghost use Rattle.sheet_cli.specs.Run.{generated_outcome, script_outcome};
@@ -23,6 +24,7 @@ use crate::line::line;
 use crate::session::{Answer, Session};
 use book_files::{Records, Sink};
 use book_model::{BookSheet, Command};
+use calc_eval::Customs;
 use command_words::Words;
 use csv::ByteRecord;
 use generator::generate;
@@ -34,37 +36,39 @@ use steps::Steps;
 
 /// Answers the records of a script in order, from a session of these sheets on, up to the script's end, to a record that
 /// is no command, or, where the words ask for that, to a refusal.
-pub(crate) fn run_script<O: Sink, L: Ledger>(
+pub(crate) fn run_script<C: Customs, O: Sink, L: Ledger>(
     alloc: Global,
     said: &Words,
     sheets: Vec<BookSheet>,
     script: &[u8],
     out: &mut O,
+    day: i32,
+    registry: C,
     steps: &mut Steps<L>,
 ) -> Result<u8, Stop>
     requires can { CanBegin (given_sheets sheets.items) }
     requires limit { said.now.undo_limit ≤ MAX_UNDO }
     requires short { length script.now ≤ MAX_INPUT }
-    ensures printed { Printed (script_outcome (seen said.now) (given_sheets sheets.items) script.now) (O.taken out.old) (O.taken out.new) result }
+    ensures printed { Printed (script_outcome (C.customs registry) day (seen said.now) (given_sheets sheets.items) script.now) (O.taken out.old) (O.taken out.new) result }
     ensures write_fault { IsErrOf result Stop.WriteFault → Rose (O.faults out.old) (O.faults out.new) }
     ensures status { EndsScript result }
 {
-    let mut session = Session::new(alloc, &sheets, said.undo_limit)?;
+    let mut session = Session::new(alloc, &sheets, said.undo_limit, registry, day)?;
     drop(sheets);
     run_records(alloc, &mut session, said.strict, script, out, steps)
 }
 
 // Answers the records of a script in a session.
-fn run_records<O: Sink, L: Ledger>(
+fn run_records<C: Customs, O: Sink, L: Ledger>(
     alloc: Global,
-    session: &mut Session,
+    session: &mut Session<C>,
     strict: bool,
     script: &[u8],
     out: &mut O,
     steps: &mut Steps<L>,
 ) -> Result<u8, Stop>
     requires { length script.now ≤ MAX_INPUT }
-    ensures printed { (d : State) → StandsFor session.old.engine d → Printed (outcome_from strict d 1 (records default_config (strip_bom script.now))) (O.taken out.old) (O.taken out.new) result }
+    ensures printed { (d : State) → StandsFor C.customs session.old.engine d → Printed (outcome_from strict d 1 (records default_config (strip_bom script.now))) (O.taken out.old) (O.taken out.new) result }
     ensures write_fault { IsErrOf result Stop.WriteFault → Rose (O.faults out.old) (O.faults out.new) }
     ensures status { EndsScript result }
 {
@@ -82,17 +86,17 @@ fn run_records<O: Sink, L: Ledger>(
 }
 
 // Answers one record of a script. Where it ends the run, the status.
-fn run_record<O: Sink, L: Ledger>(
+fn run_record<C: Customs, O: Sink, L: Ledger>(
     alloc: Global,
-    session: &mut Session,
+    session: &mut Session<C>,
     strict: bool,
     number: u64,
     fields: &ByteRecord,
     out: &mut O,
     steps: &mut Steps<L>,
 ) -> Result<Option<u8>, Stop>
-    ensures answered { IfOk result (λ end. AnswersRecord strict (command_of (fields_of fields.now)) number end session.old.engine session.new.engine (O.taken out.old) (O.taken out.new)) }
-    ensures part { OnErr result (AnswersPart (command_of (fields_of fields.now)) number session.old.engine (O.taken out.old) (O.taken out.new)) }
+    ensures answered { IfOk result (λ end. AnswersRecord C.customs strict (command_of (fields_of fields.now)) number end session.old.engine session.new.engine (O.taken out.old) (O.taken out.new)) }
+    ensures part { OnErr result (AnswersPart C.customs (command_of (fields_of fields.now)) number session.old.engine (O.taken out.old) (O.taken out.new)) }
     ensures no_read_fault { IsErrOf result Stop.ReadFault → ⊥ }
     ensures write_fault { IsErrOf result Stop.WriteFault → Rose (O.faults out.old) (O.faults out.new) }
     ensures later { O.faults out.old ≤ O.faults out.new }
@@ -109,15 +113,15 @@ fn run_record<O: Sink, L: Ledger>(
 }
 
 // Answers a command. Where it ends the run, the status.
-fn run_command<O: Sink, L: Ledger>(
-    session: &mut Session,
+fn run_command<C: Customs, O: Sink, L: Ledger>(
+    session: &mut Session<C>,
     strict: bool,
     command: &Command,
     out: &mut O,
     steps: &mut Steps<L>,
 ) -> Result<Option<u8>, Stop>
-    ensures answered { IfOk result (λ end. AnswersCommand strict command.now end session.old.engine session.new.engine (O.taken out.old) (O.taken out.new)) }
-    ensures part { OnErr result (PartOfCommand command.now session.old.engine (O.taken out.old) (O.taken out.new)) }
+    ensures answered { IfOk result (λ end. AnswersCommand C.customs strict command.now end session.old.engine session.new.engine (O.taken out.old) (O.taken out.new)) }
+    ensures part { OnErr result (PartOfCommand C.customs command.now session.old.engine (O.taken out.old) (O.taken out.new)) }
     ensures no_read_fault { IsErrOf result Stop.ReadFault → ⊥ }
     ensures write_fault { IsErrOf result Stop.WriteFault → Rose (O.faults out.old) (O.faults out.new) }
     ensures later { O.faults out.old ≤ O.faults out.new }
@@ -177,36 +181,38 @@ fn cause_text(alloc: Global, cause: ScriptError) -> Result<String, AllocError>
 
 /// Executes a generated list of commands from a session of one empty sheet on, and prints a summary of it, or, where the
 /// words ask for that, its first refusal.
-pub(crate) fn run_generated<O: Sink, L: Ledger>(
+pub(crate) fn run_generated<C: Customs, O: Sink, L: Ledger>(
     alloc: Global,
     said: &Words,
     size: u32,
     out: &mut O,
+    day: i32,
+    registry: C,
     steps: &mut Steps<L>,
 ) -> Result<u8, Stop>
     requires least { 1 ≤ size }
     requires most { size ≤ MAX_SIZE }
     requires limit { said.now.undo_limit ≤ MAX_UNDO }
-    ensures printed { Printed (generated_outcome (seen said.now) size) (O.taken out.old) (O.taken out.new) result }
+    ensures printed { Printed (generated_outcome (C.customs registry) day (seen said.now) size) (O.taken out.old) (O.taken out.new) result }
     ensures write_fault { IsErrOf result Stop.WriteFault → Rose (O.faults out.old) (O.faults out.new) }
     ensures status { EndsScript result }
 {
     let commands = generate(alloc, size)?;
     let sheets = empty_book(alloc)?;
-    let mut session = Session::new(alloc, &sheets, said.undo_limit)?;
+    let mut session = Session::new(alloc, &sheets, said.undo_limit, registry, day)?;
     run_commands(alloc, &mut session, said.strict, &commands, out, steps)
 }
 
 // Executes commands in a session, and prints a summary, or the refusal that ends the run.
-fn run_commands<O: Sink, L: Ledger>(
+fn run_commands<C: Customs, O: Sink, L: Ledger>(
     alloc: Global,
-    session: &mut Session,
+    session: &mut Session<C>,
     strict: bool,
     commands: &[Command],
     out: &mut O,
     steps: &mut Steps<L>,
 ) -> Result<u8, Stop>
-    ensures printed { (d : State) → StandsFor session.old.engine d → Printed (summary_outcome strict (answers_from d commands.now)) (O.taken out.old) (O.taken out.new) result }
+    ensures printed { (d : State) → StandsFor C.customs session.old.engine d → Printed (summary_outcome strict (answers_from d commands.now)) (O.taken out.old) (O.taken out.new) result }
     ensures write_fault { IsErrOf result Stop.WriteFault → Rose (O.faults out.old) (O.faults out.new) }
     ensures status { EndsScript result }
 {
@@ -289,14 +295,33 @@ pub(crate) fn print<O: Sink>(alloc: Global, out: &mut O, text: &str) -> Result<(
     write(out, &bytes)
 }
 
+/// Writes the line of a text, with which a run ends with this status.
+pub(crate) fn print_end<O: Sink>(
+    alloc: Global,
+    out: &mut O,
+    text: &str,
+    status: u8,
+) -> Result<u8, Stop>
+    ensures printed { Printed (ended status text.now) (O.taken out.old) (O.taken out.new) result }
+    ensures write_fault { IsErrOf result Stop.WriteFault → Rose (O.faults out.old) (O.faults out.new) }
+    ensures status { IfOk result (λ end. end ≡ status) }
+{
+    match print(alloc, out, text) {
+        Ok(()) => Ok(status),
+        Err(stop) => Err(stop),
+    }
+}
+
 // Writes the last bytes of a run that ends with this status.
 fn print_last<O: Sink>(out: &mut O, bytes: &[u8], status: u8) -> Result<u8, Stop>
     ensures printed { Printed (bytes.now, status) (O.taken out.old) (O.taken out.new) result }
     ensures write_fault { IsErrOf result Stop.WriteFault → Rose (O.faults out.old) (O.faults out.new) }
     ensures status { IfOk result (λ end. end ≡ status) }
 {
-    write(out, bytes)?;
-    Ok(status)
+    match write(out, bytes) {
+        Ok(()) => Ok(status),
+        Err(stop) => Err(stop),
+    }
 }
 
 // Writes bytes.

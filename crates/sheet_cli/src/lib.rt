@@ -20,3 +20,6 @@ mod program;
 mod session;
 
 pub use program::run;
+
+#[cfg(test)]
+mod tests;

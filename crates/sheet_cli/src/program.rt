@@ -7,9 +7,10 @@ ghost use Rattle.run_inputs.specs.Opening.{told_by};
 ghost use Rattle.sheet_cli.specs.Run.{IsEndStatus, IsStatus, Leaves, Prints, PrintsPart, WasRead, fault_line, outcome, outcome_meant, outcome_said, source_left};
 ghost use Rattle.sheet_cli.specs.internal.Ends.{EndPrinted, IsSaidStatus, Reads, Runs};
 
-use crate::answering::{print, run_generated, run_script};
+use crate::answering::{print, print_end, run_generated, run_script};
 use crate::ending::{NO_MEMORY, READ_FAULT, Stop, WRITE_FAULT, WRONG_WORDS};
 use book_files::{Folder, Sink, Source};
+use calc_eval::Customs;
 use command_words::{Words, WordsError, words as read_words};
 use run_inputs::{Ending, open_books, open_script};
 use std::alloc::Global;
@@ -23,7 +24,8 @@ const USAGE: &str =
 ///
 /// The words name the books, the script and what is asked of the run. The books are read from the folder, and then the
 /// script, from there or from the source; its records are commands, each answered by one line in one write. With
-/// `--generate` a generated list of commands is executed instead, and a summary printed. The statuses:
+/// `--generate` a generated list of commands is executed instead, and a summary printed. Formulas can call the custom
+/// functions of the registry, and `day` is the serial number of today, counted from 1899-12-30. The statuses:
 ///
 /// - 0: all was read and answered.
 /// - 1: with `--strict`, a command is refused; its refusal is the last line.
@@ -34,17 +36,19 @@ const USAGE: &str =
 /// - 6: the sink failed.
 /// - 7: memory ran out.
 /// - 8: a file or the script has more than 64 MiB.
-pub fn run<F: Folder, I: Source, O: Sink, L: Ledger>(
+pub fn run<C: Customs, F: Folder, I: Source, O: Sink, L: Ledger>(
     alloc: Global,
     words: &[String],
     folder: &mut F,
     input: &mut I,
     out: &mut O,
+    day: i32,
+    registry: C,
     steps: &mut Steps<L>,
 ) -> u8
     // Where folder and source tell what they have, and the sink what it took, it holds what it held and then the defined
     // bytes, and the status is the defined one.
-    ensures output { result ≢ 5 → result ≢ 6 → result ≢ 7 → Prints (told_by (F.files folder.old) (I.left input.old)) (outcome (map string_bytes words.now)) (O.taken out.old) (O.taken out.new) result }
+    ensures output { result ≢ 5 → result ≢ 6 → result ≢ 7 → Prints (told_by (F.files folder.old) (I.left input.old)) (outcome (C.customs registry) day (map string_bytes words.now)) (O.taken out.old) (O.taken out.new) result }
 
     // Status 2 is for words outside their meaning alone.
     ensures usage { result ≢ 6 → result ≢ 7 → (result ≡ 2) ↔ (meaning (map string_bytes words.now) ≡ None) }
@@ -55,7 +59,7 @@ pub fn run<F: Folder, I: Source, O: Sink, L: Ledger>(
     ensures write_fault { result ≡ 6 → Rose (O.faults out.old) (O.faults out.new) }
 
     // What was printed before a failed write or want of memory is a front of what should be.
-    ensures part { (result ≡ 6) ⊎ (result ≡ 7) → PrintsPart (told_by (F.files folder.old) (I.left input.old)) (outcome (map string_bytes words.now)) (Rose (F.faults folder.old) (F.faults folder.new) ⊎ Rose (I.faults input.old) (I.faults input.new)) (O.taken out.old) (O.taken out.new) }
+    ensures part { (result ≡ 6) ⊎ (result ≡ 7) → PrintsPart (told_by (F.files folder.old) (I.left input.old)) (outcome (C.customs registry) day (map string_bytes words.now)) (Rose (F.faults folder.old) (F.faults folder.new) ⊎ Rose (I.faults input.old) (I.faults input.new)) (O.taken out.old) (O.taken out.new) }
 
     // What was read of the source; the files stay.
     ensures source { WasRead (meaning (map string_bytes words.now)) result (I.left input.old) (I.left input.new) }
@@ -63,7 +67,7 @@ pub fn run<F: Folder, I: Source, O: Sink, L: Ledger>(
     ensures files { F.files folder.new ≡ F.files folder.old }
     ensures status_range { IsStatus result }
 {
-    match run_to_end(alloc, words, folder, input, out, steps) {
+    match run_to_end(alloc, words, folder, input, out, day, registry, steps) {
         Ok(status) => status,
         Err(Stop::ReadFault) => READ_FAULT,
         Err(Stop::WriteFault) => WRITE_FAULT,
@@ -72,15 +76,17 @@ pub fn run<F: Folder, I: Source, O: Sink, L: Ledger>(
 }
 
 // A run up to its status, or to a fault or want of memory.
-fn run_to_end<F: Folder, I: Source, O: Sink, L: Ledger>(
+fn run_to_end<C: Customs, F: Folder, I: Source, O: Sink, L: Ledger>(
     alloc: Global,
     words: &[String],
     folder: &mut F,
     input: &mut I,
     out: &mut O,
+    day: i32,
+    registry: C,
     steps: &mut Steps<L>,
 ) -> Result<u8, Stop>
-    ensures runs { Runs (told_by (F.files folder.old) (I.left input.old)) (outcome (map string_bytes words.now)) (Rose (F.faults folder.old) (F.faults folder.new) ⊎ Rose (I.faults input.old) (I.faults input.new)) (O.taken out.old) (O.taken out.new) result }
+    ensures runs { Runs (told_by (F.files folder.old) (I.left input.old)) (outcome (C.customs registry) day (map string_bytes words.now)) (Rose (F.faults folder.old) (F.faults folder.new) ⊎ Rose (I.faults input.old) (I.faults input.new)) (O.taken out.old) (O.taken out.new) result }
     ensures usage { IfOk result (λ status. (status ≡ 2) ↔ (meaning (map string_bytes words.now) ≡ None)) }
     ensures known { IsErrOf result Stop.ReadFault → meaning (map string_bytes words.now) ≢ None }
     ensures write_fault { IsErrOf result Stop.WriteFault → Rose (O.faults out.old) (O.faults out.new) }
@@ -90,26 +96,25 @@ fn run_to_end<F: Folder, I: Source, O: Sink, L: Ledger>(
     ensures status { IfOk result IsEndStatus }
 {
     match read_words(alloc, words) {
-        Ok(said) => run_said(alloc, &said, folder, input, out, steps),
-        Err(WordsError::Usage) => {
-            print(alloc, out, USAGE)?;
-            Ok(WRONG_WORDS)
-        }
+        Ok(said) => run_said(alloc, &said, folder, input, out, day, registry, steps),
+        Err(WordsError::Usage) => print_end(alloc, out, USAGE, WRONG_WORDS),
         Err(WordsError::NoMemory) => Err(Stop::NoMemory),
     }
 }
 
 // A run whose words say this.
-fn run_said<F: Folder, I: Source, O: Sink, L: Ledger>(
+fn run_said<C: Customs, F: Folder, I: Source, O: Sink, L: Ledger>(
     alloc: Global,
     said: &Words,
     folder: &mut F,
     input: &mut I,
     out: &mut O,
+    day: i32,
+    registry: C,
     steps: &mut Steps<L>,
 ) -> Result<u8, Stop>
     requires { IsInRange (seen said.now) }
-    ensures runs { Runs (told_by (F.files folder.old) (I.left input.old)) (outcome_meant (Some (seen said.now))) (Rose (F.faults folder.old) (F.faults folder.new) ⊎ Rose (I.faults input.old) (I.faults input.new)) (O.taken out.old) (O.taken out.new) result }
+    ensures runs { Runs (told_by (F.files folder.old) (I.left input.old)) (outcome_meant (C.customs registry) day (Some (seen said.now))) (Rose (F.faults folder.old) (F.faults folder.new) ⊎ Rose (I.faults input.old) (I.faults input.new)) (O.taken out.old) (O.taken out.new) result }
     ensures write_fault { IsErrOf result Stop.WriteFault → Rose (O.faults out.old) (O.faults out.new) }
     ensures source { Reads (Some (seen said.now)) (I.left input.old) (I.left input.new) result }
     ensures left { OnOk result (Leaves (told_by (F.files folder.old) (I.left input.old)) (source_left (Some (seen said.now))) (I.left input.new)) }
@@ -117,23 +122,25 @@ fn run_said<F: Folder, I: Source, O: Sink, L: Ledger>(
     ensures status { IfOk result IsSaidStatus }
 {
     match said.generate {
-        Some(size) => run_generated(alloc, said, size, out, steps),
-        None => run_told(alloc, said, folder, input, out, steps),
+        Some(size) => run_generated(alloc, said, size, out, day, registry, steps),
+        None => run_told(alloc, said, folder, input, out, day, registry, steps),
     }
 }
 
 // A run over books and a script.
-fn run_told<F: Folder, I: Source, O: Sink, L: Ledger>(
+fn run_told<C: Customs, F: Folder, I: Source, O: Sink, L: Ledger>(
     alloc: Global,
     said: &Words,
     folder: &mut F,
     input: &mut I,
     out: &mut O,
+    day: i32,
+    registry: C,
     steps: &mut Steps<L>,
 ) -> Result<u8, Stop>
     requires range { IsInRange (seen said.now) }
     requires script { said.now.generate ≡ None }
-    ensures runs { Runs (told_by (F.files folder.old) (I.left input.old)) (outcome_said None (seen said.now)) (Rose (F.faults folder.old) (F.faults folder.new) ⊎ Rose (I.faults input.old) (I.faults input.new)) (O.taken out.old) (O.taken out.new) result }
+    ensures runs { Runs (told_by (F.files folder.old) (I.left input.old)) (outcome_said (C.customs registry) day None (seen said.now)) (Rose (F.faults folder.old) (F.faults folder.new) ⊎ Rose (I.faults input.old) (I.faults input.new)) (O.taken out.old) (O.taken out.new) result }
     ensures write_fault { IsErrOf result Stop.WriteFault → Rose (O.faults out.old) (O.faults out.new) }
     ensures source { Reads (Some (seen said.now)) (I.left input.old) (I.left input.new) result }
     ensures left { OnOk result (Leaves (told_by (F.files folder.old) (I.left input.old)) (source_left (Some (seen said.now))) (I.left input.new)) }
@@ -142,7 +149,7 @@ fn run_told<F: Folder, I: Source, O: Sink, L: Ledger>(
 {
     match open_books(alloc, folder, &said.books) {
         Ok(sheets) => match open_script(alloc, folder, input, &said.script) {
-            Ok(script) => run_script(alloc, said, sheets, &script, out, steps),
+            Ok(script) => run_script(alloc, said, sheets, &script, out, day, registry, steps),
             Err(ending) => end(alloc, out, ending),
         },
         Err(ending) => end(alloc, out, ending),
@@ -155,14 +162,11 @@ fn end<O: Sink>(alloc: Global, out: &mut O, ending: Ending) -> Result<u8, Stop>
     ensures write_fault { IsErrOf result Stop.WriteFault → Rose (O.faults out.old) (O.faults out.new) }
 {
     match ending {
-        Ending::Says(text, status) => {
-            print(alloc, out, text.as_str())?;
-            Ok(status)
-        }
-        Ending::ReadFault => {
-            print(alloc, out, "read fault")?;
-            Err(Stop::ReadFault)
-        }
+        Ending::Says(text, status) => print_end(alloc, out, text.as_str(), status),
+        Ending::ReadFault => match print(alloc, out, "read fault") {
+            Ok(()) => Err(Stop::ReadFault),
+            Err(stop) => Err(stop),
+        },
         Ending::NoMemory => Err(Stop::NoMemory),
     }
 }

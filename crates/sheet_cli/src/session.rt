@@ -2,8 +2,9 @@
 ghost use Rattle.std.specs.Prelude.{◌≡◌, ◌≤◌, IfOk, OnErr, codes, false, true};
 ghost use Rattle.book_model.specs.Given.{CanBegin, given_sheets, session_given};
 ghost use Rattle.book_model.specs.declared.limits.TheConstants.{MAX_UNDO};
-ghost use Rattle.book_model.specs.Replies.{block_of, line_of, place_of, sheet_named, sheet_of};
+ghost use Rattle.book_model.specs.Replies.{block_of, line_of, place_of, scope_named, sheet_named, sheet_of};
 ghost use Rattle.book_model.specs.Workbook.{State};
+ghost use Rattle.cell_value.specs.Scalar.{shown_text};
 ghost use Rattle.book_model.specs.declared.command.Command.TheVariants as command;
 ghost use Rattle.book_engine.specs.Engine.{NoAnswer, StandsFor};
 ghost use Rattle.sheet_cli.specs.internal.Answers.{DoesFor, Executes, IsChange, IsLineOfStop, Keeps};
@@ -11,7 +12,9 @@ ghost use Rattle.sheet_cli.specs.internal.Answers.{DoesFor, Executes, IsChange, 
 use crate::line::{line, number_line, number_room, stop_line};
 use book_engine::{Engine, Stop};
 use book_model::{BookSheet, Command};
+use calc_eval::Customs;
 use cell_addr::{Block, NO_SHEET, Place, Spot, Text};
+use cell_value::Scalar;
 use std::alloc::{AllocError, Global};
 use std::sync::ledger::Ledger;
 use steps::Steps;
@@ -25,45 +28,54 @@ pub struct Answer {
 
 /// An engine, and the lines that it answers commands by.
 #[derive(Drop)]
-pub struct Session {
+pub struct Session<C> {
     alloc: Global,
-    engine: Engine,
+    engine: Engine<C>,
 }
 
-impl Session {
-    /// The session of a workbook with these sheets, in which at most `limit` steps can be undone.
-    pub fn new(alloc: Global, sheets: &[BookSheet], limit: u16) -> Result<Session, AllocError>
+impl<C: Customs> Session<C> {
+    /// The session of a workbook with these sheets, in which at most `limit` steps can be undone, whose formulas can call
+    /// these custom functions; the day is the serial number of today.
+    pub fn new(
+        alloc: Global,
+        sheets: &[BookSheet],
+        limit: u16,
+        registry: C,
+        day: i32,
+    ) -> Result<Session<C>, AllocError>
         requires can { CanBegin (given_sheets sheets.now) }
         requires limit { limit ≤ MAX_UNDO }
-        ensures { IfOk result (λ session. StandsFor session.engine (session_given limit (given_sheets sheets.now))) }
+        ensures { IfOk result (λ session. StandsFor C.customs session.engine (session_given limit (C.customs registry) day (given_sheets sheets.now))) }
     {
-        let engine = Engine::build(alloc, sheets, limit)?;
+        let engine = Engine::build(alloc, sheets, limit, registry, day)?;
         Ok(Session { alloc, engine })
     }
 
-    /// Executes a command, and answers its line. For want of memory the workbook stays as it was.
+    /// Executes C.customs a command, and answers its line. For want of memory the workbook stays as it was.
     pub fn execute<L: Ledger>(
         &mut self,
         command: &Command,
         steps: &mut Steps<L>,
     ) -> Result<Answer, AllocError>
-        ensures ok { IfOk result (λ answer. Executes command.now self.old.engine self.new.engine answer.line.items answer.refused) }
-        ensures err { OnErr result (Keeps self.old.engine self.new.engine) }
+        ensures ok { IfOk result (λ answer. Executes C.customs command.now self.old.engine self.new.engine answer.line.items answer.refused) }
+        ensures err { OnErr result (Keeps C.customs self.old.engine self.new.engine) }
     {
         match command {
             Command::AddSheet(name) => self.add_sheet(name),
             Command::Value(at) => self.value(at, steps),
             Command::Formula(at) => self.formula(at),
             Command::Content(at) => self.content(at),
+            Command::NameValue(name, sheet) => self.name_value(name, sheet, steps),
+            Command::Try(sheet, text) => self.try_formula(sheet, text, steps),
             _ => self.change(command),
         }
     }
 
-    // Executes a change that answers nothing. The line is made first, so that nothing fails after the change.
+    // Executes C.customs a change that answers nothing. The line is made first, so that nothing fails after the change.
     fn change(&mut self, command: &Command) -> Result<Answer, AllocError>
         requires { IsChange command.now }
-        ensures ok { IfOk result (λ answer. Executes command.now self.old.engine self.new.engine answer.line.items answer.refused) }
-        ensures err { OnErr result (Keeps self.old.engine self.new.engine) }
+        ensures ok { IfOk result (λ answer. Executes C.customs command.now self.old.engine self.new.engine answer.line.items answer.refused) }
+        ensures err { OnErr result (Keeps C.customs self.old.engine self.new.engine) }
     {
         let ok = line(self.alloc, "ok")?;
         match ask(&mut self.engine, command) {
@@ -74,8 +86,8 @@ impl Session {
 
     // Adds a sheet, and answers its number. Room for the line is made first, so that nothing fails after the change.
     fn add_sheet(&mut self, name: &Text) -> Result<Answer, AllocError>
-        ensures ok { IfOk result (λ answer. Executes (command.AddSheet name.now) self.old.engine self.new.engine answer.line.items answer.refused) }
-        ensures err { OnErr result (Keeps self.old.engine self.new.engine) }
+        ensures ok { IfOk result (λ answer. Executes C.customs (command.AddSheet name.now) self.old.engine self.new.engine answer.line.items answer.refused) }
+        ensures err { OnErr result (Keeps C.customs self.old.engine self.new.engine) }
     {
         let room = number_room(self.alloc)?;
         match self.engine.add_sheet(name.as_str()) {
@@ -86,23 +98,54 @@ impl Session {
 
     // Answers what a cell shows.
     fn value<L: Ledger>(&mut self, at: &Spot, steps: &mut Steps<L>) -> Result<Answer, AllocError>
-        ensures ok { IfOk result (λ answer. Executes (command.Value at.now) self.old.engine self.new.engine answer.line.items answer.refused) }
-        ensures err { OnErr result (Keeps self.old.engine self.new.engine) }
+        ensures ok { IfOk result (λ answer. Executes C.customs (command.Value at.now) self.old.engine self.new.engine answer.line.items answer.refused) }
+        ensures err { OnErr result (Keeps C.customs self.old.engine self.new.engine) }
     {
         let place = place(&self.engine, at);
         match self.engine.value(place, steps) {
-            Ok(scalar) => {
-                let shown = scalar.shown(self.alloc)?;
-                shows(self.alloc, shown.as_str())
-            }
+            Ok(scalar) => shows_scalar(self.alloc, &scalar),
+            Err(stop) => stopped(self.alloc, stop),
+        }
+    }
+
+    // Answers what a name shows that the word finds on a sheet.
+    fn name_value<L: Ledger>(
+        &mut self,
+        name: &Text,
+        sheet: &Text,
+        steps: &mut Steps<L>,
+    ) -> Result<Answer, AllocError>
+        ensures ok { IfOk result (λ answer. Executes C.customs (command.NameValue name.now sheet.now) self.old.engine self.new.engine answer.line.items answer.refused) }
+        ensures err { OnErr result (Keeps C.customs self.old.engine self.new.engine) }
+    {
+        let sheet = id(&self.engine, sheet);
+        match self.engine.name_value(name.as_str(), sheet, steps) {
+            Ok(scalar) => shows_scalar(self.alloc, &scalar),
+            Err(stop) => stopped(self.alloc, stop),
+        }
+    }
+
+    // Answers what a formula would show in the first cell of a sheet.
+    fn try_formula<L: Ledger>(
+        &mut self,
+        sheet: &Text,
+        text: &Text,
+        steps: &mut Steps<L>,
+    ) -> Result<Answer, AllocError>
+        ensures ok { IfOk result (λ answer. Executes C.customs (command.Try sheet.now text.now) self.old.engine self.new.engine answer.line.items answer.refused) }
+        ensures err { OnErr result (Keeps C.customs self.old.engine self.new.engine) }
+    {
+        let sheet = id(&self.engine, sheet);
+        match self.engine.try_formula(sheet, text.as_str(), steps) {
+            Ok(scalar) => shows_scalar(self.alloc, &scalar),
             Err(stop) => stopped(self.alloc, stop),
         }
     }
 
     // Answers the text of a cell's formula, or `none`.
     fn formula(&mut self, at: &Spot) -> Result<Answer, AllocError>
-        ensures ok { IfOk result (λ answer. Executes (command.Formula at.now) self.old.engine self.new.engine answer.line.items answer.refused) }
-        ensures err { OnErr result (Keeps self.old.engine self.new.engine) }
+        ensures ok { IfOk result (λ answer. Executes C.customs (command.Formula at.now) self.old.engine self.new.engine answer.line.items answer.refused) }
+        ensures err { OnErr result (Keeps C.customs self.old.engine self.new.engine) }
     {
         let place = place(&self.engine, at);
         match self.engine.formula(place) {
@@ -114,8 +157,8 @@ impl Session {
 
     // Answers the text that gives a cell its content.
     fn content(&mut self, at: &Spot) -> Result<Answer, AllocError>
-        ensures ok { IfOk result (λ answer. Executes (command.Content at.now) self.old.engine self.new.engine answer.line.items answer.refused) }
-        ensures err { OnErr result (Keeps self.old.engine self.new.engine) }
+        ensures ok { IfOk result (λ answer. Executes C.customs (command.Content at.now) self.old.engine self.new.engine answer.line.items answer.refused) }
+        ensures err { OnErr result (Keeps C.customs self.old.engine self.new.engine) }
     {
         let place = place(&self.engine, at);
         match self.engine.content(place) {
@@ -144,6 +187,15 @@ fn shows(alloc: Global, text: &str) -> Result<Answer, AllocError>
     Ok(accepted(line(alloc, text)?))
 }
 
+// The answer of a value.
+fn shows_scalar(alloc: Global, scalar: &Scalar) -> Result<Answer, AllocError>
+    ensures line { IfOk result (λ answer. answer.line.items ≡ line_of (shown_text scalar.now)) }
+    ensures refused { IfOk result (λ answer. answer.refused ≡ false) }
+{
+    let shown = scalar.shown(alloc)?;
+    shows(alloc, shown.as_str())
+}
+
 // The answer to a command whose call stopped: that it is refused, and why. To want of memory there is none.
 fn stopped(alloc: Global, stop: Stop) -> Result<Answer, AllocError>
     ensures line { IfOk result (λ answer. IsLineOfStop stop answer.line.items) }
@@ -156,9 +208,9 @@ fn stopped(alloc: Global, stop: Stop) -> Result<Answer, AllocError>
 }
 
 // Asks the engine for a change that answers nothing.
-fn ask(engine: &mut Engine, command: &Command) -> Result<(), Stop>
+fn ask<C: Customs>(engine: &mut Engine<C>, command: &Command) -> Result<(), Stop>
     requires { IsChange command.now }
-    ensures { DoesFor command.now NoAnswer engine.old engine.new result }
+    ensures { DoesFor C.customs command.now NoAnswer engine.old engine.new result }
 {
     match command {
         Command::Set(at, text) => engine.set(place(engine, at), text.as_str()),
@@ -178,6 +230,15 @@ fn ask(engine: &mut Engine, command: &Command) -> Result<(), Stop>
             engine.rename_sheet(id(engine, sheet), name.as_str())
         }
         Command::ClearSheet(sheet) => engine.clear_sheet(id(engine, sheet)),
+        Command::AddName(name, scope, text) => {
+            engine.add_name(name.as_str(), scope_of(engine, scope), text.as_str())
+        }
+        Command::ChangeName(name, scope, text) => {
+            engine.change_name(name.as_str(), scope_of(engine, scope), text.as_str())
+        }
+        Command::RemoveName(name, scope) => {
+            engine.remove_name(name.as_str(), scope_of(engine, scope))
+        }
         Command::Begin => engine.begin(),
         Command::Commit => engine.commit(),
         Command::Suspend => {
@@ -195,15 +256,26 @@ fn ask(engine: &mut Engine, command: &Command) -> Result<(), Stop>
 }
 
 // The number of the sheet of this name; where there is none, the number that no sheet has.
-fn id(engine: &Engine, name: &Text) -> u32
-    ensures { (d : State) → StandsFor engine.now d → result ≡ sheet_named d.book name.now }
+fn id<C: Customs>(engine: &Engine<C>, name: &Text) -> u32
+    ensures { (d : State) → StandsFor C.customs engine.now d → result ≡ sheet_named d.book name.now }
 {
     engine.sheet_id(name.as_str()).unwrap_or(NO_SHEET)
 }
 
+// The scope of this name: the number of a sheet, or none where the name is empty.
+fn scope_of<C: Customs>(engine: &Engine<C>, name: &Text) -> Option<u32>
+    ensures { (d : State) → StandsFor C.customs engine.now d → result ≡ scope_named d.book name.now }
+{
+    if name.as_str().is_empty() {
+        None
+    } else {
+        Some(id(engine, name))
+    }
+}
+
 // The number of the sheet that an address names, or of the first one where it names none.
-fn sheet(engine: &Engine, spot: &Spot) -> u32
-    ensures { (d : State) → StandsFor engine.now d → result ≡ sheet_of d.book spot.now.sheet }
+fn sheet<C: Customs>(engine: &Engine<C>, spot: &Spot) -> u32
+    ensures { (d : State) → StandsFor C.customs engine.now d → result ≡ sheet_of d.book spot.now.sheet }
 {
     match &spot.sheet {
         Some(name) => id(engine, name),
@@ -212,8 +284,8 @@ fn sheet(engine: &Engine, spot: &Spot) -> u32
 }
 
 // The place that an address names.
-fn place(engine: &Engine, spot: &Spot) -> Place
-    ensures { (d : State) → StandsFor engine.now d → result ≡ place_of d.book spot.now }
+fn place<C: Customs>(engine: &Engine<C>, spot: &Spot) -> Place
+    ensures { (d : State) → StandsFor C.customs engine.now d → result ≡ place_of d.book spot.now }
 {
     Place {
         sheet: sheet(engine, spot),
@@ -223,8 +295,8 @@ fn place(engine: &Engine, spot: &Spot) -> Place
 }
 
 // The block that an address names.
-fn block(engine: &Engine, spot: &Spot) -> Block
-    ensures { (d : State) → StandsFor engine.now d → result ≡ block_of d.book spot.now }
+fn block<C: Customs>(engine: &Engine<C>, spot: &Spot) -> Block
+    ensures { (d : State) → StandsFor C.customs engine.now d → result ≡ block_of d.book spot.now }
 {
     Block {
         sheet: sheet(engine, spot),

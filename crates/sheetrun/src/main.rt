@@ -1,4 +1,4 @@
-//! The program `sheetrun`: it makes the real streams, the day and the custom functions, and calls
+//! The program `sheetrun`: it makes the real folder and streams, the day and the custom functions, and calls
 //! `run` of the library `sheet_cli`, which does everything else.
 #![tactic(auto)]
 
@@ -6,11 +6,9 @@ ghost use Rattle.std.specs.Prelude.{◌≡◌, ◌<◌};
 ghost use Rattle.custom_fn.specs.Rule.{rule_value};
 ghost use Rattle.tariffs.specs.Tariffs as tariff;
 
-use book_files::{StdSink, StdSource};
-use sheet_cli::run;
+use book_files::{DiskFolder, StdSink, StdSource};
 use cell_value::Scalar;
-use custom_fn::Registry;
-use std::alloc::{AllocError, Global};
+use sheet_cli::run;
 use std::marker::Brand;
 use std::process::ExitCode;
 use std::sync::ledger::{Blank, Ledger};
@@ -31,38 +29,25 @@ const SECONDS_A_DAY: u64 = 86_400;
 const NO_DAY: i32 = -1;
 
 fn main(rt: HostRuntime) -> ExitCode {
-    ExitCode::from(sheetrun::<Brand>(&rt, Blank::new(1)))
+    match sheetrun::<Brand>(&rt, Blank::new(1)) {
+        Ok(status) => ExitCode::from(status),
+        Err(_) => ExitCode::from(NO_MEMORY),
+    }
 }
 
-// The status of `run` over the real streams, with the words after the program's name.
-fn sheetrun<L: Ledger>(rt: &HostRuntime, blank: Blank) -> u8
+// The status of `run` over the real folder and streams, with the words after the program's name and the program's two
+// custom functions.
+fn sheetrun<L: Ledger>(rt: &HostRuntime, blank: Blank) -> io::Result<u8>
     requires name { blank.name ≡ L.name }
     requires parts { blank.parts ≡ L.parts }
     requires some { 0 < blank.parts }
 {
+    let alloc = rt.alloc();
     let mut steps = Steps::<L>::new(blank);
+    let mut folder = DiskFolder::new(rt);
     let mut input = StdSource::new(rt);
     let mut out = StdSink::new(rt);
-    let Ok(words) = words(rt) else {
-        return NO_MEMORY;
-    };
-    let Ok(registry) = registry(rt.alloc()) else {
-        return NO_MEMORY;
-    };
-    let day = today(rt);
-    run(
-        rt.alloc(),
-        &words,
-        &mut input,
-        &mut out,
-        day,
-        registry,
-        &mut steps,
-    )
-}
-
-// The program's custom functions.
-fn registry(alloc: Global) -> Result<Registry, AllocError> {
+    let words = words(rt)?;
     let by_weight = Box::new(
         alloc,
         |x: &Scalar| -> Scalar
@@ -75,7 +60,18 @@ fn registry(alloc: Global) -> Result<Registry, AllocError> {
             ensures { result ≡ rule_value tariff.levy x.now }
         { levy(x) },
     )?;
-    customs(alloc, by_weight, on_amount)
+    let registry = customs(alloc, by_weight, on_amount)?;
+    let day = today(rt);
+    Ok(run(
+        alloc,
+        &words,
+        &mut folder,
+        &mut input,
+        &mut out,
+        day,
+        registry,
+        &mut steps,
+    ))
 }
 
 // The day of the system's clock. A clock that can't be read or that stands before 1970 gives no date, so that TODAY is

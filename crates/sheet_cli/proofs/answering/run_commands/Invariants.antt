@@ -8,7 +8,7 @@ use Rattle.sheet_cli.proofs.answering.run_commands.Given as goal
 
 abbrev pub invariant-commands : goal.invariant-commands
 invariant-commands g l = record {
-  leads : (d : State) → StandsFor l.fn.session.engine d → Tallied l.strict l.session.engine l.tally (drop l.command-index l.commands) (answers_from d l.commands);
+  leads : (d : State) → StandsFor g.C.Customs.customs l.fn.session.engine d → Tallied g.C.Customs.customs l.strict l.session.engine l.tally (drop l.command-index l.commands) (answers_from d l.commands);
   taken : g.O.Sink.taken l.out ≡ g.O.Sink.taken l.fn.out;
   faults : g.O.Sink.faults l.out ≡ g.O.Sink.faults l.fn.out;
 }
