@@ -20,6 +20,7 @@ mod fault;
 mod files;
 mod folder;
 mod input;
+pub mod laws;
 mod memory;
 mod records;
 mod sink;

@@ -1,3 +1,4 @@
 pub mod FoundRows
 pub mod Meanings
+pub mod ProperWords
 pub mod Ranges

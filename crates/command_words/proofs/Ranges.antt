@@ -36,7 +36,7 @@ size_in_range : (given : Option (List ℕ)) → passes (is_number 5 1 10000) giv
 size_in_range None h = tt
 size_in_range (Some text) h = most_of 5 1 10000 text h
 
-accepted_in_range : (g : Given) → is_accepted g ≡ true → IsInRange (said_by g)
+pub accepted_in_range : (g : Given) → is_accepted g ≡ true → IsInRange (said_by g)
 accepted_in_range g h = let both = numbers-pass g h in (limit_in_range g.undo_limit both.0, size_in_range g.generate both.1)
 
 said-in_range : (g : Given) (b : Bool) (s : Said) → is_accepted g ≡ b → cond b (Some (said_by g)) None ≡ Some s → IsInRange s

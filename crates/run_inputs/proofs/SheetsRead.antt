@@ -1,21 +1,20 @@
 -- The sheets of books, read one after the other: a session can begin with them. Serves the books that a run is told.
-use Rattle.std.proofs.Common.{◌≡◌, ◌≢◌, ◌∙◌, sym, ap, subst, refl, arith, ℕ, zero, suc, ◌+◌, ◌≤◌, ◌<◌, ◌&&◌, ◌||◌, Bool, true, false, cond, List, [], ◌∷◌, ◌++◌, length, filter, get_or, map, Option, Some, None, Result, Ok, Err, nat_le, nat_lt}
-use Rattle.std.specs.Prelude.{IsTrue, not}
-use Rattle.std.specs.List.{All, AllPairs, filter_map, list_any}
+use Rattle.std.proofs.Common.{◌≡◌, ◌≢◌, ◌∙◌, sym, ap, refl, arith, ℕ, zero, suc, ◌+◌, ◌≤◌, ◌<◌, ◌&&◌, ◌||◌, Bool, true, false, cond, List, [], ◌∷◌, ◌++◌, length, filter, get_or, Option, Some, None, Ok, Err, nat_le, nat_lt}
+use Rattle.std.specs.Prelude.{not}
+use Rattle.std.specs.List.{All, AllPairs, filter_map}
 use Rattle.std.specs.Str.{is_utf8}
 use Rattle.std.proofs.lemmas.Bool.Decides.{nat_tests}
 use Rattle.std.proofs.lemmas.List.{length-append}
 use Rattle.std.proofs.lemmas.List.Elements.{All-push}
 use Rattle.std.proofs.lemmas.List.Quantifiers.{all_pairs_push}
 use Rattle.std.proofs.lemmas.Slice.Eq.{bytes_eq-Decides}
-use Rattle.cell_addr.specs.Order.{place_cmp}
 use Rattle.cell_addr.specs.Sheets.{same_name}
 use Rattle.cell_addr.specs.Text.{folded}
 use Rattle.cell_addr.proofs.Places.{place_cmp-IsTotalOrder}
-use Rattle.book_files.specs.Books.{AnswersSheet, book_sheet_of, field_fault, filled_after, first_fault, is_filled, or_behind, sheet_name_of, sheet_unless, file_cells}
+use Rattle.book_files.specs.Books.{book_sheet_of, field_fault, filled_after, first_fault, is_filled, or_behind, sheet_name_of, sheet_unless, file_cells}
 use Rattle.book_files.specs.declared.fault.BookFault.{BookFault}
 use Rattle.book_files.specs.declared.fault.BookFault.TheVariants.{NotUtf8, BadSheetName, Rows, Columns, FieldLength, Cells}
-use Rattle.book_model.specs.Given.{CanBegin, GivenSheet, IsGivenCell, IsGivenSheet, StandApart, given_entries, given_entry, given_sheet, numbered, workbook_given}
+use Rattle.book_model.specs.Given.{CanBegin, GivenSheet, IsGivenCell, IsGivenSheet, StandApart, given_entries, given_entry, given_sheet, numbered}
 use Rattle.book_model.specs.Refusals.{is_sheet_name}
 use Rattle.book_model.specs.declared.given.BookCell.{BookCell}
 use Rattle.book_model.specs.declared.given.BookSheet.{BookSheet}

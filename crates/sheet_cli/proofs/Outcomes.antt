@@ -2,10 +2,6 @@
 use Rattle.std.proofs.Common.{◌≡◌, ◌∙◌, sym, ap, subst, refl, arith, ℕ, zero, suc, ◌+◌, ◌≤◌, ◌&&◌, Bool, true, false, cond, List, [], ◌∷◌, ◌++◌, length, drop, take, Option, Some, None, Result, Ok, Err, append_assoc}
 use Rattle.std.specs.Prelude.{⊤, IsErrAnd}
 use Rattle.std.proofs.lemmas.List.{append-nil}
-use Rattle.csv.specs.declared.parser.State.{State as Reading}
-use Rattle.csv.specs.declared.parser.State.TheVariants as st
-use Rattle.csv.specs.Machine.{Read, next_record}
-use Rattle.csv.specs.Reading.{records, records_from, records_next, default_config, strip_bom, is_bom}
 use Rattle.std.specs.Io.KnownBytes.{Appends, Keeps}
 use Rattle.custom_fn.specs.declared.rule.Rule.{Rule}
 use Rattle.book_files.specs.Outside.{AppendsPart}
@@ -173,30 +169,6 @@ pub stopped : (o : Outcome) (old new : Option (List ℕ)) (s : Stop) → (s ≡ 
 stopped o old new stop.ReadFault other part = absurd (other refl)
 stopped o old new stop.WriteFault other part = part
 stopped o old new stop.NoMemory other part = part
-
-long_next : (n : ℕ) (next : Option Read) → ((p : Read) → length (records_from default_config n p.1 p.2) ≤ n) → length (records_next (records_from default_config n) next) ≤ suc n
-long_next n None h = omega arith
-long_next n (Some p) h = let l = h p in omega arith
-
-bom-shorter : (b : Bool) (a c d : ℕ) (rest : List ℕ) → length (cond b rest (a ∷ c ∷ d ∷ rest)) ≤ length (a ∷ c ∷ d ∷ rest)
-bom-shorter true a c d rest = omega arith
-bom-shorter false a c d rest = omega arith
-
-no_longer : (bytes : List ℕ) → length (strip_bom bytes) ≤ length bytes
-unfolding strip_bom
-no_longer [] = omega arith
-no_longer (a ∷ []) = omega arith
-no_longer (a ∷ c ∷ []) = omega arith
-no_longer (a ∷ c ∷ d ∷ rest) = bom-shorter (is_bom a c d) a c d rest
-
-long_from : (n : ℕ) (s : Reading) (xs : List ℕ) → length (records_from default_config n s xs) ≤ n
-unfolding records_from
-long_from zero s xs = omega arith
-long_from (suc n) s xs = long_next n (next_record default_config s [] [] xs) (λ p. long_from n p.1 p.2)
-
--- a text has no more records than bytes, and one
-pub few_records : (bytes : List ℕ) → length (records default_config (strip_bom bytes)) ≤ length bytes + 1
-few_records bytes = let l = long_from (length (strip_bom bytes) + 1) st.StartRecord (strip_bom bytes) in omega (arith, no_longer bytes)
 
 -- nothing of the line of a command, or of a record, was written
 pub no_part : {C : Type 0} (customs : C → List (List ℕ × Rule)) (c : Command) (before : Engine C) (old : Option (List ℕ)) → PartOfCommand customs c before old old

@@ -1,8 +1,9 @@
 -- Each record that is answered takes the output one step further, and the last one completes it.
 use Rattle.std.proofs.Common.{ap, refl, arith, length, Ok, Err}
 use Rattle.csv.specs.Reading.{records, default_config, strip_bom}
+use Rattle.book_files.proofs.RecordCounts.{few_records}
 use Rattle.sheet_cli.specs.Answering.{outcome_from}
-use Rattle.sheet_cli.proofs.Outcomes.{breaks, completes-start, ends, few_records, goes_on, no_memory, so_far, stopped, stops}
+use Rattle.sheet_cli.proofs.Outcomes.{breaks, completes-start, ends, goes_on, no_memory, so_far, stopped, stops}
 use Rattle.sheet_cli.proofs.answering.run_records.Goals as goal
 
 pub records-init : goal.records-init
