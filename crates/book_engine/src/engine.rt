@@ -2,7 +2,6 @@
 ghost use Rattle.std.specs.Prelude.{◌≡◌, ◌≤◌, IfOk, length, option_map};
 ghost use Rattle.cell_addr.specs.Sheets.{id_in, name_in};
 ghost use Rattle.shift_core.specs.declared.shift.Shift.TheVariants as shifts;
-ghost use Rattle.custom_fn.specs.Registry.{customs_of};
 ghost use Rattle.book_model.specs.Answers.{content_text, formula_of, name_value_of, tried_value, value_of};
 ghost use Rattle.book_model.specs.Given.{CanBegin, given_sheets, session_given};
 ghost use Rattle.book_model.specs.Operation as op;
@@ -17,10 +16,10 @@ use crate::parts::Parts;
 use crate::stop::Stop;
 use crate::waiting::Waiting;
 use book_model::{BookSheet, Refusal};
+use calc_eval::Customs;
 use cell_addr::{Block, Place, SheetNames, Text};
 use cell_value::Scalar;
 use clip_board::Clip;
-use custom_fn::Registry;
 use shift_core::Shift;
 use std::alloc::{AllocError, Global};
 use std::sync::ledger::Ledger;
@@ -31,15 +30,15 @@ use undo_book::UndoBook;
 ///
 /// Rows and columns are counted from 0. A call that is refused, or that wants memory, leaves the workbook as it was.
 #[derive(Drop)]
-pub struct Engine {
+pub struct Engine<C> {
     parts: Parts,
     waiting: Waiting,
-    registry: Registry,
+    customs: C,
     day: i32,
     ghost fits: { Fits parts } by { fits-prop parts },
 }
 
-impl Engine {
+impl<C: Customs> Engine<C> {
     ghost use Rattle.book_engine.specs.Engine.{Does, DoesAlways, NoAnswer, StandsFor};
 
     /// The engine of a workbook with these sheets, numbered from 0 in their order, and these texts in their cells. All
@@ -49,18 +48,18 @@ impl Engine {
         alloc: Global,
         books: &[BookSheet],
         limit: u16,
-        registry: Registry,
+        registry: C,
         day: i32,
-    ) -> Result<Engine, AllocError>
+    ) -> Result<Engine<C>, AllocError>
         requires can { CanBegin (given_sheets books.now) }
         requires limit { limit ≤ MAX_UNDO }
-        ensures { IfOk result (λ engine. StandsFor engine (session_given limit (customs_of registry) day (given_sheets books.now))) }
+        ensures { IfOk result (λ engine. StandsFor C.customs engine (session_given limit (C.customs registry) day (given_sheets books.now))) }
     {
         let parts = Parts::build(alloc, books, limit)?;
         Ok(Engine {
             parts,
             waiting: Waiting::nothing(),
-            registry,
+            customs: registry,
             day,
         })
     }
@@ -72,7 +71,7 @@ impl Engine {
     /// `NoSheet`, `Outside` where the place isn't within the limits of a sheet, `TextLimit` past 8,192 bytes, `CellLimit`
     /// where more than 1,000,000 cells would be filled; the first that holds.
     pub fn set(&mut self, at: Place, text: &str) -> Result<(), Stop>
-        ensures { Does (op.set at text.now) NoAnswer self.old self.new result }
+        ensures { Does C.customs (op.set at text.now) NoAnswer self.old self.new result }
     {
         self.parts.set(at, text)?;
         self.waiting.clear_cut();
@@ -84,7 +83,7 @@ impl Engine {
     /// # Errors
     /// `NoSheet`, `Outside` where the block isn't within the limits of a sheet.
     pub fn clear(&mut self, area: Block) -> Result<(), Stop>
-        ensures { Does (op.clear area) NoAnswer self.old self.new result }
+        ensures { Does C.customs (op.clear area) NoAnswer self.old self.new result }
     {
         self.parts.clear(area)?;
         self.waiting.clear_cut();
@@ -97,7 +96,7 @@ impl Engine {
     /// `NoSheet`, `BadSpan` for no rows, `Outside` where the row isn't on the sheet, `SizeLimit` where a filled cell would
     /// be pushed off the sheet.
     pub fn insert_rows(&mut self, sheet: u32, at: u32, count: u32) -> Result<(), Stop>
-        ensures { Does (op.structural (shifts.InsertRows sheet at count)) NoAnswer self.old self.new result }
+        ensures { Does C.customs (op.structural (shifts.InsertRows sheet at count)) NoAnswer self.old self.new result }
     {
         self.parts
             .structural(&Shift::InsertRows { sheet, at, count })?;
@@ -110,7 +109,7 @@ impl Engine {
     /// # Errors
     /// `NoSheet`, `BadSpan` for no rows, `Outside` where the rows end behind the sheet.
     pub fn delete_rows(&mut self, sheet: u32, at: u32, count: u32) -> Result<(), Stop>
-        ensures { Does (op.structural (shifts.DeleteRows sheet at count)) NoAnswer self.old self.new result }
+        ensures { Does C.customs (op.structural (shifts.DeleteRows sheet at count)) NoAnswer self.old self.new result }
     {
         self.parts
             .structural(&Shift::DeleteRows { sheet, at, count })?;
@@ -120,7 +119,7 @@ impl Engine {
 
     /// Puts so many columns before a column of the sheet. Its errors are those of [`Engine::insert_rows`].
     pub fn insert_cols(&mut self, sheet: u32, at: u32, count: u32) -> Result<(), Stop>
-        ensures { Does (op.structural (shifts.InsertCols sheet at count)) NoAnswer self.old self.new result }
+        ensures { Does C.customs (op.structural (shifts.InsertCols sheet at count)) NoAnswer self.old self.new result }
     {
         self.parts
             .structural(&Shift::InsertCols { sheet, at, count })?;
@@ -130,7 +129,7 @@ impl Engine {
 
     /// Deletes so many columns of the sheet from a column on. Its errors are those of [`Engine::delete_rows`].
     pub fn delete_cols(&mut self, sheet: u32, at: u32, count: u32) -> Result<(), Stop>
-        ensures { Does (op.structural (shifts.DeleteCols sheet at count)) NoAnswer self.old self.new result }
+        ensures { Does C.customs (op.structural (shifts.DeleteCols sheet at count)) NoAnswer self.old self.new result }
     {
         self.parts
             .structural(&Shift::DeleteCols { sheet, at, count })?;
@@ -144,7 +143,7 @@ impl Engine {
     /// `NoSheet`, `BadSpan` for no rows, `Outside` where the rows or the row before which they come lie behind the sheet,
     /// `BadSpan` where they would stay.
     pub fn move_rows(&mut self, sheet: u32, from: u32, count: u32, before: u32) -> Result<(), Stop>
-        ensures { Does (op.structural (shifts.MoveRows sheet from count before)) NoAnswer self.old self.new result }
+        ensures { Does C.customs (op.structural (shifts.MoveRows sheet from count before)) NoAnswer self.old self.new result }
     {
         self.parts.structural(&Shift::MoveRows {
             sheet,
@@ -159,7 +158,7 @@ impl Engine {
     /// Moves so many columns of the sheet from a column on to before another one. Its errors are those of
     /// [`Engine::move_rows`].
     pub fn move_cols(&mut self, sheet: u32, from: u32, count: u32, before: u32) -> Result<(), Stop>
-        ensures { Does (op.structural (shifts.MoveCols sheet from count before)) NoAnswer self.old self.new result }
+        ensures { Does C.customs (op.structural (shifts.MoveCols sheet from count before)) NoAnswer self.old self.new result }
     {
         self.parts.structural(&Shift::MoveCols {
             sheet,
@@ -178,7 +177,7 @@ impl Engine {
     /// `NoSheet` where one of the two sheets doesn't exist, `Outside` where one of the two blocks isn't within the limits of
     /// a sheet, `BadSpan` where they are the same.
     pub fn move_block(&mut self, source: Block, to: Place) -> Result<(), Stop>
-        ensures { Does (op.structural (shifts.MoveBlock source to)) NoAnswer self.old self.new result }
+        ensures { Does C.customs (op.structural (shifts.MoveBlock source to)) NoAnswer self.old self.new result }
     {
         self.parts.structural(&Shift::MoveBlock { source, to })?;
         self.waiting.clear_cut();
@@ -191,7 +190,7 @@ impl Engine {
     /// `SheetNameInvalid` unless the name has 1 to 100 bytes and no control character, `SheetNameTaken` where a sheet has
     /// it, in some case of its ASCII letters, `SheetLimit` where all 1,024 numbers are used.
     pub fn add_sheet(&mut self, name: &str) -> Result<u32, Stop>
-        ensures { Does (op.add_sheet name.now) (λ d number. number ≡ d.next_sheet) self.old self.new result }
+        ensures { Does C.customs (op.add_sheet name.now) (λ d number. number ≡ d.next_sheet) self.old self.new result }
     {
         let number = self.parts.add_sheet(name)?;
         self.waiting.clear_cut();
@@ -203,7 +202,7 @@ impl Engine {
     /// # Errors
     /// `NoSheet`.
     pub fn drop_sheet(&mut self, sheet: u32) -> Result<(), Stop>
-        ensures { Does (op.structural (shifts.DropSheet sheet)) NoAnswer self.old self.new result }
+        ensures { Does C.customs (op.structural (shifts.DropSheet sheet)) NoAnswer self.old self.new result }
     {
         self.parts.structural(&Shift::DropSheet { sheet })?;
         self.waiting.clear_cut();
@@ -215,7 +214,7 @@ impl Engine {
     /// # Errors
     /// `NoSheet`, `SheetNameInvalid`, `SheetNameTaken` where another sheet has it, as for [`Engine::add_sheet`].
     pub fn rename_sheet(&mut self, sheet: u32, name: &str) -> Result<(), Stop>
-        ensures { Does (op.rename_sheet sheet name.now) NoAnswer self.old self.new result }
+        ensures { Does C.customs (op.rename_sheet sheet name.now) NoAnswer self.old self.new result }
     {
         self.parts.rename_sheet(sheet, name)?;
         self.waiting.clear_cut();
@@ -227,7 +226,7 @@ impl Engine {
     /// # Errors
     /// `NoSheet`.
     pub fn clear_sheet(&mut self, sheet: u32) -> Result<(), Stop>
-        ensures { Does (op.clear_sheet sheet) NoAnswer self.old self.new result }
+        ensures { Does C.customs (op.clear_sheet sheet) NoAnswer self.old self.new result }
     {
         self.parts.clear_sheet(sheet)?;
         self.waiting.clear_cut();
@@ -243,7 +242,7 @@ impl Engine {
     /// past 8,192 bytes, `BadFormula` where the text is no formula, `RelativeAddress` where a reference lacks a `$` or its
     /// sheet; the first that holds.
     pub fn add_name(&mut self, name: &str, scope: Option<u32>, text: &str) -> Result<(), Stop>
-        ensures { Does (op.add_name name.now scope text.now) NoAnswer self.old self.new result }
+        ensures { Does C.customs (op.add_name name.now scope text.now) NoAnswer self.old self.new result }
     {
         self.parts.add_name(name, scope, text)?;
         self.waiting.clear_cut();
@@ -256,7 +255,7 @@ impl Engine {
     /// `NoSheet`, `NoSuchName` where the scope hasn't the name, and `TextLimit`, `BadFormula` and `RelativeAddress` as for
     /// [`Engine::add_name`].
     pub fn change_name(&mut self, name: &str, scope: Option<u32>, text: &str) -> Result<(), Stop>
-        ensures { Does (op.change_name name.now scope text.now) NoAnswer self.old self.new result }
+        ensures { Does C.customs (op.change_name name.now scope text.now) NoAnswer self.old self.new result }
     {
         self.parts.change_name(name, scope, text)?;
         self.waiting.clear_cut();
@@ -268,7 +267,7 @@ impl Engine {
     /// # Errors
     /// `NoSheet`, `NoSuchName`.
     pub fn remove_name(&mut self, name: &str, scope: Option<u32>) -> Result<(), Stop>
-        ensures { Does (op.remove_name name.now scope) NoAnswer self.old self.new result }
+        ensures { Does C.customs (op.remove_name name.now scope) NoAnswer self.old self.new result }
     {
         self.parts.remove_name(name, scope)?;
         self.waiting.clear_cut();
@@ -281,7 +280,7 @@ impl Engine {
     /// # Errors
     /// `NoSheet`, `Outside` where the block isn't within the limits of a sheet.
     pub fn copy(&mut self, area: Block) -> Result<(), Stop>
-        ensures { Does (op.copy area) NoAnswer self.old self.new result }
+        ensures { Does C.customs (op.copy area) NoAnswer self.old self.new result }
     {
         self.waiting = self.parts.copied(area)?;
         Ok(())
@@ -290,7 +289,7 @@ impl Engine {
     /// Cuts a block, which is moved where it is pasted; the next change ends that. It is no step. Its errors are those of
     /// [`Engine::copy`].
     pub fn cut(&mut self, area: Block) -> Result<(), Stop>
-        ensures { Does (op.cut area) NoAnswer self.old self.new result }
+        ensures { Does C.customs (op.cut area) NoAnswer self.old self.new result }
     {
         self.parts.check_clear(area)?;
         self.waiting = Waiting::cut(area);
@@ -305,7 +304,7 @@ impl Engine {
     /// `NothingToPaste`; then after a copy `NoSheet`, `Outside` where the block there isn't within the limits of a sheet,
     /// `CellLimit` where more than 1,000,000 cells would be filled, and after a cut those of [`Engine::move_block`].
     pub fn paste(&mut self, at: Place) -> Result<(), Stop>
-        ensures { Does (op.paste at) NoAnswer self.old self.new result }
+        ensures { Does C.customs (op.paste at) NoAnswer self.old self.new result }
     {
         if let Some(source) = self.waiting.cut_area() {
             return self.move_block(source, at);
@@ -322,7 +321,7 @@ impl Engine {
     /// # Errors
     /// `BatchOpen`.
     pub fn begin(&mut self) -> Result<(), Stop>
-        ensures { Does op.begin NoAnswer self.old self.new result }
+        ensures { Does C.customs op.begin NoAnswer self.old self.new result }
     {
         self.parts.begin()
     }
@@ -332,21 +331,21 @@ impl Engine {
     /// # Errors
     /// `NoBatch`.
     pub fn commit(&mut self) -> Result<(), Stop>
-        ensures { Does op.commit NoAnswer self.old self.new result }
+        ensures { Does C.customs op.commit NoAnswer self.old self.new result }
     {
         self.parts.commit()
     }
 
     /// Stops the computation of values, until [`Engine::resume`]. Once more changes nothing.
     pub fn suspend(&mut self)
-        ensures { DoesAlways op.suspend self.old self.new }
+        ensures { DoesAlways C.customs op.suspend self.old self.new }
     {
         self.parts.suspend();
     }
 
     /// Lets the computation of values go on. Once more changes nothing.
     pub fn resume(&mut self)
-        ensures { DoesAlways op.resume self.old self.new }
+        ensures { DoesAlways C.customs op.resume self.old self.new }
     {
         self.parts.resume();
     }
@@ -357,7 +356,7 @@ impl Engine {
     /// # Errors
     /// `BatchOpen`, `NothingToUndo`.
     pub fn undo(&mut self) -> Result<(), Stop>
-        ensures { Does op.undo NoAnswer self.old self.new result }
+        ensures { Does C.customs op.undo NoAnswer self.old self.new result }
     {
         self.parts.undo()?;
         self.waiting.clear_cut();
@@ -370,7 +369,7 @@ impl Engine {
     /// # Errors
     /// `BatchOpen`, `NothingToRedo`.
     pub fn redo(&mut self) -> Result<(), Stop>
-        ensures { Does op.redo NoAnswer self.old self.new result }
+        ensures { Does C.customs op.redo NoAnswer self.old self.new result }
     {
         self.parts.redo()?;
         self.waiting.clear_cut();
@@ -382,9 +381,9 @@ impl Engine {
     /// # Errors
     /// `Suspended` where the computation is suspended or a batch is open, `NoSheet`, `Outside`.
     pub fn value<L: Ledger>(&mut self, at: Place, steps: &mut Steps<L>) -> Result<Scalar, Stop>
-        ensures { Does (op.value at) (λ d scalar. scalar ≡ value_of d at) self.old self.new result }
+        ensures { Does C.customs (op.value at) (λ d scalar. scalar ≡ value_of d at) self.old self.new result }
     {
-        self.parts.value(at, &self.registry, self.day, steps)
+        self.parts.value(at, &self.customs, self.day, steps)
     }
 
     /// What a name shows that the word finds on the sheet, in any case of its ASCII letters: the sheet's own, else that of
@@ -398,10 +397,10 @@ impl Engine {
         sheet: u32,
         steps: &mut Steps<L>,
     ) -> Result<Scalar, Stop>
-        ensures { Does (op.name_value name.now sheet) (λ d scalar. scalar ≡ name_value_of d name.now sheet) self.old self.new result }
+        ensures { Does C.customs (op.name_value name.now sheet) (λ d scalar. scalar ≡ name_value_of d name.now sheet) self.old self.new result }
     {
         self.parts
-            .name_value(name, sheet, &self.registry, self.day, steps)
+            .name_value(name, sheet, &self.customs, self.day, steps)
     }
 
     /// What the formula of the text would show in the first cell of the sheet. Costs about the whole workbook.
@@ -414,10 +413,10 @@ impl Engine {
         text: &str,
         steps: &mut Steps<L>,
     ) -> Result<Scalar, Stop>
-        ensures { Does (op.try_formula sheet text.now) (λ d scalar. scalar ≡ tried_value d sheet text.now) self.old self.new result }
+        ensures { Does C.customs (op.try_formula sheet text.now) (λ d scalar. scalar ≡ tried_value d sheet text.now) self.old self.new result }
     {
         self.parts
-            .try_formula(sheet, text, &self.registry, self.day, steps)
+            .try_formula(sheet, text, &self.customs, self.day, steps)
     }
 
     /// The canonical text of a cell's formula, or the kept text of an unreadable one; `None` where the cell has none.
@@ -425,7 +424,7 @@ impl Engine {
     /// # Errors
     /// `NoSheet`, `Outside`.
     pub fn formula(&mut self, at: Place) -> Result<Option<Text>, Stop>
-        ensures { Does (op.formula at) (λ d text. text ≡ formula_of d at) self.old self.new result }
+        ensures { Does C.customs (op.formula at) (λ d text. text ≡ formula_of d at) self.old self.new result }
     {
         self.parts.formula(at)
     }
@@ -435,37 +434,37 @@ impl Engine {
     /// # Errors
     /// `NoSheet`, `Outside`.
     pub fn content(&mut self, at: Place) -> Result<Text, Stop>
-        ensures { Does (op.content at) (λ d text. text ≡ content_text d at) self.old self.new result }
+        ensures { Does C.customs (op.content at) (λ d text. text ≡ content_text d at) self.old self.new result }
     {
         self.parts.content(at)
     }
 
     /// The number of the sheet of this name, in any case of its ASCII letters.
     pub fn sheet_id(&self, name: &str) -> Option<u32>
-        ensures { (d : State) → StandsFor self.now d → result ≡ id_in d.book.sheets name.now }
+        ensures { (d : State) → StandsFor C.customs self.now d → result ≡ id_in d.book.sheets name.now }
     {
         self.parts.book.names.id_of(name)
     }
 
     /// The first sheet of the list.
     pub fn first_sheet(&self) -> Option<u32>
-        ensures { (d : State) → StandsFor self.now d → result ≡ first_sheet d.book }
+        ensures { (d : State) → StandsFor C.customs self.now d → result ≡ first_sheet d.book }
     {
         self.parts.book.names.sheet_at(0)
     }
 
     /// The name of the sheet of this number.
     pub fn sheet_name(&self, id: u32) -> Option<&Text>
-        ensures { (d : State) → StandsFor self.now d → option_map (λ name. name.now) result ≡ name_in d.book.sheets id }
+        ensures { (d : State) → StandsFor C.customs self.now d → option_map (λ name. name.now) result ≡ name_in d.book.sheets id }
     {
         self.parts.book.names.name_of(id)
     }
 
     /// The steps that can be undone and redone.
     pub fn entries(&self) -> &UndoBook<Entry>
-        ensures done { (d : State) → StandsFor self.now d → length result.now.done ≡ length d.undo }
-        ensures undone { (d : State) → StandsFor self.now d → length result.now.undone ≡ length d.redo }
-        ensures limit { (d : State) → StandsFor self.now d → result.now.limit ≡ d.limit }
+        ensures done { (d : State) → StandsFor C.customs self.now d → length result.now.done ≡ length d.undo }
+        ensures undone { (d : State) → StandsFor C.customs self.now d → length result.now.undone ≡ length d.redo }
+        ensures limit { (d : State) → StandsFor C.customs self.now d → result.now.limit ≡ d.limit }
     {
         &self.parts.undo
     }

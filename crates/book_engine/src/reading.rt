@@ -5,7 +5,6 @@ ghost use Rattle.grid_store.specs.Grid.{items_of};
 ghost use Rattle.std.specs.FinMap as map;
 ghost use Rattle.cell_value.specs.declared.fault.FaultKind.TheVariants as faults;
 ghost use Rattle.cell_value.specs.declared.scalar.Scalar.TheVariants as scalars;
-ghost use Rattle.custom_fn.specs.Registry.{customs_of};
 ghost use Rattle.book_values.specs.Laws.{AreAlike};
 ghost use Rattle.book_values.specs.Names.{Key, found, tree_in};
 ghost use Rattle.book_values.specs.Workbook.{Node};
@@ -32,9 +31,9 @@ use crate::parts::Parts;
 use crate::stop::Stop;
 use book_calc::{Book as Workbook, Cell as Content, Values, calculated};
 use book_model::text_given;
+use calc_eval::Customs;
 use cell_addr::{Place, Text};
 use cell_value::{FaultKind, Scalar};
-use custom_fn::Registry;
 use formula_print::print;
 use formula_tree::Home;
 use grid_store::{Cell, CellList};
@@ -44,58 +43,58 @@ use steps::Steps;
 
 impl Parts {
     // What a cell shows.
-    pub(crate) fn value<L: Ledger>(
+    pub(crate) fn value<C: Customs, L: Ledger>(
         &self,
         at: Place,
-        registry: &Registry,
+        customs: &C,
         day: i32,
         steps: &mut Steps<L>,
     ) -> Result<Scalar, Stop>
         requires { Fits self.now }
-        ensures { Turns (op.value at) (λ d scalar. scalar ≡ value_of d at) (with_rules (customs_of registry.now) day (state_of self.now)) (with_rules (customs_of registry.now) day (state_of self.now)) result }
+        ensures { Turns (op.value at) (λ d scalar. scalar ≡ value_of d at) (with_rules (C.customs customs.now) day (state_of self.now)) (with_rules (C.customs customs.now) day (state_of self.now)) result }
     {
         self.check_value(at)?;
-        let values = self.values(registry, day, steps)?;
+        let values = self.values(customs, day, steps)?;
         let scalar = values.at(at).copy(self.alloc)?;
         Ok(scalar)
     }
 
     // What a name shows that the word finds on the sheet.
-    pub(crate) fn name_value<L: Ledger>(
+    pub(crate) fn name_value<C: Customs, L: Ledger>(
         &self,
         name: &str,
         sheet: u32,
-        registry: &Registry,
+        customs: &C,
         day: i32,
         steps: &mut Steps<L>,
     ) -> Result<Scalar, Stop>
         requires { Fits self.now }
-        ensures { Turns (op.name_value name.now sheet) (λ d scalar. scalar ≡ name_value_of d name.now sheet) (with_rules (customs_of registry.now) day (state_of self.now)) (with_rules (customs_of registry.now) day (state_of self.now)) result }
+        ensures { Turns (op.name_value name.now sheet) (λ d scalar. scalar ≡ name_value_of d name.now sheet) (with_rules (C.customs customs.now) day (state_of self.now)) (with_rules (C.customs customs.now) day (state_of self.now)) result }
     {
         self.check_name_value(name, sheet)?;
-        let values = self.values(registry, day, steps)?;
+        let values = self.values(customs, day, steps)?;
         let scalar = named_value(self.alloc, &values, name, sheet)?;
         Ok(scalar)
     }
 
     // What the formula of a text would show in the first cell of the sheet.
-    pub(crate) fn try_formula<L: Ledger>(
+    pub(crate) fn try_formula<C: Customs, L: Ledger>(
         &mut self,
         sheet: u32,
         text: &str,
-        registry: &Registry,
+        customs: &C,
         day: i32,
         steps: &mut Steps<L>,
     ) -> Result<Scalar, Stop>
         requires { Fits self.old }
-        ensures turns { Turns (op.try_formula sheet text.now) (λ d scalar. scalar ≡ tried_value d sheet text.now) (with_rules (customs_of registry.now) day (state_of self.old)) (with_rules (customs_of registry.now) day (state_of self.new)) result }
+        ensures turns { Turns (op.try_formula sheet text.now) (λ d scalar. scalar ≡ tried_value d sheet text.now) (with_rules (C.customs customs.now) day (state_of self.old)) (with_rules (C.customs customs.now) day (state_of self.new)) result }
         ensures fits { Fits self.new }
     {
         self.check_on_sheet(sheet)?;
         let home = Home::Cell(first_cell(sheet));
         let tree = read_tree(self.alloc, &mut self.pool, &self.book.names, home, text)?;
-        let values = self.values(registry, day, steps)?;
-        let scalar = values.tried(self.alloc, &tree, home, registry, steps)?;
+        let values = self.values(customs, day, steps)?;
+        let scalar = values.tried(self.alloc, &tree, home, customs, steps)?;
         Ok(scalar)
     }
 
@@ -184,19 +183,19 @@ impl Parts {
     }
 
     // What all places and names show.
-    fn values<L: Ledger>(
+    fn values<C: Customs, L: Ledger>(
         &self,
-        registry: &Registry,
+        customs: &C,
         day: i32,
         steps: &mut Steps<L>,
     ) -> Result<Values, AllocError>
         requires { Fits self.now }
-        ensures shown { IfOk result (λ values. (a : Node) → shown_in values a ≡ shown (with_rules (customs_of registry.now) day (state_of self.now)) a) }
-        ensures world { IfOk result (λ values. world_in values ≡ world (with_rules (customs_of registry.now) day (state_of self.now))) }
+        ensures shown { IfOk result (λ values. (a : Node) → shown_in values a ≡ shown (with_rules (C.customs customs.now) day (state_of self.now)) a) }
+        ensures world { IfOk result (λ values. world_in values ≡ world (with_rules (C.customs customs.now) day (state_of self.now))) }
         ensures found { IfOk result (λ values. (word : _) (sheet : _) → found (workbook_in values).names word sheet ≡ found (map.entries (state_of self.now).book.names) word sheet) }
     {
         let workbook = self.workbook()?;
-        let values = calculated(self.alloc, workbook, registry, day, steps)?;
+        let values = calculated(self.alloc, workbook, customs, day, steps)?;
         Ok(values)
     }
 

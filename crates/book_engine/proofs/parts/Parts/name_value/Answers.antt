@@ -5,7 +5,6 @@ use Rattle.std.specs.Option.{unwrap_or}
 use Rattle.cell_value.specs.declared.fault.FaultKind.TheVariants as fault
 use Rattle.cell_value.specs.declared.scalar.Scalar.{Scalar}
 use Rattle.cell_value.specs.declared.scalar.Scalar.TheVariants as scalar
-use Rattle.custom_fn.specs.Registry.{customs_of}
 use Rattle.book_values.specs.Names.{Key, found}
 use Rattle.book_values.specs.Workbook.{Node, name}
 use Rattle.book_calc.specs.Values as calc
@@ -24,7 +23,7 @@ of_name d s (Some key) h = h (name key)
 pub returns : goal.returns
 returns g c =
     let d = state_of c.args.self.now in
-    let customs = customs_of c.args.registry.now in
+    let customs = g.C.Customs.customs c.args.customs.now in
     let v = c.in_ok-values.values in (
       c.in_ok-check_name_value.ensures,
       c.in_ok-scalar.ensures
