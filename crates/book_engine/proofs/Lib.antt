@@ -20,3 +20,7 @@ pub mod AnyCalls
 pub mod PastedBooks
 pub mod CopiedCells
 pub mod PastedSteps
+pub mod SortedKeys
+pub mod RaisedKeys
+pub mod NeedingCells
+pub mod NeedingNames

@@ -221,7 +221,7 @@ tree_in-with [] k t q = refl
 tree_in-with (e ∷ es) k t q = put-step k t e es q (same_key k e.0) refl (tree_in-with es k t q)
 
 -- a name that stands apart from slots has no tree in them
-get-apart : (slots : List Slot) (k : Key) → list_any (same_key k) (map (λ s. s.0) slots) ≡ false → fin.get (names_under slots) k ≡ None
+pub get-apart : (slots : List Slot) (k : Key) → list_any (same_key k) (map (λ s. s.0) slots) ≡ false → fin.get (names_under slots) k ≡ None
 get-apart [] k h = get-empty key_cmp k
 get-apart (e ∷ es) k h =
     let n = neither (same_key k e.0) (list_any (same_key k) (map (λ s. s.0) es)) h in
@@ -278,7 +278,7 @@ expression-put es i e old new apart l at h is q =
 at-index : (es : List Expression) (i : ℕ) (e : Expression) (d : Slot) → i < length (map slot_of es) → e ≡ get_or es i e → get_or (map slot_of es) i d ≡ slot_of e
 at-index es i e d l at = let long = length-map slot_of es in get_or-map slot_of es i e d (omega (arith, l, long)) ∙ ap slot_of (sym at)
 
-is_some-map : {X Y : Type 0} (f : X → Y) (o : Option X) → is_some o ≡ is_some (option_map f o)
+pub is_some-map : {X Y : Type 0} (f : X → Y) (o : Option X) → is_some o ≡ is_some (option_map f o)
 is_some-map f None = refl
 is_some-map f (Some x) = refl
 
@@ -320,19 +320,15 @@ before-at es i named e w apart there word at =
     let second = ap (λ s. s.1) (sym slot) ∙ sym (get-at (map slot_of es) i (k, None) k (subst AreApart (keys-slots es) apart) t.0 t.1) in
     λ j. (first j, second j)
 
--- a word that finds a sheet's own name, and one that doesn't
-pub found-own : (m : NameMap) (word : List ℕ) (sheet : ℕ) → is_some (fin.get m (key_of (Some sheet) word)) ≡ true → true ≡ is_some (found (fin.entries m) word sheet)
+-- the name that a word finds is the sheet's own where there is one, else that of the whole workbook, if there is one
+pub found-own : (m : NameMap) (word : List ℕ) (sheet : ℕ) → is_some (fin.get m (key_of (Some sheet) word)) ≡ true → Some (key_of (Some sheet) word) ≡ found (fin.entries m) word sheet
 found-own m word sheet h =
-    sym (ap (λ b. is_some (cond b (Some (key_of (Some sheet) word)) (cond (is_some (tree_in (fin.entries m) (key_of None word))) (Some (key_of None word)) None)))
+    sym (ap (λ b. cond b (Some (key_of (Some sheet) word)) (cond (is_some (tree_in (fin.entries m) (key_of None word))) (Some (key_of None word)) None))
     (ap is_some (tree_in-entries m (key_of (Some sheet) word)) ∙ h))
 
-pub found-global : (m : NameMap) (word : List ℕ) (sheet : ℕ) → is_some (fin.get m (key_of (Some sheet) word)) ≡ false → is_some (fin.get m (key_of None word)) ≡ is_some (found (fin.entries m) word sheet)
-found-global m word sheet h =
-    sym (ap (λ b. is_some (cond b (Some (key_of (Some sheet) word)) (cond (is_some (tree_in (fin.entries m) (key_of None word))) (Some (key_of None word)) None)))
-    (ap is_some (tree_in-entries m (key_of (Some sheet) word)) ∙ h)
-    ∙ only (is_some (tree_in (fin.entries m) (key_of None word))) (key_of None word)
-    ∙ ap is_some (tree_in-entries m (key_of None word)))
-  where
-    only : (b : Bool) (k : Key) → is_some (cond b (Some k) None) ≡ b
-    only true k = refl
-    only false k = refl
+pub found-other : (m : NameMap) (word : List ℕ) (sheet : ℕ) (b : Bool) → is_some (fin.get m (key_of (Some sheet) word)) ≡ false → is_some (fin.get m (key_of None word)) ≡ b
+    → cond b (Some (key_of None word)) None ≡ found (fin.entries m) word sheet
+found-other m word sheet b own whole =
+    sym (ap (λ c. cond c (Some (key_of (Some sheet) word)) (cond (is_some (tree_in (fin.entries m) (key_of None word))) (Some (key_of None word)) None))
+    (ap is_some (tree_in-entries m (key_of (Some sheet) word)) ∙ own)
+    ∙ ap (λ c. cond c (Some (key_of None word)) None) (ap is_some (tree_in-entries m (key_of None word)) ∙ whole))

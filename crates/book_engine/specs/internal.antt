@@ -1,6 +1,8 @@
 -- What only the proofs of bodies need.
 pub mod Turns
 pub mod Names
+pub mod ShownNames
+pub mod Links
 pub mod Cells
 pub mod Noted
 pub mod ShiftProp

@@ -1,5 +1,5 @@
 // Why operations are refused.
-ghost use Rattle.std.specs.Prelude.{◌≡◌, ◌+◌, ◌&&◌, ◌∷◌, [], not, is_none, is_some, nat_le, nat_lt};
+ghost use Rattle.std.specs.Prelude.{◌≡◌, ◌+◌, ◌&&◌, ◌∷◌, [], not, is_none, is_some, option_map, nat_le, nat_lt};
 ghost use Rattle.cell_addr.specs.Place.{IsBlockInside};
 ghost use Rattle.std.specs.FinMap as map;
 ghost use Rattle.std.specs.List.{list_any};
@@ -88,14 +88,24 @@ impl Parts {
         Ok(())
     }
 
-    // Whether the word finds a name on the sheet: the sheet's own, or one of the whole workbook.
+    // Whether the word finds a name on the sheet.
     fn finds(&self, name: &str, sheet: u32) -> bool
         ensures { result ≡ is_some (found (map.entries (state_of self.now).book.names) name.now sheet) }
     {
+        self.scope_finding(name, sheet).is_some()
+    }
+
+    // The scope of the name that the word finds on the sheet: the sheet's own, or one of the whole workbook.
+    pub(crate) fn scope_finding(&self, name: &str, sheet: u32) -> Option<Option<u32>>
+        ensures { option_map (λ scope. key_of scope name.now) result ≡ found (map.entries (state_of self.now).book.names) name.now sheet }
+    {
         if self.has_name(name, Some(sheet)) {
-            return true;
+            return Some(Some(sheet));
         }
-        self.has_name(name, None)
+        if self.has_name(name, None) {
+            return Some(None);
+        }
+        None
     }
 
     // Where a name is added, before its text is looked at.

@@ -2,7 +2,7 @@
 ghost use Rattle.std.specs.Prelude.{◌≡◌, ◌≤◌, IfOk, length, option_map};
 ghost use Rattle.cell_addr.specs.Sheets.{id_in, name_in};
 ghost use Rattle.shift_core.specs.declared.shift.Shift.TheVariants as shifts;
-ghost use Rattle.book_model.specs.Answers.{content_text, formula_of, name_value_of, tried_value, value_of};
+ghost use Rattle.book_model.specs.Answers.{content_text, dependents_of, formula_of, name_value_of, precedents_of, tried_value, value_of};
 ghost use Rattle.book_model.specs.Given.{CanBegin, given_sheets, session_given};
 ghost use Rattle.book_model.specs.Operation as op;
 ghost use Rattle.book_model.specs.Replies.{first_sheet};
@@ -20,6 +20,7 @@ use calc_eval::Customs;
 use cell_addr::{Block, Place, SheetNames, Text};
 use cell_value::Scalar;
 use clip_board::Clip;
+use formula_tree::Link;
 use shift_core::Shift;
 use std::alloc::{AllocError, Global};
 use std::sync::ledger::Ledger;
@@ -437,6 +438,30 @@ impl<C: Customs> Engine<C> {
         ensures { Does C.customs (op.content at) (λ d text. text ≡ content_text d at) self.old self.new result }
     {
         self.parts.content(at)
+    }
+
+    /// What a cell's formula needs, in whatever branch: its references and ranges, and the names that its words find, in the
+    /// order of the formula, each once. A reference or range that is itself the argument of ROW, COLUMN, ROWS or COLUMNS is
+    /// none of them; a name is. Costs about the nodes of the formula.
+    ///
+    /// # Errors
+    /// `NoSheet`, `Outside`.
+    pub fn precedents(&mut self, at: Place) -> Result<Vec<Link>, Stop>
+        ensures { Does C.customs (op.precedents at) (λ d links. links.items ≡ precedents_of d at) self.old self.new result }
+    {
+        self.parts.precedents(at)
+    }
+
+    /// The cells and then the names whose formulas need a cell by a reference or a range of their own: cells by the number
+    /// of their sheet, row and column, names of the whole workbook before those of each sheet, by the bytes of their words
+    /// in capitals. Costs about the nodes of all formulas.
+    ///
+    /// # Errors
+    /// `NoSheet`, `Outside`.
+    pub fn dependents(&mut self, at: Place) -> Result<Vec<Link>, Stop>
+        ensures { Does C.customs (op.dependents at) (λ d links. links.items ≡ dependents_of d at) self.old self.new result }
+    {
+        self.parts.dependents(at)
     }
 
     /// The number of the sheet of this name, in any case of its ASCII letters.

@@ -24,6 +24,7 @@ mod formulas;
 mod held;
 mod history;
 pub mod laws;
+mod links;
 mod naming;
 mod parts;
 mod pasting;
@@ -31,6 +32,7 @@ mod reading;
 mod setting;
 mod sheets;
 mod shifting;
+mod shown_name;
 mod stepping;
 mod stop;
 #[cfg(test)]

@@ -171,7 +171,7 @@ impl Parts {
     }
 
     // The formula under a number, which stands at the place.
-    fn standing(&self, at: Place, number: u64) -> &Formula
+    pub(crate) fn standing(&self, at: Place, number: u64) -> &Formula
         requires { StandsAt (numbered self.now.book.formulas) number at }
         ensures at { result.now.at ≡ at }
         ensures formula { numbered self.now.book.formulas number ≡ Some (stood result.now) }

@@ -6,6 +6,7 @@ use book_model::{BookCell, BookCells, BookSheet, Refusal};
 use calc_eval::Customs;
 use cell_addr::{Block, Place, Text};
 use cell_value::Scalar;
+use formula_tree::Link;
 use std::alloc::{AllocError, Global};
 use std::marker::Brand;
 use std::sync::ledger::{Blank, Ledger};
@@ -209,6 +210,50 @@ fn blocks_are_pasted(rt: HostRuntime) -> Result<(), AllocError> {
     assert!(rt; reads(&mut engine, 1, 1, "=C2"));
     assert!(rt; reads(&mut engine, 2, 0, "=B1"));
     assert!(rt; engine.paste(place(4, 0)) == Err(Stop::Refused(Refusal::NothingToPaste)));
+    Ok(())
+}
+
+// A formula that needs a block, a cell and a name; the name needs the cell too.
+fn formula_with_links<C: Customs>(engine: &mut Engine<C>) -> Result<(), Stop> {
+    engine.add_sheet("Plan")?;
+    engine.add_name("rate", None, "=Plan!$A$1")?;
+    engine.set(place(2, 0), "=SUM(A1:B1)+A1+Rate+A1+unknown")
+}
+
+// Whether the answer is the block of the first two cells, the first cell and the name.
+fn is_what_is_needed(answer: Result<Vec<Link>, Stop>) -> bool {
+    let Ok(links) = answer else {
+        return false;
+    };
+    match links.as_slice() {
+        [Link::Area(area), Link::Cell(cell), Link::Name(None, word)] => {
+            *area == block(0, 1) && *cell == place(0, 0) && word.as_str() == "RATE"
+        }
+        _ => false,
+    }
+}
+
+// Whether the answer is the formula's cell and the name.
+fn is_what_needs(answer: Result<Vec<Link>, Stop>) -> bool {
+    let Ok(links) = answer else {
+        return false;
+    };
+    match links.as_slice() {
+        [Link::Cell(cell), Link::Name(None, word)] => {
+            *cell == place(2, 0) && word.as_str() == "RATE"
+        }
+        _ => false,
+    }
+}
+
+// What a formula needs is listed in its order, and what needs a cell by place and then by name.
+#[test]
+fn links_are_listed_in_order(rt: HostRuntime) -> Result<(), AllocError> {
+    let mut engine = empty(rt.alloc(), 20)?;
+    assert!(rt; formula_with_links(&mut engine).is_ok());
+    assert!(rt; is_what_is_needed(engine.precedents(place(2, 0))));
+    assert!(rt; is_what_needs(engine.dependents(place(0, 0))));
+    assert!(rt; engine.dependents(place(40_000, 0)).is_err());
     Ok(())
 }
 

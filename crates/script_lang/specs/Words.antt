@@ -23,6 +23,10 @@ line word.ClearSheet = (codes "clear-sheet", Sheet ∷ [])
 line word.AddName = (codes "add-name", Name ∷ Scope ∷ Text ∷ [])
 line word.ChangeName = (codes "change-name", Name ∷ Scope ∷ Text ∷ [])
 line word.RemoveName = (codes "remove-name", Name ∷ Scope ∷ [])
+line word.Copy = (codes "copy", Block ∷ [])
+line word.Cut = (codes "cut", Block ∷ [])
+line word.Paste = (codes "paste", Place ∷ [])
+line word.MoveBlock = (codes "move-block", Block ∷ Place ∷ [])
 line word.Begin = (codes "begin", [])
 line word.Commit = (codes "commit", [])
 line word.Suspend = (codes "suspend", [])
@@ -32,6 +36,8 @@ line word.Redo = (codes "redo", [])
 line word.Value = (codes "value", Place ∷ [])
 line word.Formula = (codes "formula", Place ∷ [])
 line word.Content = (codes "content", Place ∷ [])
+line word.Precedents = (codes "precedents", Place ∷ [])
+line word.Dependents = (codes "dependents", Place ∷ [])
 line word.NameValue = (codes "name-value", Name ∷ Sheet ∷ [])
 line word.Try = (codes "try", Sheet ∷ Text ∷ [])
 
@@ -41,8 +47,9 @@ words = word.Set ∷ word.Clear
     ∷ word.InsertRows ∷ word.DeleteRows ∷ word.InsertCols ∷ word.DeleteCols ∷ word.MoveRows ∷ word.MoveCols
     ∷ word.AddSheet ∷ word.DropSheet ∷ word.RenameSheet ∷ word.ClearSheet
     ∷ word.AddName ∷ word.ChangeName ∷ word.RemoveName
+    ∷ word.Copy ∷ word.Cut ∷ word.Paste ∷ word.MoveBlock
     ∷ word.Begin ∷ word.Commit ∷ word.Suspend ∷ word.Resume ∷ word.Undo ∷ word.Redo
-    ∷ word.Value ∷ word.Formula ∷ word.Content
+    ∷ word.Value ∷ word.Formula ∷ word.Content ∷ word.Precedents ∷ word.Dependents
     ∷ word.NameValue ∷ word.Try ∷ []
 
 -- the word that is written so, in exactly these letters

@@ -24,6 +24,10 @@ pub enum Word {
     AddName,
     ChangeName,
     RemoveName,
+    Copy,
+    Cut,
+    Paste,
+    MoveBlock,
     Begin,
     Commit,
     Suspend,
@@ -33,6 +37,8 @@ pub enum Word {
     Value,
     Formula,
     Content,
+    Precedents,
+    Dependents,
     NameValue,
     Try,
 }
@@ -69,7 +75,7 @@ pub const MAX_FIELDS: usize = 4;
 
 impl Word {
     /// All words.
-    pub const ALL: [Word; 26] = [
+    pub const ALL: [Word; 32] = [
         Word::Set,
         Word::Clear,
         Word::InsertRows,
@@ -85,6 +91,10 @@ impl Word {
         Word::AddName,
         Word::ChangeName,
         Word::RemoveName,
+        Word::Copy,
+        Word::Cut,
+        Word::Paste,
+        Word::MoveBlock,
         Word::Begin,
         Word::Commit,
         Word::Suspend,
@@ -94,6 +104,8 @@ impl Word {
         Word::Value,
         Word::Formula,
         Word::Content,
+        Word::Precedents,
+        Word::Dependents,
         Word::NameValue,
         Word::Try,
     ];
@@ -120,6 +132,10 @@ impl Word {
             Word::AddName => ("add-name", &[Name, Scope, Text]),
             Word::ChangeName => ("change-name", &[Name, Scope, Text]),
             Word::RemoveName => ("remove-name", &[Name, Scope]),
+            Word::Copy => ("copy", &[Block]),
+            Word::Cut => ("cut", &[Block]),
+            Word::Paste => ("paste", &[Place]),
+            Word::MoveBlock => ("move-block", &[Block, Place]),
             Word::Begin => ("begin", &[]),
             Word::Commit => ("commit", &[]),
             Word::Suspend => ("suspend", &[]),
@@ -129,6 +145,8 @@ impl Word {
             Word::Value => ("value", &[Place]),
             Word::Formula => ("formula", &[Place]),
             Word::Content => ("content", &[Place]),
+            Word::Precedents => ("precedents", &[Place]),
+            Word::Dependents => ("dependents", &[Place]),
             Word::NameValue => ("name-value", &[Name, Sheet]),
             Word::Try => ("try", &[Sheet, Text]),
         }
