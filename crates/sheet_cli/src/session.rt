@@ -51,7 +51,7 @@ impl<C: Customs> Session<C> {
         Ok(Session { alloc, engine })
     }
 
-    /// Executes C.customs a command, and answers its line. For want of memory the workbook stays as it was.
+    /// Executes a command, and answers its line. For want of memory the workbook stays as it was.
     pub fn execute<L: Ledger>(
         &mut self,
         command: &Command,
@@ -71,7 +71,7 @@ impl<C: Customs> Session<C> {
         }
     }
 
-    // Executes C.customs a change that answers nothing. The line is made first, so that nothing fails after the change.
+    // Executes a change that answers nothing. The line is made first, so that nothing fails after the change.
     fn change(&mut self, command: &Command) -> Result<Answer, AllocError>
         requires { IsChange command.now }
         ensures ok { IfOk result (λ answer. Executes C.customs command.now self.old.engine self.new.engine answer.line.items answer.refused) }
