@@ -6,7 +6,7 @@ use Rattle.cell_addr.specs.declared.place.Place.{Place}
 use Rattle.cell_addr.specs.declared.place.Block.{Block}
 use Rattle.cell_addr.specs.declared.place.TheConstants.{NO_SHEET}
 use Rattle.cell_addr.specs.declared.spot.Spot.{Spot}
-use Rattle.cell_addr.specs.Address.{column_letters}
+use Rattle.cell_addr.specs.Address.{place_letters}
 use Rattle.cell_addr.specs.Sheets.{id_in, name_in}
 use Rattle.cell_value.specs.Scalar.{shown_text}
 use Rattle.formula_tree.specs.declared.link.Link.{Link}
@@ -93,14 +93,10 @@ formula_text text = unwrap_or text (codes "none")
 abbrev pub sheet_mark : Workbook → ℕ → List ℕ
 sheet_mark b sheet = unwrap_or (name_in b.sheets sheet) [] ++ 33 ∷ []
 
--- an address: the column's letters, and the row counted from 1
-abbrev pub address_text : ℕ → ℕ → List ℕ
-address_text row col = column_letters col ++ decimal (row + 1)
-
 -- a cell, a block or a name with its sheet's name; a name of the whole workbook has none. 58 is `:`
 abbrev pub link_text : Workbook → Link → List ℕ
-link_text b (links.Cell p) = sheet_mark b p.sheet ++ address_text p.row p.col
-link_text b (links.Area a) = (sheet_mark b a.sheet ++ address_text a.top a.left) ++ (58 ∷ address_text a.bottom a.right)
+link_text b (links.Cell p) = sheet_mark b p.sheet ++ place_letters p.row p.col
+link_text b (links.Area a) = (sheet_mark b a.sheet ++ place_letters a.top a.left) ++ (58 ∷ place_letters a.bottom a.right)
 link_text b (links.Name None word) = word
 link_text b (links.Name (Some sheet) word) = sheet_mark b sheet ++ word
 

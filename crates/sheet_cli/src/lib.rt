@@ -16,6 +16,7 @@
 mod answering;
 mod ending;
 mod line;
+mod links;
 mod program;
 mod session;
 

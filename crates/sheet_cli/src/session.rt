@@ -2,7 +2,7 @@
 ghost use Rattle.std.specs.Prelude.{◌≡◌, ◌≤◌, IfOk, OnErr, codes, false, true};
 ghost use Rattle.book_model.specs.Given.{CanBegin, given_sheets, session_given};
 ghost use Rattle.book_model.specs.declared.limits.TheConstants.{MAX_UNDO};
-ghost use Rattle.book_model.specs.Replies.{block_of, line_of, place_of, scope_named, sheet_named, sheet_of};
+ghost use Rattle.book_model.specs.Replies.{block_of, line_of, links_text, place_of, scope_named, sheet_named, sheet_of};
 ghost use Rattle.book_model.specs.Workbook.{State};
 ghost use Rattle.cell_value.specs.Scalar.{shown_text};
 ghost use Rattle.book_model.specs.declared.command.Command.TheVariants as command;
@@ -10,11 +10,13 @@ ghost use Rattle.book_engine.specs.Engine.{NoAnswer, StandsFor};
 ghost use Rattle.sheet_cli.specs.internal.Answers.{DoesFor, Executes, IsChange, IsLineOfStop, Keeps};
 
 use crate::line::{line, number_line, number_room, stop_line};
+use crate::links::links_text;
 use book_engine::{Engine, Stop};
 use book_model::{BookSheet, Command};
 use calc_eval::Customs;
 use cell_addr::{Block, NO_SHEET, Place, Spot, Text};
 use cell_value::Scalar;
+use formula_tree::Link;
 use std::alloc::{AllocError, Global};
 use std::sync::ledger::Ledger;
 use steps::Steps;
@@ -65,6 +67,8 @@ impl<C: Customs> Session<C> {
             Command::Value(at) => self.value(at, steps),
             Command::Formula(at) => self.formula(at),
             Command::Content(at) => self.content(at),
+            Command::Precedents(at) => self.precedents(at),
+            Command::Dependents(at) => self.dependents(at),
             Command::NameValue(name, sheet) => self.name_value(name, sheet, steps),
             Command::Try(sheet, text) => self.try_formula(sheet, text, steps),
             _ => self.change(command),
@@ -166,6 +170,40 @@ impl<C: Customs> Session<C> {
             Err(stop) => stopped(self.alloc, stop),
         }
     }
+
+    // Answers what a cell's formula needs.
+    fn precedents(&mut self, at: &Spot) -> Result<Answer, AllocError>
+        ensures ok { IfOk result (λ answer. Executes C.customs (command.Precedents at.now) self.old.engine self.new.engine answer.line.items answer.refused) }
+        ensures err { OnErr result (Keeps C.customs self.old.engine self.new.engine) }
+    {
+        let place = place(&self.engine, at);
+        match self.engine.precedents(place) {
+            Ok(links) => self.shows_links(&links),
+            Err(stop) => stopped(self.alloc, stop),
+        }
+    }
+
+    // Answers which formulas need a cell.
+    fn dependents(&mut self, at: &Spot) -> Result<Answer, AllocError>
+        ensures ok { IfOk result (λ answer. Executes C.customs (command.Dependents at.now) self.old.engine self.new.engine answer.line.items answer.refused) }
+        ensures err { OnErr result (Keeps C.customs self.old.engine self.new.engine) }
+    {
+        let place = place(&self.engine, at);
+        match self.engine.dependents(place) {
+            Ok(links) => self.shows_links(&links),
+            Err(stop) => stopped(self.alloc, stop),
+        }
+    }
+
+    // The answer of links.
+    fn shows_links(&self, links: &[Link]) -> Result<Answer, AllocError>
+        requires { All IsLinkInside links.now }
+        ensures line { (d : State) → StandsFor C.customs self.now.engine d → IfOk result (λ answer. answer.line.items ≡ line_of (links_text d.book links.now)) }
+        ensures refused { IfOk result (λ answer. answer.refused ≡ false) }
+    {
+        let text = links_text(self.alloc, &self.engine, links)?;
+        shows(self.alloc, text.as_str())
+    }
 }
 
 // The answer to a command that is accepted.
@@ -239,6 +277,10 @@ fn ask<C: Customs>(engine: &mut Engine<C>, command: &Command) -> Result<(), Stop
         Command::RemoveName(name, scope) => {
             engine.remove_name(name.as_str(), scope_of(engine, scope))
         }
+        Command::Copy(area) => engine.copy(block(engine, area)),
+        Command::Cut(area) => engine.cut(block(engine, area)),
+        Command::Paste(at) => engine.paste(place(engine, at)),
+        Command::MoveBlock(area, at) => engine.move_block(block(engine, area), place(engine, at)),
         Command::Begin => engine.begin(),
         Command::Commit => engine.commit(),
         Command::Suspend => {
