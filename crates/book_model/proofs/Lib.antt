@@ -9,3 +9,4 @@ pub mod Accepted
 pub mod PastedCells
 pub mod SoundSteps
 pub mod GivenSheets
+pub mod LinksInside

@@ -7,6 +7,8 @@ use Rattle.cell_addr.specs.Sheets.{AreSheets}
 use Rattle.cell_values.specs.Workbook.{Content, formula}
 use Rattle.formula_tree.specs.Proper.{IsProper}
 use Rattle.formula_tree.specs.Term.{Term}
+use Rattle.formula_tree.specs.declared.link.Link.{Link}
+use Rattle.formula_tree.specs.declared.link.Link.TheVariants as links
 use Rattle.formula_tree.specs.declared.reference.Corner.{Corner}
 use Rattle.tree_rewrite.specs.Sheets.{HasSheet}
 use Rattle.book_values.specs.Names.{Key}
@@ -67,3 +69,9 @@ pub record IsSound (d : State) : Type 0 where
   -- no more steps are kept than can be undone
   pub steps : length d.undo + length d.redo ≤ d.limit
   pub limit : d.limit ≤ MAX_UNDO
+
+-- a cell or a block within the limits of a sheet, or a name
+abbrev pub IsLinkInside : Link → Type 0
+IsLinkInside (links.Cell p) = IsInside p
+IsLinkInside (links.Area b) = IsBlockInside b
+IsLinkInside (links.Name scope word) = ⊤
