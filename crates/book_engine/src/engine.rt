@@ -1,11 +1,12 @@
 // The engine, and its calls.
-ghost use Rattle.std.specs.Prelude.{◌≡◌, ◌≤◌, IfOk, length, option_map};
+ghost use Rattle.std.specs.Prelude.{◌≡◌, ◌≤◌, All, IfOk, length, option_map};
 ghost use Rattle.cell_addr.specs.Sheets.{id_in, name_in};
 ghost use Rattle.shift_core.specs.declared.shift.Shift.TheVariants as shifts;
 ghost use Rattle.book_model.specs.Answers.{content_text, dependents_of, formula_of, name_value_of, precedents_of, tried_value, value_of};
 ghost use Rattle.book_model.specs.Given.{CanBegin, given_sheets, session_given};
 ghost use Rattle.book_model.specs.Operation as op;
 ghost use Rattle.book_model.specs.Replies.{first_sheet};
+ghost use Rattle.book_model.specs.Sound.{IsLinkInside};
 ghost use Rattle.book_model.specs.Workbook.{State};
 ghost use Rattle.book_model.specs.declared.limits.TheConstants.{MAX_UNDO};
 ghost use Rattle.book_engine.specs.Seen.{Fits};
@@ -447,7 +448,8 @@ impl<C: Customs> Engine<C> {
     /// # Errors
     /// `NoSheet`, `Outside`.
     pub fn precedents(&mut self, at: Place) -> Result<Vec<Link>, Stop>
-        ensures { Does C.customs (op.precedents at) (λ d links. links.items ≡ precedents_of d at) self.old self.new result }
+        ensures does { Does C.customs (op.precedents at) (λ d links. links.items ≡ precedents_of d at) self.old self.new result }
+        ensures inside { IfOk result (λ links. All IsLinkInside links.items) }
     {
         self.parts.precedents(at)
     }
@@ -459,7 +461,8 @@ impl<C: Customs> Engine<C> {
     /// # Errors
     /// `NoSheet`, `Outside`.
     pub fn dependents(&mut self, at: Place) -> Result<Vec<Link>, Stop>
-        ensures { Does C.customs (op.dependents at) (λ d links. links.items ≡ dependents_of d at) self.old self.new result }
+        ensures does { Does C.customs (op.dependents at) (λ d links. links.items ≡ dependents_of d at) self.old self.new result }
+        ensures inside { IfOk result (λ links. All IsLinkInside links.items) }
     {
         self.parts.dependents(at)
     }

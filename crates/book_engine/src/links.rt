@@ -2,7 +2,7 @@
 ghost use Rattle.std.specs.Prelude.{◌≡◌, ◌++◌, ◌||◌, IfOk, OnOk, map, option_copied, option_map};
 ghost use Rattle.std.specs.BTreeSet.{IsOrdered, contains};
 ghost use Rattle.std.specs.FinMap as fin;
-ghost use Rattle.std.specs.List.{cons_option, filter_map, list_any};
+ghost use Rattle.std.specs.List.{All, cons_option, filter_map, list_any};
 ghost use Rattle.std.specs.Ordering.{eq_by_cmp};
 ghost use Rattle.cell_addr.specs.Order.{place_cmp};
 ghost use Rattle.formula_tree.specs.declared.link.Link.TheVariants as links;
@@ -12,6 +12,7 @@ ghost use Rattle.book_values.specs.Names.{found, key_of};
 ghost use Rattle.book_values.specs.Workbook as nodes;
 ghost use Rattle.book_model.specs.Answers.{dependents_of, link_of, name_link, precedents_of};
 ghost use Rattle.book_model.specs.Operation as op;
+ghost use Rattle.book_model.specs.Sound.{IsLinkInside};
 ghost use Rattle.book_engine.specs.Expressions.{slot_of, slots_of};
 ghost use Rattle.book_engine.specs.Formulas.{numbered, stood};
 ghost use Rattle.book_engine.specs.Seen.{Fits, state_of};
@@ -36,7 +37,8 @@ impl Parts {
     // What a cell's formula needs, in the order of the formula.
     pub(crate) fn precedents(&self, at: Place) -> Result<Vec<Link>, Stop>
         requires { Fits self.now }
-        ensures { Turns (op.precedents at) (λ d links. links.items ≡ precedents_of d at) (state_of self.now) (state_of self.now) result }
+        ensures turns { Turns (op.precedents at) (λ d links. links.items ≡ precedents_of d at) (state_of self.now) (state_of self.now) result }
+        ensures inside { IfOk result (λ links. All IsLinkInside links.items) }
     {
         self.check_place(at)?;
         let links = self.links_from(at)?;
@@ -46,7 +48,8 @@ impl Parts {
     // The cells and then the names whose formulas need a cell themselves, each in order.
     pub(crate) fn dependents(&self, at: Place) -> Result<Vec<Link>, Stop>
         requires { Fits self.now }
-        ensures { Turns (op.dependents at) (λ d links. links.items ≡ dependents_of d at) (state_of self.now) (state_of self.now) result }
+        ensures turns { Turns (op.dependents at) (λ d links. links.items ≡ dependents_of d at) (state_of self.now) (state_of self.now) result }
+        ensures inside { IfOk result (λ links. All IsLinkInside links.items) }
     {
         self.check_place(at)?;
         let links = self.links_to(at)?;

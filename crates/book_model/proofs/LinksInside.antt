@@ -1,13 +1,13 @@
 -- What formulas of a sound session mention, and the cells whose formulas mention a place, stand within the limits of a
 -- sheet. Serves the law on links.
-use Rattle.std.proofs.Common.{◌≡◌, sym, ap, subst, refl, ℕ, Bool, true, false, ◌&&◌, if◌then◌else◌, List, [], ◌∷◌, ◌++◌, Option, Some, None, IsSome, option_map}
+use Rattle.std.proofs.Common.{◌≡◌, sym, subst, refl, ℕ, Bool, true, false, ◌&&◌, if◌then◌else◌, List, [], ◌∷◌, ◌++◌, Option, Some, None, IsSome, option_map}
 use Rattle.std.specs.List.{All, cons_option, filter_map, list_any}
 use Rattle.std.specs.FinMap as map
 use Rattle.std.specs.FinMap.{get-entries}
 use Rattle.std.proofs.lemmas.List.Elements.{All-nil, All-cons, All-head, All-tail, All-append, All-weaker, All-from_recursion}
 use Rattle.cell_addr.specs.Place.{IsBlockInside, IsInside}
 use Rattle.cell_addr.specs.declared.place.Place.{Place}
-use Rattle.cell_values.specs.Workbook.{Content, number, text, truth, formula, broken}
+use Rattle.cell_values.specs.Workbook.{Content, number, text, truth, formula, unreadable}
 use Rattle.formula_tree.specs.Links.{is_place_word, once, once_after}
 use Rattle.formula_tree.specs.Mentions.{mentions_in, mentions_in_all, same_mention}
 use Rattle.formula_tree.specs.Proper.{AreProper, IsProper}
@@ -47,11 +47,11 @@ mutual
   tree_inside (terms.truth b) p = All-nil IsMentionInside
   tree_inside (terms.fault f) p = All-nil IsMentionInside
   tree_inside (terms.cell c) p = one (mention.Cell c.at) p
-  tree_inside (terms.area c d) p = one _ (proper-block c d p.0 p.1.0 p.1.1)
+  tree_inside (terms.area c d) p = one _ (proper-block c d p.0 p.1 p.2)
   tree_inside (terms.name w) p = one (mention.Name w) tt
   tree_inside (terms.prefix s t) p = tree_inside t p.1
   tree_inside (terms.percent t) p = tree_inside t p.1
-  tree_inside (terms.binary o l r) p = All-append IsMentionInside (mentions_in l) (mentions_in r) (tree_inside l p.1.1.0) (tree_inside r p.1.1.1)
+  tree_inside (terms.binary o l r) p = All-append IsMentionInside (mentions_in l) (mentions_in r) (tree_inside l p.2) (tree_inside r p.3)
   tree_inside (terms.call w ts) p = trees_inside (is_place_word w) ts p.1
   tree_inside (terms.paren t) p = tree_inside t p
 
@@ -70,17 +70,16 @@ all-once P same done (x ∷ xs) d a = all-once P same (if list_any (same x) done
     of true = d
     of false = All-append P done (x ∷ []) d (All-cons P x [] (All-head P x xs a) (All-nil P))
 
+given-or : {Y : Type 0} (Q : Y → Type 0) (r : Option Y) (ys : List Y) → ((y : Y) → r ≡ Some y → Q y) → All Q ys → All Q (cons_option r ys)
+given-or Q None ys q a = a
+given-or Q (Some y) ys q a = All-cons Q y ys (q y refl) a
+
 -- what is given of items
 all-given : {X Y : Type 0} (Q : Y → Type 0) (h : X → Option Y) (xs : List X) → All (λ x. (y : Y) → h x ≡ Some y → Q y) xs → All Q (filter_map h xs)
 all-given Q h [] a = All-nil Q
-all-given {X} {Y} Q h (x ∷ xs) a = of (h x) (All-head (λ x. (y : Y) → h x ≡ Some y → Q y) x xs a)
-  where
-    rest : All Q (filter_map h xs)
-    rest = all-given Q h xs (All-tail (λ x. (y : Y) → h x ≡ Some y → Q y) x xs a)
-
-    of : (r : Option Y) → ((y : Y) → r ≡ Some y → Q y) → All Q (cons_option r (filter_map h xs))
-    of None q = rest
-    of (Some y) q = All-cons Q y (filter_map h xs) (q y refl) rest
+all-given {X} {Y} Q h (x ∷ xs) a =
+    given-or Q (h x) (filter_map h xs) (All-head (λ x. (y : Y) → h x ≡ Some y → Q y) x xs a)
+    (all-given Q h xs (All-tail (λ x. (y : Y) → h x ≡ Some y → Q y) x xs a))
 
 name-inside : (r : Option Key) (l : Link) → option_map name_link r ≡ Some l → IsLinkInside l
 name-inside None l e = cc
@@ -109,21 +108,21 @@ tree_links b names sheet None h = All-nil IsLinkInside
 tree_links b names sheet (Some (number m)) h = All-nil IsLinkInside
 tree_links b names sheet (Some (text w)) h = All-nil IsLinkInside
 tree_links b names sheet (Some (truth t)) h = All-nil IsLinkInside
-tree_links b names sheet (Some (broken w)) h = All-nil IsLinkInside
+tree_links b names sheet (Some (unreadable w)) h = All-nil IsLinkInside
 tree_links b names sheet (Some (formula t)) h =
     all-given IsLinkInside (link_of names sheet) (once same_mention (mentions_in t))
     (All-weaker IsMentionInside _ (λ m i. link-inside names sheet m i) (once same_mention (mentions_in t))
     (all-once IsMentionInside same_mention [] (mentions_in t) (All-nil IsMentionInside) (tree_inside t (h (formula t) refl).0)))
 
 pub precedents_inside : (d : State) (at : Place) → IsSound d → All IsLinkInside (precedents_of d at)
-precedents_inside d at s = tree_links d.book (map.entries d.book.names) at.sheet (map.get d.book.cells at) (λ c e. (s.book.cells at c e).1.1)
+precedents_inside d at s = tree_links d.book (map.entries d.book.names) at.sheet (map.get d.book.cells at) (λ c e. (s.book.cells at c e).2)
 
 -- a cell that needs a place
 cell-inside : (at : Place) (e : Place × Content) → IsInside e.0 → (l : Link) → cell_needing at e ≡ Some l → IsLinkInside l
 cell-inside at (p, number m) i l e = cc
 cell-inside at (p, text w) i l e = cc
 cell-inside at (p, truth t) i l e = cc
-cell-inside at (p, broken w) i l e = cc
+cell-inside at (p, unreadable w) i l e = cc
 cell-inside at (p, formula t) i l e = of (mentions t at) e
   where
     inside_if : Option Link → Type 0
