@@ -239,6 +239,10 @@ fn ask<C: Customs>(engine: &mut Engine<C>, command: &Command) -> Result<(), Stop
         Command::RemoveName(name, scope) => {
             engine.remove_name(name.as_str(), scope_of(engine, scope))
         }
+        Command::Copy(area) => engine.copy(block(engine, area)),
+        Command::Cut(area) => engine.cut(block(engine, area)),
+        Command::Paste(at) => engine.paste(place(engine, at)),
+        Command::MoveBlock(area, at) => engine.move_block(block(engine, area), place(engine, at)),
         Command::Begin => engine.begin(),
         Command::Commit => engine.commit(),
         Command::Suspend => {
