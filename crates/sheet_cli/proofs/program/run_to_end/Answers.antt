@@ -1,7 +1,7 @@
 -- What words mean decides what a run is told to print.
 use Rattle.std.proofs.Common.{◌∙◌, sym, ap, Some, None, Option, map}
 use Rattle.std.specs.Prelude.{ℤ, string_bytes, ◌⊎◌}
-use mir.Val.{to_z-of_z}
+use Rattle.std.proofs.lemmas.Int.{to_z-of_z}
 use Rattle.book_files.specs.Outside.{Rose}
 use Rattle.command_words.specs.Words.{Said, meaning, seen}
 use Rattle.run_inputs.specs.Opening.{told_by}

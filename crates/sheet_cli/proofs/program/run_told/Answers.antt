@@ -1,13 +1,14 @@
 -- The books, the script and its records make the whole run, or one of them ends it.
-use Rattle.std.proofs.Common.{◌≡◌, ap, inl, inr, ℕ, Err, None}
+use Rattle.std.proofs.Common.{◌≡◌, ap, subst, inl, inr, ℕ, List, Err, None, Some}
 use Rattle.std.specs.declared.alloc.Global.{Global}
 use Rattle.std.specs.declared.vec.Vec.{Vec}
-use mir.Val.{to_z-of_z}
-use Rattle.book_files.specs.Outside.{Rose}
+use Rattle.std.proofs.lemmas.Int.{to_z-of_z}
+use Rattle.book_files.specs.Folder.{Files}
 use Rattle.book_model.specs.Given.{given_sheets}
 use Rattle.book_model.specs.declared.given.BookSheet.{BookSheet}
 use Rattle.command_words.specs.Words.{seen}
-use Rattle.run_inputs.specs.Opening.{told_by}
+use Rattle.run_inputs.specs.Ends.{ComesTo}
+use Rattle.run_inputs.specs.Opening.{sheets_told, told_by}
 use Rattle.sheet_cli.specs.Run.{outcome_said, script_outcome}
 use Rattle.sheet_cli.proofs.Endings.{books_say, end_runs, printed_runs, rose_later, script_is, script_says, told_parts}
 use Rattle.sheet_cli.proofs.SourceRead.{reads_is, script_end_leave, script_leave, script_read, script_unread}
@@ -19,7 +20,7 @@ returns-in-Err-clause-runs g c =
     let said = seen c.args.said.now in
     let files = g.F.Folder.files c.args.folder.now in
     let source = g.I.Source.left c.args.input.now in
-    let opens = rw c.deref.ensures.value at c.in-Err.ensures.opens in
+    let opens = subst (λ (names : List (List ℕ)). (told : Files) → files ≡ Some told → ComesTo (λ (sheets : Vec BookSheet Global). given_sheets sheets.items) (sheets_told told names) (Err c.in-Err.ending)) c.deref.ensures.value c.in-Err.ensures.opens in
     end_runs (told_by files source) (outcome_said customs c.args.day None said) _ c.in-Err.ending _ _ _
     (books_say customs c.args.day said (λ (sheets : Vec BookSheet Global). given_sheets sheets.items) files source c.in-Err.ending opens)
     (λ fault. inl (c.in-Err.ensures.fault (ap Err fault))) c.end-in-Err.ensures.printed
