@@ -101,4 +101,3 @@ pub end_status : (X : Type 0) (e : Ending) (old new : Option (List ℕ)) (status
 end_status X (ending.Says text s) old new status ends printed = rw printed.1 ends
 end_status X ending.ReadFault old new status ends printed = absurd printed
 end_status X ending.NoMemory old new status ends printed = absurd printed
-

@@ -35,7 +35,7 @@ returns-then-is_last-clause-printed g c = λ d stands.
     let command = c.command-item.result in
     let next : drop i commands ≡ command ∷ drop (i + 1) commands = rw add-one (drop-cons commands i command c.commands-test.true ∙ ap (λ (x : Command). x ∷ drop (suc i) commands) (sym c.command-item.is)) in
     let last = tallied-ends g.C.Customs.customs c.args.strict c.commands.session.engine c.execute.new.self.engine c.commands.tally command c.in_ok-answer.answer.line.items c.in_ok-answer.answer.refused (drop i commands) (drop (i + 1) commands) (answers_from d commands)
-        next c.in_ok-answer.ensures.ok (sym c.is_last.ensures ∙ c.if-is_last.true) (c.commands.invariant.leads d stands) in
+    next c.in_ok-answer.ensures.ok (sym c.is_last.ensures ∙ c.if-is_last.true) (c.commands.invariant.leads d stands) in
     rw (last, sym c.deref.ensures.value, sym c.commands.invariant.taken) c.print_last.ensures.printed
 
 pub returns-clause-printed : goal.returns-clause-printed
