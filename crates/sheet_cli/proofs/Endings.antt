@@ -1,9 +1,9 @@
 -- How the parts of a run make the whole of it. Serves the call of the program.
-use Rattle.std.proofs.Common.{◌≡◌, ap, refl, ℕ, ℤ, inl, inr, List, [], ◌∷◌, ◌++◌, Option, Some, None, Result, Ok, Err}
+use Rattle.std.proofs.Common.{◌≡◌, ◌≤◌, ap, arith, refl, ℕ, ℤ, inl, inr, List, [], ◌∷◌, ◌++◌, Option, Some, None, Result, Ok, Err}
 use Rattle.std.specs.Prelude.{⊤, ◌⊎◌, string_bytes}
 use Rattle.custom_fn.specs.declared.rule.Rule.{Rule}
 use Rattle.book_files.specs.Folder.{Files}
-use Rattle.book_files.specs.Outside.{AppendsPart}
+use Rattle.book_files.specs.Outside.{AppendsPart, Rose}
 use Rattle.book_model.specs.Given.{GivenSheet}
 use Rattle.command_words.specs.Words.{Said}
 use Rattle.run_inputs.specs.Ends.{ComesTo, EndsOpening}
@@ -18,16 +18,16 @@ use Rattle.sheet_cli.specs.internal.Ends.{EndPrinted, EndsScript, Printed, Print
 use Rattle.sheet_cli.proofs.Outcomes.{part-longer}
 
 -- a line that a run was stopped in is a part of what it ends with
-pub printed_line : {X : Type 0} (line : List ℕ) (status : ℕ) (old new : Option (List ℕ)) (s : Stop) → PrintedLine line old new {X = X} (Err s) → Printed (line, status) old new (Err s)
-printed_line line status old new stop.ReadFault printed = absurd printed
-printed_line line status old new stop.WriteFault printed = printed
-printed_line line status old new stop.NoMemory printed = printed
+pub printed_line : (X : Type 0) (line : List ℕ) (status : ℕ) (old new : Option (List ℕ)) (s : Stop) → PrintedLine line old new {X = X} (Err s) → Printed (line, status) old new (Err s)
+printed_line X line status old new stop.ReadFault printed = absurd printed
+printed_line X line status old new stop.WriteFault printed = printed
+printed_line X line status old new stop.NoMemory printed = printed
 
 -- and so is the line of a fault in reading
-pub printed_fault : {X : Type 0} (old new : Option (List ℕ)) (s : Stop) → PrintedLine fault_line old new {X = X} (Err s) → EndPrinted ending.ReadFault old new (Err s)
-printed_fault old new stop.ReadFault printed = absurd printed
-printed_fault old new stop.WriteFault printed = printed
-printed_fault old new stop.NoMemory printed = printed
+pub printed_fault : (X : Type 0) (old new : Option (List ℕ)) (s : Stop) → PrintedLine fault_line old new {X = X} (Err s) → EndPrinted ending.ReadFault old new (Err s)
+printed_fault X old new stop.ReadFault printed = absurd printed
+printed_fault X old new stop.WriteFault printed = printed
+printed_fault X old new stop.NoMemory printed = printed
 
 -- an end that says what is wrong is this outcome
 abbrev pub SaysEnd : Ending → Outcome → Type 0
@@ -41,6 +41,17 @@ printed_runs told f Faulty o old new (Ok status) same printed = λ t is. rw (sam
 printed_runs told f Faulty o old new (Err stop.ReadFault) same printed = absurd printed
 printed_runs told f Faulty o old new (Err stop.WriteFault) same printed = λ t is. inl (rw (same t is) printed)
 printed_runs told f Faulty o old new (Err stop.NoMemory) same printed = λ t is. inl (rw (same t is) printed)
+
+-- where what a run is told to print is the same
+pub runs_alike : (told : Option Told) (f h : Told → Outcome) (Faulty : Type 0) (old new : Option (List ℕ)) (r : Result ℕ Stop) → ((t : Told) → f t ≡ h t) → Runs told h Faulty old new r → Runs told f Faulty old new r
+runs_alike told f h Faulty old new (Ok status) same runs = λ t is. rw (same t) (runs t is)
+runs_alike told f h Faulty old new (Err stop.ReadFault) same runs = runs
+runs_alike told f h Faulty old new (Err stop.WriteFault) same runs = λ t is. elim (runs t is) [ inl part ↦ inl (rw (same t) part) | inr fault ↦ inr fault ]
+runs_alike told f h Faulty old new (Err stop.NoMemory) same runs = λ t is. elim (runs t is) [ inl part ↦ inl (rw (same t) part) | inr fault ↦ inr fault ]
+
+-- a count that rose after another moment rose
+pub rose_later : (a b c : ℕ) → a ≤ b → Rose b c → Rose a c
+rose_later a b c later rose = omega arith
 
 -- how a run ends before its first reply is what it is told to print, or the line of a fault in reading
 pub end_runs : (told : Option Told) (f : Told → Outcome) (Faulty : Type 0) (e : Ending) (old new : Option (List ℕ)) (r : Result ℕ Stop) → ((t : Told) → told ≡ Some t → SaysEnd e (f t)) → (e ≡ ending.ReadFault → Faulty) → EndPrinted e old new r → Runs told f Faulty old new r
@@ -86,8 +97,7 @@ pub script_is : (customs : List (List ℕ × Rule)) (day : ℤ) (said : Said) (s
 script_is customs day said sheets bytes t books script = rw (books, script) refl
 
 -- the status of a run that ends before its first reply
-pub end_status : {X : Type 0} (e : Ending) (old new : Option (List ℕ)) (status : ℕ) → EndsOpening {X = X} (Err e) → EndPrinted e old new (Ok status) → (status ≡ 4) ⊎ (status ≡ 8)
-end_status (ending.Says text s) old new status ends printed = rw printed.1 ends
-end_status ending.ReadFault old new status ends printed = absurd printed
-end_status ending.NoMemory old new status ends printed = absurd printed
-
+pub end_status : (X : Type 0) (e : Ending) (old new : Option (List ℕ)) (status : ℕ) → EndsOpening {X = X} (Err e) → EndPrinted e old new (Ok status) → (status ≡ 4) ⊎ (status ≡ 8)
+end_status X (ending.Says text s) old new status ends printed = rw printed.1 ends
+end_status X ending.ReadFault old new status ends printed = absurd printed
+end_status X ending.NoMemory old new status ends printed = absurd printed

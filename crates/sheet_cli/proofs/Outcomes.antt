@@ -187,10 +187,10 @@ wrote_part (Some xs) None bytes r write.NoMemory is part none = absurd (none is)
 wrote_part (Some xs) (Some ys) bytes r write.NoMemory is part none = (0, none is ∙ sym (append-nil xs))
 
 -- what was written of a line before a run was stopped
-pub line_part : {X : Type 0} (line : List ℕ) (old new : Option (List ℕ)) (s : Stop) → PrintedLine line old new {X = X} (Err s) → AppendsPart old new line
-line_part line old new stop.ReadFault printed = absurd printed
-line_part line old new stop.WriteFault printed = printed
-line_part line old new stop.NoMemory printed = printed
+pub line_part : (X : Type 0) (line : List ℕ) (old new : Option (List ℕ)) (s : Stop) → PrintedLine line old new {X = X} (Err s) → AppendsPart old new line
+line_part X line old new stop.ReadFault printed = absurd printed
+line_part X line old new stop.WriteFault printed = printed
+line_part X line old new stop.NoMemory printed = printed
 
 -- want of memory stopped a run, of which a part was printed
 pub no_memory : (o : Outcome) (old new : Option (List ℕ)) (r : Result ℕ Stop) → IsErrAnd r (λ e. e ≡ stop.NoMemory) → AppendsPart old new o.0 → Printed o old new r

@@ -42,9 +42,9 @@ unread said status None never = tt
 unread said status (Some bytes) never = (λ reads ends. absurd (never reads ends), λ reads. refl, λ is. refl, λ is. inl refl)
 
 -- the run's end came before its script
-pub books_unread : {X : Type 0} (said : Said) (e : Ending) (old new source : Option (List ℕ)) (r : Result ℕ Stop) → EndsOpening {X = X} (Err e) → EndPrinted e old new r → Reads (Some said) source source r
-books_unread {X} said e old new source (Ok status) ends printed = unread said status source (λ reads is. apart status (end_status {X = X} e old new status ends printed) is)
-books_unread said e old new source (Err s) ends printed = λ reads. refl
+pub books_unread : (X : Type 0) (said : Said) (e : Ending) (old new source : Option (List ℕ)) (r : Result ℕ Stop) → EndsOpening {X = X} (Err e) → EndPrinted e old new r → Reads (Some said) source source r
+books_unread X said e old new source (Ok status) ends printed = unread said status source (λ reads is. apart status (end_status X e old new status ends printed) is)
+books_unread X said e old new source (Err s) ends printed = λ reads. refl
 
 -- a generated list was executed
 pub generated_unread : (said : Said) (source : Option (List ℕ)) (r : Result ℕ Stop) → reads_source (Some said) ≡ false → Reads (Some said) source source r
@@ -73,17 +73,17 @@ all_read bytes None consumed end = absurd consumed.1
 all_read bytes (Some left) consumed end = ap (λ (zs : List ℕ). Some zs) end
 
 -- the run's end came at its script
-pub script_unread : {X : Type 0} (said : Said) (script : Option (List ℕ)) (e : Ending) (old new before after : Option (List ℕ)) (r : Result ℕ Stop) → reads_source (Some said) ≡ is_none script → TakesScript {X = X} script (Err e) before after → EndsOpening {X = X} (Err e) → EndPrinted e old new r
+pub script_unread : (X : Type 0) (said : Said) (script : Option (List ℕ)) (e : Ending) (old new before after : Option (List ℕ)) (r : Result ℕ Stop) → reads_source (Some said) ≡ is_none script → TakesScript {X = X} script (Err e) before after → EndsOpening {X = X} (Err e) → EndPrinted e old new r
     → Reads (Some said) before after r
-script_unread {X} said (Some file) e old new before after (Ok status) reads took ends printed = rw took (unread said status before (λ r is. apart status (end_status {X = X} e old new status ends printed) is))
-script_unread said (Some file) e old new before after (Err s) reads took ends printed = λ never. took
-script_unread said None (ending.Says text s) old new None after (Ok status) reads took ends printed = tt
-script_unread said None (ending.Says text s) old new (Some bytes) after (Ok status) reads took ends printed =
+script_unread X said (Some file) e old new before after (Ok status) reads took ends printed = rw took (unread said status before (λ r is. apart status (end_status X e old new status ends printed) is))
+script_unread X said (Some file) e old new before after (Err s) reads took ends printed = λ never. took
+script_unread X said None (ending.Says text s) old new None after (Ok status) reads took ends printed = tt
+script_unread X said None (ending.Says text s) old new (Some bytes) after (Ok status) reads took ends printed =
     let eight : status ≡ 8 = printed.1 ∙ took.1 in
     (λ r is. absurd (apart status (inr eight) is), λ never. cc, λ is. absurd (omega arith), λ is. inr (lost bytes after took.0))
-script_unread said None ending.ReadFault old new before after (Ok status) reads took ends printed = absurd printed
-script_unread said None ending.NoMemory old new before after (Ok status) reads took ends printed = absurd printed
-script_unread said None e old new before after (Err s) reads took ends printed = λ never. cc
+script_unread X said None ending.ReadFault old new before after (Ok status) reads took ends printed = absurd printed
+script_unread X said None ending.NoMemory old new before after (Ok status) reads took ends printed = absurd printed
+script_unread X said None e old new before after (Err s) reads took ends printed = λ never. cc
 
 -- the script was read
 pub script_read : {X : Type 0} (said : Said) (script : Option (List ℕ)) (x : X) (before after : Option (List ℕ)) (r : Result ℕ Stop) → reads_source (Some said) ≡ is_none script → TakesScript script (Ok x) before after → EndsScript r → Reads (Some said) before after r
@@ -111,17 +111,17 @@ left_is : (said : Said) (sheets : List GivenSheet) (script : Option (List ℕ)) 
 left_is said sheets script t after reads books is = rw (reads, books, and-true (is_none script)) is
 
 -- and where the script came to the run's end
-pub script_end_leave : {X : Type 0} (said : Said) (sheets : List GivenSheet) (e : Ending) (files : Option Files) (old new before after : Option (List ℕ)) (r : Result ℕ Stop) → (script : Option (List ℕ)) → reads_source (Some said) ≡ is_none script
+pub script_end_leave : (X : Type 0) (said : Said) (sheets : List GivenSheet) (e : Ending) (files : Option Files) (old new before after : Option (List ℕ)) (r : Result ℕ Stop) → (script : Option (List ℕ)) → reads_source (Some said) ≡ is_none script
     → ((told : Files) → files ≡ Some told → sheets_told told said.books ≡ Ok sheets) → TakesScript {X = X} script (Err e) before after → EndPrinted e old new r → OnOk r (Leaves (told_by files before) (source_left (Some said)) after)
-script_end_leave said sheets e files old new before after (Ok status) (Some file) reads books took printed = λ t is.
+script_end_leave X said sheets e files old new before after (Ok status) (Some file) reads books took printed = λ t is.
     let parts = told_parts files before t is in
     left_is said sheets (Some file) t after reads (books t.files parts.0) (took ∙ parts.1)
-script_end_leave said sheets (ending.Says text s) files old new before after (Ok status) None reads books took printed = λ t is.
+script_end_leave X said sheets (ending.Says text s) files old new before after (Ok status) None reads books took printed = λ t is.
     let parts = told_parts files before t is in
     left_is said sheets None t after reads (books t.files parts.0) (lost t.source after (subst (λ b. Loses b after 67108865) parts.1 took.0))
-script_end_leave said sheets ending.ReadFault files old new before after (Ok status) None reads books took printed = absurd printed
-script_end_leave said sheets ending.NoMemory files old new before after (Ok status) None reads books took printed = absurd printed
-script_end_leave said sheets e files old new before after (Err s) script reads books took printed = tt
+script_end_leave X said sheets ending.ReadFault files old new before after (Ok status) None reads books took printed = absurd printed
+script_end_leave X said sheets ending.NoMemory files old new before after (Ok status) None reads books took printed = absurd printed
+script_end_leave X said sheets e files old new before after (Err s) script reads books took printed = tt
 
 not_long : (b : Bool) (source bytes : List ℕ) (end : Outcome) → cond b (Err end) (Ok source) ≡ Ok bytes → b ≡ false
 not_long true source bytes end is = cc
@@ -144,3 +144,13 @@ script_leave said sheets seen x files before after (Ok status) None reads books 
     let end = all_read t.source after (subst (λ b. (bs : List ℕ) × Consumes b after bs) parts.1 took.0) took.1 in
     left_is said sheets None t after reads (books t.files parts.0) (end ∙ ap (λ (zs : List ℕ). Some zs) (sym none))
 script_leave said sheets seen x files before after (Err s) script reads books told took = tt
+
+stops_apart : (n : ℕ) → (n ≡ 5) ⊎ (n ≡ 6) ⊎ (n ≡ 7) → ((n ≡ 0) ⊎ (n ≡ 1) ⊎ (n ≡ 3) → ⊥) × (n ≡ 4 → ⊥) × (n ≡ 8 → ⊥)
+stops_apart n stops = (λ is. grind arith, λ is. grind arith, λ is. grind arith)
+
+-- a run was stopped
+pub stopped_read : (said : Option Said) (n : ℕ) (s : Stop) (old new : Option (List ℕ)) → (n ≡ 5) ⊎ (n ≡ 6) ⊎ (n ≡ 7) → Reads said old new (Err s) → WasRead said n old new
+stopped_read said n s None new stops reads = tt
+stopped_read said n s (Some bytes) new stops reads =
+    let other = stops_apart n stops in
+    (λ r is. absurd (other.0 is), reads, λ is. absurd (other.1 is), λ is. absurd (other.2 is))

@@ -41,7 +41,14 @@ fn outcome<L: Ledger>(
     let mut out = MemSink::new(alloc, Vec::from_slice(alloc, given.failing_writes)?)?;
     let registry = Registry::new(alloc)?;
     let status = run(
-        alloc, &said, &mut folder, &mut input, &mut out, 0, registry, &mut steps,
+        alloc,
+        &said,
+        &mut folder,
+        &mut input,
+        &mut out,
+        0,
+        registry,
+        &mut steps,
     );
     Ok((status, out))
 }
@@ -75,9 +82,33 @@ fn answers_a_script_over_a_book(rt: HostRuntime) -> Result<(), AllocError> {
 #[test]
 fn follows_its_words(rt: HostRuntime) -> Result<(), AllocError> {
     let alloc = rt.alloc();
-    assert!(rt; prints(alloc, &["--strict"], b"undo\nvalue,A1", 1, b"refused 11 NothingToUndo\n")?);
-    assert!(rt; prints(alloc, &["--undo-limit=0"], b"set,A1,1\nundo", 0, b"ok\nrefused 11 NothingToUndo\n")?);
-    assert!(rt; prints(alloc, &["--generate", "2"], b"", 0, b"commands 6\nrefused 0\nbytes 30\n")?);
+    assert!(rt;
+        prints(
+            alloc,
+            &["--strict"],
+            b"undo\nvalue,A1",
+            1,
+            b"refused 11 NothingToUndo\n"
+        )?
+    );
+    assert!(rt;
+        prints(
+            alloc,
+            &["--undo-limit=0"],
+            b"set,A1,1\nundo",
+            0,
+            b"ok\nrefused 11 NothingToUndo\n"
+        )?
+    );
+    assert!(rt;
+        prints(
+            alloc,
+            &["--generate", "2"],
+            b"",
+            0,
+            b"commands 6\nrefused 0\nbytes 30\n"
+        )?
+    );
     assert!(rt; prints(alloc, &["x.csv"], b"", 4, b"book x.csv: missing\n")?);
     assert!(rt; prints(alloc, &[], b"set,A1", 3, b"record 1: field count\n")?);
     Ok(())

@@ -14,5 +14,5 @@ returns-in_err-write-clause-part g c =
     let old = g.O.Sink.taken c.args.out.now in
     let new = g.O.Sink.taken c.write.new.out in
     let part : PartOfCommand g.C.Customs.customs c.args.command.now c.args.session.now.engine old new =
-        λ d stands. subst (λ l. AppendsPart old new l) (c.deref.ensures.value ∙ (c.in_ok-answer.ensures.ok d stands).0) (line_part c.deref.result.now old new c.in_err-write.field-0.0 c.in_err-write.ensures.printed) in
+    λ d stands. subst (λ l. AppendsPart old new l) (c.deref.ensures.value ∙ (c.in_ok-answer.ensures.ok d stands).0) (line_part (Unit {0}) c.deref.result.now old new c.in_err-write.field-0.0 c.in_err-write.ensures.printed) in
     on_err _ _ part
