@@ -4,3 +4,4 @@ pub mod LineBytes
 pub mod Outcomes
 pub mod SourceRead
 pub mod Tallies
+pub mod LinkTexts

@@ -4,7 +4,9 @@ ghost use Rattle.cell_addr.specs.Address.{place_letters};
 ghost use Rattle.cell_addr.specs.declared.place.TheConstants.{COLS};
 ghost use Rattle.book_engine.specs.Engine.{StandsFor};
 ghost use Rattle.book_model.specs.Replies.{link_text, links_text, sheet_mark};
+ghost use Rattle.book_model.specs.Sound.{IsLinkInside};
 ghost use Rattle.book_model.specs.Workbook.{State};
+ghost use Rattle.sheet_cli.specs.internal.Links.{gap_before};
 
 use book_engine::Engine;
 use calc_eval::Customs;
@@ -24,12 +26,20 @@ pub fn links_text<C: Customs>(
 {
     let mut text = String::new(alloc);
     'links: for (place, link) in links.iter().enumerate() {
-        if place > 0 {
-            text.push_str(" ")?;
-        }
+        push_gap(&mut text, place)?;
         push_link(alloc, &mut text, engine, link)?;
     }
     Ok(text)
+}
+
+// Puts the blank in front of the link at this place of a list; there is none in front of the first.
+fn push_gap(text: &mut String, place: usize) -> Result<(), AllocError>
+    ensures { OnOk result (string_bytes text.new ≡ string_bytes text.old ++ gap_before place) }
+{
+    if place > 0 {
+        text.push_str(" ")?;
+    }
+    Ok(())
 }
 
 // Puts the text of a link at the end.

@@ -1,8 +1,9 @@
 // What the commands of a script ask of the engine, and the lines that answer them.
-ghost use Rattle.std.specs.Prelude.{◌≡◌, ◌≤◌, IfOk, OnErr, codes, false, true};
+ghost use Rattle.std.specs.Prelude.{◌≡◌, ◌≤◌, All, IfOk, OnErr, codes, false, true};
 ghost use Rattle.book_model.specs.Given.{CanBegin, given_sheets, session_given};
 ghost use Rattle.book_model.specs.declared.limits.TheConstants.{MAX_UNDO};
 ghost use Rattle.book_model.specs.Replies.{block_of, line_of, links_text, place_of, scope_named, sheet_named, sheet_of};
+ghost use Rattle.book_model.specs.Sound.{IsLinkInside};
 ghost use Rattle.book_model.specs.Workbook.{State};
 ghost use Rattle.cell_value.specs.Scalar.{shown_text};
 ghost use Rattle.book_model.specs.declared.command.Command.TheVariants as command;
