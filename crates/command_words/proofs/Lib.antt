@@ -1,3 +1,5 @@
+pub mod BookMeanings
+pub mod BookWords
 pub mod FoundRows
 pub mod Meanings
 pub mod ProperWords
