@@ -28,7 +28,7 @@ found-books [] = refl
 found-books (b ∷ bs) = refl
 
 -- the faults of a walk that ends here
-abbrev ended_fault : Kinds → Walk → Kinds
+abbrev pub ended_fault : Kinds → Walk → Kinds
 ended_fault first end =
     or_else first
     (or_else (entered_fault (built sheet_app) end.stopped)
@@ -36,10 +36,10 @@ ended_fault first end =
     (or_else (defaults_fault (settled rules end.held).rows rules)
     (check_fault shape (finished rules end.held) (is_some (entered (built sheet_app) end.stopped))))))
 
-end_of : (words : List (List ℕ)) → fault_of sheet_app words ≡ ended_fault (walk_fault shape [] (walk_from nothing_held) words) (fold (walked rules []) (walk_from nothing_held) words)
+pub end_of : (words : List (List ℕ)) → fault_of sheet_app words ≡ ended_fault (walk_fault shape [] (walk_from nothing_held) words) (fold (walked rules []) (walk_from nothing_held) words)
 end_of words = refl
 
-both_none : (a d : Kinds) → a ≡ [] → d ≡ [] → or_else a (or_else d []) ≡ []
+pub both_none : (a d : Kinds) → a ≡ [] → d ≡ [] → or_else a (or_else d []) ≡ []
 both_none a d e f = rw (e, f) refl
 
 no_fault : (words : List (List ℕ)) (rows : List Row) (pending : Option (List ℕ × List (List ℕ))) (waiting : Waiting) (behind : Bool) (books : List (List ℕ)) → Leads (walk_at [] None idle false) words (walk_at rows pending waiting behind) [] → HasBooks rows pending waiting books
@@ -58,7 +58,7 @@ found words rows pending waiting behind books leads has =
     ∙ ap (λ r. given_of (fold with_default r rules)) has.settles
     ∙ found-books books
 
-meant : (words : List (List ℕ)) (g : Given) → fault_of sheet_app words ≡ [] → given_of (matches_of sheet_app words) ≡ g → meaning words ≡ said_of g
+pub meant : (words : List (List ℕ)) (g : Given) → fault_of sheet_app words ≡ [] → given_of (matches_of sheet_app words) ≡ g → meaning words ≡ said_of g
 meant words g faultless same = ap (λ f. cond (length f == 0) (said_of (given_of (matches_of sheet_app words))) None) faultless ∙ ap said_of same
 
 said-books : (books : List (List ℕ)) (plain : Bool) → list_all (λ book. not (begins_with_dash book)) books ≡ plain → said_of (given_books books) ≡ cond plain (Some (books_said books)) None

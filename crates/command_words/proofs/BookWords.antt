@@ -75,14 +75,14 @@ fault-free (option id) word held free plain = absurd free
 fault-free positional [] held free plain = refl
 fault-free positional (c ∷ cs) held free plain = rw (plain, plain) refl
 
-walked-free : (rows : List Row) (pending : Option (List ℕ × List (List ℕ))) (waiting : Waiting) (word : List ℕ) → IsFree waiting → begins_with_dash word ≡ false
+pub walked-free : (rows : List Row) (pending : Option (List ℕ × List (List ℕ))) (waiting : Waiting) (word : List ℕ) → IsFree waiting → begins_with_dash word ≡ false
     → walked rules [] (walk_at rows pending waiting false) word ≡ walk_at (settled_rows rules pending rows) (Some (codes "book", word ∷ [])) positional false
 unfolding walked
 walked-free rows None waiting word free plain = rw (met-free waiting word (held_at rows None) free plain) refl
 walked-free rows (Some p) waiting word free plain =
     rw (met-free waiting word (held_at rows (Some p)) free plain) (ap (with_book word false) (second (bytes_eq p.0 (codes "book")) (held_at rows (Some p)) (settled rules (held_at rows (Some p)))))
 
-turn-free : (rows : List Row) (pending : Option (List ℕ × List (List ℕ))) (waiting : Waiting) (word : List ℕ) → IsFree waiting → begins_with_dash word ≡ false → settle_fault rules false (held_at rows pending) ≡ []
+pub turn-free : (rows : List Row) (pending : Option (List ℕ × List (List ℕ))) (waiting : Waiting) (word : List ℕ) → IsFree waiting → begins_with_dash word ≡ false → settle_fault rules false (held_at rows pending) ≡ []
     → turn_fault shape [] (walk_at rows pending waiting false) word ≡ []
 turn-free rows None waiting word free plain fine = rw (met-free waiting word (held_at rows None) free plain, fault-free waiting word (held_at rows None) free plain) refl
 turn-free rows (Some p) waiting word free plain fine =
@@ -105,7 +105,7 @@ more rows pending waiting books word has = record {
 abbrev pub Leads : Walk → List (List ℕ) → Walk → List (List ℕ) → Type 0
 Leads w words v rest = (walk_fault shape [] w words ≡ walk_fault shape [] v rest) × (fold (walked rules []) w words ≡ fold (walked rules []) v rest)
 
-leads-one : (w v : Walk) (word : List ℕ) (rest : List (List ℕ)) → turn_fault shape [] w word ≡ [] → walked rules [] w word ≡ v → Leads w (word ∷ rest) v rest
+pub leads-one : (w v : Walk) (word : List ℕ) (rest : List (List ℕ)) → turn_fault shape [] w word ≡ [] → walked rules [] w word ≡ v → Leads w (word ∷ rest) v rest
 unfolding walk_fault
 leads-one w v word rest fine is = (
   ap (λ k. or_else k (walk_fault shape [] (walked rules [] w word) rest)) fine ∙ ap (λ x. walk_fault shape [] x rest) is,
