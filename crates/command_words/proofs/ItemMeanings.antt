@@ -4,14 +4,14 @@ use Rattle.std.specs.Prelude.{⊤, All, codes, drop, flat_map, fold, slice_get, 
 use Rattle.std.proofs.lemmas.List.Elements.{All-head, All-tail}
 use Rattle.clap.specs.Faults.{default_fault, defaults_fault, settle_fault, turn_fault, walk_fault}
 use Rattle.clap.specs.Kinds.{Kinds, or_else}
-use Rattle.clap.specs.Walk.{Row, Rule, Waiting, Walk, idle, positional, option, all_of, arg_by_id, at_row, finished, first_of, has_row, more_values, nothing_held, reading_by, settled_rows, walk_from, walked, with_default, with_values}
+use Rattle.clap.specs.Walk.{Row, Rule, Waiting, Walk, idle, positional, option, all_of, arg_by_id, at_row, finished, has_row, more_values, nothing_held, reading_by, settled_rows, walk_from, walked, with_default, with_values}
 use Rattle.clap.specs.Words.{fault_of, matches_of}
 use Rattle.clap.specs.declared.parser.matches.ValueSource.TheVariants.{CommandLine, DefaultValue}
 use Rattle.command_words.specs.Items.{AreNew, IsItem, IsNew, Item, OptionName, undo_limit, script, generate, apart, joined, strict, book, name_text, nothing_given, with_item, with_value, words_of}
-use Rattle.command_words.specs.Words.{Given, begins_with_dash, flag_rule, given_of, is_true, meaning, other_rule, said_of, sheet_app}
+use Rattle.command_words.specs.Words.{Given, flag_rule, given_of, is_true, meaning, other_rule, said_of, sheet_app}
 use Rattle.command_words.proofs.BookMeanings.{both_none, end_of, ended_fault, meant}
 use Rattle.command_words.proofs.BookWords.{IsFree, Leads, leads-one, rules, shape, turn-free, walk_at, walked-free}
-use Rattle.command_words.proofs.ItemWalks.{Finds, finds-option, found_books, found_flag, found_value, no_row, option_row, set-option, set_row, turn-joined, turn-name, turn-value, walked-joined, walked-name, walked-value}
+use Rattle.command_words.proofs.ItemWalks.{Finds, finds-option, found_books, found_flag, found_value, no_row, set-option, set_row, turn-joined, turn-name, turn-value, walked-joined, walked-name, walked-value}
 use Rattle.command_words.proofs.RowLists.{at_none, first-all, found_behind, grown, has_none, has_some, kept, other_behind}
 
 abbrev flag_row : List ℕ → Row

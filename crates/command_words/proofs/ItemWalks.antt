@@ -1,14 +1,14 @@
 -- Words that are items, one after the other. Serves the laws of words.
-use Rattle.std.proofs.Common.{◌≡◌, ◌∙◌, sym, ap, subst, refl, ℕ, Bool, true, false, cond, List, [], ◌∷◌, ◌++◌, Option, Some, None, option_map}
-use Rattle.std.specs.Prelude.{⊤, codes, fold}
+use Rattle.std.proofs.Common.{◌≡◌, ◌∙◌, ap, refl, ℕ, Bool, true, false, List, [], ◌∷◌, ◌++◌, Option, Some, None}
+use Rattle.std.specs.Prelude.{codes}
 use Rattle.std.proofs.lemmas.List.{append-nil}
-use Rattle.clap.specs.Faults.{settle_fault, turn_fault, walk_fault}
-use Rattle.clap.specs.Walk.{Held, Row, Rule, Waiting, Walk, idle, positional, option, all_of, at_row, has_row, more_values, reading_by, settled_rows, walked, with_values, without}
+use Rattle.clap.specs.Faults.{settle_fault, turn_fault}
+use Rattle.clap.specs.Walk.{Row, Waiting, idle, positional, option, all_of, at_row, has_row, more_values, reading_by, settled_rows, walked, without}
 use Rattle.clap.specs.declared.parser.matches.ValueSource.TheVariants.{CommandLine}
-use Rattle.command_words.specs.Items.{Item, OptionName, apart, joined, strict, book, undo_limit, script, generate, name_text, value_of, with_value}
+use Rattle.command_words.specs.Items.{OptionName, undo_limit, script, generate, name_text, value_of, with_value}
 use Rattle.command_words.specs.Words.{Given, begins_with_dash, option_rule}
-use Rattle.command_words.proofs.BookWords.{IsFree, Leads, rules, shape, walk_at}
-use Rattle.command_words.proofs.RowLists.{at_none, found_behind, grown, has_none, kept, other_behind}
+use Rattle.command_words.proofs.BookWords.{IsFree, rules, shape, walk_at}
+use Rattle.command_words.proofs.RowLists.{at_none, found_behind, other_behind}
 
 pub turn-joined : (name : OptionName) (text : List ℕ) (rows : List Row) (pending : Option (List ℕ × List (List ℕ))) (waiting : Waiting) → IsFree waiting → settle_fault rules false (record { rows = rows; pending = pending; skip = 0 }) ≡ []
     → has_row (name_text name) (settled_rows rules pending rows) ≡ false → turn_fault shape [] (walk_at rows pending waiting false) (codes "--" ++ name_text name ++ codes "=" ++ text) ≡ []
