@@ -1,5 +1,5 @@
 -- What words that mean something say at most. Serves the laws of words.
-use Rattle.std.proofs.Common.{◌≡◌, sym, ap, subst, refl, arith, ℕ, suc, ◌<◌, ◌==◌, ◌&&◌, ◌||◌, Bool, true, false, cond, List, [], ◌∷◌, length, Option, Some, None, nat_lt}
+use Rattle.std.proofs.Common.{◌≡◌, subst, refl, arith, ℕ, ◌==◌, ◌&&◌, ◌||◌, Bool, true, false, cond, List, [], ◌∷◌, length, Option, Some, None, nat_lt}
 use Rattle.std.specs.Prelude.{All, IfSome, IsSome, is_none, not, option_map}
 use Rattle.std.specs.List.{list_all}
 use Rattle.std.proofs.lemmas.Bool.{and_parts}
@@ -9,7 +9,7 @@ use Rattle.std.proofs.lemmas.Option.{same_Some}
 use Rattle.digits.specs.Digits.{value}
 use Rattle.clap.specs.Words.{fault_of, matches_of}
 use Rattle.command_words.specs.Laws.{IsProper, IsScriptName}
-use Rattle.command_words.specs.Words.{Given, Said, begins_with_dash, given_of, is_accepted, is_value, meaning, passes, said_by, said_of, sheet_app, stands_alone}
+use Rattle.command_words.specs.Words.{Given, Said, begins_with_dash, given_of, is_accepted, is_value, meaning, passes, said_by, said_of, sheet_app}
 use Rattle.command_words.proofs.Ranges.{accepted_in_range}
 
 not_so : (b : Bool) → not b ≡ true → b ≡ false
