@@ -1,5 +1,5 @@
 -- The session that begins with given sheets and texts. Source: this project's own.
-use Rattle.std.specs.Prelude.{◌≢◌, ◌⊎◌, ◌<◌, ◌≤◌, ℕ, ℤ, ◌+◌, false, List, [], ◌∷◌, ◌++◌, length, map, Option, None, option_map, All, AllPairs, IsTrue}
+use Rattle.std.specs.Prelude.{◌≢◌, ◌⊎◌, ◌<◌, ◌≤◌, ℕ, ℤ, ◌+◌, false, List, [], ◌∷◌, ◌++◌, length, Option, None, map, option_map, All, AllPairs, IsTrue}
 use Rattle.std.specs.List.{filter_map}
 use Rattle.std.specs.FinMap as finmap
 use Rattle.cell_addr.specs.declared.place.Place.{Place}

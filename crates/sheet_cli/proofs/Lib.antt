@@ -1,4 +1,3 @@
-pub mod Books
 pub mod Executed
 pub mod LineBytes
 pub mod Outcomes

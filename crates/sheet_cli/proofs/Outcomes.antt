@@ -18,7 +18,7 @@ use Rattle.book_engine.specs.declared.engine.Engine.{Engine}
 use Rattle.script_lang.specs.Command.{command_of}
 use Rattle.script_lang.specs.declared.error.ScriptError.{ScriptError}
 use Rattle.sheet_cli.specs.Answering.{is_refused, outcome_from, record_outcome, record_text}
-use Rattle.sheet_cli.specs.Outcome.{Outcome, followed_by}
+use Rattle.run_inputs.specs.Outcome.{Outcome, followed_by}
 use Rattle.sheet_cli.specs.declared.ending.Stop.{Stop}
 use Rattle.sheet_cli.specs.declared.ending.Stop.TheVariants as stop
 use Rattle.sheet_cli.specs.internal.Answers.{AnswersPart, AnswersRecord, PartOfCommand}

@@ -7,7 +7,7 @@ use Rattle.book_model.specs.Replies.{line_of, next_state, reply}
 use Rattle.book_model.specs.Workbook.{State}
 use Rattle.book_model.specs.declared.command.Command.{Command}
 use Rattle.sheet_cli.specs.Answering.{Answered, answers_from, bytes_of, first_refusal, is_refused, summary, summary_outcome}
-use Rattle.sheet_cli.specs.Outcome.{Outcome}
+use Rattle.run_inputs.specs.Outcome.{Outcome}
 use Rattle.sheet_cli.specs.declared.answering.Tally.{Tally}
 use Rattle.sheet_cli.specs.internal.Answers.{Executes}
 use Rattle.sheet_cli.specs.internal.Tallied.{Adds, Completes, one_if, summary_of}

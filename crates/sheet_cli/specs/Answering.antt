@@ -8,7 +8,7 @@ use Rattle.book_model.specs.declared.command.Command.{Command}
 use Rattle.script_lang.specs.Command.{command_of}
 use Rattle.script_lang.specs.declared.error.ScriptError.{ScriptError}
 use Rattle.script_lang.specs.declared.error.ScriptError.TheVariants.{UnknownCommand, FieldCount, BadField, NoMemory}
-use Rattle.sheet_cli.specs.Outcome.{Outcome, ended, followed_by}
+use Rattle.run_inputs.specs.Outcome.{Outcome, ended, followed_by}
 
 -- why a record is no command, as a run says it
 abbrev pub cause_text : ScriptError → List ℕ

@@ -3,7 +3,6 @@
 use Rattle.std.specs.Prelude.{◌≡◌, ◌⊎◌, ◌+◌, ◌&&◌, if◌then◌else◌, true, false, ℕ, Bool, List, [], ◌∷◌, drop, Option, Some, None, is_none, Result, Ok, Err, is_ok, codes, ⊤}
 use Rattle.std.specs.Io.KnownBytes.{Appends}
 use Rattle.csv.specs.Reading.{records, default_config, strip_bom}
-use Rattle.book_files.specs.Folder.{Files}
 use Rattle.book_files.specs.Outside.{AppendsPart}
 use Rattle.book_files.specs.declared.input.TheConstants.{MAX_INPUT}
 use Rattle.book_model.specs.Given.{GivenSheet, session_given}
@@ -11,8 +10,8 @@ use Rattle.book_model.specs.Replies.{line_of}
 use Rattle.command_words.specs.Words.{Said, meaning}
 use Rattle.generator.specs.Generated.{generated}
 use Rattle.sheet_cli.specs.Answering.{answers_from, outcome_from, summary_outcome}
-use Rattle.sheet_cli.specs.Opening.{Told, empty_sheet, script_told, sheets_told}
-use Rattle.sheet_cli.specs.Outcome.{Outcome, ended, or_end}
+use Rattle.run_inputs.specs.Opening.{Told, empty_sheet, script_told, sheets_told}
+use Rattle.run_inputs.specs.Outcome.{Outcome, ended, or_end}
 
 abbrev pub usage : Outcome
 usage = ended 2 (codes "usage: sheetrun [--undo-limit N] [--strict] [--script FILE] [--generate N] [BOOK.csv ...]")
@@ -37,11 +36,6 @@ outcome_meant (Some said) told = outcome_said said.generate said told
 -- the outcome of a run
 abbrev pub outcome : List (List ℕ) → Told → Outcome
 outcome words told = outcome_meant (meaning words) told
-
--- what folder and source tell, where both do
-abbrev pub told_by : Option Files → Option (List ℕ) → Option Told
-told_by (Some files) (Some bytes) = Some (record { files = files; source = bytes })
-told_by _ _ = None
 
 -- what a run prints, and its status, are the outcome of what it is told
 abbrev pub Prints : Option Told → (Told → Outcome) → Option (List ℕ) → Option (List ℕ) → ℕ → Type 0

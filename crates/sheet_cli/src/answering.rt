@@ -20,13 +20,13 @@ ghost use Rattle.sheet_cli.specs.internal.Tallied.{Adds, summary_of};
 
 use crate::ending::{ANSWERED, NO_COMMAND, REFUSED, Stop};
 use crate::line::line;
-use crate::opening::empty_book;
 use crate::session::{Answer, Session};
 use book_files::{Records, Sink};
 use book_model::{BookSheet, Command};
 use command_words::Words;
 use csv::ByteRecord;
 use generator::generate;
+use run_inputs::empty_book;
 use script_lang::{ScriptError, command};
 use std::alloc::{AllocError, Global};
 use std::sync::ledger::Ledger;

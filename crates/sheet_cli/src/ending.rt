@@ -16,9 +16,6 @@ pub const WRONG_WORDS: u8 = 2;
 /// A record is no command.
 pub const NO_COMMAND: u8 = 3;
 
-/// A file is missing, or a book is refused.
-pub const NO_BOOK: u8 = 4;
-
 /// The folder or the source failed.
 pub const READ_FAULT: u8 = 5;
 
@@ -27,9 +24,6 @@ pub const WRITE_FAULT: u8 = 6;
 
 /// Memory ran out.
 pub const NO_MEMORY: u8 = 7;
-
-/// A file or the script is longer than a run may be told.
-pub const TOO_LONG: u8 = 8;
 
 /// Why a run ends before its output is whole.
 #[derive(Clone, Copy, PartialEq, Eq, Debug)]
@@ -59,24 +53,5 @@ impl From<WriteError> for Stop {
             WriteError::Failed => Stop::WriteFault,
             WriteError::NoMemory => Stop::NoMemory,
         }
-    }
-}
-
-/// How a run ends before its first reply: it says in a line what is wrong, and has this status; or its books or its
-/// script can't be read.
-#[derive(Drop)]
-pub enum Ending {
-    Says(String, u8),
-    ReadFault,
-    NoMemory,
-}
-
-impl From<AllocError> for Ending {
-    ghost use Rattle.sheet_cli.specs.declared.ending.Ending.TheVariants as ending;
-
-    ghost from_gives = { λ _ e. e ≡ ending.NoMemory };
-
-    fn from(_: AllocError) -> Ending {
-        Ending::NoMemory
     }
 }

@@ -16,7 +16,6 @@
 mod answering;
 mod ending;
 mod line;
-mod opening;
 mod program;
 mod session;
 

@@ -3,14 +3,15 @@ ghost use Rattle.std.specs.Prelude.{◌≡◌, ◌≢◌, ◌⊎◌, ◌↔◌, 
 ghost use Rattle.std.specs.Io.KnownBytes.{Appends};
 ghost use Rattle.book_files.specs.Outside.{Rose};
 ghost use Rattle.command_words.specs.Words.{IsInRange, meaning, seen};
-ghost use Rattle.sheet_cli.specs.Run.{IsEndStatus, IsStatus, Leaves, Prints, PrintsPart, WasRead, fault_line, outcome, outcome_meant, outcome_said, source_left, told_by};
+ghost use Rattle.run_inputs.specs.Opening.{told_by};
+ghost use Rattle.sheet_cli.specs.Run.{IsEndStatus, IsStatus, Leaves, Prints, PrintsPart, WasRead, fault_line, outcome, outcome_meant, outcome_said, source_left};
 ghost use Rattle.sheet_cli.specs.internal.Ends.{EndPrinted, IsSaidStatus, Reads, Runs};
 
 use crate::answering::{print, run_generated, run_script};
-use crate::ending::{Ending, NO_MEMORY, READ_FAULT, Stop, WRITE_FAULT, WRONG_WORDS};
-use crate::opening::{open_books, open_script};
+use crate::ending::{NO_MEMORY, READ_FAULT, Stop, WRITE_FAULT, WRONG_WORDS};
 use book_files::{Folder, Sink, Source};
 use command_words::{Words, WordsError, words as read_words};
+use run_inputs::{Ending, open_books, open_script};
 use std::alloc::Global;
 use std::sync::ledger::Ledger;
 use steps::Steps;

@@ -2,9 +2,9 @@
 use Rattle.std.proofs.Common.{◌≡◌, ◌≤◌, [], drop, Some}
 use Rattle.book_files.specs.Folder.{Files}
 use Rattle.book_model.specs.Given.{given_sheets}
-use Rattle.sheet_cli.specs.Opening.{books_joined}
-use Rattle.sheet_cli.proofs.Books.{Standing}
-use Rattle.sheet_cli.proofs.opening.open_books.Given as goal
+use Rattle.run_inputs.specs.Opening.{books_joined}
+use Rattle.run_inputs.proofs.SheetsRead.{Standing}
+use Rattle.run_inputs.proofs.books.open_books.Given as goal
 
 abbrev pub invariant-books : goal.invariant-books
 invariant-books g l = record {

@@ -11,12 +11,18 @@ use Rattle.book_files.specs.declared.fault.BookFault.TheVariants as fault
 use Rattle.book_files.specs.declared.input.TheConstants.{MAX_INPUT}
 use Rattle.book_model.specs.Given.{GivenSheet}
 use Rattle.book_model.specs.declared.limits.TheConstants.{MAX_SHEETS}
-use Rattle.sheet_cli.specs.Outcome.{Outcome, and_then, ended, too_long}
+use Rattle.run_inputs.specs.Outcome.{Outcome, and_then, ended, too_long}
+use Rattle.run_inputs.specs.declared.ending.TheConstants.{NO_BOOK}
 
 -- what a run is told: the files of its folder and the bytes of its source
 pub record Told : Type 0 where
   pub files : Files
   pub source : List ℕ
+
+-- what folder and source tell, where both do
+abbrev pub told_by : Option Files → Option (List ℕ) → Option Told
+told_by (Some files) (Some bytes) = Some (record { files = files; source = bytes })
+told_by _ _ = None
 
 -- the bytes of a file, or the end of the run without them: it is missing, or too long
 abbrev pub loaded : Outcome → Result (List ℕ) LoadError → Result (List ℕ) Outcome
@@ -26,7 +32,7 @@ loaded missing (Err e) = Err too_long
 
 -- a run ends at the book of a file of this name
 abbrev pub book_refused : List ℕ → List ℕ → Outcome
-book_refused file cause = ended 4 (codes "book " ++ file ++ codes ": " ++ cause)
+book_refused file cause = ended NO_BOOK (codes "book " ++ file ++ codes ": " ++ cause)
 
 -- why a file is no sheet, as a run says it
 abbrev pub fault_text : BookFault → List ℕ
@@ -83,7 +89,7 @@ sheets_told files (file ∷ rest) = books_joined files [] (file ∷ rest)
 
 -- a run ends without the file of its script
 abbrev pub script_missing : List ℕ → Outcome
-script_missing file = ended 4 (codes "script " ++ file ++ codes ": missing")
+script_missing file = ended NO_BOOK (codes "script " ++ file ++ codes ": missing")
 
 -- the bytes of the script: those of its file, or of the source where it has none
 abbrev pub script_told : Told → Option (List ℕ) → Result (List ℕ) Outcome

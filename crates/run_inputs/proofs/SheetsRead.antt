@@ -19,8 +19,8 @@ use Rattle.book_model.specs.Given.{CanBegin, GivenSheet, IsGivenCell, IsGivenShe
 use Rattle.book_model.specs.declared.given.BookCell.{BookCell}
 use Rattle.book_model.specs.declared.given.BookSheet.{BookSheet}
 use Rattle.book_model.proofs.Counts.{len-from_entries, length-filter_map}
-use Rattle.sheet_cli.specs.Opening.{empty_sheet, filled_in, has_name}
-use Rattle.sheet_cli.specs.internal.Ends.{CanFollow}
+use Rattle.run_inputs.specs.Opening.{empty_sheet, filled_in, has_name}
+use Rattle.run_inputs.specs.internal.Parts.{CanFollow}
 
 -- sheets with which a session can begin, and which fill so many cells
 pub record Standing (sheets : List GivenSheet) (filled : ℕ) : Type 0 where

@@ -1,6 +1,7 @@
 -- What a run prints and its status. Source: this project's own.
 use Rattle.std.specs.Prelude.{ℕ, List, ◌++◌, Result, Ok, Err, codes}
 use Rattle.book_model.specs.Replies.{line_of}
+use Rattle.run_inputs.specs.declared.ending.TheConstants.{TOO_LONG}
 
 -- the bytes that a run prints, and its status
 abbrev pub Outcome : Type 0
@@ -26,4 +27,4 @@ and_then (Err end) next = Err end
 
 -- a run that is told more than it may be
 abbrev pub too_long : Outcome
-too_long = ended 8 (codes "input too long")
+too_long = ended TOO_LONG (codes "input too long")

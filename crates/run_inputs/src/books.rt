@@ -1,26 +1,22 @@
-// The books and the script that a run is told.
-ghost use Rattle.std.specs.Prelude.{◌≡◌, ◌⊎◌, ◌++◌, ◌∷◌, ◌≤◌, [], IfOk, OnOk, IsErrOf, codes, length, string_bytes};
+// The books that a run is told.
+ghost use Rattle.std.specs.Prelude.{◌≡◌, ◌++◌, ◌∷◌, ◌≤◌, [], IfOk, OnOk, IsErrOf, codes, string_bytes};
 ghost use Rattle.book_files.specs.Books.{book_sheet_of};
-ghost use Rattle.book_files.specs.Folder.{load_of};
 ghost use Rattle.book_files.specs.Outside.{Rose};
-ghost use Rattle.book_files.specs.declared.input.TheConstants.{MAX_INPUT};
 ghost use Rattle.book_model.specs.Given.{CanBegin, given_sheet, given_sheets};
-ghost use Rattle.sheet_cli.specs.Opening.{book_joined, book_refused, empty_sheet, fault_text, filled_in, has_name, loaded, script_missing, script_told, sheets_joined, sheets_told};
 ghost use Rattle.book_model.specs.declared.limits.TheConstants.{MAX_CELLS};
-ghost use Rattle.sheet_cli.specs.Run.{told_by};
-ghost use Rattle.sheet_cli.specs.Outcome.{too_long};
-ghost use Rattle.sheet_cli.specs.internal.Ends.{CanFollow, ComesTo, EndsOpening, EndsWith, IsEnd, Opens, TakesScript, is_named};
+ghost use Rattle.run_inputs.specs.Ends.{ComesTo, EndsOpening, Opens};
+ghost use Rattle.run_inputs.specs.Opening.{book_joined, book_refused, empty_sheet, fault_text, filled_in, has_name, sheets_joined, sheets_told};
+ghost use Rattle.run_inputs.specs.internal.Parts.{CanFollow, EndsWith, IsEnd, is_named};
 
-use crate::ending::{Ending, NO_BOOK, TOO_LONG};
-use book_files::{
-    BookFault, Folder, LoadError, MAX_INPUT, Source, read_all, read_book, sheet_name,
-};
+use crate::ending::{Ending, NO_BOOK};
+use crate::script::too_long;
+use book_files::{BookFault, Folder, LoadError, MAX_INPUT, read_book, sheet_name};
 use book_model::{BookCells, BookSheet, MAX_SHEETS};
 use cell_addr::{Text, same_folded};
 use std::alloc::{AllocError, Global};
 
 /// The sheets that a run begins with: those of its books, or one empty sheet where it is given none.
-pub(crate) fn open_books<F: Folder>(
+pub fn open_books<F: Folder>(
     alloc: Global,
     folder: &mut F,
     files: &[Text],
@@ -49,7 +45,7 @@ pub(crate) fn open_books<F: Folder>(
 }
 
 /// One empty sheet, `Sheet1`.
-pub(crate) fn empty_book(alloc: Global) -> Result<Vec<BookSheet>, AllocError>
+pub fn empty_book(alloc: Global) -> Result<Vec<BookSheet>, AllocError>
     ensures { IfOk result (λ sheets. given_sheets sheets.items ≡ empty_sheet ∷ []) }
 {
     let sheet = BookSheet {
@@ -166,7 +162,7 @@ fn fault_text(fault: BookFault) -> &'static str
 // The end of a run at the book of this file.
 fn refused(alloc: Global, file: &Text, cause: &str) -> Ending
     ensures end { IsEnd result (book_refused file.now cause.now) }
-    ensures status { EndsWith result 4 }
+    ensures status { EndsWith result NO_BOOK }
 {
     match book_text(alloc, file, cause) {
         Ok(text) => Ending::Says(text, NO_BOOK),
@@ -182,85 +178,5 @@ fn book_text(alloc: Global, file: &Text, cause: &str) -> Result<String, AllocErr
     text.push_str(file.as_str())?;
     text.push_str(": ")?;
     text.push_str(cause)?;
-    Ok(text)
-}
-
-// The end of a run that is told more than it may be.
-fn too_long(alloc: Global) -> Ending
-    ensures end { IsEnd result too_long }
-    ensures status { EndsWith result 8 }
-{
-    match String::from_str(alloc, "input too long") {
-        Ok(text) => Ending::Says(text, TOO_LONG),
-        Err(_) => Ending::NoMemory,
-    }
-}
-
-/// The bytes of the script: those of its file, or of the source where it has none.
-pub(crate) fn open_script<F: Folder, I: Source>(
-    alloc: Global,
-    folder: &mut F,
-    input: &mut I,
-    file: &Option<Text>,
-) -> Result<Vec<u8>, Ending>
-    ensures opens { Opens (λ bytes. bytes.items) (told_by (F.files folder.old) (I.left input.old)) (λ told. script_told told file.now) result }
-    ensures limit { IfOk result (λ bytes. length bytes.items ≤ MAX_INPUT) }
-    ensures status { EndsOpening result }
-    ensures fault { IsErrOf result Ending.ReadFault → Rose (F.faults folder.old) (F.faults folder.new) ⊎ Rose (I.faults input.old) (I.faults input.new) }
-    ensures later { (F.faults folder.old ≤ F.faults folder.new) × (I.faults input.old ≤ I.faults input.new) }
-    ensures files { F.files folder.new ≡ F.files folder.old }
-    ensures source { TakesScript file.now result (I.left input.old) (I.left input.new) }
-{
-    match file {
-        Some(file) => script_file(alloc, folder, file),
-        None => match read_all(alloc, input) {
-            Ok(bytes) => Ok(bytes),
-            Err(LoadError::TooLong) => Err(too_long(alloc)),
-            Err(LoadError::Failed) => Err(Ending::ReadFault),
-            Err(LoadError::NoMemory | LoadError::Missing) => Err(Ending::NoMemory),
-        },
-    }
-}
-
-// The bytes of the script's file.
-fn script_file<F: Folder>(
-    alloc: Global,
-    folder: &mut F,
-    file: &Text,
-) -> Result<Vec<u8>, Ending>
-    ensures opens { Opens (λ bytes. bytes.items) (F.files folder.old) (λ files. loaded (script_missing file.now) (load_of MAX_INPUT (files file.now))) result }
-    ensures limit { IfOk result (λ bytes. length bytes.items ≤ MAX_INPUT) }
-    ensures status { EndsOpening result }
-    ensures fault { IsErrOf result Ending.ReadFault → Rose (F.faults folder.old) (F.faults folder.new) }
-    ensures later { F.faults folder.old ≤ F.faults folder.new }
-    ensures stays { F.files folder.new ≡ F.files folder.old }
-{
-    match folder.load(alloc, file.as_str(), MAX_INPUT) {
-        Ok(bytes) => Ok(bytes),
-        Err(LoadError::Missing) => Err(missing_script(alloc, file)),
-        Err(LoadError::TooLong) => Err(too_long(alloc)),
-        Err(LoadError::Failed) => Err(Ending::ReadFault),
-        Err(LoadError::NoMemory) => Err(Ending::NoMemory),
-    }
-}
-
-// The end of a run whose script's file is missing.
-fn missing_script(alloc: Global, file: &Text) -> Ending
-    ensures end { IsEnd result (script_missing file.now) }
-    ensures status { EndsWith result 4 }
-{
-    match script_text(alloc, file) {
-        Ok(text) => Ending::Says(text, NO_BOOK),
-        Err(_) => Ending::NoMemory,
-    }
-}
-
-// What a run says of a script whose file is missing.
-fn script_text(alloc: Global, file: &Text) -> Result<String, AllocError>
-    ensures { IfOk result (λ text. string_bytes text ≡ codes "script " ++ file.now ++ codes ": missing") }
-{
-    let mut text = String::from_str(alloc, "script ")?;
-    text.push_str(file.as_str())?;
-    text.push_str(": missing")?;
     Ok(text)
 }
