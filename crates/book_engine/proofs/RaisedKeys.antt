@@ -58,6 +58,7 @@ module _ {K L : Type 0} (R : K → K → Ordering) (S : L → L → Ordering) (k
           let key : lower q ≡ k = ap lower is ∙ low in
           let up : is_raised q ≡ true = (written q (raise (lower q))).1 (is ∙ ap raise (sym key)) in
           rw up ((keys (lower q) k).1 key)
+
       back : (is_raised q && eq_by_cmp R (lower q) k) ≡ true → eq_by_cmp S q (raise k) ≡ true
       back h =
           let parts = and_parts (is_raised q) (eq_by_cmp R (lower q) k) h in

@@ -56,7 +56,10 @@ impl Arguments {
         match kind {
             FieldKind::Place => self.place = said(number, read_single(alloc, field)?)?,
             FieldKind::Block => self.block = said(number, read_block(alloc, field)?)?,
-            FieldKind::Sheet | FieldKind::Scope => self.sheet = said(number, read_text(alloc, field)?)?,
+            FieldKind::Sheet | FieldKind::Scope => self.sheet = said(
+                number,
+                read_text(alloc, field)?,
+            )?,
             FieldKind::Row => self.line = said(number, read_row(field))?,
             FieldKind::Column => self.line = said(number, read_column(field))?,
             FieldKind::Count => self.count = said(number, read_count(field))?,

@@ -1,4 +1,4 @@
-use Rattle.std.proofs.Common.{◌≡◌, ◌∙◌, sym, ap, Some, None, cond, true, false, option_map}
+use Rattle.std.proofs.Common.{◌≡◌, ◌∙◌, sym, ap, Some, true, option_map}
 use Rattle.cell_addr.specs.Text.{capitals}
 use Rattle.formula_tree.specs.Relative.{relative}
 use Rattle.formula_tree.specs.StandsFor.{at_home}

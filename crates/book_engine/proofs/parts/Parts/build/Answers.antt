@@ -12,8 +12,7 @@ pub returns-clause-fits : goal.returns-clause-fits
 returns-clause-fits c =
     let k = stored c.in_ok-book.book in
     let same = c.in_ok-new.ensures in
-    let long = length-map c.args.books.now given_sheet in
-    (
+    let long = length-map c.args.books.now given_sheet in (
       subst IsSound (sym (λ i. record {
         book = c.in_ok-book.ensures.book i;
         undo = books_over k (reverse (same i).done);

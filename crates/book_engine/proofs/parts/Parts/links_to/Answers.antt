@@ -1,4 +1,4 @@
-use Rattle.std.proofs.Common.{◌≡◌, ◌∙◌, ◌++◌, sym, ap, subst, map}
+use Rattle.std.proofs.Common.{◌∙◌, ◌++◌, ap, subst, map}
 use Rattle.std.specs.FinMap as fin
 use Rattle.std.specs.List.{filter_map}
 use Rattle.formula_tree.specs.declared.link.Link.TheVariants as links
