@@ -88,12 +88,7 @@ fn push_sheet<C: Customs>(
 }
 
 // Puts an address at the end.
-fn push_address(
-    alloc: Global,
-    text: &mut String,
-    row: u32,
-    col: u32,
-) -> Result<(), AllocError>
+fn push_address(alloc: Global, text: &mut String, row: u32, col: u32) -> Result<(), AllocError>
     requires { col < COLS }
     ensures { OnOk result (string_bytes text.new ≡ string_bytes text.old ++ place_letters row col) }
 {
