@@ -25,9 +25,7 @@ mod tests;
 pub use command::Command;
 pub use content::{ContentText, read_content, text_given};
 pub use given::{BookCell, BookCells, BookSheet};
-pub use limits::{
-    DEFAULT_UNDO, MAX_CELLS, MAX_NAME, MAX_SHEET_NAME, MAX_SHEETS, MAX_TEXT, MAX_UNDO,
-};
+pub use limits::{MAX_CELLS, MAX_NAME, MAX_SHEET_NAME, MAX_SHEETS, MAX_TEXT, MAX_UNDO};
 pub use name::is_name;
 pub use refusal::Refusal;
 pub use sheet_name::is_sheet_name;

@@ -17,6 +17,3 @@ pub const MAX_TEXT: usize = 8_192;
 
 /// How many steps a session can be asked to keep for undo.
 pub const MAX_UNDO: u16 = 1_000;
-
-/// How many steps a session keeps for undo where nothing else is asked.
-pub const DEFAULT_UNDO: u16 = 20;
