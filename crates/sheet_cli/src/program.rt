@@ -20,7 +20,6 @@ use steps::Steps;
 // The words can ask for exactly what the session and the generated list allow.
 const _: () = prove!(command_words::MAX_UNDO == book_model::MAX_UNDO);
 
-
 const _: () = prove!(command_words::MAX_GENERATE == generator::MAX_SIZE);
 
 const USAGE: &str =
