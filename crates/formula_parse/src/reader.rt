@@ -20,7 +20,8 @@ use cell_addr::{SheetNames, Text, capitals, quoted_text};
 use cell_value::FaultKind;
 use fix_num::Fixed;
 use formula_tree::{
-    Address, Home, MAX_LEVELS, Node, Op, PERCENT_LEVEL, Ref, SIGN_LEVEL, Sign, Tree, TreeList, depth,
+    Address, Home, MAX_LEVELS, Node, Op, PERCENT_LEVEL, Ref, SIGN_LEVEL, Sign, Tree, TreeList,
+    depth,
 };
 use std::alloc::{AllocError, Global};
 use std::rc::Rc;
