@@ -1,2 +1,9 @@
+pub mod BookMeanings
+pub mod BookWords
 pub mod FoundRows
+pub mod ItemMeanings
+pub mod ItemWalks
 pub mod Meanings
+pub mod ProperWords
+pub mod Ranges
+pub mod RowLists

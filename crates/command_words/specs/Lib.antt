@@ -1,2 +1,4 @@
+pub mod Items
+pub mod Laws
 pub mod Words
 pub mod internal

@@ -1,6 +1,6 @@
 -- The words of the command line, and what they say. Source: this project's own; that words are options, values, flags
 -- and the others is what the crate `clap` makes of them for a simple command.
-use Rattle.std.specs.Prelude.{◌≡◌, ◌==◌, ◌&&◌, ◌||◌, if◌then◌else◌, not, nat_lt, nat_le, ℕ, Bool, true, false, List, [], ◌∷◌, length, Option, Some, None, is_none, option_map, unwrap_or, bytes_eq, codes, Result, Ok, Err, ⊤}
+use Rattle.std.specs.Prelude.{◌≡◌, ◌≤◌, IfSome, ◌==◌, ◌&&◌, ◌||◌, if◌then◌else◌, not, nat_lt, nat_le, ℕ, Bool, true, false, List, [], ◌∷◌, length, Option, Some, None, is_none, option_map, unwrap_or, bytes_eq, codes, Result, Ok, Err, ⊤}
 use Rattle.std.specs.List.{list_all}
 use Rattle.clap.specs.Words.{App, Row, Rule, all_of, fault_of, first_of, matches_of, new_app, new_rule, with_rule}
 use Rattle.clap.specs.declared.builder.action.ArgAction.TheVariants.{Set, SetTrue, Append}
@@ -123,6 +123,10 @@ said_of g = if is_accepted g then Some (said_by g) else None
 -- what the words say; none where they aren't accepted
 abbrev pub meaning : List (List ℕ) → Option Said
 meaning words = if length (fault_of sheet_app words) == 0 then said_of (given_of (matches_of sheet_app words)) else None
+
+-- numbers in their ranges
+abbrev pub IsInRange : Said → Type 0
+IsInRange s = (s.undo_limit ≤ MAX_UNDO) × IfSome s.generate (λ n. (1 ≤ n) × (n ≤ MAX_GENERATE))
 
 -- what read words say
 abbrev pub seen : Words → Said

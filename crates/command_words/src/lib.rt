@@ -14,6 +14,7 @@
 #![tactic(auto)]
 
 mod error;
+pub mod laws;
 mod reading;
 mod said;
 

@@ -4,7 +4,7 @@ ghost use Rattle.std.specs.Option.{option_copied};
 ghost use Rattle.std.specs.List.{list_all};
 ghost use Rattle.clap.specs.Words.{all_of, app_of, first_of, found_of, rows_of, rule_of, with_rule};
 ghost use Rattle.digits.specs.Digits.{value};
-ghost use Rattle.command_words.specs.Words.{Answers, bare_app, begins_with_dash, flag_rule, option_rule, other_rule, given_of, is_accepted, is_number, is_true, is_value, meaning, passes, said_of, sheet_app};
+ghost use Rattle.command_words.specs.Words.{Answers, IsInRange, seen, bare_app, begins_with_dash, flag_rule, option_rule, other_rule, given_of, is_accepted, is_number, is_true, is_value, meaning, passes, said_of, sheet_app};
 ghost use Rattle.command_words.specs.internal.Found.{given, texts};
 
 use crate::error::WordsError;
@@ -32,7 +32,10 @@ const ABOVE: u64 = 100_000;
 /// # Errors
 /// `Usage` exactly where the words are outside this, and `NoMemory`.
 pub fn words(alloc: Global, words: &[String]) -> Result<Words, WordsError>
-    ensures { Answers result (meaning (map string_bytes words.now)) }
+    ensures answers { Answers result (meaning (map string_bytes words.now)) }
+
+    // The numbers lie in their ranges.
+    ensures range { IfOk result (λ words. IsInRange (seen words)) }
 {
     let command = command(alloc)?;
     match command.try_get_matches_from(words) {
