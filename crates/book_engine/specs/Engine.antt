@@ -10,8 +10,8 @@ use Rattle.book_engine.specs.declared.engine.Engine.{Engine}
 use Rattle.book_engine.specs.declared.stop.Stop.{Stop}
 use Rattle.book_engine.specs.declared.stop.Stop.TheVariants.{Refused, NoMemory}
 
--- the engine, which holds these custom functions, is in this session
-abbrev pub StandsFor : {C : Type 0} → (C → List (List ℕ × Rule)) → Engine C → State → Type 0
+-- the engine, which holds these custom functions, is in this session; who calls the engine never looks inside
+unfoldable pub StandsFor : {C : Type 0} → (C → List (List ℕ × Rule)) → Engine C → State → Type 0
 StandsFor customs engine d = with_rules (customs engine.customs) engine.day (with_clipboard (clip_of engine.waiting.clip) (state_of engine.parts)) ≡ d
 
 -- an operation that answers nothing
