@@ -1,6 +1,5 @@
 // The calculation of a workbook.
 ghost use Rattle.std.specs.Prelude.{◌≡◌, IfOk, OnOk, false, length, slice_index_or};
-ghost use Rattle.custom_fn.specs.Registry.{customs_of};
 ghost use Rattle.book_values.specs.Values.{value_of};
 ghost use Rattle.book_values.specs.Workbook.{Node};
 ghost use Rattle.book_calc.specs.Book.{workbook_of};
@@ -11,7 +10,7 @@ ghost use Rattle.book_calc.specs.internal.Settled.{IsPlan};
 use crate::book::Book;
 use crate::needs::needs;
 use crate::values::Values;
-use custom_fn::Registry;
+use calc_eval::Customs;
 use needs_order::order;
 use std::alloc::{AllocError, Global};
 use std::sync::ledger::Ledger;
@@ -21,16 +20,16 @@ use steps::Steps;
 /// this serial number.
 ///
 /// Each formula is worked out once, at what `eval` costs, and before that its references are read once.
-pub fn calculated<L: Ledger>(
+pub fn calculated<C: Customs, L: Ledger>(
     alloc: Global,
     book: Book,
-    registry: &Registry,
+    customs: &C,
     day: i32,
     steps: &mut Steps<L>,
 ) -> Result<Values, AllocError>
     ensures book { IfOk result (λ values. workbook_in values ≡ workbook_of book) }
     ensures day { IfOk result (λ values. (world_in values).today ≡ day) }
-    ensures shown { IfOk result (λ values. (a : Node) → shown values a ≡ value_of (workbook_of book) (customs_of registry.now) day a) }
+    ensures shown { IfOk result (λ values. (a : Node) → shown values a ≡ value_of (workbook_of book) (C.customs customs.now) day a) }
 {
     let mut values = Values::new(alloc, book, day)?;
     let needs = needs(alloc, &values.book, &values.nodes)?;
@@ -40,7 +39,7 @@ pub fn calculated<L: Ledger>(
         &mut values,
         &order.nodes,
         &order.on_cycle,
-        registry,
+        customs,
         steps,
     )?;
     Ok(values)
@@ -48,23 +47,23 @@ pub fn calculated<L: Ledger>(
 
 // Settles the values of all nodes, one after another in the order of their numbers here, where some of them are marked
 // as on a cycle.
-fn settle_all<L: Ledger>(
+fn settle_all<C: Customs, L: Ledger>(
     alloc: Global,
     values: &mut Values,
     order: &[usize],
     marks: &[bool],
-    registry: &Registry,
+    customs: &C,
     steps: &mut Steps<L>,
 ) -> Result<(), AllocError>
     requires plan { IsPlan (workbook_in values.old) values.old.nodes order.now marks.now }
     requires count { length values.old.values.items ≡ length (nodes_in values.old.nodes (workbook_in values.old).names) }
     ensures book { OnOk result (workbook_in values.new ≡ workbook_in values.old) }
     ensures day { OnOk result (values.new.day ≡ values.old.day) }
-    ensures shown { OnOk result ((a : Node) → shown values.new a ≡ value_of (workbook_in values.old) (customs_of registry.now) values.old.day a) }
+    ensures shown { OnOk result ((a : Node) → shown values.new a ≡ value_of (workbook_in values.old) (C.customs customs.now) values.old.day a) }
 {
     'nodes: for number in order {
         let on_cycle = is_marked(marks, *number);
-        values.settle(alloc, *number, on_cycle, registry, steps)?;
+        values.settle(alloc, *number, on_cycle, customs, steps)?;
     }
     Ok(())
 }

@@ -5,7 +5,6 @@ ghost use Rattle.std.specs.Option.{option_copied, option_map};
 ghost use Rattle.cell_addr.specs.Place.{covers};
 ghost use Rattle.cell_value.specs.declared.fault.FaultKind.TheVariants as fault;
 ghost use Rattle.cell_value.specs.declared.scalar.Scalar.TheVariants as scalar;
-ghost use Rattle.custom_fn.specs.Registry.{customs_of};
 ghost use Rattle.formula_tree.specs.Reference.{sheet_of};
 ghost use Rattle.formula_tree.specs.Relative.{relative};
 ghost use Rattle.formula_tree.specs.StandsFor.{at_home};
@@ -20,11 +19,10 @@ ghost use Rattle.book_values.specs.Workbook.{name, place};
 use crate::book::Book;
 use crate::nodes::Nodes;
 use crate::view::Seen;
-use calc_eval::{NameView, eval};
+use calc_eval::{Customs, NameView, eval};
 use cell_addr::{Block, Place};
 use cell_value::{FaultKind, Scalar};
 use cell_values::Cell;
-use custom_fn::Registry;
 use formula_tree::{Home, Tree};
 use std::alloc::{AllocError, Global};
 use std::sync::ledger::Ledger;
@@ -90,20 +88,20 @@ impl Values {
     }
 
     /// What the tree would show in a formula at the home, which stands in no cell. It costs what `eval` costs.
-    pub fn tried<L: Ledger>(
+    pub fn tried<C: Customs, L: Ledger>(
         &self,
         alloc: Global,
         tree: &Tree,
         home: Home,
-        registry: &Registry,
+        customs: &C,
         steps: &mut Steps<L>,
     ) -> Result<Scalar, AllocError>
-        ensures means { IfOk result (λ value. value ≡ meaning (world_in self.now) (customs_of registry.now) home (at_home home (relative tree.now.value))) }
+        ensures means { IfOk result (λ value. value ≡ meaning (world_in self.now) (C.customs customs.now) home (at_home home (relative tree.now.value))) }
         ensures least { steps.old < steps.new }
         ensures most { steps.new ≤ steps.old + cost (world_in self.now) (sheet_of home) (at_home home (relative tree.now.value)) }
     {
         let mut seen = Seen { values: self };
-        eval(alloc, tree, home, &mut seen, registry, steps)
+        eval(alloc, tree, home, &mut seen, customs, steps)
     }
 
     // The day.
@@ -155,75 +153,75 @@ impl Values {
     }
 
     // What the node with this number works out over the values.
-    fn worked_out<L: Ledger>(
+    fn worked_out<C: Customs, L: Ledger>(
         &self,
         alloc: Global,
         number: usize,
-        registry: &Registry,
+        customs: &C,
         steps: &mut Steps<L>,
     ) -> Result<Scalar, AllocError>
         requires { number < length (nodes_in self.now.nodes (workbook_in self.now).names) }
-        ensures { IfOk result (λ value. value ≡ worked_out (workbook_in self.now) (world_in self.now) (customs_of registry.now) (node_at self.now.nodes (workbook_in self.now).names number)) }
+        ensures { IfOk result (λ value. value ≡ worked_out (workbook_in self.now) (world_in self.now) (C.customs customs.now) (node_at self.now.nodes (workbook_in self.now).names number)) }
     {
         match self.nodes.places().get(number) {
-            Some(at) => self.cell_value(alloc, *at, registry, steps),
-            None => self.name_value(alloc, number - self.nodes.len(), registry, steps),
+            Some(at) => self.cell_value(alloc, *at, customs, steps),
+            None => self.name_value(alloc, number - self.nodes.len(), customs, steps),
         }
     }
 
     // What the cell at the place works out.
-    fn cell_value<L: Ledger>(
+    fn cell_value<C: Customs, L: Ledger>(
         &self,
         alloc: Global,
         at: Place,
-        registry: &Registry,
+        customs: &C,
         steps: &mut Steps<L>,
     ) -> Result<Scalar, AllocError>
-        ensures { IfOk result (λ value. value ≡ worked_out (workbook_in self.now) (world_in self.now) (customs_of registry.now) (place at)) }
+        ensures { IfOk result (λ value. value ≡ worked_out (workbook_in self.now) (world_in self.now) (C.customs customs.now) (place at)) }
     {
         match self.book.cells.cell(at) {
             Some(Cell::Number(number)) => Ok(Scalar::Number(*number)),
             Some(Cell::Truth(truth)) => Ok(Scalar::Truth(*truth)),
             Some(Cell::Text(text)) => Ok(Scalar::Text(text.copy(alloc)?)),
-            Some(Cell::Formula(tree)) => self.tried(alloc, tree, Home::Cell(at), registry, steps),
+            Some(Cell::Formula(tree)) => self.tried(alloc, tree, Home::Cell(at), customs, steps),
             Some(Cell::Broken(_)) => Ok(Scalar::Fault(FaultKind::Error)),
             None => Ok(Scalar::Empty),
         }
     }
 
     // What the name at the index works out.
-    fn name_value<L: Ledger>(
+    fn name_value<C: Customs, L: Ledger>(
         &self,
         alloc: Global,
         index: usize,
-        registry: &Registry,
+        customs: &C,
         steps: &mut Steps<L>,
     ) -> Result<Scalar, AllocError>
         requires { index < length (workbook_in self.now).names }
-        ensures { IfOk result (λ value. IfSome (slice_get (workbook_in self.now).names index) (λ entry. value ≡ worked_out (workbook_in self.now) (world_in self.now) (customs_of registry.now) (name entry.0))) }
+        ensures { IfOk result (λ value. IfSome (slice_get (workbook_in self.now).names index) (λ entry. value ≡ worked_out (workbook_in self.now) (world_in self.now) (C.customs customs.now) (name entry.0))) }
     {
         match self.book.names.at(index) {
-            Some((home, tree)) => self.tried(alloc, tree, home, registry, steps),
+            Some((home, tree)) => self.tried(alloc, tree, home, customs, steps),
             None => Ok(Scalar::Fault(FaultKind::Name)),
         }
     }
 
     // Settles the value of the node with this number: on a cycle `#CYCLE!`, else what the node works out.
-    pub(crate) fn settle<L: Ledger>(
+    pub(crate) fn settle<C: Customs, L: Ledger>(
         &mut self,
         alloc: Global,
         number: usize,
         on_cycle: bool,
-        registry: &Registry,
+        customs: &C,
         steps: &mut Steps<L>,
     ) -> Result<(), AllocError>
         requires { number < length (nodes_in self.old.nodes (workbook_in self.old).names) }
-        ensures { OnOk result (Puts number (if on_cycle then scalar.Fault fault.Cycle else worked_out (workbook_in self.old) (world_in self.old) (customs_of registry.now) (node_at self.old.nodes (workbook_in self.old).names number)) self.old self.new) }
+        ensures { OnOk result (Puts number (if on_cycle then scalar.Fault fault.Cycle else worked_out (workbook_in self.old) (world_in self.old) (C.customs customs.now) (node_at self.old.nodes (workbook_in self.old).names number)) self.old self.new) }
     {
         let value = if on_cycle {
             Scalar::Fault(FaultKind::Cycle)
         } else {
-            self.worked_out(alloc, number, registry, steps)?
+            self.worked_out(alloc, number, customs, steps)?
         };
         self.keep(number, value);
         Ok(())

@@ -1,19 +1,17 @@
 -- Any list of calls follows the plain machine. Serves the laws.
-use Rattle.std.proofs.Common.{◌≡◌, List, [], ◌∷◌, Result, Ok, Err}
-use Rattle.book_model.specs.Operation.{Operation}
-use Rattle.book_model.specs.Session.{after_all, next}
-use Rattle.book_model.specs.Workbook.{State}
-use Rattle.book_engine.specs.Calls.{AnyCallsFollow, CallsLead, Runs, start, asked, wanted}
-use Rattle.book_engine.specs.Engine.{StandsFor}
+use Rattle.std.proofs.Common.{ℕ, List, Ok, Err}
+use Rattle.custom_fn.specs.declared.rule.Rule.{Rule}
+use Rattle.book_model.specs.Session.{next}
+use Rattle.book_engine.specs.Calls.{AnyCallsFollow, CallsLead, start, asked, wanted}
 use Rattle.book_engine.specs.declared.engine.Engine.{Engine}
 use Rattle.book_engine.specs.declared.stop.Stop.TheVariants.{Refused, NoMemory}
 
-pub lead : (X : Type 0) → CallsLead X
-lead X op old new (Ok x) does = λ d stands. (does d stands).2
-lead X op old new (Err (Refused r)) does = λ d stands. (does d stands).1
-lead X op old new (Err NoMemory) does = does
+pub lead : {C : Type 0} (customs : C → List (List ℕ × Rule)) (X : Type 0) (e : Engine C) → CallsLead customs X e
+lead customs X old op new (Ok x) does = λ d stands. (does d stands).2
+lead customs X old op new (Err (Refused r)) does = λ d stands. (does d stands).1
+lead customs X old op new (Err NoMemory) does = does
 
-pub follow : AnyCallsFollow
-follow e f ops d (start x) stands = stands
-follow e f ops d (asked op rest x g y leads runs) stands = follow g f rest (next op d) runs (leads d stands)
-follow e f ops d (wanted rest x g y stays runs) stands = follow g f rest d runs (stays d stands)
+pub follow : {C : Type 0} (customs : C → List (List ℕ × Rule)) (e : Engine C) → AnyCallsFollow customs e
+follow customs e f ops d (start x) stands = stands
+follow customs e f ops d (asked op rest x h y leads runs) stands = follow customs h f rest (next op d) runs (leads d stands)
+follow customs e f ops d (wanted rest x h y stays runs) stands = follow customs h f rest d runs (stays d stands)

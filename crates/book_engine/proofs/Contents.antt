@@ -1,6 +1,6 @@
 -- What the contents of kept cells are at a place, and what they are after one cell or some change. Serves the calls
 -- of the engine.
-use Rattle.std.proofs.Common.{◌≡◌, ◌∙◌, sym, ap, subst, refl, ℕ, Bool, true, false, cond, if◌then◌else◌, not, List, [], ◌∷◌, map, Option, Some, None, option_map, arith, ◌==◌}
+use Rattle.std.proofs.Common.{◌≡◌, ◌∙◌, sym, ap, subst, refl, ℕ, Bool, true, false, cond, not, List, [], ◌∷◌, map, Option, Some, None, option_map, arith, ◌==◌}
 use Rattle.std.proofs.lemmas.Bool.Decides.{nat_tests}
 use Rattle.std.proofs.lemmas.Option.{same_Some}
 use Rattle.std.specs.FinMap as fin
@@ -9,7 +9,7 @@ use Rattle.std.specs.Ordering.{eq_by_cmp}
 use Rattle.cell_addr.specs.Order.{place_cmp}
 use Rattle.cell_addr.specs.declared.place.Place.{Place}
 use Rattle.cell_addr.proofs.Places.{place_cmp-IsTotalOrder, place_cmp-IsAntisymmetric}
-use Rattle.cell_values.specs.Workbook.{Book as Contents, Content, formula}
+use Rattle.cell_values.specs.Workbook.{Content, formula}
 use Rattle.formula_tree.specs.Term.{Term}
 use Rattle.formula_tree.specs.declared.reference.Corner.{Corner}
 use Rattle.grid_store.specs.declared.cell.Cell.{Cell}

@@ -1,7 +1,7 @@
 -- Cells of a block that are emptied one after the other, and places of listed cells. Serves blocks that are emptied and
 -- structural operations.
-use Rattle.std.proofs.Common.{◌≡◌, ◌∙◌, sym, ap, subst, refl, ℕ, Bool, true, false, cond, not, List, [], ◌∷◌, Option, Some, None, IsSome, is_some, is_none, option_map}
-use Rattle.std.specs.List.{All, AllByRecursion}
+use Rattle.std.proofs.Common.{◌≡◌, ◌∙◌, sym, ap, subst, refl, Bool, true, false, cond, not, List, [], ◌∷◌, Option, Some, None, IsSome, is_some, is_none, option_map}
+use Rattle.std.specs.List.{All}
 use Rattle.std.specs.FinMap as fin
 use Rattle.std.specs.FinMap.{find, get-entries, get-remove, get-retain_keys, same_map}
 use Rattle.std.specs.Ordering.{eq_by_cmp}
@@ -38,7 +38,7 @@ get-emptied (e ∷ es) m q =
     go true b r is = none b
     go false b r is = ap (λ x. cond x None (fin.get m q)) (sym is)
 
-found_within : (area : Block) (cells : PlaceMap Cell) (q : Place) → find place_cmp q (fin.entries (within area cells)) ≡ cond (covers area q) (fin.get cells q) None
+pub found_within : (area : Block) (cells : PlaceMap Cell) (q : Place) → find place_cmp q (fin.entries (within area cells)) ≡ cond (covers area q) (fin.get cells q) None
 found_within area cells q =
     sym (get-entries (within area cells) q) ∙ get-retain_keys cells (covers area) q (λ p t. ap (covers area) (sym (place_cmp-IsAntisymmetric q p t)))
 

@@ -1,5 +1,5 @@
 -- Changes of single cells lead back and forward. Serves the cells of a workbook and the steps over them.
-use Rattle.std.proofs.Common.{◌≡◌, ◌∙◌, sym, ap, subst, refl, ℕ, Bool, true, false, cond, if◌then◌else◌, List, [], ◌∷◌, ◌++◌, Option, Some, None, option_map, arith, ◌==◌, IsSome}
+use Rattle.std.proofs.Common.{◌≡◌, ◌∙◌, sym, ap, subst, refl, ℕ, Bool, true, false, cond, List, [], ◌∷◌, ◌++◌, Option, Some, None, option_map, arith, ◌==◌, IsSome}
 use Rattle.std.proofs.lemmas.Bool.Decides.{nat_tests}
 use Rattle.std.specs.FinMap as fin
 use Rattle.std.specs.FinMap.{get-insert, get-remove, same_map}
@@ -11,6 +11,7 @@ use Rattle.grid_store.specs.declared.cell.Cell.{Cell}
 use Rattle.grid_store.specs.declared.cell.Cell.TheVariants as cell
 use Rattle.shift_core.specs.Maps.{PlaceMap}
 use Rattle.book_model.proofs.Contents.{is_at}
+use Rattle.book_model.specs.Names.{NameMap}
 use Rattle.book_model.specs.Workbook.{Workbook}
 use Rattle.cell_values.specs.Workbook.{Book as Contents}
 use Rattle.book_engine.specs.Formulas.{Numbered, Stood, stood}
@@ -23,9 +24,9 @@ use Rattle.book_engine.specs.internal.Cells.{HoldsOf, IsHeldIn, IsPlain}
 use Rattle.shift_core.proofs.CarriedEntries.{eq_by_cmp-decides}
 
 -- kept workbooks are the same where their parts are
-pub same_stored : {s t : Numbered} {c d : PlaceMap Cell} {x y : List (ℕ × List ℕ)} → ((n : ℕ) → s n ≡ t n) → c ≡ d → x ≡ y
-    → ◌≡◌ {A = Stored} (record { stands = s; cells = c; sheets = x }) (record { stands = t; cells = d; sheets = y })
-same_stored h e f i = record { stands = λ n. h n i; cells = e i; sheets = f i }
+pub same_stored : {s t : Numbered} {c d : PlaceMap Cell} {x y : List (ℕ × List ℕ)} {m n : NameMap} → ((n : ℕ) → s n ≡ t n) → c ≡ d → x ≡ y → m ≡ n
+    → ◌≡◌ {A = Stored} (record { stands = s; cells = c; sheets = x; names = m }) (record { stands = t; cells = d; sheets = y; names = n })
+same_stored h e f g i = record { stands = λ n. h n i; cells = e i; sheets = f i; names = g i }
 
 -- a cell without a formula releases nothing
 pub released_plain : (c : Cell) (stands : Numbered) (k : ℕ) → IsPlain c → released (Some c) stands k ≡ stands k
@@ -80,16 +81,16 @@ with_released (Some (held.Plain c)) s t k e = e
 with_released (Some (held.Formula m g)) s t k e = ap (cond (k == m) (Some (stood g))) e
 
 -- a cell that was filled without a formula, or emptied, holds again what it held
-pub plain_back : (one stands : Numbered) (cells new : PlaceMap Cell) (sheets : List (ℕ × List ℕ)) (at : Place) (b : Option Held) (a : Option Cell)
+pub plain_back : (one stands : Numbered) (cells new : PlaceMap Cell) (sheets : List (ℕ × List ℕ)) (names : NameMap) (at : Place) (b : Option Held) (a : Option Cell)
     → option_map cell_held b ≡ fin.get cells at → IsHeldIn b one → IsPlainIn a → ((n : ℕ) → stands n ≡ released (fin.get cells at) one n) → new ≡ with_cell at a cells
-    → exchanged at b (record { stands = stands; cells = new; sheets = sheets }) ≡ record { stands = one; cells = cells; sheets = sheets }
-plain_back one stands cells new sheets at b a here h plain s e = same_stored
+    → exchanged at b (record { stands = stands; cells = new; sheets = sheets; names = names }) ≡ record { stands = one; cells = cells; sheets = sheets; names = names }
+plain_back one stands cells new sheets names at b a here h plain s e = same_stored
     (λ n.
     with_released b (released (fin.get new at) stands) (released (option_map cell_held b) one) n
     (ap (λ r. released r stands n) (ap (λ m. fin.get m at) e ∙ get-here at a cells) ∙ none_released a stands n plain ∙ s n ∙ ap (λ r. released r one n) (sym here))
     ∙ held_back b one n h)
     (ap (with_cell at (option_map cell_held b)) e ∙ cells_back at (option_map cell_held b) a cells (sym here))
-    refl
+    refl refl
 
 -- a formula that is new under a number, before what was there is released
 abbrev pub IsPutIn : ℕ → Stood → Numbered → Numbered → Type 0
@@ -116,16 +117,16 @@ numbers_back (Some (held.Formula m g)) one two three n k f h v put rest = go (k 
     go false false is also e = e
 
 -- a cell that was filled with a formula holds again what it held
-pub formula_back : (one two three : Numbered) (cells new : PlaceMap Cell) (sheets : List (ℕ × List ℕ)) (at : Place) (b : Option Held) (n : ℕ) (f : Stood)
+pub formula_back : (one two three : Numbered) (cells new : PlaceMap Cell) (sheets : List (ℕ × List ℕ)) (names : NameMap) (at : Place) (b : Option Held) (n : ℕ) (f : Stood)
     → option_map cell_held b ≡ fin.get cells at → IsHeldIn b one → one n ≡ None → IsPutIn n f one two → ((j : ℕ) → three j ≡ released (fin.get cells at) two j) → new ≡ with_cell at (Some (cell.Formula n)) cells
-    → exchanged at b (record { stands = three; cells = new; sheets = sheets }) ≡ record { stands = one; cells = cells; sheets = sheets }
-formula_back one two three cells new sheets at b n f here h v put rest e = same_stored
+    → exchanged at b (record { stands = three; cells = new; sheets = sheets; names = names }) ≡ record { stands = one; cells = cells; sheets = sheets; names = names }
+formula_back one two three cells new sheets names at b n f here h v put rest e = same_stored
     (λ k.
     with_released b (released (fin.get new at) three) (released (Some (cell.Formula n)) three) k
     (ap (λ r. released r three k) (ap (λ m. fin.get m at) e ∙ get-here at (Some (cell.Formula n)) cells))
     ∙ numbers_back b one two three n k f h v put (λ j. rest j ∙ ap (λ r. released r two j) (sym here)))
     (ap (with_cell at (option_map cell_held b)) e ∙ cells_back at (option_map cell_held b) (Some (cell.Formula n)) cells (sym here))
-    refl
+    refl refl
 
 -- what a cell held under the numbers after a formula is put in, it held before
 pub held_before : (b : Option Held) (one two : Numbered) (cells : PlaceMap Cell) (at : Place) (n : ℕ) (f : Stood) → AllStand one cells → one n ≡ None → IsPutIn n f one two
@@ -162,9 +163,9 @@ holds_after one two cells at c n f all put e m is = subst IsSome (sym (put m)) (
     go false s = s
 
 -- the workbook where the contents are these
-pub same_book : (sheets : List (ℕ × List ℕ)) (stands : Numbered) (new : PlaceMap Cell) (m : Contents) (cells : PlaceMap Cell) → new ≡ cells → contents_of stands cells ≡ m
-    → ◌≡◌ {A = Workbook} (record { sheets = sheets; cells = contents_of stands new }) (record { sheets = sheets; cells = m })
-same_book sheets stands new m cells e f = ap (λ x. record { sheets = sheets; cells = x }) (ap (contents_of stands) e ∙ f)
+pub same_book : (sheets : List (ℕ × List ℕ)) (names : NameMap) (stands : Numbered) (new : PlaceMap Cell) (m : Contents) (cells : PlaceMap Cell) → new ≡ cells → contents_of stands cells ≡ m
+    → ◌≡◌ {A = Workbook} (record { sheets = sheets; cells = contents_of stands new; names = names }) (record { sheets = sheets; cells = m; names = names })
+same_book sheets names stands new m cells e f = ap (λ x. record { sheets = sheets; cells = x; names = names }) (ap (contents_of stands) e ∙ f)
 
 -- of changes one after the other the last is taken back first
 pub one_more : (cs : List CellChange) (c : CellChange) (k : Stored) → cells_undone (cs ++ c ∷ []) k ≡ cells_undone cs (exchanged c.at c.before k)

@@ -1,10 +1,9 @@
 -- How many cells are filled, and when a text fills one more. Serves the limit on filled cells.
-use Rattle.std.proofs.Common.{◌≡◌, ◌∙◌, sym, ap, subst, refl, arith, ℕ, ℤ, ◌≤◌, ◌<◌, ◌+◌, ◌==◌, ◌&&◌, nat_lt, Bool, true, false, cond, List, [], ◌∷◌, length, Option, Some, None, is_some, is_none, option_map, Result, Ok, Err, not, ◌-◌, Bor, option_copied}
+use Rattle.std.proofs.Common.{◌≡◌, ◌∙◌, sym, ap, refl, arith, ℕ, ℤ, ◌≤◌, ◌+◌, ◌==◌, ◌&&◌, nat_lt, Bool, true, false, cond, List, [], ◌∷◌, length, Option, Some, None, is_some, is_none, option_map, Result, Ok, Err, not, ◌-◌, Bor, option_copied}
 use Rattle.std.specs.Prelude.{nat_le}
 use Rattle.std.proofs.lemmas.Bool.Decides.{nat_tests}
 use Rattle.std.specs.FinMap as fin
-use Rattle.std.specs.FinMap.{find, get-entries, len-entries, len-insert, len-remove, contains_key}
-use Rattle.cell_addr.specs.Order.{place_cmp}
+use Rattle.std.specs.FinMap.{get-entries, len-entries, len-insert, len-remove, contains_key}
 use Rattle.cell_addr.specs.declared.place.Place.{Place}
 use Rattle.cell_addr.proofs.Places.{place_cmp-IsTotalOrder, place_cmp-IsAntisymmetric}
 use Rattle.cell_value.specs.Scalar.{read_truth}
@@ -15,7 +14,7 @@ use Rattle.fix_num.specs.declared.error.NumError.{NumError}
 use Rattle.grid_store.specs.declared.cell.Cell.{Cell}
 use Rattle.shift_core.specs.Maps.{PlaceMap}
 use Rattle.book_model.specs.Changes.{placed}
-use Rattle.book_model.specs.Content.{content_given, content_of as content_said, plain_content, word_content, formula_content, tree_given}
+use Rattle.book_model.specs.Content.{content_given, content_of as content_said, plain_content, word_content}
 use Rattle.book_model.specs.declared.content.ContentText.{ContentText}
 use Rattle.book_model.specs.declared.content.ContentText.TheVariants as said
 use Rattle.book_model.proofs.Counts.{len-part}

@@ -1,5 +1,5 @@
 -- Sheets that an engine can begin with: none, and one with one cell. Serves tests and examples.
-use Rattle.std.proofs.Common.{◌≡◌, ◌≢◌, ◌∙◌, sym, ap, refl, arith, ℕ, zero, suc, ◌<◌, ◌≤◌, List, [], ◌∷◌, ◌++◌, length, codes}
+use Rattle.std.proofs.Common.{◌≡◌, ◌≢◌, ap, refl, arith, zero, suc, ◌≤◌, List, [], ◌∷◌, ◌++◌, length, codes}
 use Rattle.std.specs.Prelude.{All, AllPairs}
 use Rattle.std.specs.List.{filter_map}
 use Rattle.std.specs.FinMap as fin
@@ -8,9 +8,8 @@ use Rattle.cell_addr.specs.Order.{place_cmp}
 use Rattle.cell_addr.specs.Text.{folded}
 use Rattle.cell_addr.proofs.Places.{place_cmp-IsTotalOrder}
 use Rattle.cell_values.specs.Workbook.{Content}
-use Rattle.book_model.specs.Given.{CanBegin, IsGivenCell, IsGivenSheet, StandApart, given_entries, given_entry, numbered, workbook_given}
+use Rattle.book_model.specs.Given.{CanBegin, GivenSheet, IsGivenCell, IsGivenSheet, StandApart, given_entries, given_entry, numbered, workbook_given}
 use Rattle.book_model.specs.declared.given.BookCell.{BookCell}
-use Rattle.book_model.specs.declared.given.BookSheet.{BookSheet}
 use Rattle.book_model.proofs.Counts.{len-from_entries, length-filter_map}
 
 all_none : {X : Type 0} (P : X → Type 0) → All P []
@@ -30,7 +29,7 @@ pairs_one R x i j d before inside = absurd (omega arith)
 pub no_sheets : CanBegin []
 no_sheets = (
   all_none IsGivenSheet,
-  pairs_none (λ (t u : BookSheet). folded t.name ≢ folded u.name),
+  pairs_none (λ (t u : GivenSheet). folded t.name ≢ folded u.name),
   omega arith,
   let none = len-empty place_cmp Content in omega (arith, none),
 )
@@ -39,20 +38,20 @@ end_none : {X : Type 0} (xs : List X) → xs ++ [] ≡ xs
 end_none [] = refl
 end_none (x ∷ xs) = ap (λ ys. x ∷ ys) (end_none xs)
 
-few : (s : BookSheet) (c : BookCell) → s.cells.list.items ≡ c ∷ [] → fin.len (workbook_given (s ∷ [])).cells ≤ 1000000
+few : (s : GivenSheet) (c : BookCell) → s.cells ≡ c ∷ [] → fin.len (workbook_given (s ∷ [])).cells ≤ 1000000
 few s c one =
-    let es = filter_map (given_entry (numbered 0 (s ∷ [])) 0) s.cells.list.items in
+    let es = filter_map (given_entry (numbered 0 (s ∷ [])) 0) s.cells in
     let most = len-from_entries place_cmp-IsTotalOrder (es ++ []) in
     let all = ap length (end_none es) in
-    let fewer = length-filter_map (given_entry (numbered 0 (s ∷ [])) 0) s.cells.list.items in
+    let fewer = length-filter_map (given_entry (numbered 0 (s ∷ [])) 0) s.cells in
     let single = ap length one in
     omega (arith, most, all, fewer, single)
 
 -- one sheet with one cell
-pub one_cell : (s : BookSheet) (c : BookCell) → s.name ≡ codes "Plan" → s.cells.list.items ≡ c ∷ [] → IsGivenCell c → CanBegin (s ∷ [])
+pub one_cell : (s : GivenSheet) (c : BookCell) → s.name ≡ codes "Plan" → s.cells ≡ c ∷ [] → IsGivenCell c → CanBegin (s ∷ [])
 one_cell s c name one given = (
   all_one IsGivenSheet s (rw (name, one) (refl, all_one IsGivenCell c given, pairs_one StandApart c)),
-  pairs_one (λ (t u : BookSheet). folded t.name ≢ folded u.name) s,
+  pairs_one (λ (t u : GivenSheet). folded t.name ≢ folded u.name) s,
   omega arith,
   few s c one,
 )

@@ -1,5 +1,6 @@
 pub mod SheetNames
 pub mod Slots
+pub mod NamedSlots
 pub mod Contents
 pub mod Exchanges
 pub mod Emptying
@@ -13,5 +14,13 @@ pub mod FilledWorkbooks
 pub mod GivenExamples
 pub mod Changing
 pub mod Reached
-pub mod AnyCalls
 pub mod Counted
+pub mod Causes
+pub mod AnyCalls
+pub mod PastedBooks
+pub mod CopiedCells
+pub mod PastedSteps
+pub mod SortedKeys
+pub mod RaisedKeys
+pub mod NeedingCells
+pub mod NeedingNames

@@ -1,16 +1,16 @@
 -- What a change leaves behind for undo, and what steps back and forward find. Serves the calls that change a workbook,
 -- batches, undo and redo.
-use Rattle.std.proofs.Common.{◌≡◌, ◌∙◌, sym, ap, subst, refl, arith, inl, inr, ℕ, zero, suc, ◌<◌, ◌≤◌, ◌-◌, Bool, true, false, if◌then◌else◌, List, [], ◌∷◌, ◌++◌, length, reverse, take, drop, Option, Some, None, option_map}
+use Rattle.std.proofs.Common.{pos, ◌≡◌, ◌∙◌, sym, ap, subst, refl, arith, inl, inr, ℕ, zero, suc, ◌<◌, ◌≤◌, ◌-◌, Bool, true, false, if◌then◌else◌, List, [], ◌∷◌, ◌++◌, length, reverse, take, drop, Option, Some, None, option_map}
 use Rattle.std.proofs.Math.Seq.{take-append_seam}
 use Rattle.std.proofs.lemmas.Bool.{cases_lt}
 use Rattle.std.proofs.lemmas.List.{length-drop, length-reverse, reverse-append, take-append-drop, take_all}
 use Rattle.undo_book.proofs.LastEntries.{all_but_last-end}
-use Rattle.undo_book.specs.History.{History, all_but_last, last_of, pushed, with_done, with_spare, with_undone, without_newest, without_next}
+use Rattle.undo_book.specs.History.{History, all_but_last, last_of, with_done, with_spare, with_undone, without_newest, without_next}
+use Rattle.book_model.specs.Clipboard.{nothing}
 use Rattle.book_model.specs.Session.{changed, closed, kept, redone as session_redone, undone as session_undone}
-use Rattle.book_model.specs.Workbook.{Batch, State, Workbook}
 use Rattle.book_engine.specs.Seen.{IsKept, StandOver, batch_of, books_over, has_any, session_of, start_of}
 use Rattle.book_engine.specs.Steps.{over, part_undone, undone}
-use Rattle.book_engine.specs.Stored.{Stand, Stored, book_of, stored}
+use Rattle.book_engine.specs.Stored.{Stand, Stored, book_of}
 use Rattle.book_engine.specs.declared.history.Entry.{Entry}
 use Rattle.book_engine.specs.declared.history.Entry.TheVariants as entry
 use Rattle.book_engine.specs.declared.history.Part.{Part}
@@ -65,6 +65,9 @@ same_session k h g None c s n steps batch = λ i. record {
   suspended = s;
   next_sheet = n;
   limit = steps.2 i;
+  customs = [];
+  today = pos 0;
+  clip = nothing;
 }
 same_session k h g (Some b) c s n steps batch = subst (λ o. session_of k g o s n ≡ session_of k h (Some b) s n) (sym batch.1) (λ j. record {
   book = book_of k;
@@ -74,6 +77,9 @@ same_session k h g (Some b) c s n steps batch = subst (λ o. session_of k g o s 
   suspended = s;
   next_sheet = n;
   limit = steps.2 j;
+  customs = [];
+  today = pos 0;
+  clip = nothing;
 })
 
 pub same_kept : (k : Stored) (h g : History Entry) (b c : Option Changes) → SameSteps h g → SameBatch b c → IsKept k h b → IsKept k g c
@@ -123,6 +129,9 @@ noted k new h g None c p s n part notes = subst (λ o. session_of new g o s n �
   suspended = s;
   next_sheet = n;
   limit = notes.1.4 j;
+  customs = [];
+  today = pos 0;
+  clip = nothing;
 })
 noted k new h g (Some b) c p s n part notes =
     let u : undone notes.0.0.parts.items new ≡ undone b.parts.items k = ap (λ ps. undone ps new) notes.0.2 ∙ undone-append b.parts.items p new ∙ ap (undone b.parts.items) part in
@@ -135,6 +144,9 @@ noted k new h g (Some b) c p s n part notes =
       suspended = s;
       next_sheet = n;
       limit = notes.3 i;
+      customs = [];
+      today = pos 0;
+      clip = nothing;
     })
 
 pub noted_kept : (k new : Stored) (h g : History Entry) (b c : Option Changes) (p : Part) → part_undone p new ≡ k → Notes p b h c g → IsKept k h b → Stand new → IsKept new g c
@@ -172,6 +184,9 @@ closed_some k h g b [] s n is closes cleared =
       suspended = s;
       next_sheet = n;
       limit = closes.2 i;
+      customs = [];
+      today = pos 0;
+      clip = nothing;
     })
 closed_some k h g b (p ∷ ps) s n is closes cleared =
     let any : has_any b.parts.items ≡ true = ap has_any is in
@@ -185,6 +200,9 @@ closed_some k h g b (p ∷ ps) s n is closes cleared =
       suspended = s;
       next_sheet = n;
       limit = closes.4 i;
+      customs = [];
+      today = pos 0;
+      clip = nothing;
     })
 
 pub closed_session : (k : Stored) (h g : History Entry) (b : Option Changes) (s : Bool) (n : ℕ) → Closes b h g → ((c : Changes) → b ≡ Some c → has_any c.parts.items ≡ true → length (books_over k (reverse h.undone)) ≡ 0)
@@ -231,6 +249,9 @@ module _ (k new : Stored) (h g : History Entry) (e w : Entry) (ys : List Entry) 
         suspended = s;
         next_sheet = n;
         limit = (steps i).limit;
+        customs = [];
+        today = pos 0;
+        clip = nothing;
       })
 
   pub undone_kept : IsKept k h None → IsKept new g None
@@ -264,6 +285,9 @@ module _ (k new : Stored) (h g : History Entry) (e w : Entry) (ys : List Entry) 
         suspended = s;
         next_sheet = n;
         limit = (steps i).limit;
+        customs = [];
+        today = pos 0;
+        clip = nothing;
       })
 
   pub redone_kept : IsKept k h None → IsKept new g None

@@ -1,11 +1,10 @@
 -- Whether an insert pushes a cell off its sheet, by the list of cells. Serves the tests of refusals.
-use Rattle.std.proofs.Common.{◌≡◌, ◌∙◌, sym, ap, subst, refl, ℕ, Bool, true, false, cond, ◌||◌, List, [], ◌∷◌, Option, Some, None, IsSome, is_none, ◌↔◌, IsTrue}
+use Rattle.std.proofs.Common.{◌≡◌, ◌∙◌, sym, ap, subst, refl, Bool, true, false, cond, ◌||◌, List, [], ◌∷◌, Option, Some, None, IsSome, is_none, ◌↔◌, IsTrue}
 use Rattle.std.specs.List.{AllByRecursion, list_any}
 use Rattle.std.specs.FinMap as fin
 use Rattle.std.specs.FinMap.{find, get-entries}
 use Rattle.std.specs.Ordering.{eq_by_cmp}
 use Rattle.cell_addr.specs.Order.{place_cmp}
-use Rattle.cell_addr.specs.declared.axis.Axis.{Axis}
 use Rattle.cell_addr.specs.declared.place.Place.{Place}
 use Rattle.cell_addr.proofs.Places.{place_cmp-IsTotalOrder, place_cmp-IsAntisymmetric}
 use Rattle.grid_store.specs.Grid.{IsInsert, PushesEntryOff}
@@ -15,9 +14,7 @@ use Rattle.shift_core.proofs.MovedMaps.{each_place}
 use Rattle.shift_core.specs.Form.{form_of}
 use Rattle.shift_core.specs.Maps.{PlaceMap}
 use Rattle.shift_core.specs.Tables.{place_after, place_moved}
-use Rattle.shift_core.specs.declared.edit.Edit.TheVariants.{Insert}
 use Rattle.shift_core.specs.declared.form.Form.{Form}
-use Rattle.shift_core.specs.declared.form.Form.TheVariants.{Lines}
 use Rattle.shift_core.specs.declared.shift.Shift.{Shift}
 use Rattle.book_engine.specs.Formulas.{Numbered}
 use Rattle.book_engine.specs.Stored.{contents_of}

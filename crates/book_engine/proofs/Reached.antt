@@ -1,5 +1,5 @@
 -- What undo and redo come to: the next step is there, and the session is the one that it leads to. Serves both calls.
-use Rattle.std.proofs.Common.{◌≡◌, ◌∙◌, sym, ap, subst, refl, arith, ℕ, suc, ◌-◌, ◌==◌, inl, inr, Bool, true, false, cond, List, [], ◌∷◌, ◌++◌, length, reverse, Option, None, Some, is_some}
+use Rattle.std.proofs.Common.{◌≡◌, ◌∙◌, sym, ap, subst, refl, arith, ℕ, suc, ◌-◌, ◌==◌, inl, inr, Bool, false, cond, List, [], ◌∷◌, ◌++◌, length, reverse, Option, None, Some, is_some}
 use Rattle.std.specs.Prelude.{slice_get}
 use Rattle.std.proofs.lemmas.Bool.Decides.{nat_tests}
 use Rattle.std.proofs.lemmas.Option.{same_Some}

@@ -1,5 +1,5 @@
 -- What the list of sheets tells of numbers and names. Serves the tests of refusals.
-use Rattle.std.proofs.Common.{◌≡◌, ◌≢◌, ◌∙◌, sym, ap, refl, arith, ℕ, zero, suc, ◌<◌, Bool, true, false, cond, eqb, ◌==◌, not, ◌&&◌, ◌||◌, List, [], ◌∷◌, length, get_or, Option, Some, None, is_some, IsSome, option_map, option_copied, Bor, inl, inr}
+use Rattle.std.proofs.Common.{◌≡◌, ◌≢◌, ◌∙◌, sym, refl, arith, ℕ, zero, suc, ◌<◌, Bool, true, false, cond, ◌==◌, not, ◌&&◌, ◌||◌, List, [], ◌∷◌, length, get_or, Option, Some, None, is_some, IsSome, option_map, option_copied, Bor, inl, inr}
 use Rattle.std.specs.Prelude.{slice_get, ◌⊎◌}
 use Rattle.std.proofs.lemmas.Bool.Decides.{nat_tests}
 use Rattle.book_model.proofs.Accepted.{is_known, none_hold}
@@ -8,7 +8,7 @@ use Rattle.book_model.specs.Operation.{add_sheet, rename_sheet}
 use Rattle.book_model.specs.Refusals.{cause, causes}
 use Rattle.book_model.specs.Sound.{IsSound}
 use Rattle.name_table.specs.SheetLists.{CanJoin, IsFree}
-use Rattle.std.specs.List.{All, AllPairs, list_any}
+use Rattle.std.specs.List.{list_any}
 use Rattle.cell_addr.specs.Text.{folded}
 use Rattle.cell_addr.specs.Sheets.{same_name, id_in, name_in, AreApart}
 use Rattle.cell_addr.proofs.Listed.{folded-same_name, same_name-true}

@@ -1,5 +1,5 @@
 -- A call leads from one sound session to another. Serves the calls of the engine.
-use Rattle.std.proofs.Common.{◌≡◌, ◌∙◌, sym, ap, subst, refl, arith, ℕ, ◌-◌, ◌==◌, Bool, true, false, cond, not, List, Option, Some, None, is_some, IsSome, Result, Ok, Err}
+use Rattle.std.proofs.Common.{◌≡◌, ◌∙◌, sym, ap, subst, refl, arith, ℕ, ◌-◌, ◌==◌, Bool, true, false, cond, not, Option, Some, None, is_some, IsSome, Result, Ok, Err}
 use Rattle.std.proofs.lemmas.Bool.Decides.{nat_tests}
 use Rattle.std.specs.FinMap.{get-retain_keys, same_map}
 use Rattle.cell_addr.specs.declared.place.Block.{Block}

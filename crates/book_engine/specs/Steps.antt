@@ -1,5 +1,5 @@
 -- What operations changed in a kept workbook, and how that is taken back. Source: this project's own.
-use Rattle.std.specs.Prelude.{◌≡◌, ◌==◌, if◌then◌else◌, ℕ, List, [], ◌∷◌, Option, Some, None, option_map}
+use Rattle.std.specs.Prelude.{◌==◌, if◌then◌else◌, ℕ, List, [], ◌∷◌, Option, Some, None, option_map}
 use Rattle.std.specs.FinMap as fin
 use Rattle.cell_addr.specs.declared.place.Place.{Place}
 use Rattle.grid_store.specs.Grid.{items_of}
@@ -8,6 +8,8 @@ use Rattle.grid_store.specs.declared.cell.Cell.TheVariants as cell
 use Rattle.name_table.specs.Listed.{listed}
 use Rattle.name_table.specs.declared.names.Names.{Names}
 use Rattle.shift_core.specs.Maps.{PlaceMap, restored_map}
+use Rattle.book_model.specs.Names.{with_tree}
+use Rattle.book_engine.specs.Expressions.{names_in, slot_of}
 use Rattle.book_engine.specs.Formulas.{Numbered, numbered, stood}
 use Rattle.book_engine.specs.Stored.{Stored, stored}
 use Rattle.book_engine.specs.declared.held.CellChange.{CellChange}
@@ -17,7 +19,6 @@ use Rattle.book_engine.specs.declared.history.Entry.{Entry}
 use Rattle.book_engine.specs.declared.history.Entry.TheVariants as entry
 use Rattle.book_engine.specs.declared.history.Part.{Part}
 use Rattle.book_engine.specs.declared.history.Part.TheVariants as part
-use Rattle.book_engine.specs.declared.history.ShiftChange.{ShiftChange}
 
 -- the cell of what a cell held
 abbrev pub cell_held : Held → Cell
@@ -63,8 +64,10 @@ part_undone (part.Shifted c) k = record {
   stands = numbered c.formulas;
   cells = restored_map c.shift (items_of c.removed) k.cells;
   sheets = sheets_before c.names k.sheets;
+  names = names_in c.expressions;
 }
 part_undone (part.Sheets names) k = record k { sheets = listed names }
+part_undone (part.Named e) k = record k { names = with_tree (slot_of e).0 (slot_of e).1 k.names }
 
 -- what several operations changed is taken back, the last one first
 abbrev pub undone : List Part → Stored → Stored

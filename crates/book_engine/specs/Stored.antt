@@ -11,7 +11,9 @@ use Rattle.grid_store.specs.declared.cell.Cell.{Cell}
 use Rattle.grid_store.specs.declared.cell.Cell.TheVariants as cell
 use Rattle.name_table.specs.Listed.{listed}
 use Rattle.shift_core.specs.Maps.{PlaceMap}
+use Rattle.book_model.specs.Names.{NameMap}
 use Rattle.book_model.specs.Workbook.{Workbook}
+use Rattle.book_engine.specs.Expressions.{names_in}
 use Rattle.book_engine.specs.Formulas.{Numbered, Stood, numbered}
 use Rattle.book_engine.specs.declared.book.Book.{Book}
 
@@ -32,18 +34,19 @@ content_of stands (cell.Broken w) = unreadable w
 abbrev pub contents_of : Numbered → PlaceMap Cell → Contents
 contents_of stands cells = fin.from_entries (map (λ e. (e.0, content_of stands e.1)) (fin.entries cells))
 
--- a workbook as it is kept: formulas under numbers, the cells that name them, and the sheets
+-- a workbook as it is kept: formulas under numbers, the cells that name them, the sheets, and the named expressions
 pub record Stored : Type 0 where
   pub stands : Numbered
   pub cells : PlaceMap Cell
   pub sheets : List (ℕ × List ℕ)
+  pub names : NameMap
 
 abbrev pub stored : Book → Stored
-stored b = record { stands = numbered b.formulas; cells = cells_of b.grid; sheets = listed b.names }
+stored b = record { stands = numbered b.formulas; cells = cells_of b.grid; sheets = listed b.names; names = names_in b.expressions }
 
 -- the workbook that is kept so
 abbrev pub book_of : Stored → Workbook
-book_of k = record { sheets = k.sheets; cells = contents_of k.stands k.cells }
+book_of k = record { sheets = k.sheets; cells = contents_of k.stands k.cells; names = k.names }
 
 -- the number is that of a formula at the place
 abbrev pub StandsAt : Numbered → ℕ → Place → Type 0

@@ -3,28 +3,31 @@ ghost use Rattle.std.specs.Prelude.{◌≡◌, [], None, IfOk};
 ghost use Rattle.std.specs.FinMap as map;
 ghost use Rattle.book_engine.specs.Stored.{stored};
 
+use crate::expressions::Expressions;
 use crate::formulas::Formulas;
 use grid_store::Grid;
 use name_table::Names;
 use std::alloc::{AllocError, Global};
 
-/// A workbook as it is kept: the formulas under numbers, the filled cells, and the sheets.
+/// A workbook as it is kept: the formulas under numbers, the filled cells, the sheets, and the named expressions.
 #[derive(Drop)]
 pub struct Book {
     pub formulas: Formulas,
     pub grid: Grid,
     pub names: Names,
+    pub expressions: Expressions,
 }
 
 impl Book {
     // A workbook without sheets.
     pub(crate) fn new(alloc: Global) -> Result<Book, AllocError>
-        ensures { IfOk result (λ book. stored book ≡ record { stands = λ n. None; cells = map.empty; sheets = [] }) }
+        ensures { IfOk result (λ book. stored book ≡ record { stands = λ n. None; cells = map.empty; sheets = []; names = map.empty }) }
     {
         Ok(Book {
             formulas: Formulas::new(alloc),
             grid: Grid::new(alloc)?,
             names: Names::new(alloc)?,
+            expressions: Expressions::new(alloc),
         })
     }
 
@@ -36,6 +39,7 @@ impl Book {
             formulas: self.formulas.copied()?,
             grid: self.grid.copied()?,
             names: self.names.copied()?,
+            expressions: self.expressions.copied()?,
         })
     }
 }

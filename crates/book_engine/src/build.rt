@@ -1,8 +1,8 @@
 // The engine of given sheets.
-ghost use Rattle.std.specs.Prelude.{◌≡◌, ◌≤◌, IfOk, OnOk, [], length, filter_map};
+ghost use Rattle.std.specs.Prelude.{◌≡◌, ◌≤◌, IfOk, OnOk, [], length, filter_map, pos};
 ghost use Rattle.std.specs.FinMap as map;
 ghost use Rattle.std.specs.List.{All, cons_option};
-ghost use Rattle.book_model.specs.Given.{CanBegin, IsGivenCell, given_entries, given_entry, numbered, session_given, workbook_given};
+ghost use Rattle.book_model.specs.Given.{CanBegin, IsGivenCell, given_entries, given_entry, given_sheets, numbered, session_given, workbook_given};
 ghost use Rattle.book_model.specs.declared.limits.TheConstants.{MAX_UNDO};
 ghost use Rattle.book_engine.specs.Seen.{Fits, state_of};
 ghost use Rattle.book_engine.specs.Stored.{Stand, book_of, stored};
@@ -19,9 +19,9 @@ use undo_book::UndoBook;
 impl Parts {
     // The parts of a workbook with these sheets and texts, of which so many steps can be undone.
     pub(crate) fn build(alloc: Global, books: &[BookSheet], limit: u16) -> Result<Parts, AllocError>
-        requires can { CanBegin books.now }
+        requires can { CanBegin (given_sheets books.now) }
         requires limit { limit ≤ MAX_UNDO }
-        ensures state { IfOk result (λ parts. state_of parts ≡ session_given limit books.now) }
+        ensures state { IfOk result (λ parts. state_of parts ≡ session_given limit [] (pos 0) (given_sheets books.now)) }
         ensures fits { IfOk result Fits }
     {
         let mut pool = Pool::new(alloc)?;
@@ -41,8 +41,8 @@ impl Parts {
 impl Book {
     // The workbook of these sheets and texts.
     fn given(alloc: Global, pool: &mut Pool, books: &[BookSheet]) -> Result<Book, AllocError>
-        requires { CanBegin books.now }
-        ensures book { IfOk result (λ book. book_of (stored book) ≡ workbook_given books.now) }
+        requires { CanBegin (given_sheets books.now) }
+        ensures book { IfOk result (λ book. book_of (stored book) ≡ workbook_given (given_sheets books.now)) }
         ensures stand { IfOk result (λ book. Stand (stored book)) }
     {
         let mut book = Book::with_sheets(alloc, books)?;
@@ -52,8 +52,8 @@ impl Book {
 
     // The workbook of these sheets, their cells empty.
     fn with_sheets(alloc: Global, books: &[BookSheet]) -> Result<Book, AllocError>
-        requires { CanBegin books.now }
-        ensures book { IfOk result (λ book. book_of (stored book) ≡ record { sheets = numbered 0 books.now; cells = map.empty }) }
+        requires { CanBegin (given_sheets books.now) }
+        ensures book { IfOk result (λ book. book_of (stored book) ≡ record { sheets = numbered 0 (given_sheets books.now); cells = map.empty; names = map.empty }) }
         ensures stand { IfOk result (λ book. Stand (stored book)) }
     {
         let mut book = Book::new(alloc)?;
@@ -70,9 +70,9 @@ impl Book {
         pool: &mut Pool,
         books: &[BookSheet],
     ) -> Result<(), AllocError>
-        requires can { CanBegin books.now }
+        requires can { CanBegin (given_sheets books.now) }
         requires stand { Stand (stored self.old) }
-        ensures ok { OnOk result (book_of (stored self.new) ≡ with_cells (with_given (given_entries (book_of (stored self.old)).sheets 0 books.now) (book_of (stored self.old)).cells) (book_of (stored self.old))) }
+        ensures ok { OnOk result (book_of (stored self.new) ≡ with_cells (with_given (given_entries (book_of (stored self.old)).sheets 0 (given_sheets books.now)) (book_of (stored self.old)).cells) (book_of (stored self.old))) }
         ensures stand { Stand (stored self.new) }
     {
         for number in (0..books.len()).rev() {

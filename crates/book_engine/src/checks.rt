@@ -1,5 +1,5 @@
 // Why operations are refused.
-ghost use Rattle.std.specs.Prelude.{◌≡◌, ◌+◌, ◌&&◌, is_none, nat_le, nat_lt};
+ghost use Rattle.std.specs.Prelude.{◌≡◌, ◌+◌, ◌&&◌, ◌∷◌, [], not, is_none, is_some, option_map, nat_le, nat_lt};
 ghost use Rattle.cell_addr.specs.Place.{IsBlockInside};
 ghost use Rattle.std.specs.FinMap as map;
 ghost use Rattle.std.specs.List.{list_any};
@@ -7,8 +7,11 @@ ghost use Rattle.cell_addr.specs.Sheets.{AreSheets, same_name};
 ghost use Rattle.book_model.specs.Changes.{with_content};
 ghost use Rattle.shift_core.specs.Form.{form_of};
 ghost use Rattle.book_model.specs.Operation as op;
-ghost use Rattle.book_model.specs.Refusals.{at_place, cause, first_cause, is_block_outside, is_outside, is_taken, of_edit, of_form, on_sheet, pushes_off};
-ghost use Rattle.book_model.specs.Workbook.{has_sheet};
+ghost use Rattle.book_model.specs.Refusals.{at_place, cause, first_cause, is_block_outside, is_outside, is_suspended, is_taken, of_edit, of_form, on_sheet, pushes_off};
+ghost use Rattle.book_model.specs.Names.{is_name};
+ghost use Rattle.book_model.specs.Workbook.{has_name, has_scope, has_sheet};
+ghost use Rattle.book_model.specs.declared.refusal.Refusal.TheVariants as refusals;
+ghost use Rattle.book_values.specs.Names.{found, key_of};
 ghost use Rattle.book_engine.specs.Seen.{Fits, state_of};
 ghost use Rattle.book_engine.specs.internal.Turns.{IsCause};
 ghost use Rattle.book_model.specs.Workbook.{State};
@@ -19,7 +22,7 @@ ghost use Rattle.shift_core.specs.declared.form.Form.TheVariants.{Cells, Lines};
 ghost use Rattle.cell_addr.specs.Axis.{limit_of};
 
 use crate::parts::Parts;
-use book_model::{MAX_CELLS, MAX_SHEETS, MAX_TEXT, Refusal, is_sheet_name};
+use book_model::{MAX_CELLS, MAX_SHEETS, MAX_TEXT, Refusal, is_name, is_sheet_name};
 use cell_addr::{Axis, Block, COLS, Place, ROWS, SheetNames};
 use shift_core::{Edit, Form, Shift};
 
@@ -62,6 +65,93 @@ impl Parts {
             return Err(Refusal::Suspended);
         }
         self.check_place(at)
+    }
+
+    // Where a name's value, or that of a formula, is asked for on a sheet.
+    pub(crate) fn check_on_sheet(&self, sheet: u32) -> Result<(), Refusal>
+        ensures { IsCause result (first_cause ((is_suspended (state_of self.now), refusals.Suspended) ∷ on_sheet (state_of self.now) sheet)) }
+    {
+        if self.suspended || self.batch.is_some() {
+            return Err(Refusal::Suspended);
+        }
+        self.check_sheet(sheet)
+    }
+
+    // Where a name's value is asked for.
+    pub(crate) fn check_name_value(&self, name: &str, sheet: u32) -> Result<(), Refusal>
+        ensures { IsCause result (cause (op.name_value name.now sheet) (state_of self.now)) }
+    {
+        self.check_on_sheet(sheet)?;
+        if !self.finds(name, sheet) {
+            return Err(Refusal::NoSuchName);
+        }
+        Ok(())
+    }
+
+    // Whether the word finds a name on the sheet.
+    fn finds(&self, name: &str, sheet: u32) -> bool
+        ensures { result ≡ is_some (found (map.entries (state_of self.now).book.names) name.now sheet) }
+    {
+        self.scope_finding(name, sheet).is_some()
+    }
+
+    // The scope of the name that the word finds on the sheet: the sheet's own, or one of the whole workbook.
+    pub(crate) fn scope_finding(&self, name: &str, sheet: u32) -> Option<Option<u32>>
+        ensures { option_map (λ scope. key_of scope name.now) result ≡ found (map.entries (state_of self.now).book.names) name.now sheet }
+    {
+        if self.has_name(name, Some(sheet)) {
+            return Some(Some(sheet));
+        }
+        if self.has_name(name, None) {
+            return Some(None);
+        }
+        None
+    }
+
+    // Where a name is added, before its text is looked at.
+    pub(crate) fn check_new_name(&self, name: &str, scope: Option<u32>) -> Result<(), Refusal>
+        ensures { IsCause result (first_cause ((not (has_scope (state_of self.now).book scope), refusals.NoSheet) ∷ (not (is_name name.now), refusals.NameInvalid) ∷ (has_name (state_of self.now).book (key_of scope name.now), refusals.NameTaken) ∷ [])) }
+    {
+        if !self.has_scope(scope) {
+            return Err(Refusal::NoSheet);
+        }
+        if !is_name(name) {
+            return Err(Refusal::NameInvalid);
+        }
+        if self.has_name(name, scope) {
+            return Err(Refusal::NameTaken);
+        }
+        Ok(())
+    }
+
+    // Where a name is changed or removed.
+    pub(crate) fn check_known_name(&self, name: &str, scope: Option<u32>) -> Result<(), Refusal>
+        ensures { IsCause result (first_cause ((not (has_scope (state_of self.now).book scope), refusals.NoSheet) ∷ (not (has_name (state_of self.now).book (key_of scope name.now)), refusals.NoSuchName) ∷ [])) }
+    {
+        if !self.has_scope(scope) {
+            return Err(Refusal::NoSheet);
+        }
+        if !self.has_name(name, scope) {
+            return Err(Refusal::NoSuchName);
+        }
+        Ok(())
+    }
+
+    // Whether there is such a scope: the whole workbook, or a sheet.
+    fn has_scope(&self, scope: Option<u32>) -> bool
+        ensures { result ≡ has_scope (state_of self.now).book scope }
+    {
+        match scope {
+            Some(sheet) => self.has_sheet(sheet),
+            None => true,
+        }
+    }
+
+    // Whether the scope has a name of this word.
+    fn has_name(&self, name: &str, scope: Option<u32>) -> bool
+        ensures { result ≡ has_name (state_of self.now).book (key_of scope name.now) }
+    {
+        self.book.expressions.has(scope, name)
     }
 
     // Where a block is emptied.
@@ -304,7 +394,7 @@ fn is_block_outside(area: Block) -> bool
 }
 
 // Whether the block of the size of another one, which is inside, ends outside a sheet where it begins at the place.
-fn ends_outside(source: Block, to: Place) -> bool
+pub(crate) fn ends_outside(source: Block, to: Place) -> bool
     requires { IsBlockInside source }
     ensures { result ≡ is_block_outside (destination source to) }
 {

@@ -1,11 +1,12 @@
 // The engine, and its calls.
-ghost use Rattle.std.specs.Prelude.{◌≡◌, ◌≤◌, IfOk, length, option_map};
+ghost use Rattle.std.specs.Prelude.{◌≡◌, ◌≤◌, All, IfOk, length, option_map};
 ghost use Rattle.cell_addr.specs.Sheets.{id_in, name_in};
 ghost use Rattle.shift_core.specs.declared.shift.Shift.TheVariants as shifts;
-ghost use Rattle.book_model.specs.Answers.{content_text, formula_of, value_of};
-ghost use Rattle.book_model.specs.Given.{CanBegin, session_given};
+ghost use Rattle.book_model.specs.Answers.{content_text, dependents_of, formula_of, name_value_of, precedents_of, tried_value, value_of};
+ghost use Rattle.book_model.specs.Given.{CanBegin, given_sheets, session_given};
 ghost use Rattle.book_model.specs.Operation as op;
 ghost use Rattle.book_model.specs.Replies.{first_sheet};
+ghost use Rattle.book_model.specs.Sound.{IsLinkInside};
 ghost use Rattle.book_model.specs.Workbook.{State};
 ghost use Rattle.book_model.specs.declared.limits.TheConstants.{MAX_UNDO};
 ghost use Rattle.book_engine.specs.Seen.{Fits};
@@ -14,9 +15,13 @@ ghost use Rattle.book_engine.specs.internal.FitsProp.{fits-prop};
 use crate::history::Entry;
 use crate::parts::Parts;
 use crate::stop::Stop;
-use book_model::BookSheet;
+use crate::waiting::Waiting;
+use book_model::{BookSheet, Refusal};
+use calc_eval::Customs;
 use cell_addr::{Block, Place, SheetNames, Text};
 use cell_value::Scalar;
+use clip_board::Clip;
+use formula_tree::Link;
 use shift_core::Shift;
 use std::alloc::{AllocError, Global};
 use std::sync::ledger::Ledger;
@@ -27,23 +32,39 @@ use undo_book::UndoBook;
 ///
 /// Rows and columns are counted from 0. A call that is refused, or that wants memory, leaves the workbook as it was.
 #[derive(Drop)]
-pub struct Engine {
+pub struct Engine<C> {
     parts: Parts,
+    waiting: Waiting,
+    customs: C,
+    day: i32,
     ghost fits: { Fits parts } by { fits-prop parts },
 }
 
-impl Engine {
+impl<C: Customs> Engine<C> {
     ghost use Rattle.book_engine.specs.Engine.{Does, DoesAlways, NoAnswer, StandsFor};
 
     /// The engine of a workbook with these sheets, numbered from 0 in their order, and these texts in their cells. All
-    /// formulas are read when all sheets are there. At most `limit` steps can be undone, which is at most 1,000.
-    pub fn build(alloc: Global, books: &[BookSheet], limit: u16) -> Result<Engine, AllocError>
-        requires can { CanBegin books.now }
+    /// formulas are read when all sheets are there. At most `limit` steps can be undone, which is at most 1,000. Formulas
+    /// call the custom functions of the registry, and TODAY is the day of this serial number.
+    #[tactic(auto, unfolding(crate::specs::Engine::StandsFor))]
+    pub fn build(
+        alloc: Global,
+        books: &[BookSheet],
+        limit: u16,
+        registry: C,
+        day: i32,
+    ) -> Result<Engine<C>, AllocError>
+        requires can { CanBegin (given_sheets books.now) }
         requires limit { limit ≤ MAX_UNDO }
-        ensures { IfOk result (λ engine. StandsFor engine (session_given limit books.now)) }
+        ensures { IfOk result (λ engine. StandsFor C.customs engine (session_given limit (C.customs registry) day (given_sheets books.now))) }
     {
         let parts = Parts::build(alloc, books, limit)?;
-        Ok(Engine { parts })
+        Ok(Engine {
+            parts,
+            waiting: Waiting::nothing(),
+            customs: registry,
+            day,
+        })
     }
 
     /// Gives a cell the content that the text says: nothing, a formula, a number, a truth value or a text. A formula that
@@ -52,20 +73,26 @@ impl Engine {
     /// # Errors
     /// `NoSheet`, `Outside` where the place isn't within the limits of a sheet, `TextLimit` past 8,192 bytes, `CellLimit`
     /// where more than 1,000,000 cells would be filled; the first that holds.
+    #[tactic(auto, unfolding(crate::specs::Engine::StandsFor))]
     pub fn set(&mut self, at: Place, text: &str) -> Result<(), Stop>
-        ensures { Does (op.set at text.now) NoAnswer self.old self.new result }
+        ensures { Does C.customs (op.set at text.now) NoAnswer self.old self.new result }
     {
-        self.parts.set(at, text)
+        self.parts.set(at, text)?;
+        self.waiting.clear_cut();
+        Ok(())
     }
 
     /// Empties the cells of a block.
     ///
     /// # Errors
     /// `NoSheet`, `Outside` where the block isn't within the limits of a sheet.
+    #[tactic(auto, unfolding(crate::specs::Engine::StandsFor))]
     pub fn clear(&mut self, area: Block) -> Result<(), Stop>
-        ensures { Does (op.clear area) NoAnswer self.old self.new result }
+        ensures { Does C.customs (op.clear area) NoAnswer self.old self.new result }
     {
-        self.parts.clear(area)
+        self.parts.clear(area)?;
+        self.waiting.clear_cut();
+        Ok(())
     }
 
     /// Puts so many rows before a row of the sheet.
@@ -73,38 +100,50 @@ impl Engine {
     /// # Errors
     /// `NoSheet`, `BadSpan` for no rows, `Outside` where the row isn't on the sheet, `SizeLimit` where a filled cell would
     /// be pushed off the sheet.
+    #[tactic(auto, unfolding(crate::specs::Engine::StandsFor))]
     pub fn insert_rows(&mut self, sheet: u32, at: u32, count: u32) -> Result<(), Stop>
-        ensures { Does (op.structural (shifts.InsertRows sheet at count)) NoAnswer self.old self.new result }
+        ensures { Does C.customs (op.structural (shifts.InsertRows sheet at count)) NoAnswer self.old self.new result }
     {
         self.parts
-            .structural(&Shift::InsertRows { sheet, at, count })
+            .structural(&Shift::InsertRows { sheet, at, count })?;
+        self.waiting.clear_cut();
+        Ok(())
     }
 
     /// Deletes so many rows of the sheet from a row on, with their cells.
     ///
     /// # Errors
     /// `NoSheet`, `BadSpan` for no rows, `Outside` where the rows end behind the sheet.
+    #[tactic(auto, unfolding(crate::specs::Engine::StandsFor))]
     pub fn delete_rows(&mut self, sheet: u32, at: u32, count: u32) -> Result<(), Stop>
-        ensures { Does (op.structural (shifts.DeleteRows sheet at count)) NoAnswer self.old self.new result }
+        ensures { Does C.customs (op.structural (shifts.DeleteRows sheet at count)) NoAnswer self.old self.new result }
     {
         self.parts
-            .structural(&Shift::DeleteRows { sheet, at, count })
+            .structural(&Shift::DeleteRows { sheet, at, count })?;
+        self.waiting.clear_cut();
+        Ok(())
     }
 
     /// Puts so many columns before a column of the sheet. Its errors are those of [`Engine::insert_rows`].
+    #[tactic(auto, unfolding(crate::specs::Engine::StandsFor))]
     pub fn insert_cols(&mut self, sheet: u32, at: u32, count: u32) -> Result<(), Stop>
-        ensures { Does (op.structural (shifts.InsertCols sheet at count)) NoAnswer self.old self.new result }
+        ensures { Does C.customs (op.structural (shifts.InsertCols sheet at count)) NoAnswer self.old self.new result }
     {
         self.parts
-            .structural(&Shift::InsertCols { sheet, at, count })
+            .structural(&Shift::InsertCols { sheet, at, count })?;
+        self.waiting.clear_cut();
+        Ok(())
     }
 
     /// Deletes so many columns of the sheet from a column on. Its errors are those of [`Engine::delete_rows`].
+    #[tactic(auto, unfolding(crate::specs::Engine::StandsFor))]
     pub fn delete_cols(&mut self, sheet: u32, at: u32, count: u32) -> Result<(), Stop>
-        ensures { Does (op.structural (shifts.DeleteCols sheet at count)) NoAnswer self.old self.new result }
+        ensures { Does C.customs (op.structural (shifts.DeleteCols sheet at count)) NoAnswer self.old self.new result }
     {
         self.parts
-            .structural(&Shift::DeleteCols { sheet, at, count })
+            .structural(&Shift::DeleteCols { sheet, at, count })?;
+        self.waiting.clear_cut();
+        Ok(())
     }
 
     /// Moves so many rows of the sheet from a row on to before another row.
@@ -112,28 +151,34 @@ impl Engine {
     /// # Errors
     /// `NoSheet`, `BadSpan` for no rows, `Outside` where the rows or the row before which they come lie behind the sheet,
     /// `BadSpan` where they would stay.
+    #[tactic(auto, unfolding(crate::specs::Engine::StandsFor))]
     pub fn move_rows(&mut self, sheet: u32, from: u32, count: u32, before: u32) -> Result<(), Stop>
-        ensures { Does (op.structural (shifts.MoveRows sheet from count before)) NoAnswer self.old self.new result }
+        ensures { Does C.customs (op.structural (shifts.MoveRows sheet from count before)) NoAnswer self.old self.new result }
     {
         self.parts.structural(&Shift::MoveRows {
             sheet,
             from,
             count,
             before,
-        })
+        })?;
+        self.waiting.clear_cut();
+        Ok(())
     }
 
     /// Moves so many columns of the sheet from a column on to before another one. Its errors are those of
     /// [`Engine::move_rows`].
+    #[tactic(auto, unfolding(crate::specs::Engine::StandsFor))]
     pub fn move_cols(&mut self, sheet: u32, from: u32, count: u32, before: u32) -> Result<(), Stop>
-        ensures { Does (op.structural (shifts.MoveCols sheet from count before)) NoAnswer self.old self.new result }
+        ensures { Does C.customs (op.structural (shifts.MoveCols sheet from count before)) NoAnswer self.old self.new result }
     {
         self.parts.structural(&Shift::MoveCols {
             sheet,
             from,
             count,
             before,
-        })
+        })?;
+        self.waiting.clear_cut();
+        Ok(())
     }
 
     /// Moves the cells of a block to the block of the same size that begins at a place. They replace what stood there, and
@@ -142,10 +187,13 @@ impl Engine {
     /// # Errors
     /// `NoSheet` where one of the two sheets doesn't exist, `Outside` where one of the two blocks isn't within the limits of
     /// a sheet, `BadSpan` where they are the same.
+    #[tactic(auto, unfolding(crate::specs::Engine::StandsFor))]
     pub fn move_block(&mut self, source: Block, to: Place) -> Result<(), Stop>
-        ensures { Does (op.structural (shifts.MoveBlock source to)) NoAnswer self.old self.new result }
+        ensures { Does C.customs (op.structural (shifts.MoveBlock source to)) NoAnswer self.old self.new result }
     {
-        self.parts.structural(&Shift::MoveBlock { source, to })
+        self.parts.structural(&Shift::MoveBlock { source, to })?;
+        self.waiting.clear_cut();
+        Ok(())
     }
 
     /// Adds a sheet at the end of the list, and answers its number. A number is never given to another new sheet.
@@ -153,48 +201,150 @@ impl Engine {
     /// # Errors
     /// `SheetNameInvalid` unless the name has 1 to 100 bytes and no control character, `SheetNameTaken` where a sheet has
     /// it, in some case of its ASCII letters, `SheetLimit` where all 1,024 numbers are used.
+    #[tactic(auto, unfolding(crate::specs::Engine::StandsFor))]
     pub fn add_sheet(&mut self, name: &str) -> Result<u32, Stop>
-        ensures { Does (op.add_sheet name.now) (λ d number. number ≡ d.next_sheet) self.old self.new result }
+        ensures { Does C.customs (op.add_sheet name.now) (λ d number. number ≡ d.next_sheet) self.old self.new result }
     {
-        self.parts.add_sheet(name)
+        let number = self.parts.add_sheet(name)?;
+        self.waiting.clear_cut();
+        Ok(number)
     }
 
     /// Drops a sheet with its cells. References to it are lost.
     ///
     /// # Errors
     /// `NoSheet`.
+    #[tactic(auto, unfolding(crate::specs::Engine::StandsFor))]
     pub fn drop_sheet(&mut self, sheet: u32) -> Result<(), Stop>
-        ensures { Does (op.structural (shifts.DropSheet sheet)) NoAnswer self.old self.new result }
+        ensures { Does C.customs (op.structural (shifts.DropSheet sheet)) NoAnswer self.old self.new result }
     {
-        self.parts.structural(&Shift::DropSheet { sheet })
+        self.parts.structural(&Shift::DropSheet { sheet })?;
+        self.waiting.clear_cut();
+        Ok(())
     }
 
     /// Gives a sheet another name. Formulas keep pointing at it.
     ///
     /// # Errors
     /// `NoSheet`, `SheetNameInvalid`, `SheetNameTaken` where another sheet has it, as for [`Engine::add_sheet`].
+    #[tactic(auto, unfolding(crate::specs::Engine::StandsFor))]
     pub fn rename_sheet(&mut self, sheet: u32, name: &str) -> Result<(), Stop>
-        ensures { Does (op.rename_sheet sheet name.now) NoAnswer self.old self.new result }
+        ensures { Does C.customs (op.rename_sheet sheet name.now) NoAnswer self.old self.new result }
     {
-        self.parts.rename_sheet(sheet, name)
+        self.parts.rename_sheet(sheet, name)?;
+        self.waiting.clear_cut();
+        Ok(())
     }
 
     /// Empties the cells of a sheet.
     ///
     /// # Errors
     /// `NoSheet`.
+    #[tactic(auto, unfolding(crate::specs::Engine::StandsFor))]
     pub fn clear_sheet(&mut self, sheet: u32) -> Result<(), Stop>
-        ensures { Does (op.clear_sheet sheet) NoAnswer self.old self.new result }
+        ensures { Does C.customs (op.clear_sheet sheet) NoAnswer self.old self.new result }
     {
-        self.parts.clear_sheet(sheet)
+        self.parts.clear_sheet(sheet)?;
+        self.waiting.clear_cut();
+        Ok(())
+    }
+
+    /// Adds a name with the formula of the text: in the scope of a sheet, or of the whole workbook where there is none. Every
+    /// reference of it has both `$`, and in a name of the whole workbook its sheet.
+    ///
+    /// # Errors
+    /// `NoSheet` for a scope that doesn't exist, `NameInvalid` where the word isn't of the form of a name
+    /// ([`book_model::is_name`]), `NameTaken` where the scope has the name, in some case of its ASCII letters, `TextLimit`
+    /// past 8,192 bytes, `BadFormula` where the text is no formula, `RelativeAddress` where a reference lacks a `$` or its
+    /// sheet; the first that holds.
+    #[tactic(auto, unfolding(crate::specs::Engine::StandsFor))]
+    pub fn add_name(&mut self, name: &str, scope: Option<u32>, text: &str) -> Result<(), Stop>
+        ensures { Does C.customs (op.add_name name.now scope text.now) NoAnswer self.old self.new result }
+    {
+        self.parts.add_name(name, scope, text)?;
+        self.waiting.clear_cut();
+        Ok(())
+    }
+
+    /// Gives a name of the scope another formula.
+    ///
+    /// # Errors
+    /// `NoSheet`, `NoSuchName` where the scope hasn't the name, and `TextLimit`, `BadFormula` and `RelativeAddress` as for
+    /// [`Engine::add_name`].
+    #[tactic(auto, unfolding(crate::specs::Engine::StandsFor))]
+    pub fn change_name(&mut self, name: &str, scope: Option<u32>, text: &str) -> Result<(), Stop>
+        ensures { Does C.customs (op.change_name name.now scope text.now) NoAnswer self.old self.new result }
+    {
+        self.parts.change_name(name, scope, text)?;
+        self.waiting.clear_cut();
+        Ok(())
+    }
+
+    /// Takes a name of the scope away.
+    ///
+    /// # Errors
+    /// `NoSheet`, `NoSuchName`.
+    #[tactic(auto, unfolding(crate::specs::Engine::StandsFor))]
+    pub fn remove_name(&mut self, name: &str, scope: Option<u32>) -> Result<(), Stop>
+        ensures { Does C.customs (op.remove_name name.now scope) NoAnswer self.old self.new result }
+    {
+        self.parts.remove_name(name, scope)?;
+        self.waiting.clear_cut();
+        Ok(())
+    }
+
+    /// Copies a block: what its cells hold waits to be pasted, until something else is copied or cut. Later changes don't
+    /// reach it. It is no step. Costs about the filled cells of the block.
+    ///
+    /// # Errors
+    /// `NoSheet`, `Outside` where the block isn't within the limits of a sheet.
+    #[tactic(auto, unfolding(crate::specs::Engine::StandsFor))]
+    pub fn copy(&mut self, area: Block) -> Result<(), Stop>
+        ensures { Does C.customs (op.copy area) NoAnswer self.old self.new result }
+    {
+        self.waiting = self.parts.copied(area)?;
+        Ok(())
+    }
+
+    /// Cuts a block, which is moved where it is pasted; the next change ends that. It is no step. Its errors are those of
+    /// [`Engine::copy`].
+    #[tactic(auto, unfolding(crate::specs::Engine::StandsFor))]
+    pub fn cut(&mut self, area: Block) -> Result<(), Stop>
+        ensures { Does C.customs (op.cut area) NoAnswer self.old self.new result }
+    {
+        self.parts.check_clear(area)?;
+        self.waiting = Waiting::cut(area);
+        Ok(())
+    }
+
+    /// Pastes what waits, its first cell at a place. After a copy each cell of the block there holds what the copied one
+    /// held, or nothing, and formulas are as far from what they name as before; after a cut the block is moved, and nothing
+    /// waits then. Costs about the whole workbook.
+    ///
+    /// # Errors
+    /// `NothingToPaste`; then after a copy `NoSheet`, `Outside` where the block there isn't within the limits of a sheet,
+    /// `CellLimit` where more than 1,000,000 cells would be filled, and after a cut those of [`Engine::move_block`].
+    #[tactic(auto, unfolding(crate::specs::Engine::StandsFor))]
+    pub fn paste(&mut self, at: Place) -> Result<(), Stop>
+        ensures { Does C.customs (op.paste at) NoAnswer self.old self.new result }
+    {
+        if let Some(source) = self.waiting.cut_area() {
+            return self.move_block(source, at);
+        }
+        let waiting = &self.waiting;
+        match &waiting.clip {
+            Clip::Copied(area, cells) => self.parts.paste(*area, cells.items(), at),
+            Clip::Nothing | Clip::Cut(_) => Err(Stop::Refused(Refusal::NothingToPaste)),
+        }
     }
 
     /// Opens a batch: the changes until [`Engine::commit`] are one step.
     ///
     /// # Errors
     /// `BatchOpen`.
+    #[tactic(auto, unfolding(crate::specs::Engine::StandsFor))]
     pub fn begin(&mut self) -> Result<(), Stop>
-        ensures { Does op.begin NoAnswer self.old self.new result }
+        ensures { Does C.customs op.begin NoAnswer self.old self.new result }
     {
         self.parts.begin()
     }
@@ -203,22 +353,25 @@ impl Engine {
     ///
     /// # Errors
     /// `NoBatch`.
+    #[tactic(auto, unfolding(crate::specs::Engine::StandsFor))]
     pub fn commit(&mut self) -> Result<(), Stop>
-        ensures { Does op.commit NoAnswer self.old self.new result }
+        ensures { Does C.customs op.commit NoAnswer self.old self.new result }
     {
         self.parts.commit()
     }
 
     /// Stops the computation of values, until [`Engine::resume`]. Once more changes nothing.
+    #[tactic(auto, unfolding(crate::specs::Engine::StandsFor))]
     pub fn suspend(&mut self)
-        ensures { DoesAlways op.suspend self.old self.new }
+        ensures { DoesAlways C.customs op.suspend self.old self.new }
     {
         self.parts.suspend();
     }
 
     /// Lets the computation of values go on. Once more changes nothing.
+    #[tactic(auto, unfolding(crate::specs::Engine::StandsFor))]
     pub fn resume(&mut self)
-        ensures { DoesAlways op.resume self.old self.new }
+        ensures { DoesAlways C.customs op.resume self.old self.new }
     {
         self.parts.resume();
     }
@@ -228,10 +381,13 @@ impl Engine {
     ///
     /// # Errors
     /// `BatchOpen`, `NothingToUndo`.
+    #[tactic(auto, unfolding(crate::specs::Engine::StandsFor))]
     pub fn undo(&mut self) -> Result<(), Stop>
-        ensures { Does op.undo NoAnswer self.old self.new result }
+        ensures { Does C.customs op.undo NoAnswer self.old self.new result }
     {
-        self.parts.undo()
+        self.parts.undo()?;
+        self.waiting.clear_cut();
+        Ok(())
     }
 
     /// Goes forward again to the whole workbook from after the step that was undone last; a change ends that. Costs what
@@ -239,28 +395,68 @@ impl Engine {
     ///
     /// # Errors
     /// `BatchOpen`, `NothingToRedo`.
+    #[tactic(auto, unfolding(crate::specs::Engine::StandsFor))]
     pub fn redo(&mut self) -> Result<(), Stop>
-        ensures { Does op.redo NoAnswer self.old self.new result }
+        ensures { Does C.customs op.redo NoAnswer self.old self.new result }
     {
-        self.parts.redo()
+        self.parts.redo()?;
+        self.waiting.clear_cut();
+        Ok(())
     }
 
     /// What a cell shows. Costs about the whole workbook.
     ///
     /// # Errors
     /// `Suspended` where the computation is suspended or a batch is open, `NoSheet`, `Outside`.
+    #[tactic(auto, unfolding(crate::specs::Engine::StandsFor))]
     pub fn value<L: Ledger>(&mut self, at: Place, steps: &mut Steps<L>) -> Result<Scalar, Stop>
-        ensures { Does (op.value at) (λ d scalar. scalar ≡ value_of d at) self.old self.new result }
+        ensures { Does C.customs (op.value at) (λ d scalar. scalar ≡ value_of d at) self.old self.new result }
     {
-        self.parts.value(at, steps)
+        self.parts.value(at, &self.customs, self.day, steps)
+    }
+
+    /// What a name shows that the word finds on the sheet, in any case of its ASCII letters: the sheet's own, else that of
+    /// the whole workbook. Costs about the whole workbook.
+    ///
+    /// # Errors
+    /// `Suspended`, `NoSheet`, `NoSuchName` where neither scope has the name.
+    #[tactic(auto, unfolding(crate::specs::Engine::StandsFor))]
+    pub fn name_value<L: Ledger>(
+        &mut self,
+        name: &str,
+        sheet: u32,
+        steps: &mut Steps<L>,
+    ) -> Result<Scalar, Stop>
+        ensures { Does C.customs (op.name_value name.now sheet) (λ d scalar. scalar ≡ name_value_of d name.now sheet) self.old self.new result }
+    {
+        self.parts
+            .name_value(name, sheet, &self.customs, self.day, steps)
+    }
+
+    /// What the formula of the text would show in the first cell of the sheet. Costs about the whole workbook.
+    ///
+    /// # Errors
+    /// `Suspended`, `NoSheet`, `TextLimit` past 8,192 bytes, `BadFormula` where the text is no formula.
+    #[tactic(auto, unfolding(crate::specs::Engine::StandsFor))]
+    pub fn try_formula<L: Ledger>(
+        &mut self,
+        sheet: u32,
+        text: &str,
+        steps: &mut Steps<L>,
+    ) -> Result<Scalar, Stop>
+        ensures { Does C.customs (op.try_formula sheet text.now) (λ d scalar. scalar ≡ tried_value d sheet text.now) self.old self.new result }
+    {
+        self.parts
+            .try_formula(sheet, text, &self.customs, self.day, steps)
     }
 
     /// The canonical text of a cell's formula, or the kept text of an unreadable one; `None` where the cell has none.
     ///
     /// # Errors
     /// `NoSheet`, `Outside`.
+    #[tactic(auto, unfolding(crate::specs::Engine::StandsFor))]
     pub fn formula(&mut self, at: Place) -> Result<Option<Text>, Stop>
-        ensures { Does (op.formula at) (λ d text. text ≡ formula_of d at) self.old self.new result }
+        ensures { Does C.customs (op.formula at) (λ d text. text ≡ formula_of d at) self.old self.new result }
     {
         self.parts.formula(at)
     }
@@ -269,38 +465,71 @@ impl Engine {
     ///
     /// # Errors
     /// `NoSheet`, `Outside`.
+    #[tactic(auto, unfolding(crate::specs::Engine::StandsFor))]
     pub fn content(&mut self, at: Place) -> Result<Text, Stop>
-        ensures { Does (op.content at) (λ d text. text ≡ content_text d at) self.old self.new result }
+        ensures { Does C.customs (op.content at) (λ d text. text ≡ content_text d at) self.old self.new result }
     {
         self.parts.content(at)
     }
 
+    /// What a cell's formula needs, in whatever branch: its references and ranges, and the names that its words find, in the
+    /// order of the formula, each once. A reference or range that is itself the argument of ROW, COLUMN, ROWS or COLUMNS is
+    /// none of them; a name is. Costs about the nodes of the formula.
+    ///
+    /// # Errors
+    /// `NoSheet`, `Outside`.
+    #[tactic(auto, unfolding(crate::specs::Engine::StandsFor))]
+    pub fn precedents(&mut self, at: Place) -> Result<Vec<Link>, Stop>
+        ensures does { Does C.customs (op.precedents at) (λ d links. links.items ≡ precedents_of d at) self.old self.new result }
+        ensures inside { IfOk result (λ links. All IsLinkInside links.items) }
+    {
+        self.parts.precedents(at)
+    }
+
+    /// The cells and then the names whose formulas need a cell by a reference or a range of their own: cells by the number
+    /// of their sheet, row and column, names of the whole workbook before those of each sheet, by the bytes of their words
+    /// in capitals. Costs about the nodes of all formulas.
+    ///
+    /// # Errors
+    /// `NoSheet`, `Outside`.
+    #[tactic(auto, unfolding(crate::specs::Engine::StandsFor))]
+    pub fn dependents(&mut self, at: Place) -> Result<Vec<Link>, Stop>
+        ensures does { Does C.customs (op.dependents at) (λ d links. links.items ≡ dependents_of d at) self.old self.new result }
+        ensures inside { IfOk result (λ links. All IsLinkInside links.items) }
+    {
+        self.parts.dependents(at)
+    }
+
     /// The number of the sheet of this name, in any case of its ASCII letters.
+    #[tactic(auto, unfolding(crate::specs::Engine::StandsFor))]
     pub fn sheet_id(&self, name: &str) -> Option<u32>
-        ensures { (d : State) → StandsFor self.now d → result ≡ id_in d.book.sheets name.now }
+        ensures { (d : State) → StandsFor C.customs self.now d → result ≡ id_in d.book.sheets name.now }
     {
         self.parts.book.names.id_of(name)
     }
 
     /// The first sheet of the list.
+    #[tactic(auto, unfolding(crate::specs::Engine::StandsFor))]
     pub fn first_sheet(&self) -> Option<u32>
-        ensures { (d : State) → StandsFor self.now d → result ≡ first_sheet d.book }
+        ensures { (d : State) → StandsFor C.customs self.now d → result ≡ first_sheet d.book }
     {
         self.parts.book.names.sheet_at(0)
     }
 
     /// The name of the sheet of this number.
+    #[tactic(auto, unfolding(crate::specs::Engine::StandsFor))]
     pub fn sheet_name(&self, id: u32) -> Option<&Text>
-        ensures { (d : State) → StandsFor self.now d → option_map (λ name. name.now) result ≡ name_in d.book.sheets id }
+        ensures { (d : State) → StandsFor C.customs self.now d → option_map (λ name. name.now) result ≡ name_in d.book.sheets id }
     {
         self.parts.book.names.name_of(id)
     }
 
     /// The steps that can be undone and redone.
+    #[tactic(auto, unfolding(crate::specs::Engine::StandsFor))]
     pub fn entries(&self) -> &UndoBook<Entry>
-        ensures done { (d : State) → StandsFor self.now d → length result.now.done ≡ length d.undo }
-        ensures undone { (d : State) → StandsFor self.now d → length result.now.undone ≡ length d.redo }
-        ensures limit { (d : State) → StandsFor self.now d → result.now.limit ≡ d.limit }
+        ensures done { (d : State) → StandsFor C.customs self.now d → length result.now.done ≡ length d.undo }
+        ensures undone { (d : State) → StandsFor C.customs self.now d → length result.now.undone ≡ length d.redo }
+        ensures limit { (d : State) → StandsFor C.customs self.now d → result.now.limit ≡ d.limit }
     {
         &self.parts.undo
     }

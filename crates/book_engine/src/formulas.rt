@@ -82,6 +82,13 @@ impl Formulas {
         }
     }
 
+    // The formula under each number, if there is one.
+    pub(crate) fn slots(&self) -> &[Option<Formula>]
+        ensures { result.now ≡ self.now.slots.items }
+    {
+        self.slots.as_slice()
+    }
+
     /// Keeps a formula under a number that had none, and answers it. For want of memory all is as it was.
     pub fn insert(&mut self, formula: Formula) -> Result<u64, AllocError>
         ensures vacant { IfOk result (λ n. numbered self.old n ≡ None) }

@@ -1,36 +1,44 @@
 //! A workbook engine that applications embed.
 //!
-//! An [`Engine`] holds a workbook of several sheets. Its calls change cells and sheets, move, insert and delete rows and
-//! columns, and read values and formulas; every formula follows each structural operation. A call that is refused
-//! answers why, and changes nothing.
+//! An [`Engine`] holds a workbook of several sheets. Its calls change cells, sheets and named expressions, move, insert
+//! and delete rows and columns, and read values and formulas; every formula follows each structural operation. A call
+//! that is refused answers why, and changes nothing.
 //!
 //! ```text
-//! let mut engine = Engine::build(alloc, &sheets, 20)?;
+//! let mut engine = Engine::build(alloc, &sheets, 20, registry, day)?;
 //! engine.set(a1, "=B2*2")?;
 //! engine.insert_rows(sheet, 1, 1)?;
 //! engine.formula(a1)?       // =B3*2
 //! ```
 #![tactic(auto)]
 
+mod absolute;
 mod book;
 mod build;
 mod cells;
 mod checks;
+mod copying;
 mod engine;
+mod expressions;
 mod formulas;
 mod held;
 mod history;
 pub mod laws;
+mod links;
+mod naming;
 mod parts;
+mod pasting;
 mod reading;
 mod setting;
 mod sheets;
 mod shifting;
+mod shown_name;
 mod stepping;
 mod stop;
 #[cfg(test)]
 mod tests;
 mod undoing;
+mod waiting;
 
 pub use engine::Engine;
 pub use history::Entry;

@@ -1,13 +1,22 @@
 // What cells show and hold.
 ghost use Rattle.std.specs.Prelude.{◌≡◌, ◌++◌, ◌∷◌, [], IfOk, MatchOption, OnOk, option_copied, option_map};
+ghost use Rattle.std.specs.Option.{unwrap_or};
 ghost use Rattle.grid_store.specs.Grid.{items_of};
 ghost use Rattle.std.specs.FinMap as map;
-ghost use Rattle.book_model.specs.Changes.{placed};
-ghost use Rattle.cell_values.specs.Workbook.{book_of};
+ghost use Rattle.cell_value.specs.declared.fault.FaultKind.TheVariants as faults;
+ghost use Rattle.cell_value.specs.declared.scalar.Scalar.TheVariants as scalars;
+ghost use Rattle.book_values.specs.Laws.{AreAlike};
+ghost use Rattle.book_values.specs.Names.{Key, found, tree_in};
+ghost use Rattle.book_values.specs.Workbook.{Node};
+ghost use Rattle.book_values.specs.Workbook as nodes;
+ghost use Rattle.book_calc.specs.Book.{workbook_of};
+ghost use Rattle.book_calc.specs.Values.{shown as shown_in, workbook_in, world_in};
 ghost use Rattle.cell_values.specs.Workbook as contents;
-ghost use Rattle.book_model.specs.Answers.{content_text, formula_of, value_of};
+ghost use Rattle.book_model.specs.Answers.{content_text, first_cell, formula_of, name_value_of, shown, tried_value, value_of, valued, world};
 ghost use Rattle.book_model.specs.Operation as op;
-ghost use Rattle.book_engine.specs.Seen.{Fits, state_of};
+ghost use Rattle.book_engine.specs.Expressions.{slot_of};
+ghost use Rattle.book_engine.specs.Seen.{Fits, state_of, with_rules};
+ghost use Rattle.book_engine.specs.internal.Names.{with_filled, with_slot};
 ghost use Rattle.book_engine.specs.internal.Turns.{Turns};
 ghost use Rattle.name_table.specs.Listed.{listed};
 ghost use Rattle.book_model.specs.Content.{content_shown, formula_shown, tree_shown};
@@ -15,29 +24,77 @@ ghost use Rattle.book_engine.specs.Formulas.{numbered, stood};
 ghost use Rattle.grid_store.specs.declared.cell.Cell.TheVariants as CellSeen;
 ghost use Rattle.book_engine.specs.Stored.{StandsAt, tree_of, content_of};
 
+use crate::expressions::Expression;
 use crate::formulas::Formula;
+use crate::naming::read_tree;
 use crate::parts::Parts;
 use crate::stop::Stop;
+use book_calc::{Book as Workbook, Cell as Content, Values, calculated};
 use book_model::text_given;
+use calc_eval::Customs;
 use cell_addr::{Place, Text};
-use cell_value::Scalar;
-use cell_values::{Cell as Content, Workbook, value};
+use cell_value::{FaultKind, Scalar};
 use formula_print::print;
 use formula_tree::Home;
 use grid_store::{Cell, CellList};
-use std::alloc::AllocError;
+use std::alloc::{AllocError, Global};
 use std::sync::ledger::Ledger;
 use steps::Steps;
 
 impl Parts {
     // What a cell shows.
-    pub(crate) fn value<L: Ledger>(&self, at: Place, steps: &mut Steps<L>) -> Result<Scalar, Stop>
+    pub(crate) fn value<C: Customs, L: Ledger>(
+        &self,
+        at: Place,
+        customs: &C,
+        day: i32,
+        steps: &mut Steps<L>,
+    ) -> Result<Scalar, Stop>
         requires { Fits self.now }
-        ensures { Turns (op.value at) (λ d scalar. scalar ≡ value_of d at) (state_of self.now) (state_of self.now) result }
+        ensures { Turns (op.value at) (λ d scalar. scalar ≡ value_of d at) (with_rules (C.customs customs.now) day (state_of self.now)) (with_rules (C.customs customs.now) day (state_of self.now)) result }
     {
         self.check_value(at)?;
-        let workbook = self.workbook()?;
-        let scalar = value(self.alloc, &workbook, at, steps)?;
+        let values = self.values(customs, day, steps)?;
+        let scalar = values.at(at).copy(self.alloc)?;
+        Ok(scalar)
+    }
+
+    // What a name shows that the word finds on the sheet.
+    pub(crate) fn name_value<C: Customs, L: Ledger>(
+        &self,
+        name: &str,
+        sheet: u32,
+        customs: &C,
+        day: i32,
+        steps: &mut Steps<L>,
+    ) -> Result<Scalar, Stop>
+        requires { Fits self.now }
+        ensures { Turns (op.name_value name.now sheet) (λ d scalar. scalar ≡ name_value_of d name.now sheet) (with_rules (C.customs customs.now) day (state_of self.now)) (with_rules (C.customs customs.now) day (state_of self.now)) result }
+    {
+        self.check_name_value(name, sheet)?;
+        let values = self.values(customs, day, steps)?;
+        let scalar = named_value(self.alloc, &values, name, sheet)?;
+        Ok(scalar)
+    }
+
+    // What the formula of a text would show in the first cell of the sheet.
+    pub(crate) fn try_formula<C: Customs, L: Ledger>(
+        &mut self,
+        sheet: u32,
+        text: &str,
+        customs: &C,
+        day: i32,
+        steps: &mut Steps<L>,
+    ) -> Result<Scalar, Stop>
+        requires { Fits self.old }
+        ensures turns { Turns (op.try_formula sheet text.now) (λ d scalar. scalar ≡ tried_value d sheet text.now) (with_rules (C.customs customs.now) day (state_of self.old)) (with_rules (C.customs customs.now) day (state_of self.new)) result }
+        ensures fits { Fits self.new }
+    {
+        self.check_on_sheet(sheet)?;
+        let home = Home::Cell(first_cell(sheet));
+        let tree = read_tree(self.alloc, &mut self.pool, &self.book.names, home, text)?;
+        let values = self.values(customs, day, steps)?;
+        let scalar = values.tried(self.alloc, &tree, home, customs, steps)?;
         Ok(scalar)
     }
 
@@ -114,7 +171,7 @@ impl Parts {
     }
 
     // The formula under a number, which stands at the place.
-    fn standing(&self, at: Place, number: u64) -> &Formula
+    pub(crate) fn standing(&self, at: Place, number: u64) -> &Formula
         requires { StandsAt (numbered self.now.book.formulas) number at }
         ensures at { result.now.at ≡ at }
         ensures formula { numbered self.now.book.formulas number ≡ Some (stood result.now) }
@@ -125,18 +182,60 @@ impl Parts {
         }
     }
 
+    // What all places and names show.
+    fn values<C: Customs, L: Ledger>(
+        &self,
+        customs: &C,
+        day: i32,
+        steps: &mut Steps<L>,
+    ) -> Result<Values, AllocError>
+        requires { Fits self.now }
+        ensures shown { IfOk result (λ values. (a : Node) → shown_in values a ≡ shown (with_rules (C.customs customs.now) day (state_of self.now)) a) }
+        ensures world { IfOk result (λ values. world_in values ≡ world (with_rules (C.customs customs.now) day (state_of self.now))) }
+        ensures found { IfOk result (λ values. (word : _) (sheet : _) → found (workbook_in values).names word sheet ≡ found (map.entries (state_of self.now).book.names) word sheet) }
+    {
+        let workbook = self.workbook()?;
+        let values = calculated(self.alloc, workbook, customs, day, steps)?;
+        Ok(values)
+    }
+
     // The whole workbook, as values are worked out from.
     fn workbook(&self) -> Result<Workbook, AllocError>
         requires { Fits self.now }
-        ensures { IfOk result (λ workbook. book_of workbook ≡ (state_of self.now).book.cells) }
+        ensures { IfOk result (λ workbook. AreAlike (workbook_of workbook) (valued (state_of self.now).book)) }
+    {
+        let mut workbook = Workbook::new(self.alloc);
+        self.put_cells(&mut workbook)?;
+        self.put_names(&mut workbook)?;
+        Ok(workbook)
+    }
+
+    // Fills the cells of an empty workbook.
+    fn put_cells(&self, workbook: &mut Workbook) -> Result<(), AllocError>
+        requires fits { Fits self.now }
+        requires empty { (workbook_of workbook.old).cells ≡ map.empty }
+        ensures cells { OnOk result ((workbook_of workbook.new).cells ≡ (state_of self.now).book.cells) }
+        ensures names { OnOk result ((workbook_of workbook.new).names ≡ (workbook_of workbook.old).names) }
     {
         let mut cells = self.book.grid.all()?;
-        let mut workbook = Workbook::new(self.alloc);
         while let Some(at) = next_place(&mut cells) {
             let content = self.content_at(at)?;
-            place(&mut workbook, at, content)?;
+            place(workbook, at, content)?;
         }
-        Ok(workbook)
+        Ok(())
+    }
+
+    // Gives a workbook without names the names.
+    fn put_names(&self, workbook: &mut Workbook) -> Result<(), AllocError>
+        requires empty { (workbook_of workbook.old).names ≡ [] }
+        ensures cells { OnOk result ((workbook_of workbook.new).cells ≡ (workbook_of workbook.old).cells) }
+        ensures names { OnOk result ((key : Key) → tree_in (workbook_of workbook.new).names key ≡ map.get (state_of self.now).book.names key) }
+    {
+        let expressions = self.book.expressions.items();
+        'names: for index in (0..expressions.len()).rev() {
+            put_name(workbook, &expressions[index])?;
+        }
+        Ok(())
     }
 
     // What a cell holds, if it is filled.
@@ -174,13 +273,45 @@ fn next_place(cells: &mut CellList) -> Option<Place>
     Some(at)
 }
 
-// Fills a cell of a workbook, or empties it.
+// Fills a cell of a workbook, where there is something to fill it with.
 fn place(workbook: &mut Workbook, at: Place, content: Option<Content>) -> Result<(), AllocError>
-    ensures { OnOk result (book_of workbook.new ≡ placed at (option_map (contents.content_at at) content) (book_of workbook.old)) }
+    ensures cells { OnOk result ((workbook_of workbook.new).cells ≡ with_filled at (option_map (contents.content_at at) content) (workbook_of workbook.old).cells) }
+    ensures names { OnOk result ((workbook_of workbook.new).names ≡ (workbook_of workbook.old).names) }
 {
     match content {
-        Some(content) => workbook.put(at, content)?,
-        None => workbook.clear(at),
+        Some(content) => workbook.put(at, content),
+        None => Ok(()),
     }
-    Ok(())
+}
+
+// Gives a workbook a name, where it has a tree.
+fn put_name(workbook: &mut Workbook, expression: &Expression) -> Result<(), AllocError>
+    ensures cells { OnOk result ((workbook_of workbook.new).cells ≡ (workbook_of workbook.old).cells) }
+    ensures names { OnOk result ((workbook_of workbook.new).names ≡ with_slot (slot_of expression.now) (workbook_of workbook.old).names) }
+{
+    match &expression.tree {
+        Some(tree) => workbook.put_name(expression.scope, expression.word.as_str(), tree.clone()?),
+        None => Ok(()),
+    }
+}
+
+// What a name shows that the word finds on the sheet; `#NAME?` where it finds none.
+fn named_value(alloc: Global, values: &Values, name: &str, sheet: u32) -> Result<Scalar, AllocError>
+    ensures { IfOk result (λ scalar. scalar ≡ unwrap_or (option_map (λ key. shown_in values.now (nodes.name key)) (found (workbook_in values.now).names name.now sheet)) (scalars.Fault faults.Name)) }
+{
+    match values.named(name, sheet) {
+        Some(scalar) => scalar.copy(alloc),
+        None => Ok(Scalar::Fault(FaultKind::Name)),
+    }
+}
+
+// The first cell of the sheet.
+fn first_cell(sheet: u32) -> Place
+    ensures { result ≡ first_cell sheet }
+{
+    Place {
+        sheet,
+        row: 0,
+        col: 0,
+    }
 }

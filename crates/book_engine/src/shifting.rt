@@ -51,14 +51,17 @@ impl Book {
     {
         let names = names_before(&self.names, s)?;
         let next = self.formulas.shifted(pool, s)?;
+        let named = self.expressions.shifted(pool, s)?;
         let removed = self.grid.apply(s)?;
         let formulas = mem::replace(&mut self.formulas, next);
+        let expressions = mem::replace(&mut self.expressions, named);
         leave(&mut self.names, s);
         Ok(Part::Shifted(ShiftChange {
             shift: *s,
             removed,
             formulas,
             names,
+            expressions,
         }))
     }
 }

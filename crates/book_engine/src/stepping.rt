@@ -38,6 +38,11 @@ impl Book {
                 self.names = names.copied()?;
                 Ok(())
             }
+            Part::Named(expression) => {
+                let before = expression.copied(alloc)?;
+                self.expressions.set(before)?;
+                Ok(())
+            }
         }
     }
 
@@ -70,6 +75,7 @@ impl Book {
         let removed = copied(alloc, &change.removed)?;
         self.grid.put_back(&change.shift, removed)?;
         self.formulas = change.formulas.copied()?;
+        self.expressions = change.expressions.copied()?;
         if let Some(names) = &change.names {
             self.names = names.copied()?;
         }

@@ -28,7 +28,7 @@ not-text name bytes filled u = rw u refl
 pub bad-name : (name bytes : List ℕ) (filled : ℕ) → is_utf8 bytes ≡ true → is_sheet_name (sheet_name_of name) ≡ false → book_sheet_of name bytes filled ≡ Err BadSheetName
 bad-name name bytes filled u n = rw (u, n) refl
 
-a-fault : (name bytes : List ℕ) (filled : ℕ) (e : BookFault) → is_utf8 bytes ≡ true → is_sheet_name (sheet_name_of name) ≡ true → first_fault filled (file_cells bytes) ≡ Some e → book_sheet_of name bytes filled ≡ Err e
+pub a-fault : (name bytes : List ℕ) (filled : ℕ) (e : BookFault) → is_utf8 bytes ≡ true → is_sheet_name (sheet_name_of name) ≡ true → first_fault filled (file_cells bytes) ≡ Some e → book_sheet_of name bytes filled ≡ Err e
 a-fault name bytes filled e u n f = rw (u, n, f) refl
 
 -- a fault of the fields is the file's

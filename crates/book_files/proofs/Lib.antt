@@ -1,7 +1,10 @@
 pub mod BookAnswers
+pub mod FieldLists
 pub mod FileFacts
 pub mod FillSteps
+pub mod FirstFaults
 pub mod GivenCells
+pub mod ReadingOrder
 pub mod RecordCounts
 pub mod RecordSteps
 pub mod SheetNames

@@ -4,6 +4,7 @@ use Rattle.std.specs.List.{list_any, ends_with}
 use Rattle.std.specs.Str.{is_utf8}
 use Rattle.csv.specs.Reading.{records, default_config, strip_bom}
 use Rattle.cell_addr.specs.declared.place.TheConstants.{ROWS, COLS}
+use Rattle.book_model.specs.Given.{GivenSheet, given_sheet}
 use Rattle.book_model.specs.Refusals.{is_sheet_name}
 use Rattle.book_model.specs.declared.given.BookCell.{BookCell}
 use Rattle.book_model.specs.declared.given.BookSheet.{BookSheet}
@@ -78,25 +79,20 @@ abbrev pub first_fault : ℕ → List BookCell → Option BookFault
 first_fault filled [] = None
 first_fault filled (c ∷ cs) = or_behind (field_fault filled c) (first_fault (filled_after filled c) cs)
 
--- a sheet: its name and its filled cells, in reading order
-pub record FileSheet : Type 0 where
-  pub name : List ℕ
-  pub cells : List BookCell
-
 -- the sheet of a name and of the fields that fill a cell, or the first fault
-abbrev pub sheet_unless : Option BookFault → List ℕ → List BookCell → Result FileSheet BookFault
+abbrev pub sheet_unless : Option BookFault → List ℕ → List BookCell → Result GivenSheet BookFault
 sheet_unless (Some e) name fields = Err e
 sheet_unless None name fields = Ok (record { name = name; cells = filter is_filled fields })
 
 -- the sheet that a file of this name and these bytes is, in a book of which so many cells are filled
-abbrev pub book_sheet_of : List ℕ → List ℕ → ℕ → Result FileSheet BookFault
+abbrev pub book_sheet_of : List ℕ → List ℕ → ℕ → Result GivenSheet BookFault
 book_sheet_of name bytes filled =
     if not (is_utf8 bytes) then Err NotUtf8
     else if not (is_sheet_name (sheet_name_of name)) then Err BadSheetName
     else sheet_unless (first_fault filled (file_cells bytes)) (sheet_name_of name) (file_cells bytes)
 
 -- a reading answers what is said; want of memory is free
-abbrev pub AnswersSheet : Result BookSheet BookFault → Result FileSheet BookFault → Type 0
-AnswersSheet (Ok s) said = said ≡ Ok (record { name = s.name; cells = s.cells.list.items })
+abbrev pub AnswersSheet : Result BookSheet BookFault → Result GivenSheet BookFault → Type 0
+AnswersSheet (Ok s) said = said ≡ Ok (given_sheet s)
 AnswersSheet (Err NoMemory) said = ⊤
 AnswersSheet (Err e) said = said ≡ Err e

@@ -1,4 +1,5 @@
 pub mod Books
 pub mod Folder
+pub mod Laws
 pub mod Outside
 pub mod internal

@@ -2,7 +2,7 @@
 ghost use Rattle.std.specs.Prelude.{◌≡◌, [], ◌∷◌, IfOk, IsOkUnless, IsUtf8};
 ghost use Rattle.std.specs.Str.{is_utf8};
 ghost use Rattle.csv.specs.Records.{AllText, fields_of};
-ghost use Rattle.book_model.specs.Given.{IsGivenSheet};
+ghost use Rattle.book_model.specs.Given.{IsGivenSheet, given_sheet};
 ghost use Rattle.book_files.specs.Books.{AnswersSheet, behind_slashes, book_sheet_of, field_fault, file_cells, record_cells, sheet_name_of, without_ending};
 ghost use Rattle.book_files.specs.internal.Filling.{Fills, FillsAll};
 
@@ -47,7 +47,7 @@ pub fn read_book(
     ensures answers { AnswersSheet result (book_sheet_of name.now bytes.now filled) }
 
     // A session can begin with the sheet.
-    ensures given { IfOk result IsGivenSheet }
+    ensures given { IfOk result (λ sheet. IsGivenSheet (given_sheet sheet)) }
 {
     if !is_text(bytes) {
         return Err(BookFault::NotUtf8);
@@ -70,8 +70,8 @@ fn is_text(bytes: &[u8]) -> bool
     str::from_utf8(bytes).is_ok()
 }
 
-// The name of the sheet that the file of a name is.
-fn sheet_name(name: &str) -> &str
+/// The name of the sheet that the file of this name is: the part behind the last `/`, without `.csv` at the end.
+pub fn sheet_name(name: &str) -> &str
     ensures { result.now ≡ sheet_name_of name.now }
 {
     without_ending(behind_slashes(name))

@@ -20,6 +20,7 @@ mod fault;
 mod files;
 mod folder;
 mod input;
+pub mod laws;
 mod memory;
 mod records;
 mod sink;
@@ -28,7 +29,7 @@ mod standard;
 #[cfg(test)]
 mod tests;
 
-pub use book::read_book;
+pub use book::{read_book, sheet_name};
 pub use disk::DiskFolder;
 pub use error::{Failed, LoadError, WriteError};
 pub use fault::BookFault;

@@ -1,23 +1,21 @@
 -- What an operation that isn't refused is: a structural one is sound. Serves the laws of sessions, and the engine.
-use Rattle.std.proofs.Common.{◌≡◌, ◌≢◌, ◌∙◌, sym, ap, refl, arith, inl, inr, ℕ, zero, ◌≤◌, ◌<◌, ◌+◌, ◌==◌, ◌&&◌, ◌||◌, nat_lt, Bool, true, false, cond, not, List, [], ◌∷◌, Option, Some, None}
+use Rattle.std.proofs.Common.{◌≡◌, sym, refl, arith, inl, inr, ℕ, ◌≤◌, ◌<◌, ◌+◌, ◌==◌, ◌&&◌, ◌||◌, nat_lt, Bool, true, false, cond, not, List, [], ◌∷◌, Option, Some, None}
 use Rattle.std.specs.Prelude.{nat_le, ◌⊎◌, ⊤}
 use Rattle.std.proofs.lemmas.Bool.{cases_lt}
 use Rattle.std.proofs.lemmas.Bool.Decides.{nat_tests}
 use Rattle.cell_addr.specs.Axis.{limit_of}
 use Rattle.cell_addr.specs.Place.{IsInside, IsBlockInside, same_block}
-use Rattle.cell_addr.specs.declared.axis.Axis.{Axis}
 use Rattle.cell_addr.specs.declared.place.Place.{Place}
 use Rattle.cell_addr.specs.declared.place.Block.{Block}
 use Rattle.shift_core.specs.Carried.{destination}
-use Rattle.shift_core.specs.Form.{form_of}
 use Rattle.shift_core.specs.Lines.{IsSoundEdit}
 use Rattle.shift_core.specs.Sound.{IsSoundForm}
 use Rattle.shift_core.specs.declared.edit.Edit.{Edit}
 use Rattle.shift_core.specs.declared.edit.Edit.TheVariants as edit
 use Rattle.shift_core.specs.declared.form.Form.{Form}
 use Rattle.shift_core.specs.declared.form.Form.TheVariants as form
-use Rattle.book_model.specs.Workbook.{Workbook, State, has_sheet}
-use Rattle.book_model.specs.Refusals.{Cause, first_cause, is_outside, is_block_outside, of_edit, of_form, pushes_off}
+use Rattle.book_model.specs.Workbook.{State, has_sheet}
+use Rattle.book_model.specs.Refusals.{Cause, first_cause, is_outside, is_block_outside, of_edit, of_form}
 use Rattle.book_model.specs.declared.refusal.Refusal.{Refusal}
 use Rattle.book_model.specs.declared.refusal.Refusal.TheVariants.{NoSheet}
 use Rattle.book_model.proofs.ShiftedBooks.{LeadsToKnown}
@@ -47,7 +45,7 @@ both_known false c e = cc
 pub is_inside : (p : Place) → is_outside p ≡ false → IsInside p
 is_inside p e = grind (arith, nat_tests)
 
-is_block_inside : (b : Block) → is_block_outside b ≡ false → IsBlockInside b
+pub is_block_inside : (b : Block) → is_block_outside b ≡ false → IsBlockInside b
 is_block_inside b e = grind (arith, nat_tests)
 
 same_is : (b c : Block) → b ≡ c → same_block b c ≡ true

@@ -1,5 +1,5 @@
 -- The contents that texts give, and where contents stand after one place or some are changed. Serves the laws of sessions.
-use Rattle.std.proofs.Common.{◌≡◌, ◌∙◌, sym, ap, subst, refl, ℕ, Bool, true, false, cond, not, List, Option, Some, None}
+use Rattle.std.proofs.Common.{◌≡◌, ◌∙◌, sym, ap, subst, refl, inl, inr, ℕ, Bool, true, false, cond, not, List, Option, Some, None}
 use Rattle.std.specs.FinMap as map
 use Rattle.std.specs.FinMap.{get-insert, get-remove, get-retain_keys}
 use Rattle.std.specs.declared.cmp.Ordering.{Ordering}
@@ -9,19 +9,22 @@ use Rattle.cell_addr.specs.declared.place.Place.{Place}
 use Rattle.cell_addr.specs.Order.{place_cmp}
 use Rattle.cell_addr.specs.Sheets.{id_in, name_in, AreSheets}
 use Rattle.cell_addr.proofs.Places.{place_cmp-IsTotalOrder, place_cmp-IsAntisymmetric}
-use Rattle.cell_values.specs.Workbook.{Book as Contents, Content, number, truth, text, formula, unreadable}
+use Rattle.cell_values.specs.Workbook.{Book as Contents, Content, number, truth, text, formula}
 use Rattle.formula_parse.proofs.CanonicalRead.{named-apart}
 use Rattle.formula_tree.proofs.Exact.{text_reader-exact}
 use Rattle.formula_tree.proofs.ProperTrees.{spelled-proper, spelled-listed}
 use Rattle.formula_tree.specs.Term.{Term}
 use Rattle.formula_tree.specs.declared.reference.Corner.{Corner}
-use Rattle.book_model.specs.Workbook.{Workbook, State, has_sheet}
+use Rattle.book_values.specs.Workbook.{scope_sheet}
+use Rattle.book_model.specs.Workbook.{Workbook, has_scope, has_sheet}
 use Rattle.book_model.specs.Content.{content_given, formula_content, tree_given}
-use Rattle.book_model.specs.Changes.{placed}
-use Rattle.book_model.specs.Sound.{IsContentOf, IsCellOf}
+use Rattle.book_model.specs.Changes.{name_tree, placed}
+use Rattle.book_model.specs.Names.{are_absolute}
+use Rattle.book_model.specs.Sound.{IsContentOf}
 use Rattle.book_model.specs.declared.content.ContentText.{ContentText}
 use Rattle.book_model.specs.declared.content.ContentText.TheVariants as said
-use Rattle.book_model.proofs.KnownSheets.{all_stand}
+use Rattle.book_model.proofs.KnownSheets.{all_stand, some_stand}
+use Rattle.book_model.proofs.NameMaps.{absolute-sheet}
 
 -- a tree that a text spells on a sheet of the book is a content of the book
 read_content : (b : Workbook) (sheet : ℕ) (w : List ℕ) (t : Term Corner) → AreSheets b.sheets → has_sheet b sheet ≡ true → tree_given b.sheets sheet w ≡ Some t → IsContentOf b (formula t)
@@ -29,6 +32,15 @@ read_content b sheet w t are here read =
     let spelt = (text_reader-exact sheet (id_in b.sheets) w t).0 read in
     let proper = spelled-proper sheet (id_in b.sheets) w t spelt.0 in
     (proper, all_stand b.sheets sheet t here proper (spelled-listed sheet (id_in b.sheets) (name_in b.sheets) w t (named-apart b.sheets are.0) spelt.0))
+
+-- so is one that it spells for a name, where none of its corners depends on where it is named
+pub named_is : (b : Workbook) (scope : Option ℕ) (w : List ℕ) (t : Term Corner) → AreSheets b.sheets → has_scope b scope ≡ true → name_tree scope w b ≡ Some t → are_absolute t ≡ true → IsContentOf b (formula t)
+named_is b (Some sheet) w t are here read fixed = read_content b sheet w t are here read
+named_is b None w t are here read fixed =
+    let spelt = (text_reader-exact (scope_sheet None) (id_in b.sheets) w t).0 read in
+    let proper = spelled-proper (scope_sheet None) (id_in b.sheets) w t spelt.0 in
+    let listed = spelled-listed (scope_sheet None) (id_in b.sheets) (name_in b.sheets) w t (named-apart b.sheets are.0) spelt.0 in
+    (proper, λ sheet i. elim (some_stand b.sheets (scope_sheet None) t proper listed sheet i) [ inl e ↦ absurd (absolute-sheet t fixed sheet i e) | inr h ↦ h ])
 
 formula_is : (b : Workbook) (sheet : ℕ) (found : Option (Term Corner)) (w : List ℕ) → AreSheets b.sheets → has_sheet b sheet ≡ true → tree_given b.sheets sheet w ≡ found → IsContentOf b (formula_content found w)
 formula_is b sheet None w are here read = tt

@@ -1,10 +1,10 @@
 -- How many entries finite maps have. Serves the limit on filled cells.
-use Rattle.std.proofs.Common.{◌≡◌, ◌∙◌, sym, ap, refl, arith, ℕ, suc, ◌≤◌, ◌+◌, ◌-◌, Bool, true, false, cond, length, List, [], ◌∷◌, map, filter, Option, Some, None}
+use Rattle.std.proofs.Common.{◌≡◌, ◌∙◌, sym, ap, refl, arith, ℕ, suc, ◌≤◌, ◌+◌, ◌-◌, Bool, true, false, cond, length, List, [], ◌∷◌, map, Option, Some, None}
 use Rattle.std.specs.List.{filter_map, cons_option}
 use Rattle.std.specs.declared.cmp.Ordering.{Ordering}
 use Rattle.std.specs.Ordering.{eq_by_cmp}
 use Rattle.std.specs.Cmp.{IsTotalOrder}
-use Rattle.std.specs.FinMap.{FinMap, find, IsAntisymmetric, from_entries, empty, entries, get, insert, remove, retain_keys, len, contains_key, same_map, get-empty, get-entries, get-remove, get-retain_keys, len-empty, len-insert, len-remove, len-entries}
+use Rattle.std.specs.FinMap.{FinMap, find, IsAntisymmetric, from_entries, empty, entries, get, remove, retain_keys, len, contains_key, same_map, get-empty, get-entries, get-remove, get-retain_keys, len-empty, len-insert, len-remove, len-entries}
 
 one-more : (b : Bool) (n m : ℕ) → n ≤ m → cond b n (n + 1) ≤ suc m
 one-more true n m h = omega arith

@@ -1,6 +1,6 @@
 -- The sheets of a list, and those that a tree names. Serves the trees of a session.
-use Rattle.std.proofs.Common.{◌≡◌, ◌∙◌, sym, ap, refl, ℕ, Bool, true, false, cond, eqb, List, [], ◌∷◌, ◌++◌, ◌||◌, ◌==◌, Option, Some, None, inl, inr}
-use Rattle.std.specs.Prelude.{◌⊎◌, IsTrue}
+use Rattle.std.proofs.Common.{◌≡◌, ◌∙◌, sym, ap, refl, ℕ, Bool, true, false, cond, eqb, List, [], ◌∷◌, ◌||◌, ◌==◌, Option, Some, inl, inr}
+use Rattle.std.specs.Prelude.{◌⊎◌}
 use Rattle.std.specs.List.{list_any}
 use Rattle.cell_addr.specs.Sheets.{id_in, name_in, AreSheets}
 use Rattle.cell_addr.proofs.Listed.{id_in-listed, listed-name_in}
@@ -37,8 +37,11 @@ listed sheets home id are h =
     let n = named sheets id h in
     inr (n.0, n.1, id_in-listed sheets (id, n.0) n.0 are.0 (listed-name_in sheets id n.0 n.1) refl)
 
-listed-has : (sheets : List (ℕ × List ℕ)) (home id : ℕ) → has_id home sheets ≡ true → IsListed home (name_in sheets) (id_in sheets) id → has_id id sheets ≡ true
-listed-has sheets home id h l = elim l [ inl e ↦ ap (λ n. has_id n sheets) e ∙ h | inr n ↦ has-named sheets id n.0 n.1 ]
+home-or-has : (sheets : List (ℕ × List ℕ)) (home id : ℕ) → IsListed home (name_in sheets) (id_in sheets) id → (id ≡ home) ⊎ (has_id id sheets ≡ true)
+home-or-has sheets home id l = elim l [ inl e ↦ inl e | inr n ↦ inr (has-named sheets id n.0 n.1) ]
+
+stands-same : (sheets : List (ℕ × List ℕ)) (home id other : ℕ) → id ≡ other → IsListed home (name_in sheets) (id_in sheets) id → (other ≡ home) ⊎ (has_id other sheets ≡ true)
+stands-same sheets home id other e l = elim (home-or-has sheets home id l) [ inl h ↦ inl (sym e ∙ h) | inr h ↦ inr (ap (λ n. has_id n sheets) (sym e) ∙ h) ]
 
 mutual
   -- where each sheet of a tree stands in the list, the tree's sheets are listed
@@ -61,24 +64,28 @@ mutual
   all_listed_list sheets home (term t ts) are h = (all_listed sheets home t are (λ n i. h n (inl i)), all_listed_list sheets home ts are (λ n i. h n (inr i)))
 
 mutual
-  -- where a proper tree's sheets are listed, and its home's sheet is, each of them stands in the list
-  pub all_stand : (sheets : List (ℕ × List ℕ)) (home : ℕ) (t : Term Corner) → has_id home sheets ≡ true → IsProper t → SheetsAreListed home (name_in sheets) (id_in sheets) t → (sheet : ℕ) → HasSheet sheet t → has_id sheet sheets ≡ true
-  all_stand sheets home (number m) h p l sheet i = absurd i
-  all_stand sheets home (text w) h p l sheet i = absurd i
-  all_stand sheets home (truth b) h p l sheet i = absurd i
-  all_stand sheets home (fault f) h p l sheet i = absurd i
-  all_stand sheets home (cell c) h p l sheet i = ap (λ n. has_id n sheets) (sym i) ∙ listed-has sheets home c.at.sheet h l
-  all_stand sheets home (area c d) h p l sheet i = elim i [
-    | inl e ↦ ap (λ n. has_id n sheets) (sym e) ∙ listed-has sheets home c.at.sheet h l
-    | inr e ↦ ap (λ n. has_id n sheets) (sym e ∙ sym p.2.0) ∙ listed-has sheets home c.at.sheet h l
+  -- where a proper tree's sheets are listed, each of them is its home's or stands in the list
+  pub some_stand : (sheets : List (ℕ × List ℕ)) (home : ℕ) (t : Term Corner) → IsProper t → SheetsAreListed home (name_in sheets) (id_in sheets) t → (sheet : ℕ) → HasSheet sheet t → (sheet ≡ home) ⊎ (has_id sheet sheets ≡ true)
+  some_stand sheets home (number m) p l sheet i = absurd i
+  some_stand sheets home (text w) p l sheet i = absurd i
+  some_stand sheets home (truth b) p l sheet i = absurd i
+  some_stand sheets home (fault f) p l sheet i = absurd i
+  some_stand sheets home (cell c) p l sheet i = stands-same sheets home c.at.sheet sheet i l
+  some_stand sheets home (area c d) p l sheet i = elim i [
+    | inl e ↦ stands-same sheets home c.at.sheet sheet e l
+    | inr e ↦ stands-same sheets home c.at.sheet sheet (p.2.0 ∙ e) l
   ]
-  all_stand sheets home (name w) h p l sheet i = absurd i
-  all_stand sheets home (prefix s t) h p l sheet i = all_stand sheets home t h p.1 l sheet i
-  all_stand sheets home (percent t) h p l sheet i = all_stand sheets home t h p.1 l sheet i
-  all_stand sheets home (binary o u v) h p l sheet i = elim i [ inl j ↦ all_stand sheets home u h p.2 l.0 sheet j | inr j ↦ all_stand sheets home v h p.3 l.1 sheet j ]
-  all_stand sheets home (call w ts) h p l sheet i = all_stand_list sheets home ts h p.1 l sheet i
-  all_stand sheets home (paren t) h p l sheet i = all_stand sheets home t h p l sheet i
+  some_stand sheets home (name w) p l sheet i = absurd i
+  some_stand sheets home (prefix s t) p l sheet i = some_stand sheets home t p.1 l sheet i
+  some_stand sheets home (percent t) p l sheet i = some_stand sheets home t p.1 l sheet i
+  some_stand sheets home (binary o u v) p l sheet i = elim i [ inl j ↦ some_stand sheets home u p.2 l.0 sheet j | inr j ↦ some_stand sheets home v p.3 l.1 sheet j ]
+  some_stand sheets home (call w ts) p l sheet i = some_stand_list sheets home ts p.1 l sheet i
+  some_stand sheets home (paren t) p l sheet i = some_stand sheets home t p l sheet i
 
-  all_stand_list : (sheets : List (ℕ × List ℕ)) (home : ℕ) (ts : Terms Corner) → has_id home sheets ≡ true → AreProper ts → AllSheetsAreListed home (name_in sheets) (id_in sheets) ts → (sheet : ℕ) → SomeHasSheet sheet ts → has_id sheet sheets ≡ true
-  all_stand_list sheets home no_terms h p l sheet i = absurd i
-  all_stand_list sheets home (term t ts) h p l sheet i = elim i [ inl j ↦ all_stand sheets home t h p.0 l.0 sheet j | inr j ↦ all_stand_list sheets home ts h p.1 l.1 sheet j ]
+  some_stand_list : (sheets : List (ℕ × List ℕ)) (home : ℕ) (ts : Terms Corner) → AreProper ts → AllSheetsAreListed home (name_in sheets) (id_in sheets) ts → (sheet : ℕ) → SomeHasSheet sheet ts → (sheet ≡ home) ⊎ (has_id sheet sheets ≡ true)
+  some_stand_list sheets home no_terms p l sheet i = absurd i
+  some_stand_list sheets home (term t ts) p l sheet i = elim i [ inl j ↦ some_stand sheets home t p.0 l.0 sheet j | inr j ↦ some_stand_list sheets home ts p.1 l.1 sheet j ]
+
+-- and where its home's sheet stands there, each does
+pub all_stand : (sheets : List (ℕ × List ℕ)) (home : ℕ) (t : Term Corner) → has_id home sheets ≡ true → IsProper t → SheetsAreListed home (name_in sheets) (id_in sheets) t → (sheet : ℕ) → HasSheet sheet t → has_id sheet sheets ≡ true
+all_stand sheets home t h p l sheet i = elim (some_stand sheets home t p l sheet i) [ inl e ↦ ap (λ n. has_id n sheets) e ∙ h | inr e ↦ e ]

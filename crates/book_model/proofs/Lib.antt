@@ -3,6 +3,10 @@ pub mod KnownSheets
 pub mod SheetLists
 pub mod Contents
 pub mod ShiftedBooks
+pub mod NameOrder
+pub mod NameMaps
 pub mod Accepted
+pub mod PastedCells
 pub mod SoundSteps
 pub mod GivenSheets
+pub mod LinksInside

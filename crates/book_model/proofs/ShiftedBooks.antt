@@ -1,7 +1,8 @@
 -- The workbook after a structural operation is sound where the one before it is. Serves the laws of sessions.
-use Rattle.std.proofs.Common.{◌≡◌, ◌≢◌, ◌∙◌, sym, ap, subst, refl, arith, inl, inr, ℕ, ◌≤◌, ◌<◌, ◌==◌, nat_lt, Bool, true, false, cond, not, List, [], ◌∷◌, map, Option, Some, None, option_map, IsSome}
-use Rattle.std.specs.Prelude.{nat_le, ◌⊎◌, ⊤, option_and_then}
-use Rattle.std.specs.List.{All, filter_map, filter}
+use Rattle.std.proofs.Common.{◌≡◌, ◌≢◌, ◌∙◌, sym, ap, subst, refl, arith, inl, inr, ℕ, ◌≤◌, ◌<◌, ◌==◌, Bool, true, false, cond, not, List, [], ◌∷◌, map, Option, Some, None, option_map, IsSome}
+use Rattle.std.specs.Prelude.{⊤, option_and_then}
+use Rattle.std.specs.List.{All, filter_map}
+use Rattle.std.proofs.lemmas.Bool.{eq-eqb}
 use Rattle.std.proofs.lemmas.Option.{same_Some}
 use Rattle.std.proofs.lemmas.List.Elements.{All-filter}
 use Rattle.std.specs.FinMap as fin
@@ -25,11 +26,15 @@ use Rattle.shift_core.specs.Tables.{place_after, place_before}
 use Rattle.shift_core.specs.declared.form.Form.{Form}
 use Rattle.shift_core.specs.declared.form.Form.TheVariants as form
 use Rattle.shift_core.specs.declared.shift.Shift.{Shift}
-use Rattle.book_model.specs.Workbook.{Workbook, has_sheet}
-use Rattle.book_model.specs.Changes.{rewritten_content, rewritten_entry, rewritten_contents, sheets_left, shifted}
-use Rattle.book_model.specs.Sound.{IsSoundBook, IsContentOf, IsCellOf}
+use Rattle.formula_tree.specs.Term.{Term}
+use Rattle.formula_tree.specs.declared.reference.Corner.{Corner}
+use Rattle.book_values.specs.Names.{Key}
+use Rattle.book_model.specs.Workbook.{Workbook, has_scope, has_sheet}
+use Rattle.book_model.specs.Changes.{rewritten_content, rewritten_entry, rewritten_contents, sheets_left, shifted, stays}
+use Rattle.book_model.specs.Sound.{IsSoundBook, IsContentOf, IsCellOf, IsNameOf}
 use Rattle.book_model.proofs.Counts.{len-from_entries, length-filter_map, length-map}
 use Rattle.book_model.proofs.KnownSheets.{has_id}
+use Rattle.book_model.proofs.NameMaps.{name-came}
 use Rattle.book_model.proofs.SheetLists.{has-left, sheets-left}
 
 find-rewritten : (s : Shift) (p : Place) (es : List (Place × Content)) → find place_cmp p (map (rewritten_entry s) es) ≡ option_map (rewritten_content s) (find place_cmp p es)
@@ -109,6 +114,23 @@ shifted_cell s b q c sound k all e =
       subst (IsContentOf (shifted s b)) from.follows (followed s b from.content sound k cell.2),
     )
 
+other-sheet : (dropped sheet : ℕ) → not (sheet == dropped) ≡ true → sheet ≢ dropped
+other-sheet dropped sheet h e = let t = eq-eqb sheet dropped e in cc
+
+-- the scope of a name that stays is one after the operation
+scope-stays : (f : Form) (b : Workbook) (scope : Option ℕ) (word : List ℕ) → stays f (record { scope = scope; word = word }) ≡ true → has_scope b scope ≡ true → has_scope (record b { sheets = sheets_left f b.sheets }) scope ≡ true
+scope-stays f b None word stay h = refl
+scope-stays (form.Lines sheet axis edit) b (Some id) word stay h = h
+scope-stays (form.Cells source to) b (Some id) word stay h = h
+scope-stays (form.Sheet dropped) b (Some id) word stay h = has-left dropped id b.sheets (other-sheet dropped id stay) h
+
+shifted_name : (s : Shift) (b : Workbook) (key : Key) (t : Term Corner) → IsSoundShift s → LeadsToKnown (form_of s) b
+    → ((k : Key) (u : Term Corner) → fin.get b.names k ≡ Some u → IsNameOf b k u) → fin.get (shifted s b).names key ≡ Some t → IsNameOf (shifted s b) key t
+shifted_name s b key t sound k all e =
+    let from = name-came s b.names key t e in
+    let was = all key from.0 from.2 in
+    (scope-stays (form_of s) b key.scope key.word from.1 was.0, subst (λ u. IsContentOf (shifted s b) (formula u)) from.3 (followed s b (formula from.0) sound k was.1))
+
 left-sheets : (f : Form) (sheets : List (ℕ × List ℕ)) → AreSheets sheets → AreSheets (sheets_left f sheets)
 left-sheets (form.Lines sheet axis edit) sheets h = h
 left-sheets (form.Cells source to) sheets h = h
@@ -139,4 +161,5 @@ shifted_book n b s sound can k =
       numbers = left-numbers (form_of s) n b.sheets sound.numbers;
       cells = λ p c e. shifted_cell s b p c can k sound.cells e;
       count = omega (arith, few, less);
+      names = λ key t e. shifted_name s b key t can k sound.names e;
     }

@@ -1,20 +1,26 @@
 -- What holds of sessions.
-use Rattle.std.specs.Prelude.{◌≡◌, ◌≤◌, ℕ, List, [], ◌∷◌, ◌++◌, Some, None}
+use Rattle.std.specs.Prelude.{◌≡◌, ◌≤◌, ℕ, ℤ, List, Some, All}
+use Rattle.custom_fn.specs.declared.rule.Rule.{Rule}
+use Rattle.cell_addr.specs.declared.place.Place.{Place}
+use Rattle.book_model.specs.Answers.{dependents_of, precedents_of}
 use Rattle.book_model.specs.Operation.{Operation}
 use Rattle.book_model.specs.Workbook.{State}
 use Rattle.book_model.specs.Refusals.{cause}
-use Rattle.book_model.specs.Session.{next, after_all}
-use Rattle.book_model.specs.Given.{session_given, CanBegin}
-use Rattle.book_model.specs.Sound.{IsSound}
-use Rattle.book_model.specs.declared.given.BookSheet.{BookSheet}
+use Rattle.book_model.specs.Session.{next}
+use Rattle.book_model.specs.Given.{GivenSheet, session_given, CanBegin}
+use Rattle.book_model.specs.Sound.{IsLinkInside, IsSound}
 use Rattle.book_model.specs.declared.limits.TheConstants.{MAX_UNDO}
 use Rattle.book_model.specs.declared.refusal.Refusal.{Refusal}
 
 -- a session that begins with given sheets is sound, and operations lead from one sound session to another
 abbrev pub SessionsAreSound : Type 0
-SessionsAreSound = ((limit : ℕ) (books : List BookSheet) → limit ≤ MAX_UNDO → CanBegin books → IsSound (session_given limit books))
+SessionsAreSound = ((limit : ℕ) (customs : List (List ℕ × Rule)) (today : ℤ) (books : List GivenSheet) → limit ≤ MAX_UNDO → CanBegin books → IsSound (session_given limit customs today books))
     × ((op : Operation) (d : State) → IsSound d → IsSound (next op d))
 
 -- a refused operation leaves the session
 abbrev pub RefusalsChangeNothing : Type 0
 RefusalsChangeNothing = (op : Operation) (d : State) (r : Refusal) → cause op d ≡ Some r → next op d ≡ d
+
+-- what a formula of a sound session needs, and what needs a cell, stands within the limits of a sheet
+abbrev pub LinksAreInside : Type 0
+LinksAreInside = (d : State) (at : Place) → IsSound d → All IsLinkInside (precedents_of d at) × All IsLinkInside (dependents_of d at)

@@ -1,3 +1,5 @@
+pub mod Names
+pub mod Clipboard
 pub mod Workbook
 pub mod Content
 pub mod Operation

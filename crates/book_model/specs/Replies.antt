@@ -1,20 +1,23 @@
 -- The commands of a script, and the line that answers each. Source: this project's own.
-use Rattle.std.specs.Prelude.{ℕ, ◌==◌, ◌++◌, if◌then◌else◌, List, [], ◌∷◌, Option, Some, None, codes}
+use Rattle.std.specs.Prelude.{ℕ, ◌+◌, ◌==◌, ◌++◌, if◌then◌else◌, List, [], ◌∷◌, length, Option, Some, None, codes}
 use Rattle.std.specs.Option.{unwrap_or}
 use Rattle.std.specs.Fmt.{decimal}
 use Rattle.cell_addr.specs.declared.place.Place.{Place}
 use Rattle.cell_addr.specs.declared.place.Block.{Block}
 use Rattle.cell_addr.specs.declared.place.TheConstants.{NO_SHEET}
 use Rattle.cell_addr.specs.declared.spot.Spot.{Spot}
-use Rattle.cell_addr.specs.Sheets.{id_in}
+use Rattle.cell_addr.specs.Address.{place_letters}
+use Rattle.cell_addr.specs.Sheets.{id_in, name_in}
 use Rattle.cell_value.specs.Scalar.{shown_text}
+use Rattle.formula_tree.specs.declared.link.Link.{Link}
+use Rattle.formula_tree.specs.declared.link.Link.TheVariants as links
 use Rattle.shift_core.specs.declared.shift.Shift.TheVariants as shift
 use Rattle.book_model.specs.Workbook.{Workbook, State}
 use Rattle.book_model.specs.Operation.{Operation}
 use Rattle.book_model.specs.Operation as op
 use Rattle.book_model.specs.Refusals.{cause}
 use Rattle.book_model.specs.Session.{next}
-use Rattle.book_model.specs.Answers.{value_of, formula_of, content_text}
+use Rattle.book_model.specs.Answers.{value_of, formula_of, content_text, precedents_of, dependents_of, name_value_of, tried_value}
 use Rattle.book_model.specs.declared.command.Command.{Command}
 use Rattle.book_model.specs.declared.command.Command.TheVariants as command
 use Rattle.book_model.specs.declared.refusal.Refusal.{Refusal}
@@ -35,6 +38,10 @@ sheet_named b name = unwrap_or (id_in b.sheets name) NO_SHEET
 abbrev pub sheet_of : Workbook → Option (List ℕ) → ℕ
 sheet_of b None = unwrap_or (first_sheet b) NO_SHEET
 sheet_of b (Some name) = sheet_named b name
+
+-- the scope of a field: the sheet of this name, or the whole workbook where nothing is in it
+abbrev pub scope_named : Workbook → List ℕ → Option ℕ
+scope_named b name = if length name == 0 then None else Some (sheet_named b name)
 
 -- the place and the block that an address names
 abbrev pub place_of : Workbook → Spot → Place
@@ -57,6 +64,13 @@ operation_of b (command.AddSheet name) = op.add_sheet name
 operation_of b (command.DropSheet sheet) = op.structural (shift.DropSheet (sheet_named b sheet))
 operation_of b (command.RenameSheet sheet name) = op.rename_sheet (sheet_named b sheet) name
 operation_of b (command.ClearSheet sheet) = op.clear_sheet (sheet_named b sheet)
+operation_of b (command.AddName name scope text) = op.add_name name (scope_named b scope) text
+operation_of b (command.ChangeName name scope text) = op.change_name name (scope_named b scope) text
+operation_of b (command.RemoveName name scope) = op.remove_name name (scope_named b scope)
+operation_of b (command.Copy area) = op.copy (block_of b area)
+operation_of b (command.Cut area) = op.cut (block_of b area)
+operation_of b (command.Paste at) = op.paste (place_of b at)
+operation_of b (command.MoveBlock area at) = op.structural (shift.MoveBlock (block_of b area) (place_of b at))
 operation_of b command.Begin = op.begin
 operation_of b command.Commit = op.commit
 operation_of b command.Suspend = op.suspend
@@ -66,16 +80,41 @@ operation_of b command.Redo = op.redo
 operation_of b (command.Value at) = op.value (place_of b at)
 operation_of b (command.Formula at) = op.formula (place_of b at)
 operation_of b (command.Content at) = op.content (place_of b at)
+operation_of b (command.Precedents at) = op.precedents (place_of b at)
+operation_of b (command.Dependents at) = op.dependents (place_of b at)
+operation_of b (command.NameValue name sheet) = op.name_value name (sheet_named b sheet)
+operation_of b (command.Try sheet text) = op.try_formula (sheet_named b sheet) text
 
 -- the text of a cell's formula, or `none`
 abbrev pub formula_text : Option (List ℕ) → List ℕ
 formula_text text = unwrap_or text (codes "none")
+
+-- a sheet's name, as it is and with `!`; 33 is `!`
+abbrev pub sheet_mark : Workbook → ℕ → List ℕ
+sheet_mark b sheet = unwrap_or (name_in b.sheets sheet) [] ++ 33 ∷ []
+
+-- a cell, a block or a name with its sheet's name; a name of the whole workbook has none. 58 is `:`
+abbrev pub link_text : Workbook → Link → List ℕ
+link_text b (links.Cell p) = sheet_mark b p.sheet ++ place_letters p.row p.col
+link_text b (links.Area a) = (sheet_mark b a.sheet ++ place_letters a.top a.left) ++ (58 ∷ place_letters a.bottom a.right)
+link_text b (links.Name None word) = word
+link_text b (links.Name (Some sheet) word) = sheet_mark b sheet ++ word
+
+-- links parted by one blank each; 32 is the blank
+abbrev pub links_text : Workbook → List Link → List ℕ
+links_text b [] = []
+links_text b (l ∷ []) = link_text b l
+links_text b (l ∷ ls) = link_text b l ++ (32 ∷ links_text b ls)
 
 -- the answer to an operation that is accepted
 abbrev pub answer : Operation → State → List ℕ
 answer (op.value at) d = shown_text (value_of d at)
 answer (op.formula at) d = formula_text (formula_of d at)
 answer (op.content at) d = content_text d at
+answer (op.precedents at) d = links_text d.book (precedents_of d at)
+answer (op.dependents at) d = links_text d.book (dependents_of d at)
+answer (op.name_value name sheet) d = shown_text (name_value_of d name sheet)
+answer (op.try_formula sheet text) d = shown_text (tried_value d sheet text)
 answer (op.add_sheet name) d = codes "ok " ++ decimal d.next_sheet
 answer _ d = codes "ok"
 
@@ -87,14 +126,20 @@ refusal_number refusal.SheetNameInvalid = 3
 refusal_number refusal.Outside = 4
 refusal_number refusal.SizeLimit = 5
 refusal_number refusal.CellLimit = 6
+refusal_number refusal.NameTaken = 7
+refusal_number refusal.NameInvalid = 8
+refusal_number refusal.NoSuchName = 9
+refusal_number refusal.RelativeAddress = 10
 refusal_number refusal.NothingToUndo = 11
 refusal_number refusal.NothingToRedo = 12
+refusal_number refusal.NothingToPaste = 13
 refusal_number refusal.Suspended = 14
 refusal_number refusal.BatchOpen = 15
 refusal_number refusal.NoBatch = 16
 refusal_number refusal.BadSpan = 17
 refusal_number refusal.TextLimit = 18
 refusal_number refusal.SheetLimit = 19
+refusal_number refusal.BadFormula = 20
 
 abbrev pub refusal_name : Refusal → List ℕ
 refusal_name refusal.NoSheet = codes "NoSheet"
@@ -103,14 +148,20 @@ refusal_name refusal.SheetNameInvalid = codes "SheetNameInvalid"
 refusal_name refusal.Outside = codes "Outside"
 refusal_name refusal.SizeLimit = codes "SizeLimit"
 refusal_name refusal.CellLimit = codes "CellLimit"
+refusal_name refusal.NameTaken = codes "NameTaken"
+refusal_name refusal.NameInvalid = codes "NameInvalid"
+refusal_name refusal.NoSuchName = codes "NoSuchName"
+refusal_name refusal.RelativeAddress = codes "RelativeAddress"
 refusal_name refusal.NothingToUndo = codes "NothingToUndo"
 refusal_name refusal.NothingToRedo = codes "NothingToRedo"
+refusal_name refusal.NothingToPaste = codes "NothingToPaste"
 refusal_name refusal.Suspended = codes "Suspended"
 refusal_name refusal.BatchOpen = codes "BatchOpen"
 refusal_name refusal.NoBatch = codes "NoBatch"
 refusal_name refusal.BadSpan = codes "BadSpan"
 refusal_name refusal.TextLimit = codes "TextLimit"
 refusal_name refusal.SheetLimit = codes "SheetLimit"
+refusal_name refusal.BadFormula = codes "BadFormula"
 
 abbrev pub refused_text : Refusal → List ℕ
 refused_text r = (codes "refused " ++ decimal (refusal_number r) ++ codes " ") ++ refusal_name r

@@ -29,6 +29,20 @@ pub enum Command {
     RenameSheet(Text, Text),
     /// Empties the cells of a sheet.
     ClearSheet(Text),
+    /// Adds a name: its word, its scope, which is a sheet or, empty, the whole workbook, and the text of its formula.
+    AddName(Text, Text, Text),
+    /// Gives a name another formula; the fields are those of `AddName`.
+    ChangeName(Text, Text, Text),
+    /// Removes a name, of a scope as in `AddName`.
+    RemoveName(Text, Text),
+    /// Copies a block, which waits to be pasted.
+    Copy(Spot),
+    /// Cuts a block, which is moved where it is pasted.
+    Cut(Spot),
+    /// Pastes what was copied or cut, its first cell at a place.
+    Paste(Spot),
+    /// Moves a block, its first cell to a place.
+    MoveBlock(Spot, Spot),
     /// Opens a batch of changes that are one step.
     Begin,
     /// Closes the batch.
@@ -47,4 +61,12 @@ pub enum Command {
     Formula(Spot),
     /// Asks for the text that gives a cell its content.
     Content(Spot),
+    /// Asks for the cells, blocks and names that a cell's formula needs.
+    Precedents(Spot),
+    /// Asks for the cells and names whose formulas need a cell.
+    Dependents(Spot),
+    /// Asks for what a name shows that a word finds on a sheet.
+    NameValue(Text, Text),
+    /// Asks for what a formula, as its text, would show in the first cell of a sheet, which comes first.
+    Try(Text, Text),
 }

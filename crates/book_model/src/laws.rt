@@ -1,5 +1,5 @@
 //! What holds of every session: laws, with nothing to run.
-ghost use Rattle.book_model.specs.Laws.{SessionsAreSound, RefusalsChangeNothing};
+ghost use Rattle.book_model.specs.Laws.{LinksAreInside, SessionsAreSound, RefusalsChangeNothing};
 
 /// A session that begins with given sheets is sound, and operations lead from one sound session to another: each filled
 /// cell is inside a sheet of the book, each formula's tree is proper, and its sheets are the book's.
@@ -10,4 +10,10 @@ pub fn sessions_are_sound()
 /// A refused operation leaves the session as it was.
 pub fn refusals_change_nothing()
     ensures { RefusalsChangeNothing }
+{}
+
+/// The places and blocks that a formula of a sound session needs stand within the limits of a sheet, and so do the cells
+/// that need a cell.
+pub fn links_are_inside()
+    ensures { LinksAreInside }
 {}

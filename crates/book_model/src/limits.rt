@@ -9,11 +9,11 @@ pub const MAX_SHEETS: u32 = 1_024;
 /// How many bytes the name of a sheet may have.
 pub const MAX_SHEET_NAME: usize = 100;
 
+/// How many bytes the word of a name may have.
+pub const MAX_NAME: usize = 255;
+
 /// How many bytes a text given to a cell may have. What rewriting makes of a formula has no limit.
 pub const MAX_TEXT: usize = 8_192;
 
 /// How many steps a session can be asked to keep for undo.
 pub const MAX_UNDO: u16 = 1_000;
-
-/// How many steps a session keeps for undo where nothing else is asked.
-pub const DEFAULT_UNDO: u16 = 20;

@@ -17,10 +17,20 @@ pub enum Refusal {
     SizeLimit,
     /// 6: more cells would be filled than a workbook may have.
     CellLimit,
+    /// 7: the scope has a name of this word, in some case of its ASCII letters.
+    NameTaken,
+    /// 8: the word isn't of the form of a name, as [`crate::is_name`] has it.
+    NameInvalid,
+    /// 9: there is no such name.
+    NoSuchName,
+    /// 10: a reference of a name's formula lacks a `$`, or, in a name of the whole workbook, its sheet.
+    RelativeAddress,
     /// 11: no step can be undone.
     NothingToUndo,
     /// 12: no step can be redone.
     NothingToRedo,
+    /// 13: nothing was copied or cut.
+    NothingToPaste,
     /// 14: the computation of values is suspended, or a batch is open.
     Suspended,
     /// 15: a batch is open.
@@ -29,10 +39,12 @@ pub enum Refusal {
     NoBatch,
     /// 17: the span has no lines, or is moved to where it is.
     BadSpan,
-    /// 18: the text is longer than a text given to a cell may be.
+    /// 18: the text is longer than a text given to a cell, to a name or for a try may be.
     TextLimit,
     /// 19: all sheet numbers of the session are used.
     SheetLimit,
+    /// 20: the text is no formula.
+    BadFormula,
 }
 
 impl Refusal {
@@ -47,14 +59,20 @@ impl Refusal {
             Refusal::Outside => 4,
             Refusal::SizeLimit => 5,
             Refusal::CellLimit => 6,
+            Refusal::NameTaken => 7,
+            Refusal::NameInvalid => 8,
+            Refusal::NoSuchName => 9,
+            Refusal::RelativeAddress => 10,
             Refusal::NothingToUndo => 11,
             Refusal::NothingToRedo => 12,
+            Refusal::NothingToPaste => 13,
             Refusal::Suspended => 14,
             Refusal::BatchOpen => 15,
             Refusal::NoBatch => 16,
             Refusal::BadSpan => 17,
             Refusal::TextLimit => 18,
             Refusal::SheetLimit => 19,
+            Refusal::BadFormula => 20,
         }
     }
 
@@ -69,14 +87,20 @@ impl Refusal {
             Refusal::Outside => "Outside",
             Refusal::SizeLimit => "SizeLimit",
             Refusal::CellLimit => "CellLimit",
+            Refusal::NameTaken => "NameTaken",
+            Refusal::NameInvalid => "NameInvalid",
+            Refusal::NoSuchName => "NoSuchName",
+            Refusal::RelativeAddress => "RelativeAddress",
             Refusal::NothingToUndo => "NothingToUndo",
             Refusal::NothingToRedo => "NothingToRedo",
+            Refusal::NothingToPaste => "NothingToPaste",
             Refusal::Suspended => "Suspended",
             Refusal::BatchOpen => "BatchOpen",
             Refusal::NoBatch => "NoBatch",
             Refusal::BadSpan => "BadSpan",
             Refusal::TextLimit => "TextLimit",
             Refusal::SheetLimit => "SheetLimit",
+            Refusal::BadFormula => "BadFormula",
         }
     }
 }

@@ -1,4 +1,6 @@
-use super::{BookCell, BookCells, ContentText, Refusal, is_sheet_name, read_content, text_given};
+use super::{
+    BookCell, BookCells, ContentText, Refusal, is_name, is_sheet_name, read_content, text_given,
+};
 use cell_addr::Text;
 use std::alloc::AllocError;
 
@@ -23,6 +25,8 @@ fn names_and_refusals(rt: HostRuntime) {
     assert!(rt; is_sheet_name("My Plan"));
     assert!(rt; !is_sheet_name(""));
     assert!(rt; !is_sheet_name("a\tb"));
+    assert!(rt; is_name("_rate.2") && is_name("A0") && is_name("ABCD1"));
+    assert!(rt; !is_name("b7") && !is_name("True") && !is_name("2a") && !is_name(""));
     assert!(rt; Refusal::SheetLimit.number() == 19);
     assert!(rt; Refusal::SheetLimit.name() == "SheetLimit");
 }

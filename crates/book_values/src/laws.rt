@@ -1,6 +1,6 @@
 //! What holds of the values of a workbook: laws, with nothing to run.
 
-ghost use Rattle.book_values.specs.Laws.{CyclesReturn, NothingElseUnfolds, ValuesUnfold};
+ghost use Rattle.book_values.specs.Laws.{CyclesReturn, NothingElseUnfolds, ValuesAlike, ValuesUnfold};
 
 /// Each place and each name shows what it works out from what the others show, or `#CYCLE!` where it is on a
 /// cycle.
@@ -16,4 +16,10 @@ pub fn nothing_else_unfolds()
 /// A node is on a cycle exactly where needs lead from it back to it.
 pub fn cycles_return()
     ensures { CyclesReturn }
+{}
+
+/// Two workbooks with the same cells and the same tree of each name show the same: the order of names doesn't
+/// count.
+pub fn values_are_alike()
+    ensures { ValuesAlike }
 {}

@@ -24,6 +24,7 @@ mod view;
 mod walk;
 
 pub use cells::{Cells, area_of, summary_of};
+pub use customs::Customs;
 pub use filled::{filled_area, filled_summary};
 pub use view::{NameView, View};
 pub use walk::eval;

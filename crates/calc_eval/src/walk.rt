@@ -1,6 +1,6 @@
 // The meaning of trees, by a walk over the shared tree.
 ghost use Rattle.std.specs.Prelude.{◌≡◌, ◌+◌, ◌<◌, ◌≤◌, IfOk, map, None, slice_get};
-ghost use Rattle.custom_fn.specs.Registry.{custom_named, customs_of};
+ghost use Rattle.custom_fn.specs.Registry.{custom_named};
 ghost use Rattle.formula_tree.specs.Reference.{base_of, sheet_of};
 ghost use Rattle.formula_tree.specs.Relative.{relative};
 ghost use Rattle.formula_tree.specs.StandsFor.{at_home};
@@ -19,7 +19,6 @@ use crate::customs::Customs;
 use crate::view::View;
 use calc_terms::{Argument, Choice, ChoiceFn, Function};
 use cell_value::{FaultKind, Scalar};
-use custom_fn::Registry;
 use formula_tree::{Home, Node, Tree, TreeList};
 use operators::{combined, percent, signed};
 use std::alloc::{AllocError, Global};
@@ -31,20 +30,20 @@ use steps::Steps;
 ///
 /// It takes at most one step for each node of the tree, beside those of the summaries that the view makes of
 /// blocks, and at least one.
-pub fn eval<V: View, L: Ledger>(
+pub fn eval<V: View, C: Customs, L: Ledger>(
     alloc: Global,
     tree: &Tree,
     home: Home,
     view: &mut V,
-    registry: &Registry,
+    customs: &C,
     steps: &mut Steps<L>,
 ) -> Result<Scalar, AllocError>
-    ensures means { IfOk result (λ value. value ≡ meaning (V.world view.old) (customs_of registry.now) home (at_home home (relative tree.now.value))) }
+    ensures means { IfOk result (λ value. value ≡ meaning (V.world view.old) (C.customs customs.now) home (at_home home (relative tree.now.value))) }
     ensures leaves { V.world view.new ≡ V.world view.old }
     ensures least { steps.old < steps.new }
     ensures most { steps.new ≤ steps.old + cost (V.world view.old) (sheet_of home) (at_home home (relative tree.now.value)) }
 {
-    value(alloc, tree, home, view, registry, steps)
+    value(alloc, tree, home, view, customs, steps)
 }
 
 // What a tree means.

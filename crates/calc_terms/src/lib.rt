@@ -17,6 +17,7 @@ mod choice;
 mod data;
 mod function;
 pub mod laws;
+mod needs;
 mod place;
 mod reference;
 
@@ -25,5 +26,6 @@ pub use block::SheetBlock;
 pub use choice::Choice;
 pub use data::data_value;
 pub use function::{ChoiceFn, DataFn, Function, PlaceFn};
+pub use needs::mentions;
 pub use place::place_value;
 pub use reference::Reference;

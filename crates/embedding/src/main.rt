@@ -5,6 +5,7 @@ ghost use Rattle.std.specs.Prelude.{◌≡◌, ◌<◌};
 
 use book_engine::{Engine, Stop};
 use cell_addr::{Place, Text};
+use custom_fn::Registry;
 use std::alloc::Global;
 use std::io::{self, Write};
 use std::marker::Brand;
@@ -26,6 +27,9 @@ const CELLS: [(u32, u32, &str); 7] = [
 // How many steps can be undone.
 const UNDO_LIMIT: u16 = 20;
 
+// The day that formulas see as today: 2024-01-01.
+const TODAY: i32 = 45_292;
+
 fn main(rt: HostRuntime) -> ExitCode {
     let Ok(total) = work_out::<Brand>(rt.alloc(), Blank::new(1)) else {
         return ExitCode::FAILURE;
@@ -42,7 +46,7 @@ fn work_out<L: Ledger>(alloc: Global, blank: Blank) -> Result<Text, Stop>
     requires parts { blank.parts ≡ L.parts }
     requires some { 0 < blank.parts }
 {
-    let mut engine = Engine::build(alloc, &[], UNDO_LIMIT)?;
+    let mut engine = Engine::build(alloc, &[], UNDO_LIMIT, Registry::new(alloc)?, TODAY)?;
     let sheet = engine.add_sheet("Invoice")?;
     for (row, col, text) in CELLS {
         engine.set(Place { sheet, row, col }, text)?;

@@ -5,7 +5,7 @@ ghost use Rattle.cell_addr.specs.Sheets.{id_in};
 ghost use Rattle.fix_num.specs.Text.{number_of};
 ghost use Rattle.formula_tree.specs.Term.{binary, percent};
 ghost use Rattle.formula_tree.specs.Reference.{base_of, sheet_of, corner_at, IsHomeInside};
-ghost use Rattle.formula_tree.specs.Grammar.{placed, first_of, last_of, cell_on, area_on};
+ghost use Rattle.formula_tree.specs.Grammar.{placed, cell_on, area_on};
 ghost use Rattle.formula_tree.specs.Reader.{corner_front, number_then, reference, signed, closed, call_front, arguments, and_then, first, climb, read, tree_of};
 ghost use Rattle.formula_tree.specs.Relative.{relative};
 ghost use Rattle.formula_tree.specs.StandsFor.{at_home};
@@ -16,59 +16,18 @@ ghost use Rattle.formula_parse.specs.internal.Tree.{tree_at, text_then, sheet_th
 
 use crate::lexer::{after, first_corner, first_symbol, first_token};
 use crate::token::{Mark, Symbol, Token};
-use cell_addr::{Place, SheetNames, Text, capitals, quoted_text};
+use cell_addr::{SheetNames, Text, capitals, quoted_text};
 use cell_value::FaultKind;
 use fix_num::Fixed;
 use formula_tree::{
-    Address, Corner, Home, MAX_LEVELS, Node, Op, PERCENT_LEVEL, Ref, SIGN_LEVEL, Sign, Tree,
-    TreeList, depth,
+    Address, Home, MAX_LEVELS, Node, Op, PERCENT_LEVEL, Ref, SIGN_LEVEL, Sign, Tree, TreeList,
+    depth,
 };
 use std::alloc::{AllocError, Global};
 use std::rc::Rc;
 
 // A tree that was read, and the text after it; `None` where none was.
 type Read<'t> = Option<(Node, &'t str)>;
-
-// The corner of an address on a sheet.
-fn placed(sheet: u32, address: Address) -> Corner
-    ensures { result ≡ placed sheet address }
-{
-    Corner {
-        at: Place {
-            sheet,
-            row: address.row,
-            col: address.col,
-        },
-        row_fixed: address.row_fixed,
-        col_fixed: address.col_fixed,
-    }
-}
-
-// The row of one address and the column of another, each with its `$`.
-fn crossing(row: Address, col: Address) -> Address
-    ensures { result ≡ record { row = row.row; col = col.col; row_fixed = row.row_fixed; col_fixed = col.col_fixed } }
-{
-    Address {
-        row: row.row,
-        col: col.col,
-        row_fixed: row.row_fixed,
-        col_fixed: col.col_fixed,
-    }
-}
-
-// The corners of a block between two addresses: the lower row and the lower column, and the other row and
-// the other column, each with its `$`.
-fn in_order(a: Address, b: Address) -> (Address, Address)
-    ensures first { result.0 ≡ first_of a b }
-    ensures last { result.1 ≡ last_of a b }
-{
-    match (b.row < a.row, b.col < a.col) {
-        (false, false) => (a, b),
-        (true, false) => (crossing(b, a), crossing(a, b)),
-        (false, true) => (crossing(a, b), crossing(b, a)),
-        (true, true) => (b, a),
-    }
-}
 
 // What trees are read with: where their parts get memory, the home of the formula, and the sheets that it
 // may name.
@@ -319,7 +278,7 @@ impl<'a, S: SheetNames> Reader<'a, S> {
     {
         match sheet {
             Some(sheet) => {
-                let (first, last) = in_order(a, b);
+                let (first, last) = Address::in_order(a, b);
                 Node::Area(self.seen(sheet, first), self.seen(sheet, last))
             }
             None => Node::Fault(FaultKind::Ref),
@@ -331,7 +290,7 @@ impl<'a, S: SheetNames> Reader<'a, S> {
         requires { IsAddressInside a }
         ensures { corner_at (base_of self.now.home) result ≡ placed sheet a }
     {
-        Ref::of(placed(sheet, a), self.home)
+        Ref::of(a.on(sheet), self.home)
     }
 }
 

@@ -21,4 +21,5 @@ pub mod Examples
 pub mod Decoded
 pub mod PooledTrees
 pub mod SameLinks
+pub mod AllMentions
 pub mod SameTexts

@@ -25,10 +25,10 @@ scope-equal (Some m) (Some n) h = ap (λ k. Some k) (eqb-true m n h)
 scope-equal None (Some n) h = absurd (cc)
 scope-equal (Some m) None h = absurd (cc)
 
-places_alike : IsEquivalence same_place
+pub places_alike : IsEquivalence same_place
 places_alike = decided same_place same_place-decides
 
-blocks_alike : IsEquivalence same_block
+pub blocks_alike : IsEquivalence same_block
 blocks_alike = decided same_block same_block-decides
 
 scopes_alike : IsEquivalence same_scope

@@ -15,4 +15,5 @@ pub mod Laws
 pub mod StandsFor
 pub mod Pooled
 pub mod Links
+pub mod Mentions
 pub mod internal

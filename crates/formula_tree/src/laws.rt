@@ -3,6 +3,7 @@
 ghost use Rattle.formula_tree.specs.Laws.{ReaderIsExact, TextReaderIsExact, OneTree, CanonicalSpells, SpelledIsProper, SpelledIsListed, TokensFollow, SameTextSameTree, ComesBack, ListsOnce};
 ghost use Rattle.cell_addr.specs.Sheets.{same_name};
 ghost use Rattle.formula_tree.specs.Links.{same_link};
+ghost use Rattle.formula_tree.specs.Mentions.{MentionsAreAll, same_mention};
 
 /// Reading by operator precedence answers a tree exactly where the tokens spell it and it has at most
 /// 64 levels.
@@ -52,8 +53,16 @@ pub fn a_tree_comes_back()
     ensures { ComesBack }
 {}
 
-/// Names, and places and blocks, are listed once each, in the order of first occurrence.
+/// Names, and places and blocks, and all that is mentioned, are listed once each, in the order of first
+/// occurrence.
 pub fn each_is_listed_once()
     ensures names { ListsOnce same_name }
     ensures links { ListsOnce same_link }
+    ensures mentions { ListsOnce same_mention }
+{}
+
+/// The places and blocks that a tree mentions are those that its value depends on, and the names are its
+/// names.
+pub fn mentions_are_all()
+    ensures { MentionsAreAll }
 {}

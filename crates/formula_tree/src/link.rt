@@ -95,7 +95,7 @@ impl Node {
     }
 
     // Whether arguments that are themselves references are skipped, and the tree is one.
-    fn is_skipped(&self, skip: bool) -> bool
+    pub(crate) fn is_skipped(&self, skip: bool) -> bool
         ensures { result ≡ (skip && is_reference (relative self.now)) }
     {
         skip && self.is_reference()

@@ -5,7 +5,7 @@ ghost use Rattle.formula_tree.specs.declared.operator.Op.TheVariants as ops;
 
 use crate::{
     Corner, Home, Link, NO_LINE, Node, Op, Part, Plain, Pool, Ref, SheetPart, Sign, Tree, TreeList,
-    depth, names_of, places_of, to_absolute,
+    depth, mentions_of, names_of, places_of, to_absolute,
 };
 use cell_addr::{COLS, NO_SHEET, Place, ROWS, Text};
 use std::alloc::{AllocError, Global};
@@ -192,5 +192,10 @@ fn what_a_tree_names(rt: HostRuntime) -> Result<(), Fail> {
     assert!(rt; places.len() == 1);
     assert!(rt; places[0].same(&Link::Cell(place(1, 1))));
     assert!(rt; !places[0].same(&Link::Area(corner(1, 1).block_to(corner(1, 1)))));
+
+    // Both the name and the place are mentioned.
+    let mentions = mentions_of(alloc, &tree, home)?;
+    assert!(rt; mentions.len() == 2);
+    assert!(rt; !mentions[0].same(&mentions[1]));
     Ok(())
 }

@@ -8,7 +8,7 @@ use Rattle.script_lang.specs.declared.arguments.Arguments.{Arguments}
 use Rattle.script_lang.specs.declared.error.ScriptError.{ScriptError}
 use Rattle.script_lang.specs.declared.error.ScriptError.TheVariants.{BadField}
 use Rattle.script_lang.specs.declared.word.FieldKind.{FieldKind}
-use Rattle.script_lang.specs.declared.word.FieldKind.TheVariants.{Place, Block, Sheet, Row, Column, Count, RowBefore, ColumnBefore, Name, Text}
+use Rattle.script_lang.specs.declared.word.FieldKind.TheVariants.{Place, Block, Sheet, Scope, Row, Column, Count, RowBefore, ColumnBefore, Name, Text}
 
 -- what a field says, or that the field of this number is bad
 abbrev pub said_by : {X : Type 0} → ℕ → Option X → Result X ScriptError
@@ -32,6 +32,7 @@ abbrev pub with_field : FieldKind → List ℕ → Arguments → Option Argument
 with_field Place field a = option_map (λ s. record a { place = s }) (place_field field)
 with_field Block field a = option_map (λ s. record a { block = s }) (block_field field)
 with_field Sheet field a = option_map (λ w. record a { sheet = w }) (text_field field)
+with_field Scope field a = option_map (λ w. record a { sheet = w }) (text_field field)
 with_field Row field a = option_map (λ n. record a { line = n }) (row_of field)
 with_field Column field a = option_map (λ n. record a { line = n }) (column_of field)
 with_field Count field a = option_map (λ n. record a { count = n }) (count_of field)

@@ -2,7 +2,7 @@
 use Rattle.std.specs.Prelude.{◌≡◌, ◌==◌, ◌+◌, if◌then◌else◌, ℕ, List, length, drop, Option, Some, None, Result, Ok, Err, option_and_then, ⊤}
 use Rattle.csv.specs.Records.{field_at}
 use Rattle.book_model.specs.declared.command.Command.{Command}
-use Rattle.book_model.specs.declared.command.Command.TheVariants.{Set, Clear, InsertRows, DeleteRows, InsertCols, DeleteCols, MoveRows, MoveCols, AddSheet, DropSheet, RenameSheet, ClearSheet, Begin, Commit, Suspend, Resume, Undo, Redo, Value, Formula, Content}
+use Rattle.book_model.specs.declared.command.Command.TheVariants.{Set, Clear, InsertRows, DeleteRows, InsertCols, DeleteCols, MoveRows, MoveCols, AddSheet, DropSheet, RenameSheet, ClearSheet, AddName, ChangeName, RemoveName, Copy, Cut, Paste, MoveBlock, Begin, Commit, Suspend, Resume, Undo, Redo, Value, Formula, Content, Precedents, Dependents, NameValue, Try}
 use Rattle.script_lang.specs.Words.{line, word_named}
 use Rattle.script_lang.specs.Arguments.{and_said, no_arguments, read_from}
 use Rattle.script_lang.specs.declared.arguments.Arguments.{Arguments}
@@ -25,6 +25,13 @@ command_with word.AddSheet a = AddSheet a.name
 command_with word.DropSheet a = DropSheet a.sheet
 command_with word.RenameSheet a = RenameSheet a.sheet a.name
 command_with word.ClearSheet a = ClearSheet a.sheet
+command_with word.AddName a = AddName a.name a.sheet a.text
+command_with word.ChangeName a = ChangeName a.name a.sheet a.text
+command_with word.RemoveName a = RemoveName a.name a.sheet
+command_with word.Copy a = Copy a.block
+command_with word.Cut a = Cut a.block
+command_with word.Paste a = Paste a.place
+command_with word.MoveBlock a = MoveBlock a.block a.place
 command_with word.Begin a = Begin
 command_with word.Commit a = Commit
 command_with word.Suspend a = Suspend
@@ -34,6 +41,10 @@ command_with word.Redo a = Redo
 command_with word.Value a = Value a.place
 command_with word.Formula a = Formula a.place
 command_with word.Content a = Content a.place
+command_with word.Precedents a = Precedents a.place
+command_with word.Dependents a = Dependents a.place
+command_with word.NameValue a = NameValue a.name a.sheet
+command_with word.Try a = Try a.sheet a.text
 
 -- the word that the first field of a record spells
 abbrev pub word_in : List (List ℕ) → Option Word

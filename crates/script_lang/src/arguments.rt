@@ -14,7 +14,7 @@ use std::alloc::Global;
 pub struct Arguments {
     pub place: Spot,
     pub block: Spot,
-    /// The name of a sheet.
+    /// The name of a sheet; nothing where it is the scope of a name of the whole workbook.
     pub sheet: Text,
     /// The row or the column where something begins, counted from 0.
     pub line: u32,
@@ -56,7 +56,10 @@ impl Arguments {
         match kind {
             FieldKind::Place => self.place = said(number, read_single(alloc, field)?)?,
             FieldKind::Block => self.block = said(number, read_block(alloc, field)?)?,
-            FieldKind::Sheet => self.sheet = said(number, read_text(alloc, field)?)?,
+            FieldKind::Sheet | FieldKind::Scope => self.sheet = said(
+                number,
+                read_text(alloc, field)?,
+            )?,
             FieldKind::Row => self.line = said(number, read_row(field))?,
             FieldKind::Column => self.line = said(number, read_column(field))?,
             FieldKind::Count => self.count = said(number, read_count(field))?,

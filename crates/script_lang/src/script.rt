@@ -95,6 +95,13 @@ fn command_with(word: Word, arguments: Arguments) -> Command
         Word::DropSheet => Command::DropSheet(sheet),
         Word::RenameSheet => Command::RenameSheet(sheet, name),
         Word::ClearSheet => Command::ClearSheet(sheet),
+        Word::AddName => Command::AddName(name, sheet, text),
+        Word::ChangeName => Command::ChangeName(name, sheet, text),
+        Word::RemoveName => Command::RemoveName(name, sheet),
+        Word::Copy => Command::Copy(block),
+        Word::Cut => Command::Cut(block),
+        Word::Paste => Command::Paste(place),
+        Word::MoveBlock => Command::MoveBlock(block, place),
         Word::Begin => Command::Begin,
         Word::Commit => Command::Commit,
         Word::Suspend => Command::Suspend,
@@ -104,5 +111,9 @@ fn command_with(word: Word, arguments: Arguments) -> Command
         Word::Value => Command::Value(place),
         Word::Formula => Command::Formula(place),
         Word::Content => Command::Content(place),
+        Word::Precedents => Command::Precedents(place),
+        Word::Dependents => Command::Dependents(place),
+        Word::NameValue => Command::NameValue(name, sheet),
+        Word::Try => Command::Try(sheet, text),
     }
 }

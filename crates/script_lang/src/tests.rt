@@ -34,11 +34,16 @@ fn records_say_commands(rt: HostRuntime) -> Result<(), ScriptError> {
             Command::RenameSheet(..)
         )
     );
+    let Command::MoveBlock(block, to) = said(alloc, &[b"move-block", b"B2:A1", b"c3"])? else {
+        return Err(ScriptError::UnknownCommand);
+    };
+    assert!(rt; (block.top, block.right, block.single) == (0, 1, false));
+    assert!(rt; (to.top, to.left) == (2, 2));
     Ok(())
 }
 
 // Fields that say no command, and why.
-const CAUSES: [(&[&[u8]], ScriptError); 14] = [
+const CAUSES: [(&[&[u8]], ScriptError); 18] = [
     (&[], ScriptError::UnknownCommand),
     (&[b"frob"], ScriptError::UnknownCommand),
     (&[b"Set", b"A1", b"1"], ScriptError::UnknownCommand),
@@ -49,6 +54,13 @@ const CAUSES: [(&[&[u8]], ScriptError); 14] = [
     (&[b"set", b"??", b"\xff"], ScriptError::BadField(1)),
     (&[b"set", b"A1", b"\xff"], ScriptError::BadField(2)),
     (&[b"value", b"A1:A1"], ScriptError::BadField(1)),
+    (&[b"precedents", b"A1:A1"], ScriptError::BadField(1)),
+    (&[b"paste", b"A1:B2"], ScriptError::BadField(1)),
+    (
+        &[b"move-block", b"A1:B2", b"C3:D4"],
+        ScriptError::BadField(2),
+    ),
+    (&[b"copy", b"A1", b"C3"], ScriptError::FieldCount),
     (
         &[b"insert-rows", b"Two", b"0", b"-1"],
         ScriptError::BadField(2),

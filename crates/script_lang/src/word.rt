@@ -2,7 +2,9 @@
 ghost use Rattle.std.specs.Prelude.{◌≡◌, ◌≤◌, length};
 ghost use Rattle.script_lang.specs.Words.{line, word_named};
 
-use FieldKind::{Block, Column, ColumnBefore, Count, Name, Place, Row, RowBefore, Sheet, Text};
+use FieldKind::{
+    Block, Column, ColumnBefore, Count, Name, Place, Row, RowBefore, Scope, Sheet, Text,
+};
 
 /// The word that a command begins with.
 #[derive(Clone, Copy, PartialEq, Eq, Debug)]
@@ -19,6 +21,13 @@ pub enum Word {
     DropSheet,
     RenameSheet,
     ClearSheet,
+    AddName,
+    ChangeName,
+    RemoveName,
+    Copy,
+    Cut,
+    Paste,
+    MoveBlock,
     Begin,
     Commit,
     Suspend,
@@ -28,6 +37,10 @@ pub enum Word {
     Value,
     Formula,
     Content,
+    Precedents,
+    Dependents,
+    NameValue,
+    Try,
 }
 
 /// What a field says, and so which form it has.
@@ -39,6 +52,8 @@ pub enum FieldKind {
     Block,
     /// The name of a sheet of the book.
     Sheet,
+    /// The scope of a named expression: the name of a sheet of the book, or nothing for the whole workbook.
+    Scope,
     /// The row where something begins.
     Row,
     /// The column where something begins.
@@ -60,7 +75,7 @@ pub const MAX_FIELDS: usize = 4;
 
 impl Word {
     /// All words.
-    pub const ALL: [Word; 21] = [
+    pub const ALL: [Word; 32] = [
         Word::Set,
         Word::Clear,
         Word::InsertRows,
@@ -73,6 +88,13 @@ impl Word {
         Word::DropSheet,
         Word::RenameSheet,
         Word::ClearSheet,
+        Word::AddName,
+        Word::ChangeName,
+        Word::RemoveName,
+        Word::Copy,
+        Word::Cut,
+        Word::Paste,
+        Word::MoveBlock,
         Word::Begin,
         Word::Commit,
         Word::Suspend,
@@ -82,6 +104,10 @@ impl Word {
         Word::Value,
         Word::Formula,
         Word::Content,
+        Word::Precedents,
+        Word::Dependents,
+        Word::NameValue,
+        Word::Try,
     ];
 
     /// The word's line in the table: how it is written, and the fields behind it.
@@ -103,6 +129,13 @@ impl Word {
             Word::DropSheet => ("drop-sheet", &[Sheet]),
             Word::RenameSheet => ("rename-sheet", &[Sheet, Name]),
             Word::ClearSheet => ("clear-sheet", &[Sheet]),
+            Word::AddName => ("add-name", &[Name, Scope, Text]),
+            Word::ChangeName => ("change-name", &[Name, Scope, Text]),
+            Word::RemoveName => ("remove-name", &[Name, Scope]),
+            Word::Copy => ("copy", &[Block]),
+            Word::Cut => ("cut", &[Block]),
+            Word::Paste => ("paste", &[Place]),
+            Word::MoveBlock => ("move-block", &[Block, Place]),
             Word::Begin => ("begin", &[]),
             Word::Commit => ("commit", &[]),
             Word::Suspend => ("suspend", &[]),
@@ -112,6 +145,10 @@ impl Word {
             Word::Value => ("value", &[Place]),
             Word::Formula => ("formula", &[Place]),
             Word::Content => ("content", &[Place]),
+            Word::Precedents => ("precedents", &[Place]),
+            Word::Dependents => ("dependents", &[Place]),
+            Word::NameValue => ("name-value", &[Name, Sheet]),
+            Word::Try => ("try", &[Sheet, Text]),
         }
     }
 

@@ -1,5 +1,5 @@
-//! Runs cases that are data: each has words, a script, what is printed and the status. The program
-//! takes the names of files of cases, runs each case through `sheet_cli::run` over streams in memory,
+//! Runs cases that are data: each has words, files, a script, what is printed and the status. The program
+//! takes the names of files of cases, runs each case through `sheet_cli::run` over a folder and streams in memory,
 //! and prints a line a case, each difference, and at the end how many cases it ran.
 //!
 //! ```toml
@@ -22,9 +22,12 @@ mod case;
 mod tally;
 
 ghost use Rattle.std.specs.Prelude.{◌≡◌, ◌<◌};
+ghost use Rattle.custom_fn.specs.Rule.{rule_value};
+ghost use Rattle.tariffs.specs.Tariffs as tariff;
 
-use book_files::{MemSink, MemSource};
+use book_files::{FileMap, MemFolder, MemSink, MemSource};
 use case::{Case, CaseFile};
+use cell_value::Scalar;
 use std::alloc::{AllocError, Global};
 use std::marker::Brand;
 use std::process::ExitCode;
@@ -32,6 +35,10 @@ use std::sync::ledger::{Blank, Ledger};
 use std::{env, fs, io};
 use steps::Steps;
 use tally::Tally;
+use tariffs::{customs, levy, postage};
+
+// The day of a case that names none: 2024-01-01.
+const TODAY: i32 = 45_292;
 
 // The columns that a case can fill, and their rows.
 const COLUMNS: &str = "ABCDEFGHIJKLMNOPQRSTUVWXYZ";
@@ -89,30 +96,78 @@ fn run_case<L: Ledger>(
     steps: &mut Steps<L>,
 ) -> io::Result<()> {
     tally.cases = tally.cases.saturating_add(1);
-    let script = match script_bytes(rt, &case) {
-        Ok(script) => script,
-        Err(cause) => {
-            tally.differ = tally.differ.saturating_add(1);
-            return println!(rt; "    UNREADABLE: {}: {cause}", case.shows);
-        }
-    };
-    let mut input = MemSource::new(script, case.failing_reads);
-    let mut out = MemSink::new(rt.alloc(), case.failing_writes)?;
-    let status = sheet_cli::run(rt.alloc(), &case.words, &mut input, &mut out, steps);
+    let shows = case.shows.clone()?;
     let mut prints = "ok\n".repeat(rt.alloc(), case.filled as usize)?;
     prints.push_str(&case.prints)?;
-    if status == case.status && out.bytes() == prints.as_bytes() {
-        return println!(rt; "    {}", case.shows);
+    let wanted = case.status;
+    let (status, out) = match answer(rt, case, steps) {
+        Ok(answered) => answered,
+        Err(cause) => {
+            tally.differ = tally.differ.saturating_add(1);
+            return println!(rt; "    UNREADABLE: {shows}: {cause}");
+        }
+    };
+    if status == wanted && out.bytes() == prints.as_bytes() {
+        return println!(rt; "    {shows}");
     }
     tally.differ = tally.differ.saturating_add(1);
-    println!(rt; "    DIFFERS: {}", case.shows)?;
-    if status != case.status {
-        println!(rt; "        status {status}, wanted {}", case.status)?;
+    println!(rt; "    DIFFERS: {shows}")?;
+    if status != wanted {
+        println!(rt; "        status {status}, wanted {wanted}")?;
     }
     match str::from_utf8(out.bytes()) {
         Ok(printed) => print_differences(rt, printed, prints.as_str()),
         Err(_) => println!(rt; "        what was printed isn't UTF-8"),
     }
+}
+
+// The status of a case's run and the sink that it printed into. The custom functions are those of the program.
+fn answer<L: Ledger>(
+    rt: &HostRuntime,
+    case: Case,
+    steps: &mut Steps<L>,
+) -> anyhow::Result<(u8, MemSink)> {
+    let alloc = rt.alloc();
+    let script = script_bytes(rt, &case)?;
+    let files = files(rt, &case)?;
+    let by_weight = Box::new(
+        alloc,
+        |x: &Scalar| -> Scalar
+            ensures { result ≡ rule_value tariff.postage x.now }
+        { postage(x) },
+    )?;
+    let on_amount = Box::new(
+        alloc,
+        |x: &Scalar| -> Scalar
+            ensures { result ≡ rule_value tariff.levy x.now }
+        { levy(x) },
+    )?;
+    let registry = customs(alloc, by_weight, on_amount)?;
+    let mut folder = MemFolder::new(files, case.failing_loads);
+    let mut input = MemSource::new(script, case.failing_reads);
+    let mut out = MemSink::new(alloc, case.failing_writes)?;
+    let status = sheet_cli::run(
+        alloc,
+        &case.words,
+        &mut folder,
+        &mut input,
+        &mut out,
+        case.day.unwrap_or(TODAY),
+        registry,
+        steps,
+    );
+    Ok((status, out))
+}
+
+// The files of a case's folder.
+fn files(rt: &HostRuntime, case: &Case) -> anyhow::Result<FileMap> {
+    let mut files = FileMap::new(rt.alloc())?;
+    'files: for file in &case.file {
+        let mut bytes = Vec::new(rt.alloc());
+        push_text(&mut bytes, &file.text, file.latin1)?;
+        files.put(&file.name, bytes)?;
+    }
+    Ok(files)
 }
 
 // The lines of a script that fill so many cells, column by column; those of the columns A to Z at most.
@@ -131,19 +186,25 @@ fn filling(alloc: Global, count: u32) -> Result<String, AllocError> {
     Ok(lines)
 }
 
-// The bytes of a case's script, those that fill cells first. An error where it should be one byte a character, and a character is
-// beyond U+00FF.
+// The bytes of a case's script, those that fill cells first.
 fn script_bytes(rt: &HostRuntime, case: &Case) -> anyhow::Result<Vec<u8>> {
     let filling = filling(rt.alloc(), case.filled)?;
     let mut bytes = Vec::from_slice(rt.alloc(), filling.as_bytes())?;
-    if !case.latin1 {
-        bytes.extend_from_slice(case.script.as_bytes())?;
-        return Ok(bytes);
+    push_text(&mut bytes, &case.script, case.latin1)?;
+    Ok(bytes)
+}
+
+// Puts the bytes of a text at the end. An error where it should be one byte a character, and a character is beyond
+// U+00FF.
+fn push_text(bytes: &mut Vec<u8>, text: &str, latin1: bool) -> anyhow::Result<()> {
+    if !latin1 {
+        bytes.extend_from_slice(text.as_bytes())?;
+        return Ok(());
     }
-    'characters: for c in case.script.chars() {
+    'characters: for c in text.chars() {
         bytes.push(u8::try_from(u32::from(c))?)?;
     }
-    Ok(bytes)
+    Ok(())
 }
 
 // Prints each line that isn't the wanted one, and those that are too many.

@@ -1,4 +1,7 @@
+pub mod Endings
 pub mod Executed
-pub mod FirstSheet
 pub mod LineBytes
 pub mod Outcomes
+pub mod SourceRead
+pub mod Tallies
+pub mod LinkTexts

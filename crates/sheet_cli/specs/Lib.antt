@@ -1,2 +1,3 @@
+pub mod Answering
 pub mod Run
 pub mod internal

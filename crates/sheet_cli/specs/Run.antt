@@ -1,92 +1,81 @@
--- The whole output and status of a run, from its words and the bytes of its script. Source: this project's own.
-use Rattle.std.specs.Prelude.{◌≡◌, ◌⊎◌, ◌+◌, ◌++◌, if◌then◌else◌, nat_lt, false, ℕ, List, [], ◌∷◌, length, drop, Option, Some, None, Result, Ok, Err, codes, ⊤}
-use Rattle.std.specs.Fmt.{decimal}
-use Rattle.std.specs.FinMap as map
+-- The whole output and status of a run, from its words, the files that they name and the bytes of its source, and what
+-- is said of a run that doesn't come to its end. Source: this project's own.
+use Rattle.std.specs.Prelude.{◌≡◌, ◌⊎◌, ◌+◌, ◌&&◌, if◌then◌else◌, true, false, ℕ, ℤ, Bool, List, [], ◌∷◌, drop, Option, Some, None, is_none, Result, Ok, Err, is_ok, codes, ⊤}
 use Rattle.std.specs.Io.KnownBytes.{Appends}
+use Rattle.custom_fn.specs.declared.rule.Rule.{Rule}
 use Rattle.csv.specs.Reading.{records, default_config, strip_bom}
-use Rattle.book_model.specs.Replies.{line_of, next_state, reply}
-use Rattle.book_model.specs.Workbook.{State}
-use Rattle.book_model.specs.declared.command.Command.{Command}
-use Rattle.book_model.specs.declared.limits.TheConstants.{DEFAULT_UNDO}
-use Rattle.script_lang.specs.Command.{command_of}
-use Rattle.script_lang.specs.declared.error.ScriptError.{ScriptError}
-use Rattle.script_lang.specs.declared.error.ScriptError.TheVariants.{UnknownCommand, FieldCount, BadField, NoMemory}
+use Rattle.book_files.specs.Outside.{AppendsPart}
 use Rattle.book_files.specs.declared.input.TheConstants.{MAX_INPUT}
+use Rattle.book_model.specs.Given.{GivenSheet, session_given}
+use Rattle.book_model.specs.Replies.{line_of}
+use Rattle.command_words.specs.Words.{Said, meaning}
+use Rattle.generator.specs.Generated.{generated}
+use Rattle.sheet_cli.specs.Answering.{answers_from, outcome_from, summary_outcome}
+use Rattle.run_inputs.specs.Opening.{Told, empty_sheet, script_told, sheets_told}
+use Rattle.run_inputs.specs.Outcome.{Outcome, ended, or_end}
 
--- the session that a run begins with: one empty sheet, `Sheet1`, which has the number 0, and nothing to undo
-abbrev pub first_session : State
-first_session = record {
-  book = record { sheets = (0, codes "Sheet1") ∷ []; cells = map.empty };
-  undo = [];
-  redo = [];
-  batch = None;
-  suspended = false;
-  next_sheet = 1;
-  limit = DEFAULT_UNDO;
-}
+abbrev pub usage : Outcome
+usage = ended 2 (codes "usage: sheetrun [--undo-limit N] [--strict] [--script FILE] [--generate N] [BOOK.csv ...]")
 
--- the bytes that a run prints, and its status
-abbrev pub Outcome : Type 0
-Outcome = List ℕ × ℕ
+-- a script's outcome, from a session of these sheets on, with these custom functions and on this day
+abbrev pub script_outcome : List (List ℕ × Rule) → ℤ → Said → List GivenSheet → List ℕ → Outcome
+script_outcome customs day said sheets bytes = outcome_from said.strict (session_given said.undo_limit customs day sheets) 1 (records default_config (strip_bom bytes))
 
--- these bytes, and then the rest of the run
-abbrev pub followed_by : List ℕ → Outcome → Outcome
-followed_by bytes rest = (bytes ++ rest.0, rest.1)
+-- the outcome of a generated list of commands of this size
+abbrev pub generated_outcome : List (List ℕ × Rule) → ℤ → Said → ℕ → Outcome
+generated_outcome customs day said n = summary_outcome said.strict (answers_from (session_given said.undo_limit customs day (empty_sheet ∷ [])) (generated n))
 
--- why a record is no command, as a run says it
-abbrev pub cause_text : ScriptError → List ℕ
-cause_text UnknownCommand = codes "unknown command"
-cause_text FieldCount = codes "field count"
-cause_text (BadField j) = codes "bad field " ++ decimal j
-cause_text NoMemory = codes "out of memory"
+-- the outcome of words that say this: of a generated list, or of a script, once its books and then itself are there
+abbrev pub outcome_said : List (List ℕ × Rule) → ℤ → Option ℕ → Said → Told → Outcome
+outcome_said customs day (Some n) said told = generated_outcome customs day said n
+outcome_said customs day None said told = or_end (sheets_told told.files said.books) (λ sheets. or_end (script_told told said.script) (script_outcome customs day said sheets))
 
--- what a run says of a record that is no command; records are counted from 1
-abbrev pub record_text : ℕ → ScriptError → List ℕ
-record_text k e = (codes "record " ++ decimal k ++ codes ": ") ++ cause_text e
+abbrev pub outcome_meant : List (List ℕ × Rule) → ℤ → Option Said → Told → Outcome
+outcome_meant customs day None told = usage
+outcome_meant customs day (Some said) told = outcome_said customs day said.generate said told
 
--- the last line of a run whose record of this number is no command
-abbrev pub record_line : ℕ → ScriptError → List ℕ
-record_line k e = line_of (record_text k e)
+-- the outcome of a run, whose formulas know these custom functions and this day
+abbrev pub outcome : List (List ℕ × Rule) → ℤ → List (List ℕ) → Told → Outcome
+outcome customs day words told = outcome_meant customs day (meaning words) told
 
--- what a record does: its reply and then the rest of the run, or the end of the run where it is no command
-abbrev pub outcome_of : State → ℕ → Result Command ScriptError → (State → Outcome) → Outcome
-outcome_of d k (Ok command) rest = followed_by (reply command d) (rest (next_state command d))
-outcome_of d k (Err e) rest = (record_line k e, 3)
+-- what a run prints, and its status, are the outcome of what it is told
+abbrev pub Prints : Option Told → (Told → Outcome) → Option (List ℕ) → Option (List ℕ) → ℕ → Type 0
+Prints told f old new status = (t : Told) → told ≡ Some t → Appends old new (f t).0 × (status ≡ (f t).1)
 
--- the records from number k on, in a session; the end of the script ends a run with status 0
-unfoldable pub outcome_from : State → ℕ → List (List (List ℕ)) → Outcome
-outcome_from d k [] = ([], 0)
-outcome_from d k (fields ∷ rest) = outcome_of d k (command_of fields) (λ after. outcome_from after (k + 1) rest)
+-- the line of a fault in reading
+abbrev pub fault_line : List ℕ
+fault_line = line_of (codes "read fault")
 
-abbrev pub usage_line : List ℕ
-usage_line = line_of (codes "usage: sheetrun [--undo-limit N] [--strict] [--script FILE] [--generate N] [BOOK.csv ...]")
+-- what a run prints is the front of that outcome, or, where there was a fault in reading, of its line
+abbrev pub PrintsPart : Option Told → (Told → Outcome) → Type 0 → Option (List ℕ) → Option (List ℕ) → Type 0
+PrintsPart told f Faulty old new = (t : Told) → told ≡ Some t → AppendsPart old new (f t).0 ⊎ (Faulty × AppendsPart old new fault_line)
 
--- the outcome of a script: too long, or its records from the first session on
-abbrev pub script_outcome : List ℕ → Outcome
-script_outcome bytes = if nat_lt MAX_INPUT (length bytes)
-    then (line_of (codes "input too long"), 8)
-    else outcome_from first_session 1 (records default_config (strip_bom bytes))
+-- the script comes from the source
+abbrev pub reads_source : Option Said → Bool
+reads_source None = false
+reads_source (Some said) = is_none said.script && is_none said.generate
 
--- the outcome of a run: every word is refused yet
-abbrev pub outcome : ℕ → List ℕ → Outcome
-outcome words bytes = if nat_lt 0 words then (usage_line, 2) else script_outcome bytes
+-- what is left of the source, whose bytes are all read, up to one more than a run may be told, once all books are there
+abbrev pub source_left : Option Said → Told → List ℕ
+source_left None told = told.source
+source_left (Some said) told =
+    if reads_source (Some said) && is_ok (sheets_told told.files said.books) then drop (MAX_INPUT + 1) told.source else told.source
 
--- the statuses of a run that came to its end
+abbrev pub Leaves : Option Told → (Told → List ℕ) → Option (List ℕ) → Type 0
+Leaves told f new = (t : Told) → told ≡ Some t → new ≡ Some (f t)
+
+-- how much of the source was read, by what the words say and the status, also where the folder tells nothing
+abbrev pub WasRead : Option Said → ℕ → Option (List ℕ) → Option (List ℕ) → Type 0
+WasRead said status None new = ⊤
+WasRead said status (Some bytes) new =
+    (reads_source said ≡ true → (status ≡ 0) ⊎ (status ≡ 1) ⊎ (status ≡ 3) → new ≡ Some [])
+    × (reads_source said ≡ false → new ≡ Some bytes)
+    × (status ≡ 4 → new ≡ Some bytes)
+    × (status ≡ 8 → (new ≡ Some bytes) ⊎ (new ≡ Some (drop (MAX_INPUT + 1) bytes)))
+
+-- the statuses of a run that came to its end, and of any run
 abbrev pub IsEndStatus : ℕ → Type 0
-IsEndStatus status = (status ≡ 0) ⊎ (status ≡ 2) ⊎ (status ≡ 3) ⊎ (status ≡ 8)
+IsEndStatus status = (status ≡ 0) ⊎ (status ≡ 1) ⊎ (status ≡ 2) ⊎ (status ≡ 3) ⊎ (status ≡ 4) ⊎ (status ≡ 8)
 
--- the statuses of a run
 abbrev pub IsStatus : ℕ → Type 0
 IsStatus status = IsEndStatus status ⊎ ((status ≡ 5) ⊎ (status ≡ 6) ⊎ (status ≡ 7))
-
--- what a run prints where source and sink tell their bytes
-abbrev pub PrintsFor : Option (List ℕ) → Option (List ℕ) → Option (List ℕ) → ℕ → (List ℕ → Outcome) → Type 0
-PrintsFor None old new status f = ⊤
-PrintsFor (Some bytes) old new status f = Appends old new (f bytes).0 × (status ≡ (f bytes).1)
-
--- what a run has read of the source, by its status
-abbrev pub WasRead : ℕ → Option (List ℕ) → Option (List ℕ) → Type 0
-WasRead status None new = ⊤
-WasRead status (Some bytes) new = ((status ≡ 0) ⊎ (status ≡ 3) → new ≡ Some [])
-    × (status ≡ 2 → new ≡ Some bytes)
-    × (status ≡ 8 → new ≡ Some (drop (MAX_INPUT + 1) bytes))

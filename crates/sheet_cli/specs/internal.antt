@@ -1,2 +1,5 @@
 -- What only the proofs of bodies need.
 pub mod Answers
+pub mod Links
+pub mod Ends
+pub mod Tallied

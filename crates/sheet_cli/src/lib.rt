@@ -13,8 +13,14 @@
 //! ```
 #![tactic(auto)]
 
+mod answering;
+mod ending;
 mod line;
+mod links;
 mod program;
 mod session;
 
 pub use program::run;
+
+#[cfg(test)]
+mod tests;

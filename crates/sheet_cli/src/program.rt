@@ -1,105 +1,78 @@
-// The call that the program makes: the words and the script come in, lines and a status go out.
-ghost use Rattle.std.specs.Prelude.{◌≡◌, ◌≢◌, ◌⊎◌, ◌<◌, ◌≤◌, ◌↔◌, length, IfOk, OnOk, IsErrOf, string_bytes};
+// The call that the program makes: words, files and a script come in, lines and a status go out.
+ghost use Rattle.std.specs.Prelude.{◌≡◌, ◌≢◌, ◌⊎◌, ◌↔◌, None, Some, map, IfOk, OnOk, IsErrOf, string_bytes};
 ghost use Rattle.std.specs.Io.KnownBytes.{Appends};
-ghost use Rattle.book_model.specs.Replies.{line_of};
-ghost use Rattle.csv.specs.Records.{fields_of};
-ghost use Rattle.script_lang.specs.Command.{command_of};
 ghost use Rattle.book_files.specs.Outside.{Rose};
-ghost use Rattle.sheet_cli.specs.internal.Answers.{AnswersRecord};
-ghost use Rattle.sheet_cli.specs.Run.{IsEndStatus, IsStatus, PrintsFor, WasRead, cause_text, outcome, record_text, script_outcome};
+ghost use Rattle.command_words.specs.Words.{IsInRange, meaning, seen};
+ghost use Rattle.run_inputs.specs.Opening.{told_by};
+ghost use Rattle.sheet_cli.specs.Run.{IsEndStatus, IsStatus, Leaves, Prints, PrintsPart, WasRead, fault_line, outcome, outcome_meant, outcome_said, source_left};
+ghost use Rattle.sheet_cli.specs.internal.Ends.{EndPrinted, IsSaidStatus, Reads, Runs};
 
-use crate::line::line;
-use crate::session::Session;
-use book_files::{LoadError, MAX_INPUT, Records, Sink, Source, WriteError, read_all};
-use csv::ByteRecord;
-use script_lang::{ScriptError, command};
-use std::alloc::{AllocError, Global};
+use crate::answering::{print, print_end, run_generated, run_script};
+use crate::ending::{NO_MEMORY, READ_FAULT, Stop, WRITE_FAULT, WRONG_WORDS};
+use book_files::{Folder, Sink, Source};
+use calc_eval::Customs;
+use command_words::{Words, WordsError, words as read_words};
+use run_inputs::{Ending, open_books, open_script};
+use std::alloc::Global;
 use std::sync::ledger::Ledger;
 use steps::Steps;
 
-// The statuses of a run.
-const ANSWERED: u8 = 0;
+// The words can ask for exactly what the session and the generated list allow.
+const _: () = prove!(command_words::MAX_UNDO == book_model::MAX_UNDO);
 
-const WRONG_WORDS: u8 = 2;
-
-const NO_COMMAND: u8 = 3;
-
-const READ_FAULT: u8 = 5;
-
-const WRITE_FAULT: u8 = 6;
-
-const NO_MEMORY: u8 = 7;
-
-const TOO_LONG: u8 = 8;
+const _: () = prove!(command_words::MAX_GENERATE == generator::MAX_SIZE);
 
 const USAGE: &str =
     "usage: sheetrun [--undo-limit N] [--strict] [--script FILE] [--generate N] [BOOK.csv ...]";
 
-// Why a run ends before its output is whole.
-#[derive(Clone, Copy, PartialEq, Eq, Debug)]
-enum Stop {
-    ReadFault,
-    WriteFault,
-    NoMemory,
-}
-
-impl From<AllocError> for Stop {
-    ghost use Rattle.sheet_cli.specs.declared.program.Stop.TheVariants as stop;
-
-    ghost from_gives = { λ _ e. e ≡ stop.NoMemory };
-
-    fn from(_: AllocError) -> Stop {
-        Stop::NoMemory
-    }
-}
-
-impl From<WriteError> for Stop {
-    ghost use Rattle.sheet_cli.specs.internal.Answers.{stop_of_write};
-
-    ghost from_gives = { λ e stop. stop ≡ stop_of_write e };
-
-    fn from(error: WriteError) -> Stop {
-        match error {
-            WriteError::Failed => Stop::WriteFault,
-            WriteError::NoMemory => Stop::NoMemory,
-        }
-    }
-}
-
 /// Does all that the program does, and answers its status.
 ///
-/// No word is accepted yet: each gives the usage line and status 2. The script is read from the
-/// source to its end; its records are commands, each answered by one line in one write. The statuses:
+/// The words name the books, the script and what is asked of the run. The books are read from the folder, and then the
+/// script, from there or from the source; its records are commands, each answered by one line in one write. With
+/// `--generate` a generated list of commands is executed instead, and a summary printed. Formulas can call the custom
+/// functions of the registry, and `day` is the serial number of today, counted from 1899-12-30. The statuses:
 ///
-/// - 0: the script was read and answered.
-/// - 2: there is a word.
+/// - 0: all was read and answered.
+/// - 1: with `--strict`, a command is refused; its refusal is the last line.
+/// - 2: the words are outside their meaning, and the usage line says what they can be.
 /// - 3: a record is no command; the last line says which one and why.
-/// - 5: the source failed, and the line `read fault` says so.
+/// - 4: the file of a book or of the script is missing, or a book is refused; a line says which one and why.
+/// - 5: the folder or the source failed, and the line `read fault` says so.
 /// - 6: the sink failed.
 /// - 7: memory ran out.
-/// - 8: the script has more than 64 MiB.
-pub fn run<I: Source, O: Sink, L: Ledger>(
+/// - 8: a file or the script has more than 64 MiB.
+pub fn run<C: Customs, F: Folder, I: Source, O: Sink, L: Ledger>(
     alloc: Global,
     words: &[String],
+    folder: &mut F,
     input: &mut I,
     out: &mut O,
+    day: i32,
+    registry: C,
     steps: &mut Steps<L>,
 ) -> u8
-    // Where source and sink tell their bytes, the sink holds what it held and then the defined bytes.
-    ensures output { result ≢ 5 → result ≢ 6 → result ≢ 7 → PrintsFor (I.left input.old) (O.taken out.old) (O.taken out.new) result (outcome (length words.now)) }
+    // Where folder and source tell what they have, and the sink what it took, it holds what it held and then the defined
+    // bytes, and the status is the defined one.
+    ensures output { result ≢ 5 → result ≢ 6 → result ≢ 7 → Prints (told_by (F.files folder.old) (I.left input.old)) (outcome (C.customs registry) day (map string_bytes words.now)) (O.taken out.old) (O.taken out.new) result }
 
-    // Status 2 is for words alone.
-    ensures usage { result ≢ 6 → result ≢ 7 → (result ≡ 2) ↔ (0 < length words.now) }
+    // Status 2 is for words outside their meaning alone.
+    ensures usage { result ≢ 6 → result ≢ 7 → (result ≡ 2) ↔ (meaning (map string_bytes words.now) ≡ None) }
 
-    // A fault is answered only where the object that was handed in counted one.
-    ensures read_fault { result ≡ 5 → Rose (I.faults input.old) (I.faults input.new) }
+    // A fault is answered only where the object that was handed in counted one. Nothing but its line is printed then.
+    ensures read_fault { result ≡ 5 → Rose (F.faults folder.old) (F.faults folder.new) ⊎ Rose (I.faults input.old) (I.faults input.new) }
+    ensures fault_line { result ≡ 5 → Appends (O.taken out.old) (O.taken out.new) fault_line }
     ensures write_fault { result ≡ 6 → Rose (O.faults out.old) (O.faults out.new) }
 
-    // What was read of the source.
-    ensures source { WasRead result (I.left input.old) (I.left input.new) }
+    // What was printed before a failed write or want of memory is a front of what should be.
+    ensures part { (result ≡ 6) ⊎ (result ≡ 7) → PrintsPart (told_by (F.files folder.old) (I.left input.old)) (outcome (C.customs registry) day (map string_bytes words.now)) (Rose (F.faults folder.old) (F.faults folder.new) ⊎ Rose (I.faults input.old) (I.faults input.new)) (O.taken out.old) (O.taken out.new) }
+
+    // What was read of the source; the files stay.
+    ensures source { WasRead (meaning (map string_bytes words.now)) result (I.left input.old) (I.left input.new) }
+    ensures left { result ≢ 5 → result ≢ 6 → result ≢ 7 → Leaves (told_by (F.files folder.old) (I.left input.old)) (source_left (meaning (map string_bytes words.now))) (I.left input.new) }
+    ensures files { F.files folder.new ≡ F.files folder.old }
     ensures status_range { IsStatus result }
 {
-    match run_to_end(alloc, words, input, out, steps) {
+    match run_to_end(alloc, words, folder, input, out, day, registry, steps) {
         Ok(status) => status,
         Err(Stop::ReadFault) => READ_FAULT,
         Err(Stop::WriteFault) => WRITE_FAULT,
@@ -108,123 +81,97 @@ pub fn run<I: Source, O: Sink, L: Ledger>(
 }
 
 // A run up to its status, or to a fault or want of memory.
-fn run_to_end<I: Source, O: Sink, L: Ledger>(
+fn run_to_end<C: Customs, F: Folder, I: Source, O: Sink, L: Ledger>(
     alloc: Global,
     words: &[String],
+    folder: &mut F,
     input: &mut I,
     out: &mut O,
+    day: i32,
+    registry: C,
     steps: &mut Steps<L>,
 ) -> Result<u8, Stop>
-    ensures output { IfOk result (λ status. PrintsFor (I.left input.old) (O.taken out.old) (O.taken out.new) status (outcome (length words.now))) }
-    ensures usage { IfOk result (λ status. (status ≡ 2) ↔ (0 < length words.now)) }
-    ensures no_words { IsErrOf result Stop.ReadFault → length words.now ≡ 0 }
-    ensures read_fault { IsErrOf result Stop.ReadFault → Rose (I.faults input.old) (I.faults input.new) }
+    ensures runs { Runs (told_by (F.files folder.old) (I.left input.old)) (outcome (C.customs registry) day (map string_bytes words.now)) (Rose (F.faults folder.old) (F.faults folder.new) ⊎ Rose (I.faults input.old) (I.faults input.new)) (O.taken out.old) (O.taken out.new) result }
+    ensures usage { IfOk result (λ status. (status ≡ 2) ↔ (meaning (map string_bytes words.now) ≡ None)) }
+    ensures known { IsErrOf result Stop.ReadFault → meaning (map string_bytes words.now) ≢ None }
     ensures write_fault { IsErrOf result Stop.WriteFault → Rose (O.faults out.old) (O.faults out.new) }
-    ensures source { IfOk result (λ status. WasRead status (I.left input.old) (I.left input.new)) }
-    ensures status_range { IfOk result IsEndStatus }
+    ensures source { Reads (meaning (map string_bytes words.now)) (I.left input.old) (I.left input.new) result }
+    ensures left { OnOk result (Leaves (told_by (F.files folder.old) (I.left input.old)) (source_left (meaning (map string_bytes words.now))) (I.left input.new)) }
+    ensures files { F.files folder.new ≡ F.files folder.old }
+    ensures status { IfOk result IsEndStatus }
 {
-    if !words.is_empty() {
-        print(alloc, out, USAGE)?;
-        return Ok(WRONG_WORDS);
-    }
-    match read_all(alloc, input) {
-        Ok(script) => run_script(alloc, &script, out, steps),
-        Err(LoadError::TooLong) => {
-            print(alloc, out, "input too long")?;
-            Ok(TOO_LONG)
-        }
-        Err(LoadError::Failed) => {
-            print(alloc, out, "read fault")?;
-            Err(Stop::ReadFault)
-        }
-        Err(LoadError::NoMemory | LoadError::Missing) => Err(Stop::NoMemory),
+    match read_words(alloc, words) {
+        Ok(said) => run_said(alloc, &said, folder, input, out, day, registry, steps),
+        Err(WordsError::Usage) => print_end(alloc, out, USAGE, WRONG_WORDS),
+        Err(WordsError::NoMemory) => Err(Stop::NoMemory),
     }
 }
 
-// Answers the records of a script in order, up to its end or to one that is no command.
-fn run_script<O: Sink, L: Ledger>(
+// A run whose words say this.
+fn run_said<C: Customs, F: Folder, I: Source, O: Sink, L: Ledger>(
     alloc: Global,
-    script: &[u8],
+    said: &Words,
+    folder: &mut F,
+    input: &mut I,
     out: &mut O,
+    day: i32,
+    registry: C,
     steps: &mut Steps<L>,
 ) -> Result<u8, Stop>
-    requires { length script.now ≤ MAX_INPUT }
-    ensures output { IfOk result (λ status. Appends (O.taken out.old) (O.taken out.new) (script_outcome script.now).0 × (status ≡ (script_outcome script.now).1)) }
-    ensures no_read_fault { IsErrOf result Stop.ReadFault → ⊥ }
+    requires { IsInRange (seen said.now) }
+    ensures runs { Runs (told_by (F.files folder.old) (I.left input.old)) (outcome_meant (C.customs registry) day (Some (seen said.now))) (Rose (F.faults folder.old) (F.faults folder.new) ⊎ Rose (I.faults input.old) (I.faults input.new)) (O.taken out.old) (O.taken out.new) result }
     ensures write_fault { IsErrOf result Stop.WriteFault → Rose (O.faults out.old) (O.faults out.new) }
-    ensures status_range { IfOk result (λ status. (status ≡ 0) ⊎ (status ≡ 3)) }
+    ensures source { Reads (Some (seen said.now)) (I.left input.old) (I.left input.new) result }
+    ensures left { OnOk result (Leaves (told_by (F.files folder.old) (I.left input.old)) (source_left (Some (seen said.now))) (I.left input.new)) }
+    ensures files { F.files folder.new ≡ F.files folder.old }
+    ensures status { IfOk result IsSaidStatus }
 {
-    let mut session = Session::new(alloc)?;
-    let mut records = Records::open(alloc, script);
-    let mut number: u64 = 0;
-    'records: while records.advance()? {
-        number += 1;
-        if run_record(alloc, &mut session, number, records.fields(), out, steps)? {
-            return Ok(NO_COMMAND);
-        }
+    match said.generate {
+        Some(size) => run_generated(alloc, said, size, out, day, registry, steps),
+        None => run_told(alloc, said, folder, input, out, day, registry, steps),
     }
-    Ok(ANSWERED)
 }
 
-// Answers one record of a script. Whether it ends the run, since it is no command.
-fn run_record<O: Sink, L: Ledger>(
+// A run over books and a script.
+fn run_told<C: Customs, F: Folder, I: Source, O: Sink, L: Ledger>(
     alloc: Global,
-    session: &mut Session,
-    number: u64,
-    fields: &ByteRecord,
+    said: &Words,
+    folder: &mut F,
+    input: &mut I,
     out: &mut O,
+    day: i32,
+    registry: C,
     steps: &mut Steps<L>,
-) -> Result<bool, Stop>
-    ensures answered { IfOk result (λ ends. AnswersRecord (command_of (fields_of fields.now)) number ends session.old.engine session.new.engine (O.taken out.old) (O.taken out.new)) }
-    ensures no_read_fault { IsErrOf result Stop.ReadFault → ⊥ }
+) -> Result<u8, Stop>
+    requires range { IsInRange (seen said.now) }
+    requires script { said.now.generate ≡ None }
+    ensures runs { Runs (told_by (F.files folder.old) (I.left input.old)) (outcome_said (C.customs registry) day None (seen said.now)) (Rose (F.faults folder.old) (F.faults folder.new) ⊎ Rose (I.faults input.old) (I.faults input.new)) (O.taken out.old) (O.taken out.new) result }
     ensures write_fault { IsErrOf result Stop.WriteFault → Rose (O.faults out.old) (O.faults out.new) }
-    ensures later { O.faults out.old ≤ O.faults out.new }
+    ensures source { Reads (Some (seen said.now)) (I.left input.old) (I.left input.new) result }
+    ensures left { OnOk result (Leaves (told_by (F.files folder.old) (I.left input.old)) (source_left (Some (seen said.now))) (I.left input.new)) }
+    ensures files { F.files folder.new ≡ F.files folder.old }
+    ensures status { IfOk result IsSaidStatus }
 {
-    match command(alloc, fields) {
-        Ok(command) => {
-            let reply = session.execute(&command, steps)?;
-            out.write(&reply)?;
-            Ok(false)
-        }
-        Err(ScriptError::NoMemory) => Err(Stop::NoMemory),
-        Err(cause) => {
-            let text = record_text(alloc, number, cause)?;
-            print(alloc, out, text.as_str())?;
-            Ok(true)
-        }
+    match open_books(alloc, folder, &said.books) {
+        Ok(sheets) => match open_script(alloc, folder, input, &said.script) {
+            Ok(script) => run_script(alloc, said, sheets, &script, out, day, registry, steps),
+            Err(ending) => end(alloc, out, ending),
+        },
+        Err(ending) => end(alloc, out, ending),
     }
 }
 
-// What a run says of a record that is no command.
-fn record_text(alloc: Global, number: u64, cause: ScriptError) -> Result<String, AllocError>
-    ensures { IfOk result (λ text. string_bytes text ≡ record_text number cause) }
-{
-    let mut text = format!(in alloc; "record {number}: ")?;
-    let cause = cause_text(alloc, cause)?;
-    text.push_str(&cause)?;
-    Ok(text)
-}
-
-// Why a record is no command.
-fn cause_text(alloc: Global, cause: ScriptError) -> Result<String, AllocError>
-    ensures { IfOk result (λ text. string_bytes text ≡ cause_text cause) }
-{
-    match cause {
-        ScriptError::UnknownCommand => String::from_str(alloc, "unknown command"),
-        ScriptError::FieldCount => String::from_str(alloc, "field count"),
-        ScriptError::BadField(field) => format!(in alloc; "bad field {field}"),
-        ScriptError::NoMemory => String::from_str(alloc, "out of memory"),
-    }
-}
-
-// Writes the line of a text.
-fn print<O: Sink>(alloc: Global, out: &mut O, text: &str) -> Result<(), Stop>
-    ensures written { OnOk result (Appends (O.taken out.old) (O.taken out.new) (line_of text.now)) }
-    ensures no_read_fault { IsErrOf result Stop.ReadFault → ⊥ }
+// Says how a run ends before its first reply.
+fn end<O: Sink>(alloc: Global, out: &mut O, ending: Ending) -> Result<u8, Stop>
+    ensures printed { EndPrinted ending (O.taken out.old) (O.taken out.new) result }
     ensures write_fault { IsErrOf result Stop.WriteFault → Rose (O.faults out.old) (O.faults out.new) }
-    ensures later { O.faults out.old ≤ O.faults out.new }
 {
-    let bytes = line(alloc, text)?;
-    out.write(&bytes)?;
-    Ok(())
+    match ending {
+        Ending::Says(text, status) => print_end(alloc, out, text.as_str(), status),
+        Ending::ReadFault => match print(alloc, out, "read fault") {
+            Ok(()) => Err(Stop::ReadFault),
+            Err(stop) => Err(stop),
+        },
+        Ending::NoMemory => Err(Stop::NoMemory),
+    }
 }

@@ -1,37 +1,56 @@
 // What the commands of a script ask of the engine, and the lines that answer them.
-ghost use Rattle.std.specs.Prelude.{◌≡◌, IfOk, OnErr, codes};
-ghost use Rattle.book_model.specs.Replies.{block_of, next_state, place_of, reply, sheet_named, sheet_of};
+ghost use Rattle.std.specs.Prelude.{◌≡◌, ◌≤◌, All, IfOk, OnErr, codes, false, true};
+ghost use Rattle.book_model.specs.Given.{CanBegin, given_sheets, session_given};
+ghost use Rattle.book_model.specs.declared.limits.TheConstants.{MAX_UNDO};
+ghost use Rattle.book_model.specs.Replies.{block_of, line_of, links_text, place_of, scope_named, sheet_named, sheet_of};
+ghost use Rattle.book_model.specs.Sound.{IsLinkInside};
 ghost use Rattle.book_model.specs.Workbook.{State};
+ghost use Rattle.cell_value.specs.Scalar.{shown_text};
 ghost use Rattle.book_model.specs.declared.command.Command.TheVariants as command;
 ghost use Rattle.book_engine.specs.Engine.{NoAnswer, StandsFor};
-ghost use Rattle.sheet_cli.specs.Run.{first_session};
-ghost use Rattle.sheet_cli.specs.internal.Answers.{DoesFor, IsChange, Keeps, Executes};
+ghost use Rattle.sheet_cli.specs.internal.Answers.{DoesFor, Executes, IsChange, IsLineOfStop, Keeps};
 
 use crate::line::{line, number_line, number_room, stop_line};
+use crate::links::links_text;
 use book_engine::{Engine, Stop};
-use book_model::{BookCells, BookSheet, Command, DEFAULT_UNDO};
+use book_model::{BookSheet, Command};
+use calc_eval::Customs;
 use cell_addr::{Block, NO_SHEET, Place, Spot, Text};
+use cell_value::Scalar;
+use formula_tree::Link;
 use std::alloc::{AllocError, Global};
 use std::sync::ledger::Ledger;
 use steps::Steps;
 
-/// An engine, and the lines that it answers commands by.
+/// The line that answers a command, and whether the command is refused.
 #[derive(Drop)]
-pub struct Session {
-    alloc: Global,
-    engine: Engine,
+pub struct Answer {
+    pub line: Vec<u8>,
+    pub refused: bool,
 }
 
-impl Session {
-    /// A workbook with one empty sheet, `Sheet1`.
-    pub fn new(alloc: Global) -> Result<Session, AllocError>
-        ensures { IfOk result (λ session. StandsFor session.engine first_session) }
+/// An engine, and the lines that it answers commands by.
+#[derive(Drop)]
+pub struct Session<C> {
+    alloc: Global,
+    engine: Engine<C>,
+}
+
+impl<C: Customs> Session<C> {
+    /// The session of a workbook with these sheets, in which at most `limit` steps can be undone, whose formulas can call
+    /// these custom functions; the day is the serial number of today.
+    pub fn new(
+        alloc: Global,
+        sheets: &[BookSheet],
+        limit: u16,
+        registry: C,
+        day: i32,
+    ) -> Result<Session<C>, AllocError>
+        requires can { CanBegin (given_sheets sheets.now) }
+        requires limit { limit ≤ MAX_UNDO }
+        ensures { IfOk result (λ session. StandsFor C.customs session.engine (session_given limit (C.customs registry) day (given_sheets sheets.now))) }
     {
-        let books = [BookSheet {
-            name: Text::from_str(alloc, "Sheet1")?,
-            cells: BookCells::new(alloc)?,
-        }];
-        let engine = Engine::build(alloc, &books, DEFAULT_UNDO)?;
+        let engine = Engine::build(alloc, sheets, limit, registry, day)?;
         Ok(Session { alloc, engine })
     }
 
@@ -40,89 +59,197 @@ impl Session {
         &mut self,
         command: &Command,
         steps: &mut Steps<L>,
-    ) -> Result<Vec<u8>, AllocError>
-        ensures ok { IfOk result (λ line. Executes command.now self.old.engine self.new.engine line.items) }
-        ensures err { OnErr result (Keeps self.old.engine self.new.engine) }
+    ) -> Result<Answer, AllocError>
+        ensures ok { IfOk result (λ answer. Executes C.customs command.now self.old.engine self.new.engine answer.line.items answer.refused) }
+        ensures err { OnErr result (Keeps C.customs self.old.engine self.new.engine) }
     {
         match command {
             Command::AddSheet(name) => self.add_sheet(name),
             Command::Value(at) => self.value(at, steps),
             Command::Formula(at) => self.formula(at),
             Command::Content(at) => self.content(at),
+            Command::Precedents(at) => self.precedents(at),
+            Command::Dependents(at) => self.dependents(at),
+            Command::NameValue(name, sheet) => self.name_value(name, sheet, steps),
+            Command::Try(sheet, text) => self.try_formula(sheet, text, steps),
             _ => self.change(command),
         }
     }
 
     // Executes a change that answers nothing. The line is made first, so that nothing fails after the change.
-    fn change(&mut self, command: &Command) -> Result<Vec<u8>, AllocError>
+    fn change(&mut self, command: &Command) -> Result<Answer, AllocError>
         requires { IsChange command.now }
-        ensures ok { IfOk result (λ line. Executes command.now self.old.engine self.new.engine line.items) }
-        ensures err { OnErr result (Keeps self.old.engine self.new.engine) }
+        ensures ok { IfOk result (λ answer. Executes C.customs command.now self.old.engine self.new.engine answer.line.items answer.refused) }
+        ensures err { OnErr result (Keeps C.customs self.old.engine self.new.engine) }
     {
         let ok = line(self.alloc, "ok")?;
         match ask(&mut self.engine, command) {
-            Ok(()) => Ok(ok),
-            Err(stop) => stop_line(self.alloc, stop),
+            Ok(()) => Ok(accepted(ok)),
+            Err(stop) => stopped(self.alloc, stop),
         }
     }
 
     // Adds a sheet, and answers its number. Room for the line is made first, so that nothing fails after the change.
-    fn add_sheet(&mut self, name: &Text) -> Result<Vec<u8>, AllocError>
-        ensures ok { IfOk result (λ line. Executes (command.AddSheet name.now) self.old.engine self.new.engine line.items) }
-        ensures err { OnErr result (Keeps self.old.engine self.new.engine) }
+    fn add_sheet(&mut self, name: &Text) -> Result<Answer, AllocError>
+        ensures ok { IfOk result (λ answer. Executes C.customs (command.AddSheet name.now) self.old.engine self.new.engine answer.line.items answer.refused) }
+        ensures err { OnErr result (Keeps C.customs self.old.engine self.new.engine) }
     {
         let room = number_room(self.alloc)?;
         match self.engine.add_sheet(name.as_str()) {
-            Ok(number) => Ok(number_line(room, number)),
-            Err(stop) => stop_line(self.alloc, stop),
+            Ok(number) => Ok(accepted(number_line(room, number))),
+            Err(stop) => stopped(self.alloc, stop),
         }
     }
 
     // Answers what a cell shows.
-    fn value<L: Ledger>(&mut self, at: &Spot, steps: &mut Steps<L>) -> Result<Vec<u8>, AllocError>
-        ensures ok { IfOk result (λ line. Executes (command.Value at.now) self.old.engine self.new.engine line.items) }
-        ensures err { OnErr result (Keeps self.old.engine self.new.engine) }
+    fn value<L: Ledger>(&mut self, at: &Spot, steps: &mut Steps<L>) -> Result<Answer, AllocError>
+        ensures ok { IfOk result (λ answer. Executes C.customs (command.Value at.now) self.old.engine self.new.engine answer.line.items answer.refused) }
+        ensures err { OnErr result (Keeps C.customs self.old.engine self.new.engine) }
     {
         let place = place(&self.engine, at);
         match self.engine.value(place, steps) {
-            Ok(scalar) => {
-                let shown = scalar.shown(self.alloc)?;
-                line(self.alloc, shown.as_str())
-            }
-            Err(stop) => stop_line(self.alloc, stop),
+            Ok(scalar) => shows_scalar(self.alloc, &scalar),
+            Err(stop) => stopped(self.alloc, stop),
+        }
+    }
+
+    // Answers what a name shows that the word finds on a sheet.
+    fn name_value<L: Ledger>(
+        &mut self,
+        name: &Text,
+        sheet: &Text,
+        steps: &mut Steps<L>,
+    ) -> Result<Answer, AllocError>
+        ensures ok { IfOk result (λ answer. Executes C.customs (command.NameValue name.now sheet.now) self.old.engine self.new.engine answer.line.items answer.refused) }
+        ensures err { OnErr result (Keeps C.customs self.old.engine self.new.engine) }
+    {
+        let sheet = id(&self.engine, sheet);
+        match self.engine.name_value(name.as_str(), sheet, steps) {
+            Ok(scalar) => shows_scalar(self.alloc, &scalar),
+            Err(stop) => stopped(self.alloc, stop),
+        }
+    }
+
+    // Answers what a formula would show in the first cell of a sheet.
+    fn try_formula<L: Ledger>(
+        &mut self,
+        sheet: &Text,
+        text: &Text,
+        steps: &mut Steps<L>,
+    ) -> Result<Answer, AllocError>
+        ensures ok { IfOk result (λ answer. Executes C.customs (command.Try sheet.now text.now) self.old.engine self.new.engine answer.line.items answer.refused) }
+        ensures err { OnErr result (Keeps C.customs self.old.engine self.new.engine) }
+    {
+        let sheet = id(&self.engine, sheet);
+        match self.engine.try_formula(sheet, text.as_str(), steps) {
+            Ok(scalar) => shows_scalar(self.alloc, &scalar),
+            Err(stop) => stopped(self.alloc, stop),
         }
     }
 
     // Answers the text of a cell's formula, or `none`.
-    fn formula(&mut self, at: &Spot) -> Result<Vec<u8>, AllocError>
-        ensures ok { IfOk result (λ line. Executes (command.Formula at.now) self.old.engine self.new.engine line.items) }
-        ensures err { OnErr result (Keeps self.old.engine self.new.engine) }
+    fn formula(&mut self, at: &Spot) -> Result<Answer, AllocError>
+        ensures ok { IfOk result (λ answer. Executes C.customs (command.Formula at.now) self.old.engine self.new.engine answer.line.items answer.refused) }
+        ensures err { OnErr result (Keeps C.customs self.old.engine self.new.engine) }
     {
         let place = place(&self.engine, at);
         match self.engine.formula(place) {
-            Ok(Some(text)) => line(self.alloc, text.as_str()),
-            Ok(None) => line(self.alloc, "none"),
-            Err(stop) => stop_line(self.alloc, stop),
+            Ok(Some(text)) => shows(self.alloc, text.as_str()),
+            Ok(None) => shows(self.alloc, "none"),
+            Err(stop) => stopped(self.alloc, stop),
         }
     }
 
     // Answers the text that gives a cell its content.
-    fn content(&mut self, at: &Spot) -> Result<Vec<u8>, AllocError>
-        ensures ok { IfOk result (λ line. Executes (command.Content at.now) self.old.engine self.new.engine line.items) }
-        ensures err { OnErr result (Keeps self.old.engine self.new.engine) }
+    fn content(&mut self, at: &Spot) -> Result<Answer, AllocError>
+        ensures ok { IfOk result (λ answer. Executes C.customs (command.Content at.now) self.old.engine self.new.engine answer.line.items answer.refused) }
+        ensures err { OnErr result (Keeps C.customs self.old.engine self.new.engine) }
     {
         let place = place(&self.engine, at);
         match self.engine.content(place) {
-            Ok(text) => line(self.alloc, text.as_str()),
-            Err(stop) => stop_line(self.alloc, stop),
+            Ok(text) => shows(self.alloc, text.as_str()),
+            Err(stop) => stopped(self.alloc, stop),
         }
+    }
+
+    // Answers what a cell's formula needs.
+    fn precedents(&mut self, at: &Spot) -> Result<Answer, AllocError>
+        ensures ok { IfOk result (λ answer. Executes C.customs (command.Precedents at.now) self.old.engine self.new.engine answer.line.items answer.refused) }
+        ensures err { OnErr result (Keeps C.customs self.old.engine self.new.engine) }
+    {
+        let place = place(&self.engine, at);
+        match self.engine.precedents(place) {
+            Ok(links) => self.shows_links(&links),
+            Err(stop) => stopped(self.alloc, stop),
+        }
+    }
+
+    // Answers which formulas need a cell.
+    fn dependents(&mut self, at: &Spot) -> Result<Answer, AllocError>
+        ensures ok { IfOk result (λ answer. Executes C.customs (command.Dependents at.now) self.old.engine self.new.engine answer.line.items answer.refused) }
+        ensures err { OnErr result (Keeps C.customs self.old.engine self.new.engine) }
+    {
+        let place = place(&self.engine, at);
+        match self.engine.dependents(place) {
+            Ok(links) => self.shows_links(&links),
+            Err(stop) => stopped(self.alloc, stop),
+        }
+    }
+
+    // The answer of links.
+    fn shows_links(&self, links: &[Link]) -> Result<Answer, AllocError>
+        requires { All IsLinkInside links.now }
+        ensures line { (d : State) → StandsFor C.customs self.now.engine d → IfOk result (λ answer. answer.line.items ≡ line_of (links_text d.book links.now)) }
+        ensures refused { IfOk result (λ answer. answer.refused ≡ false) }
+    {
+        let text = links_text(self.alloc, &self.engine, links)?;
+        shows(self.alloc, text.as_str())
     }
 }
 
+// The answer to a command that is accepted.
+fn accepted(line: Vec<u8>) -> Answer
+    ensures line { result.line ≡ line }
+    ensures refused { result.refused ≡ false }
+{
+    Answer {
+        line,
+        refused: false,
+    }
+}
+
+// The answer of a text.
+fn shows(alloc: Global, text: &str) -> Result<Answer, AllocError>
+    ensures line { IfOk result (λ answer. answer.line.items ≡ line_of text.now) }
+    ensures refused { IfOk result (λ answer. answer.refused ≡ false) }
+{
+    Ok(accepted(line(alloc, text)?))
+}
+
+// The answer of a value.
+fn shows_scalar(alloc: Global, scalar: &Scalar) -> Result<Answer, AllocError>
+    ensures line { IfOk result (λ answer. answer.line.items ≡ line_of (shown_text scalar.now)) }
+    ensures refused { IfOk result (λ answer. answer.refused ≡ false) }
+{
+    let shown = scalar.shown(alloc)?;
+    shows(alloc, shown.as_str())
+}
+
+// The answer to a command whose call stopped: that it is refused, and why. To want of memory there is none.
+fn stopped(alloc: Global, stop: Stop) -> Result<Answer, AllocError>
+    ensures line { IfOk result (λ answer. IsLineOfStop stop answer.line.items) }
+    ensures refused { IfOk result (λ answer. answer.refused ≡ true) }
+{
+    Ok(Answer {
+        line: stop_line(alloc, stop)?,
+        refused: true,
+    })
+}
+
 // Asks the engine for a change that answers nothing.
-fn ask(engine: &mut Engine, command: &Command) -> Result<(), Stop>
+fn ask<C: Customs>(engine: &mut Engine<C>, command: &Command) -> Result<(), Stop>
     requires { IsChange command.now }
-    ensures { DoesFor command.now NoAnswer engine.old engine.new result }
+    ensures { DoesFor C.customs command.now NoAnswer engine.old engine.new result }
 {
     match command {
         Command::Set(at, text) => engine.set(place(engine, at), text.as_str()),
@@ -142,6 +269,19 @@ fn ask(engine: &mut Engine, command: &Command) -> Result<(), Stop>
             engine.rename_sheet(id(engine, sheet), name.as_str())
         }
         Command::ClearSheet(sheet) => engine.clear_sheet(id(engine, sheet)),
+        Command::AddName(name, scope, text) => {
+            engine.add_name(name.as_str(), scope_of(engine, scope), text.as_str())
+        }
+        Command::ChangeName(name, scope, text) => {
+            engine.change_name(name.as_str(), scope_of(engine, scope), text.as_str())
+        }
+        Command::RemoveName(name, scope) => {
+            engine.remove_name(name.as_str(), scope_of(engine, scope))
+        }
+        Command::Copy(area) => engine.copy(block(engine, area)),
+        Command::Cut(area) => engine.cut(block(engine, area)),
+        Command::Paste(at) => engine.paste(place(engine, at)),
+        Command::MoveBlock(area, at) => engine.move_block(block(engine, area), place(engine, at)),
         Command::Begin => engine.begin(),
         Command::Commit => engine.commit(),
         Command::Suspend => {
@@ -159,15 +299,26 @@ fn ask(engine: &mut Engine, command: &Command) -> Result<(), Stop>
 }
 
 // The number of the sheet of this name; where there is none, the number that no sheet has.
-fn id(engine: &Engine, name: &Text) -> u32
-    ensures { (d : State) → StandsFor engine.now d → result ≡ sheet_named d.book name.now }
+fn id<C: Customs>(engine: &Engine<C>, name: &Text) -> u32
+    ensures { (d : State) → StandsFor C.customs engine.now d → result ≡ sheet_named d.book name.now }
 {
     engine.sheet_id(name.as_str()).unwrap_or(NO_SHEET)
 }
 
+// The scope of this name: the number of a sheet, or none where the name is empty.
+fn scope_of<C: Customs>(engine: &Engine<C>, name: &Text) -> Option<u32>
+    ensures { (d : State) → StandsFor C.customs engine.now d → result ≡ scope_named d.book name.now }
+{
+    if name.as_str().is_empty() {
+        None
+    } else {
+        Some(id(engine, name))
+    }
+}
+
 // The number of the sheet that an address names, or of the first one where it names none.
-fn sheet(engine: &Engine, spot: &Spot) -> u32
-    ensures { (d : State) → StandsFor engine.now d → result ≡ sheet_of d.book spot.now.sheet }
+fn sheet<C: Customs>(engine: &Engine<C>, spot: &Spot) -> u32
+    ensures { (d : State) → StandsFor C.customs engine.now d → result ≡ sheet_of d.book spot.now.sheet }
 {
     match &spot.sheet {
         Some(name) => id(engine, name),
@@ -176,8 +327,8 @@ fn sheet(engine: &Engine, spot: &Spot) -> u32
 }
 
 // The place that an address names.
-fn place(engine: &Engine, spot: &Spot) -> Place
-    ensures { (d : State) → StandsFor engine.now d → result ≡ place_of d.book spot.now }
+fn place<C: Customs>(engine: &Engine<C>, spot: &Spot) -> Place
+    ensures { (d : State) → StandsFor C.customs engine.now d → result ≡ place_of d.book spot.now }
 {
     Place {
         sheet: sheet(engine, spot),
@@ -187,8 +338,8 @@ fn place(engine: &Engine, spot: &Spot) -> Place
 }
 
 // The block that an address names.
-fn block(engine: &Engine, spot: &Spot) -> Block
-    ensures { (d : State) → StandsFor engine.now d → result ≡ block_of d.book spot.now }
+fn block<C: Customs>(engine: &Engine<C>, spot: &Spot) -> Block
+    ensures { (d : State) → StandsFor C.customs engine.now d → result ≡ block_of d.book spot.now }
 {
     Block {
         sheet: sheet(engine, spot),

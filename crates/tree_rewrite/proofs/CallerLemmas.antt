@@ -2,11 +2,12 @@
 use Rattle.shift_core.specs.Form.{form_of}
 use Rattle.shift_core.specs.Tables.{place_after, place_before}
 use Rattle.shift_core.proofs.PlaceLaws.{place_moved_returns, place_returned_goes}
-use Rattle.tree_rewrite.specs.Laws.{ProperStays, ProperFits, FitStays, LevelsStay, OthersStay, SheetsFollow, ComesBackByReferences, CarriedComesBack, HomesFollow}
+use Rattle.tree_rewrite.specs.Laws.{ProperStays, ProperFits, FitStays, LevelsStay, OthersStay, SheetsFollow, ComesBackByReferences, CarriedComesBack, HomesFollow, PastesWell}
 use Rattle.tree_rewrite.specs.declared.direction.Direction.TheVariants.{Forward, Backward}
 use Rattle.tree_rewrite.proofs.Inside.{home_in-inside, tree_in-fits}
 use Rattle.tree_rewrite.proofs.Levels.{proper-tree_in, proper-fits, depth_of-tree_in, level-tree_in, others-mapped}
 use Rattle.tree_rewrite.proofs.OnSheets.{tree_in-sheet}
+use Rattle.tree_rewrite.proofs.Pastes.{pasted-depth, pasted-fits, pasted-proper, pasted-sheet, pasted-stays}
 use Rattle.tree_rewrite.proofs.Returns.{references-back, back-references, carried-references, home-back}
 
 pub proper-stays : ProperStays
@@ -46,3 +47,6 @@ homes-follow = record {
   come_back = λ s home other sound i h. home-back (place_after s) (place_before s) home other i (λ p q j e. place_moved_returns (form_of s) p q sound j e) h;
   go_forth = λ s home other sound i h. home-back (place_before s) (place_after s) home other i (λ p q j e. place_returned_goes (form_of s) q p sound j e) h;
 }
+
+pub pastes-well : PastesWell
+pastes-well = record { proper = pasted-proper; depth = pasted-depth; listed = pasted-sheet; fits = pasted-fits; stays = pasted-stays }

@@ -1,5 +1,8 @@
--- What each reference and each block of a tree passes. Serves the passage of trees, and the laws.
-use Rattle.formula_tree.specs.Term.{Term, number, text, truth, fault, cell, area, name, prefix, percent, binary, call, paren, Terms, no_terms, term, mapped, mapped_all}
+-- What each reference and each block of a tree passes, and trees in their places. Serves the passage of trees, and the laws.
+use Rattle.std.proofs.Common.{◌≡◌, ◌∙◌, ap, refl, ℕ, inl, inr}
+use Rattle.formula_tree.specs.Term.{Term, number, text, truth, fault, cell, area, name, prefix, percent, binary, call, paren, Terms, no_terms, term, mapped, mapped_all, each_corner, each_corner_all}
+use Rattle.formula_tree.specs.declared.reference.Corner.{Corner}
+use Rattle.tree_rewrite.specs.Sheets.{HasSheet, SomeHasSheet}
 use Rattle.tree_rewrite.specs.References.{EachReference, EachReferenceOfAll}
 
 -- where one pair of tests leads to another
@@ -47,3 +50,73 @@ mutual
       → EachReferenceOfAll P Q ts → EachReferenceOfAll V W (mapped_all f g ts)
   EachReferenceOfAll-mapped P Q V W f g i j no_terms h = tt
   EachReferenceOfAll-mapped P Q V W f g i j (term t ts) h = (EachReference-mapped P Q V W f g i j t h.0, EachReferenceOfAll-mapped P Q V W f g i j ts h.1)
+
+-- where every reference and every block passes
+mutual
+  pub EachReference-all : {R : Type 0} (P : R → Type 0) (Q : R → R → Type 0) → ((r : R) → P r) → ((r q : R) → Q r q) → (t : Term R) → EachReference P Q t
+  EachReference-all P Q f g (number m) = tt
+  EachReference-all P Q f g (text w) = tt
+  EachReference-all P Q f g (truth b) = tt
+  EachReference-all P Q f g (fault k) = tt
+  EachReference-all P Q f g (cell r) = f r
+  EachReference-all P Q f g (area r q) = g r q
+  EachReference-all P Q f g (name w) = tt
+  EachReference-all P Q f g (prefix s t) = EachReference-all P Q f g t
+  EachReference-all P Q f g (percent t) = EachReference-all P Q f g t
+  EachReference-all P Q f g (binary o l r) = (EachReference-all P Q f g l, EachReference-all P Q f g r)
+  EachReference-all P Q f g (call w ts) = EachReferenceOfAll-all P Q f g ts
+  EachReference-all P Q f g (paren t) = EachReference-all P Q f g t
+
+  EachReferenceOfAll-all : {R : Type 0} (P : R → Type 0) (Q : R → R → Type 0) → ((r : R) → P r) → ((r q : R) → Q r q) → (ts : Terms R) → EachReferenceOfAll P Q ts
+  EachReferenceOfAll-all P Q f g no_terms = tt
+  EachReferenceOfAll-all P Q f g (term t ts) = (EachReference-all P Q f g t, EachReferenceOfAll-all P Q f g ts)
+
+-- to replace references as they are seen from one home by what is seen from another one
+mutual
+  pub mapped-seen : {R S : Type 0} (h : R → S) (f : S → Term S) (g : S → S → Term S) (k : S → R) (t : Term R)
+      → mapped (λ r. each_corner k (f (h r))) (λ r q. each_corner k (g (h r) (h q))) t ≡ each_corner k (mapped f g (each_corner h t))
+  mapped-seen h f g k (number m) = refl
+  mapped-seen h f g k (text w) = refl
+  mapped-seen h f g k (truth b) = refl
+  mapped-seen h f g k (fault e) = refl
+  mapped-seen h f g k (cell r) = refl
+  mapped-seen h f g k (area r q) = refl
+  mapped-seen h f g k (name w) = refl
+  mapped-seen h f g k (prefix s t) = ap (λ x. prefix s x) (mapped-seen h f g k t)
+  mapped-seen h f g k (percent t) = ap (λ x. percent x) (mapped-seen h f g k t)
+  mapped-seen h f g k (binary o l r) =
+      ap (λ x. binary o x (mapped (λ r. each_corner k (f (h r))) (λ r q. each_corner k (g (h r) (h q))) r)) (mapped-seen h f g k l)
+      ∙ ap (λ x. binary o (each_corner k (mapped f g (each_corner h l))) x) (mapped-seen h f g k r)
+  mapped-seen h f g k (call w ts) = ap (λ x. call w x) (mapped_all-seen h f g k ts)
+  mapped-seen h f g k (paren t) = ap (λ x. paren x) (mapped-seen h f g k t)
+
+  pub mapped_all-seen : {R S : Type 0} (h : R → S) (f : S → Term S) (g : S → S → Term S) (k : S → R) (ts : Terms R)
+      → mapped_all (λ r. each_corner k (f (h r))) (λ r q. each_corner k (g (h r) (h q))) ts ≡ each_corner_all k (mapped_all f g (each_corner_all h ts))
+  mapped_all-seen h f g k no_terms = refl
+  mapped_all-seen h f g k (term t ts) =
+      ap (λ x. term x (mapped_all (λ r. each_corner k (f (h r))) (λ r q. each_corner k (g (h r) (h q))) ts)) (mapped-seen h f g k t)
+      ∙ ap (λ x. term (each_corner k (mapped f g (each_corner h t))) x) (mapped_all-seen h f g k ts)
+
+-- a sheet of a tree where other trees came in the places of references is one of theirs
+mutual
+  pub mapped-sheet : (n : ℕ) (P : Type 0) (f : Corner → Term Corner) (g : Corner → Corner → Term Corner) → ((c : Corner) → HasSheet n (f c) → P) → ((c d : Corner) → HasSheet n (g c d) → P)
+      → (t : Term Corner) → HasSheet n (mapped f g t) → P
+  mapped-sheet n P f g i j (number m) h = absurd h
+  mapped-sheet n P f g i j (text w) h = absurd h
+  mapped-sheet n P f g i j (truth b) h = absurd h
+  mapped-sheet n P f g i j (fault k) h = absurd h
+  mapped-sheet n P f g i j (cell c) h = i c h
+  mapped-sheet n P f g i j (area c d) h = j c d h
+  mapped-sheet n P f g i j (name w) h = absurd h
+  mapped-sheet n P f g i j (prefix s t) h = mapped-sheet n P f g i j t h
+  mapped-sheet n P f g i j (percent t) h = mapped-sheet n P f g i j t h
+  mapped-sheet n P f g i j (binary o l r) (inl h) = mapped-sheet n P f g i j l h
+  mapped-sheet n P f g i j (binary o l r) (inr h) = mapped-sheet n P f g i j r h
+  mapped-sheet n P f g i j (call w ts) h = mapped_all-sheet n P f g i j ts h
+  mapped-sheet n P f g i j (paren t) h = mapped-sheet n P f g i j t h
+
+  mapped_all-sheet : (n : ℕ) (P : Type 0) (f : Corner → Term Corner) (g : Corner → Corner → Term Corner) → ((c : Corner) → HasSheet n (f c) → P) → ((c d : Corner) → HasSheet n (g c d) → P)
+      → (ts : Terms Corner) → SomeHasSheet n (mapped_all f g ts) → P
+  mapped_all-sheet n P f g i j no_terms h = absurd h
+  mapped_all-sheet n P f g i j (term t ts) (inl h) = mapped-sheet n P f g i j t h
+  mapped_all-sheet n P f g i j (term t ts) (inr h) = mapped_all-sheet n P f g i j ts h

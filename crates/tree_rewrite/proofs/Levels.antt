@@ -15,7 +15,7 @@ use Rattle.tree_rewrite.specs.References.{EachReference, EachReferenceOfAll, IsR
 use Rattle.tree_rewrite.specs.Rewritten.{cell_at, area_at, rewritten}
 use Rattle.tree_rewrite.specs.declared.direction.Direction.{Direction}
 use Rattle.tree_rewrite.specs.declared.direction.Direction.TheVariants.{Forward}
-use Rattle.tree_rewrite.specs.internal.Passage.{place_in, block_in, tree_in, all_in}
+use Rattle.tree_rewrite.specs.internal.Passage.{place_in, block_in, tree_in}
 use Rattle.tree_rewrite.proofs.Inside.{place_in-inside, block_in-inside}
 
 depth_of-cell_at : (c : Corner) (r : Option Place) → depth_of (cell_at c r) ≡ 1
@@ -27,7 +27,7 @@ depth_of-area_at c d (Some b) = refl
 depth_of-area_at c d None = refl
 
 mutual
-  depth_of-mapped : {R S : Type 0} (f : R → Term S) (g : R → R → Term S) → ((r : R) → depth_of (f r) ≡ 1) → ((r q : R) → depth_of (g r q) ≡ 1) → (t : Term R) → depth_of (mapped f g t) ≡ depth_of t
+  pub depth_of-mapped : {R S : Type 0} (f : R → Term S) (g : R → R → Term S) → ((r : R) → depth_of (f r) ≡ 1) → ((r q : R) → depth_of (g r q) ≡ 1) → (t : Term R) → depth_of (mapped f g t) ≡ depth_of t
   depth_of-mapped f g h k (number m) = refl
   depth_of-mapped f g h k (text w) = refl
   depth_of-mapped f g h k (truth b) = refl
@@ -56,19 +56,23 @@ level-area_at : (c d : Corner) (r : Option Block) → level (area_at c d r) ≡ 
 level-area_at c d (Some b) = refl
 level-area_at c d None = refl
 
+level-mapped : (f : Corner → Term Corner) (g : Corner → Corner → Term Corner) → ((c : Corner) → level (f c) ≡ atom_level) → ((c d : Corner) → level (g c d) ≡ atom_level) → (t : Term Corner)
+    → level (mapped f g t) ≡ level t
+level-mapped f g h k (number m) = refl
+level-mapped f g h k (text w) = refl
+level-mapped f g h k (truth b) = refl
+level-mapped f g h k (fault e) = refl
+level-mapped f g h k (cell c) = h c
+level-mapped f g h k (area c d) = k c d
+level-mapped f g h k (name w) = refl
+level-mapped f g h k (prefix o t) = refl
+level-mapped f g h k (percent t) = refl
+level-mapped f g h k (binary o l r) = refl
+level-mapped f g h k (call w ts) = refl
+level-mapped f g h k (paren t) = refl
+
 pub level-tree_in : (d : Direction) (s : Shift) (t : Term Corner) → level (tree_in d s t) ≡ level t
-level-tree_in d s (number m) = refl
-level-tree_in d s (text w) = refl
-level-tree_in d s (truth b) = refl
-level-tree_in d s (fault e) = refl
-level-tree_in d s (cell c) = level-cell_at c (place_in d s c.at)
-level-tree_in d s (area c e) = level-area_at c e (block_in d s (block_of c e))
-level-tree_in d s (name w) = refl
-level-tree_in d s (prefix o t) = refl
-level-tree_in d s (percent t) = refl
-level-tree_in d s (binary o l r) = refl
-level-tree_in d s (call w ts) = refl
-level-tree_in d s (paren t) = refl
+level-tree_in d s t = level-mapped _ _ (λ c. level-cell_at c (place_in d s c.at)) (λ c e. level-area_at c e (block_in d s (block_of c e))) t
 
 proper-cell_at : (c : Corner) (r : Option Place) → ((q : Place) → r ≡ Some q → IsInside q) → IsProper (cell_at c r)
 proper-cell_at c (Some q) h = h q refl
@@ -92,31 +96,38 @@ same-level n k m e h = omega arith
 higher-level : (n k m : ℕ) → k ≡ m → n < m → n < k
 higher-level n k m e h = omega arith
 
-mutual
-  pub proper-tree_in : (d : Direction) (s : Shift) (t : Term Corner) → IsSound s → IsProper t → IsProper (tree_in d s t)
-  proper-tree_in d s (number m) sound p = p
-  proper-tree_in d s (text w) sound p = tt
-  proper-tree_in d s (truth b) sound p = tt
-  proper-tree_in d s (fault e) sound p = tt
-  proper-tree_in d s (cell c) sound p = proper-cell_at c (place_in d s c.at) (λ q e. place_in-inside d s c.at q sound p e)
-  proper-tree_in d s (area c e) sound p =
-      proper-area_at c e (block_in d s (block_of c e)) (λ b f. block_in-inside d s (block_of c e) b sound (proper-block c e p.0 p.1 p.2) f)
-  proper-tree_in d s (name w) sound p = p
-  proper-tree_in d s (prefix o t) sound p = (same-level sign_level _ _ (level-tree_in d s t) p.0, proper-tree_in d s t sound p.1)
-  proper-tree_in d s (percent t) sound p = (same-level percent_level _ _ (level-tree_in d s t) p.0, proper-tree_in d s t sound p.1)
-  proper-tree_in d s (binary o l r) sound p = (
-    same-level (level_of o) _ _ (level-tree_in d s l) p.0,
-    higher-level (level_of o) _ _ (level-tree_in d s r) p.1,
-    proper-tree_in d s l sound p.2,
-    proper-tree_in d s r sound p.3,
-  )
-  proper-tree_in d s (call w ts) sound p = (p.0, all_proper-tree_in d s ts sound p.1)
-  proper-tree_in d s (paren t) sound p = proper-tree_in d s t sound p
+-- a proper tree stays proper where its references and blocks become proper trees of the level of atoms
+module _ (f : Corner → Term Corner) (g : Corner → Corner → Term Corner) (h : (c : Corner) → level (f c) ≡ atom_level) (k : (c d : Corner) → level (g c d) ≡ atom_level)
+    (i : (c : Corner) → IsProper (cell c) → IsProper (f c)) (j : (c d : Corner) → IsProper (area c d) → IsProper (g c d)) where
+  mutual
+    pub proper-mapped : (t : Term Corner) → IsProper t → IsProper (mapped f g t)
+    proper-mapped (number m) p = p
+    proper-mapped (text w) p = tt
+    proper-mapped (truth b) p = tt
+    proper-mapped (fault e) p = tt
+    proper-mapped (cell c) p = i c p
+    proper-mapped (area c d) p = j c d p
+    proper-mapped (name w) p = p
+    proper-mapped (prefix o t) p = (same-level sign_level _ _ (level-mapped f g h k t) p.0, proper-mapped t p.1)
+    proper-mapped (percent t) p = (same-level percent_level _ _ (level-mapped f g h k t) p.0, proper-mapped t p.1)
+    proper-mapped (binary o l r) p = (
+      same-level (level_of o) _ _ (level-mapped f g h k l) p.0,
+      higher-level (level_of o) _ _ (level-mapped f g h k r) p.1,
+      proper-mapped l p.2,
+      proper-mapped r p.3,
+    )
+    proper-mapped (call w ts) p = (p.0, all_proper-mapped ts p.1)
+    proper-mapped (paren t) p = proper-mapped t p
 
-  all_proper-tree_in : (d : Direction) (s : Shift) (ts : Terms Corner) → IsSound s → AreProper ts
-      → AreProper (all_in d s ts)
-  all_proper-tree_in d s no_terms sound p = tt
-  all_proper-tree_in d s (term t ts) sound p = (proper-tree_in d s t sound p.0, all_proper-tree_in d s ts sound p.1)
+    all_proper-mapped : (ts : Terms Corner) → AreProper ts → AreProper (mapped_all f g ts)
+    all_proper-mapped no_terms p = tt
+    all_proper-mapped (term t ts) p = (proper-mapped t p.0, all_proper-mapped ts p.1)
+
+pub proper-tree_in : (d : Direction) (s : Shift) (t : Term Corner) → IsSound s → IsProper t → IsProper (tree_in d s t)
+proper-tree_in d s t sound p =
+    proper-mapped _ _ (λ c. level-cell_at c (place_in d s c.at)) (λ c e. level-area_at c e (block_in d s (block_of c e)))
+    (λ c q. proper-cell_at c (place_in d s c.at) (λ x e. place_in-inside d s c.at x sound q e))
+    (λ c e q. proper-area_at c e (block_in d s (block_of c e)) (λ b x. block_in-inside d s (block_of c e) b sound (proper-block c e q.0 q.1 q.2) x)) t p
 
 mutual
   pub proper-fits : (t : Term Corner) → IsProper t → FitsSheets t

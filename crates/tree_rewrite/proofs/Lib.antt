@@ -1,8 +1,10 @@
 pub mod EachReferences
 pub mod Inside
 pub mod Parts
+pub mod Walking
 pub mod Passing
 pub mod Levels
 pub mod OnSheets
 pub mod Returns
+pub mod Pastes
 pub mod CallerLemmas

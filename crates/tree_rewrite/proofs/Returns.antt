@@ -30,7 +30,8 @@ use Rattle.shift_core.proofs.UnbentBlocks.{unbent_returns}
 use Rattle.tree_rewrite.specs.Laws.{IsKept, AreaComesBack, IsCarried}
 use Rattle.tree_rewrite.specs.References.{EachReference, EachReferenceOfAll}
 use Rattle.tree_rewrite.specs.Rewritten.{cell_at, area_at, returned, rewritten, home_by, ComesBack}
-use Rattle.tree_rewrite.specs.internal.Passage.{AllComeBack, all_placed_by, term_of, terms_in}
+use Rattle.tree_rewrite.specs.internal.Passage.{AllComeBack, all_placed_by}
+use Rattle.tree_rewrite.specs.internal.Walk.{term_of, terms_in}
 use Rattle.tree_rewrite.proofs.Levels.{proper-block}
 
 -- a reference that comes back isn't lost

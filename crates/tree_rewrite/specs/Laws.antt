@@ -1,8 +1,10 @@
--- What structural operations do to every tree.
-use Rattle.std.specs.Prelude.{◌≡◌, ◌≢◌, ◌↔◌, ℕ, Some, None, option_and_then}
+-- What structural operations do to every tree, and pastes.
+use Rattle.std.specs.Prelude.{◌≡◌, ◌≢◌, ◌↔◌, ℕ, true, List, Some, None, is_some, option_and_then}
+use Rattle.cell_addr.specs.Sheets.{name_in}
 use Rattle.formula_tree.specs.Level.{level}
 use Rattle.formula_tree.specs.Proper.{IsProper}
-use Rattle.formula_tree.specs.Reference.{IsHomeInside, block_of}
+use Rattle.formula_tree.specs.Reference.{IsHomeInside, block_of, sheet_of}
+use Rattle.formula_tree.specs.StandsFor.{from_home}
 use Rattle.formula_tree.specs.Term.{Term, depth_of}
 use Rattle.formula_tree.specs.declared.reference.Corner.{Corner}
 use Rattle.formula_tree.specs.declared.reference.Home.{Home}
@@ -10,6 +12,7 @@ use Rattle.shift_core.specs.Bent.{IsBent, IsCut}
 use Rattle.shift_core.specs.Sound.{IsSound}
 use Rattle.shift_core.specs.Tables.{place_after, block_after, block_before}
 use Rattle.shift_core.specs.declared.shift.Shift.{Shift}
+use Rattle.tree_rewrite.specs.Pasted.{AreThere, pasted}
 use Rattle.tree_rewrite.specs.References.{EachReference, FitsSheets}
 use Rattle.tree_rewrite.specs.Rewritten.{rewritten, returned, home_after, home_before, ComesBack}
 use Rattle.tree_rewrite.specs.Sheets.{HasSheet, Leads}
@@ -67,3 +70,15 @@ pub record HomesFollow : Type 0 where
   pub inside_before : (s : Shift) (home other : Home) → IsSound s → IsHomeInside home → home_before s home ≡ Some other → IsHomeInside other
   pub come_back : (s : Shift) (home other : Home) → IsSound s → IsHomeInside home → home_after s home ≡ Some other → home_before s other ≡ Some home
   pub go_forth : (s : Shift) (home other : Home) → IsSound s → IsHomeInside home → home_before s home ≡ Some other → home_after s other ≡ Some home
+
+-- of a formula that is pasted in a workbook of these sheets
+pub record PastesWell : Type 0 where
+  -- a proper tree stays proper, of as many levels
+  pub proper : (sheets : List (ℕ × List ℕ)) (from to : Home) (t : Term Corner) → IsProper t → IsProper (pasted sheets from to t)
+  pub depth : (sheets : List (ℕ × List ℕ)) (from to : Home) (t : Term Corner) → depth_of (pasted sheets from to t) ≡ depth_of t
+  -- its sheets are listed, and its references and blocks within the limits
+  pub listed : (sheets : List (ℕ × List ℕ)) (from to : Home) (t : Term Corner) (sheet : ℕ) → HasSheet sheet (pasted sheets from to t) → is_some (name_in sheets sheet) ≡ true
+  pub fits : (sheets : List (ℕ × List ℕ)) (from to : Home) (t : Term Corner) → FitsSheets (pasted sheets from to t)
+  -- as seen from its home it stays as it is where it stays on its sheet and nothing of it is lost or put in order
+  pub stays : (sheets : List (ℕ × List ℕ)) (from to : Home) (t : Term Corner) → sheet_of from ≡ sheet_of to → AreThere sheets from to t
+      → from_home to (pasted sheets from to t) ≡ from_home from t

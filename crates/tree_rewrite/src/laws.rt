@@ -1,6 +1,6 @@
-//! What structural operations do to every tree: laws, with nothing to run.
+//! What structural operations and pastes do to every tree: laws, with nothing to run.
 
-ghost use Rattle.tree_rewrite.specs.Laws.{ProperStays, ProperFits, FitStays, LevelsStay, OthersStay, SheetsFollow, ComesBackByReferences, CarriedComesBack, HomesFollow};
+ghost use Rattle.tree_rewrite.specs.Laws.{ProperStays, ProperFits, FitStays, LevelsStay, OthersStay, SheetsFollow, ComesBackByReferences, CarriedComesBack, HomesFollow, PastesWell};
 
 /// A proper tree stays proper, forward and backward.
 pub fn proper_trees_stay_proper()
@@ -47,4 +47,11 @@ pub fn carried_trees_come_back()
 /// from.
 pub fn homes_follow()
     ensures { HomesFollow }
+{}
+
+/// A proper tree that is pasted stays proper, of as many levels, its sheets are listed, and its references and
+/// blocks within the limits of a sheet. As seen from its home it stays as it is where it stays on its sheet, no
+/// reference is lost, and no corners come out of order.
+pub fn pasted_trees_are_sound()
+    ensures { PastesWell }
 {}

@@ -21,9 +21,12 @@ mod direction;
 pub mod laws;
 mod loss;
 mod passage;
+mod replacement;
 mod rewrite;
 #[cfg(test)]
 mod tests;
+mod walk;
 
 pub use loss::loses;
+pub use replacement::{Replacement, changed_area, changed_cell, replaced};
 pub use rewrite::{backward, forward};

@@ -8,12 +8,11 @@ ghost use Rattle.shift_core.specs.Sound.{IsSound};
 ghost use Rattle.tree_rewrite.specs.Pooled.{HoldsChanged};
 ghost use Rattle.tree_rewrite.specs.References.{FitsSheets};
 ghost use Rattle.tree_rewrite.specs.Rewritten.{rewritten, returned, home_after, home_before};
-ghost use Rattle.formula_tree.specs.Term.{Term};
-ghost use Rattle.formula_tree.specs.declared.reference.Ref.{Ref};
-ghost use Rattle.tree_rewrite.specs.internal.Passage.{Becomes, term_of, tree_in, home_in};
+ghost use Rattle.tree_rewrite.specs.internal.Passage.{tree_in, home_in};
 
 use crate::direction::Direction;
 use crate::passage::Passage;
+use crate::replacement::replaced;
 use formula_tree::{Home, Pool, Tree};
 use shift_core::Shift;
 use std::alloc::{AllocError, Global};
@@ -96,26 +95,11 @@ fn pass(
         unreachable!()
     };
     let passage = Passage {
-        alloc,
         direction,
         shift: *s,
         from: home,
         to,
     };
-    let changed = passage.part(tree)?;
-    let tree = shared_or_kept(pool, changed, tree)?;
+    let tree = replaced(alloc, pool, &passage, tree)?;
     Ok((tree, to))
-}
-
-// The changed tree as the pool shares it, or the old one, which isn't put into the pool.
-fn shared_or_kept(pool: &mut Pool, changed: Option<Tree>, old: &Tree) -> Result<Tree, AllocError>
-    ensures tree { (after : Term Ref) → Becomes term_of changed (term_of old.now) after → IfOk result (λ tree. term_of tree ≡ after) }
-    ensures held { (after : Term Ref) → Becomes term_of changed (term_of old.now) after →
-        IfOk result (λ tree. HoldsChanged (held pool.old) (term_of old.now) after (held pool.new)) }
-    ensures err { OnErr result (held pool.new ≡ held pool.old) }
-{
-    match changed {
-        Some(tree) => pool.share(tree),
-        None => Ok(old.clone()?),
-    }
 }

@@ -1,7 +1,7 @@
 -- That a structural operation can be done has one proof at most.
 use denote.Struct.Props as logic
-use Rattle.std.specs.Prelude.{ℕ, ◌+◌, ◌<◌, ◌⊎◌}
-use Rattle.std.proofs.Common.{◌≡◌, ap, arith, inl, inr}
+use Rattle.std.specs.Prelude.{ℕ, ◌+◌, ◌<◌}
+use Rattle.std.proofs.Common.{ap, arith, inl, inr}
 use Rattle.cell_addr.specs.Axis.{limit_of}
 use Rattle.shift_core.specs.Form.{form_of}
 use Rattle.shift_core.specs.Lines.{IsApart, IsSoundEdit}

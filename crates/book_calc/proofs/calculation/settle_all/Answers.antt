@@ -2,7 +2,6 @@ use Rattle.std.proofs.Common.{subst, cond, drop, get_or, ◌+◌}
 use Rattle.std.proofs.lemmas.List.{drop_all, drop_more}
 use Rattle.cell_value.specs.declared.fault.FaultKind.TheVariants as fault
 use Rattle.cell_value.specs.declared.scalar.Scalar.TheVariants as scalar
-use Rattle.custom_fn.specs.Registry.{customs_of}
 use Rattle.book_values.specs.Values.{worked_out}
 use Rattle.book_calc.specs.Values.{workbook_in, world_in}
 use Rattle.book_calc.specs.internal.Numbers.{node_at}
@@ -13,7 +12,7 @@ use Rattle.book_calc.proofs.calculation.settle_all.Goals as goal
 pub nodes-preserved : goal.nodes-preserved
 nodes-preserved g c =
     let b = workbook_in c.args.values.now in
-    let customs = customs_of c.args.registry.now in
+    let customs = g.C.Customs.customs c.args.customs.now in
     let today = c.args.values.now.day in
     let nodes = c.args.values.now.nodes in
     let order = c.args.order.now in
@@ -27,7 +26,7 @@ nodes-preserved g c =
 pub returns-clause-shown : goal.returns-clause-shown
 returns-clause-shown g c =
     let b = workbook_in c.args.values.now in
-    let customs = customs_of c.args.registry.now in
+    let customs = g.C.Customs.customs c.args.customs.now in
     let today = c.args.values.now.day in
     let nodes = c.args.values.now.nodes in
     let order = c.args.order.now in

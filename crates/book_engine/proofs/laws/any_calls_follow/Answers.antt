@@ -2,4 +2,4 @@ use Rattle.book_engine.proofs.AnyCalls.{follow}
 use Rattle.book_engine.proofs.laws.any_calls_follow.Goals as goal
 
 pub returns : goal.returns
-returns c = follow
+returns g c = follow _ _

@@ -8,5 +8,5 @@ pub build-requires-clause-can : goal.build-requires-clause-can
 build-requires-clause-can g c =
     let cell : BookCell = record { row = 0; col = 0; text = c.in_ok-from_str.field-0 } in
     let short = ap length c.in_ok-from_str.ensures in
-    one_cell (record { name = c.in_ok-from_str-2.field-0; cells = c.push.new.self }) cell c.in_ok-from_str-2.ensures (c.in_ok-push.ensures.ok ∙ ap (λ l. l ++ cell ∷ []) c.in_ok-cells.ensures)
+    one_cell (record { name = c.in_ok-from_str-2.field-0; cells = c.push.new.self.list.items }) cell c.in_ok-from_str-2.ensures (c.in_ok-push.ensures.ok ∙ ap (λ l. l ++ cell ∷ []) c.in_ok-cells.ensures)
     (omega arith, omega arith, omega (arith, short))

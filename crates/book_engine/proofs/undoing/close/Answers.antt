@@ -1,6 +1,6 @@
 use Rattle.std.proofs.Common.{◌≡◌, sym, subst, arith, ◌==◌, length, List, [], ◌∷◌}
 use Rattle.std.proofs.lemmas.Bool.Decides.{nat_tests}
-use Rattle.std.specs.Prelude.{vec_len, false}
+use Rattle.std.specs.Prelude.{false}
 use Rattle.undo_book.specs.History.{History}
 use Rattle.book_engine.specs.declared.history.Entry.{Entry}
 use Rattle.book_engine.specs.declared.history.Part.{Part}

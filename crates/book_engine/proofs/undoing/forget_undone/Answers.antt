@@ -1,4 +1,4 @@
-use Rattle.std.proofs.Common.{◌≡◌, ◌∙◌, sym, ap, refl, arith, length, ◌-◌, ◌<◌, ℕ, List, [], ◌∷◌, Option, Some, None, Bool, true, false, is_some}
+use Rattle.std.proofs.Common.{◌≡◌, ◌∙◌, sym, ap, refl, arith, length, ◌-◌, ◌<◌, List, [], ◌∷◌, Option, Some, None, true, false, is_some}
 use Rattle.std.specs.Option.{option_to_list}
 use Rattle.std.proofs.lemmas.List.{length-take, length-drop}
 use Rattle.undo_book.specs.History.{all_but_last, last_of}

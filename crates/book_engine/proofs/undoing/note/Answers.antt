@@ -1,4 +1,4 @@
-use Rattle.std.proofs.Common.{◌≡◌, refl, subst, sym, Some}
+use Rattle.std.proofs.Common.{refl, subst, sym, Some}
 use Rattle.book_engine.specs.declared.parts.Changes.{Changes}
 use Rattle.book_engine.specs.internal.Noted.{Notes}
 use Rattle.book_engine.proofs.undoing.note.Goals as goal

@@ -1,4 +1,4 @@
-use Rattle.std.proofs.Common.{◌≡◌, ap, refl}
+use Rattle.std.proofs.Common.{ap, refl}
 use Rattle.book_engine.specs.declared.history.Entry.TheVariants as entry
 use Rattle.book_engine.proofs.undoing.push.Goals as goal
 

@@ -1,4 +1,4 @@
-use Rattle.std.proofs.Common.{◌≡◌, ◌∙◌, ap, subst, ◌++◌, ◌∷◌, []}
+use Rattle.std.proofs.Common.{◌∙◌, ap, subst, ◌++◌, ◌∷◌, []}
 use Rattle.book_engine.specs.internal.Noted.{Adds}
 use Rattle.book_engine.proofs.undoing.push_step.Goals as goal
 

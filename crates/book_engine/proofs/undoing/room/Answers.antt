@@ -1,4 +1,4 @@
-use Rattle.std.proofs.Common.{◌≡◌, ◌∙◌, sym, ap, refl, subst, Some}
+use Rattle.std.proofs.Common.{◌∙◌, sym, refl, subst, Some}
 use Rattle.book_engine.specs.internal.Noted.{SameBatch}
 use Rattle.book_engine.proofs.undoing.room.Goals as goal
 use Rattle.book_engine.proofs.undoing.room.Goals.{in-Some+in_ok-reserve-in-Some, in-None+in_ok-reserve-in-None}

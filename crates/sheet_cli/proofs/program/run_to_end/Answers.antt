@@ -1,7 +1,25 @@
--- A script that is too long was read up to one byte after the limit.
-use Rattle.std.proofs.Common.{ap, Err}
-use Rattle.sheet_cli.proofs.Outcomes.{was_read-too_long}
+-- What words mean decides what a run is told to print.
+use Rattle.std.proofs.Common.{◌∙◌, sym, ap, Some, None, Option, map}
+use Rattle.std.specs.Prelude.{ℤ, string_bytes, ◌⊎◌}
+use Rattle.std.proofs.lemmas.Int.{to_z-of_z}
+use Rattle.book_files.specs.Outside.{Rose}
+use Rattle.command_words.specs.Words.{Said, meaning, seen}
+use Rattle.run_inputs.specs.Opening.{told_by}
+use Rattle.sheet_cli.specs.Run.{outcome, outcome_meant, usage}
+use Rattle.sheet_cli.proofs.Endings.{printed_runs, runs_alike}
 use Rattle.sheet_cli.proofs.program.run_to_end.Goals as goal
 
-pub returns-in_ok-print-in-Err-TooLong-clause-source : goal.returns-in_ok-print-in-Err-TooLong-clause-source
-returns-in_ok-print-in-Err-TooLong-clause-source g c = was_read-too_long _ _ (c.in-Err-TooLong.ensures.too_long (ap Err c.in-Err-TooLong.field-0-is))
+pub returns-in-Ok-clause-runs : goal.returns-in-Ok-clause-runs
+returns-in-Ok-clause-runs g c =
+    let customs = g.C.Customs.customs c.args.registry in
+    let said = seen c.in-Ok.said in
+    let runs = rw (to_z-of_z _ _ c.ranges.day) at c.run_said.ensures.runs in
+    runs_alike (told_by (g.F.Folder.files c.args.folder.now) (g.I.Source.left c.args.input.now)) (outcome customs c.args.day (map string_bytes c.args.words.now)) (outcome_meant customs c.args.day (Some said)) _ _ _ _
+    (λ t. ap (λ (m : Option Said). outcome_meant customs c.args.day m t) c.in-Ok.ensures.answers) runs
+
+pub returns-in-Err-Usage-clause-runs : goal.returns-in-Err-Usage-clause-runs
+returns-in-Err-Usage-clause-runs g c =
+    let customs = g.C.Customs.customs c.args.registry in
+    let none = rw c.in-Err-Usage.field-0-is at c.in-Err-Usage.ensures.answers in
+    printed_runs (told_by (g.F.Folder.files c.args.folder.now) (g.I.Source.left c.args.input.now)) (outcome customs c.args.day (map string_bytes c.args.words.now)) _ usage _ _ _
+    (λ t is. ap (λ (m : Option Said). outcome_meant customs c.args.day m t) none) c.print_end.ensures.printed

@@ -6,7 +6,8 @@ use Rattle.formula_tree.specs.StandsFor.{at_home}
 use Rattle.formula_tree.specs.Term.{each_corner_all}
 use Rattle.formula_tree.proofs.RelativeNodes.{relative_list-trees}
 use Rattle.tree_rewrite.specs.Rewritten.{ComesBack}
-use Rattle.tree_rewrite.specs.internal.Passage.{AllComeBack, term_of, terms_in}
+use Rattle.tree_rewrite.specs.internal.Passage.{AllComeBack}
+use Rattle.tree_rewrite.specs.internal.Walk.{term_of, terms_in}
 use Rattle.tree_rewrite.proofs.Returns.{all_at, comes-on, comes-not}
 use Rattle.tree_rewrite.proofs.loss.+comes_back.Goals as goal
 

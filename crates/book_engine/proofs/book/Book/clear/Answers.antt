@@ -1,13 +1,12 @@
-use Rattle.std.proofs.Common.{◌≡◌, ◌∙◌, sym, ap, subst, refl, arith, rules, length, drop, get_or, ◌+◌, ◌∷◌}
+use Rattle.std.proofs.Common.{◌∙◌, sym, ap, subst, refl, arith, length, drop, ◌+◌, ◌∷◌}
 use Rattle.std.specs.Prelude.{slice_index_or}
 use Rattle.std.proofs.lemmas.List.{drop_more, drop_all}
-use Rattle.cell_addr.specs.Place.{IsInside, covers}
+use Rattle.cell_addr.specs.Place.{IsInside}
 use Rattle.grid_store.specs.Grid.{cells_of, within}
-use Rattle.std.specs.FinMap as fin
 use Rattle.book_engine.specs.Formulas.{numbered}
 use Rattle.book_engine.specs.Steps.{cells_undone}
 use Rattle.book_engine.specs.Stored.{book_of, stored}
-use Rattle.book_engine.specs.internal.Cells.{with_cells, with_content_at, with_emptied}
+use Rattle.book_engine.specs.internal.Cells.{with_cells, with_emptied}
 use Rattle.book_engine.proofs.Emptying.{emptied_block, entries_inside, within_inside}
 use Rattle.book_engine.proofs.Exchanges.{one_more}
 use Rattle.book_engine.proofs.ShiftedContents.{cells_inside}

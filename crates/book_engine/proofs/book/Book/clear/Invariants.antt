@@ -1,6 +1,5 @@
 use Rattle.std.proofs.Common.{◌≡◌, ◌≤◌, ◌+◌, drop}
 use Rattle.std.specs.Prelude.{vec_len, vec_capacity, length}
-use Rattle.name_table.specs.Listed.{listed}
 use Rattle.book_engine.specs.Steps.{cells_undone}
 use Rattle.book_engine.specs.Stored.{Stand, book_of, stored}
 use Rattle.book_engine.specs.internal.Cells.{with_cells, with_emptied}

@@ -1,7 +1,8 @@
-use Rattle.std.proofs.Common.{◌≡◌, ◌∙◌, sym, ap, subst, Some, None}
+use Rattle.std.proofs.Common.{◌∙◌, sym, subst, None}
 use Rattle.std.specs.FinMap as fin
 use Rattle.grid_store.specs.Grid.{cells_of}
 use Rattle.name_table.specs.Listed.{listed}
+use Rattle.book_engine.specs.Expressions.{names_in}
 use Rattle.book_engine.specs.Formulas.{numbered}
 use Rattle.book_engine.specs.Stored.{AllStand}
 use Rattle.book_engine.proofs.Contents.{Releases, contents-remove, releases_agree, stand-remove}
@@ -19,12 +20,12 @@ returns-clause-contents c =
     let one = numbered c.args.self.now.formulas in
     let two = numbered c.release-before.new.formulas in
     let cells = cells_of c.args.self.now.grid in
-    same_book (listed c.args.self.now.names) two (cells_of c.take-cell.new.self) _ (fin.remove cells c.args.at) c.take-cell.ensures.taken
+    same_book (listed c.args.self.now.names) (names_in c.args.self.now.expressions) two (cells_of c.take-cell.new.self) _ (fin.remove cells c.args.at) c.take-cell.ensures.taken
     (contents-remove one two cells c.args.at (releases_agree one two cells c.args.at c.requires.stand (released c)))
 
 pub returns-clause-back : goal.returns-clause-back
 returns-clause-back c =
-    plain_back (numbered c.args.self.now.formulas) (numbered c.release-before.new.formulas) (cells_of c.args.self.now.grid) (cells_of c.take-cell.new.self) (listed c.args.self.now.names) c.args.at c.release-before.result None
+    plain_back (numbered c.args.self.now.formulas) (numbered c.release-before.new.formulas) (cells_of c.args.self.now.grid) (cells_of c.take-cell.new.self) (listed c.args.self.now.names) (names_in c.args.self.now.expressions) c.args.at c.release-before.result None
     (c.release-before.ensures.cell ∙ c.take-cell.ensures.before) c.release-before.ensures.held tt (released c) c.take-cell.ensures.taken
 
 pub returns-clause-stand : goal.returns-clause-stand

@@ -1,4 +1,4 @@
-use Rattle.std.proofs.Common.{◌≡◌, ◌∙◌, ap, refl}
+use Rattle.std.proofs.Common.{◌∙◌, ap, refl}
 use Rattle.std.specs.FinMap as fin
 use Rattle.grid_store.specs.Grid.{cells_of}
 use Rattle.book_engine.specs.Formulas.{numbered}
@@ -14,4 +14,4 @@ returns c =
     (λ n.
     c.in_ok-keep.ensures n
     ∙ with_released c.args.to.now (numbered c.take_out.new.formulas) (released (fin.get cells c.args.at) one) n (c.take_out.ensures n ∙ ap (λ r. released r one n) c.cell.ensures))
-    c.in_ok-fill.ensures refl
+    c.in_ok-fill.ensures refl refl

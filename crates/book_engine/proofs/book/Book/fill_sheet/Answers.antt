@@ -1,5 +1,5 @@
-use Rattle.std.proofs.Common.{◌≡◌, ◌∙◌, ◌-◌, ◌+◌, ◌<◌, sym, ap, arith, length}
-use Rattle.book_engine.specs.Stored.{Stand, book_of, stored}
+use Rattle.std.proofs.Common.{◌≡◌, ◌∙◌, ◌-◌, ◌+◌, sym, ap, arith}
+use Rattle.book_engine.specs.Stored.{book_of, stored}
 use Rattle.book_engine.proofs.GivenBooks.{given_from, given_none, given_one}
 use Rattle.book_engine.proofs.book.Book.fill_sheet.Goals as goal
 

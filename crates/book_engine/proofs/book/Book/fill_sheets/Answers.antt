@@ -1,10 +1,18 @@
-use Rattle.std.proofs.Common.{◌≡◌, ◌∙◌, ◌-◌, ◌+◌, ◌<◌, sym, ap, arith, length}
+use Rattle.std.proofs.Common.{◌≡◌, ◌∙◌, ◌-◌, ◌+◌, ◌<◌, sym, ap, subst, arith, length}
+use Rattle.std.specs.List.{All}
+use Rattle.book_model.specs.Given.{IsGivenCell}
 use Rattle.book_engine.specs.Stored.{Stand, book_of, stored}
-use Rattle.book_engine.proofs.GivenBooks.{sheets_given_from, sheets_given_none, sheets_given_one}
+use Rattle.book_engine.proofs.GivenBooks.{given_cells, sheets_given_from, sheets_given_none, sheets_given_one}
 use Rattle.book_engine.proofs.book.Book.fill_sheets.Goals as goal
 
 pub loop-number-init : goal.loop-number-init
 loop-number-init c = record { book = sheets_given_none c.args.books.now (book_of (stored c.args.self.now)); stand = c.requires.stand }
+
+pub fill_sheet-requires-clause-cells : goal.fill_sheet-requires-clause-cells
+fill_sheet-requires-clause-cells c =
+    let b = c.index-books-number.result in
+    subst (All IsGivenCell) (sym (c.items.ensures ∙ ap (λ b. b.cells.list.items) (sym c.index-books-number.is)))
+    (given_cells c.args.books.now (c.loop-number.number - 1) b c.requires.can (omega (arith, c.loop-number-test.true, c.loop-number.auto.number)) c.index-books-number.is)
 
 pub fill_sheet-requires-clause-stand : goal.fill_sheet-requires-clause-stand
 fill_sheet-requires-clause-stand c = c.loop-number.invariant.stand

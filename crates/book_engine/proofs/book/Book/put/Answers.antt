@@ -1,7 +1,8 @@
-use Rattle.std.proofs.Common.{◌≡◌, ◌∙◌, sym, ap, subst, Some, None}
+use Rattle.std.proofs.Common.{◌∙◌, sym, subst, Some}
 use Rattle.std.specs.FinMap as fin
 use Rattle.grid_store.specs.Grid.{cells_of}
 use Rattle.name_table.specs.Listed.{listed}
+use Rattle.book_engine.specs.Expressions.{names_in}
 use Rattle.book_engine.specs.Formulas.{numbered}
 use Rattle.book_engine.specs.Stored.{AllStand, content_of}
 use Rattle.book_engine.proofs.Contents.{Releases, content_plain, contents-insert, releases_agree, stand-insert}
@@ -19,12 +20,12 @@ returns-clause-ok c =
     let one = numbered c.args.self.now.formulas in
     let two = numbered c.release-before.new.formulas in
     let cells = cells_of c.args.self.now.grid in
-    same_book (listed c.args.self.now.names) two (cells_of c.put.new.self) _ (fin.insert cells c.args.at c.args.cell) c.in_ok-cell.ensures.ok
+    same_book (listed c.args.self.now.names) (names_in c.args.self.now.expressions) two (cells_of c.put.new.self) _ (fin.insert cells c.args.at c.args.cell) c.in_ok-cell.ensures.ok
     (contents-insert one two cells c.args.at c.args.cell (content_of one c.args.cell) (releases_agree one two cells c.args.at c.requires.stand (released c)) (content_plain one two c.args.cell c.requires.plain))
 
 pub returns-clause-back : goal.returns-clause-back
 returns-clause-back c =
-    plain_back (numbered c.args.self.now.formulas) (numbered c.release-before.new.formulas) (cells_of c.args.self.now.grid) (cells_of c.put.new.self) (listed c.args.self.now.names) c.args.at c.release-before.result (Some c.args.cell)
+    plain_back (numbered c.args.self.now.formulas) (numbered c.release-before.new.formulas) (cells_of c.args.self.now.grid) (cells_of c.put.new.self) (listed c.args.self.now.names) (names_in c.args.self.now.expressions) c.args.at c.release-before.result (Some c.args.cell)
     (c.release-before.ensures.cell ∙ c.in_ok-cell.ensures.before) c.release-before.ensures.held c.requires.plain (released c) c.in_ok-cell.ensures.ok
 
 pub returns-clause-stand : goal.returns-clause-stand

@@ -1,10 +1,11 @@
-use Rattle.std.proofs.Common.{◌≡◌, ◌∙◌, sym, ap, subst, Some, None}
+use Rattle.std.proofs.Common.{◌∙◌, sym, ap, subst}
 use Rattle.std.specs.FinMap as fin
 use Rattle.grid_store.specs.Grid.{cells_of}
 use Rattle.grid_store.specs.declared.cell.Cell.TheVariants as cell
 use Rattle.name_table.specs.Listed.{listed}
 use Rattle.cell_values.specs.Workbook.{formula}
 use Rattle.book_engine.specs.Formula.{tree_at}
+use Rattle.book_engine.specs.Expressions.{names_in}
 use Rattle.book_engine.specs.Formulas.{numbered, stood}
 use Rattle.book_engine.specs.Stored.{AllStand, StandsAt, tree_of}
 use Rattle.book_engine.proofs.Contents.{Releases, arrives_agree, arrives_stays, contents-insert, same_number, stand-insert, stands_at}
@@ -29,7 +30,7 @@ returns-in-Ok-clause-ok c =
     let n = c.in_ok-number.number in
     let agree = arrives_agree one two three cells f.at n (stood f) c.requires c.in_ok-number.ensures.vacant c.in_ok-number.ensures.ok (released c) in
     let stays = arrives_stays one two three cells f.at n (stood f) c.requires c.in_ok-number.ensures.vacant c.in_ok-number.ensures.ok (released c) in
-    same_book (listed c.args.self.now.names) three (cells_of c.put.new.self) _ (fin.insert cells f.at (cell.Formula n)) c.in-Ok.ensures.ok
+    same_book (listed c.args.self.now.names) (names_in c.args.self.now.expressions) three (cells_of c.put.new.self) _ (fin.insert cells f.at (cell.Formula n)) c.in-Ok.ensures.ok
     (contents-insert one three cells f.at (cell.Formula n) (formula (tree_at f.at f.tree)) agree (ap (λ r. formula (tree_of r)) stays))
 
 pub returns-in-Ok-clause-back : goal.returns-in-Ok-clause-back
@@ -40,7 +41,7 @@ returns-in-Ok-clause-back c =
     let f = c.args.formula in
     let n = c.in_ok-number.number in
     let here = c.release-before.ensures.cell ∙ c.in-Ok.ensures.before in
-    formula_back one two (numbered c.release-before.new.formulas) cells (cells_of c.put.new.self) (listed c.args.self.now.names) f.at c.release-before.result n (stood f)
+    formula_back one two (numbered c.release-before.new.formulas) cells (cells_of c.put.new.self) (listed c.args.self.now.names) (names_in c.args.self.now.expressions) f.at c.release-before.result n (stood f)
     here (held_before c.release-before.result one two cells f.at n (stood f) c.requires c.in_ok-number.ensures.vacant c.in_ok-number.ensures.ok here c.release-before.ensures.held)
     c.in_ok-number.ensures.vacant c.in_ok-number.ensures.ok (released c) c.in-Ok.ensures.ok
 

@@ -1,8 +1,7 @@
-use Rattle.std.proofs.Common.{◌≡◌, ◌∙◌, sym, ap, subst, arith, refl, length, take}
-use Rattle.std.specs.FinMap as fin
+use Rattle.std.proofs.Common.{◌∙◌, ap, arith, refl}
 use Rattle.std.proofs.lemmas.List.{take_all}
 use Rattle.name_table.specs.Listed.{listed}
-use Rattle.book_engine.specs.Stored.{Stand, book_of, stored}
+use Rattle.book_engine.specs.Stored.{book_of, stored}
 use Rattle.book_engine.proofs.Contents.{contents_none, stands_nothing}
 use Rattle.book_engine.proofs.GivenBooks.{can_join_given, empty_workbook, joined}
 use Rattle.book_engine.proofs.book.Book.with_sheets.Goals as goal
@@ -12,8 +11,9 @@ loop-number-init c =
     let k = stored c.in_ok-book.book in
     let cells = ap (λ z. z.cells) c.in_ok-book.ensures in
     let sheets = ap (λ z. z.sheets) c.in_ok-book.ensures in
+    let names = ap (λ z. z.names) c.in_ok-book.ensures in
     let contents = contents_none k.stands k.cells cells in
-    record { book = λ i. record { sheets = sheets i; cells = contents i }; stand = stands_nothing k.stands k.cells cells }
+    record { book = λ i. record { sheets = sheets i; cells = contents i; names = names i }; stand = stands_nothing k.stands k.cells cells }
 
 pub join-requires : goal.join-requires
 join-requires c =

@@ -1,13 +1,11 @@
-use Rattle.std.proofs.Common.{◌≡◌, ◌∙◌, sym, ap, subst, Some, option_map}
+use Rattle.std.proofs.Common.{◌∙◌, sym, ap, subst, option_map}
 use Rattle.std.proofs.lemmas.Option.{same_Some}
-use Rattle.cell_addr.specs.declared.place.Place.{Place}
 use Rattle.formula_tree.specs.Proper.{IsProper}
 use Rattle.formula_tree.specs.Relative.{relative}
 use Rattle.formula_tree.specs.StandsFor.{at_home}
 use Rattle.formula_tree.specs.declared.reference.Home.TheVariants as homes
 use Rattle.shift_core.specs.Form.{form_of}
 use Rattle.shift_core.proofs.PlaceLaws.{place_moved_inside}
-use Rattle.tree_rewrite.specs.Rewritten.{rewritten}
 use Rattle.tree_rewrite.proofs.CallerLemmas.{proper-fit}
 use Rattle.tree_rewrite.proofs.Levels.{rewritten-proper}
 use Rattle.book_engine.specs.Formula.{tree_at}

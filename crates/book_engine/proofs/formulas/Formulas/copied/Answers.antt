@@ -1,4 +1,4 @@
-use Rattle.std.proofs.Common.{◌≡◌, ◌∙◌, ap, arith, map, option_map}
+use Rattle.std.proofs.Common.{◌∙◌, ap, arith, map, option_map}
 use Rattle.std.proofs.lemmas.List.{take_all}
 use Rattle.book_engine.specs.Formulas.{stood}
 use Rattle.book_engine.proofs.formulas.Formulas.copied.Goals as goal

@@ -1,4 +1,4 @@
-use Rattle.std.proofs.Common.{◌≡◌, ◌∙◌, ◌<◌, ◌==◌, arith, ap, cond, length, option_map, Some}
+use Rattle.std.proofs.Common.{◌∙◌, ◌<◌, ◌==◌, arith, ap, cond, length, option_map, Some}
 use Rattle.book_model.proofs.Counts.{length-map}
 use Rattle.book_engine.specs.Formulas.{stood}
 use Rattle.book_engine.proofs.Slots.{under-set}

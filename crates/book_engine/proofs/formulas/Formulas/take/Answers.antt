@@ -1,4 +1,4 @@
-use Rattle.std.proofs.Common.{◌≡◌, ◌∙◌, ◌<◌, ◌==◌, arith, ap, cond, option_map, length}
+use Rattle.std.proofs.Common.{◌∙◌, ◌<◌, ◌==◌, arith, ap, cond, option_map, length}
 use Rattle.book_engine.specs.Formulas.{stood}
 use Rattle.book_engine.proofs.Slots.{under, under-set}
 use Rattle.book_engine.proofs.formulas.Formulas.take.Goals as goal

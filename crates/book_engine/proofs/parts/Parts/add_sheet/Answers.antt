@@ -1,4 +1,4 @@
-use Rattle.std.proofs.Common.{◌≡◌, ◌∙◌, ◌+◌, sym, ap, subst, refl, rules}
+use Rattle.std.proofs.Common.{◌∙◌, ◌+◌, sym, ap, subst, refl, rules}
 use Rattle.book_model.specs.Operation as op
 use Rattle.book_model.specs.Session.{changed}
 use Rattle.book_model.specs.Sound.{IsSound}

@@ -1,4 +1,4 @@
-use Rattle.std.proofs.Common.{◌≡◌, sym, subst}
+use Rattle.std.proofs.Common.{sym, subst}
 use Rattle.cell_addr.specs.Axis.{limit_of}
 use Rattle.shift_core.specs.declared.edit.Edit.TheVariants.{Delete, Move}
 use Rattle.shift_core.specs.declared.form.Form.TheVariants.{Lines}

@@ -1,4 +1,4 @@
-use Rattle.std.proofs.Common.{◌≡◌, ◌∙◌, sym, ap, subst, Bool, true, false, Option, None, Some, is_none, option_map, cond, not}
+use Rattle.std.proofs.Common.{◌≡◌, ◌∙◌, sym, ap, subst, false, Option, None, Some, is_none, option_map, cond, not}
 use Rattle.book_model.proofs.SoundSteps.{next_sound}
 use Rattle.book_model.specs.Operation as op
 use Rattle.book_model.specs.Refusals.{cause}

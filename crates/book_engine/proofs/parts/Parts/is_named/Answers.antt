@@ -1,4 +1,4 @@
-use Rattle.std.proofs.Common.{◌≡◌, ◌∙◌, ap}
+use Rattle.std.proofs.Common.{◌∙◌, ap}
 use Rattle.std.specs.Option.{is_some}
 use Rattle.name_table.specs.Listed.{listed}
 use Rattle.book_engine.proofs.SheetNames.{has-number}

@@ -1,4 +1,4 @@
-use Rattle.std.proofs.Common.{◌≡◌, ◌∙◌, sym, ap}
+use Rattle.std.proofs.Common.{◌∙◌, sym, ap}
 use Rattle.name_table.specs.Listed.{listed}
 use Rattle.book_engine.proofs.SheetNames.{is-taken, is_other}
 use Rattle.book_engine.proofs.parts.Parts.is_taken.Goals as goal

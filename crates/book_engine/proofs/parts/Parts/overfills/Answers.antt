@@ -1,7 +1,6 @@
-use Rattle.std.proofs.Common.{◌≡◌, ◌∙◌, sym, ap, nat_lt}
+use Rattle.std.proofs.Common.{◌∙◌, sym, ap, nat_lt}
 use Rattle.std.specs.FinMap as fin
-use Rattle.name_table.specs.Listed.{listed}
-use Rattle.book_model.specs.Changes.{placed, with_content}
+use Rattle.book_model.specs.Changes.{with_content}
 use Rattle.book_model.specs.Content.{content_given, content_of}
 use Rattle.book_engine.specs.Seen.{state_of}
 use Rattle.book_engine.proofs.FilledCells.{emptied_fits, no_text, overfilled, text_gives}

@@ -1,9 +1,9 @@
-use Rattle.std.proofs.Common.{◌≡◌, ◌∙◌, sym, ap, subst, rules}
+use Rattle.std.proofs.Common.{◌∙◌, sym, ap, subst, rules}
 use Rattle.book_model.specs.Operation as op
 use Rattle.book_model.specs.Session.{changed}
 use Rattle.book_model.specs.Sound.{IsSound}
 use Rattle.book_engine.specs.Seen.{IsKept, session_of, state_of}
-use Rattle.book_engine.specs.Stored.{book_of, stored}
+use Rattle.book_engine.specs.Stored.{stored}
 use Rattle.book_engine.proofs.Changing.{changes, stays}
 use Rattle.book_engine.proofs.SheetNames.{is_free, is_listed}
 use Rattle.book_engine.proofs.parts.Parts.rename_sheet.Goals as goal

@@ -1,4 +1,4 @@
-use Rattle.std.proofs.Common.{◌≡◌, ◌∙◌, sym, ap, Some, length, ◌-◌}
+use Rattle.std.proofs.Common.{◌∙◌, sym, ap, length, ◌-◌}
 use Rattle.std.specs.Prelude.{slice_get}
 use Rattle.undo_book.specs.History.{with_undone}
 use Rattle.book_engine.specs.Stored.{stored}

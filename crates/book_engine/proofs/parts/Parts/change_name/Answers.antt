@@ -1,0 +1,41 @@
+use Rattle.std.proofs.Common.{◌∙◌, sym, ap, not, ◌∷◌, [], List, ℕ, Option}
+use Rattle.std.proofs.lemmas.Result.{err_from_is_err_and}
+use Rattle.book_values.specs.Names.{key_of}
+use Rattle.book_model.specs.Changes.{name_tree, with_name}
+use Rattle.book_model.specs.Operation as op
+use Rattle.book_model.specs.Refusals.{Cause, of_name_text}
+use Rattle.book_model.specs.Session.{changed}
+use Rattle.book_model.specs.Workbook.{State, has_name, has_scope}
+use Rattle.book_model.specs.declared.refusal.Refusal.TheVariants as refusals
+use Rattle.book_engine.specs.Engine.{NoAnswer}
+use Rattle.book_engine.specs.Seen.{state_of}
+use Rattle.book_engine.proofs.Causes.{behind, front, reads_turn}
+use Rattle.book_engine.proofs.Turning.{done_sound, next_refused}
+use Rattle.book_engine.proofs.parts.Parts.change_name.Goals as goal
+
+-- what is tested before the text
+abbrev first : State → List ℕ → Option ℕ → List Cause
+first d name scope = (not (has_scope d.book scope), refusals.NoSheet) ∷ (not (has_name d.book (key_of scope name)), refusals.NoSuchName) ∷ []
+
+pub returns-in_err-check_known_name-clause-turns : goal.returns-in_err-check_known_name-clause-turns
+returns-in_err-check_known_name-clause-turns c =
+    let d = state_of c.args.self.now in
+    let some = front (first d c.args.name.now c.args.scope) (of_name_text c.args.text.now (name_tree c.args.scope c.args.text.now d.book)) _ c.in_err-check_known_name.ensures in
+    let p = err_from_is_err_and c.from_residual.result c.from_residual.ensures.1 in
+    rw (p.1, p.2) (some, next_refused (op.change_name c.args.name.now c.args.scope c.args.text.now) d _ some)
+
+pub returns-in_err-tree-clause-turns : goal.returns-in_err-tree-clause-turns
+returns-in_err-tree-clause-turns c =
+    let d = state_of c.args.self.now in
+    let causes = of_name_text c.args.text.now (name_tree c.args.scope c.args.text.now d.book) in
+    let p = err_from_is_err_and c.from_residual-in_err-tree.result c.from_residual-in_err-tree.ensures.1 in
+    let turned = reads_turn {X = Unit {0}} {Y = Unit {0}} (op.change_name c.args.name.now c.args.scope c.args.text.now) d causes (λ x. Unit {0}) NoAnswer _ (behind (first d c.args.name.now c.args.scope) causes c.in_ok-check_known_name.ensures) c.in_err-tree.ensures in
+    rw (p.1, p.2) turned
+
+pub returns-clause-fits : goal.returns-clause-fits
+returns-clause-fits c =
+    let d = state_of c.args.self.now in
+    let causes = of_name_text c.args.text.now (name_tree c.args.scope c.args.text.now d.book) in
+    let none = behind (first d c.args.name.now c.args.scope) causes c.in_ok-check_known_name.ensures ∙ c.in_ok-tree.ensures.0 in
+    let same = c.in_ok-name.ensures.ok ∙ ap (λ o. changed (with_name (key_of c.args.scope c.args.name.now) o d.book) d) (sym c.in_ok-tree.ensures.1.0) in
+    (done_sound (op.change_name c.args.name.now c.args.scope c.args.text.now) d _ none same c.requires.0, c.in_ok-name.ensures.kept)

@@ -1,0 +1,28 @@
+-- Cells that were copied, and wait to be pasted. Source: this project's own.
+use Rattle.std.specs.Prelude.{List, None, map}
+use Rattle.std.specs.FinMap as fin
+use Rattle.cell_addr.specs.Place.{IsInside}
+use Rattle.cell_addr.specs.declared.place.Place.{Place}
+use Rattle.cell_values.specs.Workbook.{Book as Contents, Content, formula}
+use Rattle.clip_board.specs.declared.clip.CopyItem.{CopyItem}
+use Rattle.clip_board.specs.declared.clip.CopyItem.TheVariants as item
+use Rattle.book_engine.specs.Formula.{IsFormula, tree_at}
+use Rattle.book_engine.specs.Stored.{content_of}
+use Rattle.book_engine.specs.internal.Cells.{IsPlain}
+
+-- what a cell held at its place when it was copied
+abbrev pub content_copied : Place → CopyItem → Content
+content_copied at (item.Formula tree) = formula (tree_at at tree)
+content_copied at (item.Kept cell) = content_of (λ n. None) cell
+
+abbrev pub entry_copied : Place × CopyItem → Place × Content
+entry_copied e = (e.0, content_copied e.0 e.1)
+
+-- what copied cells held
+abbrev pub contents_copied : List (Place × CopyItem) → Contents
+contents_copied items = fin.from_entries (map entry_copied items)
+
+-- a copied cell is one within the limits of a sheet, and its formula one of the cell
+abbrev pub IsCopied : Place × CopyItem → Type 0
+IsCopied (at, item.Formula tree) = IsFormula at (tree_at at tree)
+IsCopied (at, item.Kept cell) = IsInside at × IsPlain cell

@@ -1,0 +1,4 @@
+pub mod Outcome
+pub mod Opening
+pub mod Ends
+pub mod internal

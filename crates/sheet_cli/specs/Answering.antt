@@ -1,0 +1,75 @@
+-- What a run prints of its commands: a line for each, or a summary of all. Source: this project's own.
+use Rattle.std.specs.Prelude.{ℕ, ◌+◌, ◌&&◌, if◌then◌else◌, Bool, List, [], ◌∷◌, ◌++◌, length, filter, Option, Some, None, Result, Ok, Err, is_some, codes}
+use Rattle.std.specs.Fmt.{decimal}
+use Rattle.book_model.specs.Refusals.{cause}
+use Rattle.book_model.specs.Replies.{line_of, next_state, operation_of, reply}
+use Rattle.book_model.specs.Workbook.{State}
+use Rattle.book_model.specs.declared.command.Command.{Command}
+use Rattle.script_lang.specs.Command.{command_of}
+use Rattle.script_lang.specs.declared.error.ScriptError.{ScriptError}
+use Rattle.script_lang.specs.declared.error.ScriptError.TheVariants.{UnknownCommand, FieldCount, BadField, NoMemory}
+use Rattle.run_inputs.specs.Outcome.{Outcome, ended, followed_by}
+
+-- why a record is no command, as a run says it
+abbrev pub cause_text : ScriptError → List ℕ
+cause_text UnknownCommand = codes "unknown command"
+cause_text FieldCount = codes "field count"
+cause_text (BadField j) = codes "bad field " ++ decimal j
+cause_text NoMemory = codes "out of memory"
+
+-- what a run says of a record that is no command; records are counted from 1
+abbrev pub record_text : ℕ → ScriptError → List ℕ
+record_text k e = (codes "record " ++ decimal k ++ codes ": ") ++ cause_text e
+
+-- the command is refused in the session
+abbrev pub is_refused : State → Command → Bool
+is_refused d c = is_some (cause (operation_of d.book c) d)
+
+-- a command: its reply, and then the rest of the run; where a refusal ends the run, a refused command is its last
+abbrev pub command_outcome : Bool → State → Command → (State → Outcome) → Outcome
+command_outcome strict d c rest = if strict && is_refused d c then (reply c d, 1) else followed_by (reply c d) (rest (next_state c d))
+
+-- a record: what its command does, or the end of the run where it is none
+abbrev pub record_outcome : Bool → State → ℕ → Result Command ScriptError → (State → Outcome) → Outcome
+record_outcome strict d k (Ok c) rest = command_outcome strict d c rest
+record_outcome strict d k (Err e) rest = ended 3 (record_text k e)
+
+-- the records from number k on, in a session; the end of the script ends a run with status 0
+unfoldable pub outcome_from : Bool → State → ℕ → List (List (List ℕ)) → Outcome
+outcome_from strict d k [] = ([], 0)
+outcome_from strict d k (fields ∷ rest) = record_outcome strict d k (command_of fields) (λ after. outcome_from strict after (k + 1) rest)
+
+-- the line that answers a command, and whether that is a refusal
+pub record Answered : Type 0 where
+  pub line : List ℕ
+  pub refused : Bool
+
+-- what answers each of some commands, from a session on
+unfoldable pub answers_from : State → List Command → List Answered
+answers_from d [] = []
+answers_from d (c ∷ cs) = (record { line = reply c d; refused = is_refused d c }) ∷ answers_from (next_state c d) cs
+
+-- the first refusal
+abbrev pub first_refusal : List Answered → Option (List ℕ)
+first_refusal [] = None
+first_refusal (a ∷ rest) = if a.refused then Some a.line else first_refusal rest
+
+-- how many bytes the lines have
+abbrev pub bytes_of : List Answered → ℕ
+bytes_of [] = 0
+bytes_of (a ∷ rest) = length a.line + bytes_of rest
+
+-- how many commands there were, how many of them were refused, and how many bytes answer them
+abbrev pub summary : List Answered → List ℕ
+summary answers =
+    line_of (codes "commands " ++ decimal (length answers))
+    ++ line_of (codes "refused " ++ decimal (length (filter (λ a. a.refused) answers)))
+    ++ line_of (codes "bytes " ++ decimal (bytes_of answers))
+
+-- a refusal, where one ends the run, or the summary
+abbrev pub summary_unless : Option (List ℕ) → List Answered → Outcome
+summary_unless (Some line) answers = (line, 1)
+summary_unless None answers = (summary answers, 0)
+
+abbrev pub summary_outcome : Bool → List Answered → Outcome
+summary_outcome strict answers = summary_unless (if strict then first_refusal answers else None) answers
