@@ -40,13 +40,13 @@ pub struct Engine<C> {
     ghost fits: { Fits parts } by { fits-prop parts },
 }
 
+#[tactic(auto, unfolding(crate::specs::Engine::StandsFor))]
 impl<C: Customs> Engine<C> {
     ghost use Rattle.book_engine.specs.Engine.{Does, DoesAlways, NoAnswer, StandsFor};
 
     /// The engine of a workbook with these sheets, numbered from 0 in their order, and these texts in their cells. All
     /// formulas are read when all sheets are there. At most `limit` steps can be undone, which is at most 1,000. Formulas
     /// call the custom functions of the registry, and TODAY is the day of this serial number.
-    #[tactic(auto, unfolding(crate::specs::Engine::StandsFor))]
     pub fn build(
         alloc: Global,
         books: &[BookSheet],
@@ -73,7 +73,6 @@ impl<C: Customs> Engine<C> {
     /// # Errors
     /// `NoSheet`, `Outside` where the place isn't within the limits of a sheet, `TextLimit` past 8,192 bytes, `CellLimit`
     /// where more than 1,000,000 cells would be filled; the first that holds.
-    #[tactic(auto, unfolding(crate::specs::Engine::StandsFor))]
     pub fn set(&mut self, at: Place, text: &str) -> Result<(), Stop>
         ensures { Does C.customs (op.set at text.now) NoAnswer self.old self.new result }
     {
@@ -86,7 +85,6 @@ impl<C: Customs> Engine<C> {
     ///
     /// # Errors
     /// `NoSheet`, `Outside` where the block isn't within the limits of a sheet.
-    #[tactic(auto, unfolding(crate::specs::Engine::StandsFor))]
     pub fn clear(&mut self, area: Block) -> Result<(), Stop>
         ensures { Does C.customs (op.clear area) NoAnswer self.old self.new result }
     {
@@ -100,7 +98,6 @@ impl<C: Customs> Engine<C> {
     /// # Errors
     /// `NoSheet`, `BadSpan` for no rows, `Outside` where the row isn't on the sheet, `SizeLimit` where a filled cell would
     /// be pushed off the sheet.
-    #[tactic(auto, unfolding(crate::specs::Engine::StandsFor))]
     pub fn insert_rows(&mut self, sheet: u32, at: u32, count: u32) -> Result<(), Stop>
         ensures { Does C.customs (op.structural (shifts.InsertRows sheet at count)) NoAnswer self.old self.new result }
     {
@@ -114,7 +111,6 @@ impl<C: Customs> Engine<C> {
     ///
     /// # Errors
     /// `NoSheet`, `BadSpan` for no rows, `Outside` where the rows end behind the sheet.
-    #[tactic(auto, unfolding(crate::specs::Engine::StandsFor))]
     pub fn delete_rows(&mut self, sheet: u32, at: u32, count: u32) -> Result<(), Stop>
         ensures { Does C.customs (op.structural (shifts.DeleteRows sheet at count)) NoAnswer self.old self.new result }
     {
@@ -125,7 +121,6 @@ impl<C: Customs> Engine<C> {
     }
 
     /// Puts so many columns before a column of the sheet. Its errors are those of [`Engine::insert_rows`].
-    #[tactic(auto, unfolding(crate::specs::Engine::StandsFor))]
     pub fn insert_cols(&mut self, sheet: u32, at: u32, count: u32) -> Result<(), Stop>
         ensures { Does C.customs (op.structural (shifts.InsertCols sheet at count)) NoAnswer self.old self.new result }
     {
@@ -136,7 +131,6 @@ impl<C: Customs> Engine<C> {
     }
 
     /// Deletes so many columns of the sheet from a column on. Its errors are those of [`Engine::delete_rows`].
-    #[tactic(auto, unfolding(crate::specs::Engine::StandsFor))]
     pub fn delete_cols(&mut self, sheet: u32, at: u32, count: u32) -> Result<(), Stop>
         ensures { Does C.customs (op.structural (shifts.DeleteCols sheet at count)) NoAnswer self.old self.new result }
     {
@@ -151,7 +145,6 @@ impl<C: Customs> Engine<C> {
     /// # Errors
     /// `NoSheet`, `BadSpan` for no rows, `Outside` where the rows or the row before which they come lie behind the sheet,
     /// `BadSpan` where they would stay.
-    #[tactic(auto, unfolding(crate::specs::Engine::StandsFor))]
     pub fn move_rows(&mut self, sheet: u32, from: u32, count: u32, before: u32) -> Result<(), Stop>
         ensures { Does C.customs (op.structural (shifts.MoveRows sheet from count before)) NoAnswer self.old self.new result }
     {
@@ -167,7 +160,6 @@ impl<C: Customs> Engine<C> {
 
     /// Moves so many columns of the sheet from a column on to before another one. Its errors are those of
     /// [`Engine::move_rows`].
-    #[tactic(auto, unfolding(crate::specs::Engine::StandsFor))]
     pub fn move_cols(&mut self, sheet: u32, from: u32, count: u32, before: u32) -> Result<(), Stop>
         ensures { Does C.customs (op.structural (shifts.MoveCols sheet from count before)) NoAnswer self.old self.new result }
     {
@@ -187,7 +179,6 @@ impl<C: Customs> Engine<C> {
     /// # Errors
     /// `NoSheet` where one of the two sheets doesn't exist, `Outside` where one of the two blocks isn't within the limits of
     /// a sheet, `BadSpan` where they are the same.
-    #[tactic(auto, unfolding(crate::specs::Engine::StandsFor))]
     pub fn move_block(&mut self, source: Block, to: Place) -> Result<(), Stop>
         ensures { Does C.customs (op.structural (shifts.MoveBlock source to)) NoAnswer self.old self.new result }
     {
@@ -201,7 +192,6 @@ impl<C: Customs> Engine<C> {
     /// # Errors
     /// `SheetNameInvalid` unless the name has 1 to 100 bytes and no control character, `SheetNameTaken` where a sheet has
     /// it, in some case of its ASCII letters, `SheetLimit` where all 1,024 numbers are used.
-    #[tactic(auto, unfolding(crate::specs::Engine::StandsFor))]
     pub fn add_sheet(&mut self, name: &str) -> Result<u32, Stop>
         ensures { Does C.customs (op.add_sheet name.now) (λ d number. number ≡ d.next_sheet) self.old self.new result }
     {
@@ -214,7 +204,6 @@ impl<C: Customs> Engine<C> {
     ///
     /// # Errors
     /// `NoSheet`.
-    #[tactic(auto, unfolding(crate::specs::Engine::StandsFor))]
     pub fn drop_sheet(&mut self, sheet: u32) -> Result<(), Stop>
         ensures { Does C.customs (op.structural (shifts.DropSheet sheet)) NoAnswer self.old self.new result }
     {
@@ -227,7 +216,6 @@ impl<C: Customs> Engine<C> {
     ///
     /// # Errors
     /// `NoSheet`, `SheetNameInvalid`, `SheetNameTaken` where another sheet has it, as for [`Engine::add_sheet`].
-    #[tactic(auto, unfolding(crate::specs::Engine::StandsFor))]
     pub fn rename_sheet(&mut self, sheet: u32, name: &str) -> Result<(), Stop>
         ensures { Does C.customs (op.rename_sheet sheet name.now) NoAnswer self.old self.new result }
     {
@@ -240,7 +228,6 @@ impl<C: Customs> Engine<C> {
     ///
     /// # Errors
     /// `NoSheet`.
-    #[tactic(auto, unfolding(crate::specs::Engine::StandsFor))]
     pub fn clear_sheet(&mut self, sheet: u32) -> Result<(), Stop>
         ensures { Does C.customs (op.clear_sheet sheet) NoAnswer self.old self.new result }
     {
@@ -257,7 +244,6 @@ impl<C: Customs> Engine<C> {
     /// ([`book_model::is_name`]), `NameTaken` where the scope has the name, in some case of its ASCII letters, `TextLimit`
     /// past 8,192 bytes, `BadFormula` where the text is no formula, `RelativeAddress` where a reference lacks a `$` or its
     /// sheet; the first that holds.
-    #[tactic(auto, unfolding(crate::specs::Engine::StandsFor))]
     pub fn add_name(&mut self, name: &str, scope: Option<u32>, text: &str) -> Result<(), Stop>
         ensures { Does C.customs (op.add_name name.now scope text.now) NoAnswer self.old self.new result }
     {
@@ -271,7 +257,6 @@ impl<C: Customs> Engine<C> {
     /// # Errors
     /// `NoSheet`, `NoSuchName` where the scope hasn't the name, and `TextLimit`, `BadFormula` and `RelativeAddress` as for
     /// [`Engine::add_name`].
-    #[tactic(auto, unfolding(crate::specs::Engine::StandsFor))]
     pub fn change_name(&mut self, name: &str, scope: Option<u32>, text: &str) -> Result<(), Stop>
         ensures { Does C.customs (op.change_name name.now scope text.now) NoAnswer self.old self.new result }
     {
@@ -284,7 +269,6 @@ impl<C: Customs> Engine<C> {
     ///
     /// # Errors
     /// `NoSheet`, `NoSuchName`.
-    #[tactic(auto, unfolding(crate::specs::Engine::StandsFor))]
     pub fn remove_name(&mut self, name: &str, scope: Option<u32>) -> Result<(), Stop>
         ensures { Does C.customs (op.remove_name name.now scope) NoAnswer self.old self.new result }
     {
@@ -298,7 +282,6 @@ impl<C: Customs> Engine<C> {
     ///
     /// # Errors
     /// `NoSheet`, `Outside` where the block isn't within the limits of a sheet.
-    #[tactic(auto, unfolding(crate::specs::Engine::StandsFor))]
     pub fn copy(&mut self, area: Block) -> Result<(), Stop>
         ensures { Does C.customs (op.copy area) NoAnswer self.old self.new result }
     {
@@ -308,7 +291,6 @@ impl<C: Customs> Engine<C> {
 
     /// Cuts a block, which is moved where it is pasted; the next change ends that. It is no step. Its errors are those of
     /// [`Engine::copy`].
-    #[tactic(auto, unfolding(crate::specs::Engine::StandsFor))]
     pub fn cut(&mut self, area: Block) -> Result<(), Stop>
         ensures { Does C.customs (op.cut area) NoAnswer self.old self.new result }
     {
@@ -324,7 +306,6 @@ impl<C: Customs> Engine<C> {
     /// # Errors
     /// `NothingToPaste`; then after a copy `NoSheet`, `Outside` where the block there isn't within the limits of a sheet,
     /// `CellLimit` where more than 1,000,000 cells would be filled, and after a cut those of [`Engine::move_block`].
-    #[tactic(auto, unfolding(crate::specs::Engine::StandsFor))]
     pub fn paste(&mut self, at: Place) -> Result<(), Stop>
         ensures { Does C.customs (op.paste at) NoAnswer self.old self.new result }
     {
@@ -342,7 +323,6 @@ impl<C: Customs> Engine<C> {
     ///
     /// # Errors
     /// `BatchOpen`.
-    #[tactic(auto, unfolding(crate::specs::Engine::StandsFor))]
     pub fn begin(&mut self) -> Result<(), Stop>
         ensures { Does C.customs op.begin NoAnswer self.old self.new result }
     {
@@ -353,7 +333,6 @@ impl<C: Customs> Engine<C> {
     ///
     /// # Errors
     /// `NoBatch`.
-    #[tactic(auto, unfolding(crate::specs::Engine::StandsFor))]
     pub fn commit(&mut self) -> Result<(), Stop>
         ensures { Does C.customs op.commit NoAnswer self.old self.new result }
     {
@@ -361,7 +340,6 @@ impl<C: Customs> Engine<C> {
     }
 
     /// Stops the computation of values, until [`Engine::resume`]. Once more changes nothing.
-    #[tactic(auto, unfolding(crate::specs::Engine::StandsFor))]
     pub fn suspend(&mut self)
         ensures { DoesAlways C.customs op.suspend self.old self.new }
     {
@@ -369,7 +347,6 @@ impl<C: Customs> Engine<C> {
     }
 
     /// Lets the computation of values go on. Once more changes nothing.
-    #[tactic(auto, unfolding(crate::specs::Engine::StandsFor))]
     pub fn resume(&mut self)
         ensures { DoesAlways C.customs op.resume self.old self.new }
     {
@@ -381,7 +358,6 @@ impl<C: Customs> Engine<C> {
     ///
     /// # Errors
     /// `BatchOpen`, `NothingToUndo`.
-    #[tactic(auto, unfolding(crate::specs::Engine::StandsFor))]
     pub fn undo(&mut self) -> Result<(), Stop>
         ensures { Does C.customs op.undo NoAnswer self.old self.new result }
     {
@@ -395,7 +371,6 @@ impl<C: Customs> Engine<C> {
     ///
     /// # Errors
     /// `BatchOpen`, `NothingToRedo`.
-    #[tactic(auto, unfolding(crate::specs::Engine::StandsFor))]
     pub fn redo(&mut self) -> Result<(), Stop>
         ensures { Does C.customs op.redo NoAnswer self.old self.new result }
     {
@@ -408,7 +383,6 @@ impl<C: Customs> Engine<C> {
     ///
     /// # Errors
     /// `Suspended` where the computation is suspended or a batch is open, `NoSheet`, `Outside`.
-    #[tactic(auto, unfolding(crate::specs::Engine::StandsFor))]
     pub fn value<L: Ledger>(&mut self, at: Place, steps: &mut Steps<L>) -> Result<Scalar, Stop>
         ensures { Does C.customs (op.value at) (λ d scalar. scalar ≡ value_of d at) self.old self.new result }
     {
@@ -420,7 +394,6 @@ impl<C: Customs> Engine<C> {
     ///
     /// # Errors
     /// `Suspended`, `NoSheet`, `NoSuchName` where neither scope has the name.
-    #[tactic(auto, unfolding(crate::specs::Engine::StandsFor))]
     pub fn name_value<L: Ledger>(
         &mut self,
         name: &str,
@@ -437,7 +410,6 @@ impl<C: Customs> Engine<C> {
     ///
     /// # Errors
     /// `Suspended`, `NoSheet`, `TextLimit` past 8,192 bytes, `BadFormula` where the text is no formula.
-    #[tactic(auto, unfolding(crate::specs::Engine::StandsFor))]
     pub fn try_formula<L: Ledger>(
         &mut self,
         sheet: u32,
@@ -454,7 +426,6 @@ impl<C: Customs> Engine<C> {
     ///
     /// # Errors
     /// `NoSheet`, `Outside`.
-    #[tactic(auto, unfolding(crate::specs::Engine::StandsFor))]
     pub fn formula(&mut self, at: Place) -> Result<Option<Text>, Stop>
         ensures { Does C.customs (op.formula at) (λ d text. text ≡ formula_of d at) self.old self.new result }
     {
@@ -465,7 +436,6 @@ impl<C: Customs> Engine<C> {
     ///
     /// # Errors
     /// `NoSheet`, `Outside`.
-    #[tactic(auto, unfolding(crate::specs::Engine::StandsFor))]
     pub fn content(&mut self, at: Place) -> Result<Text, Stop>
         ensures { Does C.customs (op.content at) (λ d text. text ≡ content_text d at) self.old self.new result }
     {
@@ -478,7 +448,6 @@ impl<C: Customs> Engine<C> {
     ///
     /// # Errors
     /// `NoSheet`, `Outside`.
-    #[tactic(auto, unfolding(crate::specs::Engine::StandsFor))]
     pub fn precedents(&mut self, at: Place) -> Result<Vec<Link>, Stop>
         ensures does { Does C.customs (op.precedents at) (λ d links. links.items ≡ precedents_of d at) self.old self.new result }
         ensures inside { IfOk result (λ links. All IsLinkInside links.items) }
@@ -492,7 +461,6 @@ impl<C: Customs> Engine<C> {
     ///
     /// # Errors
     /// `NoSheet`, `Outside`.
-    #[tactic(auto, unfolding(crate::specs::Engine::StandsFor))]
     pub fn dependents(&mut self, at: Place) -> Result<Vec<Link>, Stop>
         ensures does { Does C.customs (op.dependents at) (λ d links. links.items ≡ dependents_of d at) self.old self.new result }
         ensures inside { IfOk result (λ links. All IsLinkInside links.items) }
@@ -501,7 +469,6 @@ impl<C: Customs> Engine<C> {
     }
 
     /// The number of the sheet of this name, in any case of its ASCII letters.
-    #[tactic(auto, unfolding(crate::specs::Engine::StandsFor))]
     pub fn sheet_id(&self, name: &str) -> Option<u32>
         ensures { (d : State) → StandsFor C.customs self.now d → result ≡ id_in d.book.sheets name.now }
     {
@@ -509,7 +476,6 @@ impl<C: Customs> Engine<C> {
     }
 
     /// The first sheet of the list.
-    #[tactic(auto, unfolding(crate::specs::Engine::StandsFor))]
     pub fn first_sheet(&self) -> Option<u32>
         ensures { (d : State) → StandsFor C.customs self.now d → result ≡ first_sheet d.book }
     {
@@ -517,7 +483,6 @@ impl<C: Customs> Engine<C> {
     }
 
     /// The name of the sheet of this number.
-    #[tactic(auto, unfolding(crate::specs::Engine::StandsFor))]
     pub fn sheet_name(&self, id: u32) -> Option<&Text>
         ensures { (d : State) → StandsFor C.customs self.now d → option_map (λ name. name.now) result ≡ name_in d.book.sheets id }
     {
@@ -525,7 +490,6 @@ impl<C: Customs> Engine<C> {
     }
 
     /// The steps that can be undone and redone.
-    #[tactic(auto, unfolding(crate::specs::Engine::StandsFor))]
     pub fn entries(&self) -> &UndoBook<Entry>
         ensures done { (d : State) → StandsFor C.customs self.now d → length result.now.done ≡ length d.undo }
         ensures undone { (d : State) → StandsFor C.customs self.now d → length result.now.undone ≡ length d.redo }

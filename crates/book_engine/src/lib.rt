@@ -35,8 +35,6 @@ mod shifting;
 mod shown_name;
 mod stepping;
 mod stop;
-#[cfg(test)]
-mod tests;
 mod undoing;
 mod waiting;
 

@@ -22,5 +22,3 @@ mod session;
 
 pub use program::run;
 
-#[cfg(test)]
-mod tests;

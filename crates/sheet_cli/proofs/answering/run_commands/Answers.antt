@@ -3,8 +3,9 @@ use Rattle.std.proofs.Common.{◌≡◌, ◌∙◌, sym, ap, subst, refl, ◌+�
 use Rattle.std.proofs.lemmas.List.{drop_all}
 use Rattle.book_model.specs.declared.command.Command.{Command}
 use Rattle.run_inputs.specs.Outcome.{Outcome}
-use Rattle.sheet_cli.specs.Answering.{answers_from}
+use Rattle.sheet_cli.specs.Answering.{answers_from, summary_outcome}
 use Rattle.sheet_cli.specs.internal.Ends.{Printed}
+use Rattle.sheet_cli.proofs.Outcomes.{no_memory, part-none}
 use Rattle.sheet_cli.proofs.Tallies.{tallied-all, tallied-ends, tallied-more, tallied-start}
 use Rattle.sheet_cli.proofs.answering.run_commands.Goals as goal
 
@@ -37,6 +38,12 @@ returns-then-is_last-clause-printed g c = λ d stands.
     let last = tallied-ends g.C.Customs.customs c.args.strict c.commands.session.engine c.execute.new.self.engine c.commands.tally command c.in_ok-answer.answer.line.items c.in_ok-answer.answer.refused (drop i commands) (drop (i + 1) commands) (answers_from d commands)
     next c.in_ok-answer.ensures.ok (sym c.is_last.ensures ∙ c.if-is_last.true) (c.commands.invariant.leads d stands) in
     rw (last, sym c.deref.ensures.value, sym c.commands.invariant.taken) c.print_last.ensures.printed
+
+pub returns-in_err-tally-clause-printed : goal.returns-in_err-tally-clause-printed
+returns-in_err-tally-clause-printed g c = λ d stands.
+    let o = summary_outcome c.args.strict (answers_from d c.args.commands.now) in
+    let old = g.O.Sink.taken c.args.out.now in
+    rw c.commands.invariant.taken (no_memory o old old c.from_residual-in_err-tally.result c.from_residual-in_err-tally.ensures.1 (part-none old o.0))
 
 pub returns-clause-printed : goal.returns-clause-printed
 returns-clause-printed g c = λ d stands.
