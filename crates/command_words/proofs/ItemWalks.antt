@@ -6,11 +6,11 @@ use Rattle.clap.specs.Faults.{settle_fault, turn_fault}
 use Rattle.clap.specs.Walk.{Row, Waiting, idle, positional, option, all_of, at_row, has_row, more_values, reading_by, settled_rows, walked, without}
 use Rattle.clap.specs.declared.parser.matches.ValueSource.TheVariants.{CommandLine}
 use Rattle.command_words.specs.Items.{OptionName, undo_limit, script, generate, name_text, value_of, with_value}
-use Rattle.command_words.specs.Words.{Given, begins_with_dash, option_rule}
-use Rattle.command_words.proofs.BookWords.{IsFree, rules, shape, walk_at}
+use Rattle.command_words.specs.Words.{Given, option_rule}
+use Rattle.command_words.proofs.Walks.{IsFree, IsOther, Pending, rules, shape, walk_at}
 use Rattle.command_words.proofs.RowLists.{at_none, found_behind, other_behind}
 
-pub turn-joined : (name : OptionName) (text : List ℕ) (rows : List Row) (pending : Option (List ℕ × List (List ℕ))) (waiting : Waiting) → IsFree waiting → settle_fault rules false (record { rows = rows; pending = pending; skip = 0 }) ≡ []
+pub turn-joined : (name : OptionName) (text : List ℕ) (rows : List Row) (pending : Pending) (waiting : Waiting) → IsFree waiting → settle_fault rules false (record { rows = rows; pending = pending; skip = 0 }) ≡ []
     → has_row (name_text name) (settled_rows rules pending rows) ≡ false → turn_fault shape [] (walk_at rows pending waiting false) (codes "--" ++ name_text name ++ codes "=" ++ text) ≡ []
 turn-joined undo_limit text rows pending idle free fine new = rw (fine, new) refl
 turn-joined undo_limit text rows pending (option id) free fine new = absurd free
@@ -22,7 +22,7 @@ turn-joined generate text rows pending idle free fine new = rw (fine, new) refl
 turn-joined generate text rows pending (option id) free fine new = absurd free
 turn-joined generate text rows pending positional free fine new = rw (fine, new) refl
 
-pub walked-joined : (name : OptionName) (text : List ℕ) (rows : List Row) (pending : Option (List ℕ × List (List ℕ))) (waiting : Waiting) → IsFree waiting
+pub walked-joined : (name : OptionName) (text : List ℕ) (rows : List Row) (pending : Pending) (waiting : Waiting) → IsFree waiting
     → walked rules [] (walk_at rows pending waiting false) (codes "--" ++ name_text name ++ codes "=" ++ text) ≡ walk_at (settled_rows rules (Some (name_text name, text ∷ [])) (settled_rows rules pending rows)) None idle false
 unfolding walked
 walked-joined undo_limit text rows pending idle free = refl
@@ -93,14 +93,18 @@ finds-option generate text rows g f none = record {
   others = other_behind (codes "book") rows (option_row generate text) refl ∙ f.others;
 }
 
+-- an option's value by its name
+pub found_as : (name : OptionName) (rows : List Row) (g : Given) → Finds rows g → all_of (name_text name) rows ≡ found_value (value_of name g)
+found_as undo_limit rows g f = f.undo
+found_as script rows g f = f.file
+found_as generate rows g f = f.size
+
 -- an option that isn't given has no row
 pub no_row : (name : OptionName) (rows : List Row) (g : Given) → Finds rows g → value_of name g ≡ None → all_of (name_text name) rows ≡ None
-no_row undo_limit rows g f new = f.undo ∙ ap found_value new
-no_row script rows g f new = f.file ∙ ap found_value new
-no_row generate rows g f new = f.size ∙ ap found_value new
+no_row name rows g f new = found_as name rows g f ∙ ap found_value new
 
 -- `--NAME`, and the value in the next word
-pub turn-name : (name : OptionName) (rows : List Row) (pending : Option (List ℕ × List (List ℕ))) (waiting : Waiting) → IsFree waiting → settle_fault rules false (record { rows = rows; pending = pending; skip = 0 }) ≡ []
+pub turn-name : (name : OptionName) (rows : List Row) (pending : Pending) (waiting : Waiting) → IsFree waiting → settle_fault rules false (record { rows = rows; pending = pending; skip = 0 }) ≡ []
     → turn_fault shape [] (walk_at rows pending waiting false) (codes "--" ++ name_text name) ≡ []
 turn-name undo_limit rows pending idle free fine = rw fine refl
 turn-name undo_limit rows pending (option id) free fine = absurd free
@@ -112,7 +116,7 @@ turn-name generate rows pending idle free fine = rw fine refl
 turn-name generate rows pending (option id) free fine = absurd free
 turn-name generate rows pending positional free fine = rw fine refl
 
-pub walked-name : (name : OptionName) (rows : List Row) (pending : Option (List ℕ × List (List ℕ))) (waiting : Waiting) → IsFree waiting
+pub walked-name : (name : OptionName) (rows : List Row) (pending : Pending) (waiting : Waiting) → IsFree waiting
     → walked rules [] (walk_at rows pending waiting false) (codes "--" ++ name_text name) ≡ walk_at (settled_rows rules pending rows) (Some (name_text name, [])) (option (name_text name)) false
 unfolding walked
 walked-name undo_limit rows pending idle free = refl
@@ -125,20 +129,14 @@ walked-name generate rows pending idle free = refl
 walked-name generate rows pending (option id) free = absurd free
 walked-name generate rows pending positional free = refl
 
-pub turn-value : (name : OptionName) (rows : List Row) (text : List ℕ) → begins_with_dash text ≡ false → turn_fault shape [] (walk_at rows (Some (name_text name, [])) (option (name_text name)) false) text ≡ []
-turn-value undo_limit rows [] plain = refl
-turn-value undo_limit rows (c ∷ cs) plain = rw (plain, plain) refl
-turn-value script rows [] plain = refl
-turn-value script rows (c ∷ cs) plain = rw (plain, plain) refl
-turn-value generate rows [] plain = refl
-turn-value generate rows (c ∷ cs) plain = rw (plain, plain) refl
+pub turn-value : (name : OptionName) (rows : List Row) (word : List ℕ) → IsOther word → turn_fault shape [] (walk_at rows (Some (name_text name, [])) (option (name_text name)) false) word ≡ []
+turn-value undo_limit rows word other = let p : Pending = Some (name_text undo_limit, []) in rw (other.goes (option (name_text undo_limit)) rows p, other.fine (option (name_text undo_limit)) rows p) refl
+turn-value script rows word other = let p : Pending = Some (name_text script, []) in rw (other.goes (option (name_text script)) rows p, other.fine (option (name_text script)) rows p) refl
+turn-value generate rows word other = let p : Pending = Some (name_text generate, []) in rw (other.goes (option (name_text generate)) rows p, other.fine (option (name_text generate)) rows p) refl
 
-pub walked-value : (name : OptionName) (rows : List Row) (text : List ℕ) → begins_with_dash text ≡ false
-    → walked rules [] (walk_at rows (Some (name_text name, [])) (option (name_text name)) false) text ≡ walk_at rows (Some (name_text name, text ∷ [])) idle false
+pub walked-value : (name : OptionName) (rows : List Row) (word : List ℕ) → IsOther word
+    → walked rules [] (walk_at rows (Some (name_text name, [])) (option (name_text name)) false) word ≡ walk_at rows (Some (name_text name, word ∷ [])) idle false
 unfolding walked
-walked-value undo_limit rows [] plain = refl
-walked-value undo_limit rows (c ∷ cs) plain = rw (plain, plain) refl
-walked-value script rows [] plain = refl
-walked-value script rows (c ∷ cs) plain = rw (plain, plain) refl
-walked-value generate rows [] plain = refl
-walked-value generate rows (c ∷ cs) plain = rw (plain, plain) refl
+walked-value undo_limit rows word other = rw (other.goes (option (name_text undo_limit)) rows (Some (name_text undo_limit, []))) refl
+walked-value script rows word other = rw (other.goes (option (name_text script)) rows (Some (name_text script, []))) refl
+walked-value generate rows word other = rw (other.goes (option (name_text generate)) rows (Some (name_text generate, []))) refl

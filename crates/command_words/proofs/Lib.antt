@@ -1,9 +1,16 @@
+pub mod AcceptedItems
 pub mod BookMeanings
-pub mod BookWords
+pub mod Faultless
 pub mod FoundRows
 pub mod ItemMeanings
 pub mod ItemWalks
 pub mod Meanings
+pub mod MeantItems
+pub mod NamedWords
 pub mod ProperWords
 pub mod Ranges
+pub mod ReadItems
 pub mod RowLists
+pub mod Walks
+pub mod WordEnds
+pub mod WordLooks

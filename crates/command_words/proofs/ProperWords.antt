@@ -12,7 +12,7 @@ use Rattle.command_words.specs.Laws.{IsProper, IsScriptName}
 use Rattle.command_words.specs.Words.{Given, Said, begins_with_dash, given_of, is_accepted, is_value, meaning, passes, said_by, said_of, sheet_app}
 use Rattle.command_words.proofs.Ranges.{accepted_in_range}
 
-not_so : (b : Bool) → not b ≡ true → b ≡ false
+pub not_so : (b : Bool) → not b ≡ true → b ≡ false
 not_so true h = cc
 not_so false h = refl
 

@@ -1,6 +1,6 @@
 -- The words of the command line by items: options with their values, the flag, and books. Source: this project's own.
-use Rattle.std.specs.Prelude.{◌≡◌, false, ℕ, List, [], ◌∷◌, ◌++◌, None, Some, Option, All, codes, flat_map, fold, true, ⊤}
-use Rattle.command_words.specs.Words.{Given, begins_with_dash, meaning, said_of}
+use Rattle.std.specs.Prelude.{◌≡◌, false, ℕ, List, [], ◌∷◌, ◌++◌, None, Some, Option, All, codes, flat_map, fold, true, unwrap_or, ⊤}
+use Rattle.command_words.specs.Words.{Given, Said, begins_with_dash, meaning, said_of}
 
 pub data OptionName : Type 0 where
   undo_limit : OptionName
@@ -45,12 +45,15 @@ with_value undo_limit value g = record g { undo_limit = Some value }
 with_value script value g = record g { script = Some value }
 with_value generate value g = record g { generate = Some value }
 
+abbrev pub with_books : List (List ℕ) → Given → Given
+with_books books g = record g { books = g.books ++ books }
+
 -- what is given after one more item
 abbrev pub with_item : Given → Item → Given
 with_item g (apart name value) = with_value name value g
 with_item g (joined name value) = with_value name value g
 with_item g strict = record g { strict = true }
-with_item g (book word) = record g { books = g.books ++ word ∷ [] }
+with_item g (book word) = with_books (word ∷ []) g
 
 -- the item's option or flag isn't given yet
 abbrev pub IsNew : Given → Item → Type 0
@@ -64,6 +67,32 @@ abbrev pub AreNew : Given → List Item → Type 0
 AreNew g [] = ⊤
 AreNew g (item ∷ items) = IsNew g item × AreNew (with_item g item) items
 
--- words that are items, in any order, say what the items give, where that is accepted
+-- the words behind items: none, or `--` and books
+abbrev pub words_behind : Option (List (List ℕ)) → List (List ℕ)
+words_behind None = []
+words_behind (Some books) = codes "--" ∷ books
+
+-- what items give, and the books behind them
+abbrev pub given_by : List Item → Option (List (List ℕ)) → Given
+given_by items behind = with_books (unwrap_or behind []) (fold with_item nothing_given items)
+
+-- the words are items, of which no option and no flag stands twice, with `--` and books behind them or without
+pub record Give (words : List (List ℕ)) (g : Given) : Type 0 where
+  pub items : List Item
+  pub behind : Option (List (List ℕ))
+  pub are_items : All IsItem items
+  pub are_new : AreNew nothing_given items
+  pub spell : words ≡ flat_map words_of items ++ words_behind behind
+  pub give : g ≡ given_by items behind
+
+-- words that give something say it, where it is accepted
 abbrev pub ItemsAreRead : Type 0
-ItemsAreRead = (items : List Item) → All IsItem items → AreNew nothing_given items → meaning (flat_map words_of items) ≡ said_of (fold with_item nothing_given items)
+ItemsAreRead = (words : List (List ℕ)) (g : Given) → Give words g → meaning words ≡ said_of g
+
+-- all words that mean something are such items
+abbrev pub MeaningsAreItems : Type 0
+MeaningsAreItems = (words : List (List ℕ)) (s : Said) → meaning words ≡ Some s → (g : Given) × Give words g × (said_of g ≡ Some s)
+
+-- items of which one gives an option or the flag a second time mean nothing, whatever stands behind them
+abbrev pub OptionsStandOnce : Type 0
+OptionsStandOnce = (items : List Item) (behind : Option (List (List ℕ))) → All IsItem items → (AreNew nothing_given items → ⊥) → meaning (flat_map words_of items ++ words_behind behind) ≡ None
