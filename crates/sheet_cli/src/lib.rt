@@ -21,4 +21,3 @@ mod program;
 mod session;
 
 pub use program::run;
-
