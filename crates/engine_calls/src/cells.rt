@@ -1,7 +1,8 @@
-// Cells of the first sheet of an engine.
+// Cells of the first sheet of an engine, and what is linked to them.
 use book_engine::Engine;
 use cell_addr::{Block, Place};
 use custom_fn::Registry;
+use formula_tree::Link;
 
 // The place of a row and a column.
 pub fn place(row: u32, col: u32) -> Place {
@@ -23,6 +24,26 @@ pub fn block(bottom: u32, right: u32) -> Block {
 pub fn reads(engine: &mut Engine<Registry>, row: u32, col: u32, text: &str) -> bool {
     match engine.formula(place(row, col)) {
         Ok(Some(shown)) => shown.as_str() == text,
+        _ => false,
+    }
+}
+
+// Whether the links are the block of the first two cells, the first cell and the name RATE.
+pub fn is_what_is_needed(links: &[Link]) -> bool {
+    match links {
+        [Link::Area(area), Link::Cell(cell), Link::Name(None, word)] => {
+            *area == block(0, 1) && *cell == place(0, 0) && word.as_str() == "RATE"
+        }
+        _ => false,
+    }
+}
+
+// Whether the links are the third cell of the first column and the name RATE.
+pub fn is_what_needs(links: &[Link]) -> bool {
+    match links {
+        [Link::Cell(cell), Link::Name(None, word)] => {
+            *cell == place(2, 0) && word.as_str() == "RATE"
+        }
         _ => false,
     }
 }

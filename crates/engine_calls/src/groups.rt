@@ -1,46 +1,18 @@
-// The groups of calls. Each answers whether its calls answered as they should.
-ghost use Rattle.std.specs.Prelude.{◌≡◌, ◌<◌, ◌≤◌};
-ghost use Rattle.book_model.specs.declared.limits.TheConstants.{MAX_UNDO};
+// The groups of calls. Each has an engine without sheets, and answers whether its calls answered as they should.
+ghost use Rattle.std.specs.Prelude.{◌≡◌, ◌<◌};
 
-use super::cells::{block, place, reads};
+use super::cells::{block, is_what_is_needed, is_what_needs, place, reads};
 use book_engine::{Engine, Stop};
-use book_model::{BookCell, BookCells, BookSheet, Refusal};
+use book_model::Refusal;
 use cell_addr::Text;
 use cell_value::Scalar;
 use custom_fn::Registry;
-use formula_tree::Link;
-use std::alloc::Global;
 use std::marker::Brand;
 use std::sync::ledger::{Blank, Ledger};
 use steps::Steps;
 
-// An engine without sheets, of which so many steps can be undone.
-fn empty(alloc: Global, limit: u16) -> Result<Engine<Registry>, Stop>
-    requires { limit ≤ MAX_UNDO }
-{
-    let engine = Engine::build(alloc, &[], limit, Registry::new(alloc)?, 0)?;
-    Ok(engine)
-}
-
-// An engine begins with the texts of given sheets, read when all sheets are there.
-pub fn begins_with_given_sheets(alloc: Global) -> Result<bool, Stop> {
-    let mut cells = BookCells::new(alloc)?;
-    cells.push(BookCell {
-        row: 0,
-        col: 0,
-        text: Text::from_str(alloc, "=B2+1")?,
-    })?;
-    let books = [BookSheet {
-        name: Text::from_str(alloc, "Plan")?,
-        cells,
-    }];
-    let mut engine = Engine::build(alloc, &books, 20, Registry::new(alloc)?, 0)?;
-    Ok(reads(&mut engine, 0, 0, "=B2+1") && engine.first_sheet() == Some(0))
-}
-
 // Sheets are added, renamed, cleared and dropped; numbers go on.
-pub fn sheets_come_and_go(alloc: Global) -> Result<bool, Stop> {
-    let mut engine = empty(alloc, 20)?;
+pub fn sheets_come_and_go(engine: &mut Engine<Registry>) -> Result<bool, Stop> {
     engine.add_sheet("Plan")?;
     engine.add_sheet("Two")?;
     engine.rename_sheet(0, "My Plan")?;
@@ -56,28 +28,31 @@ pub fn sheets_come_and_go(alloc: Global) -> Result<bool, Stop> {
     )
 }
 
-// Rows are put in, taken out and moved; so are columns, and a block.
-pub fn formulas_follow(alloc: Global) -> Result<bool, Stop> {
-    let mut engine = empty(alloc, 20)?;
+// Rows are put in, taken out and moved.
+pub fn formulas_follow_rows(engine: &mut Engine<Registry>) -> Result<bool, Stop> {
     engine.add_sheet("Plan")?;
     engine.set(place(0, 0), "=B5+B9")?;
     engine.insert_rows(0, 2, 2)?;
     engine.delete_rows(0, 10, 1)?;
     engine.move_rows(0, 6, 1, 3)?;
-    let rows = reads(&mut engine, 0, 0, "=B4+#REF!");
+    Ok(reads(engine, 0, 0, "=B4+#REF!"))
+}
+
+// So are columns, and a block.
+pub fn formulas_follow_columns(engine: &mut Engine<Registry>) -> Result<bool, Stop> {
+    engine.add_sheet("Plan")?;
+    engine.set(place(0, 0), "=B4")?;
     engine.insert_cols(0, 1, 1)?;
     engine.move_cols(0, 2, 1, 5)?;
     engine.delete_cols(0, 1, 1)?;
     engine.move_block(block(0, 0), place(5, 5))?;
-    let moved = reads(&mut engine, 5, 5, "=D4+#REF!");
+    let moved = reads(engine, 5, 5, "=D4");
     engine.clear(block(3, 3))?;
-    let content = engine.content(place(3, 3));
-    Ok(rows && moved && content.is_ok())
+    Ok(moved && engine.content(place(3, 3)).is_ok())
 }
 
-// Steps are undone and redone, batches are one step, and values wait while they are suspended.
-pub fn steps_go_back_and_forward(alloc: Global) -> Result<bool, Stop> {
-    let mut engine = empty(alloc, 20)?;
+// A batch is one step, which is undone and redone; values wait while they are suspended.
+pub fn steps_go_back_and_forward(engine: &mut Engine<Registry>) -> Result<bool, Stop> {
     engine.add_sheet("Plan")?;
     engine.begin()?;
     engine.set(place(0, 0), "=B5")?;
@@ -86,17 +61,13 @@ pub fn steps_go_back_and_forward(alloc: Global) -> Result<bool, Stop> {
     engine.undo()?;
     let before = engine.formula(place(0, 0))?;
     engine.redo()?;
-    let after = reads(&mut engine, 0, 0, "=#REF!");
     engine.suspend();
     engine.resume();
-    Ok(before.is_none() && after)
+    Ok(before.is_none() && reads(engine, 0, 0, "=#REF!"))
 }
 
 // How many steps are kept of three changes; `None` where none of them can be undone.
-fn kept(alloc: Global, limit: u16) -> Result<Option<usize>, Stop>
-    requires { limit ≤ MAX_UNDO }
-{
-    let mut engine = empty(alloc, limit)?;
+pub fn kept(engine: &mut Engine<Registry>) -> Result<Option<usize>, Stop> {
     engine.add_sheet("Plan")?;
     engine.set(place(0, 0), "1")?;
     engine.set(place(0, 0), "2")?;
@@ -108,14 +79,8 @@ fn kept(alloc: Global, limit: u16) -> Result<Option<usize>, Stop>
     }
 }
 
-// No more steps are kept than can be undone.
-pub fn steps_are_kept_up_to_the_limit(alloc: Global) -> Result<bool, Stop> {
-    Ok(kept(alloc, 0)? == None && kept(alloc, 1)? == Some(1) && kept(alloc, 1_000)? == Some(3))
-}
-
 // Names are added, changed and removed in their scopes.
-pub fn names_come_and_go(alloc: Global) -> Result<bool, Stop> {
-    let mut engine = empty(alloc, 20)?;
+pub fn names_come_and_go(engine: &mut Engine<Registry>) -> Result<bool, Stop> {
     engine.add_sheet("Plan")?;
     engine.add_name("RATE", None, "=2*3")?;
     engine.add_name("Rate", Some(0), "=$A$1")?;
@@ -130,8 +95,7 @@ pub fn names_come_and_go(alloc: Global) -> Result<bool, Stop> {
 }
 
 // Blocks are copied, cut and pasted.
-pub fn blocks_are_pasted(alloc: Global) -> Result<bool, Stop> {
-    let mut engine = empty(alloc, 20)?;
+pub fn blocks_are_pasted(engine: &mut Engine<Registry>) -> Result<bool, Stop> {
     engine.add_sheet("Plan")?;
     engine.set(place(0, 0), "=B1")?;
     engine.copy(block(0, 0))?;
@@ -140,52 +104,33 @@ pub fn blocks_are_pasted(alloc: Global) -> Result<bool, Stop> {
     engine.paste(place(2, 0))?;
     let again = engine.paste(place(4, 0));
     Ok(
-        reads(&mut engine, 1, 1, "=C2")
-            && reads(&mut engine, 2, 0, "=B1")
+        reads(engine, 1, 1, "=C2")
+            && reads(engine, 2, 0, "=B1")
             && again == Err(Stop::Refused(Refusal::NothingToPaste)),
     )
 }
 
-// Whether the answer is the block of the first two cells, the first cell and the name.
-fn is_what_is_needed(links: &[Link]) -> bool {
-    match links {
-        [Link::Area(area), Link::Cell(cell), Link::Name(None, word)] => {
-            *area == block(0, 1) && *cell == place(0, 0) && word.as_str() == "RATE"
-        }
-        _ => false,
-    }
-}
-
-// Whether the answer is the formula's cell and the name.
-fn is_what_needs(links: &[Link]) -> bool {
-    match links {
-        [Link::Cell(cell), Link::Name(None, word)] => {
-            *cell == place(2, 0) && word.as_str() == "RATE"
-        }
-        _ => false,
-    }
-}
-
 // What a formula needs is listed in its order, and what needs a cell by place and then by name.
-pub fn links_are_listed_in_order(alloc: Global) -> Result<bool, Stop> {
-    let mut engine = empty(alloc, 20)?;
+pub fn links_are_listed_in_order(engine: &mut Engine<Registry>) -> Result<bool, Stop> {
     engine.add_sheet("Plan")?;
     engine.add_name("rate", None, "=Plan!$A$1")?;
     engine.set(place(2, 0), "=SUM(A1:B1)+A1+Rate+A1+unknown")?;
     let needed = engine.precedents(place(2, 0))?;
     let needing = engine.dependents(place(0, 0))?;
-    let outside = engine.dependents(place(40_000, 0));
-    Ok(is_what_is_needed(&needed) && is_what_needs(&needing) && outside.is_err())
+    Ok(
+        is_what_is_needed(&needed)
+            && is_what_needs(&needing)
+            && engine.dependents(place(40_000, 0)).is_err(),
+    )
 }
 
 // Formulas call functions and names, and only what is on a cycle is a cycle.
-pub fn values_follow_names(alloc: Global) -> Result<bool, Stop> {
-    let mut engine = empty(alloc, 20)?;
+pub fn values_follow_names(engine: &mut Engine<Registry>) -> Result<bool, Stop> {
     engine.add_sheet("Plan")?;
     engine.add_name("Two", None, "=SUM(1,1)=2")?;
     engine.set(place(0, 0), "=TWO")?;
     engine.set(place(0, 1), "=B1")?;
-    all_true::<Brand>(&mut engine, Blank::new(1))
+    all_true::<Brand>(engine, Blank::new(1))
 }
 
 // Whether the first cell, a name and a formula all show TRUE.

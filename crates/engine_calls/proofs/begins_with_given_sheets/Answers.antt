@@ -2,7 +2,7 @@
 use Rattle.std.proofs.Common.{◌≡◌, ◌∙◌, ap, arith, ◌++◌, ◌∷◌, [], length}
 use Rattle.book_model.specs.declared.given.BookCell.{BookCell}
 use Rattle.book_engine.proofs.GivenExamples.{one_cell}
-use Rattle.engine_calls.proofs.groups.begins_with_given_sheets.Goals as goal
+use Rattle.engine_calls.proofs.begins_with_given_sheets.Goals as goal
 
 pub build-requires-clause-can : goal.build-requires-clause-can
 build-requires-clause-can c =
