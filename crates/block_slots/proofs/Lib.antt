@@ -1,0 +1,4 @@
+pub mod Aligned
+pub mod Halves
+pub mod Cutting
+pub mod Crossing

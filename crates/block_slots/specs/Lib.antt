@@ -1,0 +1,4 @@
+pub mod Segments
+pub mod Slots
+pub mod Laws
+pub mod internal

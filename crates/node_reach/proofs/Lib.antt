@@ -1,0 +1,4 @@
+pub mod Putting
+pub mod Exploring
+pub mod Following
+pub mod Reading
