@@ -1,7 +1,7 @@
 // Cells of the first sheet of an engine, and what is linked to them.
+use crate::no_customs::NoCustoms;
 use book_engine::Engine;
 use cell_addr::{Block, Place};
-use custom_fn::Registry;
 use formula_tree::Link;
 
 // The place of a row and a column.
@@ -21,7 +21,7 @@ pub fn block(bottom: u32, right: u32) -> Block {
 }
 
 // Whether the formula of the cell has this text.
-pub fn reads(engine: &mut Engine<Registry>, row: u32, col: u32, text: &str) -> bool {
+pub fn reads(engine: &mut Engine<NoCustoms>, row: u32, col: u32, text: &str) -> bool {
     match engine.formula(place(row, col)) {
         Ok(Some(shown)) => shown.as_str() == text,
         _ => false,

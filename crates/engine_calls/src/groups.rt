@@ -2,17 +2,17 @@
 ghost use Rattle.std.specs.Prelude.{◌≡◌, ◌<◌};
 
 use super::cells::{block, is_what_is_needed, is_what_needs, place, reads};
+use crate::no_customs::NoCustoms;
 use book_engine::{Engine, Stop};
 use book_model::Refusal;
 use cell_addr::Text;
 use cell_value::Scalar;
-use custom_fn::Registry;
 use std::marker::Brand;
 use std::sync::ledger::{Blank, Ledger};
 use steps::Steps;
 
 // Sheets are added, renamed, cleared and dropped; numbers go on.
-pub fn sheets_come_and_go(engine: &mut Engine<Registry>) -> Result<bool, Stop> {
+pub fn sheets_come_and_go(engine: &mut Engine<NoCustoms>) -> Result<bool, Stop> {
     engine.add_sheet("Plan")?;
     engine.add_sheet("Two")?;
     engine.rename_sheet(0, "My Plan")?;
@@ -29,7 +29,7 @@ pub fn sheets_come_and_go(engine: &mut Engine<Registry>) -> Result<bool, Stop> {
 }
 
 // Rows are put in, taken out and moved.
-pub fn formulas_follow_rows(engine: &mut Engine<Registry>) -> Result<bool, Stop> {
+pub fn formulas_follow_rows(engine: &mut Engine<NoCustoms>) -> Result<bool, Stop> {
     engine.add_sheet("Plan")?;
     engine.set(place(0, 0), "=B5+B9")?;
     engine.insert_rows(0, 2, 2)?;
@@ -39,7 +39,7 @@ pub fn formulas_follow_rows(engine: &mut Engine<Registry>) -> Result<bool, Stop>
 }
 
 // So are columns, and a block.
-pub fn formulas_follow_columns(engine: &mut Engine<Registry>) -> Result<bool, Stop> {
+pub fn formulas_follow_columns(engine: &mut Engine<NoCustoms>) -> Result<bool, Stop> {
     engine.add_sheet("Plan")?;
     engine.set(place(0, 0), "=B4")?;
     engine.insert_cols(0, 1, 1)?;
@@ -52,7 +52,7 @@ pub fn formulas_follow_columns(engine: &mut Engine<Registry>) -> Result<bool, St
 }
 
 // A batch is one step, which is undone and redone; values wait while they are suspended.
-pub fn steps_go_back_and_forward(engine: &mut Engine<Registry>) -> Result<bool, Stop> {
+pub fn steps_go_back_and_forward(engine: &mut Engine<NoCustoms>) -> Result<bool, Stop> {
     engine.add_sheet("Plan")?;
     engine.begin()?;
     engine.set(place(0, 0), "=B5")?;
@@ -67,7 +67,7 @@ pub fn steps_go_back_and_forward(engine: &mut Engine<Registry>) -> Result<bool, 
 }
 
 // How many steps are kept of three changes; `None` where none of them can be undone.
-pub fn kept(engine: &mut Engine<Registry>) -> Result<Option<usize>, Stop> {
+pub fn kept(engine: &mut Engine<NoCustoms>) -> Result<Option<usize>, Stop> {
     engine.add_sheet("Plan")?;
     engine.set(place(0, 0), "1")?;
     engine.set(place(0, 0), "2")?;
@@ -80,7 +80,7 @@ pub fn kept(engine: &mut Engine<Registry>) -> Result<Option<usize>, Stop> {
 }
 
 // Names are added, changed and removed in their scopes.
-pub fn names_come_and_go(engine: &mut Engine<Registry>) -> Result<bool, Stop> {
+pub fn names_come_and_go(engine: &mut Engine<NoCustoms>) -> Result<bool, Stop> {
     engine.add_sheet("Plan")?;
     engine.add_name("RATE", None, "=2*3")?;
     engine.add_name("Rate", Some(0), "=$A$1")?;
@@ -95,7 +95,7 @@ pub fn names_come_and_go(engine: &mut Engine<Registry>) -> Result<bool, Stop> {
 }
 
 // Blocks are copied, cut and pasted.
-pub fn blocks_are_pasted(engine: &mut Engine<Registry>) -> Result<bool, Stop> {
+pub fn blocks_are_pasted(engine: &mut Engine<NoCustoms>) -> Result<bool, Stop> {
     engine.add_sheet("Plan")?;
     engine.set(place(0, 0), "=B1")?;
     engine.copy(block(0, 0))?;
@@ -111,7 +111,7 @@ pub fn blocks_are_pasted(engine: &mut Engine<Registry>) -> Result<bool, Stop> {
 }
 
 // What a formula needs is listed in its order, and what needs a cell by place and then by name.
-pub fn links_are_listed_in_order(engine: &mut Engine<Registry>) -> Result<bool, Stop> {
+pub fn links_are_listed_in_order(engine: &mut Engine<NoCustoms>) -> Result<bool, Stop> {
     engine.add_sheet("Plan")?;
     engine.add_name("rate", None, "=Plan!$A$1")?;
     engine.set(place(2, 0), "=SUM(A1:B1)+A1+Rate+A1+unknown")?;
@@ -125,7 +125,7 @@ pub fn links_are_listed_in_order(engine: &mut Engine<Registry>) -> Result<bool, 
 }
 
 // Formulas call functions and names, and only what is on a cycle is a cycle.
-pub fn values_follow_names(engine: &mut Engine<Registry>) -> Result<bool, Stop> {
+pub fn values_follow_names(engine: &mut Engine<NoCustoms>) -> Result<bool, Stop> {
     engine.add_sheet("Plan")?;
     engine.add_name("Two", None, "=SUM(1,1)=2")?;
     engine.set(place(0, 0), "=TWO")?;
@@ -134,7 +134,7 @@ pub fn values_follow_names(engine: &mut Engine<Registry>) -> Result<bool, Stop> 
 }
 
 // Whether the first cell, a name and a formula all show TRUE.
-fn all_true<L: Ledger>(engine: &mut Engine<Registry>, blank: Blank) -> Result<bool, Stop>
+fn all_true<L: Ledger>(engine: &mut Engine<NoCustoms>, blank: Blank) -> Result<bool, Stop>
     requires name { blank.name ≡ L.name }
     requires parts { blank.parts ≡ L.parts }
     requires some { 0 < blank.parts }

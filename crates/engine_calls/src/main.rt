@@ -7,13 +7,14 @@ ghost use Rattle.book_model.specs.declared.limits.TheConstants.{MAX_UNDO};
 
 mod cells;
 mod groups;
+mod no_customs;
 
 use book_engine::{Engine, Stop};
 use book_model::{BookCell, BookCells, BookSheet};
 use cell_addr::Text;
 use cells::reads;
-use custom_fn::Registry;
 use groups::kept;
+use no_customs::NoCustoms;
 use std::alloc::Global;
 use std::io;
 use std::process::ExitCode;
@@ -44,7 +45,7 @@ impl Group {
     ];
 
     // Whether its calls answer as they should, over an engine without sheets.
-    fn holds(self, engine: &mut Engine<Registry>) -> Result<bool, Stop> {
+    fn holds(self, engine: &mut Engine<NoCustoms>) -> Result<bool, Stop> {
         match self {
             Group::Sheets => groups::sheets_come_and_go(engine),
             Group::Rows => groups::formulas_follow_rows(engine),
@@ -92,10 +93,10 @@ fn said(end: &Result<bool, Stop>) -> &'static str {
 }
 
 // An engine without sheets, of which so many steps can be undone.
-fn empty(alloc: Global, limit: u16) -> Result<Engine<Registry>, Stop>
+fn empty(alloc: Global, limit: u16) -> Result<Engine<NoCustoms>, Stop>
     requires { limit ≤ MAX_UNDO }
 {
-    let engine = Engine::build(alloc, &[], limit, Registry::new(alloc)?, 0)?;
+    let engine = Engine::build(alloc, &[], limit, NoCustoms, 0)?;
     Ok(engine)
 }
 
@@ -134,6 +135,6 @@ fn begins_with_given_sheets(alloc: Global) -> Result<bool, Stop> {
         name: Text::from_str(alloc, "Plan")?,
         cells,
     }];
-    let mut engine = Engine::build(alloc, &books, 20, Registry::new(alloc)?, 0)?;
+    let mut engine = Engine::build(alloc, &books, 20, NoCustoms, 0)?;
     Ok(reads(&mut engine, 0, 0, "=B2+1") && engine.first_sheet() == Some(0))
 }
