@@ -1,0 +1,58 @@
+-- A table of kept summaries. Source: this project's own.
+use Rattle.std.specs.Prelude.{◌≡◌, ℕ, ◌+◌, ◌-◌, ◌^◌, nat_lt, not, min, if◌then◌else◌, refl, Option, Some, None, is_some, option_and_then}
+use Rattle.std.specs.Coded.{Coded, code_by, coded×, coded_ℕ}
+use Rattle.std.specs.FinMap as map
+use Rattle.cell_addr.specs.Place.{IsBlockInside, covers}
+use Rattle.cell_addr.specs.declared.place.Block.{Block}
+use Rattle.cell_addr.specs.declared.place.Place.{Place}
+use Rattle.cell_value.specs.declared.scalar.Scalar.{Scalar}
+use Rattle.cell_value.specs.declared.summary.Summary.{Summary}
+use Rattle.cell_value.specs.contracts.summary.Summary as summary
+use Rattle.range_table.specs.Blocks.{BlockMap, block_code}
+use Rattle.range_table.specs.Cells.{cells_in, fold, width}
+
+-- the kept summaries by their blocks, and how many cells were merged so far
+pub record RangeTable : Type 0 where
+  pub kept : BlockMap Summary
+  pub merged : ℕ
+
+-- a table is stored as the pair of its fields
+abbrev pub table_code : Coded RangeTable
+table_code = code_by (BlockMap Summary × ℕ) (coded× (map.code block_code summary.the_row.coded) coded_ℕ) (λ t. (t.kept, t.merged)) (λ p. record { kept = p.0; merged = p.1 }) (λ _. refl)
+
+-- each kept summary is what the block's cells come to where places have these values
+abbrev pub AreFolds : (Place → Scalar) → BlockMap Summary → Type 0
+AreFolds values kept = (b : Block) (s : Summary) → map.get kept b ≡ Some s → s ≡ fold values b
+
+-- each kept block is on the sheet
+abbrev pub AreInside : BlockMap Summary → Type 0
+AreInside kept = (b : Block) (s : Summary) → map.get kept b ≡ Some s → IsBlockInside b
+
+-- the block without its last row, where it has more than one
+abbrev pub without_last_row : Block → Option Block
+without_last_row b = if nat_lt b.top b.bottom then Some (record b { bottom = b.bottom - 1 }) else None
+
+-- the summary from which that of a block can go on
+abbrev pub begun : BlockMap Summary → Block → Option Summary
+begun kept b = option_and_then (map.get kept) (without_last_row b)
+
+-- how many cells are left to merge: those of the last row after the summary of what is above it, and else all
+abbrev pub cells_left : Block → Option Summary → ℕ
+cells_left b (Some above) = width b
+cells_left b None = cells_in b
+
+-- how many cells are merged for the summary of a block: none where it is kept
+abbrev pub cells_to_merge : BlockMap Summary → Block → ℕ
+cells_to_merge kept b = if is_some (map.get kept b) then 0 else cells_left b (begun kept b)
+
+-- a count that goes up and stays at the greatest number of 64 bits
+abbrev pub counted_on : ℕ → ℕ → ℕ
+counted_on count more = min (count + more) (2 ^ 64 - 1)
+
+-- the table after the summary of a block was asked for
+abbrev pub with_summary : RangeTable → Block → Summary → RangeTable
+with_summary t b s = record { kept = map.insert t.kept b s; merged = counted_on t.merged (cells_to_merge t.kept b) }
+
+-- the map without the blocks that hold the place
+abbrev pub without_holders : Place → BlockMap Summary → BlockMap Summary
+without_holders p kept = map.retain_keys kept (λ b. not (covers b p))
