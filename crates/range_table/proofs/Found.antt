@@ -80,9 +80,6 @@ found-grows old new grows b found p covered =
     let (z, (size, has)) = of_one (λ y. listed old.lists (key_at p.sheet y p.row p.col)) b old.sizes.items (found p covered) in
     in_one (λ y. listed new.lists (key_at p.sheet y p.row p.col)) b new.sizes.items z (grows.sizes z size) (grows.lists (key_at p.sheet z p.row p.col) b has)
 
-pub Grows-self : (l : SlotLists) → Grows l l
-Grows-self l = record { lists = λ k b h. h; sizes = λ z h. h }
-
 pub Grows-on : (a b c : SlotLists) → Grows a b → Grows b c → Grows a c
 Grows-on a b c f g = record { lists = λ k x h. g.lists k x (f.lists k x h); sizes = λ z h. g.sizes z (f.sizes z h) }
 
@@ -100,9 +97,6 @@ cell_in s row col h =
     let rows = line_in s.rows row r in
     let cols = line_in s.cols col c in
     λ i. record { rows = rows i; cols = cols i }
-
-pub finds_none : (l : SlotLists) (b : Block) → FindsIn l b []
-finds_none l b row col h = absurd (cc)
 
 pub finds_more : (old new : SlotLists) (b : Block) (slots : List Slot) (i : ℕ) (d : Slot) → i < length slots → Grows old new → FindsIn old b (take i slots)
     → has_size (size_of (get_or slots i d)) new.sizes.items ≡ true → has_block b (listed new.lists (record { sheet = b.sheet; slot = get_or slots i d })) ≡ true → FindsIn new b (take (i + 1) slots)
@@ -184,9 +178,6 @@ key_test b c = same_test (is_at (key_cmp (key_of b)) (key_of c)) (same_block c b
     (same_block-decides c b) (sym, sym)
 
 module _ {X : Type 0} (p : Place) where
-  pub gives_none : (es : List (BlockKey × X)) → GivesUp [] p es es
-  gives_none es b = refl
-
   both : (s t u : Bool) (r : Option X) → cond (t && u) None (cond (s && u) None r) ≡ cond ((s || t) && u) None r
   both true true true r = refl
   both true true false r = refl
@@ -223,15 +214,10 @@ module _ {X : Type 0} (p : Place) where
   pub keeps_one : (b : Block) (a : List (BlockKey × X)) → covers b p ≡ false → GivesUp (b ∷ []) p a a
   keeps_one b a holds x = none_or (same_block x b) (covers x p) (kept_for a x) (λ same. subst (λ y. covers y p ≡ false) (sym ((same_block-decides x b).0 same)) holds)
 
-  -- the next block of a list holds the place, or doesn't
-  pub gives_next : (blocks : List Block) (i : ℕ) (d : Block) (a b c : List (BlockKey × X)) → i < length blocks → covers (get_or blocks i d) p ≡ true → GivesUp (take i blocks) p a b
-      → ((x : Block) → kept_for c x ≡ cond (is_at (key_cmp (key_of (get_or blocks i d))) (key_of x)) None (kept_for b x)) → GivesUp (take (i + 1) blocks) p a c
-  gives_next blocks i d a b c inside holds before gone =
-      subst (λ xs. GivesUp xs p a c) (sym (take_more blocks i d inside)) (gives_both (take i blocks) (get_or blocks i d ∷ []) a b c before (gives_one (get_or blocks i d) b c holds gone))
-
-  pub keeps_next : (blocks : List Block) (i : ℕ) (d : Block) (a b : List (BlockKey × X)) → i < length blocks → covers (get_or blocks i d) p ≡ false → GivesUp (take i blocks) p a b → GivesUp (take (i + 1) blocks) p a b
-  keeps_next blocks i d a b inside holds before =
-      subst (λ xs. GivesUp xs p a b) (sym (take_more blocks i d inside)) (gives_both (take i blocks) (get_or blocks i d ∷ []) a b b before (keeps_one (get_or blocks i d) b holds))
+  -- the next block of a list
+  pub gives_next : (blocks : List Block) (i : ℕ) (d : Block) (a b c : List (BlockKey × X)) → i < length blocks → GivesUp (take i blocks) p a b → GivesUp (get_or blocks i d ∷ []) p b c → GivesUp (take (i + 1) blocks) p a c
+  gives_next blocks i d a b c inside before next =
+      subst (λ xs. GivesUp xs p a c) (sym (take_more blocks i d inside)) (gives_both (take i blocks) (get_or blocks i d ∷ []) a b c before next)
 
   -- the blocks of the next size
   pub gives_size : (f : Size → List Block) (sizes : List Size) (i : ℕ) (d : Size) (a b c : List (BlockKey × X)) → i < length sizes → GivesUp (flat_map f (take i sizes)) p a b → GivesUp (f (get_or sizes i d)) p b c

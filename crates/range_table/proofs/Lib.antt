@@ -4,3 +4,4 @@ pub mod Maps
 pub mod Found
 pub mod Rows
 pub mod Staying
+pub mod Passing

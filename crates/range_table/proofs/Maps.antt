@@ -25,17 +25,13 @@ pub own_key : (b : Block) → is_at (key_cmp (key_of b)) (key_of b) ≡ true
 own_key b = (eq_by_cmp-decides block_cmp-IsTotalOrder block_cmp-IsAntisymmetric b b).1 refl
 
 module _ {X : Type 0} where
-  found : (es : List (BlockKey × X)) (b : Block) → find block_cmp b (map (λ e. (block_of e.0, e.1)) es) ≡ kept_for es b
+  pub found : (es : List (BlockKey × X)) (b : Block) → find block_cmp b (map (λ e. (block_of e.0, e.1)) es) ≡ kept_for es b
   found [] b = refl
   found (e ∷ es) b = ap (λ r. cond (is_eq (key_cmp (key_of b) e.0)) (Some e.1) r) (found es b)
 
   -- what the map has for a block is what is kept for it
   pub get-map_of : (es : List (BlockKey × X)) (b : Block) → get (map_of es) b ≡ kept_for es b
   get-map_of es b = get-from_entries block_cmp-IsTotalOrder (map (λ e. (block_of e.0, e.1)) es) b ∙ found es b
-
-  -- entries that keep the same stand for the same map
-  pub same-map_of : (es fs : List (BlockKey × X)) → ((b : Block) → kept_for fs b ≡ kept_for es b) → map_of fs ≡ map_of es
-  same-map_of es fs h = same_map block_cmp-IsTotalOrder block_cmp-IsAntisymmetric _ _ (λ b. get-map_of fs b ∙ h b ∙ sym (get-map_of es b))
 
   -- entries that were changed for one block stand for the map with that block
   pub map_of-insert : (es fs : List (BlockKey × X)) (b : Block) (x : X)
@@ -136,16 +132,26 @@ module _ {X : Type 0} where
 
   -- after an insertion that went well, or that changed nothing
   pub each-inserted : {A B : Type 0} (r : Result A B) (P : Block → Type 0) (es fs : List (BlockKey × X)) (b : Block) (x : X)
-      → OnOk r ((q : BlockKey) → lookup (is_at (key_cmp q)) fs ≡ cond (is_at (key_cmp (key_of b)) q) (Some x) (lookup (is_at (key_cmp q)) es)) → OnErr r (fs ≡ es)
+      → OnOk r ((d : Block) → kept_for fs d ≡ cond (is_at (key_cmp (key_of b)) (key_of d)) (Some x) (kept_for es d)) → OnErr r (fs ≡ es)
       → P b → ((c : Block) → IsSome (kept_for es c) → P c) → (c : Block) → IsSome (kept_for fs c) → P c
-  each-inserted (Ok _) P es fs b x ok err here old = each-put P es fs b x (λ c. ok (key_of c)) here old
+  each-inserted (Ok _) P es fs b x ok err here old c some = each-put P es fs b x ok here old c some
   each-inserted (Err _) P es fs b x ok err here old c some = old c (subst (λ z. IsSome (kept_for z c)) err some)
 
   pub values-inserted : {A B : Type 0} (r : Result A B) (P : X → Type 0) (es fs : List (BlockKey × X)) (b : Block) (x : X)
-      → OnOk r ((q : BlockKey) → lookup (is_at (key_cmp q)) fs ≡ cond (is_at (key_cmp (key_of b)) q) (Some x) (lookup (is_at (key_cmp q)) es)) → OnErr r (fs ≡ es)
+      → OnOk r ((d : Block) → kept_for fs d ≡ cond (is_at (key_cmp (key_of b)) (key_of d)) (Some x) (kept_for es d)) → OnErr r (fs ≡ es)
       → P x → ((c : Block) (y : X) → kept_for es c ≡ Some y → P y) → (c : Block) (y : X) → kept_for fs c ≡ Some y → P y
-  values-inserted (Ok _) P es fs b x ok err here old = each-value P es fs b x (λ c. ok (key_of c)) here old
+  values-inserted (Ok _) P es fs b x ok err here old c y is = each-value P es fs b x ok here old c y is
   values-inserted (Err _) P es fs b x ok err here old c y is = old c y (ap (λ z. kept_for z c) (sym err) ∙ is)
+
+  -- the map after an insertion that went well, and after one that didn't, where the entries were those of an earlier list
+  pub inserted-ok : {A B : Type 0} (r : Result A B) (old es fs : List (BlockKey × X)) (b : Block) (x : X) → es ≡ old
+      → OnOk r ((d : Block) → kept_for fs d ≡ cond (is_at (key_cmp (key_of b)) (key_of d)) (Some x) (kept_for es d)) → OnOk r (map_of fs ≡ insert (map_of old) b x)
+  inserted-ok (Ok _) old es fs b x same ok = map_of-insert es fs b x ok ∙ ap (λ z. insert (map_of z) b x) same
+  inserted-ok (Err _) old es fs b x same ok = tt
+
+  pub inserted-err : {A B : Type 0} (r : Result A B) (old es fs : List (BlockKey × X)) → es ≡ old → OnErr r (fs ≡ es) → OnErr r (map_of fs ≡ map_of old)
+  inserted-err (Ok _) old es fs same err = tt
+  inserted-err (Err _) old es fs same err = ap map_of (err ∙ same)
 
 -- ---- blocks that are known
 

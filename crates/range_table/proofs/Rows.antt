@@ -27,7 +27,10 @@ nothing_yet = refl
 
 -- a block of at most so many cells
 pub cells_fit : (b : Block) → IsBlockInside b → cells_in b ≤ 40000 * 18278
-cells_fit b (rows, bottom, cols, right) = mul-le-mul {m = height b} {n = 40000} {k = width b} {l = 18278} (omega arith) (omega arith)
+cells_fit b (rows, bottom, cols, right) =
+    let high : height b ≤ 40000 = omega arith in
+    let wide : width b ≤ 18278 = omega arith in
+    mul-le-mul high wide
 
 pub one_row : (b : Block) → cells_in (last_row b) ≡ width b
 one_row b =

@@ -1,9 +1,11 @@
 -- Kept summaries that stay right, and how many cells are merged. Serves the laws.
 use Rattle.std.proofs.Common.{◌≡◌, ◌∙◌, sym, ap, ap₂, refl, subst, arith, ℕ, zero, suc, ◌+◌, ◌-◌, ◌*◌, ◌<◌, ◌≤◌, Bool, true, false, cond, not, List, ◌∷◌, ◌++◌, map, Option, Some, None, IsSome, is_some}
-use Rattle.std.specs.FinMap.{get, get-retain_keys}
+use Rattle.std.specs.FinMap.{empty, get, get-empty, get-insert, get-retain_keys, insert}
 use Rattle.std.specs.List.{flat_map, range_with_len}
 use Rattle.std.proofs.Math.Nat.{mul-le-mul_right, suc-mul, zero-mul}
+use Rattle.std.specs.Ordering.{eq_by_cmp}
 use Rattle.std.proofs.lemmas.Bool.Decides.{nat_tests}
+use Rattle.std.proofs.lemmas.Option.{same_Some}
 use Rattle.cell_addr.specs.Place.{IsBlockInside, covers}
 use Rattle.cell_addr.specs.declared.place.Block.{Block}
 use Rattle.cell_addr.specs.declared.place.Place.{Place}
@@ -14,7 +16,8 @@ use Rattle.range_table.specs.Blocks.{BlockMap, block_cmp}
 use Rattle.range_table.specs.Cells.{block_values, cells_in, fold, height, row_values, width}
 use Rattle.range_table.specs.Laws.{FewCellsAreMerged, TouchedTablesStayRight}
 use Rattle.range_table.specs.Table.{AreFolds, begun, cells_left, cells_to_merge, without_holders}
-use Rattle.range_table.proofs.Orders.{block_cmp-IsAntisymmetric}
+use Rattle.shift_core.proofs.CarriedEntries.{eq_by_cmp-decides}
+use Rattle.range_table.proofs.Orders.{block_cmp-IsAntisymmetric, block_cmp-IsTotalOrder}
 
 -- what is the same of each number of a range is the same of all
 map_range : {X : Type 0} (f g : ℕ → X) (from n : ℕ) → ((k : ℕ) → from ≤ k → k < from + n → f k ≡ g k) → map f (range_with_len from n) ≡ map g (range_with_len from n)
@@ -43,7 +46,7 @@ left_by false r s h = (refl, h)
 pub touched_stay_right : TouchedTablesStayRight
 touched_stay_right before after changed kept same right b s is =
     let (apart, had) = left_by (covers b changed) (get kept b) s
-        (sym (get-retain_keys kept (λ x. not (covers x changed)) b (λ x tied. ap (λ y. not (covers y changed)) (sym (block_cmp-IsAntisymmetric b x tied)))) ∙ is) in
+    (sym (get-retain_keys kept (λ x. not (covers x changed)) b (λ x tied. ap (λ y. not (covers y changed)) (sym (block_cmp-IsAntisymmetric b x tied)))) ∙ is) in
     right b s had ∙ folds_alike before after b (λ p holds. sym (same p (λ e. let bad = sym apart ∙ ap (covers b) (sym e) ∙ holds in cc)))
 
 one_row_fits : (b : Block) → b.top ≤ b.bottom → width b ≤ cells_in b
@@ -61,3 +64,17 @@ few-by b one None None = (omega arith, (λ some. cc), (λ some. cc), (λ none. o
 
 pub few_are_merged : FewCellsAreMerged
 few_are_merged kept b inside = few-by b (one_row_fits b inside.0) (get kept b) (begun kept b)
+
+-- nothing kept is right
+pub nothing_right : (values : Place → Scalar) → AreFolds values empty
+nothing_right values b s is = let none = sym (get-empty block_cmp b) ∙ is in absurd (cc)
+
+right-by : (values : Place → Scalar) (b c : Block) (s x : Summary) (t : Bool) (r : Option Summary) → (t ≡ true → c ≡ b) → s ≡ fold values b → (r ≡ Some x → x ≡ fold values c) → cond t (Some s) r ≡ Some x → x ≡ fold values c
+right-by values b c s x true r same here other is = sym (same_Some s x is) ∙ here ∙ ap (fold values) (sym (same refl))
+right-by values b c s x false r same here other is = other is
+
+-- a summary that is right may be added
+pub added_right : (values : Place → Scalar) (kept : BlockMap Summary) (b : Block) (s : Summary) → s ≡ fold values b → AreFolds values kept → AreFolds values (insert kept b s)
+added_right values kept b s here right c x is =
+    right-by values b c s x (eq_by_cmp block_cmp c b) (get kept c) (λ t. (eq_by_cmp-decides block_cmp-IsTotalOrder block_cmp-IsAntisymmetric c b).0 t) here (right c x)
+    (sym (get-insert block_cmp-IsTotalOrder kept b s c) ∙ is)

@@ -1,6 +1,4 @@
 -- Finite maps from blocks. Source: this project's own.
-use Rattle.std.specs.Prelude.{ℕ, refl}
-use Rattle.std.specs.Coded.{Coded, code_by, coded×, coded_ℕ}
 use Rattle.std.specs.FinMap as map
 use Rattle.std.specs.Ordering.{nat_cmp, ordering_then}
 use Rattle.std.specs.declared.cmp.Ordering.{Ordering}
@@ -13,10 +11,3 @@ block_cmp a b = ordering_then (nat_cmp a.sheet b.sheet) (ordering_then (nat_cmp 
 -- a finite map from blocks
 abbrev pub BlockMap : Type 0 → Type 0
 BlockMap X = map.FinMap block_cmp X
-
--- a block is stored as its sheet and its ends
-abbrev pub block_code : Coded Block
-block_code =
-    code_by (ℕ × (ℕ × (ℕ × (ℕ × ℕ)))) (coded× coded_ℕ (coded× coded_ℕ (coded× coded_ℕ (coded× coded_ℕ coded_ℕ))))
-    (λ b. (b.sheet, (b.top, (b.left, (b.bottom, b.right)))))
-    (λ t. record { sheet = t.0; top = t.1.0; left = t.1.1.0; bottom = t.1.1.1.0; right = t.1.1.1.1 }) (λ _. refl)

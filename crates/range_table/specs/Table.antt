@@ -1,14 +1,12 @@
 -- A table of kept summaries. Source: this project's own.
-use Rattle.std.specs.Prelude.{◌≡◌, ℕ, ◌+◌, ◌-◌, ◌^◌, nat_lt, not, min, if◌then◌else◌, refl, Option, Some, None, is_some, option_and_then}
-use Rattle.std.specs.Coded.{Coded, code_by, coded×, coded_ℕ}
+use Rattle.std.specs.Prelude.{◌≡◌, ℕ, ◌+◌, ◌-◌, ◌^◌, nat_lt, not, min, if◌then◌else◌, Option, Some, None, is_some, option_and_then}
 use Rattle.std.specs.FinMap as map
-use Rattle.cell_addr.specs.Place.{IsBlockInside, covers}
+use Rattle.cell_addr.specs.Place.{covers}
 use Rattle.cell_addr.specs.declared.place.Block.{Block}
 use Rattle.cell_addr.specs.declared.place.Place.{Place}
 use Rattle.cell_value.specs.declared.scalar.Scalar.{Scalar}
 use Rattle.cell_value.specs.declared.summary.Summary.{Summary}
-use Rattle.cell_value.specs.contracts.summary.Summary as summary
-use Rattle.range_table.specs.Blocks.{BlockMap, block_code}
+use Rattle.range_table.specs.Blocks.{BlockMap}
 use Rattle.range_table.specs.Cells.{cells_in, fold, width}
 
 -- the kept summaries by their blocks, and how many cells were merged so far
@@ -16,17 +14,9 @@ pub record RangeTable : Type 0 where
   pub kept : BlockMap Summary
   pub merged : ℕ
 
--- a table is stored as the pair of its fields
-abbrev pub table_code : Coded RangeTable
-table_code = code_by (BlockMap Summary × ℕ) (coded× (map.code block_code summary.the_row.coded) coded_ℕ) (λ t. (t.kept, t.merged)) (λ p. record { kept = p.0; merged = p.1 }) (λ _. refl)
-
 -- each kept summary is what the block's cells come to where places have these values
 abbrev pub AreFolds : (Place → Scalar) → BlockMap Summary → Type 0
 AreFolds values kept = (b : Block) (s : Summary) → map.get kept b ≡ Some s → s ≡ fold values b
-
--- each kept block is on the sheet
-abbrev pub AreInside : BlockMap Summary → Type 0
-AreInside kept = (b : Block) (s : Summary) → map.get kept b ≡ Some s → IsBlockInside b
 
 -- the block without its last row, where it has more than one
 abbrev pub without_last_row : Block → Option Block
@@ -50,9 +40,13 @@ abbrev pub counted_on : ℕ → ℕ → ℕ
 counted_on count more = min (count + more) (2 ^ 64 - 1)
 
 -- the table after the summary of a block was asked for
-abbrev pub with_summary : RangeTable → Block → Summary → RangeTable
-with_summary t b s = record { kept = map.insert t.kept b s; merged = counted_on t.merged (cells_to_merge t.kept b) }
+abbrev pub with_summary : Block → Summary → RangeTable → RangeTable
+with_summary b s t = record { kept = map.insert t.kept b s; merged = counted_on t.merged (cells_to_merge t.kept b) }
 
 -- the map without the blocks that hold the place
 abbrev pub without_holders : Place → BlockMap Summary → BlockMap Summary
 without_holders p kept = map.retain_keys kept (λ b. not (covers b p))
+
+-- the table after a place was touched
+abbrev pub touched : Place → RangeTable → RangeTable
+touched p t = record { kept = without_holders p t.kept; merged = t.merged }

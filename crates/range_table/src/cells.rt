@@ -8,8 +8,8 @@ ghost use Rattle.range_table.specs.Cells.{block_values, cells_in, row_values, wi
 
 use cell_addr::{Block, Place};
 use cell_value::{Scalar, Summary};
-use steps::Steps;
 use std::sync::ledger::Ledger;
+use steps::Steps;
 
 /// Cells that have values, read one by one.
 pub trait Cells {

@@ -1,5 +1,5 @@
 // Kept summaries under their blocks, and the lists by which a place finds them.
-ghost use Rattle.std.specs.Prelude.{◌≡◌, true, if◌then◌else◌, IsSome, None, Some};
+ghost use Rattle.std.specs.Prelude.{◌≡◌, ◌∷◌, [], true, if◌then◌else◌, IsSome, None, Some, OnOk, OnErr};
 ghost use Rattle.std.specs.BTreeMap.{is_at};
 ghost use Rattle.std.specs.BTreeSet as set;
 ghost use Rattle.cell_addr.specs.Place.{IsBlockInside};
@@ -30,8 +30,9 @@ pub(crate) struct Kept {
 }
 
 impl Kept {
-    ghost use Rattle.std.specs.Prelude.{[], IfSome, IsOk, OnOk, OnErr, option_map};
+    ghost use Rattle.std.specs.Prelude.{IfOk, IfSome};
     ghost use Rattle.std.specs.FinMap as map;
+    ghost use Rattle.cell_value.specs.Summary.{no_values};
     ghost use Rattle.range_table.specs.Table.{without_holders};
     ghost use Rattle.range_table.specs.internal.Keys.{map_of};
 
@@ -54,17 +55,15 @@ impl Kept {
         self.summaries.get(&BlockKey::of(b)).copied()
     }
 
-    // Keeps the summary for the block, in place of the one that it had. For want of memory all is kept as it was; a
-    // block that has one takes none.
-    pub(crate) fn put(&mut self, b: Block, summary: Summary) -> Result<(), AllocError>
-        requires inside { IsBlockInside b }
-        requires bounded { IsBounded summary }
-        ensures ok { OnOk result (map_of self.new.summaries.entries ≡ map.insert (map_of self.old.summaries.entries) b summary) }
+    // Keeps the summary of no values for the block, so that it can be replaced without memory. For want of memory all is
+    // kept as it was.
+    pub(crate) fn make_room(&mut self, b: Block) -> Result<(), AllocError>
+        requires { IsBlockInside b }
+        ensures ok { OnOk result (map_of self.new.summaries.entries ≡ map.insert (map_of self.old.summaries.entries) b no_values) }
         ensures err { OnErr result (map_of self.new.summaries.entries ≡ map_of self.old.summaries.entries) }
     {
         self.know(b)?;
-        self.summaries.insert(BlockKey::of(b), summary)?;
-        Ok(())
+        insert(&mut self.summaries, b, Summary::new())
     }
 
     // Lists the block under its slots, unless it is.
@@ -92,6 +91,19 @@ impl Kept {
         }
     }
 
+    // Equal summaries. Costs their number, and that of the slots of their blocks.
+    #[tactic(auto, using(crate::proofs::Passing::copied_all))]
+    pub(crate) fn copied(&self) -> Result<Kept, AllocError>
+        ensures { IfOk result (λ copy. map_of copy.summaries.entries ≡ map_of self.now.summaries.entries) }
+    {
+        let mut copy = Kept::new(self.lists.alloc);
+        for (key, summary) in &self.summaries {
+            copy.make_room(key.block())?;
+            copy.replace(key.block(), *summary);
+        }
+        Ok(copy)
+    }
+
     // Gives up the summaries whose blocks hold the place.
     pub(crate) fn give_up(&mut self, at: Place)
         ensures { map_of self.new.summaries.entries ≡ without_holders at (map_of self.old.summaries.entries) }
@@ -110,20 +122,38 @@ fn give_up_found(summaries: &mut BTreeMap<BlockKey, Summary>, lists: &SlotLists,
 }
 
 // Gives up the summaries of those of the blocks that hold the place.
-#[tactic(auto, using(crate::proofs::Found::gives_next, crate::proofs::Found::keeps_next))]
 fn give_up_listed(summaries: &mut BTreeMap<BlockKey, Summary>, blocks: &[Block], at: Place)
     ensures { GivesUp blocks.now at summaries.old.entries summaries.new.entries }
 {
     'listed: for block in blocks {
-        if block.holds(at) {
-            give_up_one(summaries, *block);
-        }
+        give_up_one(summaries, *block, at);
     }
 }
 
-// Gives up the summary of one block.
-fn give_up_one(summaries: &mut BTreeMap<BlockKey, Summary>, b: Block)
+// Gives up the summary of the block where it holds the place.
+#[tactic(auto, using(crate::proofs::Found::gives_one, crate::proofs::Found::keeps_one))]
+fn give_up_one(summaries: &mut BTreeMap<BlockKey, Summary>, b: Block, at: Place)
+    ensures { GivesUp (b ∷ []) at summaries.old.entries summaries.new.entries }
+{
+    if b.holds(at) {
+        remove(summaries, b);
+    }
+}
+
+// Keeps nothing for the block any more.
+fn remove(summaries: &mut BTreeMap<BlockKey, Summary>, b: Block)
     ensures { (c : Block) → kept_for summaries.new.entries c ≡ (if is_at (key_cmp (key_of b)) (key_of c) then None else kept_for summaries.old.entries c) }
 {
     summaries.remove(&BlockKey::of(b));
+}
+
+// Keeps this for the block, in place of what was kept for it.
+fn insert<X: Copy>(kept: &mut BTreeMap<BlockKey, X>, b: Block, x: X) -> Result<(), AllocError>
+    ensures ok { OnOk result ((c : Block) → kept_for kept.new.entries c ≡ (if is_at (key_cmp (key_of b)) (key_of c) then Some x else kept_for kept.old.entries c)) }
+    ensures err { OnErr result (kept.new.entries ≡ kept.old.entries) }
+{
+    match kept.insert(BlockKey::of(b), x) {
+        Ok(_) => Ok(()),
+        Err(_) => Err(AllocError),
+    }
 }

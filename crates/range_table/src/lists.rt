@@ -23,7 +23,7 @@ pub(crate) struct SlotKey {
 // Blocks under the slots of their cells.
 #[derive(Drop)]
 pub(crate) struct SlotLists {
-    alloc: Global,
+    pub(crate) alloc: Global,
     lists: BTreeMap<SlotKey, Vec<Block>>,
     // The sizes of the slots that have a list, each once.
     pub(crate) sizes: Vec<Size>,

@@ -16,10 +16,10 @@ rows-preserved g c =
     let next : (c.rows.row + 1 - b.top) * width b ≡ suc n * width b = ap (λ k. k * width b) after in
     let more = suc-mul n (width b) in record {
       sums = λ xs e.
-          c.with_row.ensures.sums (xs ++ flat_map f (range_with_len b.top n)) (i.sums xs e)
+          c.with_row-total.ensures.sums (xs ++ flat_map f (range_with_len b.top n)) (i.sums xs e)
           ∙ ap summary_of (row_more f b.top n c.rows.row (c.rows.row + 1 - b.top) (omega (arith, i.from)) (omega (arith, i.from)) xs);
-      count = omega (arith, c.with_row.ensures.count, i.count, next, more);
-      bounded = c.with_row.ensures.bounded;
-      steps = omega (arith, c.with_row.ensures.steps, i.steps, next, more);
+      count = omega (arith, c.with_row-total.ensures.count, i.count, next, more);
+      bounded = c.with_row-total.ensures.bounded;
+      steps = omega (arith, c.with_row-total.ensures.steps, i.steps, next, more);
       from = omega (arith, i.from);
     }

@@ -6,10 +6,10 @@ use Rattle.range_table.proofs.lists.SlotLists.list.Goals as goal
 
 pub slots-preserved : goal.slots-preserved
 slots-preserved c = (
-    Grows-on c.args.self.now c.slots.self c.list_under.new.self c.slots.invariant.0 c.list_under.ensures.grows,
-    finds_more c.slots.self c.list_under.new.self c.args.b c.deref-slot-items.result.now c.slots.slot-index _ c.slots-test.true c.list_under.ensures.grows c.slots.invariant.1
-    c.in_ok-list_under.ensures.size c.in_ok-list_under.ensures.listed,
-  )
+  Grows-on c.args.self.now c.slots.self c.list_under.new.self c.slots.invariant.0 c.list_under.ensures.grows,
+  finds_more c.slots.self c.list_under.new.self c.args.b c.deref-slot-items.result.now c.slots.slot-index _ c.slots-test.true c.list_under.ensures.grows c.slots.invariant.1
+      c.in_ok-list_under.ensures.size c.in_ok-list_under.ensures.listed,
+)
 
 pub returns-clause-found : goal.returns-clause-found
 returns-clause-found c =
