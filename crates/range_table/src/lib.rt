@@ -20,6 +20,8 @@ mod laws;
 mod lists;
 mod ranges;
 mod summing;
+#[cfg(test)]
+mod tests;
 
 pub use cell_value::Summary;
 pub use cells::Cells;
