@@ -1,0 +1,80 @@
+-- Kept summaries that stay right, and how many cells are merged. Serves the laws.
+use Rattle.std.proofs.Common.{◌≡◌, ◌∙◌, sym, ap, ap₂, refl, subst, arith, ℕ, zero, suc, ◌+◌, ◌-◌, ◌*◌, ◌<◌, ◌≤◌, Bool, true, false, cond, not, List, ◌∷◌, ◌++◌, map, Option, Some, None, IsSome, is_some}
+use Rattle.std.specs.FinMap.{empty, get, get-empty, get-insert, get-retain_keys, insert}
+use Rattle.std.specs.List.{flat_map, range_with_len}
+use Rattle.std.proofs.Math.Nat.{mul-le-mul_right, suc-mul, zero-mul}
+use Rattle.std.specs.Ordering.{eq_by_cmp}
+use Rattle.std.proofs.lemmas.Bool.Decides.{nat_tests}
+use Rattle.std.proofs.lemmas.Option.{same_Some}
+use Rattle.cell_addr.specs.Place.{IsBlockInside, covers}
+use Rattle.cell_addr.specs.declared.place.Block.{Block}
+use Rattle.cell_addr.specs.declared.place.Place.{Place}
+use Rattle.cell_value.specs.Summary.{summary_of}
+use Rattle.cell_value.specs.declared.scalar.Scalar.{Scalar}
+use Rattle.cell_value.specs.declared.summary.Summary.{Summary}
+use Rattle.range_table.specs.Blocks.{BlockMap, block_cmp}
+use Rattle.range_table.specs.Cells.{block_values, cells_in, fold, height, row_values, width}
+use Rattle.range_table.specs.Laws.{FewCellsAreMerged, TouchedTablesStayRight}
+use Rattle.range_table.specs.Table.{AreFolds, begun, cells_left, cells_to_merge, without_holders}
+use Rattle.shift_core.proofs.CarriedEntries.{eq_by_cmp-decides}
+use Rattle.range_table.proofs.Orders.{block_cmp-IsAntisymmetric, block_cmp-IsTotalOrder}
+
+-- what is the same of each number of a range is the same of all
+map_range : {X : Type 0} (f g : ℕ → X) (from n : ℕ) → ((k : ℕ) → from ≤ k → k < from + n → f k ≡ g k) → map f (range_with_len from n) ≡ map g (range_with_len from n)
+map_range f g from zero same = refl
+map_range f g from (suc n) same =
+    ap₂ (λ x xs. x ∷ xs) (same from (omega arith) (omega arith)) (map_range f g (from + 1) n (λ k low high. same k (omega arith) (omega arith)))
+
+flat_range : {X : Type 0} (f g : ℕ → List X) (from n : ℕ) → ((k : ℕ) → from ≤ k → k < from + n → f k ≡ g k) → flat_map f (range_with_len from n) ≡ flat_map g (range_with_len from n)
+flat_range f g from zero same = refl
+flat_range f g from (suc n) same =
+    ap₂ (λ xs ys. xs ++ ys) (same from (omega arith) (omega arith)) (flat_range f g (from + 1) n (λ k low high. same k (omega arith) (omega arith)))
+
+covered : (b : Block) (row col : ℕ) → b.top ≤ row → row ≤ b.bottom → b.left ≤ col → col ≤ b.right → covers b (record { sheet = b.sheet; row = row; col = col }) ≡ true
+covered b row col top bottom left right = grind (arith, nat_tests)
+
+-- blocks whose places have the same values come to the same
+pub folds_alike : (v w : Place → Scalar) (b : Block) → ((p : Place) → covers b p ≡ true → v p ≡ w p) → fold v b ≡ fold w b
+folds_alike v w b alike = ap summary_of (flat_range (row_values v b) (row_values w b) b.top (height b) (λ row low high.
+    map_range (λ col. v (record { sheet = b.sheet; row = row; col = col })) (λ col. w (record { sheet = b.sheet; row = row; col = col })) b.left (width b)
+    (λ col from to. alike (record { sheet = b.sheet; row = row; col = col }) (covered b row col low (omega arith) from (omega arith)))))
+
+left_by : (t : Bool) (r : Option Summary) (s : Summary) → cond (not t) r None ≡ Some s → (t ≡ false) × (r ≡ Some s)
+left_by true r s h = absurd (cc)
+left_by false r s h = (refl, h)
+
+pub touched_stay_right : TouchedTablesStayRight
+touched_stay_right before after changed kept same right b s is =
+    let (apart, had) = left_by (covers b changed) (get kept b) s
+    (sym (get-retain_keys kept (λ x. not (covers x changed)) b (λ x tied. ap (λ y. not (covers y changed)) (sym (block_cmp-IsAntisymmetric b x tied)))) ∙ is) in
+    right b s had ∙ folds_alike before after b (λ p holds. sym (same p (λ e. let bad = sym apart ∙ ap (covers b) (sym e) ∙ holds in cc)))
+
+one_row_fits : (b : Block) → b.top ≤ b.bottom → width b ≤ cells_in b
+one_row_fits b rows =
+    let more : 1 * width b ≤ height b * width b = mul-le-mul_right {m = 1} {n = height b} (width b) (omega arith) in
+    let one = suc-mul 0 (width b) in
+    let none = zero-mul (width b) in
+    omega (arith, more, one, none)
+
+few-by : (b : Block) → width b ≤ cells_in b → (r q : Option Summary)
+    → (cond (is_some r) 0 (cells_left b q) ≤ cells_in b) × (IsSome r → cond (is_some r) 0 (cells_left b q) ≡ 0) × (IsSome q → cond (is_some r) 0 (cells_left b q) ≤ width b) × (r ≡ None → width b ≤ cond (is_some r) 0 (cells_left b q))
+few-by b one (Some s) q = (omega arith, (λ some. refl), (λ some. omega arith), (λ none. cc))
+few-by b one None (Some t) = (one, (λ some. cc), (λ some. omega arith), (λ none. omega arith))
+few-by b one None None = (omega arith, (λ some. cc), (λ some. cc), (λ none. one))
+
+pub few_are_merged : FewCellsAreMerged
+few_are_merged kept b inside = few-by b (one_row_fits b inside.0) (get kept b) (begun kept b)
+
+-- nothing kept is right
+pub nothing_right : (values : Place → Scalar) → AreFolds values empty
+nothing_right values b s is = let none = sym (get-empty block_cmp b) ∙ is in absurd (cc)
+
+right-by : (values : Place → Scalar) (b c : Block) (s x : Summary) (t : Bool) (r : Option Summary) → (t ≡ true → c ≡ b) → s ≡ fold values b → (r ≡ Some x → x ≡ fold values c) → cond t (Some s) r ≡ Some x → x ≡ fold values c
+right-by values b c s x true r same here other is = sym (same_Some s x is) ∙ here ∙ ap (fold values) (sym (same refl))
+right-by values b c s x false r same here other is = other is
+
+-- a summary that is right may be added
+pub added_right : (values : Place → Scalar) (kept : BlockMap Summary) (b : Block) (s : Summary) → s ≡ fold values b → AreFolds values kept → AreFolds values (insert kept b s)
+added_right values kept b s here right c x is =
+    right-by values b c s x (eq_by_cmp block_cmp c b) (get kept c) (λ t. (eq_by_cmp-decides block_cmp-IsTotalOrder block_cmp-IsAntisymmetric c b).0 t) here (right c x)
+    (sym (get-insert block_cmp-IsTotalOrder kept b s c) ∙ is)

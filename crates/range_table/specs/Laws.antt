@@ -1,0 +1,27 @@
+-- What keeps a table right, and how many cells are merged.
+use Rattle.std.specs.Prelude.{◌≡◌, ◌≤◌, Some, None, IsSome}
+use Rattle.std.specs.FinMap as map
+use Rattle.cell_addr.specs.Place.{IsBlockInside}
+use Rattle.cell_addr.specs.declared.place.Block.{Block}
+use Rattle.cell_addr.specs.declared.place.Place.{Place}
+use Rattle.cell_value.specs.declared.scalar.Scalar.{Scalar}
+use Rattle.cell_value.specs.declared.summary.Summary.{Summary}
+use Rattle.range_table.specs.Blocks.{BlockMap}
+use Rattle.range_table.specs.Cells.{cells_in, width}
+use Rattle.range_table.specs.Table.{AreFolds, begun, cells_to_merge, without_holders}
+
+-- summaries that are right stay so where one place gets another value and those whose blocks hold it are given up
+abbrev pub TouchedTablesStayRight : Type 0
+TouchedTablesStayRight =
+    (before after : Place → Scalar) (changed : Place) (kept : BlockMap Summary) →
+    ((p : Place) → ¬ (p ≡ changed) → after p ≡ before p) → AreFolds before kept → AreFolds after (without_holders changed kept)
+
+-- never more cells are merged than the block has, none where its summary is kept, no more than its width where that of the
+-- block without its last row is kept, and at least its width where its own isn't
+abbrev pub FewCellsAreMerged : Type 0
+FewCellsAreMerged =
+    (kept : BlockMap Summary) (b : Block) → IsBlockInside b →
+    (cells_to_merge kept b ≤ cells_in b)
+    × (IsSome (map.get kept b) → cells_to_merge kept b ≡ 0)
+    × (IsSome (begun kept b) → cells_to_merge kept b ≤ width b)
+    × (map.get kept b ≡ None → width b ≤ cells_to_merge kept b)

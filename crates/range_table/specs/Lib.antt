@@ -1,0 +1,6 @@
+pub mod Blocks
+pub mod Cells
+pub mod Table
+pub mod Ranges
+pub mod Laws
+pub mod internal

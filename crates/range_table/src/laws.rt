@@ -1,0 +1,13 @@
+// What keeps kept summaries right, and how many cells are merged. The functions do nothing: what each ensures is the law.
+ghost use Rattle.range_table.specs.Laws.{FewCellsAreMerged, TouchedTablesStayRight};
+
+/// Kept summaries that are right stay so where one place gets another value and is touched.
+pub fn touched_tables_stay_right()
+    ensures { TouchedTablesStayRight }
+{}
+
+/// Never more cells are merged for a block than it has, none where its summary is kept, no more than its width where that
+/// of the block without its last row is kept, and at least its width where its own isn't.
+pub fn few_cells_are_merged()
+    ensures { FewCellsAreMerged }
+{}

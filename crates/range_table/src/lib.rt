@@ -1,0 +1,29 @@
+//! Kept summaries of ranges: what the numbers of a block's cells come to, worked out anew only as far as it must be.
+//!
+//! A [`Ranges`] stands for a finite map from blocks to summaries. [`Ranges::summary`] answers that of a block of cells that
+//! have values, as [`Cells`] tells them, and keeps it. Where that of the block without its last row is kept, only the last
+//! row is merged, so prefix sums over n rows cost n cells and not their square. [`Ranges::touch`] gives up the summaries
+//! whose blocks hold a cell that gets another value; these are found by slots, with no scan of all blocks.
+//!
+//! ```text
+//! let mut ranges = Ranges::new(alloc)?;
+//! ranges.summary(rows_1_to_3, &cells, &mut steps)?  // three steps
+//! ranges.summary(rows_1_to_4, &cells, &mut steps)?  // one step more
+//! ranges.touch(row_4)                               // gives up the second
+//! ```
+#![tactic(auto)]
+
+mod cells;
+mod kept;
+mod key;
+mod laws;
+mod lists;
+mod ranges;
+mod summing;
+#[cfg(test)]
+mod tests;
+
+pub use cell_value::Summary;
+pub use cells::Cells;
+pub use laws::{few_cells_are_merged, touched_tables_stay_right};
+pub use ranges::Ranges;

@@ -1,0 +1,92 @@
+// Kept summaries of blocks, as callers see them.
+use crate::cells::Cells;
+use crate::kept::Kept;
+use cell_addr::{Block, Place};
+use cell_value::Summary;
+use std::alloc::{AllocError, Global};
+use std::sync::ledger::Ledger;
+use steps::Steps;
+
+/// Kept summaries of blocks, and the number of cells that were merged for them.
+///
+/// It stands for a finite map from the kept blocks to their summaries, each as the cells were when it was kept, and for
+/// that number. Who changes a cell's value gives up, by [`Ranges::touch`], the summaries of the blocks that hold it; then
+/// each kept one is right.
+#[derive(Drop)]
+pub struct Ranges {
+    kept: Kept,
+    merged: u64,
+}
+
+impl Ranges {
+    ghost use Rattle.std.specs.Prelude.{◌≡◌, ◌+◌, IfOk, OnOk, OnErr, IsOk};
+    ghost use Rattle.std.specs.FinMap as map;
+    ghost use Rattle.cell_addr.specs.Place.{IsBlockInside};
+    ghost use Rattle.cell_addr.specs.declared.place.Place.{Place};
+    ghost use Rattle.cell_value.specs.declared.scalar.Scalar.{Scalar};
+    ghost use Rattle.range_table.specs.Cells.{fold};
+    ghost use Rattle.range_table.specs.Ranges.{table_of};
+    ghost use Rattle.range_table.specs.Table.{AreFolds, cells_to_merge, touched, with_summary};
+
+    /// No summary is kept, and no cell was merged yet. Takes no memory.
+    pub fn new(alloc: Global) -> Result<Ranges, AllocError>
+        ensures nothing { IfOk result (λ ranges. table_of ranges ≡ record { kept = map.empty; merged = 0 }) }
+        ensures right { IfOk result (λ ranges. (values : Place → Scalar) → AreFolds values (table_of ranges).kept) }
+        ensures ok { IsOk result }
+    {
+        Ok(Ranges {
+            kept: Kept::new(alloc),
+            merged: 0,
+        })
+    }
+
+    /// How many cells were merged so far; the count stays at the greatest number of 64 bits.
+    pub fn merged(&self) -> u64
+        ensures { result ≡ (table_of self.now).merged }
+    {
+        self.merged
+    }
+
+    /// Gives up each kept summary whose block holds the place, and no other. Takes no memory. Costs a look-up for each size
+    /// of slots in use, and the number of the blocks, of those kept at some time, that hold the place.
+    pub fn touch(&mut self, at: Place)
+        ensures { table_of self.new ≡ touched at (table_of self.old) }
+    {
+        self.kept.give_up(at);
+    }
+
+    /// What the numbers of the block's cells come to, where each kept summary is that of its block. The summary is kept
+    /// from now on, and those that were kept stay. A step is counted for each cell that is merged: none where the block's
+    /// summary is kept, those of its last row where that of the block without it is, and else all. `merged` rises by as
+    /// much. For want of memory all is as it was, and no step was counted.
+    pub fn summary<C: Cells, L: Ledger>(
+        &mut self,
+        b: Block,
+        cells: &C,
+        steps: &mut Steps<L>,
+    ) -> Result<Summary, AllocError>
+        requires inside { IsBlockInside b }
+        requires right { AreFolds (C.values cells.now) (table_of self.old).kept }
+        ensures fold { IfOk result (λ s. s ≡ fold (C.values cells.now) b) }
+        ensures kept { OnOk result (table_of self.new ≡ with_summary b (fold (C.values cells.now) b) (table_of self.old)) }
+        ensures right { OnOk result (AreFolds (C.values cells.now) (table_of self.new).kept) }
+        ensures steps { OnOk result (steps.new ≡ steps.old + cells_to_merge (table_of self.old).kept b) }
+        ensures err { OnErr result (table_of self.new ≡ table_of self.old) }
+        ensures err_steps { OnErr result (steps.new ≡ steps.old) }
+    {
+        let merged = self.kept.summary(b, cells, steps)?;
+        self.merged = self.merged.saturating_add(merged.cells);
+        Ok(merged.summary)
+    }
+
+    /// Equal kept summaries, and the same count of merged cells. Costs the number of the summaries, and that of the slots of
+    /// their blocks.
+    pub fn copied(&self) -> Result<Ranges, AllocError>
+        ensures { IfOk result (λ copy. table_of copy ≡ table_of self.now) }
+    {
+        Ok(Ranges {
+            kept: self.kept.copied()?,
+            merged: self.merged,
+        })
+    }
+}
