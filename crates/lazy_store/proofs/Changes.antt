@@ -13,7 +13,7 @@ use Rattle.formula_tree.specs.declared.reference.Ref.{Ref}
 use Rattle.shift_line.specs.Track.{Track, last}
 use Rattle.tree_rewrite.specs.References.{FitsSheets}
 use Rattle.lazy_store.specs.Holders.{AreCoherent, kept_of, kept_under}
-use Rattle.lazy_store.specs.Kept.{IsAlong, IsCoherent, IsSoundLine, Kept, fresh, lowest, standing, standing_at}
+use Rattle.lazy_store.specs.Kept.{IsAlong, IsCoherent, IsSoundLine, Kept, fresh, lowest, standing, standing_at, with_live}
 use Rattle.lazy_store.specs.declared.holder.Holder.{Holder}
 use Rattle.lazy_store.proofs.Histories.{coherent-from}
 
@@ -34,7 +34,7 @@ fresh-coherent line k home tree sound from within inside fits = coherent-from li
     }
 
 -- one that is removed, or put back
-pub live-coherent : (line : Track) (h : Kept) (live : Bool) → IsCoherent line h → IsCoherent line (record h { live = live })
+pub live-coherent : (line : Track) (h : Kept) (live : Bool) → IsCoherent line h → IsCoherent line (with_live live h)
 live-coherent line h live coherent = record {
   along = record {
     runs = coherent.along.runs;

@@ -32,6 +32,10 @@ standing h = standing_at h.home h.tree
 abbrev pub fresh : ℕ → Home → Term Ref → Kept
 fresh position home tree = record { birth = position; position = position; home = home; tree = tree; saved = λ _. None; live = true }
 
+-- the same, but for whether it is one of the workbook's
+abbrev pub with_live : Bool → Kept → Kept
+with_live live h = record h { live = live }
+
 -- the standing after the operation at the position, and before it; none where the line has no operation there
 abbrev pub over : Track → ℕ → Standing → Option Standing
 over line k x = option_and_then (λ s. after s x) (shift_at line k)

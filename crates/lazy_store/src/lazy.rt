@@ -8,7 +8,7 @@ ghost use Rattle.shift_core.specs.Sound.{IsSound};
 ghost use Rattle.shift_line.specs.Track.{forgotten, last, pushed, with_spare};
 ghost use Rattle.tree_rewrite.specs.References.{FitsSheets};
 ghost use Rattle.lazy_store.specs.Holders.{AreCoherent, IsFront};
-ghost use Rattle.lazy_store.specs.Kept.{IsSoundLine, fresh, standing_at};
+ghost use Rattle.lazy_store.specs.Kept.{IsSoundLine, fresh, standing_at, with_live};
 ghost use Rattle.lazy_store.specs.internal.Props.{are_coherent-prop, is_sound_line-prop};
 
 use crate::holder::Holder;
@@ -75,7 +75,7 @@ impl Lazy {
     /// Makes a live formula a removed one. It keeps its standings.
     pub fn remove(&mut self, id: u64)
         requires { live_in self.old id ≡ Some true }
-        ensures removed { kept_in self.new id ≡ option_map (λ h. record h { live = false }) (kept_in self.old id) }
+        ensures removed { kept_in self.new id ≡ option_map (with_live false) (kept_in self.old id) }
         ensures others { KeepsOthers id self.old self.new }
         ensures line { self.new.line ≡ self.old.line }
         ensures spare { spare_in self.new ≡ spare_in self.old }
@@ -88,7 +88,7 @@ impl Lazy {
     /// Makes a removed formula a live one again. It keeps its standings.
     pub fn put_back(&mut self, id: u64)
         requires { live_in self.old id ≡ Some false }
-        ensures back { kept_in self.new id ≡ option_map (λ h. record h { live = true }) (kept_in self.old id) }
+        ensures back { kept_in self.new id ≡ option_map (with_live true) (kept_in self.old id) }
         ensures others { KeepsOthers id self.old self.new }
         ensures line { self.new.line ≡ self.old.line }
         ensures spare { spare_in self.new ≡ spare_in self.old }

@@ -3,7 +3,7 @@ use Rattle.formula_tree.specs.Pooled.{held}
 use Rattle.formula_tree.specs.Relative.{relative}
 use Rattle.lazy_store.specs.Holders.{IsFront, kept_of}
 use Rattle.lazy_store.specs.Kept.{history, standing_at}
-use Rattle.lazy_store.proofs.lookup.Holder.found_earlier.Given as goal
+use Rattle.lazy_store.proofs.holder.Holder.found_earlier.Given as goal
 
 -- the formula's standing on the way
 abbrev pub invariant-earlier : goal.invariant-earlier

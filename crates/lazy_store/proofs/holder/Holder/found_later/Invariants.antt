@@ -4,7 +4,7 @@ use Rattle.formula_tree.specs.Relative.{relative}
 use Rattle.lazy_store.specs.Holders.{IsFront, kept_of}
 use Rattle.lazy_store.specs.Kept.{at, standing_at}
 use Rattle.lazy_store.specs.Standing.{IsFit}
-use Rattle.lazy_store.proofs.lookup.Holder.found_later.Given as goal
+use Rattle.lazy_store.proofs.holder.Holder.found_later.Given as goal
 
 -- the formula's standing on the way
 abbrev pub invariant-later : goal.invariant-later
