@@ -84,3 +84,20 @@ home-back line saved k s x y is e none =
 -- the line has an operation where it leads from one standing to another
 pub operation-there : (line : Track) (k : ℕ) (x y : Standing) → over line k x ≡ Some y → shift_at line k ≢ None
 operation-there line k x y e none = none-some y (sym (ap (option_and_then (λ t. after t x)) none) ∙ e)
+
+-- on the way back from a position the operation in front of it leads to the standing before it
+module _ (line : Track) (sound : IsSoundLine line) (low high : ℕ) (f : ℕ → Standing) (h : Kept) (along : IsAlong line low high f h) (here : ℕ) (s : Shift) (x : Standing)
+    (from : low < here) (to : here ≤ h.position) (is : shift_at line (here - 1) ≡ Some s) (found : x ≡ f here) where
+  back-there : back_over line h.saved (here - 1) x ≡ Some (f (here - 1))
+  back-there =
+      let above = along.to in
+      let next : here ≡ here - 1 + 1 = omega (arith, from) in
+      ap (back_over line h.saved (here - 1)) (found ∙ ap f next)
+      ∙ back-over line h.saved (here - 1) (f (here - 1)) (f (here - 1 + 1)) sound (along.fits (here - 1) (omega (arith, from)) (omega (arith, to, above)))
+      (along.runs (here - 1) (omega (arith, from)) (omega (arith, from, to, above))) (along.saved (here - 1) (omega (arith, from)) (omega (arith, from, to)))
+
+  pub back-home : home_before s x.home ≢ None
+  back-home = home-back line h.saved (here - 1) s (f (here - 1)) x is back-there
+
+  pub back-found : (y : Standing) → before s (h.saved (here - 1)) x ≡ Some y → y ≡ f (here - 1)
+  back-found y e = same_Some y (f (here - 1)) (sym e ∙ ap (option_and_then (λ t. before t (h.saved (here - 1)) x)) (sym is) ∙ back-there)

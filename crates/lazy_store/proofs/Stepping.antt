@@ -1,5 +1,5 @@
 -- What a holder's steps are made of. Serves the bodies that take a holder over one operation.
-use Rattle.std.proofs.Common.{◌≡◌, ◌≢◌, ◌∙◌, sym, ap, refl, subst, arith, ℕ, ◌+◌, ◌-◌, ◌<◌, ◌≤◌, ◌⊎◌, inl, inr, ⊎_elim, max, false, List, [], ◌∷◌, ◌++◌, append_assoc, append-nil, Option, Some, None, option_map, option_and_then}
+use Rattle.std.proofs.Common.{◌≡◌, ◌≢◌, ◌∙◌, sym, ap, refl, subst, arith, ℕ, ◌+◌, ◌-◌, ◌<◌, ◌≤◌, ◌⊎◌, inl, inr, ⊎_elim, max, cond, is_some, false, List, [], ◌∷◌, ◌++◌, append_assoc, append-nil, Option, Some, None, option_map, option_and_then}
 use Rattle.std.proofs.lemmas.Option.{none-some}
 use Rattle.std.proofs.lemmas.Bool.{cases_lt}
 use Rattle.std.proofs.lemmas.Bool.Decides.{nat_tests}
@@ -44,7 +44,7 @@ front-changed old new t u h = ⊎_elim
 
 -- ---- one step
 
-not-equal : (a b : ℕ) → (a ≡ b → ⊥) → is_eq (nat_cmp a b) ≡ false
+pub not-equal : (a b : ℕ) → (a ≡ b → ⊥) → is_eq (nat_cmp a b) ≡ false
 not-equal a b ne = grind (arith, nat_tests)
 
 -- nothing is to be saved where the tree comes back
@@ -120,3 +120,21 @@ none-further line h k to x from past there lost = by (at line h to) refl
     by : (o : Option Standing) → at line h to ≡ o → at line h to ≡ None
     by None e = e
     by (Some y) e = absurd (at-has line h (k + 1) to (omega (arith, from)) (omega (arith, past)) (λ none. none-some y (sym none ∙ e)) (at-next line h k from ∙ ap (option_and_then (over line k)) there ∙ lost))
+
+-- the standing after an operation, by its home and its shared tree
+pub after-found : (s : Shift) (x : Standing) (home : Home) (tree : Rc Node Global) → home_after s x.home ≡ Some home → StandsFor tree home (rewritten s x.tree) → after s x ≡ Some (standing_at home (relative tree.value))
+after-found s x home tree there stands = ap (option_map (rewritten_at s x)) there ∙ ap (λ t. Some (at_tree home t)) (sym stands)
+
+-- there is none where the line has no operation, or the home is lost
+pub ends-there : (line : Track) (k : ℕ) (x : Standing) → shift_at line k ≡ None → over line k x ≡ None
+ends-there line k x none = ap (option_and_then (λ t. after t x)) none
+
+pub home-lost : (line : Track) (k : ℕ) (s : Shift) (x : Standing) → shift_at line k ≡ Some s → home_after s x.home ≡ None → over line k x ≡ None
+home-lost line k s x is none = ap (option_and_then (λ t. after t x)) is ∙ ap (option_map (rewritten_at s x)) none
+
+-- ---- saved trees dropped
+
+-- what has an entry taken out has fewer
+pub fewer : {X : Type 0} (o : Option X) (n m : ℕ) → o ≢ None → n + cond (is_some o) 1 0 ≡ m → n < m
+fewer None n m some e = absurd (some refl)
+fewer (Some x) n m some e = omega (arith, e)

@@ -1,5 +1,7 @@
 // One formula, and its steps along the line.
-ghost use Rattle.std.specs.Prelude.{◌≡◌, ◌≢◌, ◌+◌, ◌≤◌, ◌<◌, ◌-◌, None, Some, IfOk, IfSome, OnOk, OnErr};
+ghost use Rattle.std.specs.BTreeMap.{IsEmpty, IsLowerBound, get};
+ghost use Rattle.std.specs.Ordering.{nat_cmp};
+ghost use Rattle.std.specs.Prelude.{◌≡◌, ◌≢◌, ℕ, ◌+◌, ◌≤◌, ◌<◌, ◌-◌, None, Some, IfOk, IfSome, OnOk, OnErr};
 ghost use Rattle.formula_tree.specs.Pooled.{held};
 ghost use Rattle.shift_core.specs.Sound.{IsSound};
 ghost use Rattle.shift_line.specs.Track.{last};
@@ -33,8 +35,6 @@ impl Holder {
     ghost use Rattle.lazy_store.specs.Standing.{IsFit, before};
     ghost use Rattle.lazy_store.specs.internal.Steps.{CutsOff, GoesAlong, GoesBack, GoesOn, Saves, Takes};
     ghost use Rattle.formula_tree.specs.Relative.{relative};
-    ghost use Rattle.std.specs.BTreeMap.{IsEmpty, IsLowerBound};
-    ghost use Rattle.std.specs.Ordering.{nat_cmp};
 
     // A live formula that comes at this position.
     pub(crate) fn new(alloc: Global, position: u64, home: Home, tree: Tree) -> Holder
@@ -166,20 +166,29 @@ impl Holder {
     pub(crate) fn drop_saved(&mut self, position: u64)
         ensures { CutsOff position (kept_of self.old) (kept_of self.new) }
     {
-        'saved: while let Some(first) = self.first_saved() {
-            if position <= first {
-                break 'saved;
-            }
-            let _ = self.saved.pop_first();
-        }
+        drop_before(&mut self.saved, position);
     }
+}
 
-    // The least position at which a tree is saved.
-    fn first_saved(&self) -> Option<u64>
-        ensures some { IfSome result (λ k. IsLowerBound nat_cmp self.now.saved k) }
-        ensures none { result ≡ None → IsEmpty self.now.saved }
-    {
-        let (position, _) = self.saved.first_key_value()?;
-        Some(*position)
+// Drops the trees that are saved before the position.
+fn drop_before(saved: &mut BTreeMap<u64, Tree>, position: u64)
+    ensures below { (k : ℕ) → k < position → get nat_cmp saved.new k ≡ None }
+    ensures others { (k : ℕ) → position ≤ k → get nat_cmp saved.new k ≡ get nat_cmp saved.old k }
+{
+    'saved: while let Some(first) = first_saved(saved) {
+        if position <= first {
+            break 'saved;
+        }
+        let _ = saved.remove(&first);
     }
+}
+
+// The least position at which a tree is saved.
+fn first_saved(saved: &BTreeMap<u64, Tree>) -> Option<u64>
+    ensures least { IfSome result (λ k. IsLowerBound nat_cmp saved.now k) }
+    ensures there { IfSome result (λ k. get nat_cmp saved.now k ≢ None) }
+    ensures none { result ≡ None → IsEmpty saved.now }
+{
+    let (position, _) = saved.first_key_value()?;
+    Some(*position)
 }
