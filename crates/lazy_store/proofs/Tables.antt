@@ -2,6 +2,7 @@
 -- along the line.
 use Rattle.std.proofs.Common.{◌≡◌, ◌≢◌, ◌∙◌, sym, ap, refl, subst, arith, ℕ, zero, suc, ◌+◌, ◌<◌, ◌≤◌, ◌⊎◌, inl, inr, ⊎_elim, Bool, true, false, cond, nat_eq, eqb-true, ne_eqb, le-ltb, true≢false, List, [], ◌∷◌, length, map, slice_get, Option, Some, None, option_map, option_and_then}
 use Rattle.std.proofs.lemmas.Bool.{cases_eq, cases_lt}
+use Rattle.std.proofs.lemmas.Map.Entries.{length-keys_of}
 use Rattle.std.proofs.lemmas.Option.{none-some, same_Some}
 use Rattle.std.specs.HashMap as hash
 use Rattle.std.specs.HashMap.{HashMap}
@@ -133,6 +134,36 @@ module _ {S : Type 0} (line : Track) (side : Side) (to : ℕ) where
       let (i, under, key) = key-place m.entries id x found in
       done.done i id h (omega (arith, under, whole)) key kept
 
+  -- a formula that is off was there before, and off
+  pub still-there : (old mid : HashMap ℕ Holder S) (id : ℕ) → Sweeps line side to old mid → ((id : ℕ) (h : Kept) → kept_under old id ≡ Some h → is_off side to h.position ≡ true → at line h to ≢ None)
+      → ((h : Kept) → kept_under mid id ≡ Some h → is_off side to h.position ≡ true) → (h : Kept) → kept_under mid id ≡ Some h → at line h to ≢ None
+  still-there old mid id swept there off h f none = by (kept_under old id) refl
+    where
+      on_side : (g : Kept) → kept_under old id ≡ Some g → (b : Bool) → is_off side to g.position ≡ b → ⊥
+      on_side g e true away =
+          there id g e away (sym (ap (option_and_then (λ k. at line k to)) e) ∙ sym (swept.along.at id to) ∙ ap (option_and_then (λ k. at line k to)) f ∙ none)
+      on_side g e false on = true≢false (sym (off h f) ∙ ap (λ k. is_off side to k.position) (same_Some h g (sym f ∙ swept.others id g e on)) ∙ on)
+
+      by : (o : Option Kept) → kept_under old id ≡ o → ⊥
+      by None e = none-some h.live (sym (ap (option_map (λ k. k.live)) e) ∙ sym (swept.along.live id) ∙ ap (option_map (λ k. k.live)) f)
+      by (Some g) e = on_side g e (is_off side to g.position) refl
+
+  -- where none was off before, none is
+  pub none-off : (old mid : HashMap ℕ Holder S) (id : ℕ) → Sweeps line side to old mid → ((id : ℕ) (h : Kept) → kept_under old id ≡ Some h → is_off side to h.position ≡ false)
+      → hash.get nat_eq mid id ≢ None → ((h : Kept) → kept_under mid id ≡ Some h → is_off side to h.position ≡ true) → ⊥
+  none-off old mid id swept on some off = by (kept_under old id) refl (hash.get nat_eq mid id) refl
+    where
+      by : (o : Option Kept) → kept_under old id ≡ o → (p : Option Holder) → hash.get nat_eq mid id ≡ p → ⊥
+      by o e None f = some f
+      by None e (Some x) f = none-some x.live (sym (ap (option_map (λ k. k.live)) e) ∙ sym (swept.along.live id) ∙ ap (λ p. option_map (λ k. k.live) (option_map kept_of p)) f)
+      by (Some g) e (Some x) f =
+          let there : kept_under mid id ≡ Some (kept_of x) = ap (option_map kept_of) f in
+          true≢false (sym (off (kept_of x) there) ∙ ap (λ k. is_off side to k.position) (same_Some (kept_of x) g (sym there ∙ swept.others id g e (on id g e))) ∙ on id g e)
+
+-- tables with the same keys have as many entries
+pub same-count : {X Y : Type 0} (es : List (ℕ × X)) (fs : List (ℕ × Y)) → keys_of es ≡ keys_of fs → length es ≡ length fs
+same-count es fs same = sym (length-keys_of es) ∙ ap length same ∙ length-keys_of fs
+
 -- ---- saved trees cut off
 
 cuts-trans : (k : ℕ) (a b c : Kept) → CutsOff k a b → CutsOff k b c → CutsOff k a c
@@ -205,6 +236,15 @@ module _ {S : Type 0} (k : ℕ) where
           let same : index ≡ i = omega (arith, under, at) in
           let both : Some id ≡ Some other = sym here ∙ ap (λ ks. slice_get ks index) cut.keys ∙ ap (slice_get (hash.keys old)) same ∙ key in
           absurd (ne (sym (same_Some id other both)))
+
+  pub cut-passes : (old mid : HashMap ℕ Holder S) (index : ℕ) → AreCut index old mid → slice_get (hash.keys mid) index ≡ None → AreCut (index + 1) old mid
+  cut-passes old mid index cut none = record { each = cut.each; done = λ i id under key. by i id under key (cases_lt i index); keys = cut.keys; spare = cut.spare }
+    where
+      by : (i id : ℕ) → i < index + 1 → slice_get (hash.keys old) i ≡ Some id → (i < index) ⊎ (index ≤ i) → Both (CutsOff k) (kept_under old id) (kept_under mid id)
+      by i id under key (inl before) = cut.done i id before key
+      by i id under key (inr at) =
+          let same : index ≡ i = omega (arith, under, at) in
+          absurd (none-some id (sym none ∙ ap (λ ks. slice_get ks index) cut.keys ∙ ap (slice_get (hash.keys old)) same ∙ key))
 
   pub all-cut : (old new : HashMap ℕ Holder S) (index : ℕ) → AreCut index old new → length old.entries ≤ index → (id : ℕ) → Both (CutsOff k) (kept_under old id) (kept_under new id)
   all-cut old new index cut whole id = by (hash.get nat_eq old id) refl (cut.each id)

@@ -65,6 +65,7 @@ fn off_at(
     position: u64,
 ) -> Option<u64>
     ensures off { IfSome result (λ id. slice_get (hash.keys holders.now) index ≡ Some id) }
+    ensures there { IfSome result (λ id. hash.get nat_eq holders.now id ≢ None) }
     ensures kept { IfSome result (λ id. (h : Kept) → kept_under holders.now id ≡ Some h → is_off side position h.position ≡ true) }
     ensures none { result ≡ None → (id : ℕ) (h : Kept) → slice_get (hash.keys holders.now) index ≡ Some id → kept_under holders.now id ≡ Some h → is_off side position h.position ≡ false }
 {

@@ -21,3 +21,9 @@ returns-in-Some-clause-ok c =
 
 pub returns-in-None-clause-brings : goal.returns-in-None-clause-brings
 returns-in-None-clause-brings c = rw c.get_mut.follows.holds-at-none (brings-none c.args.line.now c.args.id c.args.holders.now c.requires.coherent)
+
+pub go_to-requires-clause-coherent : goal.go_to-requires-clause-coherent
+go_to-requires-clause-coherent c = c.requires.coherent c.args.id c.in-Some.holder.now (sym c.in-Some.ensures.value)
+
+pub go_to-requires-clause-there : goal.go_to-requires-clause-there
+go_to-requires-clause-there c = c.requires.there (kept_of c.in-Some.holder.now) (ap (option_map kept_of) (sym c.in-Some.ensures.value))
