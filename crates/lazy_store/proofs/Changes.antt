@@ -1,10 +1,12 @@
 -- Tables in which one formula came, changed or left, and what stays coherent then. Serves the calls that add, remove and
 -- forget formulas.
-use Rattle.std.proofs.Common.{◌≡◌, ◌≢◌, ◌∙◌, sym, ap, refl, subst, arith, ℕ, ◌+◌, ◌<◌, ◌≤◌, max, ◌⊎◌, inl, inr, ⊎_elim, Bool, true, false, nat_eq, ne_eqb, Option, Some, None, option_map}
+use Rattle.std.proofs.Common.{◌≡◌, ◌≢◌, ◌∙◌, sym, ap, refl, subst, arith, ℕ, ◌+◌, ◌<◌, ◌≤◌, max, ◌⊎◌, inl, inr, ⊎_elim, Bool, true, false, nat_eq, ne_eqb, Result, Ok, Err, Option, Some, None, option_map}
 use Rattle.std.proofs.lemmas.Bool.{cases_eq}
 use Rattle.std.proofs.lemmas.Option.{none-some, same_Some}
 use Rattle.std.specs.HashMap as hash
 use Rattle.std.specs.HashMap.{HashMap}
+use Rattle.std.specs.Map.{lookup}
+use Rattle.std.specs.Prelude.{OnErr, OnOk}
 use Rattle.formula_tree.specs.Reference.{IsHomeInside}
 use Rattle.formula_tree.specs.StandsFor.{at_home}
 use Rattle.formula_tree.specs.Term.{Term}
@@ -49,6 +51,25 @@ live-coherent line h live coherent = record {
   within = coherent.within;
 }
 
+-- neither the cursor of a line nor its room matters to a formula
+pub coherent-anywhere : (line : Track) (cursor spare : ℕ) (h : Kept) → IsCoherent line h → IsCoherent (record line { cursor = cursor; spare = spare }) h
+coherent-anywhere line cursor spare h coherent = record {
+  along = record {
+    runs = coherent.along.runs;
+    fits = coherent.along.fits;
+    from = coherent.along.from;
+    to = coherent.along.to;
+    here = coherent.along.here;
+    saved = coherent.along.saved;
+    below = coherent.along.below;
+    above = coherent.along.above;
+  };
+  within = coherent.within;
+}
+
+pub all-anywhere : {S : Type 0} (line : Track) (cursor spare : ℕ) (m : HashMap ℕ Holder S) → AreCoherent line m → AreCoherent (record line { cursor = cursor; spare = spare }) m
+all-anywhere line cursor spare m all id h there = coherent-anywhere line cursor spare (kept_of h) (all id h there)
+
 module _ {S : Type 0} (id : ℕ) (old new : HashMap ℕ Holder S) (apart : (other : ℕ) → nat_eq id other ≡ false → hash.get nat_eq new other ≡ hash.get nat_eq old other) where
   -- the other formulas are kept as they were
   pub others-kept : (other : ℕ) → other ≢ id → kept_under new other ≡ kept_under old other
@@ -69,3 +90,13 @@ module _ {S : Type 0} (id : ℕ) (old new : HashMap ℕ Holder S) (apart : (othe
       by : (other ≡ id) ⊎ (other ≡ id → ⊥) → IsCoherent line (kept_of h)
       by (inl e) = absurd (none-some h (sym none ∙ ap (hash.get nat_eq new) (sym e) ∙ there))
       by (inr ne) = all other h (sym (apart other (ne_eqb id other (λ e. ne (sym e)))) ∙ there)
+
+-- a table with the same entries keeps the same formulas
+pub unchanged-coherent : {S : Type 0} (line : Track) (old new : HashMap ℕ Holder S) → new.entries ≡ old.entries → AreCoherent line old → AreCoherent line new
+unchanged-coherent line old new same all id h there = all id h (sym (ap (lookup (nat_eq id)) same) ∙ there)
+
+-- a table to which a formula was to be added: it was, or the table is as it was
+pub inserted-coherent : {S T E : Type 0} (r : Result T E) (line : Track) (id : ℕ) (old new : HashMap ℕ Holder S) (y : Holder) → AreCoherent line old → IsCoherent line (kept_of y) → OnOk r (hash.Updates nat_eq old new id (Some y)) → OnErr r (hash.IsUnchanged old new)
+    → AreCoherent line new
+inserted-coherent (Ok x) line id old new y all one ok err = changed-coherent id old new ok.2 line y all ok.1 one
+inserted-coherent (Err x) line id old new y all one ok err = unchanged-coherent line old new err all

@@ -1,17 +1,25 @@
 -- Tables of holders whose line gets one more operation, or loses the oldest ones. Serves the promises on cutting and
 -- settling.
-use Rattle.std.proofs.Common.{◌≡◌, ◌≢◌, ◌∙◌, sym, ap, refl, subst, arith, ℕ, ◌+◌, ◌<◌, ◌≤◌, nat_eq, Option, Some, None, option_map, option_and_then}
+use Rattle.std.proofs.Common.{◌≡◌, ◌≢◌, ◌∙◌, sym, ap, refl, subst, arith, ℕ, ◌+◌, ◌-◌, ◌<◌, ◌≤◌, ◌⊎◌, inl, inr, le-ltb, nat_eq, Bool, true, false, Result, Ok, Err, Option, Some, None, option_map, option_and_then}
+use Rattle.std.proofs.lemmas.Bool.{ltb-false, ltb-true}
 use Rattle.std.specs.HashMap as hash
 use Rattle.std.specs.HashMap.{HashMap}
+use Rattle.std.specs.Prelude.{OnErr, OnOk}
+use Rattle.shift_core.specs.Sound.{IsSound}
 use Rattle.shift_core.specs.declared.shift.Shift.{Shift}
-use Rattle.shift_line.specs.Track.{Track, last}
+use Rattle.shift_line.specs.Track.{Track, last, pushed, with_spare}
 use Rattle.lazy_store.specs.Holders.{AreCoherent, kept_of, kept_under}
-use Rattle.lazy_store.specs.Kept.{IsCoherent, IsSoundLine, Kept, at}
+use Rattle.lazy_store.specs.Kept.{IsCoherent, IsSoundLine, Kept, at, later, standing}
 use Rattle.lazy_store.specs.Standing.{Standing, after}
+use Rattle.lazy_store.specs.Store.{AreBehind, StandsAsBefore, StandsOneOn, at_in}
 use Rattle.lazy_store.specs.declared.holder.Holder.{Holder}
+use Rattle.lazy_store.specs.declared.holders.Side.TheVariants.{Before, Beyond}
+use Rattle.lazy_store.specs.declared.lazy.Lazy.{Lazy}
 use Rattle.lazy_store.specs.internal.Steps.{CutsOff}
-use Rattle.lazy_store.specs.internal.Sweeps.{Both, CutsAll, at_under, live_under}
-use Rattle.lazy_store.proofs.Lines.{IsForgotten, IsPushed, forgotten-at, forgotten-coherent, pushed-before, pushed-coherent, pushed-next, pushed-past}
+use Rattle.lazy_store.specs.internal.Sweeps.{Both, CutsAll, Sweeps, at_under, is_off, live_under}
+use Rattle.lazy_store.proofs.Changes.{all-anywhere}
+use Rattle.lazy_store.proofs.Histories.{at-up}
+use Rattle.lazy_store.proofs.Lines.{IsForgotten, IsPushed, is-pushed, pushed-sound, forgotten-at, forgotten-coherent, pushed-before, pushed-coherent, pushed-next, pushed-past}
 use Rattle.lazy_store.proofs.Tables.{mapped-some}
 
 -- no formula is kept as of a position beyond this one
@@ -21,6 +29,38 @@ StandBehind k m = (id : ℕ) (h : Kept) → kept_under m id ≡ Some h → h.pos
 -- none is as of one before it
 abbrev pub StandFrom : {S : Type 0} → ℕ → HashMap ℕ Holder S → Type 0
 StandFrom k m = (id : ℕ) (h : Kept) → kept_under m id ≡ Some h → k ≤ h.position
+
+-- where a formula is kept it has the standing that is kept
+pub at-own : (line : Track) (h : Kept) (k : ℕ) → h.position ≡ k → at line h k ≡ Some (standing h)
+at-own line h k e =
+    let none : h.position - h.position ≡ 0 = omega arith in
+    subst (λ j. at line h j ≡ Some (standing h)) e (at-up line h h.position (omega arith) ∙ ap (later line h.position (standing h)) none)
+
+-- ---- on one side of a position
+
+module _ {S : Type 0} (line : Track) (m : HashMap ℕ Holder S) where
+  -- no formula of a coherent table is beyond the last position of the line
+  pub all-within : AreCoherent line m → StandBehind (last line) m
+  all-within coherent id h is = let (x, found, same) = mapped-some kept_of (hash.get nat_eq m id) h is in subst (λ k. k.position ≤ last line) same (coherent id x found).within
+
+  module _ (k : ℕ) where
+    -- what can come back, or go on, to a position has a standing there
+    pub can-come : ((id : ℕ) (h : Kept) → kept_under m id ≡ Some h → k < h.position → (h.live ≡ true) × (at line h k ≢ None)) → (id : ℕ) (h : Kept) → kept_under m id ≡ Some h → is_off Beyond k h.position ≡ true → at line h k ≢ None
+    can-come back id h is off = (back id h is (ltb-true k h.position off)).1
+
+    pub can-go : ((id : ℕ) (h : Kept) → kept_under m id ≡ Some h → h.position < k → at line h k ≢ None) → (id : ℕ) (h : Kept) → kept_under m id ≡ Some h → is_off Before k h.position ≡ true → at line h k ≢ None
+    can-go there id h is off = there id h is (ltb-true h.position k off)
+
+    pub none-beyond : ((id : ℕ) (h : Kept) → kept_under m id ≡ Some h → is_off Beyond k h.position ≡ false) → StandBehind k m
+    none-beyond on id h is = ltb-false k h.position (on id h is)
+
+    pub behind-on : StandBehind k m → (id : ℕ) (h : Kept) → kept_under m id ≡ Some h → is_off Beyond k h.position ≡ false
+    behind-on behind id h is = le-ltb k h.position (behind id h is)
+
+    pub stays-behind : (new : HashMap ℕ Holder S) → Sweeps line Beyond k m new → (id : ℕ) (h : Kept) → kept_under m id ≡ Some h → h.position ≤ k → kept_under new id ≡ Some h
+    stays-behind new swept id h is behind = swept.others id h is (le-ltb k h.position behind)
+
+-- ---- one more operation
 
 module _ {S : Type 0} (s : Shift) (line new : Track) (m : HashMap ℕ Holder S) (push : IsPushed s line new) (sound : IsSoundLine line) (other : IsSoundLine new) (coherent : AreCoherent line m) (behind : StandBehind line.cursor m) where
   pub table-coherent : AreCoherent new m
@@ -72,3 +112,45 @@ cut-live k m n cuts id = by (kept_under m id) (kept_under n id) (cuts id)
     by None (Some g) both = absurd both
     by (Some h) None both = absurd both
     by (Some h) (Some g) both = ap (λ b. Some b) both.live
+
+-- ---- a line that was to get an operation
+
+-- it got it, or is as it was
+abbrev pub IsTried : Shift → Track → Track → Type 0
+IsTried s line new = (new ≡ with_spare new.spare (pushed s line)) ⊎ (new ≡ with_spare new.spare line)
+
+pub tried : {T E : Type 0} (r : Result T E) (s : Shift) (line new : Track) → OnOk r (new ≡ with_spare new.spare (pushed s line)) → OnErr r (new ≡ with_spare new.spare line) → IsTried s line new
+tried (Ok x) s line new ok err = inl ok
+tried (Err x) s line new ok err = inr err
+
+module _ (s : Shift) (line new : Track) (possible : IsSound s) (sound : IsSoundLine line) (from : line.first ≤ line.cursor) (within : line.cursor ≤ last line) where
+  push : new ≡ with_spare new.spare (pushed s line) → IsPushed s line new
+  push e = subst (IsPushed s line) (sym e) (is-pushed new.spare s line from within)
+
+  pub tried-sound : IsTried s line new → IsSoundLine new
+  tried-sound (inl e) = pushed-sound s line new (push e) possible sound
+  tried-sound (inr e) = subst IsSoundLine (sym e) sound
+
+  pub tried-coherent : {S : Type 0} (m : HashMap ℕ Holder S) → AreCoherent line m → StandBehind line.cursor m → IsTried s line new → AreCoherent new m
+  tried-coherent m coherent behind (inl e) = table-coherent s line new m (push e) sound (tried-sound (inl e)) coherent behind
+  tried-coherent m coherent behind (inr e) = subst (λ (l : Track). AreCoherent l m) (sym e) (all-anywhere line line.cursor new.spare m coherent)
+
+-- a store with the formulas of another one, and one more operation
+pub one-on : (s : Shift) (old mid new : Lazy) → IsSound s → mid.line ≡ old.line → old.line.first ≤ old.line.cursor → old.line.cursor ≤ last old.line → new.line ≡ with_spare new.line.spare (pushed s mid.line) → new.holders ≡ mid.holders
+    → AreBehind old.line.cursor mid → StandsAsBefore old mid → StandsOneOn s old new
+one-on s old mid new possible same from within got table behind stands = record {
+  live = λ id. ap (λ m. live_under m id) table ∙ stands.live id;
+  before = λ id k under. ap (λ m. at_under new.line m id k) table ∙ table-before s mid.line new.line mid.holders pushes mid.sound other mid.coherent behind_it id k (subst (λ (l : Track). k ≤ l.cursor) (sym same) under) ∙ stands.at id k;
+  next = λ id. subst (λ (l : Track). at_in new id (l.cursor + 1) ≡ option_and_then (after s) (at_in old id l.cursor)) same
+      (ap (λ m. at_under new.line m id (mid.line.cursor + 1)) table ∙ table-next s mid.line new.line mid.holders pushes mid.sound other mid.coherent behind_it id ∙ ap (option_and_then (after s)) (stands.at id mid.line.cursor));
+  beyond = λ id k past. ap (λ m. at_under new.line m id k) table ∙ table-past s mid.line new.line mid.holders pushes mid.sound other mid.coherent behind_it id k (subst (λ (l : Track). l.cursor + 1 < k) (sym same) past);
+}
+  where
+    pushes : IsPushed s mid.line new.line
+    pushes = push s mid.line new.line possible mid.sound (subst (λ (l : Track). l.first ≤ l.cursor) (sym same) from) (subst (λ (l : Track). l.cursor ≤ last l) (sym same) within) got
+
+    other : IsSoundLine new.line
+    other = tried-sound s mid.line new.line possible mid.sound (subst (λ (l : Track). l.first ≤ l.cursor) (sym same) from) (subst (λ (l : Track). l.cursor ≤ last l) (sym same) within) (inl got)
+
+    behind_it : StandBehind mid.line.cursor mid.holders
+    behind_it = subst (λ (l : Track). StandBehind l.cursor mid.holders) (sym same) behind

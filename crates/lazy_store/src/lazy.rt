@@ -221,12 +221,29 @@ impl Lazy {
         ensures spare { spare_in self.old ≤ spare_in self.new + 1 }
         ensures pool { IsFront (held pool.old) (held pool.new) }
     {
-        let cursor = self.line.cursor();
-        if cursor < self.line.last() {
-            let (alloc, side) = (self.alloc, Side::Beyond);
-            bring_all(alloc, &mut self.holders, &self.line, pool, side, cursor)?;
-        }
+        self.come_back(pool)?;
         self.line.push(s)
+    }
+
+    // Takes the formulas that are kept as of a position beyond the cursor back to it.
+    fn come_back(&mut self, pool: &mut Pool) -> Result<(), AllocError>
+        requires back { CanComeBack self.old.line.cursor self.old }
+        ensures standings { StandsAsBefore self.old self.new }
+        ensures behind { OnOk result (AreBehind self.old.line.cursor self.new) }
+        ensures kept { KeepsBehind self.old.line.cursor self.old self.new }
+        ensures free { AreBehind self.old.line.cursor self.old → IsOk result }
+        ensures line { self.new.line ≡ self.old.line }
+        ensures from { self.old.line.first ≤ self.old.line.cursor }
+        ensures within { self.old.line.cursor ≤ last self.old.line }
+        ensures spare { spare_in self.new ≡ spare_in self.old }
+        ensures pool { IsFront (held pool.old) (held pool.new) }
+    {
+        let cursor = self.line.cursor();
+        if self.line.last() <= cursor {
+            return Ok(());
+        }
+        let (alloc, side) = (self.alloc, Side::Beyond);
+        bring_all(alloc, &mut self.holders, &self.line, pool, side, cursor)
     }
 
     /// Takes every formula, live or removed, that is kept as of a position before this one to it, and forgets the operations
