@@ -9,7 +9,7 @@ use Rattle.formula_tree.specs.declared.reference.Ref.{Ref}
 use Rattle.shift_core.specs.Sound.{IsSound}
 use Rattle.shift_core.specs.declared.shift.Shift.{Shift}
 use Rattle.shift_line.specs.Track.{Track, forgotten, last, passed, pushed, shift_at, with_spare}
-use Rattle.lazy_store.specs.Kept.{IsAlong, IsCoherent, IsSavedAt, IsSoundLine, Kept, at, history, later, lowest, over, standing}
+use Rattle.lazy_store.specs.Kept.{IsAlong, IsCoherent, IsSavedAt, IsSoundLine, Kept, at, history, later, lowest, over, standing, standing_at}
 use Rattle.lazy_store.specs.Standing.{IsSavedOver, Standing, after}
 use Rattle.lazy_store.specs.internal.Steps.{CutsOff}
 use Rattle.lazy_store.proofs.Histories.{at-is, at-low, at-next, at-up, coherent-from, later-same}
@@ -156,6 +156,10 @@ is-forgotten spare k line from within = record {
   below = λ j under. shift-below (forgotten k line) j under;
 }
 
+-- home and tree are as they were
+same-here : (k : ℕ) (h g : Kept) → CutsOff k h g → standing g ≡ standing h
+same-here k h g cuts = ap (λ home. standing_at home g.tree) cuts.home ∙ ap (standing_at h.home) cuts.tree
+
 module _ (k : ℕ) (line new : Track) (cut : IsForgotten k line new) where
   pub forgotten-sound : IsSoundLine line → IsSoundLine new
   forgotten-sound all j t is = by (cases_lt j k)
@@ -172,7 +176,7 @@ module _ (k : ℕ) (line new : Track) (cut : IsForgotten k line new) where
       fits = λ j from under. along.fits j (omega (arith, from, first, birth, behind)) (omega (arith, under, same));
       from = let low = along.from in omega (arith, low, placed, first, birth, same);
       to = omega arith;
-      here = cuts.here ∙ along.here ∙ ap f (sym same);
+      here = same-here k h g cuts ∙ along.here ∙ ap f (sym same);
       saved = λ j from under. saved-by line new j (f j) (g.saved j) (cut.from j (omega (arith, from, first))) (subst (IsSavedAt line j (f j)) (sym (cuts.others j (omega (arith, from, first)))) (along.saved j (omega (arith, from, first, birth, behind)) (omega (arith, under, same))));
       below = λ j under. below j under (cases_lt j k);
       above = λ j above. cuts.others j (omega (arith, above, placed, same)) ∙ along.above j (omega (arith, above, same));
@@ -222,7 +226,7 @@ module _ (k : ℕ) (line new : Track) (cut : IsForgotten k line new) where
         by (inl down) (inr high) (inl low) = absurd (omega (arith, high, low, from, first, birth, behind))
         by (inr up) any other_any =
             at-up new g j (omega (arith, up, same))
-            ∙ ap (λ x. later new g.position x (j - g.position)) cuts.here
+            ∙ ap (λ x. later new g.position x (j - g.position)) (same-here k h g cuts)
             ∙ ap (λ p. later new p (standing h) (j - p)) same
             ∙ later-same line new h.position (standing h) (j - h.position) (λ i above under. cut.from i (omega (arith, above, placed)))
             ∙ sym (at-up line h j up)

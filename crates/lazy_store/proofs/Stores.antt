@@ -7,7 +7,7 @@ use Rattle.std.specs.HashMap.{HashMap}
 use Rattle.std.specs.Prelude.{OnErr, OnOk}
 use Rattle.shift_core.specs.Sound.{IsSound}
 use Rattle.shift_core.specs.declared.shift.Shift.{Shift}
-use Rattle.shift_line.specs.Track.{Track, last, pushed, with_spare}
+use Rattle.shift_line.specs.Track.{Track, forgotten, last, pushed, with_spare}
 use Rattle.lazy_store.specs.Holders.{AreCoherent, kept_of, kept_under}
 use Rattle.lazy_store.specs.Kept.{IsCoherent, IsSoundLine, Kept, at, later, standing}
 use Rattle.lazy_store.specs.Standing.{Standing, after}
@@ -19,7 +19,7 @@ use Rattle.lazy_store.specs.internal.Steps.{CutsOff}
 use Rattle.lazy_store.specs.internal.Sweeps.{Both, CutsAll, Sweeps, at_under, is_off, live_under}
 use Rattle.lazy_store.proofs.Changes.{all-anywhere}
 use Rattle.lazy_store.proofs.Histories.{at-up}
-use Rattle.lazy_store.proofs.Lines.{IsForgotten, IsPushed, is-pushed, pushed-sound, forgotten-at, forgotten-coherent, pushed-before, pushed-coherent, pushed-next, pushed-past}
+use Rattle.lazy_store.proofs.Lines.{IsForgotten, IsPushed, is-forgotten, is-pushed, pushed-sound, forgotten-at, forgotten-coherent, forgotten-sound, pushed-before, pushed-coherent, pushed-next, pushed-past}
 use Rattle.lazy_store.proofs.Tables.{mapped-some}
 
 -- no formula is kept as of a position beyond this one
@@ -154,3 +154,36 @@ one-on s old mid new possible same from within got table behind stands = record 
 
     behind_it : StandBehind mid.line.cursor mid.holders
     behind_it = subst (λ (l : Track). StandBehind l.cursor mid.holders) (sym same) behind
+
+-- ---- the oldest operations forgotten
+
+-- formulas that stayed and had old trees cut off show where, and as what, they are kept as before
+pub shown-as-before : (k : ℕ) (o p : Option Kept) → Both (CutsOff k) o p → option_map (λ h. (h.position, (h.home, h.tree))) p ≡ option_map (λ h. (h.position, (h.home, h.tree))) o
+shown-as-before k None None both = refl
+shown-as-before k None (Some g) both = absurd both
+shown-as-before k (Some h) None both = absurd both
+shown-as-before k (Some h) (Some g) both = ap (λ at. Some (at, (g.home, g.tree))) both.position ∙ ap (λ home. Some (h.position, (home, g.tree))) both.home ∙ ap (λ tree. Some (h.position, (h.home, tree))) both.tree
+
+module _ {S : Type 0} (k : ℕ) (line new : Track) (old mid after : HashMap ℕ Holder S) (from : line.first ≤ k) (within : k ≤ last line) (sound : IsSoundLine line) (got : new ≡ with_spare new.spare (forgotten k line))
+    (swept : Sweeps line Before k old mid) (on : (id : ℕ) (h : Kept) → kept_under mid id ≡ Some h → is_off Before k h.position ≡ false) (cuts : CutsAll k mid after) where
+  forgets : IsForgotten k line new
+  forgets = subst (IsForgotten k line) (sym got) (is-forgotten new.spare k line from within)
+
+  placed : StandFrom k mid
+  placed id h is = ltb-false h.position k (on id h is)
+
+  pub settled-sound : IsSoundLine new
+  settled-sound = forgotten-sound k line new forgets sound
+
+  pub settled-coherent : AreCoherent new after
+  settled-coherent = cut-coherent k line new mid after forgets cuts from sound settled-sound swept.along.coherent placed
+
+  pub settled-live : (id : ℕ) → live_under after id ≡ live_under old id
+  settled-live id = cut-live k mid after cuts id ∙ swept.along.live id
+
+  pub settled-at : (id j : ℕ) → k ≤ j → at_under new after id j ≡ at_under line old id j
+  settled-at id j above = cut-at k line new mid after forgets cuts from sound settled-sound swept.along.coherent placed id j above ∙ swept.along.at id j
+
+  pub settled-shown : (id : ℕ) (h : Kept) → kept_under old id ≡ Some h → k ≤ h.position → option_map (λ h. (h.position, (h.home, h.tree))) (kept_under after id) ≡ option_map (λ h. (h.position, (h.home, h.tree))) (kept_under old id)
+  settled-shown id h is above =
+      shown-as-before k (kept_under mid id) (kept_under after id) (cuts id) ∙ ap (option_map (λ h. (h.position, (h.home, h.tree)))) (swept.others id h is (le-ltb h.position k above) ∙ sym is)

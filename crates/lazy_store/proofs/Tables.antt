@@ -171,7 +171,8 @@ cuts-trans k a b c f g = record {
   below = g.below;
   others = λ j from. g.others j from ∙ f.others j from;
   position = g.position ∙ f.position;
-  here = g.here ∙ f.here;
+  home = g.home ∙ f.home;
+  tree = g.tree ∙ f.tree;
   birth = g.birth ∙ f.birth;
   live = g.live ∙ f.live;
 }

@@ -263,6 +263,7 @@ impl Lazy {
         ensures spare { spare_in self.old ≤ spare_in self.new }
         ensures pool { IsFront (held pool.old) (held pool.new) }
     {
+        prove!(self.line.cursor() <= self.line.last());
         let (alloc, side) = (self.alloc, Side::Before);
         bring_all(alloc, &mut self.holders, &self.line, pool, side, position)?;
         self.line.forget_before(position);

@@ -45,6 +45,7 @@ pub record CutsOff (k : ℕ) (old new : Kept) : Type 0 where
   pub below : (j : ℕ) → j < k → new.saved j ≡ None
   pub others : (j : ℕ) → k ≤ j → new.saved j ≡ old.saved j
   pub position : new.position ≡ old.position
-  pub here : standing new ≡ standing old
+  pub home : new.home ≡ old.home
+  pub tree : new.tree ≡ old.tree
   pub birth : new.birth ≡ old.birth
   pub live : new.live ≡ old.live
