@@ -5,6 +5,9 @@ use Rattle.std.proofs.lemmas.Bool.{ltb-false, ltb-true}
 use Rattle.std.specs.HashMap as hash
 use Rattle.std.specs.HashMap.{HashMap}
 use Rattle.std.specs.Prelude.{OnErr, OnOk}
+use Rattle.formula_tree.specs.Term.{Term}
+use Rattle.formula_tree.specs.declared.reference.Home.{Home}
+use Rattle.formula_tree.specs.declared.reference.Ref.{Ref}
 use Rattle.shift_core.specs.Sound.{IsSound}
 use Rattle.shift_core.specs.declared.shift.Shift.{Shift}
 use Rattle.shift_line.specs.Track.{Track, forgotten, last, pushed, with_spare}
@@ -157,12 +160,19 @@ one-on s old mid new possible same from within got table behind stands = record 
 
 -- ---- the oldest operations forgotten
 
--- formulas that stayed and had old trees cut off show where, and as what, they are kept as before
-pub shown-as-before : (k : ℕ) (o p : Option Kept) → Both (CutsOff k) o p → option_map (λ h. (h.position, (h.home, h.tree))) p ≡ option_map (λ h. (h.position, (h.home, h.tree))) o
+-- as of which position a formula is kept, and its home and tree as of that
+abbrev pub place_of : Kept → ℕ × (Home × Term Ref)
+place_of h = (h.position, (h.home, h.tree))
+
+abbrev pub placed_at : ℕ → Home → Term Ref → Option (ℕ × (Home × Term Ref))
+placed_at k home tree = Some (k, (home, tree))
+
+-- formulas that had old trees cut off are kept where they were
+shown-as-before : (k : ℕ) (o p : Option Kept) → Both (CutsOff k) o p → option_map place_of p ≡ option_map place_of o
 shown-as-before k None None both = refl
 shown-as-before k None (Some g) both = absurd both
 shown-as-before k (Some h) None both = absurd both
-shown-as-before k (Some h) (Some g) both = ap (λ at. Some (at, (g.home, g.tree))) both.position ∙ ap (λ home. Some (h.position, (home, g.tree))) both.home ∙ ap (λ tree. Some (h.position, (h.home, tree))) both.tree
+shown-as-before k (Some h) (Some g) both = ap (λ j. placed_at j g.home g.tree) both.position ∙ ap (λ home. placed_at h.position home g.tree) both.home ∙ ap (placed_at h.position h.home) both.tree
 
 module _ {S : Type 0} (k : ℕ) (line new : Track) (old mid after : HashMap ℕ Holder S) (from : line.first ≤ k) (within : k ≤ last line) (sound : IsSoundLine line) (got : new ≡ with_spare new.spare (forgotten k line))
     (swept : Sweeps line Before k old mid) (on : (id : ℕ) (h : Kept) → kept_under mid id ≡ Some h → is_off Before k h.position ≡ false) (cuts : CutsAll k mid after) where
@@ -184,6 +194,6 @@ module _ {S : Type 0} (k : ℕ) (line new : Track) (old mid after : HashMap ℕ 
   pub settled-at : (id j : ℕ) → k ≤ j → at_under new after id j ≡ at_under line old id j
   settled-at id j above = cut-at k line new mid after forgets cuts from sound settled-sound swept.along.coherent placed id j above ∙ swept.along.at id j
 
-  pub settled-shown : (id : ℕ) (h : Kept) → kept_under old id ≡ Some h → k ≤ h.position → option_map (λ h. (h.position, (h.home, h.tree))) (kept_under after id) ≡ option_map (λ h. (h.position, (h.home, h.tree))) (kept_under old id)
+  pub settled-shown : (id : ℕ) (h : Kept) → kept_under old id ≡ Some h → k ≤ h.position → option_map place_of (kept_under after id) ≡ option_map place_of (kept_under old id)
   settled-shown id h is above =
-      shown-as-before k (kept_under mid id) (kept_under after id) (cuts id) ∙ ap (option_map (λ h. (h.position, (h.home, h.tree)))) (swept.others id h is (le-ltb h.position k above) ∙ sym is)
+      shown-as-before k (kept_under mid id) (kept_under after id) (cuts id) ∙ ap (option_map place_of) (swept.others id h is (le-ltb h.position k above) ∙ sym is)
