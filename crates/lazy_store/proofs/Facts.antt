@@ -26,9 +26,9 @@ standings-follow = record {
   next = λ line h k sound coherent from. next line h k sound coherent from (cases_lt k h.position);
   before = λ line h k sound coherent under. at-low line sound (lowest line h) h.position (history line h) h coherent.along refl k under;
   beyond = λ line h k coherent past.
-    let within = coherent.within in
-    let step : k ≡ k - 1 + 1 = omega (arith, past) in
-    ap (at line h) step ∙ at-next line h (k - 1) (omega (arith, past, within)) ∙ ap (λ o. option_and_then (λ x. option_and_then (λ t. after t x) o) (at line h (k - 1))) (shift-past line (k - 1) (omega (arith, past))) ∙ nowhere (at line h (k - 1));
+      let within = coherent.within in
+      let step : k ≡ k - 1 + 1 = omega (arith, past) in
+      ap (at line h) step ∙ at-next line h (k - 1) (omega (arith, past, within)) ∙ ap (λ o. option_and_then (λ x. option_and_then (λ t. after t x) o) (at line h (k - 1))) (shift-past line (k - 1) (omega (arith, past))) ∙ nowhere (at line h (k - 1));
 }
   where
     next : (line : Track) (h : Kept) (k : ℕ) → IsSoundLine line → IsCoherent line h → lowest line h ≤ k → (k < h.position) ⊎ (h.position ≤ k) → at line h (k + 1) ≡ option_and_then (over line k) (at line h k)

@@ -58,12 +58,7 @@ pub(crate) fn bring(
 }
 
 // The id of the formula at the index, where it is to be taken to the position.
-fn off_at(
-    holders: &IndexMap<u64, Holder>,
-    index: usize,
-    side: Side,
-    position: u64,
-) -> Option<u64>
+fn off_at(holders: &IndexMap<u64, Holder>, index: usize, side: Side, position: u64) -> Option<u64>
     ensures off { IfSome result (λ id. slice_get (hash.keys holders.now) index ≡ Some id) }
     ensures there { IfSome result (λ id. hash.get nat_eq holders.now id ≢ None) }
     ensures kept { IfSome result (λ id. (h : Kept) → kept_under holders.now id ≡ Some h → is_off side position h.position ≡ true) }

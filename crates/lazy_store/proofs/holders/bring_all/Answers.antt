@@ -24,11 +24,11 @@ holders-preserved c =
     let so_far = c.holders.invariant in
     elim c.match-off_at.branch [
       | in-Some+in_ok-bring w ↦ record {
-          swept = subst (Sweeps line c.args.side c.args.position old) (sym w.holders-is) (sweep-more line c.args.side c.args.position old mid w.bring.new.holders w.in-Some.id so_far.swept w.bring.ensures.brings w.in-Some.ensures.kept);
-          done = subst (IsDone line c.args.side c.args.position (index + 1)) (sym w.holders-is)
-              (done-more line c.args.side c.args.position mid w.bring.new.holders w.in-Some.id index so_far.done w.bring.ensures.brings w.in-Some.ensures.off w.in_ok-bring.ensures.ok);
-          pool = subst (λ p. IsFront (held c.args.pool.now) (held p)) (sym w.pool-is) (front-trans (held c.args.pool.now) (held c.holders.pool) (held w.bring.new.pool) so_far.pool w.bring.ensures.pool);
-        }
+        swept = subst (Sweeps line c.args.side c.args.position old) (sym w.holders-is) (sweep-more line c.args.side c.args.position old mid w.bring.new.holders w.in-Some.id so_far.swept w.bring.ensures.brings w.in-Some.ensures.kept);
+        done = subst (IsDone line c.args.side c.args.position (index + 1)) (sym w.holders-is)
+            (done-more line c.args.side c.args.position mid w.bring.new.holders w.in-Some.id index so_far.done w.bring.ensures.brings w.in-Some.ensures.off w.in_ok-bring.ensures.ok);
+        pool = subst (λ p. IsFront (held c.args.pool.now) (held p)) (sym w.pool-is) (front-trans (held c.args.pool.now) (held c.holders.pool) (held w.bring.new.pool) so_far.pool w.bring.ensures.pool);
+      }
       | in_default w ↦
           let none : c.off_at.result ≡ None = search rules in
           record {
