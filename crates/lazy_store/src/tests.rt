@@ -55,14 +55,10 @@ fn a_formula_is_read_looked_up_and_settled(rt: HostRuntime) -> Result<(), Fail> 
     store.reserve(2)?;
     store.insert(ID, HOME, fifth.clone()?)?;
     store.shift(&mut pool, INSERT)?;
-    let Some(stored) = store.stored(ID) else {
-        unreachable!()
-    };
+    let stored = store.stored(ID).expect(&rt, "a formula");
     assert!(rt; stored.position == 0 && Tree::ptr_eq(stored.tree, &fifth));
 
-    let Some((home, tree)) = store.tree_at(&mut pool, ID, 1)? else {
-        return Err(Fail);
-    };
+    let (home, tree) = store.tree_at(&mut pool, ID, 1)?.expect(&rt, "a standing");
     assert!(rt; home == HOME && Tree::ptr_eq(&tree, &sixth));
     assert!(rt; store.tree_at(&mut pool, ID, 2)?.is_none());
 
