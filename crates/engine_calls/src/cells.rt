@@ -5,12 +5,12 @@ use cell_addr::{Block, Place};
 use formula_tree::Link;
 
 // The place of a row and a column.
-pub fn place(row: u32, col: u32) -> Place {
+pub(crate) fn place(row: u32, col: u32) -> Place {
     Place { sheet: 0, row, col }
 }
 
 // The block from the first cell to the one of a row and a column.
-pub fn block(bottom: u32, right: u32) -> Block {
+pub(crate) fn block(bottom: u32, right: u32) -> Block {
     Block {
         sheet: 0,
         top: 0,
@@ -21,7 +21,7 @@ pub fn block(bottom: u32, right: u32) -> Block {
 }
 
 // Whether the formula of the cell has this text.
-pub fn reads(engine: &mut Engine<NoCustoms>, row: u32, col: u32, text: &str) -> bool {
+pub(crate) fn reads(engine: &mut Engine<NoCustoms>, row: u32, col: u32, text: &str) -> bool {
     match engine.formula(place(row, col)) {
         Ok(Some(shown)) => shown.as_str() == text,
         _ => false,
@@ -29,7 +29,7 @@ pub fn reads(engine: &mut Engine<NoCustoms>, row: u32, col: u32, text: &str) -> 
 }
 
 // Whether the links are the block of the first two cells, the first cell and the name RATE.
-pub fn is_what_is_needed(links: &[Link]) -> bool {
+pub(crate) fn is_what_is_needed(links: &[Link]) -> bool {
     match links {
         [Link::Area(area), Link::Cell(cell), Link::Name(None, word)] => {
             *area == block(0, 1) && *cell == place(0, 0) && word.as_str() == "RATE"
@@ -39,7 +39,7 @@ pub fn is_what_is_needed(links: &[Link]) -> bool {
 }
 
 // Whether the links are the third cell of the first column and the name RATE.
-pub fn is_what_needs(links: &[Link]) -> bool {
+pub(crate) fn is_what_needs(links: &[Link]) -> bool {
     match links {
         [Link::Cell(cell), Link::Name(None, word)] => {
             *cell == place(2, 0) && word.as_str() == "RATE"

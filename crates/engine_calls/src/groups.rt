@@ -12,7 +12,7 @@ use std::sync::ledger::{Blank, Ledger};
 use steps::Steps;
 
 // Sheets are added, renamed, cleared and dropped; numbers go on.
-pub fn sheets_come_and_go(engine: &mut Engine<NoCustoms>) -> Result<bool, Stop> {
+pub(crate) fn sheets_come_and_go(engine: &mut Engine<NoCustoms>) -> Result<bool, Stop> {
     engine.add_sheet("Plan")?;
     engine.add_sheet("Two")?;
     engine.rename_sheet(0, "My Plan")?;
@@ -29,7 +29,7 @@ pub fn sheets_come_and_go(engine: &mut Engine<NoCustoms>) -> Result<bool, Stop> 
 }
 
 // Rows are put in, taken out and moved.
-pub fn formulas_follow_rows(engine: &mut Engine<NoCustoms>) -> Result<bool, Stop> {
+pub(crate) fn formulas_follow_rows(engine: &mut Engine<NoCustoms>) -> Result<bool, Stop> {
     engine.add_sheet("Plan")?;
     engine.set(place(0, 0), "=B5+B9")?;
     engine.insert_rows(0, 2, 2)?;
@@ -39,7 +39,7 @@ pub fn formulas_follow_rows(engine: &mut Engine<NoCustoms>) -> Result<bool, Stop
 }
 
 // So are columns, and a block.
-pub fn formulas_follow_columns(engine: &mut Engine<NoCustoms>) -> Result<bool, Stop> {
+pub(crate) fn formulas_follow_columns(engine: &mut Engine<NoCustoms>) -> Result<bool, Stop> {
     engine.add_sheet("Plan")?;
     engine.set(place(0, 0), "=B4")?;
     engine.insert_cols(0, 1, 1)?;
@@ -52,7 +52,7 @@ pub fn formulas_follow_columns(engine: &mut Engine<NoCustoms>) -> Result<bool, S
 }
 
 // A batch is one step, which is undone and redone; values wait while they are suspended.
-pub fn steps_go_back_and_forward(engine: &mut Engine<NoCustoms>) -> Result<bool, Stop> {
+pub(crate) fn steps_go_back_and_forward(engine: &mut Engine<NoCustoms>) -> Result<bool, Stop> {
     engine.add_sheet("Plan")?;
     engine.begin()?;
     engine.set(place(0, 0), "=B5")?;
@@ -67,7 +67,7 @@ pub fn steps_go_back_and_forward(engine: &mut Engine<NoCustoms>) -> Result<bool,
 }
 
 // How many steps are kept of three changes; `None` where none of them can be undone.
-pub fn kept(engine: &mut Engine<NoCustoms>) -> Result<Option<usize>, Stop> {
+pub(crate) fn kept(engine: &mut Engine<NoCustoms>) -> Result<Option<usize>, Stop> {
     engine.add_sheet("Plan")?;
     engine.set(place(0, 0), "1")?;
     engine.set(place(0, 0), "2")?;
@@ -80,7 +80,7 @@ pub fn kept(engine: &mut Engine<NoCustoms>) -> Result<Option<usize>, Stop> {
 }
 
 // Names are added, changed and removed in their scopes.
-pub fn names_come_and_go(engine: &mut Engine<NoCustoms>) -> Result<bool, Stop> {
+pub(crate) fn names_come_and_go(engine: &mut Engine<NoCustoms>) -> Result<bool, Stop> {
     engine.add_sheet("Plan")?;
     engine.add_name("RATE", None, "=2*3")?;
     engine.add_name("Rate", Some(0), "=$A$1")?;
@@ -95,7 +95,7 @@ pub fn names_come_and_go(engine: &mut Engine<NoCustoms>) -> Result<bool, Stop> {
 }
 
 // Blocks are copied, cut and pasted.
-pub fn blocks_are_pasted(engine: &mut Engine<NoCustoms>) -> Result<bool, Stop> {
+pub(crate) fn blocks_are_pasted(engine: &mut Engine<NoCustoms>) -> Result<bool, Stop> {
     engine.add_sheet("Plan")?;
     engine.set(place(0, 0), "=B1")?;
     engine.copy(block(0, 0))?;
@@ -111,7 +111,7 @@ pub fn blocks_are_pasted(engine: &mut Engine<NoCustoms>) -> Result<bool, Stop> {
 }
 
 // What a formula needs is listed in its order, and what needs a cell by place and then by name.
-pub fn links_are_listed_in_order(engine: &mut Engine<NoCustoms>) -> Result<bool, Stop> {
+pub(crate) fn links_are_listed_in_order(engine: &mut Engine<NoCustoms>) -> Result<bool, Stop> {
     engine.add_sheet("Plan")?;
     engine.add_name("rate", None, "=Plan!$A$1")?;
     engine.set(place(2, 0), "=SUM(A1:B1)+A1+Rate+A1+unknown")?;
@@ -125,7 +125,7 @@ pub fn links_are_listed_in_order(engine: &mut Engine<NoCustoms>) -> Result<bool,
 }
 
 // Formulas call functions and names, and only what is on a cycle is a cycle.
-pub fn values_follow_names(engine: &mut Engine<NoCustoms>) -> Result<bool, Stop> {
+pub(crate) fn values_follow_names(engine: &mut Engine<NoCustoms>) -> Result<bool, Stop> {
     engine.add_sheet("Plan")?;
     engine.add_name("Two", None, "=SUM(1,1)=2")?;
     engine.set(place(0, 0), "=TWO")?;

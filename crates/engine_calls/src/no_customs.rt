@@ -4,9 +4,9 @@ ghost use Rattle.std.specs.Prelude.{[]};
 use calc_eval::Customs;
 use cell_value::Scalar;
 
-/// No custom functions.
+// No custom functions.
 #[derive(Clone, Copy)]
-pub struct NoCustoms;
+pub(crate) struct NoCustoms;
 
 impl Customs for NoCustoms {
     ghost customs = { λ _. [] };
