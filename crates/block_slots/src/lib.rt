@@ -21,8 +21,6 @@ mod cut;
 mod laws;
 mod segment;
 mod slot;
-#[cfg(test)]
-mod tests;
 
 pub use cut::{segments, slots};
 pub use laws::segments_are_aligned;

@@ -16,8 +16,6 @@ mod name_key;
 mod names;
 mod needs;
 mod nodes;
-#[cfg(test)]
-mod tests;
 mod values;
 mod view;
 

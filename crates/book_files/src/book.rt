@@ -13,9 +13,6 @@ use cell_addr::{COLS, ROWS, Text};
 use csv::ByteRecord;
 use std::alloc::Global;
 
-#[cfg(test)]
-mod tests;
-
 /// How a file's name ends where it is one of CSV; the sheet's name is without it.
 const ENDING: &str = ".csv";
 

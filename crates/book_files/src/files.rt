@@ -8,9 +8,6 @@ use crate::folder::Folder;
 use std::alloc::{AllocError, Global};
 use std::collections::BTreeMap;
 
-#[cfg(test)]
-mod tests;
-
 /// Files in memory: the bytes of each by its name.
 #[derive(Drop)]
 pub struct FileMap {

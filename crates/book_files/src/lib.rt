@@ -26,8 +26,6 @@ mod records;
 mod sink;
 mod source;
 mod standard;
-#[cfg(test)]
-mod tests;
 
 pub use book::{read_book, sheet_name};
 pub use disk::DiskFolder;

@@ -19,8 +19,6 @@ mod limits;
 mod name;
 mod refusal;
 mod sheet_name;
-#[cfg(test)]
-mod tests;
 
 pub use command::Command;
 pub use content::{ContentText, read_content, text_given};

@@ -38,6 +38,3 @@ pub use sheets::{OneSheet, SheetNames};
 pub use spot::{AddrError, Spot};
 pub use text::{Text, capitals, fold_byte, same_folded};
 pub use word::is_word;
-
-#[cfg(test)]
-mod tests;

@@ -24,6 +24,3 @@ pub use fault::FaultKind;
 pub use order::compare_texts;
 pub use scalar::{MAX_MADE_TEXT, Scalar};
 pub use summary::Summary;
-
-#[cfg(test)]
-mod tests;

@@ -13,8 +13,6 @@
 
 mod clip;
 mod paste;
-#[cfg(test)]
-mod tests;
 
 pub use clip::{Clip, CopyItem, CopyList};
 pub use paste::pasted;

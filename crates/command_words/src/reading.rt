@@ -15,9 +15,6 @@ use clap::{Arg, ArgAction, ArgMatches, Command};
 use digits::{all_digits, value_at_most};
 use std::alloc::{AllocError, Global};
 
-#[cfg(test)]
-mod tests;
-
 // Above each number that is accepted.
 const ABOVE: u64 = 100_000;
 

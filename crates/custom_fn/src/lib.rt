@@ -19,6 +19,3 @@ pub use custom::Custom;
 pub use registry::{RegError, Registry};
 pub use rule::{Bands, MAX_PAIRS, Rule, Tiers};
 pub use words::{FUNCTION_WORDS, is_function_word};
-
-#[cfg(test)]
-mod tests;

@@ -69,6 +69,3 @@ pub fn after_byte(text: &[u8], byte: u8) -> &[u8]
         None => &[],
     }
 }
-
-#[cfg(test)]
-mod tests;

@@ -17,6 +17,3 @@ mod rounding;
 
 pub use error::NumError;
 pub use number::{Fixed, LIMIT, ONE};
-
-#[cfg(test)]
-mod tests;

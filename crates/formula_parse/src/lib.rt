@@ -15,9 +15,5 @@ mod lexer;
 mod reader;
 mod run;
 mod token;
-#[cfg(test)]
-mod token_tests;
-#[cfg(test)]
-mod tree_tests;
 
 pub use formula::{ParseError, parse};

@@ -9,7 +9,5 @@
 
 mod pieces;
 mod printer;
-#[cfg(test)]
-mod tests;
 
 pub use printer::print;

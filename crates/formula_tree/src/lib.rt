@@ -30,8 +30,6 @@ mod plain;
 mod pool;
 mod reference;
 mod same;
-#[cfg(test)]
-mod tests;
 
 pub use absolute::to_absolute;
 pub use address::Address;

@@ -22,6 +22,3 @@ pub use laws::{
     cycles_repeat, dates_are_the_calendars, months_are_the_calendars, months_have_their_lengths,
     serials_begin,
 };
-
-#[cfg(test)]
-mod tests;

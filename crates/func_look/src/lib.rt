@@ -17,6 +17,3 @@ mod value;
 
 pub use function::LookFn;
 pub use value::look;
-
-#[cfg(test)]
-mod tests;

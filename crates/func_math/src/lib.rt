@@ -20,6 +20,3 @@ pub use criterion::{Comparison, Criterion};
 pub use function::MathFn;
 pub use sum::summarized;
 pub use value::math;
-
-#[cfg(test)]
-mod tests;

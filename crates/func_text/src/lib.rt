@@ -21,6 +21,3 @@ mod value;
 
 pub use function::TextFn;
 pub use value::texts;
-
-#[cfg(test)]
-mod tests;

@@ -15,9 +15,6 @@ use book_model::Command;
 use cell_addr::{Spot, Text};
 use std::alloc::{AllocError, Global};
 
-#[cfg(test)]
-mod tests;
-
 /// The greatest size of a list. This project's own limit.
 pub const MAX_SIZE: u32 = 10_000;
 

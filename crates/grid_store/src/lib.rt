@@ -23,8 +23,6 @@ mod listing;
 mod moving;
 mod pushing;
 mod restoring;
-#[cfg(test)]
-mod tests;
 mod way;
 
 pub use cell::Cell;

@@ -20,8 +20,6 @@ mod laws;
 mod list;
 mod named;
 mod names;
-#[cfg(test)]
-mod tests;
 mod words;
 
 pub use key::NameKey;

@@ -17,8 +17,6 @@
 
 mod found;
 mod search;
-#[cfg(test)]
-mod tests;
 
 pub use found::Order;
 pub use search::order;

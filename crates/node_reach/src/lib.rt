@@ -18,8 +18,6 @@
 
 mod arrows;
 mod explored;
-#[cfg(test)]
-mod tests;
 mod walk;
 
 pub use arrows::Arrows;

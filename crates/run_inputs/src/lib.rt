@@ -13,8 +13,6 @@
 mod books;
 mod ending;
 mod script;
-#[cfg(test)]
-mod tests;
 
 pub use books::{empty_book, open_books};
 pub use ending::{Ending, NO_BOOK, TOO_LONG};

@@ -21,6 +21,3 @@ mod word;
 
 pub use error::ScriptError;
 pub use script::command;
-
-#[cfg(test)]
-mod tests;

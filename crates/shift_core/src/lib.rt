@@ -19,8 +19,6 @@ mod edit;
 mod form;
 mod laws;
 mod shift;
-#[cfg(test)]
-mod tests;
 
 pub use edit::Edit;
 pub use form::Form;

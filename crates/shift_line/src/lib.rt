@@ -11,7 +11,5 @@
 #![tactic(auto)]
 
 mod line;
-#[cfg(test)]
-mod tests;
 
 pub use line::Line;

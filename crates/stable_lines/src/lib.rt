@@ -22,8 +22,6 @@ mod laws;
 mod run;
 mod sheets;
 mod table;
-#[cfg(test)]
-mod tests;
 mod turn;
 
 pub use laws::positions_return;

@@ -14,8 +14,6 @@ mod rules;
 mod search;
 mod stored;
 mod tables;
-#[cfg(test)]
-mod tests;
 
 pub use answers::{levy, postage};
 pub use rules::{levy_rule, postage_rule};

@@ -23,8 +23,6 @@ mod loss;
 mod passage;
 mod replacement;
 mod rewrite;
-#[cfg(test)]
-mod tests;
 mod walk;
 
 pub use loss::loses;

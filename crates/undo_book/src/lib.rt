@@ -18,8 +18,6 @@
 #![tactic(auto)]
 
 pub mod laws;
-#[cfg(test)]
-mod tests;
 mod undo_book;
 
 pub use undo_book::{Dropped, UndoBook};

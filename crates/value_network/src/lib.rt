@@ -17,7 +17,5 @@
 
 pub mod laws;
 mod row;
-#[cfg(test)]
-mod tests;
 
 pub use row::{Slot, row_numbers};

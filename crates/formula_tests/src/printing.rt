@@ -1,0 +1,89 @@
+ghost use Rattle.std.specs.Prelude.{◌↔◌, IsTrue};
+ghost use Rattle.cell_addr.specs.Place.{IsInside};
+ghost use Rattle.formula_tree.specs.Reference.{base_of, corner_at};
+
+use cell_addr::{COLS, NO_SHEET, OneSheet, Place, ROWS, Text};
+use formula_print::print;
+use formula_tree::{Home, Node, Part, Ref, SheetPart};
+use std::rc::Rc;
+use std::test::Fail;
+
+// The listed sheet has the number 0.
+const HOME: Home = Home::Cell(Place {
+    sheet: 1,
+    row: 0,
+    col: 0,
+});
+
+const NAME: Home = Home::Name { sheet: NO_SHEET };
+
+/// Homes, references and their texts: the home's own sheet by its number, a sheet that isn't listed, a
+/// home on no sheet.
+const CELLS: [(Home, SheetPart, Part, Part, &str); 5] = [
+    (
+        HOME,
+        SheetPart::Own,
+        Part::Rel(39_999),
+        Part::Rel(18_277),
+        "=ZZZ40000",
+    ),
+    (HOME, SheetPart::Id(1), Part::Rel(0), Part::Abs(0), "=$A1"),
+    (HOME, SheetPart::Id(7), Part::Abs(0), Part::Abs(0), "=$A$1"),
+    (NAME, SheetPart::Own, Part::Rel(3), Part::Abs(1), "=$B4"),
+    (
+        NAME,
+        SheetPart::Id(0),
+        Part::Abs(3),
+        Part::Rel(1),
+        "='O''Neil'!B$4",
+    ),
+];
+
+/// Whether the reference names a place within the limits of a sheet.
+fn is_inside(reference: Ref, home: Home) -> bool
+    ensures { IsTrue result ↔ IsInside (corner_at (base_of home) reference).at }
+{
+    let at = reference.at(home).at;
+    at.row < ROWS && at.col < COLS
+}
+
+#[test]
+fn texts_of_references(rt: HostRuntime) -> Result<(), Fail> {
+    let alloc = rt.alloc();
+    let sheets = OneSheet {
+        name: Text::from_str(alloc, "O'Neil")?,
+    };
+    for (home, sheet, row, col, text) in CELLS {
+        let reference = Ref { sheet, row, col };
+        assert!(rt; is_inside(reference, home), "{text}");
+        let tree = Rc::new(alloc, Node::Cell(reference))?;
+        assert_eq!(rt; print(alloc, &tree, home, &sheets)?.as_str(), text);
+    }
+    Ok(())
+}
+
+#[test]
+fn text_of_a_block(rt: HostRuntime) -> Result<(), Fail> {
+    // The home's own sheet by its number, and corners with other `$`.
+    let alloc = rt.alloc();
+    let sheets = OneSheet {
+        name: Text::from_str(alloc, "Two")?,
+    };
+    let first = Ref {
+        sheet: SheetPart::Id(1),
+        row: Part::Abs(0),
+        col: Part::Rel(0),
+    };
+    let last = Ref {
+        sheet: SheetPart::Id(1),
+        row: Part::Rel(39_999),
+        col: Part::Abs(2),
+    };
+    assert!(rt; is_inside(first, HOME) && is_inside(last, HOME));
+    let tree = Rc::new(alloc, Node::Area(first, last))?;
+    assert_eq!(rt;
+        print(alloc, &tree, HOME, &sheets)?.as_str(),
+        "=A$1:$C40000"
+    );
+    Ok(())
+}
