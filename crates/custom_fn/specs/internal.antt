@@ -1,3 +1,2 @@
 -- What only the proofs of bodies need.
-pub mod Name
 pub mod Keyed

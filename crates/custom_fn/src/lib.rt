@@ -10,7 +10,6 @@
 #![tactic(auto)]
 
 mod custom;
-mod name;
 mod registry;
 mod rule;
 mod words;

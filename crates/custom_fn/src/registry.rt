@@ -5,9 +5,9 @@ ghost use Rattle.custom_fn.specs.Custom.{name_of};
 ghost use Rattle.custom_fn.specs.internal.Keyed.{AreKeyed, under};
 
 use crate::custom::Custom;
-use crate::name::Name;
 use crate::words::is_function_word;
 use cell_addr::{Text, is_word};
+use folded_key::FoldedKey;
 use indexmap::IndexMap;
 use std::alloc::{AllocError, Global};
 use thiserror::Error;
@@ -30,7 +30,7 @@ pub enum RegError {
 #[derive(Drop)]
 pub struct Registry {
     alloc: Global,
-    customs: IndexMap<Name<'static>, Custom>,
+    customs: IndexMap<FoldedKey<'static>, Custom>,
 
     // Each function stands under its name.
     ghost keyed: { AreKeyed customs.entries },
@@ -85,26 +85,26 @@ impl Registry {
 }
 
 // Where the function of this name stands, in some case of its letters.
-fn index_under<'n>(customs: &IndexMap<Name<'n>, Custom>, name: &'n str) -> Option<usize>
+fn index_under<'n>(customs: &IndexMap<FoldedKey<'n>, Custom>, name: &'n str) -> Option<usize>
     ensures some { IfSome result (λ i. option_map (λ e. e.1) (slice_get customs.now.entries i) ≡ under name.now customs.now.entries) }
     ensures none { IfNone result (under name.now customs.now.entries ≡ None) }
 {
-    customs.get_index_of(&Name::Asked(name))
+    customs.get_index_of(&FoldedKey::Asked(name))
 }
 
 // Puts a function of a new name after the others, under its name.
 fn put_last(
     alloc: Global,
-    customs: &mut IndexMap<Name<'static>, Custom>,
+    customs: &mut IndexMap<FoldedKey<'static>, Custom>,
     custom: Custom,
 ) -> Result<(), AllocError>
     requires keyed { AreKeyed customs.old.entries }
     requires new { under (name_of custom) customs.old.entries ≡ None }
     ensures keyed { AreKeyed customs.new.entries }
-    ensures ok { OnOk result (customs.new.entries ≡ customs.old.entries ++ (Name.Own (name_of custom), custom) ∷ []) }
+    ensures ok { OnOk result (customs.new.entries ≡ customs.old.entries ++ (FoldedKey.Own (name_of custom), custom) ∷ []) }
     ensures err { OnErr result (customs.new.entries ≡ customs.old.entries) }
 {
     let name = custom.name().copy(alloc)?;
-    customs.insert(Name::Own(name), custom)?;
+    customs.insert(FoldedKey::Own(name), custom)?;
     Ok(())
 }

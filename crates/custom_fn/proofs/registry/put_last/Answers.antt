@@ -2,9 +2,9 @@ use Rattle.std.proofs.Common.{◌≡◌, ◌∙◌, sym, ap, subst, [], ◌∷�
 use Rattle.std.proofs.lemmas.List.Elements.{All-push}
 use Rattle.indexmap.proofs.CallerLemmas.{insert_entry-new}
 use Rattle.cell_addr.specs.Sheets.{same_name}
-use Rattle.custom_fn.specs.declared.name.Name.TheVariants.{Own}
+use Rattle.folded_key.specs.declared.key.FoldedKey.TheVariants.{Own}
 use Rattle.custom_fn.specs.Custom.{name_of}
-use Rattle.custom_fn.specs.internal.Name.{text_of}
+use Rattle.folded_key.specs.Key.{text_of}
 use Rattle.custom_fn.specs.internal.Keyed.{AreKeyed, under}
 use Rattle.custom_fn.proofs.registry.put_last.Goals as goal
 

@@ -1,7 +1,7 @@
 use Rattle.std.proofs.Common.{◌∙◌, sym, ap, option_map}
 use Rattle.custom_fn.specs.Custom.{name_of, rule_of}
 use Rattle.custom_fn.specs.Registry.{customs_of, custom_named}
-use Rattle.custom_fn.specs.internal.Name.{text_of}
+use Rattle.folded_key.specs.Key.{text_of}
 use Rattle.custom_fn.specs.internal.Keyed.{under}
 use Rattle.custom_fn.proofs.Named.{found-under, none-mapped, missing}
 use Rattle.custom_fn.proofs.registry.Registry.add.Goals as goal

@@ -1,6 +1,6 @@
 use Rattle.std.proofs.Common.{◌∙◌, sym, ap, option_map}
 use Rattle.custom_fn.specs.Custom.{name_of, rule_of}
-use Rattle.custom_fn.specs.internal.Name.{text_of}
+use Rattle.folded_key.specs.Key.{text_of}
 use Rattle.custom_fn.proofs.Named.{found-under}
 use Rattle.custom_fn.proofs.registry.Registry.find.Goals as goal
 
