@@ -4,6 +4,7 @@
 ghost use Rattle.std.specs.Prelude.{◌≡◌, ◌<◌};
 
 use book_engine::{Engine, Stop};
+use calc_eval::Customs;
 use cell_addr::{Place, Text};
 use custom_fn::Registry;
 use std::alloc::Global;
@@ -40,13 +41,22 @@ fn main(rt: HostRuntime) -> ExitCode {
     }
 }
 
-// The invoice's total, as its formula says after a row for titles came above the lines.
+// The invoice's total, worked out in a workbook of its own.
 fn work_out<L: Ledger>(alloc: Global, blank: Blank) -> Result<Text, Stop>
     requires name { blank.name ≡ L.name }
     requires parts { blank.parts ≡ L.parts }
     requires some { 0 < blank.parts }
 {
     let mut engine = Engine::build(alloc, &[], UNDO_LIMIT, Registry::new(alloc)?, TODAY)?;
+    total(alloc, &mut engine, &mut Steps::<L>::new(blank))
+}
+
+// The invoice's total, as its formula says after a row for titles came above the lines.
+fn total<C: Customs, L: Ledger>(
+    alloc: Global,
+    engine: &mut Engine<C>,
+    steps: &mut Steps<L>,
+) -> Result<Text, Stop> {
     let sheet = engine.add_sheet("Invoice")?;
     for (row, col, text) in CELLS {
         engine.set(Place { sheet, row, col }, text)?;
@@ -57,7 +67,7 @@ fn work_out<L: Ledger>(alloc: Global, blank: Blank) -> Result<Text, Stop>
         row: 3,
         col: 2,
     };
-    let value = engine.value(total, &mut Steps::<L>::new(blank))?;
+    let value = engine.value(total, steps)?;
     let shown = value.shown(alloc)?;
     Ok(shown)
 }
