@@ -1,5 +1,6 @@
 -- The words of the command line, and what they say. Source: this project's own; that words are options, values, flags
--- and the others is what the crate `clap` makes of them for a simple command.
+-- and the others is what the crate `clap` makes of them for a simple command. Items.antt has laws that say, item by
+-- item, which words say something, and what.
 use Rattle.std.specs.Prelude.{◌≡◌, ◌≤◌, IfSome, ◌==◌, ◌&&◌, ◌||◌, if◌then◌else◌, not, nat_lt, nat_le, ℕ, Bool, true, false, List, [], ◌∷◌, length, Option, Some, None, is_none, option_map, unwrap_or, bytes_eq, codes, Result, Ok, Err, ⊤}
 use Rattle.std.specs.List.{list_all}
 use Rattle.clap.specs.Words.{App, Row, Rule, all_of, fault_of, first_of, matches_of, new_app, new_rule, with_rule}
