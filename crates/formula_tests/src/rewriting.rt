@@ -5,7 +5,7 @@ ghost use Rattle.formula_tree.specs.Seen.{seen};
 ghost use Rattle.formula_tree.specs.StandsFor.{at_home};
 ghost use Rattle.shift_core.specs.Sound.{IsSound};
 ghost use Rattle.tree_rewrite.specs.References.{FitsSheets};
-ghost use Rattle.tree_rewrite.specs.Rewritten.{home_before};
+ghost use Rattle.tree_rewrite.specs.Rewritten.{home_after, home_before};
 
 use cell_addr::{NO_SHEET, Place};
 use formula_tree::{Corner, Home, Plain, Pool, Tree};
@@ -20,6 +20,23 @@ const NAMED: Place = Place {
     row: 5,
     col: 1,
 };
+
+// A home that is no cell's.
+const NAME: Home = Home::Name { sheet: NO_SHEET };
+
+const TWO_AT_NAMED: Shift = Shift::InsertRows {
+    sheet: 0,
+    at: 5,
+    count: 2,
+};
+
+const THREE_ABOVE: Shift = Shift::InsertRows {
+    sheet: 0,
+    at: 0,
+    count: 3,
+};
+
+const OTHER_DROPPED: Shift = Shift::DropSheet { sheet: 1 };
 
 // A reference to B6 with a `$` at its row.
 fn reference() -> Plain
@@ -52,66 +69,95 @@ fn is_formula_with_origin(home: Home, s: &Shift) -> bool
     }
 }
 
+// Whether the operation makes another tree of this one, which then comes back as it was, and so does its home.
+fn returns(
+    alloc: Global,
+    pool: &mut Pool,
+    tree: &Tree,
+    home: Home,
+    s: &Shift,
+) -> Result<bool, AllocError>
+    requires sound { IsSound s.now }
+    requires home { IsHomeInside home }
+    requires fits { FitsSheets (at_home home (relative tree.now.value)) }
+    requires kept { home_after s.now home ≢ None }
+{
+    let (after, there) = forward(alloc, pool, tree, home, s)?;
+    if Tree::ptr_eq(&after, tree) || !is_formula_with_origin(there, s) {
+        return Ok(false);
+    }
+    let (before, again) = backward(alloc, pool, &after, there, s)?;
+    Ok(Tree::ptr_eq(&before, tree) && again == home)
+}
+
 // Whether the tree of a formula of the cell changes over the operation, and comes back as it was.
-fn comes_back(alloc: Global, cell: Place, s: &Shift) -> Result<bool, AllocError> {
+fn comes_back(
+    alloc: Global,
+    pool: &mut Pool,
+    cell: Place,
+    s: &Shift,
+) -> Result<bool, AllocError> {
     if !sound(s) || !cell.inside() || moved_place(s, cell).is_none() {
         return Ok(false);
     }
     let here = Home::Cell(cell);
-    let mut pool = Pool::new(alloc)?;
-    let tree = shared(&mut pool, &reference(), here)?;
-    let (after, there) = forward(alloc, &mut pool, &tree, here, s)?;
-    if !is_formula_with_origin(there, s) {
-        return Ok(false);
-    }
-    let (before, again) = backward(alloc, &mut pool, &after, there, s)?;
-    Ok(
-        !Tree::ptr_eq(&after, &tree)
-            && Tree::ptr_eq(&before, &tree)
-            && again == here
-            && !loses(&tree, here, s),
-    )
+    let tree = shared(pool, &reference(), here)?;
+    let is_kept = !loses(&tree, here, s);
+    Ok(is_kept && returns(alloc, pool, &tree, here, s)?)
 }
 
 #[test]
 fn a_formula_comes_back(rt: HostRuntime) -> Result<(), Fail> {
-    let s = Shift::InsertRows {
-        sheet: 0,
-        at: 5,
-        count: 2,
-    };
     let cell = Place {
         sheet: 0,
         row: 20,
         col: 5,
     };
-    assert!(rt; comes_back(rt.alloc(), cell, &s)?);
+    let mut pool = Pool::new(rt.alloc())?;
+    assert!(rt; comes_back(rt.alloc(), &mut pool, cell, &TWO_AT_NAMED)?);
     Ok(())
 }
 
+// Whether the operation leaves the tree and its home as they are, and loses nothing of it.
+fn stays(
+    alloc: Global,
+    pool: &mut Pool,
+    tree: &Tree,
+    home: Home,
+    s: &Shift,
+) -> Result<bool, AllocError>
+    requires sound { IsSound s.now }
+    requires home { IsHomeInside home }
+    requires fits { FitsSheets (at_home home (relative tree.now.value)) }
+    requires kept { home_after s.now home ≢ None }
+{
+    let (same, there) = forward(alloc, pool, tree, home, s)?;
+    Ok(there == home && Tree::ptr_eq(&same, tree) && !loses(&same, there, s))
+}
+
+// Whether the first operation makes another tree of that of a name, whose home stays, and the second leaves all as it is.
+fn changes_and_stays(
+    alloc: Global,
+    pool: &mut Pool,
+    first: &Shift,
+    second: &Shift,
+) -> Result<bool, AllocError>
+    requires first { IsSound first.now }
+    requires second { IsSound second.now }
+{
+    let tree = shared(pool, &reference(), NAME)?;
+    let (after, home) = forward(alloc, pool, &tree, NAME, first)?;
+    let is_changed = home == NAME && !Tree::ptr_eq(&after, &tree) && pool.len() == 2;
+    Ok(is_changed && stays(alloc, pool, &after, home, second)? && pool.len() == 2)
+}
+
+// Rows above both the name's tree and the place that it names: the place moves, and the home stays. Then a sheet is
+// dropped that has nothing of it.
 #[test]
 fn trees_that_stay_are_kept(rt: HostRuntime) -> Result<(), Fail> {
     let alloc = rt.alloc();
     let mut pool = Pool::new(alloc)?;
-    let s = Shift::InsertRows {
-        sheet: 0,
-        at: 0,
-        count: 3,
-    };
-    assert!(rt; sound(&s));
-
-    // Ten rows above both the name's tree and the place that it names: the place moves, and the home stays.
-    let name = Home::Name { sheet: NO_SHEET };
-    let tree = shared(&mut pool, &reference(), name)?;
-    let (after, home) = forward(alloc, &mut pool, &tree, name, &s)?;
-    assert!(rt; home == name && !Tree::ptr_eq(&after, &tree));
-    assert!(rt; pool.len() == 2);
-
-    // Nothing on the sheet that is dropped.
-    let drop = Shift::DropSheet { sheet: 1 };
-    assert!(rt; sound(&drop));
-    let (same, home) = forward(alloc, &mut pool, &after, home, &drop)?;
-    assert!(rt; home == name && Tree::ptr_eq(&same, &after) && !loses(&same, home, &drop));
-    assert!(rt; pool.len() == 2);
+    assert!(rt; sound(&THREE_ABOVE) && sound(&OTHER_DROPPED));
+    assert!(rt; changes_and_stays(alloc, &mut pool, &THREE_ABOVE, &OTHER_DROPPED)?);
     Ok(())
 }

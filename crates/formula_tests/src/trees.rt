@@ -1,4 +1,4 @@
-ghost use Rattle.std.specs.Prelude.{◌≡◌, IfOk, false};
+ghost use Rattle.std.specs.Prelude.{◌≡◌, ◌<◌, IfOk, false};
 ghost use Rattle.formula_tree.specs.Seen.{seen};
 ghost use Rattle.formula_tree.specs.Term.{binary, cell};
 ghost use Rattle.formula_tree.specs.declared.operator.Op.TheVariants as ops;
@@ -71,23 +71,6 @@ fn sum_of_rows(alloc: Global) -> Result<Tree, AllocError> {
     Ok(tree)
 }
 
-#[test]
-fn equal_formulas_share_a_tree(rt: HostRuntime) -> Result<(), Fail> {
-    // `=A1+B1` of C1 and `=A2+B2` of C2 are one tree, which is `=A3+B3` at C3.
-    let alloc = rt.alloc();
-    let mut pool = Pool::new(alloc)?;
-    assert!(rt; pool.is_empty());
-    let first = sum(alloc, corner(0, 0), corner(0, 1))?;
-    let first = pool.intern(&first, Home::Cell(place(0, 2)))?;
-    let second = sum(alloc, corner(1, 0), corner(1, 1))?;
-    let second = pool.intern(&second, Home::Cell(place(1, 2)))?;
-    assert!(rt; Tree::ptr_eq(&first, &second));
-    assert!(rt; pool.len() == 1);
-    let plain = to_absolute(alloc, &first, Home::Cell(place(2, 2)))?;
-    assert!(rt; is_sum(&plain, corner(2, 0), corner(2, 1)));
-    Ok(())
-}
-
 // Whether the tree is the sum of two cells.
 fn is_sum(tree: &Plain, first: Corner, second: Corner) -> bool {
     let Plain::Binary(Op::Add, left, right) = tree else {
@@ -118,84 +101,155 @@ fn operand(tree: &Tree) -> Option<&Tree> {
     }
 }
 
+// The shared tree of the sum of the first two cells of a row, in a formula of the third.
+fn shared_sum(alloc: Global, pool: &mut Pool, row: u32) -> Result<Tree, AllocError>
+    requires { row < 2 }
+{
+    let plain = sum(alloc, corner(row, 0), corner(row, 1))?;
+    pool.intern(&plain, Home::Cell(place(row, 2)))
+}
+
+// Whether the tree is the sum of the first two cells of the third row, in a formula of the third.
+fn is_third_sum(alloc: Global, tree: &Tree) -> Result<bool, AllocError> {
+    let plain = to_absolute(alloc, tree, Home::Cell(place(2, 2)))?;
+    Ok(is_sum(&plain, corner(2, 0), corner(2, 1)))
+}
+
+// Whether `=A1+B1` of C1 and `=A2+B2` of C2 are one tree, which is `=A3+B3` at C3.
+fn sums_share(alloc: Global, pool: &mut Pool) -> Result<bool, AllocError> {
+    let first = shared_sum(alloc, pool, 0)?;
+    let second = shared_sum(alloc, pool, 1)?;
+    Ok(Tree::ptr_eq(&first, &second) && is_third_sum(alloc, &first)?)
+}
+
 #[test]
-fn trees_that_differ_share_their_leaves(rt: HostRuntime) -> Result<(), Fail> {
-    let alloc = rt.alloc();
-    let mut pool = Pool::new(alloc)?;
+fn equal_formulas_share_a_tree(rt: HostRuntime) -> Result<(), Fail> {
+    let mut pool = Pool::new(rt.alloc())?;
+    assert!(rt; pool.is_empty());
+    assert!(rt; sums_share(rt.alloc(), &mut pool)?);
+    assert!(rt; pool.len() == 1);
+    Ok(())
+}
+
+// Whether the same stands after both signs.
+fn share_operand(first: &Tree, second: &Tree) -> bool {
+    match (operand(first), operand(second)) {
+        (Some(left), Some(right)) => Tree::ptr_eq(left, right),
+        _ => false,
+    }
+}
+
+// Whether the trees of one cell with a sign and with the other share it.
+fn leaves_are_shared(alloc: Global, pool: &mut Pool) -> Result<bool, AllocError> {
     let plus = pool.share(signed(alloc, Sign::Plus)?)?;
     let minus = pool.share(signed(alloc, Sign::Minus)?)?;
+    Ok(share_operand(&plus, &minus))
+}
+
+#[test]
+fn trees_that_differ_share_their_leaves(rt: HostRuntime) -> Result<(), Fail> {
+    let mut pool = Pool::new(rt.alloc())?;
+    assert!(rt; leaves_are_shared(rt.alloc(), &mut pool)?);
     assert!(rt; pool.len() == 2);
-    match (operand(&plus), operand(&minus)) {
-        (Some(first), Some(second)) => assert!(rt; Tree::ptr_eq(first, second)),
-        _ => return Err(Fail::from(AllocError)),
-    }
     Ok(())
+}
+
+// Shares a tree, which nobody holds then.
+fn share_for_nobody(alloc: Global, pool: &mut Pool) -> Result<(), AllocError> {
+    pool.share(Rc::new(alloc, Node::Cell(relative(1, 1)))?)?;
+    Ok(())
+}
+
+// Whether the pool shares an equal tree with this one.
+fn shares(alloc: Global, pool: &mut Pool, tree: &Tree) -> Result<bool, AllocError> {
+    let last = pool.share(sum_of_rows(alloc)?)?;
+    Ok(Tree::ptr_eq(tree, &last))
+}
+
+// Whether a tree that is still held stays alone after a sweep.
+fn others_are_swept(alloc: Global, pool: &mut Pool) -> Result<bool, AllocError> {
+    let in_use = [pool.share(sum_of_rows(alloc)?)?];
+    pool.sweep(&in_use)?;
+    Ok(pool.len() == 1 && shares(alloc, pool, &in_use[0])?)
 }
 
 #[test]
 fn trees_that_nobody_holds_are_swept(rt: HostRuntime) -> Result<(), Fail> {
-    let alloc = rt.alloc();
-    let mut pool = Pool::new(alloc)?;
-    let other = pool.share(Rc::new(alloc, Node::Cell(relative(1, 1)))?)?;
-    let in_use = [pool.share(sum_of_rows(alloc)?)?];
-    drop(other);
-    pool.sweep(&in_use)?;
-    assert!(rt; pool.len() == 1);
-    let last = pool.share(sum_of_rows(alloc)?)?;
-    assert!(rt; Tree::ptr_eq(&in_use[0], &last));
+    let mut pool = Pool::new(rt.alloc())?;
+    share_for_nobody(rt.alloc(), &mut pool)?;
+    assert!(rt; others_are_swept(rt.alloc(), &mut pool)?);
     Ok(())
+}
+
+// Whether the far corners see each other, and a line in front of the first is none.
+fn corners_are_seen(near: Corner, far: Corner) -> bool {
+    let (near_home, far_home) = (Home::Cell(near.at), Home::Cell(far.at));
+    let far_is_seen = Ref::of(far, near_home).at(near_home) == far;
+    let seen = Ref::of(near, far_home);
+    far_is_seen && seen.at(far_home) == near && seen.at(near_home).at.row == NO_LINE
+}
+
+// Whether a name of no sheet has its own as the home's, and counts from the first row and column.
+fn name_counts_from_first() -> bool {
+    let global = Home::Name { sheet: NO_SHEET };
+    let first = Place {
+        sheet: NO_SHEET,
+        row: 1,
+        col: 2,
+    };
+    relative(1, 2).at(global).at == first
+}
+
+// Whether a block whose corners have different `$` follows its formula.
+fn block_follows(top: Corner) -> bool {
+    let home = Home::Cell(place(5, 5));
+    let below = Home::Cell(place(6, 6));
+    let last = Ref::of(corner(2, 2), home).at(below);
+    let moved = Ref::of(top, home).at(below).block_to(last);
+    moved == corner(1, 0).block_to(corner(3, 3))
 }
 
 #[test]
 fn references_are_seen_from_their_homes(rt: HostRuntime) {
-    // The far corners see each other; a line in front of the first is none.
-    let (near, far) = (corner(0, 0), corner(ROWS - 1, COLS - 1));
-    let (near_home, far_home) = (Home::Cell(near.at), Home::Cell(far.at));
-    assert!(rt; Ref::of(far, near_home).at(near_home) == far);
-    assert!(rt; Ref::of(near, far_home).at(far_home) == near);
-    assert!(rt; Ref::of(near, far_home).at(near_home).at.row == NO_LINE);
-
-    // A name of no sheet has its own as the home's, and counts from the first row and column.
-    let global = Home::Name { sheet: NO_SHEET };
-    assert!(rt;
-        relative(1, 2).at(global).at
-            == Place {
-                sheet: NO_SHEET,
-                row: 1,
-                col: 2
-            }
-    );
-
-    // A block whose corners have different `$`.
+    assert!(rt; corners_are_seen(corner(0, 0), corner(ROWS - 1, COLS - 1)));
+    assert!(rt; name_counts_from_first());
     let mut top = corner(0, 0);
     top.col_fixed = true;
-    let home = Home::Cell(place(5, 5));
-    let below = Home::Cell(place(6, 6));
-    let moved = Ref::of(top, home)
-        .at(below)
-        .block_to(Ref::of(corner(2, 2), home).at(below));
-    assert!(rt; moved == corner(1, 0).block_to(corner(3, 3)));
+    assert!(rt; block_follows(top));
+}
+
+// Whether the tree has the name alone.
+fn has_name(alloc: Global, tree: &Tree) -> Result<bool, AllocError> {
+    match names_of(alloc, tree)?.as_slice() {
+        [name] => Ok(name.as_str() == "Rate"),
+        _ => Ok(false),
+    }
+}
+
+// Whether the tree has a link to a cell alone: the block in ROWS is not among the links, and a cell and its block are two.
+fn has_cell(alloc: Global, tree: &Tree, home: Home) -> Result<bool, AllocError> {
+    let block = corner(1, 1).block_to(corner(1, 1));
+    match places_of(alloc, tree, home)?.as_slice() {
+        [link] => Ok(link.same(&Link::Cell(place(1, 1))) && !link.same(&Link::Area(block))),
+        _ => Ok(false),
+    }
+}
+
+// Whether both the name and the place are mentioned.
+fn mentions_both(alloc: Global, tree: &Tree, home: Home) -> Result<bool, AllocError> {
+    match mentions_of(alloc, tree, home)?.as_slice() {
+        [first, second] => Ok(!first.same(second)),
+        _ => Ok(false),
+    }
 }
 
 #[test]
 fn what_a_tree_names(rt: HostRuntime) -> Result<(), Fail> {
-    let alloc = rt.alloc();
     let home = Home::Cell(place(0, 0));
-    let tree = sum_of_rows(alloc)?;
+    let tree = sum_of_rows(rt.alloc())?;
     assert!(rt; depth(&tree) == 4);
-    let names = names_of(alloc, &tree)?;
-    assert!(rt; names.len() == 1);
-    assert!(rt; names[0].as_str() == "Rate");
-
-    // The block in ROWS is not among the links; a cell and its block are two.
-    let places = places_of(alloc, &tree, home)?;
-    assert!(rt; places.len() == 1);
-    assert!(rt; places[0].same(&Link::Cell(place(1, 1))));
-    assert!(rt; !places[0].same(&Link::Area(corner(1, 1).block_to(corner(1, 1)))));
-
-    // Both the name and the place are mentioned.
-    let mentions = mentions_of(alloc, &tree, home)?;
-    assert!(rt; mentions.len() == 2);
-    assert!(rt; !mentions[0].same(&mentions[1]));
+    assert!(rt; has_name(rt.alloc(), &tree)?);
+    assert!(rt; has_cell(rt.alloc(), &tree, home)?);
+    assert!(rt; mentions_both(rt.alloc(), &tree, home)?);
     Ok(())
 }

@@ -1,10 +1,11 @@
 // Cells over structural operations, as the tables of moved places have them, reckoned by hand.
+ghost use Rattle.shift_core.specs.Sound.{IsSound};
+
 use cell_addr::{Block, Place, Text};
 use fix_num::Fixed;
 use grid_store::{Cell, CellList, Grid};
 use shift_core::{Shift, sound};
 use std::alloc::{AllocError, Global};
-use std::process::Abort;
 
 type Spot = (u32, u32, u32);
 
@@ -17,16 +18,15 @@ fn place(at: Spot) -> Place {
     }
 }
 
-// A grid with a cell at each place, which holds the number of its place in the list.
-fn filled(alloc: Global, places: &[Spot]) -> Result<Grid, AllocError> {
-    let mut grid = Grid::new(alloc)?;
+// Puts a cell at each place, which holds the number of its place in the list.
+fn fill(grid: &mut Grid, places: &[Spot]) -> Result<(), AllocError> {
     for (number, at) in places.iter().enumerate() {
         let at = place(*at);
         if at.inside() {
             grid.put(at, Cell::Formula(number as u64))?;
         }
     }
-    Ok(grid)
+    Ok(())
 }
 
 // Whether the grid has these cells, each with this number, and no others.
@@ -75,8 +75,10 @@ const AS_FILLED: [(Spot, u64); 7] = [
     ((1, 3, 1), 6),
 ];
 
-// Operations, the cells after them, and the places of the removed ones.
-const OPERATIONS: [(Shift, &[(Spot, u64)], &[Spot]); 8] = [
+// An operation, the cells after it, and the places of the removed ones.
+type Operation = (Shift, &'static [(Spot, u64)], &'static [Spot]);
+
+const OPERATIONS: &[Operation] = &[
     (
         Shift::DeleteRows {
             sheet: 0,
@@ -212,58 +214,134 @@ const OPERATIONS: [(Shift, &[(Spot, u64)], &[Spot]); 8] = [
     ),
 ];
 
+// Takes the operation back. Whether the grid has its cells again.
+fn goes_back(grid: &mut Grid, shift: &Shift, removed: CellList) -> Result<bool, AllocError>
+    requires { IsSound shift.now }
+{
+    if !removed.inside() {
+        return Ok(false);
+    }
+    grid.put_back(shift, removed)?;
+    Ok(has(grid, &AS_FILLED))
+}
+
+// Does the operation and takes it back. Whether the right cells move, and the right ones are removed.
+fn is_done(grid: &mut Grid, operation: &Operation) -> Result<bool, AllocError>
+    requires { IsSound operation.now.0 }
+{
+    let (shift, cells, places) = operation;
+    let removed = grid.apply(shift)?;
+    let is_right = has(grid, cells) && lists(&removed, places);
+    Ok(is_right && goes_back(grid, shift, removed)?)
+}
+
+// The same, and whether a copy of the grid stays as it is.
+fn is_done_beside_copy(grid: &mut Grid, operation: &Operation) -> Result<bool, AllocError>
+    requires { IsSound operation.now.0 }
+{
+    let copy = grid.copied()?;
+    Ok(is_done(grid, operation)? && has(&copy, &AS_FILLED))
+}
+
+// The same in a new grid.
+fn is_done_in_new(alloc: Global, operation: &Operation) -> Result<bool, AllocError> {
+    let mut grid = Grid::new(alloc)?;
+    fill(&mut grid, &FILLED)?;
+    Ok(sound(&operation.0) && is_done_beside_copy(&mut grid, operation)?)
+}
+
 #[test]
 fn operations_are_done_and_taken_back(rt: HostRuntime) -> Result<(), AllocError> {
-    for (shift, cells, removed) in &OPERATIONS {
-        assert!(rt; sound(shift));
-        let mut grid = filled(rt.alloc(), &FILLED)?;
-        let copy = grid.copied()?;
-        let list = grid.apply(shift)?;
-        assert!(rt; has(&grid, cells) && lists(&list, removed) && has(&copy, &AS_FILLED));
-        assert!(rt; list.inside());
-        grid.put_back(shift, list)?;
-        assert!(rt; has(&grid, &AS_FILLED));
+    for operation in OPERATIONS {
+        assert!(rt; is_done_in_new(rt.alloc(), operation)?);
     }
     Ok(())
 }
 
+const ROW_IN_FIRST: Shift = Shift::InsertRows {
+    sheet: 0,
+    at: 10,
+    count: 1,
+};
+
+const ROW_IN_SECOND: Shift = Shift::InsertRows {
+    sheet: 1,
+    at: 10,
+    count: 1,
+};
+
+const LOWER_ROWS: Block = Block {
+    sheet: 0,
+    top: 3,
+    left: 0,
+    bottom: 39_999,
+    right: 5,
+};
+
+const IN_LOWER_ROWS: [Spot; 4] = [(0, 3, 1), (0, 3, 2), (0, 4, 0), (0, 9, 5)];
+
+// Whether the cells of the lower rows are listed.
+fn are_listed(grid: &Grid) -> Result<bool, AllocError> {
+    let list = grid.listed(LOWER_ROWS)?;
+    Ok(lists(&list, &IN_LOWER_ROWS))
+}
+
+// Takes the cells of the lower rows out. Whether they are listed, and the others stay.
+fn are_cleared(grid: &mut Grid) -> Result<bool, AllocError> {
+    let list = grid.clear(LOWER_ROWS)?;
+    Ok(lists(&list, &IN_LOWER_ROWS) && grid.filled() == 3)
+}
+
+// Takes the first cell out, and none off the sheet. Whether the others stay.
+fn is_taken(grid: &mut Grid) -> bool {
+    let is_out = grid.take(place((0, 0, 0))).is_some();
+    is_out && grid.take(place((0, 40_000, 0))).is_none() && grid.filled() == 2
+}
+
+// Whether the grid lists its cells and is emptied of them.
+fn is_emptied(grid: &mut Grid) -> Result<bool, AllocError> {
+    let is_pushed = grid.pushed_off(&ROW_IN_FIRST) && !grid.pushed_off(&ROW_IN_SECOND);
+    Ok(is_pushed && are_listed(grid)? && are_cleared(grid)? && is_taken(grid))
+}
+
 #[test]
 fn cells_are_filled_listed_and_emptied(rt: HostRuntime) -> Result<(), AllocError> {
-    let mut grid = filled(rt.alloc(), &FILLED)?;
-    let last = Shift::InsertRows {
-        sheet: 0,
-        at: 10,
-        count: 1,
-    };
-    let other = Shift::InsertRows {
-        sheet: 1,
-        at: 10,
-        count: 1,
-    };
-    assert!(rt; grid.pushed_off(&last) && !grid.pushed_off(&other));
-    let rows = Block {
-        sheet: 0,
-        top: 3,
-        left: 0,
-        bottom: 39_999,
-        right: 5,
-    };
-    let list = grid.listed(rows)?;
-    assert!(rt; lists(&list, &[(0, 3, 1), (0, 3, 2), (0, 4, 0), (0, 9, 5)]));
-    let list = grid.clear(rows)?;
-    assert!(rt; lists(&list, &[(0, 3, 1), (0, 3, 2), (0, 4, 0), (0, 9, 5)]) && grid.filled() == 3);
+    let mut grid = Grid::new(rt.alloc())?;
+    fill(&mut grid, &FILLED)?;
+    assert!(rt; is_emptied(&mut grid)?);
+    Ok(())
+}
+
+// Whether the copy of a cell has the text.
+fn copy_has(alloc: Global, cell: &Cell, expected: &str) -> Result<bool, AllocError> {
+    match cell.copied(alloc)? {
+        Cell::Text(text) => Ok(text.as_str() == expected),
+        _ => Ok(false),
+    }
+}
+
+// Whether the list's one cell has a copy with the text.
+fn one_has(alloc: Global, list: &CellList, expected: &str) -> Result<bool, AllocError> {
+    match list.items() {
+        [(_, cell)] => copy_has(alloc, cell, expected),
+        _ => Ok(false),
+    }
+}
+
+// Whether a number's copy is a number.
+fn number_is_copied(alloc: Global) -> Result<bool, AllocError> {
+    match Cell::Number(Fixed::ONE).copied(alloc)? {
+        Cell::Number(_) => Ok(true),
+        _ => Ok(false),
+    }
+}
+
+#[test]
+fn cells_are_copied(rt: HostRuntime) -> Result<(), AllocError> {
     let text = Text::from_str(rt.alloc(), "ab")?;
     let mut list = CellList::new(rt.alloc())?;
     list.push(place((0, 1, 1)), Cell::Text(text))?;
-    for (_, cell) in list.items() {
-        let copy = cell.copied(rt.alloc())?;
-        assert!(rt; matches!(&copy, Cell::Text(text) if text.as_str() == "ab"));
-    }
-    let number = Cell::Number(Fixed::ONE);
-    assert!(rt; matches!(number.copied(rt.alloc())?, Cell::Number(_)));
-    assert!(rt;
-        grid.take(place((0, 0, 0))).is_some() && grid.take(place((0, 40_000, 0))).is_none()
-    );
-    assert!(rt; grid.filled() == 2);
+    assert!(rt; one_has(rt.alloc(), &list, "ab")?);
+    assert!(rt; number_is_copied(rt.alloc())?);
     Ok(())
 }

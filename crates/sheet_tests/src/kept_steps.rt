@@ -34,50 +34,109 @@ const ROWS: [Row; 3] = [
     },
 ];
 
-fn is_so(alloc: Global, row: &Row) -> Result<bool, AllocError> {
-    let mut book = UndoBook::new(alloc, row.limit)?;
+// Puts the entries 1, 2 and 3 into the book.
+fn push_three(book: &mut UndoBook<u8>) -> Result<(), AllocError> {
     for entry in 1u8..4 {
         book.push(entry)?;
     }
-    let stepped = book.step_back();
-    let kept = book.done() == row.done && book.undone() == row.undone;
+    Ok(())
+}
+
+// Takes a step back. Whether there was one, and what the book has then.
+fn goes_back(book: &mut UndoBook<u8>, row: &Row) -> bool {
+    let is_stepped = book.step_back();
+    is_stepped == (row.limit > 0) && book.done() == row.done && book.undone() == row.undone
+}
+
+// Whether the book has what a fourth entry leaves.
+fn has_fourth(book: &UndoBook<u8>, row: &Row) -> bool {
+    book.undone().is_empty() && book.limit() == row.limit && book.done() == row.then
+}
+
+// Puts the entry 4 into the book. Whether the right ones leave it and stay.
+fn takes_fourth(book: &mut UndoBook<u8>, row: &Row) -> Result<bool, AllocError> {
     book.reserve()?;
     let left = book.push(4)?;
-    let emptied = book.undone().is_empty() && book.limit() == row.limit;
-    Ok(
-        stepped == (row.limit > 0)
-            && kept
-            && emptied
-            && left.items() == row.left
-            && book.done() == row.then,
-    )
+    Ok(left.items() == row.left && has_fourth(book, row))
+}
+
+// Whether an empty book of the row's limit does as the row says.
+fn is_so(book: &mut UndoBook<u8>, row: &Row) -> Result<bool, AllocError> {
+    push_three(book)?;
+    Ok(goes_back(book, row) && takes_fourth(book, row)?)
+}
+
+// The same of a new book.
+fn is_so_of_new(alloc: Global, row: &Row) -> Result<bool, AllocError> {
+    let mut book = UndoBook::new(alloc, row.limit)?;
+    is_so(&mut book, row)
 }
 
 #[test]
 fn the_newest_stay_up_to_the_limit(rt: HostRuntime) -> Result<(), AllocError> {
     for row in &ROWS {
-        let so = is_so(rt.alloc(), row)?;
-        assert!(rt; so);
+        assert!(rt; is_so_of_new(rt.alloc(), row)?);
     }
     Ok(())
+}
+
+// Puts an entry into the book. Whether these leave it.
+fn leave(book: &mut UndoBook<u8>, entry: u8, expected: &[u8]) -> Result<bool, AllocError> {
+    let left = book.push(entry)?;
+    Ok(left.items() == expected)
+}
+
+// Whether the book has these entries done, and these undone.
+fn has(book: &UndoBook<u8>, done: &[u8], undone: &[u8]) -> bool {
+    book.done() == done && book.undone() == undone
+}
+
+// Whether two steps and no more lead back.
+fn steps(book: &mut UndoBook<u8>) -> bool {
+    let is_back = book.step_back() && book.step_back();
+    is_back && !book.step_back() && has(book, &[], &[3, 2])
+}
+
+// Takes a step forward. Whether the first entry is done again then.
+fn steps_forward(book: &mut UndoBook<u8>) -> bool {
+    book.step_forward() && has(book, &[2], &[3])
+}
+
+// Whether the entry that is undone is taken out alone, and no step leads to it.
+fn undone_goes(book: &mut UndoBook<u8>) -> bool {
+    let is_out = book.take_undone() == Some(3) && book.take_undone().is_none();
+    is_out && !book.step_forward() && book.done() == [2].as_slice()
+}
+
+// Whether the entry that is done is taken out alone.
+fn done_goes(book: &mut UndoBook<u8>) -> bool {
+    book.take_done() == Some(2) && book.take_done().is_none()
+}
+
+// Puts an entry on each side of the book, where it has none.
+fn put_both(book: &mut UndoBook<u8>) {
+    if book.limit() == 2 && book.done().is_empty() && book.undone().is_empty() {
+        book.put_undone(4);
+        book.put_done(5);
+    }
+}
+
+// Whether both are taken out of the book, and others put in.
+fn both_are_changed(book: &mut UndoBook<u8>) -> bool {
+    let are_out = undone_goes(book) && done_goes(book);
+    put_both(book);
+    are_out && has(book, &[5], &[4])
+}
+
+// Whether an empty book of two entries takes steps back and forward.
+fn takes_steps(book: &mut UndoBook<u8>) -> Result<bool, AllocError> {
+    let are_right = leave(book, 1, &[])? && leave(book, 2, &[])? && leave(book, 3, &[1])?;
+    Ok(are_right && steps(book) && steps_forward(book) && both_are_changed(book))
 }
 
 #[test]
 fn steps_go_back_and_forward(rt: HostRuntime) -> Result<(), AllocError> {
     let mut book = UndoBook::new(rt.alloc(), 2)?;
-    let none = book.push(1u8)?;
-    book.push(2)?;
-    let left = book.push(3)?;
-    assert!(rt; none.items().is_empty() && left.items() == [1].as_slice());
-    assert!(rt; book.step_back() && book.step_back() && !book.step_back());
-    assert!(rt; book.undone() == [3, 2].as_slice());
-    assert!(rt; book.step_forward());
-    assert!(rt; book.done() == [2].as_slice() && book.undone() == [3].as_slice());
-    assert!(rt; book.take_undone() == Some(3) && book.take_undone().is_none());
-    assert!(rt; !book.step_forward() && book.done() == [2].as_slice());
-    assert!(rt; book.take_done() == Some(2) && book.take_done().is_none());
-    book.put_undone(4);
-    book.put_done(5);
-    assert!(rt; book.done() == [5].as_slice() && book.undone() == [4].as_slice());
+    assert!(rt; takes_steps(&mut book)?);
     Ok(())
 }

@@ -1,4 +1,6 @@
 // Tables of places and blocks before and after operations, reckoned by hand and by another program.
+ghost use Rattle.shift_core.specs.Sound.{IsSound};
+
 use cell_addr::{Axis, Block, Place, Span};
 use shift_core::{
     Edit, Form, Shift, back_block, back_place, is_bent, is_cut, moved_block, moved_place, sound,
@@ -9,8 +11,26 @@ const SHEET: u32 = 1;
 
 type Ends = (u32, u32);
 
+type Line = (Axis, u32, u32, u32, Option<u32>, Option<u32>);
+
+type MovedLine = (Axis, u32, u32, u32, u32, u32, u32);
+
+type InsertedEnds = (Axis, u32, u32, Ends, Option<Ends>, Option<Ends>, bool, bool);
+
+type DeletedEnds = (Axis, u32, u32, Ends, Option<Ends>, Option<Ends>, bool);
+
+type MovedEnds = (Axis, u32, u32, u32, Ends, Ends, Ends, bool);
+
+type Overwritten = (u32, u32, Option<Ends>, Option<Ends>);
+
+type FittingLine = (Axis, u32, u32, bool, bool);
+
+type FittingMove = (u32, u32, u32, bool, bool);
+
+type Destination = (u32, u32, u32, bool);
+
 // Lines inserted at a line, in a number; a line, where it goes, and which came there.
-const INSERTED_LINES: [(Axis, u32, u32, u32, Option<u32>, Option<u32>); 13] = [
+const INSERTED_LINES: &[Line] = &[
     (Axis::Rows, 5, 2, 4, Some(4), Some(4)),
     (Axis::Rows, 5, 2, 5, Some(7), None),
     (Axis::Rows, 5, 2, 6, Some(8), None),
@@ -34,7 +54,7 @@ const INSERTED_LINES: [(Axis, u32, u32, u32, Option<u32>, Option<u32>); 13] = [
 ];
 
 // Lines deleted from a line, in a number; a line, where it goes, and which came there.
-const DELETED_LINES: [(Axis, u32, u32, u32, Option<u32>, Option<u32>); 9] = [
+const DELETED_LINES: &[Line] = &[
     (Axis::Rows, 3, 2, 2, Some(2), Some(2)),
     (Axis::Rows, 3, 2, 4, None, Some(6)),
     (Axis::Rows, 3, 2, 5, Some(3), Some(7)),
@@ -47,7 +67,7 @@ const DELETED_LINES: [(Axis, u32, u32, u32, Option<u32>, Option<u32>); 9] = [
 ];
 
 // Lines moved from a line, in a number, before another; a line, where it goes, and which came there.
-const MOVED_LINES: [(Axis, u32, u32, u32, u32, u32, u32); 12] = [
+const MOVED_LINES: &[MovedLine] = &[
     (Axis::Rows, 2, 1, 4, 2, 3, 3),
     (Axis::Rows, 2, 1, 4, 3, 2, 2),
     (Axis::Rows, 2, 1, 4, 4, 4, 4),
@@ -63,7 +83,7 @@ const MOVED_LINES: [(Axis, u32, u32, u32, u32, u32, u32); 12] = [
 ];
 
 // Lines inserted; the ends of a block, where they go, which came there, whether it is bent, and whether it is cut.
-const ENDS_OVER_INSERTED: [(Axis, u32, u32, Ends, Option<Ends>, Option<Ends>, bool, bool); 11] = [
+const ENDS_OVER_INSERTED: &[InsertedEnds] = &[
     (
         Axis::Rows,
         2,
@@ -141,7 +161,7 @@ const ENDS_OVER_INSERTED: [(Axis, u32, u32, Ends, Option<Ends>, Option<Ends>, bo
 ];
 
 // Lines deleted; the ends of a block, where they go, which came there, and whether it is bent.
-const ENDS_OVER_DELETED: [(Axis, u32, u32, Ends, Option<Ends>, Option<Ends>, bool); 11] = [
+const ENDS_OVER_DELETED: &[DeletedEnds] = &[
     (Axis::Rows, 8, 5, (5, 10), Some((5, 7)), Some((5, 15)), true),
     (Axis::Rows, 3, 4, (5, 10), Some((3, 6)), Some((9, 14)), true),
     (Axis::Rows, 5, 6, (5, 10), None, Some((11, 16)), true),
@@ -172,7 +192,7 @@ const ENDS_OVER_DELETED: [(Axis, u32, u32, Ends, Option<Ends>, Option<Ends>, boo
 ];
 
 // Lines moved; the ends of a block, where they go, which came there, and whether it is bent.
-const ENDS_OVER_MOVED: [(Axis, u32, u32, u32, Ends, Ends, Ends, bool); 14] = [
+const ENDS_OVER_MOVED: &[MovedEnds] = &[
     (Axis::Rows, 4, 1, 6, (2, 6), (2, 6), (2, 6), true),
     (Axis::Rows, 4, 1, 9, (2, 6), (2, 5), (2, 7), true),
     (Axis::Rows, 2, 1, 9, (2, 6), (2, 5), (3, 7), true),
@@ -217,7 +237,7 @@ const SOURCE: Block = Block {
 };
 
 // Three rows of two cells moved down by a row; a row and a column, where they go, and which came there.
-const OVERWRITTEN_PLACES: [(u32, u32, Option<Ends>, Option<Ends>); 5] = [
+const OVERWRITTEN_PLACES: &[Overwritten] = &[
     (2, 1, Some((3, 1)), None),
     (4, 2, Some((5, 2)), Some((3, 2))),
     (5, 1, None, Some((4, 1))),
@@ -226,7 +246,7 @@ const OVERWRITTEN_PLACES: [(u32, u32, Option<Ends>, Option<Ends>); 5] = [
 ];
 
 // The same cells; first and last row of a block two columns wide, where they go, and which came there.
-const OVERWRITTEN_BLOCKS: [(u32, u32, Option<Ends>, Option<Ends>); 5] = [
+const OVERWRITTEN_BLOCKS: &[Overwritten] = &[
     (2, 4, Some((3, 5)), Some((2, 4))),
     (3, 4, Some((4, 5)), Some((2, 3))),
     (3, 5, None, Some((2, 4))),
@@ -234,8 +254,44 @@ const OVERWRITTEN_BLOCKS: [(u32, u32, Option<Ends>, Option<Ends>); 5] = [
     (5, 5, None, Some((4, 4))),
 ];
 
+// These cells moved down by a row.
+const DOWN: Shift = Shift::MoveBlock {
+    source: SOURCE,
+    to: Place {
+        sheet: SHEET,
+        row: 3,
+        col: 1,
+    },
+};
+
+// These cells moved into the last corner of another sheet.
+const AWAY: Shift = Shift::MoveBlock {
+    source: SOURCE,
+    to: Place {
+        sheet: 2,
+        row: 39_997,
+        col: 18_276,
+    },
+};
+
+const DROPPED: Shift = Shift::DropSheet { sheet: SHEET };
+
+// The last of these cells.
+const LAST_OF_SOURCE: Place = Place {
+    sheet: SHEET,
+    row: 4,
+    col: 2,
+};
+
+// The last cell of the other sheet.
+const LAST: Place = Place {
+    sheet: 2,
+    row: 39_999,
+    col: 18_277,
+};
+
 // A line and a number; whether so many can be inserted there, and deleted from there.
-const FITTING_LINES: [(Axis, u32, u32, bool, bool); 10] = [
+const FITTING_LINES: &[FittingLine] = &[
     (Axis::Rows, 0, 0, false, false),
     (Axis::Rows, 0, 40_000, true, true),
     (Axis::Rows, 0, 40_001, true, false),
@@ -249,7 +305,7 @@ const FITTING_LINES: [(Axis, u32, u32, bool, bool); 10] = [
 ];
 
 // A line, a number and a line to move them to; whether rows can be moved so, and columns.
-const FITTING_MOVES: [(u32, u32, u32, bool, bool); 12] = [
+const FITTING_MOVES: &[FittingMove] = &[
     (3, 2, 2, true, true),
     (3, 2, 3, false, false),
     (3, 2, 4, false, false),
@@ -265,7 +321,7 @@ const FITTING_MOVES: [(u32, u32, u32, bool, bool); 12] = [
 ];
 
 // A sheet, a row and a column; whether the three rows of two cells can be moved there.
-const FITTING_DESTINATIONS: [(u32, u32, u32, bool); 7] = [
+const FITTING_DESTINATIONS: &[Destination] = &[
     (1, 2, 1, false),
     (1, 3, 1, true),
     (2, 2, 1, true),
@@ -312,6 +368,33 @@ fn shift(axis: Axis, edit: Edit) -> Shift {
     }
 }
 
+// The line of a place.
+fn line_of(p: Option<Place>, axis: Axis) -> Option<u32> {
+    match p {
+        Some(p) => Some(p.line(axis)),
+        None => None,
+    }
+}
+
+// Whether the operation is the edit of the lines of the sheet.
+fn is_edit(s: &Shift, axis: Axis, edit: Edit) -> bool {
+    let sheet = SHEET;
+    s.form() == Form::Lines { sheet, axis, edit }
+}
+
+// Whether the line goes to the one, and the other came there.
+fn line_moves(s: &Shift, axis: Axis, line: u32, after: Option<u32>, before: Option<u32>) -> bool
+    requires { IsSound s.now }
+{
+    let any = Place {
+        sheet: SHEET,
+        row: 9,
+        col: 4,
+    };
+    let p = any.with_line(axis, line);
+    line_of(moved_place(s, p), axis) == after && line_of(back_place(s, p), axis) == before
+}
+
 // Compares where a line goes, and which line came there.
 fn expect_line<A: Abort>(
     rt: &A,
@@ -322,75 +405,8 @@ fn expect_line<A: Abort>(
     before: Option<u32>,
 ) {
     let s = shift(axis, edit);
-    assert!(rt;
-        s.form()
-            == Form::Lines {
-                sheet: SHEET,
-                axis,
-                edit
-            }
-    );
-    assert!(rt; sound(&s));
-    let p = Place {
-        sheet: SHEET,
-        row: 9,
-        col: 4,
-    }
-    .with_line(axis, line);
-    assert_eq!(rt;
-        moved_place(&s, p).map(|q| q.line(axis)),
-        after,
-        "line {line} after {s:?}"
-    );
-    assert_eq!(rt;
-        back_place(&s, p).map(|q| q.line(axis)),
-        before,
-        "line {line} before {s:?}"
-    );
-}
-
-// Compares where the first and last line of a block go, which came there, and whether the block is bent or cut.
-fn expect_ends<A: Abort>(
-    rt: &A,
-    axis: Axis,
-    edit: Edit,
-    ends: Ends,
-    expected: (Option<Ends>, Option<Ends>, bool, bool),
-) {
-    let (after, before, bent, cut) = expected;
-    let s = shift(axis, edit);
-    assert!(rt; sound(&s));
-    let b = Block {
-        sheet: SHEET,
-        top: 7,
-        left: 3,
-        bottom: 8,
-        right: 5,
-    }
-    .with_span(
-        axis,
-        Span {
-            first: ends.0,
-            last: ends.1,
-        },
-    );
-    assert_eq!(rt;
-        ends_of(moved_block(&s, b), axis),
-        after,
-        "{b:?} after {s:?}"
-    );
-    assert_eq!(rt;
-        ends_of(back_block(&s, b), axis),
-        before,
-        "{b:?} before {s:?}"
-    );
-    assert_eq!(rt; is_bent(&s, b), bent, "{b:?} bent by {s:?}");
-    assert_eq!(rt; is_cut(&s, b), cut, "{b:?} cut by {s:?}");
-}
-
-// The first and last line of a block.
-fn ends_of(b: Option<Block>, axis: Axis) -> Option<Ends> {
-    b.map(|c| (c.span(axis).first, c.span(axis).last))
+    assert!(rt; is_edit(&s, axis, edit) && sound(&s), "line {line}");
+    assert!(rt; line_moves(&s, axis, line, after, before), "line {line}");
 }
 
 // A move of lines.
@@ -403,144 +419,215 @@ fn move_lines(from: u32, count: u32, before: u32) -> Edit {
 }
 
 #[test]
-fn lines_move_as_in_the_tables(rt: HostRuntime) {
-    for (axis, at, count, line, after, before) in INSERTED_LINES {
+fn lines_move_over_inserted_ones(rt: HostRuntime) {
+    for row in INSERTED_LINES {
+        let (axis, at, count, line, after, before) = *row;
         expect_line(&rt, axis, Edit::Insert { at, count }, line, after, before);
     }
-    for (axis, at, count, line, after, before) in DELETED_LINES {
+}
+
+#[test]
+fn lines_move_over_deleted_ones(rt: HostRuntime) {
+    for row in DELETED_LINES {
+        let (axis, at, count, line, after, before) = *row;
         expect_line(&rt, axis, Edit::Delete { at, count }, line, after, before);
     }
-    for (axis, from, count, before, line, goes, came) in MOVED_LINES {
+}
+
+#[test]
+fn lines_move_over_moved_ones(rt: HostRuntime) {
+    for row in MOVED_LINES {
+        let (axis, from, count, before, line, goes, came) = *row;
         let edit = move_lines(from, count, before);
         expect_line(&rt, axis, edit, line, Some(goes), Some(came));
     }
 }
 
-#[test]
-fn ends_move_as_in_the_tables(rt: HostRuntime) {
-    for (axis, at, count, ends, after, before, bent, cut) in ENDS_OVER_INSERTED {
-        let edit = Edit::Insert { at, count };
-        expect_ends(&rt, axis, edit, ends, (after, before, bent, cut));
-    }
-    for (axis, at, count, ends, after, before, bent) in ENDS_OVER_DELETED {
-        let edit = Edit::Delete { at, count };
-        expect_ends(&rt, axis, edit, ends, (after, before, bent, false));
-    }
-    for (axis, from, count, before, ends, goes, came, bent) in ENDS_OVER_MOVED {
-        let edit = move_lines(from, count, before);
-        expect_ends(&rt, axis, edit, ends, (Some(goes), Some(came), bent, false));
+// The first and last line of a block.
+fn ends_of(b: Option<Block>, axis: Axis) -> Option<Ends> {
+    match b {
+        Some(b) => {
+            let span = b.span(axis);
+            Some((span.first, span.last))
+        }
+        None => None,
     }
 }
 
-// A place by its sheet, its row and its column.
-fn place(sheet: u32, row: u32, col: u32) -> Place {
-    Place { sheet, row, col }
+// Whether the ends of the block go to the ones, and the others came there.
+fn ends_move(s: &Shift, axis: Axis, b: Block, after: Option<Ends>, before: Option<Ends>) -> bool
+    requires { IsSound s.now }
+{
+    ends_of(moved_block(s, b), axis) == after && ends_of(back_block(s, b), axis) == before
 }
 
-#[test]
-fn cells_move_over_others(rt: HostRuntime) {
-    let down = Shift::MoveBlock {
-        source: SOURCE,
-        to: place(SHEET, 3, 1),
+// Whether the operation bends the block, and cuts it.
+fn is_changed(s: &Shift, b: Block, bent: bool, cut: bool) -> bool
+    requires { IsSound s.now }
+{
+    is_bent(s, b) == bent && is_cut(s, b) == cut
+}
+
+// A block of these lines.
+fn block_of(axis: Axis, ends: Ends) -> Block {
+    let any = Block {
+        sheet: SHEET,
+        top: 7,
+        left: 3,
+        bottom: 8,
+        right: 5,
     };
-    assert!(rt; sound(&down));
-    for (row, col, after, before) in OVERWRITTEN_PLACES {
-        let p = place(SHEET, row, col);
-        assert_eq!(rt;
-            moved_place(&down, p).map(|q| (q.row, q.col)),
-            after,
-            "{p:?} after"
-        );
-        assert_eq!(rt;
-            back_place(&down, p).map(|q| (q.row, q.col)),
-            before,
-            "{p:?} before"
-        );
+    let (first, last) = ends;
+    any.with_span(axis, Span { first, last })
+}
+
+// Compares where the first and last line of a block go, which came there, and whether the block is bent or cut.
+fn expect_ends<A: Abort>(
+    rt: &A,
+    axis: Axis,
+    edit: Edit,
+    ends: Ends,
+    goes: (Option<Ends>, Option<Ends>),
+    changed: (bool, bool),
+) {
+    let s = shift(axis, edit);
+    let (first, last) = ends;
+    let b = block_of(axis, ends);
+    assert!(rt; sound(&s), "lines {first} to {last}");
+    assert!(rt; ends_move(&s, axis, b, goes.0, goes.1), "lines {first} to {last}");
+    assert!(rt; is_changed(&s, b, changed.0, changed.1), "lines {first} to {last}");
+}
+
+#[test]
+fn ends_move_over_inserted_lines(rt: HostRuntime) {
+    for row in ENDS_OVER_INSERTED {
+        let (axis, at, count, ends, after, before, bent, cut) = *row;
+        let edit = Edit::Insert { at, count };
+        expect_ends(&rt, axis, edit, ends, (after, before), (bent, cut));
     }
-    for (top, bottom, after, before) in OVERWRITTEN_BLOCKS {
+}
+
+#[test]
+fn ends_move_over_deleted_lines(rt: HostRuntime) {
+    for row in ENDS_OVER_DELETED {
+        let (axis, at, count, ends, after, before, bent) = *row;
+        let edit = Edit::Delete { at, count };
+        expect_ends(&rt, axis, edit, ends, (after, before), (bent, false));
+    }
+}
+
+#[test]
+fn ends_move_over_moved_lines(rt: HostRuntime) {
+    for row in ENDS_OVER_MOVED {
+        let (axis, from, count, before, ends, goes, came, bent) = *row;
+        let edit = move_lines(from, count, before);
+        expect_ends(&rt, axis, edit, ends, (Some(goes), Some(came)), (bent, false));
+    }
+}
+
+// The row and column of a place.
+fn cell_of(p: Option<Place>) -> Option<Ends> {
+    match p {
+        Some(p) => Some((p.row, p.col)),
+        None => None,
+    }
+}
+
+// Whether the place goes to the one row and column, and the other came there.
+fn place_moves(s: &Shift, p: Place, after: Option<Ends>, before: Option<Ends>) -> bool
+    requires { IsSound s.now }
+{
+    cell_of(moved_place(s, p)) == after && cell_of(back_place(s, p)) == before
+}
+
+// Compares where places of the sheet go, and which came there.
+fn expect_places<A: Abort>(rt: &A, s: &Shift, rows: &[Overwritten])
+    requires { IsSound s.now }
+{
+    for row in rows {
+        let (row, col, after, before) = *row;
+        let sheet = SHEET;
+        let p = Place { sheet, row, col };
+        assert!(rt; place_moves(s, p, after, before), "{row}, {col}");
+    }
+}
+
+// Compares where rows of the moved cells go, and which came there.
+fn expect_rows<A: Abort>(rt: &A, s: &Shift, rows: &[Overwritten])
+    requires { IsSound s.now }
+{
+    for row in rows {
+        let (top, bottom, after, before) = *row;
         let b = Block {
             top,
             bottom,
             ..SOURCE
         };
-        assert_eq!(rt;
-            moved_block(&down, b).map(|c| (c.top, c.bottom)),
-            after,
-            "{b:?} after"
-        );
-        assert_eq!(rt;
-            back_block(&down, b).map(|c| (c.top, c.bottom)),
-            before,
-            "{b:?} before"
-        );
+        assert!(rt; ends_move(s, Axis::Rows, b, after, before), "{top} to {bottom}");
     }
+}
+
+#[test]
+fn cells_move_over_others(rt: HostRuntime) {
+    assert!(rt; sound(&DOWN));
+    expect_places(&rt, &DOWN, OVERWRITTEN_PLACES);
+    expect_rows(&rt, &DOWN, OVERWRITTEN_BLOCKS);
+}
+
+// Whether the place goes to the one, and the other came there.
+fn goes(s: &Shift, p: Place, after: Option<Place>, before: Option<Place>) -> bool
+    requires { IsSound s.now }
+{
+    moved_place(s, p) == after && back_place(s, p) == before
 }
 
 #[test]
 fn cells_move_to_another_sheet(rt: HostRuntime) {
-    // Into the last corner.
-    let away = Shift::MoveBlock {
-        source: SOURCE,
-        to: place(2, 39_997, 18_276),
-    };
-    assert!(rt; sound(&away));
-    let last = place(2, 39_999, 18_277);
-    let moved = place(SHEET, 4, 2);
-    assert_eq!(rt; moved_place(&away, moved), Some(last));
-    assert_eq!(rt; moved_place(&away, last), None);
-    assert_eq!(rt; back_place(&away, last), Some(moved));
-    assert_eq!(rt; back_place(&away, moved), None);
+    assert!(rt; sound(&AWAY));
+    assert!(rt; goes(&AWAY, LAST_OF_SOURCE, Some(LAST), None));
+    assert!(rt; goes(&AWAY, LAST, None, Some(LAST_OF_SOURCE)));
 }
 
 #[test]
 fn a_dropped_sheet_is_lost(rt: HostRuntime) {
-    let drop = Shift::DropSheet { sheet: SHEET };
-    assert!(rt; sound(&drop));
-    let lost = place(SHEET, 4, 2);
-    let other = place(2, 39_999, 18_277);
-    assert_eq!(rt; moved_place(&drop, lost), None);
-    assert_eq!(rt; moved_place(&drop, other), Some(other));
-    assert_eq!(rt; back_place(&drop, lost), None);
-    assert_eq!(rt; moved_block(&drop, SOURCE), None);
-    assert_eq!(rt; is_bent(&drop, SOURCE), true);
+    assert!(rt; sound(&DROPPED));
+    assert!(rt; goes(&DROPPED, LAST_OF_SOURCE, None, None));
+    assert!(rt; goes(&DROPPED, LAST, Some(LAST), Some(LAST)));
+    assert!(rt; moved_block(&DROPPED, SOURCE) == None && is_bent(&DROPPED, SOURCE));
+}
+
+// Whether the edit of the lines is sound, or is not.
+fn is_sound(axis: Axis, edit: Edit, expected: bool) -> bool {
+    sound(&shift(axis, edit)) == expected
 }
 
 #[test]
-fn operations_that_fit_are_sound(rt: HostRuntime) {
-    for (axis, at, count, insert, delete) in FITTING_LINES {
-        assert_eq!(rt;
-            sound(&shift(axis, Edit::Insert { at, count })),
-            insert,
-            "{count} at {at}"
-        );
-        assert_eq!(rt;
-            sound(&shift(axis, Edit::Delete { at, count })),
-            delete,
-            "{count} at {at}"
-        );
+fn inserts_and_deletions_that_fit_are_sound(rt: HostRuntime) {
+    for row in FITTING_LINES {
+        let (axis, at, count, insert, delete) = *row;
+        let is_right = is_sound(axis, Edit::Insert { at, count }, insert);
+        assert!(rt; is_right, "{count} inserted at {at}");
+        let is_right = is_sound(axis, Edit::Delete { at, count }, delete);
+        assert!(rt; is_right, "{count} deleted at {at}");
     }
-    for (from, count, before, rows, cols) in FITTING_MOVES {
-        let edit = Edit::Move {
-            from,
-            count,
-            before,
-        };
-        assert_eq!(rt; sound(&shift(Axis::Rows, edit)), rows, "{from} to {before}");
-        assert_eq!(rt; sound(&shift(Axis::Cols, edit)), cols, "{from} to {before}");
+}
+
+#[test]
+fn moves_that_fit_are_sound(rt: HostRuntime) {
+    for row in FITTING_MOVES {
+        let (from, count, before, rows, cols) = *row;
+        let edit = move_lines(from, count, before);
+        assert!(rt; is_sound(Axis::Rows, edit, rows), "rows {from} to {before}");
+        assert!(rt; is_sound(Axis::Cols, edit, cols), "columns {from} to {before}");
     }
-    let source = Block {
-        sheet: SHEET,
-        top: 2,
-        left: 1,
-        bottom: 4,
-        right: 2,
-    };
-    for (sheet, row, col, fits) in FITTING_DESTINATIONS {
+}
+
+#[test]
+fn moved_cells_that_fit_are_sound(rt: HostRuntime) {
+    for row in FITTING_DESTINATIONS {
+        let (sheet, row, col, fits) = *row;
         let to = Place { sheet, row, col };
-        assert_eq!(rt;
-            sound(&Shift::MoveBlock { source, to }),
-            fits,
-            "moved to {to:?}"
-        );
+        let source = SOURCE;
+        assert!(rt; sound(&Shift::MoveBlock { source, to }) == fits, "to {row}, {col}");
     }
 }
