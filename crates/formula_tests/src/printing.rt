@@ -5,6 +5,7 @@ ghost use Rattle.formula_tree.specs.Reference.{base_of, corner_at};
 use cell_addr::{COLS, NO_SHEET, OneSheet, Place, ROWS, Text};
 use formula_print::print;
 use formula_tree::{Home, Node, Part, Ref, SheetPart};
+use std::alloc::{AllocError, Global};
 use std::rc::Rc;
 use std::test::Fail;
 
@@ -19,7 +20,7 @@ const NAME: Home = Home::Name { sheet: NO_SHEET };
 
 /// Homes, references and their texts: the home's own sheet by its number, a sheet that isn't listed, a
 /// home on no sheet.
-const CELLS: [(Home, SheetPart, Part, Part, &str); 5] = [
+const CELLS: &[(Home, SheetPart, Part, Part, &str)] = &[
     (
         HOME,
         SheetPart::Own,
@@ -47,43 +48,61 @@ fn is_inside(reference: Ref, home: Home) -> bool
     at.row < ROWS && at.col < COLS
 }
 
+// Whether the reference lies within the limits, and is printed as the text.
+fn is_printed(
+    alloc: Global,
+    sheets: &OneSheet,
+    home: Home,
+    reference: Ref,
+    text: &str,
+) -> Result<bool, AllocError> {
+    if !is_inside(reference, home) {
+        return Ok(false);
+    }
+    let tree = Rc::new(alloc, Node::Cell(reference))?;
+    Ok(print(alloc, &tree, home, sheets)?.as_str() == text)
+}
+
 #[test]
 fn texts_of_references(rt: HostRuntime) -> Result<(), Fail> {
-    let alloc = rt.alloc();
     let sheets = OneSheet {
-        name: Text::from_str(alloc, "O'Neil")?,
+        name: Text::from_str(rt.alloc(), "O'Neil")?,
     };
-    for (home, sheet, row, col, text) in CELLS {
+    for cell in CELLS {
+        let (home, sheet, row, col, text) = *cell;
         let reference = Ref { sheet, row, col };
-        assert!(rt; is_inside(reference, home), "{text}");
-        let tree = Rc::new(alloc, Node::Cell(reference))?;
-        assert_eq!(rt; print(alloc, &tree, home, &sheets)?.as_str(), text);
+        assert!(rt; is_printed(rt.alloc(), &sheets, home, reference, text)?, "{text}");
     }
     Ok(())
 }
 
+// The first and last cell of a block: the home's own sheet by its number, and corners with other `$`.
+const FIRST: Ref = Ref {
+    sheet: SheetPart::Id(1),
+    row: Part::Abs(0),
+    col: Part::Rel(0),
+};
+
+const LAST: Ref = Ref {
+    sheet: SheetPart::Id(1),
+    row: Part::Rel(39_999),
+    col: Part::Abs(2),
+};
+
+// Whether the block between them is printed as the text.
+fn block_is_printed(alloc: Global, sheets: &OneSheet, text: &str) -> Result<bool, AllocError> {
+    if !is_inside(FIRST, HOME) || !is_inside(LAST, HOME) {
+        return Ok(false);
+    }
+    let tree = Rc::new(alloc, Node::Area(FIRST, LAST))?;
+    Ok(print(alloc, &tree, HOME, sheets)?.as_str() == text)
+}
+
 #[test]
 fn text_of_a_block(rt: HostRuntime) -> Result<(), Fail> {
-    // The home's own sheet by its number, and corners with other `$`.
-    let alloc = rt.alloc();
     let sheets = OneSheet {
-        name: Text::from_str(alloc, "Two")?,
+        name: Text::from_str(rt.alloc(), "Two")?,
     };
-    let first = Ref {
-        sheet: SheetPart::Id(1),
-        row: Part::Abs(0),
-        col: Part::Rel(0),
-    };
-    let last = Ref {
-        sheet: SheetPart::Id(1),
-        row: Part::Rel(39_999),
-        col: Part::Abs(2),
-    };
-    assert!(rt; is_inside(first, HOME) && is_inside(last, HOME));
-    let tree = Rc::new(alloc, Node::Area(first, last))?;
-    assert_eq!(rt;
-        print(alloc, &tree, HOME, &sheets)?.as_str(),
-        "=A$1:$C40000"
-    );
+    assert!(rt; block_is_printed(rt.alloc(), &sheets, "=A$1:$C40000")?);
     Ok(())
 }

@@ -66,7 +66,7 @@ fn is_number(value: &Scalar, millionths: i64) -> bool {
 }
 
 // Names in the order in which functions of them are added, and how each is refused, if it is.
-const NAMES: [(&str, Option<RegError>); 8] = [
+const NAMES: &[(&str, Option<RegError>)] = &[
     ("LEVY", None),
     ("levy", Some(RegError::NameTaken)),
     ("SUM", Some(RegError::NameTaken)),
@@ -77,54 +77,108 @@ const NAMES: [(&str, Option<RegError>); 8] = [
     ("_tax.2", None),
 ];
 
-#[test]
-fn custom_functions_answer_their_rules(rt: HostRuntime) -> Result<(), AllocError> {
-    let alloc = rt.alloc();
-    let (Some(rule), Some(stored)) = (bands(alloc, &POSTAGE)?, bands(alloc, &POSTAGE)?) else {
-        assert!(rt; false);
-        return Ok(());
-    };
+// A custom function, whose call answers by the copy of its rule that it stores.
+fn custom(alloc: Global, name: &str, rule: Rule, stored: Rule) -> Result<Custom, AllocError>
+    requires { stored ≡ rule }
+{
     let call = Box::new(
         alloc,
         move |x: &Scalar| -> Scalar
             ensures { result ≡ rule_value stored x.now }
         { stored.value_of(x) },
     )?;
-    let postage = Custom::new(Text::from_str(alloc, "POSTAGE")?, rule, call);
-    assert!(rt; is_number(&postage.answer(&Scalar::Truth(true)), 2_750_000));
-    assert!(rt; tiers(alloc, &POSTAGE[1..])?.is_none());
+    Ok(Custom::new(Text::from_str(alloc, name)?, rule, call))
+}
+
+// A custom function by the bands of a table; none where they are no rule.
+fn custom_by_bands(
+    alloc: Global,
+    name: &str,
+    table: &[(i64, i64)],
+) -> Result<Option<Custom>, AllocError> {
+    match (bands(alloc, table)?, bands(alloc, table)?) {
+        (Some(rule), Some(stored)) => Ok(Some(custom(alloc, name, rule, stored)?)),
+        _ => Ok(None),
+    }
+}
+
+// A custom function by the tiers of a table; none where they are no rule.
+fn custom_by_tiers(
+    alloc: Global,
+    name: &str,
+    table: &[(i64, i64)],
+) -> Result<Option<Custom>, AllocError> {
+    match (tiers(alloc, table)?, tiers(alloc, table)?) {
+        (Some(rule), Some(stored)) => Ok(Some(custom(alloc, name, rule, stored)?)),
+        _ => Ok(None),
+    }
+}
+
+// Whether the function answers so many millionths of `TRUE`, which counts as 1.
+fn answers(custom: &Custom, millionths: i64) -> bool {
+    is_number(&custom.answer(&Scalar::Truth(true)), millionths)
+}
+
+// Whether the postage of 1 is right.
+fn postage_is_right(alloc: Global) -> Result<bool, AllocError> {
+    match custom_by_bands(alloc, "POSTAGE", &POSTAGE)? {
+        Some(postage) => Ok(answers(&postage, 2_750_000)),
+        None => Ok(false),
+    }
+}
+
+#[test]
+fn custom_functions_answer_their_rules(rt: HostRuntime) -> Result<(), AllocError> {
+    assert!(rt; postage_is_right(rt.alloc())?);
+    assert!(rt; tiers(rt.alloc(), &POSTAGE[1..])?.is_none());
     Ok(())
+}
+
+// Adds a levy of this name to the registry. Whether it is refused so, or taken.
+fn is_added(
+    alloc: Global,
+    registry: &mut Registry,
+    name: &str,
+    refusal: &Option<RegError>,
+) -> Result<bool, AllocError> {
+    match custom_by_tiers(alloc, name, &LEVY)? {
+        Some(levy) => Ok(registry.add(levy).err() == *refusal),
+        None => Ok(false),
+    }
+}
+
+// Adds functions of the names. Whether each is refused or taken as it should be.
+fn are_added(alloc: Global, registry: &mut Registry) -> Result<bool, AllocError> {
+    for (name, refusal) in NAMES {
+        if !is_added(alloc, registry, name, refusal)? {
+            return Ok(false);
+        }
+    }
+    Ok(true)
+}
+
+// Whether the levy is found by its name in other letters, and answers its rule.
+fn levy_is_found(registry: &Registry) -> bool {
+    match registry.find("Levy") {
+        Some(levy) => levy.name().as_str() == "LEVY" && answers(levy, 100_000),
+        None => false,
+    }
+}
+
+// Whether a function that was refused is not found, and one that was taken is.
+fn others_are_found(registry: &Registry) -> bool {
+    registry.find("SUM").is_none() && registry.find("_TAX.2").is_some()
 }
 
 #[test]
 fn functions_are_added_under_new_names(rt: HostRuntime) -> Result<(), AllocError> {
-    let alloc = rt.alloc();
-    let mut registry = Registry::new(alloc)?;
-    for (name, refusal) in NAMES {
-        let (Some(rule), Some(stored)) = (tiers(alloc, &LEVY)?, tiers(alloc, &LEVY)?) else {
-            assert!(rt; false);
-            return Ok(());
-        };
-        let call = Box::new(
-            alloc,
-            move |x: &Scalar| -> Scalar
-                ensures { result ≡ rule_value stored x.now }
-            { stored.value_of(x) },
-        )?;
-        let custom = Custom::new(Text::from_str(alloc, name)?, rule, call);
-        assert_eq!(rt; registry.add(custom).err(), refusal, "{name}");
-    }
-    assert!(rt;
-        registry
-            .find("Levy")
-            .is_some_and(|custom| custom.name().as_str() == "LEVY")
-    );
-    assert!(rt; registry.find("SUM").is_none() && registry.find("_TAX.2").is_some());
-    assert!(rt; is_word(b"_a.1") && !is_word(b".a") && is_function_word("Sum"));
-    let Some(levy) = registry.find("LEVY") else {
-        assert!(rt; false);
-        return Ok(());
-    };
-    assert!(rt; is_number(&levy.answer(&Scalar::Truth(true)), 100_000));
+    let mut registry = Registry::new(rt.alloc())?;
+    assert!(rt; are_added(rt.alloc(), &mut registry)?);
+    assert!(rt; levy_is_found(&registry) && others_are_found(&registry));
     Ok(())
+}
+
+#[test]
+fn words_are_those_of_functions(rt: HostRuntime) {
+    assert!(rt; is_word(b"_a.1") && !is_word(b".a") && is_function_word("Sum"));
 }

@@ -5,7 +5,7 @@ use std::alloc::{AllocError, Global};
 
 // A call of each function, whose arguments are numbers but for the row of 1, 5 and 9 where none stands, and
 // what a person sees of its value.
-const VALUES: [(&str, &[Option<i64>], &str); 5] = [
+const VALUES: &[(&str, &[Option<i64>], &str)] = &[
     ("MATCH", &[Some(5), None, Some(0)], "2"),
     ("VLOOKUP", &[Some(1), None, Some(3)], "9"),
     ("HLOOKUP", &[Some(5), None, Some(1)], "5"),
@@ -18,12 +18,17 @@ fn number(number: i64) -> Scalar {
     Scalar::from(Fixed::from_int(number))
 }
 
+// Puts 1, 5 and 9 into a row.
+fn fill(area: &mut Area) -> Result<(), AllocError> {
+    area.push(0, 0, number(1))?;
+    area.push(0, 1, number(5))?;
+    area.push(0, 2, number(9))
+}
+
 // A row of 1, 5 and 9.
 fn row(alloc: Global) -> Result<Arg, AllocError> {
     let mut area = Area::new(alloc, 1, 3);
-    area.push(0, 0, number(1))?;
-    area.push(0, 1, number(5))?;
-    area.push(0, 2, number(9))?;
+    fill(&mut area)?;
     Ok(Arg::Many(area))
 }
 
@@ -35,23 +40,50 @@ fn argument(alloc: Global, value: Option<i64>) -> Result<Arg, AllocError> {
     }
 }
 
+// Puts each argument into the list.
+fn push_all(
+    alloc: Global,
+    args: &mut Vec<Arg>,
+    values: &[Option<i64>],
+) -> Result<(), AllocError> {
+    for value in values {
+        args.push(argument(alloc, *value)?)?;
+    }
+    Ok(())
+}
+
+// Whether a person sees this of the function's value.
+fn shows(
+    alloc: Global,
+    function: LookFn,
+    args: &[Arg],
+    expected: &str,
+) -> Result<bool, AllocError> {
+    let value = look(alloc, function, args)?;
+    Ok(value.shown(alloc)?.as_str() == expected)
+}
+
+// Whether the function has the word, and a person sees this of its value.
+fn answers(
+    alloc: Global,
+    word: &str,
+    values: &[Option<i64>],
+    expected: &str,
+) -> Result<bool, AllocError> {
+    match LookFn::named(word) {
+        Some(function) => {
+            let mut args = Vec::new(alloc);
+            push_all(alloc, &mut args, values)?;
+            Ok(function.word() == word && shows(alloc, function, &args, expected)?)
+        }
+        None => Ok(false),
+    }
+}
+
 #[test]
 fn each_function_answers(rt: HostRuntime) -> Result<(), AllocError> {
-    let alloc = rt.alloc();
     for (word, values, expected) in VALUES {
-        let Some(function) = LookFn::named(word) else {
-            assert!(rt; false);
-            return Ok(());
-        };
-        let mut args = Vec::new(alloc);
-        for value in values {
-            args.push(argument(alloc, *value)?)?;
-        }
-        let shown = look(alloc, function, &args)?.shown(alloc)?;
-        assert!(rt;
-            function.word() == word && shown.as_str() == expected,
-            "{shown:?}"
-        );
+        assert!(rt; answers(rt.alloc(), word, values, expected)?, "{word}");
     }
     assert!(rt; LookFn::named("sum").is_none() && LookFn::named("").is_none());
     Ok(())

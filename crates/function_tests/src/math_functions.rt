@@ -4,7 +4,7 @@ use func_math::{MathFn, math};
 use std::alloc::{AllocError, Global};
 
 // A call of each function of numbers alone, and what a person sees of its value.
-const VALUES: [(&str, &[i64], &str); 19] = [
+const VALUES: &[(&str, &[i64], &str)] = &[
     ("SUM", &[1, 2], "3"),
     ("AVERAGE", &[1, 2], "1.5"),
     ("MIN", &[3, -2], "-2"),
@@ -31,58 +31,82 @@ fn number(number: i64) -> Scalar {
     Scalar::from(Fixed::from_int(number))
 }
 
-// An argument of each number.
-fn arguments(alloc: Global, numbers: &[i64]) -> Result<Vec<Arg>, AllocError> {
-    let mut args = Vec::new(alloc);
+// Puts each number into the list.
+fn push_all(args: &mut Vec<Arg>, numbers: &[i64]) -> Result<(), AllocError> {
     for value in numbers {
         args.push(Arg::One(number(*value)))?;
     }
-    Ok(args)
+    Ok(())
 }
 
-// A row of 1, nothing and 5.
-fn row(alloc: Global) -> Result<Arg, AllocError> {
-    let mut area = Area::new(alloc, 1, 3);
-    area.push(0, 0, number(1))?;
-    area.push(0, 1, Scalar::Empty)?;
-    area.push(0, 2, number(5))?;
-    Ok(Arg::Many(area))
+// Whether a person sees this of the function's value.
+fn shows(
+    alloc: Global,
+    function: MathFn,
+    args: &[Arg],
+    expected: &str,
+) -> Result<bool, AllocError> {
+    let value = math(alloc, function, args)?;
+    Ok(value.shown(alloc)?.as_str() == expected)
 }
 
-// What a person sees of the function's value of the row, and of the number 5 where it takes a criterion.
-fn of_row(alloc: Global, function: MathFn, has_criterion: bool) -> Result<String, AllocError> {
-    let mut args = Vec::new(alloc);
-    args.push(row(alloc)?)?;
-    if has_criterion {
-        args.push(Arg::One(number(5)))?;
+// Whether the function has the word, and a person sees this of its value.
+fn answers(
+    alloc: Global,
+    word: &str,
+    numbers: &[i64],
+    expected: &str,
+) -> Result<bool, AllocError> {
+    match MathFn::named(word) {
+        Some(function) => {
+            let mut args = Vec::new(alloc);
+            push_all(&mut args, numbers)?;
+            Ok(function.word() == word && shows(alloc, function, &args, expected)?)
+        }
+        None => Ok(false),
     }
-    let shown = math(alloc, function, &args)?.shown(alloc)?;
-    String::from_str(alloc, shown.as_str())
 }
 
 #[test]
 fn each_function_answers(rt: HostRuntime) -> Result<(), AllocError> {
-    let alloc = rt.alloc();
     for (word, numbers, expected) in VALUES {
-        let Some(function) = MathFn::named(word) else {
-            assert!(rt; false);
-            return Ok(());
-        };
-        let shown = math(alloc, function, &arguments(alloc, numbers)?)?.shown(alloc)?;
-        assert!(rt;
-            function.word() == word && shown.as_str() == expected,
-            "{shown:?}"
-        );
+        assert!(rt; answers(rt.alloc(), word, numbers, expected)?, "{word}");
     }
     assert!(rt; MathFn::named("sum").is_none() && MathFn::named("").is_none());
     Ok(())
 }
 
+// Puts 1, nothing and 5 into a row.
+fn fill(area: &mut Area) -> Result<(), AllocError> {
+    area.push(0, 0, number(1))?;
+    area.push(0, 1, Scalar::Empty)?;
+    area.push(0, 2, number(5))
+}
+
+// A row of 1, nothing and 5.
+fn row(alloc: Global) -> Result<Arg, AllocError> {
+    let mut area = Area::new(alloc, 1, 3);
+    fill(&mut area)?;
+    Ok(Arg::Many(area))
+}
+
+// Whether a person sees this of the function's value of the row and the numbers.
+fn of_row(
+    alloc: Global,
+    function: MathFn,
+    numbers: &[i64],
+    expected: &str,
+) -> Result<bool, AllocError> {
+    let mut args = Vec::new(alloc);
+    args.push(row(alloc)?)?;
+    push_all(&mut args, numbers)?;
+    shows(alloc, function, &args, expected)
+}
+
 #[test]
 fn cells_are_counted(rt: HostRuntime) -> Result<(), AllocError> {
-    let alloc = rt.alloc();
-    assert!(rt; of_row(alloc, MathFn::CountBlank, false)?.as_str() == "1");
-    assert!(rt; of_row(alloc, MathFn::CountIf, true)?.as_str() == "1");
-    assert!(rt; of_row(alloc, MathFn::SumIf, true)?.as_str() == "5");
+    assert!(rt; of_row(rt.alloc(), MathFn::CountBlank, &[], "1")?);
+    assert!(rt; of_row(rt.alloc(), MathFn::CountIf, &[5], "1")?);
+    assert!(rt; of_row(rt.alloc(), MathFn::SumIf, &[5], "5")?);
     Ok(())
 }

@@ -4,7 +4,9 @@ ghost use Rattle.custom_fn.specs.Rule.{rule_value};
 ghost use Rattle.tariffs.specs.Tariffs as tariff;
 
 use cell_value::Scalar;
+use custom_fn::Registry;
 use fix_num::Fixed;
+use std::alloc::{AllocError, Global};
 use std::test::Fail;
 use tariffs::{LEVY, POSTAGE, customs, levy, levy_rule, postage, postage_rule};
 
@@ -16,33 +18,40 @@ fn millionths(value: &Scalar) -> Option<i64> {
     }
 }
 
+// A value in millionths, its postage and the levy on it.
+const ANSWERS: &[(i64, Option<i64>, Option<i64>)] = &[
+    (-1, None, None),
+    (0, Some(1_500_000), Some(0)),
+    (499_999, Some(1_500_000), Some(50_000)),
+    (500_000, Some(2_750_000), Some(50_000)),
+    (10_000_000, Some(9_900_000), Some(1_000_000)),
+    (2_000_000_000, Some(9_900_000), Some(300_000_000)),
+    (6_000_000_000, Some(9_900_000), Some(1_150_000_000)),
+];
+
+// Whether the value has this postage, and this levy is on it.
+fn answer(x: i64, price: Option<i64>, due: Option<i64>) -> bool {
+    match Fixed::from_millionths(x) {
+        Ok(number) => {
+            let value = Scalar::Number(number);
+            millionths(&postage(&value)) == price && millionths(&levy(&value)) == due
+        }
+        Err(_) => false,
+    }
+}
+
 #[test]
 fn answers_by_tables(rt: HostRuntime) -> Result<(), Fail> {
-    let cases = [
-        (-1, None, None),
-        (0, Some(1_500_000), Some(0)),
-        (499_999, Some(1_500_000), Some(50_000)),
-        (500_000, Some(2_750_000), Some(50_000)),
-        (10_000_000, Some(9_900_000), Some(1_000_000)),
-        (2_000_000_000, Some(9_900_000), Some(300_000_000)),
-        (6_000_000_000, Some(9_900_000), Some(1_150_000_000)),
-    ];
-    for (x, price, due) in cases {
-        let Ok(number) = Fixed::from_millionths(x) else {
-            continue;
-        };
-        let value = Scalar::Number(number);
-        assert!(rt; millionths(&postage(&value)) == price, "postage of {x}");
-        assert!(rt; millionths(&levy(&value)) == due, "levy on {x}");
+    for (x, price, due) in ANSWERS {
+        assert!(rt; answer(*x, *price, *due), "{x}");
     }
     assert!(rt; postage_rule(rt.alloc()).is_ok());
     assert!(rt; levy_rule(rt.alloc()).is_ok());
     Ok(())
 }
 
-#[test]
-fn both_are_registered(rt: HostRuntime) -> Result<(), Fail> {
-    let alloc = rt.alloc();
+// The registry of both.
+fn registry(alloc: Global) -> Result<Registry, AllocError> {
     let by_weight = Box::new(
         alloc,
         |x: &Scalar| -> Scalar
@@ -55,12 +64,24 @@ fn both_are_registered(rt: HostRuntime) -> Result<(), Fail> {
             ensures { result ≡ rule_value tariff.levy x.now }
         { levy(x) },
     )?;
-    let registry = customs(alloc, by_weight, by_amount)?;
-    assert!(rt; registry.find("postage").is_some());
-    let Some(custom) = registry.find("Levy") else {
-        assert!(rt; false);
-        return Ok(());
-    };
-    assert!(rt; millionths(&custom.answer(&Scalar::Truth(true))) == Some(100_000));
+    customs(alloc, by_weight, by_amount)
+}
+
+// Whether both are found by their names, and the levy on 1 is right.
+fn are_found(registry: &Registry) -> bool {
+    let is_found = registry.find("postage").is_some();
+    match registry.find("Levy") {
+        Some(custom) => {
+            let due = custom.answer(&Scalar::Truth(true));
+            is_found && millionths(&due) == Some(100_000)
+        }
+        None => false,
+    }
+}
+
+#[test]
+fn both_are_registered(rt: HostRuntime) -> Result<(), Fail> {
+    let registry = registry(rt.alloc())?;
+    assert!(rt; are_found(&registry));
     Ok(())
 }

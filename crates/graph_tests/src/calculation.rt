@@ -121,21 +121,39 @@ fn shows(values: &Values, row: u32, col: u32, millionths: i64) -> bool {
     }
 }
 
+// Whether the cells of the cycle have its fault, and the cell that asks for it says so.
+fn cycle_is_right(values: &Values) -> bool {
+    let first = values.at(place(0, 0));
+    let second = values.at(place(0, 1));
+    let asks = values.at(place(0, 2));
+    let are_faults = *first == Scalar::Fault(FaultKind::Cycle) && *second == Scalar::Fault(FaultKind::Cycle);
+    are_faults && *asks == Scalar::Truth(true)
+}
+
+// Whether the readers of names and lines are right, and a cell without content is empty.
+fn readers_are_right(values: &Values) -> bool {
+    let are_read = shows(values, 1, 1, 5_000_000) && shows(values, 2, 1, 3_000_000);
+    are_read && shows(values, 3, 1, 4_000_000) && values.at(place(9, 9)).is_empty()
+}
+
+// Whether a name has a value on another sheet, and none where it is unknown.
+fn names_are_right(values: &Values) -> bool {
+    values.named("none", 0).is_none() && values.named("pair", 1).is_some()
+}
+
+// The tree of `=ONE+PAIR`.
+fn sum_of_names(alloc: Global) -> Result<Tree, AllocError> {
+    let left = word(alloc, "ONE")?;
+    let right = word(alloc, "PAIR")?;
+    tree(alloc, Node::Binary(Op::Add, left, right))
+}
+
 #[test]
 fn values_of_cells_and_names(rt: HostRuntime) -> Result<(), Fail> {
-    let alloc = rt.alloc();
-    let left = word(alloc, "PAIR")?;
-    let sum = tree(alloc, Node::Binary(Op::Add, word(alloc, "ONE")?, left))?;
-    let (values, value) = worked_out::<Brand>(alloc, Blank::new(1), &sum)?;
-    assert!(rt; *values.at(place(0, 0)) == Scalar::Fault(FaultKind::Cycle));
-    assert!(rt; *values.at(place(0, 1)) == Scalar::Fault(FaultKind::Cycle));
-    assert!(rt; *values.at(place(0, 2)) == Scalar::Truth(true));
-    assert!(rt; shows(&values, 1, 1, 5_000_000));
-    assert!(rt; shows(&values, 2, 1, 3_000_000));
-    assert!(rt; shows(&values, 3, 1, 4_000_000));
-    assert!(rt; values.at(place(9, 9)).is_empty());
-    assert!(rt; values.named("none", 0).is_none());
-    assert!(rt; values.named("pair", 1).is_some());
+    let sum = sum_of_names(rt.alloc())?;
+    let (values, value) = worked_out::<Brand>(rt.alloc(), Blank::new(1), &sum)?;
+    assert!(rt; cycle_is_right(&values));
+    assert!(rt; readers_are_right(&values) && names_are_right(&values));
     assert!(rt; value == Scalar::Fault(FaultKind::Value));
     Ok(())
 }

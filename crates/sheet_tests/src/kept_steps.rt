@@ -42,10 +42,15 @@ fn push_three(book: &mut UndoBook<u8>) -> Result<(), AllocError> {
     Ok(())
 }
 
+// Whether the book has these entries done, and these undone.
+fn has(book: &UndoBook<u8>, done: &[u8], undone: &[u8]) -> bool {
+    book.done() == done && book.undone() == undone
+}
+
 // Takes a step back. Whether there was one, and what the book has then.
 fn goes_back(book: &mut UndoBook<u8>, row: &Row) -> bool {
     let is_stepped = book.step_back();
-    is_stepped == (row.limit > 0) && book.done() == row.done && book.undone() == row.undone
+    is_stepped == (row.limit > 0) && has(book, row.done, row.undone)
 }
 
 // Whether the book has what a fourth entry leaves.
@@ -84,11 +89,6 @@ fn the_newest_stay_up_to_the_limit(rt: HostRuntime) -> Result<(), AllocError> {
 fn leave(book: &mut UndoBook<u8>, entry: u8, expected: &[u8]) -> Result<bool, AllocError> {
     let left = book.push(entry)?;
     Ok(left.items() == expected)
-}
-
-// Whether the book has these entries done, and these undone.
-fn has(book: &UndoBook<u8>, done: &[u8], undone: &[u8]) -> bool {
-    book.done() == done && book.undone() == undone
 }
 
 // Whether two steps and no more lead back.

@@ -2,6 +2,7 @@
 
 use fix_num::NumError::{NotANumber, Range, ZeroDivisor};
 use fix_num::{Fixed, NumError};
+use std::alloc::{AllocError, Global};
 use std::process::Abort;
 
 // Texts, and the numbers that they spell.
@@ -193,70 +194,91 @@ fn read<A: Abort>(rt: &A, text: &str) -> Fixed {
 #[test]
 fn numbers_of_texts(rt: HostRuntime) {
     for (text, expected) in TEXTS {
-        assert_eq!(rt; millionths(Fixed::from_text(text)), *expected, "{text}");
-    }
-    for (whole, expected) in WHOLE_NUMBERS {
-        assert_eq!(rt; millionths(Fixed::from_int(*whole)), *expected, "{whole}");
+        let number = millionths(Fixed::from_text(text));
+        assert!(rt; number == *expected, "{text}");
     }
 }
 
 #[test]
-fn sums_products_and_quotients(rt: HostRuntime) {
+fn whole_numbers(rt: HostRuntime) {
+    for (whole, expected) in WHOLE_NUMBERS {
+        let number = millionths(Fixed::from_int(*whole));
+        assert!(rt; number == *expected, "{whole}");
+    }
+}
+
+#[test]
+fn sums(rt: HostRuntime) {
     for (a, b, sum, difference) in SUMS {
-        let (a, b) = (read(&rt, a), read(&rt, b));
-        assert_eq!(rt; millionths(a.add(b)), *sum);
-        assert_eq!(rt; millionths(a.sub(b)), *difference);
+        let (left, right) = (read(&rt, a), read(&rt, b));
+        assert!(rt; millionths(left.add(right)) == *sum, "{a} + {b}");
+        assert!(rt; millionths(left.sub(right)) == *difference, "{a} - {b}");
     }
+}
+
+#[test]
+fn products(rt: HostRuntime) {
     for (a, b, product) in PRODUCTS {
-        assert_eq!(rt;
-            millionths(read(&rt, a).mul(read(&rt, b))),
-            *product,
-            "{a} * {b}"
-        );
+        let found = millionths(read(&rt, a).mul(read(&rt, b)));
+        assert!(rt; found == *product, "{a} * {b}");
     }
+}
+
+#[test]
+fn quotients(rt: HostRuntime) {
     for (a, b, quotient) in QUOTIENTS {
-        assert_eq!(rt;
-            millionths(read(&rt, a).div(read(&rt, b))),
-            *quotient,
-            "{a} / {b}"
-        );
+        let found = millionths(read(&rt, a).div(read(&rt, b)));
+        assert!(rt; found == *quotient, "{a} / {b}");
     }
 }
 
 #[test]
 fn powers(rt: HostRuntime) {
     for (a, n, power) in POWERS {
-        assert_eq!(rt;
-            millionths(read(&rt, a).power(read(&rt, n))),
-            *power,
-            "{a} ^ {n}"
-        );
+        let found = millionths(read(&rt, a).power(read(&rt, n)));
+        assert!(rt; found == *power, "{a} ^ {n}");
     }
 }
 
 #[test]
 fn roundings(rt: HostRuntime) {
     for (number, places, rounded) in ROUNDINGS {
-        assert_eq!(rt;
-            millionths(read(&rt, number).round_to(*places)),
-            *rounded,
-            "{number}, {places}"
-        );
-    }
-    for (number, floor, cut) in WHOLE_PARTS {
-        assert_eq!(rt; millionths(read(&rt, number).floor()), *floor, "{number}");
-        assert_eq!(rt; read(&rt, number).trunc().millionths(), *cut, "{number}");
+        let found = millionths(read(&rt, number).round_to(*places));
+        assert!(rt; found == *rounded, "{number}, {places}");
     }
 }
 
 #[test]
-fn texts_of_numbers(rt: HostRuntime) {
-    for (number, shown) in SHOWN {
-        let text = read(&rt, number).text(rt.alloc()).expect(&rt, "memory");
-        assert_eq!(rt; text.as_str(), *shown);
+fn whole_parts(rt: HostRuntime) {
+    for (number, floor, cut) in WHOLE_PARTS {
+        let found = read(&rt, number);
+        assert!(rt; millionths(found.floor()) == *floor, "{number}");
+        assert!(rt; found.trunc().millionths() == *cut, "{number}");
     }
+}
+
+// Whether the number has this text.
+fn is_shown(alloc: Global, number: Fixed, shown: &str) -> Result<bool, AllocError> {
+    Ok(number.text(alloc)?.as_str() == shown)
+}
+
+#[test]
+fn texts_of_numbers(rt: HostRuntime) -> Result<(), AllocError> {
+    for (number, shown) in SHOWN {
+        let found = read(&rt, number);
+        assert!(rt; is_shown(rt.alloc(), found, shown)?, "{number}");
+    }
+    Ok(())
+}
+
+#[test]
+fn zero_and_one(rt: HostRuntime) {
     assert!(rt; read(&rt, "-0") == Fixed::ZERO && Fixed::ZERO.is_zero());
     assert!(rt; read(&rt, "1.0") == Fixed::ONE && !Fixed::ONE.is_zero());
+}
+
+#[test]
+fn negative_numbers(rt: HostRuntime) {
     assert!(rt; read(&rt, "-2") < read(&rt, "-1.999999") && read(&rt, "-2").is_negative());
     assert!(rt; millionths(Fixed::from_millionths(-1_000_000_000_000_000_000)) == Err(Range));
 }
