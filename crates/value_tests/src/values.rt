@@ -3,7 +3,6 @@ use cell_value::{Area, FaultKind, MAX_MADE_TEXT, Scalar, Summary, compare_texts}
 use fix_num::{Fixed, NumError};
 use std::alloc::{AllocError, Global};
 use std::cmp::Ordering::{self, Equal, Greater, Less};
-use std::process::Abort;
 use std::test::Fail;
 
 // Values, and their numbers in millionths.
@@ -172,54 +171,71 @@ fn truths_of_values(rt: HostRuntime) -> Result<(), Fail> {
     Ok(())
 }
 
-/// Asserts what a person sees of the value, that its text is the other value, and that its copy is
-/// itself.
-fn assert_shown(
-    rt: &impl Abort,
-    alloc: Global,
-    words: &str,
-    shown: &str,
-    text: &str,
-) -> Result<(), AllocError> {
+/// Whether a person sees this of the value, and its copy is itself.
+fn is_shown(alloc: Global, of: &Scalar, shown: &str) -> Result<bool, AllocError> {
+    Ok(of.shown(alloc)?.as_str() == shown && of.copy(alloc)? == *of)
+}
+
+/// Whether the text of the value is the other one.
+fn is_text(alloc: Global, of: &Scalar, text: &Scalar) -> Result<bool, AllocError> {
+    Ok(of.as_text(alloc)? == *text)
+}
+
+/// Whether a person sees this of the value, its copy is itself, and its text is the other value.
+fn shows(alloc: Global, words: &str, shown: &str, text: &str) -> Result<bool, AllocError> {
     let of = value(alloc, words)?;
-    assert!(rt; of.shown(alloc)?.as_str() == shown, "{words}");
-    assert!(rt; of.as_text(alloc)? == value(alloc, text)?, "{words}");
-    assert!(rt; of.copy(alloc)? == of, "{words}");
-    Ok(())
+    let text = value(alloc, text)?;
+    Ok(is_shown(alloc, &of, shown)? && is_text(alloc, &of, &text)?)
 }
 
 #[test]
 fn texts_of_values(rt: HostRuntime) -> Result<(), Fail> {
     for (words, shown, text) in SHOWN {
-        assert_shown(&rt, rt.alloc(), words, shown, text)?;
+        assert!(rt; shows(rt.alloc(), words, shown, text)?, "{words}");
     }
     Ok(())
+}
+
+/// Whether the fault has the name, and is found by it.
+fn is_named(alloc: Global, fault: FaultKind, text: &str) -> Result<bool, AllocError> {
+    let is_found = fault.text() == text && FaultKind::named(text) == Some(fault);
+    Ok(is_found && fault.to_string(alloc)?.as_str() == text)
 }
 
 #[test]
 fn names_of_faults(rt: HostRuntime) -> Result<(), Fail> {
     for (fault, text) in FAULTS {
-        assert!(rt; fault.text() == *text);
-        assert!(rt; fault.to_string(rt.alloc())?.as_str() == *text);
-        assert!(rt; FaultKind::named(text) == Some(*fault));
-    }
-    assert!(rt; FaultKind::named("#div/0!") == Some(FaultKind::Div0));
-    assert!(rt; FaultKind::named("#n/A") == Some(FaultKind::Na));
-    for none in NO_FAULTS {
-        assert!(rt; FaultKind::named(none) == None, "{none}");
+        assert!(rt; is_named(rt.alloc(), *fault, text)?, "{text}");
     }
     Ok(())
 }
 
 #[test]
-fn calculations_as_values(rt: HostRuntime) {
-    for (error, fault) in [
-        (NumError::Range, FaultKind::Num),
-        (NumError::ZeroDivisor, FaultKind::Div0),
-        (NumError::NotANumber, FaultKind::Value),
-    ] {
-        assert!(rt; Scalar::from(Err(error)) == Scalar::Fault(fault));
+fn other_names(rt: HostRuntime) {
+    assert!(rt; FaultKind::named("#div/0!") == Some(FaultKind::Div0));
+    assert!(rt; FaultKind::named("#n/A") == Some(FaultKind::Na));
+    for none in NO_FAULTS {
+        assert!(rt; FaultKind::named(none) == None, "{none}");
     }
+}
+
+// Why a calculation has no number, and the fault that its value is.
+const ERRORS: &[(NumError, FaultKind)] = &[
+    (NumError::Range, FaultKind::Num),
+    (NumError::ZeroDivisor, FaultKind::Div0),
+    (NumError::NotANumber, FaultKind::Value),
+];
+
+#[test]
+fn failed_calculations_as_values(rt: HostRuntime) {
+    for (error, fault) in ERRORS {
+        let value = Scalar::from(Err(*error));
+        assert!(rt; value == Scalar::Fault(*fault));
+    }
+}
+
+#[test]
+fn calculations_as_values(rt: HostRuntime) {
     assert!(rt; Scalar::from(Ok(Fixed::ONE)) == Scalar::Number(Fixed::ONE));
     assert!(rt; Scalar::Number(Fixed::ONE) != Scalar::Truth(true));
     assert!(rt; Scalar::Number(Fixed::ZERO) != Scalar::Empty);
@@ -241,48 +257,87 @@ fn orders_of_values(rt: HostRuntime) -> Result<(), Fail> {
     Ok(())
 }
 
+/// Whether the fault decides how the values compare.
+fn decides(alloc: Global, a: &str, b: &str, fault: FaultKind) -> Result<bool, AllocError> {
+    let a = value(alloc, a)?;
+    let b = value(alloc, b)?;
+    Ok(a.compare(&b) == Err(fault))
+}
+
 #[test]
 fn faults_before_orders(rt: HostRuntime) -> Result<(), Fail> {
     for (a, b, fault) in DECIDED {
-        let left = value(rt.alloc(), a)?;
-        let right = value(rt.alloc(), b)?;
-        assert!(rt; left.compare(&right) == Err(*fault), "{a} and {b}");
+        assert!(rt; decides(rt.alloc(), a, b, *fault)?, "{a} and {b}");
     }
     Ok(())
+}
+
+/// Puts two values into the area.
+fn fill(alloc: Global, area: &mut Area) -> Result<(), AllocError> {
+    area.push(0, 1, value(alloc, "-2")?)?;
+    area.push(1, 2, value(alloc, "'7")?)
+}
+
+/// Whether the cell of the area has the value.
+fn has(alloc: Global, area: &Area, row: u32, col: u32, words: &str) -> Result<bool, AllocError> {
+    let expected = value(alloc, words)?;
+    match area.value(row, col) {
+        Some(value) => Ok(*value == expected),
+        None => Ok(false),
+    }
+}
+
+/// Whether the area has the two values and no others.
+fn has_both(alloc: Global, area: &Area) -> Result<bool, AllocError> {
+    let are_two = area.filled().len() == 2 && area.value(1, 1).is_none();
+    Ok(are_two && has(alloc, area, 0, 1, "-2")? && has(alloc, area, 1, 2, "'7")?)
 }
 
 #[test]
 fn cells_of_areas(rt: HostRuntime) -> Result<(), Fail> {
     let mut area = Area::new(rt.alloc(), 2, 3);
-    area.push(0, 1, value(rt.alloc(), "-2")?)?;
-    area.push(1, 2, value(rt.alloc(), "'7")?)?;
-    assert!(rt; area.filled().len() == 2);
-    assert!(rt; area.value(0, 1) == Some(&value(rt.alloc(), "-2")?));
-    assert!(rt; area.value(1, 1) == None);
-    assert!(rt; area.value(1, 2) == Some(&value(rt.alloc(), "'7")?));
+    fill(rt.alloc(), &mut area)?;
+    assert!(rt; has_both(rt.alloc(), &area)?);
     Ok(())
+}
+
+/// Whether a number and a fault are summed up.
+fn are_both(both: &Summary) -> bool {
+    let is_sum = both.count == 1 && both.sum == -2_000_000;
+    is_sum && both.fault == Some(FaultKind::Na) && both.least == both.greatest
 }
 
 #[test]
 fn summaries_of_values(rt: HostRuntime) -> Result<(), Fail> {
     let least = Summary::of(&value(rt.alloc(), "-2")?);
     let fault = Summary::of(&value(rt.alloc(), "#N/A")?);
-    let both = least.join(&fault);
-    assert!(rt; both.count == 1 && both.sum == -2_000_000);
-    assert!(rt; both.fault == Some(FaultKind::Na));
-    assert!(rt; both.least == both.greatest);
+    assert!(rt; are_both(&least.join(&fault)));
     Ok(())
+}
+
+/// Puts so many letters behind the text.
+fn push_letters(content: &mut String, count: usize) -> Result<(), AllocError> {
+    for _ in 0..count {
+        content.push('x')?;
+    }
+    Ok(())
+}
+
+/// The value of a made text of so many letters.
+fn made(alloc: Global, count: usize) -> Result<Scalar, AllocError> {
+    let mut content = String::new(alloc);
+    push_letters(&mut content, count)?;
+    Ok(Scalar::made_text(Text::new(content)))
+}
+
+/// Whether a person sees so many letters of the value.
+fn has_length(alloc: Global, value: &Scalar, length: usize) -> Result<bool, AllocError> {
+    Ok(value.shown(alloc)?.as_bytes().len() == length)
 }
 
 #[test]
 fn made_texts(rt: HostRuntime) -> Result<(), Fail> {
-    let mut content = String::new(rt.alloc());
-    for _ in 0..MAX_MADE_TEXT {
-        content.push('x')?;
-    }
-    let most = Scalar::made_text(Text::from_str(rt.alloc(), content.as_str())?);
-    assert!(rt; most.shown(rt.alloc())?.as_bytes().len() == MAX_MADE_TEXT);
-    content.push('x')?;
-    assert!(rt; Scalar::made_text(Text::new(content)) == Scalar::Fault(FaultKind::Value));
+    assert!(rt; has_length(rt.alloc(), &made(rt.alloc(), MAX_MADE_TEXT)?, MAX_MADE_TEXT)?);
+    assert!(rt; made(rt.alloc(), MAX_MADE_TEXT + 1)? == Scalar::Fault(FaultKind::Value));
     Ok(())
 }
