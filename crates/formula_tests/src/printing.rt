@@ -71,7 +71,10 @@ fn texts_of_references(rt: HostRuntime) -> Result<(), Fail> {
     for cell in CELLS {
         let (home, sheet, row, col, text) = *cell;
         let reference = Ref { sheet, row, col };
-        assert!(rt; is_printed(rt.alloc(), &sheets, home, reference, text)?, "{text}");
+        assert!(rt;
+            is_printed(rt.alloc(), &sheets, home, reference, text)?,
+            "{text}"
+        );
     }
     Ok(())
 }

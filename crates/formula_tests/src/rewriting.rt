@@ -91,12 +91,7 @@ fn returns(
 }
 
 // Whether the tree of a formula of the cell changes over the operation, and comes back as it was.
-fn comes_back(
-    alloc: Global,
-    pool: &mut Pool,
-    cell: Place,
-    s: &Shift,
-) -> Result<bool, AllocError> {
+fn comes_back(alloc: Global, pool: &mut Pool, cell: Place, s: &Shift) -> Result<bool, AllocError> {
     if !sound(s) || !cell.inside() || moved_place(s, cell).is_none() {
         return Ok(false);
     }

@@ -41,11 +41,7 @@ fn argument(alloc: Global, value: Option<i64>) -> Result<Arg, AllocError> {
 }
 
 // Puts each argument into the list.
-fn push_all(
-    alloc: Global,
-    args: &mut Vec<Arg>,
-    values: &[Option<i64>],
-) -> Result<(), AllocError> {
+fn push_all(alloc: Global, args: &mut Vec<Arg>, values: &[Option<i64>]) -> Result<(), AllocError> {
     for value in values {
         args.push(argument(alloc, *value)?)?;
     }

@@ -51,12 +51,7 @@ fn shows(
 }
 
 // Whether the function has the word, and a person sees this of its value.
-fn answers(
-    alloc: Global,
-    word: &str,
-    numbers: &[i64],
-    expected: &str,
-) -> Result<bool, AllocError> {
+fn answers(alloc: Global, word: &str, numbers: &[i64], expected: &str) -> Result<bool, AllocError> {
     match MathFn::named(word) {
         Some(function) => {
             let mut args = Vec::new(alloc);

@@ -41,12 +41,7 @@ fn value(alloc: Global, function: TextFn, words: &[&str]) -> Result<Scalar, Allo
 }
 
 // Whether the function has the word, and a person sees this of its value.
-fn answers(
-    alloc: Global,
-    word: &str,
-    words: &[&str],
-    expected: &str,
-) -> Result<bool, AllocError> {
+fn answers(alloc: Global, word: &str, words: &[&str], expected: &str) -> Result<bool, AllocError> {
     match TextFn::named(word) {
         Some(function) => {
             let value = value(alloc, function, words)?;
@@ -75,7 +70,7 @@ fn makes_too_long(alloc: Global, function: TextFn, args: &[Arg]) -> Result<bool,
     Ok(is_too_long(&texts(alloc, function, args)?))
 }
 
-// Whether a text is too long with one letter of two bytes in the place of each that has one, and with more behind it.
+// Whether the longest text is too long with a letter of two bytes in the place of each `b`, and with more behind it.
 fn more_is_too_long(alloc: Global, most: Scalar) -> Result<bool, AllocError> {
     let mut args = Vec::new(alloc);
     args.push(Arg::One(most))?;

@@ -126,7 +126,8 @@ fn cycle_is_right(values: &Values) -> bool {
     let first = values.at(place(0, 0));
     let second = values.at(place(0, 1));
     let asks = values.at(place(0, 2));
-    let are_faults = *first == Scalar::Fault(FaultKind::Cycle) && *second == Scalar::Fault(FaultKind::Cycle);
+    let are_faults = *first == Scalar::Fault(FaultKind::Cycle)
+        && *second == Scalar::Fault(FaultKind::Cycle);
     are_faults && *asks == Scalar::Truth(true)
 }
 

@@ -99,7 +99,10 @@ fn repeated_is_shown(
 fn refuses_what_is_off_the_sheet(rt: HostRuntime) -> Result<(), Fail> {
     for row in REPEATED {
         let (byte, count, filled, expected) = *row;
-        assert!(rt; repeated_is_shown(rt.alloc(), byte, count, filled, expected)?, "{expected}");
+        assert!(rt;
+            repeated_is_shown(rt.alloc(), byte, count, filled, expected)?,
+            "{expected}"
+        );
     }
     Ok(())
 }

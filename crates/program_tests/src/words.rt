@@ -47,11 +47,7 @@ fn push_words(alloc: Global, list: &mut Vec<String>, line: &str) -> Result<(), A
 }
 
 // Puts the name of the script's file behind the text, where there is one.
-fn push_script(
-    alloc: Global,
-    shown: &mut String,
-    script: &Option<Text>,
-) -> Result<(), AllocError> {
+fn push_script(alloc: Global, shown: &mut String, script: &Option<Text>) -> Result<(), AllocError> {
     if let Some(script) = script {
         let name = script.as_str();
         let script = format!(in alloc; " script {name}")?;

@@ -494,8 +494,14 @@ fn expect_ends<A: Abort>(
     let (first, last) = ends;
     let b = block_of(axis, ends);
     assert!(rt; sound(&s), "lines {first} to {last}");
-    assert!(rt; ends_move(&s, axis, b, goes.0, goes.1), "lines {first} to {last}");
-    assert!(rt; is_changed(&s, b, changed.0, changed.1), "lines {first} to {last}");
+    assert!(rt;
+        ends_move(&s, axis, b, goes.0, goes.1),
+        "lines {first} to {last}"
+    );
+    assert!(rt;
+        is_changed(&s, b, changed.0, changed.1),
+        "lines {first} to {last}"
+    );
 }
 
 #[test]
@@ -521,7 +527,14 @@ fn ends_move_over_moved_lines(rt: HostRuntime) {
     for row in ENDS_OVER_MOVED {
         let (axis, from, count, before, ends, goes, came, bent) = *row;
         let edit = move_lines(from, count, before);
-        expect_ends(&rt, axis, edit, ends, (Some(goes), Some(came)), (bent, false));
+        expect_ends(
+            &rt,
+            axis,
+            edit,
+            ends,
+            (Some(goes), Some(came)),
+            (bent, false),
+        );
     }
 }
 
@@ -563,7 +576,10 @@ fn expect_rows<A: Abort>(rt: &A, s: &Shift, rows: &[Overwritten])
             bottom,
             ..SOURCE
         };
-        assert!(rt; ends_move(s, Axis::Rows, b, after, before), "{top} to {bottom}");
+        assert!(rt;
+            ends_move(s, Axis::Rows, b, after, before),
+            "{top} to {bottom}"
+        );
     }
 }
 
@@ -618,7 +634,10 @@ fn moves_that_fit_are_sound(rt: HostRuntime) {
         let (from, count, before, rows, cols) = *row;
         let edit = move_lines(from, count, before);
         assert!(rt; is_sound(Axis::Rows, edit, rows), "rows {from} to {before}");
-        assert!(rt; is_sound(Axis::Cols, edit, cols), "columns {from} to {before}");
+        assert!(rt;
+            is_sound(Axis::Cols, edit, cols),
+            "columns {from} to {before}"
+        );
     }
 }
 
@@ -628,6 +647,9 @@ fn moved_cells_that_fit_are_sound(rt: HostRuntime) {
         let (sheet, row, col, fits) = *row;
         let to = Place { sheet, row, col };
         let source = SOURCE;
-        assert!(rt; sound(&Shift::MoveBlock { source, to }) == fits, "to {row}, {col}");
+        assert!(rt;
+            sound(&Shift::MoveBlock { source, to }) == fits,
+            "to {row}, {col}"
+        );
     }
 }

@@ -116,7 +116,10 @@ fn is_address(
 #[test]
 fn texts_that_are_addresses(rt: HostRuntime) -> Result<(), AddrError> {
     for (text, sheet, corners, single) in ADDRESSES {
-        assert!(rt; is_address(rt.alloc(), text, sheet, *corners, *single)?, "{text}");
+        assert!(rt;
+            is_address(rt.alloc(), text, sheet, *corners, *single)?,
+            "{text}"
+        );
     }
     Ok(())
 }

@@ -42,8 +42,14 @@ fn digits_of_texts(rt: HostRuntime) {
 #[test]
 fn parts_of_texts(rt: HostRuntime) {
     for (text, before, after) in PARTS {
-        assert!(rt; before_byte(text.as_bytes(), b'.') == before.as_bytes(), "{text}");
-        assert!(rt; after_byte(text.as_bytes(), b'.') == after.as_bytes(), "{text}");
+        assert!(rt;
+            before_byte(text.as_bytes(), b'.') == before.as_bytes(),
+            "{text}"
+        );
+        assert!(rt;
+            after_byte(text.as_bytes(), b'.') == after.as_bytes(),
+            "{text}"
+        );
     }
 }
 
