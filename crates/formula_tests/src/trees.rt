@@ -1,4 +1,5 @@
 ghost use Rattle.std.specs.Prelude.{◌≡◌, ◌<◌, IfOk, false};
+ghost use Rattle.cell_addr.specs.Place.{IsInside};
 ghost use Rattle.formula_tree.specs.Seen.{seen};
 ghost use Rattle.formula_tree.specs.Term.{binary, cell};
 ghost use Rattle.formula_tree.specs.declared.operator.Op.TheVariants as ops;
@@ -182,7 +183,10 @@ fn trees_that_nobody_holds_are_swept(rt: HostRuntime) -> Result<(), Fail> {
 }
 
 // Whether the far corners see each other, and a line in front of the first is none.
-fn corners_are_seen(near: Corner, far: Corner) -> bool {
+fn corners_are_seen(near: Corner, far: Corner) -> bool
+    requires near { IsInside near.at }
+    requires far { IsInside far.at }
+{
     let (near_home, far_home) = (Home::Cell(near.at), Home::Cell(far.at));
     let far_is_seen = Ref::of(far, near_home).at(near_home) == far;
     let seen = Ref::of(near, far_home);
@@ -201,7 +205,9 @@ fn name_counts_from_first() -> bool {
 }
 
 // Whether a block whose corners have different `$` follows its formula.
-fn block_follows(top: Corner) -> bool {
+fn block_follows(top: Corner) -> bool
+    requires { IsInside top.at }
+{
     let home = Home::Cell(place(5, 5));
     let below = Home::Cell(place(6, 6));
     let last = Ref::of(corner(2, 2), home).at(below);

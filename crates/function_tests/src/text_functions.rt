@@ -67,7 +67,8 @@ fn is_too_long(value: &Scalar) -> bool {
 
 // Whether the function makes too long a text of these.
 fn makes_too_long(alloc: Global, function: TextFn, args: &[Arg]) -> Result<bool, AllocError> {
-    Ok(is_too_long(&texts(alloc, function, args)?))
+    let value = texts(alloc, function, args)?;
+    Ok(is_too_long(&value))
 }
 
 // Whether the longest text is too long with a letter of two bytes in the place of each `b`, and with more behind it.
@@ -85,10 +86,16 @@ fn is_longest(alloc: Global, most: Scalar) -> Result<bool, AllocError> {
     Ok(is_longest && more_is_too_long(alloc, most)?)
 }
 
+// Whether a text repeated once more is too long.
+fn repeats_too_often(alloc: Global) -> Result<bool, AllocError> {
+    let value = value(alloc, TextFn::Rept, &["ab", "16385"])?;
+    Ok(is_too_long(&value))
+}
+
 #[test]
 fn made_texts_have_an_end(rt: HostRuntime) -> Result<(), AllocError> {
-    let alloc = rt.alloc();
-    assert!(rt; is_longest(alloc, value(alloc, TextFn::Rept, &["ab", "16384"])?)?);
-    assert!(rt; is_too_long(&value(alloc, TextFn::Rept, &["ab", "16385"])?));
+    let most = value(rt.alloc(), TextFn::Rept, &["ab", "16384"])?;
+    assert!(rt; is_longest(rt.alloc(), most)?);
+    assert!(rt; repeats_too_often(rt.alloc())?);
     Ok(())
 }

@@ -3,8 +3,10 @@ use csv::ByteRecord;
 use script_lang::{ScriptError, command};
 use std::alloc::{AllocError, Global};
 
+type Said = Result<Command, ScriptError>;
+
 // What the record of these fields says.
-fn said(alloc: Global, fields: &[&[u8]]) -> Result<Command, ScriptError> {
+fn said(alloc: Global, fields: &[&[u8]]) -> Said {
     let record = ByteRecord::from_fields(alloc, fields)?;
     command(alloc, &record)
 }
@@ -22,39 +24,39 @@ const RENAME_SHEET: &[&[u8]] = &[b"rename-sheet", b"a", b"b"];
 
 const MOVE_BLOCK: &[&[u8]] = &[b"move-block", b"B2:A1", b"c3"];
 
-fn is_set(command: &Command) -> bool {
-    match command {
-        Command::Set(at, text) => {
+fn is_set(said: Said) -> bool {
+    match &said {
+        Ok(Command::Set(at, text)) => {
             (at.top, at.left) == (2, 1) && at.sheet.is_some() && text.is_empty()
         }
         _ => false,
     }
 }
 
-fn is_clear(command: &Command) -> bool {
-    matches!(command, Command::Clear(_))
+fn is_clear(said: Said) -> bool {
+    matches!(&said, Ok(Command::Clear(_)))
 }
 
-fn is_insert_rows(command: &Command) -> bool {
-    match command {
-        Command::InsertRows(sheet, at, count) => {
+fn is_insert_rows(said: Said) -> bool {
+    match &said {
+        Ok(Command::InsertRows(sheet, at, count)) => {
             sheet.as_str() == "Two" && *at == 40_000 && *count == 0
         }
         _ => false,
     }
 }
 
-fn is_move_cols(command: &Command) -> bool {
-    matches!(command, Command::MoveCols(_, 18_277, 12, 0))
+fn is_move_cols(said: Said) -> bool {
+    matches!(&said, Ok(Command::MoveCols(_, 18_277, 12, 0)))
 }
 
-fn is_rename_sheet(command: &Command) -> bool {
-    matches!(command, Command::RenameSheet(..))
+fn is_rename_sheet(said: Said) -> bool {
+    matches!(&said, Ok(Command::RenameSheet(..)))
 }
 
-fn is_move_block(command: &Command) -> bool {
-    match command {
-        Command::MoveBlock(block, to) => {
+fn is_move_block(said: Said) -> bool {
+    match &said {
+        Ok(Command::MoveBlock(block, to)) => {
             let is_block = (block.top, block.right, block.single) == (0, 1, false);
             is_block && (to.top, to.left) == (2, 2)
         }
@@ -63,19 +65,17 @@ fn is_move_block(command: &Command) -> bool {
 }
 
 #[test]
-fn records_say_commands(rt: HostRuntime) -> Result<(), ScriptError> {
-    assert!(rt; is_set(&said(rt.alloc(), SET)?));
-    assert!(rt; is_clear(&said(rt.alloc(), CLEAR)?));
-    assert!(rt; is_insert_rows(&said(rt.alloc(), INSERT_ROWS)?));
-    Ok(())
+fn records_say_commands(rt: HostRuntime) {
+    assert!(rt; is_set(said(rt.alloc(), SET)));
+    assert!(rt; is_clear(said(rt.alloc(), CLEAR)));
+    assert!(rt; is_insert_rows(said(rt.alloc(), INSERT_ROWS)));
 }
 
 #[test]
-fn records_say_more_commands(rt: HostRuntime) -> Result<(), ScriptError> {
-    assert!(rt; is_move_cols(&said(rt.alloc(), MOVE_COLS)?));
-    assert!(rt; is_rename_sheet(&said(rt.alloc(), RENAME_SHEET)?));
-    assert!(rt; is_move_block(&said(rt.alloc(), MOVE_BLOCK)?));
-    Ok(())
+fn records_say_more_commands(rt: HostRuntime) {
+    assert!(rt; is_move_cols(said(rt.alloc(), MOVE_COLS)));
+    assert!(rt; is_rename_sheet(said(rt.alloc(), RENAME_SHEET)));
+    assert!(rt; is_move_block(said(rt.alloc(), MOVE_BLOCK)));
 }
 
 // Fields that say no command, and why.

@@ -216,9 +216,10 @@ fn blocks_that_contain_others(rt: HostRuntime) {
     assert!(rt; nine.contains(block(9, 9, 8, 9)));
 }
 
-// Whether the text's copy is equal to it.
-fn is_copied(alloc: Global, text: &Text) -> Result<bool, AllocError> {
-    Ok(text.copy(alloc)? == *text && !text.is_empty())
+// Whether a text of these letters has a copy that is equal to it.
+fn is_copied(alloc: Global, letters: &str) -> Result<bool, AllocError> {
+    let text = Text::from_str(alloc, letters)?;
+    Ok(text.copy(alloc)? == text && !text.is_empty())
 }
 
 // Whether the capitals of a text are ASCII ones.
@@ -249,7 +250,7 @@ fn texts_are_folded(rt: HostRuntime) -> Result<(), AllocError> {
 
 #[test]
 fn texts_are_made(rt: HostRuntime) -> Result<(), AllocError> {
-    assert!(rt; is_copied(rt.alloc(), &Text::from_str(rt.alloc(), "aZ[ä")?)?);
+    assert!(rt; is_copied(rt.alloc(), "aZ[ä")?);
     assert!(rt; is_utf8(rt.alloc(), "ä".as_bytes())? && !is_utf8(rt.alloc(), &[0xC3])?);
     assert!(rt; is_quoted(rt.alloc(), "a\"\"b'\"!A1", "a\"b'")?);
     Ok(())

@@ -301,6 +301,12 @@ fn cells_of_areas(rt: HostRuntime) -> Result<(), Fail> {
     Ok(())
 }
 
+/// The summary of the value alone.
+fn summary(alloc: Global, words: &str) -> Result<Summary, AllocError> {
+    let of = value(alloc, words)?;
+    Ok(Summary::of(&of))
+}
+
 /// Whether a number and a fault are summed up.
 fn are_both(both: &Summary) -> bool {
     let is_sum = both.count == 1 && both.sum == -2_000_000;
@@ -309,8 +315,8 @@ fn are_both(both: &Summary) -> bool {
 
 #[test]
 fn summaries_of_values(rt: HostRuntime) -> Result<(), Fail> {
-    let least = Summary::of(&value(rt.alloc(), "-2")?);
-    let fault = Summary::of(&value(rt.alloc(), "#N/A")?);
+    let least = summary(rt.alloc(), "-2")?;
+    let fault = summary(rt.alloc(), "#N/A")?;
     assert!(rt; are_both(&least.join(&fault)));
     Ok(())
 }
@@ -330,14 +336,21 @@ fn made(alloc: Global, count: usize) -> Result<Scalar, AllocError> {
     Ok(Scalar::made_text(Text::new(content)))
 }
 
-/// Whether a person sees so many letters of the value.
-fn has_length(alloc: Global, value: &Scalar, length: usize) -> Result<bool, AllocError> {
-    Ok(value.shown(alloc)?.as_bytes().len() == length)
+/// Whether a person sees all of so many letters.
+fn is_made(alloc: Global, count: usize) -> Result<bool, AllocError> {
+    let made = made(alloc, count)?;
+    Ok(made.shown(alloc)?.as_bytes().len() == count)
+}
+
+/// Whether so many letters are too long a text.
+fn is_too_long(alloc: Global, count: usize) -> Result<bool, AllocError> {
+    let made = made(alloc, count)?;
+    Ok(made == Scalar::Fault(FaultKind::Value))
 }
 
 #[test]
 fn made_texts(rt: HostRuntime) -> Result<(), Fail> {
-    assert!(rt; has_length(rt.alloc(), &made(rt.alloc(), MAX_MADE_TEXT)?, MAX_MADE_TEXT)?);
-    assert!(rt; made(rt.alloc(), MAX_MADE_TEXT + 1)? == Scalar::Fault(FaultKind::Value));
+    assert!(rt; is_made(rt.alloc(), MAX_MADE_TEXT)?);
+    assert!(rt; is_too_long(rt.alloc(), MAX_MADE_TEXT + 1)?);
     Ok(())
 }
