@@ -2,20 +2,49 @@ use book_model::{
     BookCell, BookCells, ContentText, Refusal, is_name, is_sheet_name, read_content, text_given,
 };
 use cell_addr::Text;
-use std::alloc::AllocError;
+use std::alloc::{AllocError, Global};
+
+// Texts given to a cell, and the kinds of their contents.
+const CONTENTS: &[(&str, &str)] = &[
+    ("", "nothing"),
+    ("=1", "formula"),
+    ("-3", "number"),
+    ("true", "true"),
+    ("'5", "text"),
+    ("x", "text"),
+];
+
+// The kind of a content.
+fn kind_of(content: &ContentText) -> &'static str {
+    match content {
+        ContentText::Clear => "nothing",
+        ContentText::Formula(_) => "formula",
+        ContentText::Number(_) => "number",
+        ContentText::Truth(true) => "true",
+        ContentText::Truth(false) => "false",
+        ContentText::Text(_) => "text",
+    }
+}
+
+// Whether the text gives a content of the kind.
+fn gives(alloc: Global, text: &str, kind: &str) -> Result<bool, AllocError> {
+    let content = read_content(alloc, text)?;
+    Ok(kind_of(&content) == kind)
+}
+
+// Whether the content of these letters is given by the text.
+fn is_given_by(alloc: Global, letters: &str, text: &str) -> Result<bool, AllocError> {
+    Ok(text_given(alloc, letters)?.as_str() == text)
+}
 
 // A text given to a cell clears it, or is a formula, a number, a truth value or a text.
 #[test]
 fn texts_give_contents(rt: HostRuntime) -> Result<(), AllocError> {
-    let alloc = rt.alloc();
-    assert!(rt; matches!(read_content(alloc, "")?, ContentText::Clear));
-    assert!(rt; matches!(read_content(alloc, "=1")?, ContentText::Formula(_)));
-    assert!(rt; matches!(read_content(alloc, "-3")?, ContentText::Number(_)));
-    assert!(rt; matches!(read_content(alloc, "true")?, ContentText::Truth(true)));
-    assert!(rt; matches!(read_content(alloc, "'5")?, ContentText::Text(_)));
-    assert!(rt; matches!(read_content(alloc, "x")?, ContentText::Text(_)));
-    assert!(rt; text_given(alloc, "5")?.as_str() == "'5");
-    assert!(rt; text_given(alloc, "x")?.as_str() == "x");
+    for (text, kind) in CONTENTS {
+        assert!(rt; gives(rt.alloc(), text, kind)?, "{text}");
+    }
+    assert!(rt; is_given_by(rt.alloc(), "5", "'5")?);
+    assert!(rt; is_given_by(rt.alloc(), "x", "x")?);
     Ok(())
 }
 

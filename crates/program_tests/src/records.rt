@@ -25,15 +25,27 @@ const TEXTS: &[(&[u8], &[u8])] = &[
     (b"a\n\xEF\xBB\xBFb\n", b"[a][\xEF\xBB\xBFb]"),
 ];
 
-// Puts a record in brackets behind the bytes, its fields apart by bars.
+// Puts a field behind the bytes, and a bar before it unless it is the first.
+fn push_field(shown: &mut Vec<u8>, field: &[u8], is_first: bool) -> Result<(), AllocError> {
+    if !is_first {
+        shown.push(b'|')?;
+    }
+    shown.extend_from_slice(field)?;
+    Ok(())
+}
+
+// Puts the fields of a record behind the bytes, apart by bars.
+fn push_fields(shown: &mut Vec<u8>, record: &ByteRecord) -> Result<(), AllocError> {
+    for (i, field) in record.iter().enumerate() {
+        push_field(shown, field, i == 0)?;
+    }
+    Ok(())
+}
+
+// Puts a record in brackets behind the bytes.
 fn push_record(shown: &mut Vec<u8>, record: &ByteRecord) -> Result<(), AllocError> {
     shown.push(b'[')?;
-    for (i, field) in record.iter().enumerate() {
-        if i > 0 {
-            shown.push(b'|')?;
-        }
-        shown.extend_from_slice(field)?;
-    }
+    push_fields(shown, record)?;
     shown.push(b']')?;
     Ok(())
 }
