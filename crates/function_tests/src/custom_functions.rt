@@ -23,15 +23,25 @@ const LEVY: [(i64, i64); 3] = [
     (5_000_000_000, 250_000),
 ];
 
+// A pair of numbers; none where one is beyond the limits.
+fn pair(row: (i64, i64)) -> Option<(Fixed, Fixed)>
+    ensures { IfSome result (λ pair. pair ≡ row) }
+{
+    match (Fixed::from_millionths(row.0), Fixed::from_millionths(row.1)) {
+        (Ok(first), Ok(second)) => Some((first, second)),
+        _ => None,
+    }
+}
+
 // The pairs of a table; none where a number is beyond the limits.
 fn pairs(alloc: Global, table: &[(i64, i64)]) -> Result<Option<Vec<(Fixed, Fixed)>>, AllocError>
     ensures { IfOk result (λ made. IfSome made (λ list. list.items ≡ table.now)) }
 {
     let mut list = Vec::new(alloc);
     'rows: for row in table {
-        match (Fixed::from_millionths(row.0), Fixed::from_millionths(row.1)) {
-            (Ok(first), Ok(second)) => list.push((first, second))?,
-            _ => return Ok(None),
+        match pair(*row) {
+            Some(pair) => list.push(pair)?,
+            None => return Ok(None),
         }
     }
     Ok(Some(list))

@@ -1,3 +1,6 @@
+ghost use Rattle.std.specs.Prelude.{◌≡◌};
+ghost use Rattle.cell_value.specs.Cells.{empty_cells};
+
 use cell_value::{Area, Arg, Scalar};
 use fix_num::Fixed;
 use func_look::{LookFn, look};
@@ -19,7 +22,9 @@ fn number(number: i64) -> Scalar {
 }
 
 // Puts 1, 5 and 9 into a row.
-fn fill(area: &mut Area) -> Result<(), AllocError> {
+fn fill(area: &mut Area) -> Result<(), AllocError>
+    requires { area.old ≡ empty_cells 1 3 }
+{
     area.push(0, 0, number(1))?;
     area.push(0, 1, number(5))?;
     area.push(0, 2, number(9))

@@ -1,3 +1,6 @@
+ghost use Rattle.std.specs.Prelude.{◌≡◌};
+ghost use Rattle.cell_value.specs.Cells.{empty_cells};
+
 use cell_value::{Area, Arg, Scalar};
 use fix_num::Fixed;
 use func_math::{MathFn, math};
@@ -72,7 +75,9 @@ fn each_function_answers(rt: HostRuntime) -> Result<(), AllocError> {
 }
 
 // Puts 1, nothing and 5 into a row.
-fn fill(area: &mut Area) -> Result<(), AllocError> {
+fn fill(area: &mut Area) -> Result<(), AllocError>
+    requires { area.old ≡ empty_cells 1 3 }
+{
     area.push(0, 0, number(1))?;
     area.push(0, 1, Scalar::Empty)?;
     area.push(0, 2, number(5))

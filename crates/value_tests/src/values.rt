@@ -1,3 +1,6 @@
+ghost use Rattle.std.specs.Prelude.{◌≡◌};
+ghost use Rattle.cell_value.specs.Cells.{empty_cells};
+
 use cell_addr::Text;
 use cell_value::{Area, FaultKind, MAX_MADE_TEXT, Scalar, Summary, compare_texts};
 use fix_num::{Fixed, NumError};
@@ -273,7 +276,9 @@ fn faults_before_orders(rt: HostRuntime) -> Result<(), Fail> {
 }
 
 /// Puts two values into the area.
-fn fill(alloc: Global, area: &mut Area) -> Result<(), AllocError> {
+fn fill(alloc: Global, area: &mut Area) -> Result<(), AllocError>
+    requires { area.old ≡ empty_cells 2 3 }
+{
     area.push(0, 1, value(alloc, "-2")?)?;
     area.push(1, 2, value(alloc, "'7")?)
 }
