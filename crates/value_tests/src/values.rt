@@ -283,10 +283,19 @@ fn fill(alloc: Global, area: &mut Area) -> Result<(), AllocError>
     area.push(1, 2, value(alloc, "'7")?)
 }
 
+/// The value of a cell; none where the area ends before it, or the cell is empty.
+fn cell(area: &Area, row: u32, col: u32) -> Option<&Scalar> {
+    if row < area.rows() && col < area.cols() {
+        area.value(row, col)
+    } else {
+        None
+    }
+}
+
 /// Whether the cell of the area has the value.
 fn has(alloc: Global, area: &Area, row: u32, col: u32, words: &str) -> Result<bool, AllocError> {
     let expected = value(alloc, words)?;
-    match area.value(row, col) {
+    match cell(area, row, col) {
         Some(value) => Ok(*value == expected),
         None => Ok(false),
     }
@@ -294,7 +303,7 @@ fn has(alloc: Global, area: &Area, row: u32, col: u32, words: &str) -> Result<bo
 
 /// Whether the area has the two values and no others.
 fn has_both(alloc: Global, area: &Area) -> Result<bool, AllocError> {
-    let are_two = area.filled().len() == 2 && area.value(1, 1).is_none();
+    let are_two = area.filled().len() == 2 && cell(area, 1, 1).is_none();
     Ok(are_two && has(alloc, area, 0, 1, "-2")? && has(alloc, area, 1, 2, "'7")?)
 }
 
