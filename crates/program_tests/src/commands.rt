@@ -3,60 +3,60 @@ use csv::ByteRecord;
 use script_lang::{ScriptError, command};
 use std::alloc::{AllocError, Global};
 
-type Said = Result<Command, ScriptError>;
-
 // What the record of these fields says.
-fn said(alloc: Global, fields: &[&[u8]]) -> Said {
+fn said(alloc: Global, fields: &[&[u8]]) -> Result<Command, ScriptError> {
     let record = ByteRecord::from_fields(alloc, fields)?;
     command(alloc, &record)
 }
 
+// The commands of the records below.
+#[derive(Clone, Copy)]
+enum Kind {
+    Set,
+    Clear,
+    InsertRows,
+    MoveCols,
+    RenameSheet,
+    MoveBlock,
+}
+
 // A record of each kind of field: rows and columns are counted from 0, and a block may be one address.
-const SET: &[&[u8]] = &[b"set", b"'My Plan'!b3", b""];
+const RECORDS: &[(Kind, &[&[u8]])] = &[
+    (Kind::Set, &[b"set", b"'My Plan'!b3", b""]),
+    (Kind::Clear, &[b"clear", b"A1"]),
+    (
+        Kind::InsertRows,
+        &[b"insert-rows", b"Two", b"40001", b"000"],
+    ),
+    (
+        Kind::MoveCols,
+        &[b"move-cols", b"", b"zzz", b"0000012", b"A"],
+    ),
+    (Kind::RenameSheet, &[b"rename-sheet", b"a", b"b"]),
+    (Kind::MoveBlock, &[b"move-block", b"B2:A1", b"c3"]),
+];
 
-const CLEAR: &[&[u8]] = &[b"clear", b"A1"];
-
-const INSERT_ROWS: &[&[u8]] = &[b"insert-rows", b"Two", b"40001", b"000"];
-
-const MOVE_COLS: &[&[u8]] = &[b"move-cols", b"", b"zzz", b"0000012", b"A"];
-
-const RENAME_SHEET: &[&[u8]] = &[b"rename-sheet", b"a", b"b"];
-
-const MOVE_BLOCK: &[&[u8]] = &[b"move-block", b"B2:A1", b"c3"];
-
-fn is_set(said: Said) -> bool {
-    match &said {
-        Ok(Command::Set(at, text)) => {
+fn is_set(command: &Command) -> bool {
+    match command {
+        Command::Set(at, text) => {
             (at.top, at.left) == (2, 1) && at.sheet.is_some() && text.is_empty()
         }
         _ => false,
     }
 }
 
-fn is_clear(said: Said) -> bool {
-    matches!(&said, Ok(Command::Clear(_)))
-}
-
-fn is_insert_rows(said: Said) -> bool {
-    match &said {
-        Ok(Command::InsertRows(sheet, at, count)) => {
+fn is_insert_rows(command: &Command) -> bool {
+    match command {
+        Command::InsertRows(sheet, at, count) => {
             sheet.as_str() == "Two" && *at == 40_000 && *count == 0
         }
         _ => false,
     }
 }
 
-fn is_move_cols(said: Said) -> bool {
-    matches!(&said, Ok(Command::MoveCols(_, 18_277, 12, 0)))
-}
-
-fn is_rename_sheet(said: Said) -> bool {
-    matches!(&said, Ok(Command::RenameSheet(..)))
-}
-
-fn is_move_block(said: Said) -> bool {
-    match &said {
-        Ok(Command::MoveBlock(block, to)) => {
+fn is_move_block(command: &Command) -> bool {
+    match command {
+        Command::MoveBlock(block, to) => {
             let is_block = (block.top, block.right, block.single) == (0, 1, false);
             is_block && (to.top, to.left) == (2, 2)
         }
@@ -64,18 +64,30 @@ fn is_move_block(said: Said) -> bool {
     }
 }
 
-#[test]
-fn records_say_commands(rt: HostRuntime) {
-    assert!(rt; is_set(said(rt.alloc(), SET)));
-    assert!(rt; is_clear(said(rt.alloc(), CLEAR)));
-    assert!(rt; is_insert_rows(said(rt.alloc(), INSERT_ROWS)));
+// Whether this is the command of the record.
+fn is_right(kind: Kind, command: &Command) -> bool {
+    match kind {
+        Kind::Set => is_set(command),
+        Kind::Clear => matches!(command, Command::Clear(_)),
+        Kind::InsertRows => is_insert_rows(command),
+        Kind::MoveCols => matches!(command, Command::MoveCols(_, 18_277, 12, 0)),
+        Kind::RenameSheet => matches!(command, Command::RenameSheet(..)),
+        Kind::MoveBlock => is_move_block(command),
+    }
+}
+
+// Whether the fields say the command.
+fn is_said(alloc: Global, kind: Kind, fields: &[&[u8]]) -> Result<bool, ScriptError> {
+    let command = said(alloc, fields)?;
+    Ok(is_right(kind, &command))
 }
 
 #[test]
-fn records_say_more_commands(rt: HostRuntime) {
-    assert!(rt; is_move_cols(said(rt.alloc(), MOVE_COLS)));
-    assert!(rt; is_rename_sheet(said(rt.alloc(), RENAME_SHEET)));
-    assert!(rt; is_move_block(said(rt.alloc(), MOVE_BLOCK)));
+fn records_say_commands(rt: HostRuntime) -> Result<(), ScriptError> {
+    for (i, (kind, fields)) in RECORDS.iter().enumerate() {
+        assert!(rt; is_said(rt.alloc(), *kind, fields)?, "record {i}");
+    }
+    Ok(())
 }
 
 // Fields that say no command, and why.
