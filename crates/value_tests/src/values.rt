@@ -315,23 +315,14 @@ fn cells_of_areas(rt: HostRuntime) -> Result<(), Fail> {
     Ok(())
 }
 
-/// The summary of the value alone.
-fn summary(alloc: Global, words: &str) -> Result<Summary, AllocError> {
-    let of = value(alloc, words)?;
-    Ok(Summary::of(&of))
-}
-
-/// Whether a number and a fault are summed up.
-fn are_both(both: &Summary) -> bool {
-    let is_sum = both.count == 1 && both.sum == -2_000_000;
-    is_sum && both.fault == Some(FaultKind::Na) && both.least == both.greatest
-}
-
 #[test]
 fn summaries_of_values(rt: HostRuntime) -> Result<(), Fail> {
-    let least = summary(rt.alloc(), "-2")?;
-    let fault = summary(rt.alloc(), "#N/A")?;
-    assert!(rt; are_both(&least.join(&fault)));
+    let least = Summary::of(&value(rt.alloc(), "-2")?);
+    let fault = Summary::of(&value(rt.alloc(), "#N/A")?);
+    let both = least.join(&fault);
+    assert!(rt; both.count == 1 && both.sum == -2_000_000);
+    assert!(rt; both.fault == Some(FaultKind::Na));
+    assert!(rt; both.least == both.greatest);
     Ok(())
 }
 
