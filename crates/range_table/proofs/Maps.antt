@@ -1,11 +1,11 @@
 -- The map of blocks that entries under keys stand for. Serves what is kept.
-use Rattle.std.proofs.Common.{◌≡◌, ◌∙◌, sym, ap, refl, subst, Bool, true, false, cond, not, List, [], ◌∷◌, map, Option, Some, None, IsSome, is_some, Result, Ok, Err, OnOk, OnErr, ◌⊎◌, inl, inr}
+use Rattle.std.proofs.Common.{◌≡◌, ◌∙◌, sym, ap, refl, subst, Bool, true, false, cond, not, List, [], ◌∷◌, map, Option, Some, None, IsSome, Result, Ok, Err, OnOk, OnErr, ◌⊎◌, inl, inr}
 use Rattle.std.specs.BTreeMap.{is_at}
 use Rattle.std.specs.BTreeSet as set
 use Rattle.std.specs.BTreeSet.{BTreeSet}
 use Rattle.std.specs.List.{list_any}
 use Rattle.std.specs.Option.{IfSome}
-use Rattle.std.specs.FinMap.{find, from_entries, get, get-from_entries, get-insert, get-retain_keys, insert, retain_keys, same_map}
+use Rattle.std.specs.FinMap.{find, get, get-from_entries, get-insert, get-retain_keys, insert, retain_keys, same_map}
 use Rattle.std.specs.Map.{lookup}
 use Rattle.std.specs.Ordering.{eq_by_cmp, is_eq}
 use Rattle.std.specs.Cmp.{eq_by_cmp_equiv}

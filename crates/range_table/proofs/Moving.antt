@@ -1,5 +1,5 @@
 -- Kept summaries taken along with structural operations. Serves `shift` and its law.
-use Rattle.std.proofs.Common.{◌≡◌, ◌∙◌, sym, ap, refl, subst, arith, ℕ, suc, ◌+◌, ◌-◌, ◌<◌, ◌≤◌, ◌⊎◌, inl, inr, Bool, true, false, ◌&&◌, List, [], ◌∷◌, ◌++◌, map, Option, Some, None, MatchOption, IsSome, is_some}
+use Rattle.std.proofs.Common.{◌≡◌, ◌∙◌, sym, ap, refl, subst, arith, ℕ, ◌+◌, ◌-◌, ◌<◌, ◌⊎◌, inl, inr, Bool, true, false, ◌&&◌, List, [], ◌∷◌, ◌++◌, Option, Some, None, MatchOption, IsSome, is_some}
 use Rattle.std.specs.Bool.{⊤}
 use Rattle.std.specs.FinMap.{empty, get, get-empty, insert}
 use Rattle.std.specs.Option.{IfSome}
@@ -17,7 +17,7 @@ use Rattle.shift_core.specs.Bent.{BendsBlock, CutsBlock, HaveOtherSizes, MeetsDi
 use Rattle.shift_core.specs.Carried.{carried_block, carried_place, contains, destination, first_place, last_place}
 use Rattle.shift_core.specs.Form.{form_of}
 use Rattle.shift_core.specs.Sound.{IsSound, IsSoundForm}
-use Rattle.shift_core.specs.Tables.{block_after, block_moved, block_returned, place_moved}
+use Rattle.shift_core.specs.Tables.{block_after, block_moved, place_moved}
 use Rattle.shift_core.specs.declared.form.Form.{Form}
 use Rattle.shift_core.specs.declared.form.Form.TheVariants.{Cells, Lines, Sheet}
 use Rattle.shift_core.specs.declared.shift.Shift.{Shift}

@@ -21,7 +21,7 @@ impl Kept {
     ghost use Rattle.range_table.specs.internal.Moved.{TakesOne};
 
     // The summaries after the operation. Costs their number, and that of the slots of those that are kept on.
-    #[tactic(auto, using(crate::proofs::Moving::taken_all, crate::proofs::Moving::taken_first))]
+    #[tactic(auto, using(crate::proofs::Moving::taken_first))]
     pub(crate) fn shifted(&self, s: &Shift) -> Result<Kept, AllocError>
         requires { IsSound s.now }
         ensures { IfOk result (λ moved. AreMoved s.now (map_of self.now.summaries.entries) (map_of moved.summaries.entries)) }

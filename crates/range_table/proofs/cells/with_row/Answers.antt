@@ -1,4 +1,4 @@
-use Rattle.std.proofs.Common.{ℕ, ◌≡◌, ◌∙◌, ap, arith, ◌+◌, ◌-◌, ◌++◌, ◌∷◌, [], map}
+use Rattle.std.proofs.Common.{ℕ, ◌∙◌, ap, arith, ◌+◌, ◌-◌, ◌++◌, ◌∷◌, [], map}
 use Rattle.std.specs.List.{range_with_len}
 use Rattle.cell_value.specs.Summary.{summary_of}
 use Rattle.range_table.proofs.Sums.{cell_more}

@@ -1,6 +1,5 @@
 use Rattle.std.proofs.Common.{◌≡◌, sym, subst, arith, true, false, inl, inr}
 use Rattle.cell_addr.specs.Place.{CoverOne}
-use Rattle.cell_addr.specs.declared.place.Block.{Block}
 use Rattle.shift_core.specs.Form.{form_of}
 use Rattle.shift_core.specs.declared.shift.Shift.{Shift}
 use Rattle.range_table.specs.Shifted.{TearsBlock}

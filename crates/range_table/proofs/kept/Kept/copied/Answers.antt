@@ -1,4 +1,4 @@
-use Rattle.std.proofs.Common.{◌≡◌, ◌∙◌, sym, ap, subst, ◌++◌, IsSome, is_some}
+use Rattle.std.proofs.Common.{◌∙◌, sym, ap, subst, ◌++◌, is_some}
 use Rattle.std.specs.FinMap.{insert}
 use Rattle.cell_addr.specs.Place.{IsBlockInside}
 use Rattle.cell_value.specs.declared.summary.Summary.{Summary}

@@ -1,4 +1,4 @@
-use Rattle.std.proofs.Common.{◌≡◌, true, OnOk}
+use Rattle.std.proofs.Common.{◌≡◌, true}
 use Rattle.std.specs.BTreeSet as set
 use Rattle.cell_addr.specs.Place.{IsBlockInside}
 use Rattle.cell_addr.specs.declared.place.Block.{Block}

@@ -1,11 +1,11 @@
-use Rattle.std.proofs.Common.{◌≡◌, ◌∙◌, sym, ap, subst, ◌++◌, IsSome, is_some}
+use Rattle.std.proofs.Common.{◌∙◌, sym, ap, subst, ◌++◌, is_some}
 use Rattle.cell_addr.specs.Place.{IsBlockInside}
 use Rattle.cell_addr.specs.declared.place.Block.{Block}
 use Rattle.cell_value.specs.declared.summary.Summary.{Summary}
 use Rattle.range_table.specs.declared.key.BlockKey.{BlockKey}
 use Rattle.range_table.specs.internal.Keys.{block_of, map_of}
 use Rattle.range_table.specs.internal.Moved.{TakesOne}
-use Rattle.range_table.proofs.Moving.{IsTaken, taken_next}
+use Rattle.range_table.proofs.Moving.{IsTaken, taken_all, taken_next}
 use Rattle.range_table.proofs.Passing.{kept_next}
 use Rattle.range_table.proofs.kept.Kept.shifted.Goals as goal
 
@@ -37,3 +37,8 @@ loop-key-preserved c =
           (subst (λ (b : Block). TakesOne c.args.s.now b e.1 (map_of moved) (map_of c.take_one.new.self.summaries.entries)) c.block.ensures c.in_ok-take_one.ensures);
       ordered = i.ordered;
     }
+
+pub returns : goal.returns
+returns c =
+    let moved = c.loop-key.moved.summaries.entries in
+    taken_all c.args.s.now c.args.self.now.summaries.entries moved (subst (λ r. IsTaken c.args.s.now c.args.self.now.summaries.entries r moved) c.in-None.ensures.steps.0 c.loop-key.invariant.taken)
