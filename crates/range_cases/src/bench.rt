@@ -107,9 +107,15 @@ const CASES: [(Case, &'static str); 6] = [
     (Case::Prefixes(1_000), "prefix sums of 1,000 rows"),
     (Case::Prefixes(10_000), "prefix sums of 10,000 rows"),
     (Case::Prefixes(40_000), "prefix sums of 40,000 rows"),
-    (Case::Rolling(1_001, 10_000), "10,000 rolling sums over 1,001 rows"),
+    (
+        Case::Rolling(1_001, 10_000),
+        "10,000 rolling sums over 1,001 rows",
+    ),
     (Case::Columns(200, 5_000), "200 columns of 5,000 cells"),
-    (Case::Inserts(100, 10_000), "100 rows put in among 10,000 prefix sums"),
+    (
+        Case::Inserts(100, 10_000),
+        "100 rows put in among 10,000 prefix sums",
+    ),
 ];
 
 // Times all cases, and prints a line for each.
@@ -129,11 +135,7 @@ pub(crate) fn bench<L: Ledger>(rt: &HostRuntime, steps: &mut Steps<L>) -> io::Re
 }
 
 // Runs a case.
-fn run<L: Ledger>(
-    summed: &mut Summed,
-    case: Case,
-    steps: &mut Steps<L>,
-) -> Result<(), AllocError> {
+fn run<L: Ledger>(summed: &mut Summed, case: Case, steps: &mut Steps<L>) -> Result<(), AllocError> {
     match case {
         Case::Prefixes(rows) => summed.ask_prefixes(rows, steps),
         Case::Rolling(rows, from) => roll(summed, rows, from, steps),

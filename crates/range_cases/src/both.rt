@@ -6,6 +6,7 @@ ghost use Rattle.range_table.specs.Ranges.{table_of};
 ghost use Rattle.range_table.specs.Table.{AreFolds};
 
 use crate::grid::Grid;
+use crate::plain::plain_summary;
 use cell_addr::{Block, Place};
 use cell_value::{Scalar, Summary};
 use range_table::Ranges;
@@ -17,7 +18,7 @@ use steps::Steps;
 // A grid and the summaries that are kept of it, which are told of each change.
 #[derive(Drop)]
 pub(crate) struct Both {
-    pub(crate) grid: Grid,
+    grid: Grid,
     ranges: Ranges,
     ghost right: { AreFolds (value_in grid.cells.items) (table_of ranges).kept },
 }
@@ -63,6 +64,11 @@ impl Both {
         let summary = self.ranges.summary(b, &self.grid, steps)?;
         let merged = self.ranges.merged().saturating_sub(before);
         Ok(Some((summary, merged)))
+    }
+
+    // The summary of a block, worked out plainly.
+    pub(crate) fn plain_summary(&self, b: Block) -> Summary {
+        plain_summary(&self.grid, b)
     }
 
     // Goes on with a copy of the kept summaries; whether it has merged as many cells.

@@ -84,16 +84,18 @@ pub(crate) fn a_longer_block_goes_on<L: Ledger>(
         fault: Some(FaultKind::Na),
         ..expected()
     };
-    Ok(all == Some((expected(), 4))
-        && shorter == Some((expected(), 3))
-        && kept == Some((expected(), 0))
-        && again == Some((with_fault, 1)))
+    Ok(
+        all == Some((expected(), 4))
+            && shorter == Some((expected(), 3))
+            && kept == Some((expected(), 0))
+            && again == Some((with_fault, 1)),
+    )
 }
 
 // An operation, a block that is summed up before it, the block that it should be after, and how many cells are to be merged
 // for that.
 #[derive(Clone, Copy)]
-struct Moved {
+struct Case {
     shift: Shift,
     before: Block,
     after: Block,
@@ -101,35 +103,35 @@ struct Moved {
 }
 
 // What operations do to summaries of three rows.
-fn cases() -> [Moved; 11] {
-[
-    // Put in above, between and under.
-    moved(inserted(0), rows(2, 4), rows(4, 6), 0),
-    moved(inserted(3), rows(2, 4), rows(2, 6), 5),
-    moved(inserted(5), rows(2, 4), rows(2, 4), 0),
-    // Cut at the end of the sheet, and not.
-    moved(inserted(0), last_rows(), rows(ROWS - 1, ROWS - 1), 1),
-    moved(inserted(0), rows(ROWS - 5, ROWS - 3), last_rows(), 0),
-    // Taken out above and within.
-    moved(deleted(0), rows(2, 4), rows(1, 3), 0),
-    moved(deleted(3), rows(2, 4), rows(2, 3), 2),
-    // A row within taken elsewhere within.
-    moved(
-        Shift::MoveRows {
-            sheet: 0,
-            from: 2,
-            count: 1,
-            before: 4,
-        },
-        rows(2, 4),
-        rows(2, 4),
-        3,
-    ),
-    // Moved as cells whole, in part, and moved over.
-    moved(cells(rows(0, 5), 7), rows(2, 4), rows(9, 11), 0),
-    moved(cells(rows(0, 3), 7), rows(2, 4), rows(2, 4), 3),
-    moved(cells(rows(10, 11), 4), rows(2, 4), rows(2, 4), 3),
-]
+fn cases() -> [Case; 11] {
+    [
+        // Put in above, between and under.
+        a_case(inserted(0), rows(2, 4), rows(4, 6), 0),
+        a_case(inserted(3), rows(2, 4), rows(2, 6), 5),
+        a_case(inserted(5), rows(2, 4), rows(2, 4), 0),
+        // Cut at the end of the sheet, and not.
+        a_case(inserted(0), last_rows(), rows(ROWS - 1, ROWS - 1), 1),
+        a_case(inserted(0), rows(ROWS - 5, ROWS - 3), last_rows(), 0),
+        // Taken out above and within.
+        a_case(deleted(0), rows(2, 4), rows(1, 3), 0),
+        a_case(deleted(3), rows(2, 4), rows(2, 3), 2),
+        // A row within taken elsewhere within.
+        a_case(
+            Shift::MoveRows {
+                sheet: 0,
+                from: 2,
+                count: 1,
+                before: 4,
+            },
+            rows(2, 4),
+            rows(2, 4),
+            3,
+        ),
+        // Case as cells whole, in part, and moved over.
+        a_case(cells(rows(0, 5), 7), rows(2, 4), rows(9, 11), 0),
+        a_case(cells(rows(0, 3), 7), rows(2, 4), rows(2, 4), 3),
+        a_case(cells(rows(10, 11), 4), rows(2, 4), rows(2, 4), 3),
+    ]
 }
 
 // The last rows of a sheet.
@@ -137,8 +139,8 @@ fn last_rows() -> Block {
     rows(ROWS - 3, ROWS - 1)
 }
 
-fn moved(shift: Shift, before: Block, after: Block, merged: u64) -> Moved {
-    Moved {
+fn a_case(shift: Shift, before: Block, after: Block, merged: u64) -> Case {
+    Case {
         shift,
         before,
         after,
@@ -187,7 +189,7 @@ pub(crate) fn operations_move_or_give_up<L: Ledger>(
 }
 
 // Whether so many cells are merged for the block after the operation.
-fn holds<L: Ledger>(alloc: Global, case: &Moved, steps: &mut Steps<L>) -> Result<bool, AllocError> {
+fn holds<L: Ledger>(alloc: Global, case: &Case, steps: &mut Steps<L>) -> Result<bool, AllocError> {
     if !sound(&case.shift) {
         return Ok(false);
     }

@@ -45,11 +45,7 @@ impl Draws {
 
     // The first sheet mostly, and else the second.
     fn sheet(&mut self) -> u32 {
-        if self.below(5) == 0 {
-            1
-        } else {
-            0
-        }
+        if self.below(5) == 0 { 1 } else { 0 }
     }
 
     // A row, and a column.

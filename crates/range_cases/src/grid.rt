@@ -1,10 +1,8 @@
 // A plain grid, whose cells move with structural operations one by one.
-ghost use Rattle.std.specs.Prelude.{◌≡◌, ◌∷◌, IfSome, OnOk, OnErr, map};
-ghost use Rattle.cell_addr.specs.Place.{IsInside};
-ghost use Rattle.cell_addr.specs.declared.place.Place.{Place};
+ghost use Rattle.std.specs.Prelude.{◌≡◌, ◌∷◌, Some, OnOk, OnErr, map};
 ghost use Rattle.cell_value.specs.declared.scalar.Scalar.TheVariants.{Empty};
 ghost use Rattle.shift_core.specs.Sound.{IsSound};
-ghost use Rattle.range_cases.specs.Grid.{moved_cell, stands_at, value_in};
+ghost use Rattle.range_cases.specs.Grid.{moved_cell, moved_on_sheet, stands_at, value_in};
 
 use cell_addr::Place;
 use cell_value::Scalar;
@@ -17,7 +15,6 @@ use std::alloc::{AllocError, Global};
 pub(crate) struct Filled {
     at: Option<Place>,
     value: Scalar,
-    pub ghost inside: { IfSome at IsInside },
 }
 
 impl Filled {
@@ -36,9 +33,22 @@ impl Filled {
         requires { IsSound s.now }
         ensures { self.new ≡ moved_cell s.now self.old }
     {
-        if let Some(at) = self.at {
-            self.at = moved_place(s, at);
-        }
+        self.at = match self.at {
+            Some(at) => moved_on_sheet(s, at),
+            None => None,
+        };
+    }
+}
+
+// Where the operation moves a place of the sheet.
+fn moved_on_sheet(s: &Shift, at: Place) -> Option<Place>
+    requires { IsSound s.now }
+    ensures { result ≡ moved_on_sheet s.now at }
+{
+    if at.inside() {
+        moved_place(s, at)
+    } else {
+        None
     }
 }
 
@@ -61,7 +71,6 @@ impl Grid {
 
     // Gives a place a value.
     pub(crate) fn put(&mut self, at: Place, value: Scalar) -> Result<(), AllocError>
-        requires { IsInside at }
         ensures put { OnOk result (self.new.cells.items ≡ record { at = Some at; value = value } ∷ self.old.cells.items) }
         ensures err { OnErr result (self.new.cells.items ≡ self.old.cells.items) }
     {

@@ -1,7 +1,7 @@
 // Lists of calls that are drawn, on kept summaries beside what is worked out plainly.
 use crate::both::Both;
 use crate::draws::Draws;
-use crate::plain::{Expected, plain_summary};
+use crate::plain::Expected;
 use cell_addr::{Block, Place};
 use shift_core::{moved_block, sound};
 use std::alloc::{AllocError, Global};
@@ -183,7 +183,7 @@ impl List {
         if merged == 0 {
             self.tally.kept = self.tally.kept.saturating_add(1);
         }
-        self.compare(summary == plain_summary(&self.both.grid, b) && merged == expected);
+        self.compare(summary == self.both.plain_summary(b) && merged == expected);
         Ok(())
     }
 

@@ -86,9 +86,15 @@ fn calls_hold<L: Ledger>(rt: &HostRuntime, steps: &mut Steps<L>) -> io::Result<b
     let column = calls::a_column_is_summed_up(alloc, steps)?;
     println!(rt; "a column is summed up: {}", said(column))?;
     let longer = calls::a_longer_block_goes_on(alloc, steps)?;
-    println!(rt; "a longer block goes on from a shorter one: {}", said(longer))?;
+    println!(rt;
+        "a longer block goes on from a shorter one: {}",
+        said(longer)
+    )?;
     let moved = calls::operations_move_or_give_up(alloc, steps)?;
-    println!(rt; "operations move summaries or give them up: {}", said(moved))?;
+    println!(rt;
+        "operations move summaries or give them up: {}",
+        said(moved)
+    )?;
     Ok(column && longer && moved)
 }
 

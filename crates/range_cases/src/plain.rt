@@ -9,7 +9,7 @@ use range_table::Cells;
 use shift_core::{Shift, moved_place};
 use std::alloc::{AllocError, Global};
 
-// The summary of a block's cells.
+// The summary of a block's cells, of those on the sheet.
 pub(crate) fn plain_summary(grid: &Grid, b: Block) -> Summary {
     let mut summary = Summary::new();
     'rows: for row in b.top..b.bottom.saturating_add(1) {
@@ -19,22 +19,27 @@ pub(crate) fn plain_summary(grid: &Grid, b: Block) -> Summary {
                 row,
                 col,
             };
-            match grid.value(at) {
-                Scalar::Number(number) => count(&mut summary, *number),
-                Scalar::Fault(fault) => summary.fault = summary.fault.or(Some(*fault)),
-                _ => {}
+            if at.inside() {
+                count_value(&mut summary, grid.value(at));
             }
         }
     }
     summary
 }
 
+// Counts one value more.
+fn count_value(summary: &mut Summary, value: &Scalar) {
+    match value {
+        Scalar::Number(number) => count(summary, *number),
+        Scalar::Fault(fault) => summary.fault = summary.fault.or(Some(*fault)),
+        _ => {}
+    }
+}
+
 // Counts one number more.
 fn count(summary: &mut Summary, number: Fixed) {
     summary.count = summary.count.saturating_add(1);
-    summary.sum = summary
-        .sum
-        .saturating_add(i128::from(number.millionths()));
+    summary.sum = summary.sum.saturating_add(i128::from(number.millionths()));
     if summary.least.is_none_or(|least| number < least) {
         summary.least = Some(number);
     }
