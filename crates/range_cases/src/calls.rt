@@ -127,7 +127,7 @@ fn cases() -> [Case; 11] {
             rows(2, 4),
             3,
         ),
-        // Case as cells whole, in part, and moved over.
+        // Moved as cells: whole, in part, and moved over.
         a_case(cells(rows(0, 5), 7), rows(2, 4), rows(9, 11), 0),
         a_case(cells(rows(0, 3), 7), rows(2, 4), rows(2, 4), 3),
         a_case(cells(rows(10, 11), 4), rows(2, 4), rows(2, 4), 3),

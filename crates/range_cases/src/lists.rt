@@ -3,6 +3,7 @@ use crate::both::Both;
 use crate::draws::Draws;
 use crate::plain::Expected;
 use cell_addr::{Block, Place};
+use cell_value::Summary;
 use shift_core::{moved_block, sound};
 use std::alloc::{AllocError, Global};
 use std::fmt;
@@ -183,8 +184,14 @@ impl List {
         if merged == 0 {
             self.tally.kept = self.tally.kept.saturating_add(1);
         }
-        self.compare(summary == self.both.plain_summary(b) && merged == expected);
+        let same = self.is_plain(b, summary);
+        self.compare(same && merged == expected);
         Ok(())
+    }
+
+    // Whether the summary of a block is the plain one.
+    fn is_plain(&self, b: Block, summary: Summary) -> bool {
+        summary == self.both.plain_summary(b)
     }
 
     // Counts a difference.
