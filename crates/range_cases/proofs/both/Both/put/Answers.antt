@@ -1,4 +1,4 @@
-use Rattle.std.proofs.Common.{sym, subst, refl, List, ◌∷◌, Some}
+use Rattle.std.proofs.Common.{sym, subst, refl, List, Some}
 use Rattle.range_cases.specs.Grid.{value_in}
 use Rattle.range_cases.specs.declared.grid.Filled.{Filled}
 use Rattle.range_table.specs.Ranges.{table_of}
