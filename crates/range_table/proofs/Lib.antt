@@ -5,3 +5,4 @@ pub mod Found
 pub mod Rows
 pub mod Staying
 pub mod Passing
+pub mod Moving

@@ -1,11 +1,11 @@
 -- The map of blocks that entries under keys stand for. Serves what is kept.
-use Rattle.std.proofs.Common.{◌≡◌, ◌∙◌, sym, ap, refl, subst, Bool, true, false, cond, not, List, [], ◌∷◌, map, Option, Some, None, IsSome, is_some, Result, Ok, Err, OnOk, OnErr}
+use Rattle.std.proofs.Common.{◌≡◌, ◌∙◌, sym, ap, refl, subst, Bool, true, false, cond, not, List, [], ◌∷◌, map, Option, Some, None, IsSome, Result, Ok, Err, OnOk, OnErr, ◌⊎◌, inl, inr}
 use Rattle.std.specs.BTreeMap.{is_at}
 use Rattle.std.specs.BTreeSet as set
 use Rattle.std.specs.BTreeSet.{BTreeSet}
 use Rattle.std.specs.List.{list_any}
 use Rattle.std.specs.Option.{IfSome}
-use Rattle.std.specs.FinMap.{find, from_entries, get, get-from_entries, get-insert, get-retain_keys, insert, retain_keys, same_map}
+use Rattle.std.specs.FinMap.{find, get, get-from_entries, get-insert, get-retain_keys, insert, retain_keys, same_map}
 use Rattle.std.specs.Map.{lookup}
 use Rattle.std.specs.Ordering.{eq_by_cmp, is_eq}
 use Rattle.std.specs.Cmp.{eq_by_cmp_equiv}
@@ -78,6 +78,27 @@ module _ {X : Type 0} where
   -- what has been put is there
   pub get-inserted : (m : BlockMap X) (b : Block) (x : X) → get (insert m b x) b ≡ Some x
   get-inserted m b x = get-insert block_cmp-IsTotalOrder m b x b ∙ ap (λ t. cond t (Some x) (get m b)) ((eq_by_cmp-decides block_cmp-IsTotalOrder block_cmp-IsAntisymmetric b b).1 refl)
+
+  split-by : (c b : Block) (t : Bool) (x y : X) (r : Option X) → (t ≡ true → c ≡ b) → cond t (Some x) r ≡ Some y → ((c ≡ b) × (x ≡ y)) ⊎ (r ≡ Some y)
+  split-by c b true x y r same is = inl (same refl, same_Some x y is)
+  split-by c b false x y r same is = inr is
+
+  -- what a map with one block more has is what was put, or what it had
+  pub split-inserted : (m : BlockMap X) (b c : Block) (x y : X) → get (insert m b x) c ≡ Some y → ((c ≡ b) × (x ≡ y)) ⊎ (get m c ≡ Some y)
+  split-inserted m b c x y is =
+      split-by c b (eq_by_cmp block_cmp c b) x y (get m c) (λ t. (eq_by_cmp-decides block_cmp-IsTotalOrder block_cmp-IsAntisymmetric c b).0 t)
+      (sym (get-insert block_cmp-IsTotalOrder m b x c) ∙ is)
+
+  other-by : (c b : Block) (t : Bool) (x : X) (r : Option X) → (t ≡ true → c ≡ b) → ¬ (c ≡ b) → cond t (Some x) r ≡ r
+  other-by c b true x r same apart = absurd (apart (same refl))
+  other-by c b false x r same apart = refl
+
+  -- and of another block it has what it had
+  pub get-other : (m : BlockMap X) (b c : Block) (x y : X) → ¬ (c ≡ b) → get m c ≡ Some y → get (insert m b x) c ≡ Some y
+  get-other m b c x y apart had =
+      get-insert block_cmp-IsTotalOrder m b x c
+      ∙ other-by c b (eq_by_cmp block_cmp c b) x (get m c) (λ t. (eq_by_cmp-decides block_cmp-IsTotalOrder block_cmp-IsAntisymmetric c b).0 t) apart
+      ∙ had
 
   cond-case : (P : Block → Type 0) (b c : Block) (t : Bool) (x : X) (r : Option X) → (t ≡ true → b ≡ c) → P b → (IsSome r → P c) → IsSome (cond t (Some x) r) → P c
   cond-case P b c true x r same here other some = subst P (same refl) here

@@ -10,10 +10,8 @@ use Rattle.block_slots.specs.declared.segment.Segment.{Segment}
 use Rattle.block_slots.specs.declared.slot.Slot.{Slot}
 use Rattle.cell_addr.specs.declared.place.Block.{Block}
 use Rattle.range_table.specs.Blocks.{block_cmp}
-use Rattle.range_table.specs.declared.key.BlockKey.{BlockKey}
 use Rattle.range_table.specs.declared.lists.SlotKey.{SlotKey}
 use Rattle.range_table.specs.internal.Index.{segment_cmp, slot_cmp, slot_key_cmp}
-use Rattle.range_table.specs.internal.Keys.{block_of, key_cmp, key_of}
 
 first-equal : (a b : Ordering) → ordering_then a b ≡ Equal → a ≡ Equal
 first-equal Less b e = cc

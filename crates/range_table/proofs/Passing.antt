@@ -2,10 +2,10 @@
 use Rattle.std.proofs.Common.{◌≡◌, ◌∙◌, sym, ap, refl, subst, Bool, true, false, cond, List, [], ◌∷◌, ◌++◌, map, Option, Some, None, IsSome}
 use Rattle.std.specs.BTreeMap.{is_at}
 use Rattle.std.specs.Cmp.{IsTotalOrder}
-use Rattle.std.specs.FinMap.{find, from_entries, from_entries_push, insert}
+use Rattle.std.specs.FinMap.{from_entries, from_entries_push, insert}
 use Rattle.std.specs.List.{AllByRecursion}
 use Rattle.std.specs.List.Sorted.{IsStrictlySortedBy}
-use Rattle.std.specs.Map.{keys_of, lookup}
+use Rattle.std.specs.Map.{keys_of}
 use Rattle.std.specs.Ordering.{is_eq, ordering_reverse}
 use Rattle.std.specs.declared.cmp.Ordering.TheVariants.{Less}
 use Rattle.std.proofs.lemmas.Cmp.{on_total}
@@ -41,6 +41,15 @@ module _ {X : Type 0} where
   past b [] fs none = refl
   past b (e ∷ es) fs none = past-by (is_at (key_cmp (key_of b)) e.0) e.1 (kept_for es b) (kept_for (es ++ fs) b) (kept_for fs b) none (past b es fs)
 
+  front-by : (t : Bool) (x : X) (r later : Option X) → IsSome (cond t (Some x) r) → (IsSome r → IsSome later) → IsSome (cond t (Some x) later)
+  front-by true x r later some h = refl
+  front-by false x r later some h = h some
+
+  -- what is kept by the entries gone by is kept by all
+  pub kept_front : (b : Block) (es fs : List (BlockKey × X)) → IsSome (kept_for es b) → IsSome (kept_for (es ++ fs) b)
+  kept_front b [] fs some = cc
+  kept_front b (e ∷ es) fs some = front-by (is_at (key_cmp (key_of b)) e.0) e.1 (kept_for es b) (kept_for (es ++ fs) b) some (kept_front b es fs)
+
   -- the entry to come is kept for its block
   pub kept_next : (all es : List (BlockKey × X)) (e : BlockKey × X) (rest : List (BlockKey × X)) → IsStrictlySortedBy key_cmp (keys_of all) → es ++ (e ∷ rest) ≡ all → kept_for all (block_of e.0) ≡ Some e.1
   kept_next all es e rest sorted parts =
@@ -65,7 +74,7 @@ module _ {X : Type 0} where
   pub copied_all : (all copy : List (BlockKey × X)) → IsCopied all [] copy → map_of copy ≡ map_of all
   copied_all all copy c = c.same ∙ ap map_of (sym (append-nil c.done) ∙ c.parts)
 
-  append_one : (es : List (BlockKey × X)) (e : BlockKey × X) (rest : List (BlockKey × X)) → (es ++ e ∷ []) ++ rest ≡ es ++ (e ∷ rest)
+  pub append_one : (es : List (BlockKey × X)) (e : BlockKey × X) (rest : List (BlockKey × X)) → (es ++ e ∷ []) ++ rest ≡ es ++ (e ∷ rest)
   append_one [] e rest = refl
   append_one (f ∷ es) e rest = ap (λ z. f ∷ z) (append_one es e rest)
 

@@ -1,43 +1,59 @@
 -- Kept summaries that stay right, and how many cells are merged. Serves the laws.
-use Rattle.std.proofs.Common.{◌≡◌, ◌∙◌, sym, ap, ap₂, refl, subst, arith, ℕ, zero, suc, ◌+◌, ◌-◌, ◌*◌, ◌<◌, ◌≤◌, Bool, true, false, cond, not, List, ◌∷◌, ◌++◌, map, Option, Some, None, IsSome, is_some}
+use Rattle.std.proofs.Common.{◌≡◌, ◌∙◌, sym, ap, ap₂, refl, arith, ℕ, zero, suc, ◌+◌, ◌*◌, ◌<◌, ◌≤◌, Bool, true, false, cond, not, List, ◌∷◌, ◌++◌, map, Option, Some, None, IsSome, is_some, add-zero}
 use Rattle.std.specs.FinMap.{empty, get, get-empty, get-insert, get-retain_keys, insert}
 use Rattle.std.specs.List.{flat_map, range_with_len}
 use Rattle.std.proofs.Math.Nat.{mul-le-mul_right, suc-mul, zero-mul}
 use Rattle.std.specs.Ordering.{eq_by_cmp}
-use Rattle.std.proofs.lemmas.Bool.Decides.{nat_tests}
 use Rattle.std.proofs.lemmas.Option.{same_Some}
-use Rattle.cell_addr.specs.Place.{IsBlockInside, covers}
+use Rattle.cell_addr.specs.Place.{covers}
 use Rattle.cell_addr.specs.declared.place.Block.{Block}
 use Rattle.cell_addr.specs.declared.place.Place.{Place}
 use Rattle.cell_value.specs.Summary.{summary_of}
 use Rattle.cell_value.specs.declared.scalar.Scalar.{Scalar}
 use Rattle.cell_value.specs.declared.summary.Summary.{Summary}
 use Rattle.range_table.specs.Blocks.{BlockMap, block_cmp}
-use Rattle.range_table.specs.Cells.{block_values, cells_in, fold, height, row_values, width}
+use Rattle.range_table.specs.Cells.{cells_in, fold, height, row_values, width}
 use Rattle.range_table.specs.Laws.{FewCellsAreMerged, TouchedTablesStayRight}
-use Rattle.range_table.specs.Table.{AreFolds, begun, cells_left, cells_to_merge, without_holders}
+use Rattle.range_table.specs.Table.{AreFolds, begun, cells_left}
 use Rattle.shift_core.proofs.CarriedEntries.{eq_by_cmp-decides}
+use Rattle.shift_core.proofs.CellMoves.{covers-from_Covers}
 use Rattle.range_table.proofs.Orders.{block_cmp-IsAntisymmetric, block_cmp-IsTotalOrder}
 
--- what is the same of each number of a range is the same of all
-map_range : {X : Type 0} (f g : ℕ → X) (from n : ℕ) → ((k : ℕ) → from ≤ k → k < from + n → f k ≡ g k) → map f (range_with_len from n) ≡ map g (range_with_len from n)
-map_range f g from zero same = refl
-map_range f g from (suc n) same =
-    ap₂ (λ x xs. x ∷ xs) (same from (omega arith) (omega arith)) (map_range f g (from + 1) n (λ k low high. same k (omega arith) (omega arith)))
+-- what is the same of each number of two ranges, one after the other, is the same of both
+map_along : {X : Type 0} (f g : ℕ → X) (a b n : ℕ) → ((k : ℕ) → k < n → f (a + k) ≡ g (b + k)) → map f (range_with_len a n) ≡ map g (range_with_len b n)
+map_along f g a b zero same = refl
+map_along f g a b (suc n) same =
+    ap₂ (λ x xs. x ∷ xs) (ap f (sym (add-zero a)) ∙ same 0 (omega arith) ∙ ap g (add-zero b))
+    (map_along f g (a + 1) (b + 1) n (λ k low.
+    let here : a + 1 + k ≡ a + suc k = omega arith in
+    let there : b + suc k ≡ b + 1 + k = omega arith in
+    ap f here ∙ same (suc k) (omega arith) ∙ ap g there))
 
-flat_range : {X : Type 0} (f g : ℕ → List X) (from n : ℕ) → ((k : ℕ) → from ≤ k → k < from + n → f k ≡ g k) → flat_map f (range_with_len from n) ≡ flat_map g (range_with_len from n)
-flat_range f g from zero same = refl
-flat_range f g from (suc n) same =
-    ap₂ (λ xs ys. xs ++ ys) (same from (omega arith) (omega arith)) (flat_range f g (from + 1) n (λ k low high. same k (omega arith) (omega arith)))
+flat_along : {X : Type 0} (f g : ℕ → List X) (a b n : ℕ) → ((k : ℕ) → k < n → f (a + k) ≡ g (b + k)) → flat_map f (range_with_len a n) ≡ flat_map g (range_with_len b n)
+flat_along f g a b zero same = refl
+flat_along f g a b (suc n) same =
+    ap₂ (λ xs ys. xs ++ ys) (ap f (sym (add-zero a)) ∙ same 0 (omega arith) ∙ ap g (add-zero b))
+    (flat_along f g (a + 1) (b + 1) n (λ k low.
+    let here : a + 1 + k ≡ a + suc k = omega arith in
+    let there : b + suc k ≡ b + 1 + k = omega arith in
+    ap f here ∙ same (suc k) (omega arith) ∙ ap g there))
 
-covered : (b : Block) (row col : ℕ) → b.top ≤ row → row ≤ b.bottom → b.left ≤ col → col ≤ b.right → covers b (record { sheet = b.sheet; row = row; col = col }) ≡ true
-covered b row col top bottom left right = grind (arith, nat_tests)
+-- blocks of one size whose places have the same values, each at its offset, come to the same
+pub folds_apart : (v w : Place → Scalar) (b c : Block) → height b ≡ height c → width b ≡ width c
+    → ((i j : ℕ) → i < height b → j < width b → v (record { sheet = b.sheet; row = b.top + i; col = b.left + j }) ≡ w (record { sheet = c.sheet; row = c.top + i; col = c.left + j }))
+    → fold v b ≡ fold w c
+folds_apart v w b c heights widths alike = ap summary_of
+    (flat_along (row_values v b) (row_values w c) b.top c.top (height b) (λ i low.
+    map_along (λ col. v (record { sheet = b.sheet; row = b.top + i; col = col })) (λ col. w (record { sheet = c.sheet; row = c.top + i; col = col })) b.left c.left (width b) (λ j wide. alike i j low wide)
+    ∙ ap (λ n. map (λ col. w (record { sheet = c.sheet; row = c.top + i; col = col })) (range_with_len c.left n)) widths)
+    ∙ ap (λ n. flat_map (row_values w c) (range_with_len c.top n)) heights)
 
--- blocks whose places have the same values come to the same
+covered : (b : Block) (i j : ℕ) → i < height b → j < width b → covers b (record { sheet = b.sheet; row = b.top + i; col = b.left + j }) ≡ true
+covered b i j low wide = covers-from_Covers b (record { sheet = b.sheet; row = b.top + i; col = b.left + j }) (refl, omega arith, omega arith, omega arith, omega arith)
+
+-- a block whose places have the same values comes to the same
 pub folds_alike : (v w : Place → Scalar) (b : Block) → ((p : Place) → covers b p ≡ true → v p ≡ w p) → fold v b ≡ fold w b
-folds_alike v w b alike = ap summary_of (flat_range (row_values v b) (row_values w b) b.top (height b) (λ row low high.
-    map_range (λ col. v (record { sheet = b.sheet; row = row; col = col })) (λ col. w (record { sheet = b.sheet; row = row; col = col })) b.left (width b)
-    (λ col from to. alike (record { sheet = b.sheet; row = row; col = col }) (covered b row col low (omega arith) from (omega arith)))))
+folds_alike v w b alike = folds_apart v w b b refl refl (λ i j low wide. alike (record { sheet = b.sheet; row = b.top + i; col = b.left + j }) (covered b i j low wide))
 
 left_by : (t : Bool) (r : Option Summary) (s : Summary) → cond (not t) r None ≡ Some s → (t ≡ false) × (r ≡ Some s)
 left_by true r s h = absurd (cc)

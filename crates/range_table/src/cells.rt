@@ -67,19 +67,20 @@ fn with_row<C: Cells, L: Ledger>(
             row,
             col,
         };
-        total = with_value(total, cells.value(at));
-        steps.tick();
+        total = with_value(total, cells.value(at), steps);
     }
     total
 }
 
-// Goes on with one more value.
-fn with_value(start: Summary, value: &Scalar) -> Summary
+// Goes on with one more value, which is one step.
+fn with_value<L: Ledger>(start: Summary, value: &Scalar, steps: &mut Steps<L>) -> Summary
     requires bounded { IsBounded start }
     requires few { start.count + 1 < 2 ^ 64 }
     ensures sums { (xs : List Scalar) → start ≡ summary_of xs → result ≡ summary_of (xs ++ value.now ∷ []) }
     ensures count { result.count ≤ start.count + 1 }
     ensures bounded { IsBounded result }
+    ensures steps { steps.new ≡ steps.old + 1 }
 {
+    steps.tick();
     start.join(&Summary::of(value))
 }

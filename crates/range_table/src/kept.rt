@@ -22,7 +22,7 @@ pub(crate) struct Kept {
     pub(crate) summaries: BTreeMap<BlockKey, Summary>,
     // The blocks that are listed under their slots: those that were kept at some time.
     known: BTreeSet<BlockKey>,
-    lists: SlotLists,
+    pub(crate) lists: SlotLists,
     pub ghost found: { (b : Block) → set.contains key_cmp known (key_of b) ≡ true → IsFound lists b },
     pub ghost known_all: { (b : Block) → IsSome (kept_for summaries.entries b) → set.contains key_cmp known (key_of b) ≡ true },
     pub ghost inside: { (b : Block) → IsSome (kept_for summaries.entries b) → IsBlockInside b },
@@ -32,7 +32,6 @@ pub(crate) struct Kept {
 impl Kept {
     ghost use Rattle.std.specs.Prelude.{IfOk, IfSome};
     ghost use Rattle.std.specs.FinMap as map;
-    ghost use Rattle.cell_value.specs.Summary.{no_values};
     ghost use Rattle.range_table.specs.Table.{without_holders};
     ghost use Rattle.range_table.specs.internal.Keys.{map_of};
 
@@ -55,15 +54,15 @@ impl Kept {
         self.summaries.get(&BlockKey::of(b)).copied()
     }
 
-    // Keeps the summary of no values for the block, so that it can be replaced without memory. For want of memory all is
-    // kept as it was.
-    pub(crate) fn make_room(&mut self, b: Block) -> Result<(), AllocError>
-        requires { IsBlockInside b }
-        ensures ok { OnOk result (map_of self.new.summaries.entries ≡ map.insert (map_of self.old.summaries.entries) b no_values) }
+    // Keeps the summary for the block, in place of what was kept for it. For want of memory all is kept as it was.
+    pub(crate) fn keep(&mut self, b: Block, summary: Summary) -> Result<(), AllocError>
+        requires inside { IsBlockInside b }
+        requires bounded { IsBounded summary }
+        ensures ok { OnOk result (map_of self.new.summaries.entries ≡ map.insert (map_of self.old.summaries.entries) b summary) }
         ensures err { OnErr result (map_of self.new.summaries.entries ≡ map_of self.old.summaries.entries) }
     {
         self.know(b)?;
-        insert(&mut self.summaries, b, Summary::new())
+        insert(&mut self.summaries, b, summary)
     }
 
     // Lists the block under its slots, unless it is.
@@ -80,14 +79,15 @@ impl Kept {
         Ok(())
     }
 
-    // Puts another summary in place of the one that is kept for the block.
+    // Puts another summary in place of the one that is kept for the block. Takes no memory.
     pub(crate) fn replace(&mut self, b: Block, summary: Summary)
         requires kept { IsSome (map.get (map_of self.old.summaries.entries) b) }
         requires bounded { IsBounded summary }
         ensures { map_of self.new.summaries.entries ≡ map.insert (map_of self.old.summaries.entries) b summary }
     {
-        if let Some(kept) = self.summaries.get_mut(&BlockKey::of(b)) {
-            *kept = summary;
+        match self.summaries.get_mut(&BlockKey::of(b)) {
+            Some(kept) => *kept = summary,
+            None => unreachable!(),
         }
     }
 
@@ -98,8 +98,7 @@ impl Kept {
     {
         let mut copy = Kept::new(self.lists.alloc);
         for (key, summary) in &self.summaries {
-            copy.make_room(key.block())?;
-            copy.replace(key.block(), *summary);
+            copy.keep(key.block(), *summary)?;
         }
         Ok(copy)
     }

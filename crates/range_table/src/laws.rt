@@ -1,5 +1,5 @@
 // What keeps kept summaries right, and how many cells are merged. The functions do nothing: what each ensures is the law.
-ghost use Rattle.range_table.specs.Laws.{FewCellsAreMerged, TouchedTablesStayRight};
+ghost use Rattle.range_table.specs.Laws.{FewCellsAreMerged, KeptBlocksTakeTheirCells, TouchedTablesStayRight};
 
 /// Kept summaries that are right stay so where one place gets another value and is touched.
 pub fn touched_tables_stay_right()
@@ -10,4 +10,10 @@ pub fn touched_tables_stay_right()
 /// of the block without its last row is kept, and at least its width where its own isn't.
 pub fn few_cells_are_merged()
     ensures { FewCellsAreMerged }
+{}
+
+/// Over a sound operation, a block that keeps its summary takes its cells along, each to the same offset in the block that it
+/// moves to.
+pub fn kept_blocks_take_their_cells()
+    ensures { KeptBlocksTakeTheirCells }
 {}

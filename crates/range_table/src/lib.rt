@@ -4,6 +4,7 @@
 //! have values, as [`Cells`] tells them, and keeps it. Where that of the block without its last row is kept, only the last
 //! row is merged, so prefix sums over n rows cost n cells and not their square. [`Ranges::touch`] gives up the summaries
 //! whose blocks hold a cell that gets another value; these are found by slots, with no scan of all blocks.
+//! [`Ranges::shift`] takes the summaries along with a structural operation.
 //!
 //! ```text
 //! let mut ranges = Ranges::new(alloc)?;
@@ -19,11 +20,10 @@ mod key;
 mod laws;
 mod lists;
 mod ranges;
+mod shifting;
 mod summing;
-#[cfg(test)]
-mod tests;
 
 pub use cell_value::Summary;
 pub use cells::Cells;
-pub use laws::{few_cells_are_merged, touched_tables_stay_right};
+pub use laws::{few_cells_are_merged, kept_blocks_take_their_cells, touched_tables_stay_right};
 pub use ranges::Ranges;

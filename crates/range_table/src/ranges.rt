@@ -3,6 +3,7 @@ use crate::cells::Cells;
 use crate::kept::Kept;
 use cell_addr::{Block, Place};
 use cell_value::Summary;
+use shift_core::Shift;
 use std::alloc::{AllocError, Global};
 use std::sync::ledger::Ledger;
 use steps::Steps;
@@ -10,8 +11,8 @@ use steps::Steps;
 /// Kept summaries of blocks, and the number of cells that were merged for them.
 ///
 /// It stands for a finite map from the kept blocks to their summaries, each as the cells were when it was kept, and for
-/// that number. Who changes a cell's value gives up, by [`Ranges::touch`], the summaries of the blocks that hold it; then
-/// each kept one is right.
+/// that number. Who changes a cell's value gives up, by [`Ranges::touch`], the summaries of the blocks that hold it, and who
+/// moves cells by a structural operation takes the summaries along by [`Ranges::shift`]; then each kept one is right.
 #[derive(Drop)]
 pub struct Ranges {
     kept: Kept,
@@ -24,8 +25,10 @@ impl Ranges {
     ghost use Rattle.cell_addr.specs.Place.{IsBlockInside};
     ghost use Rattle.cell_addr.specs.declared.place.Place.{Place};
     ghost use Rattle.cell_value.specs.declared.scalar.Scalar.{Scalar};
+    ghost use Rattle.shift_core.specs.Sound.{IsSound};
     ghost use Rattle.range_table.specs.Cells.{fold};
     ghost use Rattle.range_table.specs.Ranges.{table_of};
+    ghost use Rattle.range_table.specs.Shifted.{AreMoved, TakesValues};
     ghost use Rattle.range_table.specs.Table.{AreFolds, cells_to_merge, touched, with_summary};
 
     /// No summary is kept, and no cell was merged yet. Takes no memory.
@@ -53,6 +56,22 @@ impl Ranges {
         ensures { table_of self.new ≡ touched at (table_of self.old) }
     {
         self.kept.give_up(at);
+    }
+
+    /// Takes the kept summaries along with a structural operation: each moves with its block. Given up are those of a block
+    /// that the operation bends, cuts at the sheet's end, or takes some but not all cells out of or puts cells over. So a
+    /// block that keeps its summary has the same cells after the operation, and where each cell takes its value along, a
+    /// kept summary that was right is right. For want of memory all is as it was. Costs the number of the kept summaries, and
+    /// that of the slots of the blocks that keep theirs.
+    pub fn shift(&mut self, s: &Shift) -> Result<(), AllocError>
+        requires { IsSound s.now }
+        ensures moved { OnOk result (AreMoved s.now (table_of self.old).kept (table_of self.new).kept) }
+        ensures right { OnOk result ((before after : Place → Scalar) → TakesValues s.now before after → AreFolds before (table_of self.old).kept → AreFolds after (table_of self.new).kept) }
+        ensures merged { (table_of self.new).merged ≡ (table_of self.old).merged }
+        ensures err { OnErr result (table_of self.new ≡ table_of self.old) }
+    {
+        self.kept = self.kept.shifted(s)?;
+        Ok(())
     }
 
     /// What the numbers of the block's cells come to, where each kept summary is that of its block. The summary is kept

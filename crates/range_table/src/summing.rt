@@ -67,7 +67,7 @@ impl Kept {
         ensures err_steps { OnErr result (steps.new ≡ steps.old) }
     {
         let begun = self.begun(b);
-        self.make_room(b)?;
+        self.keep(b, Summary::new())?;
         let merged = going_on(begun, b, cells, steps);
         self.replace(b, merged.summary);
         Ok(merged)

@@ -1,5 +1,5 @@
 -- Blocks listed under the slots of their cells, and what is given up by them.
-use Rattle.std.specs.Prelude.{◌≡◌, ◌==◌, ◌&&◌, ℕ, Bool, true, List, [], Option, Some, None, if◌then◌else◌}
+use Rattle.std.specs.Prelude.{◌≡◌, ◌==◌, ◌&&◌, ℕ, Bool, true, List, [], None, if◌then◌else◌}
 use Rattle.std.specs.BTreeMap as tree
 use Rattle.std.specs.BTreeMap.{BTreeMap}
 use Rattle.std.specs.List.{flat_map, list_any}
@@ -8,7 +8,7 @@ use Rattle.std.specs.Ordering.{nat_cmp, ordering_then}
 use Rattle.std.specs.declared.alloc.Global.{Global}
 use Rattle.std.specs.declared.cmp.Ordering.{Ordering}
 use Rattle.std.specs.declared.vec.Vec.{Vec}
-use Rattle.block_slots.specs.Slots.{has_cell, size_of, slot_at}
+use Rattle.block_slots.specs.Slots.{has_cell, slot_at}
 use Rattle.block_slots.specs.declared.segment.Segment.{Segment}
 use Rattle.block_slots.specs.declared.slot.Size.{Size}
 use Rattle.block_slots.specs.declared.slot.Slot.{Slot}

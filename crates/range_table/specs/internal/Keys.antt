@@ -1,5 +1,5 @@
 -- The map that summaries under their keys stand for.
-use Rattle.std.specs.Prelude.{◌≡◌, ℕ, List, map, Option}
+use Rattle.std.specs.Prelude.{List, map, Option}
 use Rattle.std.specs.BTreeMap.{is_at}
 use Rattle.std.specs.FinMap as fin
 use Rattle.std.specs.Map.{lookup}

@@ -1,4 +1,4 @@
-use Rattle.std.proofs.Common.{ℕ, ◌≡◌, ◌∙◌, ap, arith, ◌+◌, ◌-◌, ◌++◌, ◌∷◌, [], map}
+use Rattle.std.proofs.Common.{ℕ, ◌∙◌, ap, arith, ◌+◌, ◌-◌, ◌++◌, ◌∷◌, [], map}
 use Rattle.std.specs.List.{range_with_len}
 use Rattle.cell_value.specs.Summary.{summary_of}
 use Rattle.range_table.proofs.Sums.{cell_more}
@@ -16,6 +16,6 @@ cols-preserved g c =
           ∙ ap summary_of (ap (λ x. before ++ x ∷ []) c.value.ensures ∙ cell_more f b.left n c.cols.col (c.cols.col + 1 - b.left) (omega (arith, i.from)) (omega (arith, i.from)) xs);
       count = omega (arith, c.with_value-total.ensures.count, i.count, i.from);
       bounded = c.with_value-total.ensures.bounded;
-      steps = omega (arith, c.tick.ensures, i.steps, i.from);
+      steps = omega (arith, c.with_value-total.ensures.steps, i.steps, i.from);
       from = omega (arith, i.from);
     }

@@ -22,14 +22,14 @@ invariant_of-self c =
       bounded = each-value IsBounded es fs c.args.b c.args.summary changed c.requires.bounded k.bounded;
     }
 
-pub returns-in-Some : goal.returns-in-Some
-returns-in-Some c =
+pub returns : goal.returns
+returns c =
     let es = c.args.self.now.summaries.entries in
     let fs = (c.get_mut.follows.lender c.args.summary).entries in
     map_of-insert es fs c.args.b c.args.summary (through es fs c.of.result c.args.b c.args.summary c.of.ensures c.requires.kept (λ s. ((c.get_mut.follows.holds c.args.summary).3 s).0))
 
-pub returns-in_default : goal.returns-in_default
-returns-in_default c =
+pub unreachable-requires : goal.unreachable-requires
+unreachable-requires c =
     let es = c.args.self.now.summaries.entries in
-    let none = ap (λ k. lookup (is_at (key_cmp k)) es) (sym c.of.ensures) ∙ sym c.in_default.ensures.value in
+    let none = ap (λ k. lookup (is_at (key_cmp k)) es) (sym c.of.ensures) ∙ sym c.in-None.ensures.value in
     absurd (both_ways _ (ap is_some none) (subst IsSome (get-map_of es c.args.b) c.requires.kept))

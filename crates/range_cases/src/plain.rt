@@ -1,0 +1,168 @@
+// What summaries are and cost, worked out plainly: every cell is looked at, one by one.
+ghost use Rattle.shift_core.specs.Sound.{IsSound};
+
+use crate::grid::Grid;
+use cell_addr::{Block, Place};
+use cell_value::{Scalar, Summary};
+use fix_num::Fixed;
+use range_table::Cells;
+use shift_core::{Shift, moved_place};
+use std::alloc::{AllocError, Global};
+
+// The summary of a block's cells, of those on the sheet.
+pub(crate) fn plain_summary(grid: &Grid, b: Block) -> Summary {
+    let mut summary = Summary::new();
+    'rows: for row in b.top..b.bottom.saturating_add(1) {
+        'cols: for col in b.left..b.right.saturating_add(1) {
+            let at = Place {
+                sheet: b.sheet,
+                row,
+                col,
+            };
+            if at.inside() {
+                count_value(&mut summary, grid.value(at));
+            }
+        }
+    }
+    summary
+}
+
+// Counts one value more.
+fn count_value(summary: &mut Summary, value: &Scalar) {
+    match value {
+        Scalar::Number(number) => count(summary, *number),
+        Scalar::Fault(fault) => summary.fault = summary.fault.or(Some(*fault)),
+        _ => {}
+    }
+}
+
+// Counts one number more.
+fn count(summary: &mut Summary, number: Fixed) {
+    summary.count = summary.count.saturating_add(1);
+    summary.sum = summary.sum.saturating_add(i128::from(number.millionths()));
+    if summary.least.is_none_or(|least| number < least) {
+        summary.least = Some(number);
+    }
+    if summary.greatest.is_none_or(|greatest| greatest < number) {
+        summary.greatest = Some(number);
+    }
+}
+
+// The blocks whose summaries are to be kept, as a list.
+#[derive(Drop)]
+pub(crate) struct Expected {
+    alloc: Global,
+    blocks: Vec<Block>,
+}
+
+impl Expected {
+    // None.
+    pub(crate) fn new(alloc: Global) -> Expected {
+        Expected {
+            alloc,
+            blocks: Vec::new(alloc),
+        }
+    }
+
+    // One of the blocks, by any number.
+    pub(crate) fn any(&self, number: u32) -> Option<Block> {
+        let count = self.blocks.len();
+        if count == 0 {
+            return None;
+        }
+        self.blocks.get(number as usize % count).copied()
+    }
+
+    // Without the blocks that hold the place.
+    pub(crate) fn touch(&mut self, at: Place) {
+        self.blocks.retain(|block| !block.holds(at));
+    }
+
+    // Where the blocks are after an operation, of those that just move.
+    pub(crate) fn shift(&mut self, s: &Shift) -> Result<(), AllocError>
+        requires { IsSound s.now }
+    {
+        let mut moved = Vec::new(self.alloc);
+        'blocks: for block in &self.blocks {
+            if let Some(after) = moved_as_it_is(s, *block) {
+                moved.push(after)?;
+            }
+        }
+        self.blocks = moved;
+        Ok(())
+    }
+
+    // How many cells are to be merged for a block's summary; it is kept from then on.
+    pub(crate) fn merged_for(&mut self, b: Block) -> Result<u64, AllocError> {
+        if self.blocks.contains(&b) {
+            return Ok(0);
+        }
+        let width = u64::from(b.right.saturating_sub(b.left)).saturating_add(1);
+        let height = u64::from(b.bottom.saturating_sub(b.top)).saturating_add(1);
+        let shorter = Block {
+            bottom: b.bottom.saturating_sub(1),
+            ..b
+        };
+        let merged = if b.top < b.bottom && self.blocks.contains(&shorter) {
+            width
+        } else {
+            height.saturating_mul(width)
+        };
+        self.blocks.push(b)?;
+        Ok(merged)
+    }
+}
+
+// Where the block is after the operation, if each of its cells moves as its first one does. A move of rows or columns
+// gives up all blocks that have a cell that it moves.
+fn moved_as_it_is(s: &Shift, b: Block) -> Option<Block>
+    requires { IsSound s.now }
+{
+    let first = place(b, b.top, b.left);
+    let after = moved_place(s, first)?;
+    if moves_lines(s) && after != first {
+        return None;
+    }
+    let moved = Block {
+        sheet: after.sheet,
+        top: after.row,
+        left: after.col,
+        bottom: after.row.wrapping_add(b.bottom.wrapping_sub(b.top)),
+        right: after.col.wrapping_add(b.right.wrapping_sub(b.left)),
+    };
+    if moves_all(s, b, moved) {
+        Some(moved)
+    } else {
+        None
+    }
+}
+
+// Whether each cell of the block moves to the same offset in the other.
+fn moves_all(s: &Shift, b: Block, moved: Block) -> bool
+    requires { IsSound s.now }
+{
+    'rows: for row in b.top..b.bottom.saturating_add(1) {
+        'cols: for col in b.left..b.right.saturating_add(1) {
+            let to_row = moved.top.wrapping_add(row.wrapping_sub(b.top));
+            let to_col = moved.left.wrapping_add(col.wrapping_sub(b.left));
+            if moved_place(s, place(b, row, col)) != Some(place(moved, to_row, to_col)) {
+                return false;
+            }
+        }
+    }
+    true
+}
+
+// Whether the operation moves rows or columns.
+fn moves_lines(s: &Shift) -> bool {
+    matches!(s, Shift::MoveRows { .. } | Shift::MoveCols { .. })
+}
+
+// A place of the block's sheet.
+fn place(b: Block, row: u32, col: u32) -> Place {
+    Place {
+        sheet: b.sheet,
+        row,
+        col,
+    }
+}
