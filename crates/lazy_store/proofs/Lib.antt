@@ -7,3 +7,4 @@ pub mod Stepping
 pub mod Stores
 pub mod Facts
 pub mod Changes
+pub mod Positions

@@ -14,7 +14,7 @@ use Rattle.lazy_store.specs.declared.holder.Holder.{Holder}
 use Rattle.lazy_store.specs.declared.holders.Side.{Side}
 use Rattle.lazy_store.specs.declared.holders.Side.TheVariants.{Before, Beyond}
 use Rattle.lazy_store.specs.internal.Steps.{CutsOff, GoesAlong}
-use Rattle.lazy_store.specs.internal.Sweeps.{Both, Brings, Cuts, StandAlong, Sweeps, is_off}
+use Rattle.lazy_store.specs.internal.Sweeps.{ArePlaced, Both, Brings, Cuts, StandAlong, Sweeps, is_off}
 
 -- what a map of an option has, it has from something
 pub mapped-some : {A B : Type 0} (f : A → B) (o : Option A) (y : B) → option_map f o ≡ Some y → (x : A) × (o ≡ Some x) × (f x ≡ y)
@@ -109,6 +109,13 @@ module _ {S : Type 0} (line : Track) (side : Side) (to : ℕ) where
       by : (other : ℕ) (h : Kept) → kept_under mid other ≡ Some h → is_off side to h.position ≡ false → (other ≡ id) ⊎ (other ≡ id → ⊥) → kept_under new other ≡ Some h
       by other h there on (inl e) = absurd (true≢false (sym (off h (ap (kept_under mid) (sym e) ∙ there)) ∙ on))
       by other h there on (inr ne) = brought.others other ne ∙ there
+
+  pub place-more : (old mid new : HashMap ℕ Holder S) (id : ℕ) → ArePlaced to old mid → Brings line id mid new → ((h : Kept) → kept_under new id ≡ Some h → h.position ≡ to) → ArePlaced to old new
+  place-more old mid new id placed brought there other h kept = by (cases_eq other id)
+    where
+      by : (other ≡ id) ⊎ (other ≡ id → ⊥) → (kept_under old other ≡ Some h) ⊎ (h.position ≡ to)
+      by (inl e) = inr (there h (ap (kept_under new) (sym e) ∙ kept))
+      by (inr ne) = placed other h (sym (brought.others other ne) ∙ kept)
 
   pub done-more : (mid new : HashMap ℕ Holder S) (id index : ℕ) → IsDone index mid → Brings line id mid new → slice_get (hash.keys mid) index ≡ Some id → ((h : Kept) → kept_under new id ≡ Some h → h.position ≡ to) → IsDone (index + 1) new
   done-more mid new id index done brought here there = record { done = λ i other h under key kept. by i other h under (ap (λ ks. slice_get ks i) (sym brought.along.keys) ∙ key) kept (cases_eq other id) (cases_lt i index) }

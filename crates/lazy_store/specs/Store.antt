@@ -1,6 +1,6 @@
 -- What a store stands for: a line, which of its formulas are live, and the standing of each at each position of the
 -- line. Source: this project's own.
-use Rattle.std.specs.Prelude.{◌≡◌, ◌≢◌, ℕ, ◌+◌, ◌<◌, ◌≤◌, min, Bool, true, Option, Some, None, option_map, option_and_then}
+use Rattle.std.specs.Prelude.{◌≡◌, ◌≢◌, ℕ, ◌+◌, ◌<◌, ◌≤◌, max, min, Bool, true, Option, Some, None, option_map, option_and_then}
 use Rattle.std.specs.HashMap as hash
 use Rattle.formula_tree.specs.StandsFor.{at_home}
 use Rattle.formula_tree.specs.Term.{Term}
@@ -69,6 +69,18 @@ KeepsBehind k old new = (id : ℕ) (h : Kept) → kept_in old id ≡ Some h → 
 pub record StandsFrom (k : ℕ) (old new : Lazy) : Type 0 where
   pub live : (id : ℕ) → live_in new id ≡ live_in old id
   pub at : (id j : ℕ) → k ≤ j → at_in new id j ≡ at_in old id j
+
+-- as of which position a formula is kept
+abbrev pub position_in : Lazy → ℕ → Option ℕ
+position_in store id = option_map (λ h. h.position) (kept_in store id)
+
+-- each formula that is kept as of a position beyond this one comes back to it, and no other one moves
+abbrev pub ComeBackTo : ℕ → Lazy → Lazy → Type 0
+ComeBackTo k old new = (id : ℕ) → position_in new id ≡ option_map (min k) (position_in old id)
+
+-- each formula that is kept as of a position before this one goes on to it, and no other one moves
+abbrev pub GoOnTo : ℕ → Lazy → Lazy → Type 0
+GoOnTo k old new = (id : ℕ) → position_in new id ≡ option_map (max k) (position_in old id)
 
 -- as of which position a formula is kept, and its home and tree as of that
 abbrev pub stored_in : Lazy → ℕ → Option (ℕ × (Home × Term Ref))

@@ -5,7 +5,7 @@ ghost use Rattle.formula_tree.specs.Pooled.{held};
 ghost use Rattle.shift_line.specs.Track.{last};
 ghost use Rattle.lazy_store.specs.Holders.{AreCoherent, IsFront, kept_under};
 ghost use Rattle.lazy_store.specs.Kept.{IsSoundLine, Kept, at};
-ghost use Rattle.lazy_store.specs.internal.Sweeps.{Brings, Cuts, CutsAll, Sweeps, is_off};
+ghost use Rattle.lazy_store.specs.internal.Sweeps.{ArePlaced, Brings, Cuts, CutsAll, Sweeps, is_off};
 
 use crate::holder::Holder;
 use formula_tree::Pool;
@@ -83,6 +83,7 @@ pub(crate) fn bring_all(
     requires there { (id : ℕ) (h : Kept) → kept_under holders.old id ≡ Some h → is_off side position h.position ≡ true → at line.now h position ≢ None }
     ensures sweeps { Sweeps line.now side position holders.old holders.new }
     ensures ok { OnOk result ((id : ℕ) (h : Kept) → kept_under holders.new id ≡ Some h → is_off side position h.position ≡ false) }
+    ensures placed { OnOk result (ArePlaced position holders.old holders.new) }
     ensures free { ((id : ℕ) (h : Kept) → kept_under holders.old id ≡ Some h → is_off side position h.position ≡ false) → IsOk result }
     ensures pool { IsFront (held pool.old) (held pool.new) }
 {

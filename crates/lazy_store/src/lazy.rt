@@ -32,7 +32,7 @@ pub struct Lazy {
 }
 
 impl Lazy {
-    ghost use Rattle.lazy_store.specs.Store.{AreBehind, CanComeBack, CanGoOn, KeepsAll, KeepsBehind, KeepsFrom, KeepsOthers, StandsAsBefore, StandsFrom, StandsOneOn, at_in, kept_in, live_in, spare_in, stored_in};
+    ghost use Rattle.lazy_store.specs.Store.{AreBehind, CanComeBack, CanGoOn, ComeBackTo, GoOnTo, KeepsAll, KeepsBehind, KeepsFrom, KeepsOthers, StandsAsBefore, StandsFrom, StandsOneOn, at_in, kept_in, live_in, spare_in, stored_in};
 
     /// A store without operations and formulas, whose positions are all 0.
     pub fn new(alloc: Global) -> Result<Lazy, AllocError>
@@ -109,6 +109,14 @@ impl Lazy {
         let _ = self.holders.swap_remove(&id);
     }
 
+    /// Whether a formula is live, or else removed; `None` exactly where the store has none under the id.
+    pub fn is_live(&self, id: u64) -> Option<bool>
+        ensures { result ≡ live_in self.now id }
+    {
+        let holder = self.holders.get(&id)?;
+        Some(holder.live)
+    }
+
     /// A formula as it is kept, live or removed, without catching up; `None` exactly where the store has none under the id.
     pub fn stored(&self, id: u64) -> Option<Stored<'_>>
         ensures { option_map (λ s. (s.position, (s.home, relative s.tree.now.value))) result ≡ stored_in self.now id }
@@ -148,12 +156,13 @@ impl Lazy {
         }
     }
 
-    /// Moves the cursor to a position from the line's first to its last. No formula changes.
+    /// Moves the cursor to a position from the line's first to its last. No formula changes, nor do its standings.
     pub fn move_cursor(&mut self, position: u64)
         requires first { self.old.line.first ≤ position }
         requires last { position ≤ last self.old.line }
         ensures line { self.new.line ≡ record self.old.line { cursor = position } }
         ensures kept { KeepsAll self.old self.new }
+        ensures standings { StandsAsBefore self.old self.new }
         ensures spare { spare_in self.new ≡ spare_in self.old }
     {
         self.line.move_to(position);
@@ -172,6 +181,7 @@ impl Lazy {
         ensures room { OnOk result (more ≤ spare_in self.new) }
         ensures line { self.new.line ≡ with_spare self.new.line.spare self.old.line }
         ensures kept { KeepsAll self.old self.new }
+        ensures standings { StandsAsBefore self.old self.new }
         ensures spare { spare_in self.old ≤ spare_in self.new }
         ensures succeeds { more ≤ spare_in self.old → IsOk result }
     {
@@ -214,6 +224,7 @@ impl Lazy {
         ensures line { OnOk result (self.new.line ≡ with_spare self.new.line.spare (pushed s self.old.line)) }
         ensures standings { OnOk result (StandsOneOn s self.old self.new) }
         ensures behind { OnOk result (AreBehind self.old.line.cursor self.new) }
+        ensures placed { OnOk result (ComeBackTo self.old.line.cursor self.old self.new) }
         ensures line_err { OnErr result (self.new.line ≡ with_spare self.new.line.spare self.old.line) }
         ensures err { OnErr result (StandsAsBefore self.old self.new) }
         ensures kept { KeepsBehind self.old.line.cursor self.old self.new }
@@ -230,6 +241,7 @@ impl Lazy {
         requires back { CanComeBack self.old.line.cursor self.old }
         ensures standings { StandsAsBefore self.old self.new }
         ensures behind { OnOk result (AreBehind self.old.line.cursor self.new) }
+        ensures placed { OnOk result (ComeBackTo self.old.line.cursor self.old self.new) }
         ensures kept { KeepsBehind self.old.line.cursor self.old self.new }
         ensures free { AreBehind self.old.line.cursor self.old → IsOk result }
         ensures line { self.new.line ≡ self.old.line }
@@ -257,6 +269,7 @@ impl Lazy {
         requires there { CanGoOn position self.old }
         ensures line { OnOk result (self.new.line ≡ with_spare self.new.line.spare (forgotten position self.old.line)) }
         ensures standings { OnOk result (StandsFrom position self.old self.new) }
+        ensures placed { OnOk result (GoOnTo position self.old self.new) }
         ensures line_err { OnErr result (self.new.line ≡ self.old.line) }
         ensures err { OnErr result (StandsAsBefore self.old self.new) }
         ensures kept { KeepsFrom position self.old self.new }

@@ -80,7 +80,7 @@ home_inside-prop : (home : Home) → IsProp (IsHomeInside home)
 home_inside-prop (homes.Cell p) = Prim.hlevel logic.props
 home_inside-prop (homes.Name sheet) = Prim.hlevel logic.props
 
-is_fit-prop : (x : Standing) → IsProp (IsFit x)
+pub is_fit-prop : (x : Standing) → IsProp (IsFit x)
 is_fit-prop x = Prim.hlevel (fits-prop, home_inside-prop, logic.props)
 
 -- shared trees are a set, as their codes are

@@ -1,5 +1,5 @@
 -- What goes along the line at once: one formula of a table of holders, or all on one side of a position.
-use Rattle.std.specs.Prelude.{◌≡◌, ◌≢◌, ℕ, ◌<◌, ◌≤◌, nat_eq, nat_lt, Bool, true, false, Option, Some, None, option_map, option_and_then}
+use Rattle.std.specs.Prelude.{◌≡◌, ◌≢◌, ℕ, ◌<◌, ◌≤◌, ◌⊎◌, nat_eq, nat_lt, Bool, true, false, Option, Some, None, option_map, option_and_then}
 use Rattle.std.specs.HashMap as hash
 use Rattle.std.specs.HashMap.{HashMap}
 use Rattle.shift_line.specs.Track.{Track}
@@ -48,6 +48,10 @@ module _ {S : Type 0} where
   pub record Sweeps (line : Track) (side : Side) (position : ℕ) (old new : HashMap ℕ Holder S) : Type 0 where
     pub along : StandAlong line old new
     pub others : (id : ℕ) (h : Kept) → kept_under old id ≡ Some h → is_off side position h.position ≡ false → kept_under new id ≡ Some h
+
+  -- each formula is kept as it was, or as of the position
+  abbrev pub ArePlaced : ℕ → HashMap ℕ Holder S → HashMap ℕ Holder S → Type 0
+  ArePlaced position old new = (id : ℕ) (h : Kept) → kept_under new id ≡ Some h → (kept_under old id ≡ Some h) ⊎ (h.position ≡ position)
 
   -- of the formula under the id the trees that were saved before the position are gone
   pub record Cuts (k id : ℕ) (old new : HashMap ℕ Holder S) : Type 0 where

@@ -1,9 +1,9 @@
 use Rattle.std.proofs.Common.{◌≡◌, ◌≤◌, ◌+◌, sym, subst, arith, rules, length, None}
 use Rattle.formula_tree.specs.Pooled.{held}
 use Rattle.lazy_store.specs.Holders.{IsFront}
-use Rattle.lazy_store.specs.internal.Sweeps.{Sweeps}
+use Rattle.lazy_store.specs.internal.Sweeps.{ArePlaced, Sweeps}
 use Rattle.lazy_store.proofs.Stepping.{front-trans}
-use Rattle.lazy_store.proofs.Tables.{IsDone, all-done, done-more, done-passes, none-off, same-count, still-there, sweep-more}
+use Rattle.lazy_store.proofs.Tables.{IsDone, all-done, done-more, done-passes, none-off, place-more, same-count, still-there, sweep-more}
 use Rattle.lazy_store.proofs.holders.bring_all.Goals as goal
 use Rattle.lazy_store.proofs.holders.bring_all.Goals.{in-Some+in_ok-bring, in_default}
 
@@ -25,6 +25,8 @@ holders-preserved c =
     elim c.match-off_at.branch [
       | in-Some+in_ok-bring w ↦ record {
         swept = subst (Sweeps line c.args.side c.args.position old) (sym w.holders-is) (sweep-more line c.args.side c.args.position old mid w.bring.new.holders w.in-Some.id so_far.swept w.bring.ensures.brings w.in-Some.ensures.kept);
+        placed = subst (ArePlaced c.args.position old) (sym w.holders-is)
+            (place-more line c.args.side c.args.position old mid w.bring.new.holders w.in-Some.id so_far.placed w.bring.ensures.brings w.in_ok-bring.ensures.ok);
         done = subst (IsDone line c.args.side c.args.position (index + 1)) (sym w.holders-is)
             (done-more line c.args.side c.args.position mid w.bring.new.holders w.in-Some.id index so_far.done w.bring.ensures.brings w.in-Some.ensures.off w.in_ok-bring.ensures.ok);
         pool = subst (λ p. IsFront (held c.args.pool.now) (held p)) (sym w.pool-is) (front-trans (held c.args.pool.now) (held c.holders.pool) (held w.bring.new.pool) so_far.pool w.bring.ensures.pool);
@@ -33,6 +35,7 @@ holders-preserved c =
           let none : c.off_at.result ≡ None = search rules in
           record {
             swept = subst (Sweeps line c.args.side c.args.position old) (sym w.holders-is) so_far.swept;
+            placed = subst (ArePlaced c.args.position old) (sym w.holders-is) so_far.placed;
             done = subst (IsDone line c.args.side c.args.position (index + 1)) (sym w.holders-is) (done-passes line c.args.side c.args.position mid index so_far.done (c.off_at.ensures.none none));
             pool = subst (λ p. IsFront (held c.args.pool.now) (held p)) (sym w.pool-is) so_far.pool;
           }

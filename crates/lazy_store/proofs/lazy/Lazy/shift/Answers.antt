@@ -10,6 +10,9 @@ returns-clause-standings c =
     let told = c.in_ok-come_back.ensures in
     on_ok_weaker c.push.result (λ got. one-on c.args.s c.args.self.now c.come_back.new.self _ c.requires.sound told.line told.from told.within got refl told.behind told.standings) c.push.ensures.ok
 
+pub returns-clause-placed : goal.returns-clause-placed
+returns-clause-placed c = on_ok_weaker c.push.result (λ got. c.in_ok-come_back.ensures.placed) c.push.ensures.ok
+
 pub returns-clause-err : goal.returns-clause-err
 returns-clause-err c =
     let told = c.in_ok-come_back.ensures in
