@@ -41,7 +41,7 @@ impl Pair {
             return Ok(());
         };
         if self.plain.formula(id).is_none() && self.store.insert(id, &standing)? {
-            self.plain.insert(id, standing)?;
+            self.plain.insert(&mut self.pool, id, standing)?;
         }
         Ok(())
     }

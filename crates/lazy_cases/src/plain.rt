@@ -61,9 +61,19 @@ impl Plain {
         formula.at(position).filter(|standing| standing.is_lost_over(&s))
     }
 
-    /// Puts a formula under the id at the cursor.
-    pub(crate) fn insert(&mut self, id: u64, standing: Known) -> Result<(), AllocError> {
-        let formula = Whole::new(self.alloc, self.cursor, standing)?;
+    /// Puts a formula under the id at the cursor, and rewrites it over the operations beyond.
+    pub(crate) fn insert(
+        &mut self,
+        pool: &mut Pool,
+        id: u64,
+        standing: Known,
+    ) -> Result<(), AllocError> {
+        let mut formula = Whole::new(self.alloc, self.cursor, standing)?;
+        'beyond: for position in self.cursor..self.last() {
+            if let Some(s) = self.shift_at(position) {
+                formula.rewrite(self.alloc, pool, position, &s)?;
+            }
+        }
         if let Some(slot) = slot_of(&mut self.formulas, id) {
             *slot = Some(formula);
         }
@@ -107,6 +117,7 @@ impl Plain {
             if let Some(formula) = slot {
                 if formula.can_come_back(self.cursor) {
                     formula.rewrite(self.alloc, pool, self.cursor, &s)?;
+                    formula.come_back(self.cursor);
                 } else {
                     *slot = None;
                 }

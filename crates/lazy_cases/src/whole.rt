@@ -45,28 +45,37 @@ impl Whole {
         position <= self.kept || self.at(position).is_some()
     }
 
-    /// Rewrites the formula at the cursor over the operation, and forgets what was beyond.
+    /// Rewrites the formula at the position over the operation there; what was beyond the position is forgotten.
     pub(crate) fn rewrite(
         &mut self,
         alloc: Global,
         pool: &mut Pool,
-        cursor: u64,
+        position: u64,
         s: &Shift,
     ) -> Result<(), AllocError> {
-        'beyond: for _ in 0..self.standings.len() {
-            if self.earliest.saturating_add(self.standings.len() as u64) > cursor.saturating_add(1) {
-                let _ = self.standings.pop_back();
-            }
-        }
-        let next = match self.at(cursor) {
+        self.forget_beyond(position);
+        let next = match self.at(position) {
             Some(standing) => standing.after(alloc, pool, s)?,
             None => None,
         };
         if let Some(next) = next {
             self.standings.push_back(next)?;
         }
-        self.kept = self.kept.min(cursor);
         Ok(())
+    }
+
+    // Forgets what is beyond the position.
+    fn forget_beyond(&mut self, position: u64) {
+        let count = match position.checked_sub(self.earliest) {
+            Some(later) => later.saturating_add(1),
+            None => 0,
+        };
+        self.standings.truncate(usize::try_from(count).unwrap_or(usize::MAX));
+    }
+
+    /// A formula that is kept as of a position beyond this one was brought back to it.
+    pub(crate) fn come_back(&mut self, position: u64) {
+        self.kept = self.kept.min(position);
     }
 
     /// Forgets what was before the position.
