@@ -13,6 +13,7 @@ use std::time::Instant;
 
 // The row after the last one of a block that loses rows at its end, as the text below has it.
 const BLOCK_ROWS: u32 = 30_000;
+
 const BLOCK: &str = "=SUM(B1:B30000)";
 
 /// Times a store of so many formulas over so many operations, and prints what each part took, in nanoseconds: putting the
@@ -37,12 +38,7 @@ pub(crate) fn run_bench(rt: &HostRuntime, formulas: u64, operations: u64) -> io:
 }
 
 // Reads the formula under the id 0, and prints how long that took; whether it could be read.
-fn time_read(
-    rt: &HostRuntime,
-    name: &str,
-    store: &mut Lazy,
-    pool: &mut Pool,
-) -> io::Result<bool> {
+fn time_read(rt: &HostRuntime, name: &str, store: &mut Lazy, pool: &mut Pool) -> io::Result<bool> {
     let cursor = store.line().cursor();
     if store.is_live(0) != Some(true) || store.tree_at(pool, 0, cursor)?.is_none() {
         return Ok(false);
@@ -108,7 +104,9 @@ fn losing(alloc: Global, pool: &mut Pool, operations: u64) -> Result<Onward, All
         store.insert(0, &standing)?;
     }
     'operations: for gone in 1..=operations {
-        let last = u32::try_from(gone).ok().and_then(|n| BLOCK_ROWS.checked_sub(n));
+        let last = u32::try_from(gone)
+            .ok()
+            .and_then(|n| BLOCK_ROWS.checked_sub(n));
         if let Some(at) = last {
             store.shift(
                 pool,

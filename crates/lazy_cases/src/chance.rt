@@ -2,6 +2,7 @@
 
 // What a linear congruential generator of 64 bits multiplies by and adds: those of Knuth's MMIX.
 const FACTOR: u64 = 6_364_136_223_846_793_005;
+
 const SUMMAND: u64 = 1_442_695_040_888_963_407;
 
 /// A list of numbers that a seed determines.

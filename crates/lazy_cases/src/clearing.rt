@@ -58,12 +58,7 @@ pub(crate) fn clear_before(
 }
 
 // Drops the formula under the id where it is kept as of a position before this one and has no tree here.
-fn clear_way_on(
-    store: &mut Lazy,
-    pool: &mut Pool,
-    id: u64,
-    position: u64,
-) -> Result<(), AllocError>
+fn clear_way_on(store: &mut Lazy, pool: &mut Pool, id: u64, position: u64) -> Result<(), AllocError>
     ensures on { OnOk result ((h : Kept) → kept_in store.new id ≡ Some h → h.position < position → at store.old.line h position ≢ None) }
     ensures others { KeepsOthers id store.old store.new }
     ensures line { store.new.line ≡ store.old.line }

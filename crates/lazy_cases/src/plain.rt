@@ -58,7 +58,9 @@ impl Plain {
         if position >= formula.kept {
             return None;
         }
-        formula.at(position).filter(|standing| standing.is_lost_over(&s))
+        formula
+            .at(position)
+            .filter(|standing| standing.is_lost_over(&s))
     }
 
     /// Puts a formula under the id at the cursor, and rewrites it over the operations beyond.

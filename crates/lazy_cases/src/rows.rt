@@ -10,6 +10,7 @@ use std::alloc::{AllocError, Global};
 
 // The ids of two formulas.
 const ID: u64 = 7;
+
 const OTHER: u64 = 3;
 
 // One row put before row 2.
@@ -124,26 +125,30 @@ pub(crate) fn a_line_is_cut_and_forgotten(alloc: Global) -> Result<bool, AllocEr
         return Ok(false);
     }
     line.forget_before(1);
-    Ok(back == Some(deleted(7, 3))
-        && cut == (2, Some(deleted(4, 1)))
-        && line.first() == 1
-        && line.back() == Some(deleted(4, 1))
-        && line.back() == None)
+    Ok(
+        back == Some(deleted(7, 3))
+            && cut == (2, Some(deleted(4, 1)))
+            && line.first() == 1
+            && line.back() == Some(deleted(4, 1))
+            && line.back() == None,
+    )
 }
 
 /// A formula is kept as it was, looked up at other positions, read, and settled.
 pub(crate) fn a_formula_is_read_and_settled(alloc: Global) -> Result<bool, AllocError> {
     let mut scene = Scene::new(alloc)?;
     scene.store.reserve(2)?;
-    Ok(scene.put(ID, 0, "=B5")?
-        && scene.shift(INSERT)?
-        && scene.keeps(ID, 0, 0, "=B5")?
-        && scene.is_at(ID, 1, 0, "=B6")?
-        && scene.is_nowhere_at(ID, 2)?
-        && scene.reads(ID, 0, "=B6")?
-        && scene.store.settle(&mut scene.pool, 1)?
-        && scene.store.store().line().first() == 1
-        && scene.is_nowhere_at(ID, 0)?)
+    Ok(
+        scene.put(ID, 0, "=B5")?
+            && scene.shift(INSERT)?
+            && scene.keeps(ID, 0, 0, "=B5")?
+            && scene.is_at(ID, 1, 0, "=B6")?
+            && scene.is_nowhere_at(ID, 2)?
+            && scene.reads(ID, 0, "=B6")?
+            && scene.store.settle(&mut scene.pool, 1)?
+            && scene.store.store().line().first() == 1
+            && scene.is_nowhere_at(ID, 0)?,
+    )
 }
 
 /// A reference that was lost is there again when the cursor goes back, whether the formula was read or not.
@@ -177,28 +182,32 @@ pub(crate) fn a_clipped_block_is_whole_again(alloc: Global) -> Result<bool, Allo
         at: 3,
         count: 1,
     };
-    Ok(clipped
-        && removed
-        && nowhere
-        && scene.shift(insert)?
-        && scene.keeps(ID, 0, 0, "=SUM(B5:B10)")?
-        && scene.reads(ID, 0, "=SUM(B6:B11)")?)
+    Ok(
+        clipped
+            && removed
+            && nowhere
+            && scene.shift(insert)?
+            && scene.keeps(ID, 0, 0, "=SUM(B5:B10)")?
+            && scene.reads(ID, 0, "=SUM(B6:B11)")?,
+    )
 }
 
 /// A formula that was removed and is put back has the operations between still in front of it.
 pub(crate) fn a_removed_formula_catches_up(alloc: Global) -> Result<bool, AllocError> {
     let mut scene = Scene::new(alloc)?;
-    Ok(scene.put(ID, 0, "=B5")?
-        && scene.store.change(Change::Remove, ID)
-        && scene.shift(INSERT)?
-        && scene.shift(INSERT)?
-        && scene.store.store().is_live(ID) == Some(false)
-        && scene.keeps(ID, 0, 0, "=B5")?
-        && scene.store.change(Change::PutBack, ID)
-        && scene.reads(ID, 0, "=B7")?
-        && scene.store.change(Change::Remove, ID)
-        && scene.store.change(Change::Forget, ID)
-        && scene.store.store().is_live(ID).is_none())
+    Ok(
+        scene.put(ID, 0, "=B5")?
+            && scene.store.change(Change::Remove, ID)
+            && scene.shift(INSERT)?
+            && scene.shift(INSERT)?
+            && scene.store.store().is_live(ID) == Some(false)
+            && scene.keeps(ID, 0, 0, "=B5")?
+            && scene.store.change(Change::PutBack, ID)
+            && scene.reads(ID, 0, "=B7")?
+            && scene.store.change(Change::Remove, ID)
+            && scene.store.change(Change::Forget, ID)
+            && scene.store.store().is_live(ID).is_none(),
+    )
 }
 
 /// Room that was made serves formulas and operations.
@@ -210,5 +219,10 @@ pub(crate) fn room_is_kept(alloc: Global) -> Result<bool, AllocError> {
     let less = scene.store.store().spare();
     let shifted = scene.shift(INSERT)?;
     let least = scene.store.store().spare();
-    Ok(put && shifted && room >= 3 && less.saturating_add(1) >= room && least.saturating_add(1) >= less)
+    Ok(
+        put && shifted
+            && room >= 3
+            && less.saturating_add(1) >= room
+            && least.saturating_add(1) >= less,
+    )
 }

@@ -23,6 +23,10 @@ impl Tally {
 impl fmt::Display for Tally {
     fn fmt<W: fmt::Write>(&self, f: &mut fmt::Formatter<W>) -> fmt::Result {
         write!(f, "{} lists of {} calls, ", self.lists, self.calls)?;
-        write!(f, "{} comparisons, {} differences", self.comparisons, self.differences)
+        write!(
+            f,
+            "{} comparisons, {} differences",
+            self.comparisons, self.differences
+        )
     }
 }

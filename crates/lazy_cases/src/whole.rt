@@ -70,7 +70,8 @@ impl Whole {
             Some(later) => later.saturating_add(1),
             None => 0,
         };
-        self.standings.truncate(usize::try_from(count).unwrap_or(usize::MAX));
+        self.standings
+            .truncate(usize::try_from(count).unwrap_or(usize::MAX));
     }
 
     /// A formula that is kept as of a position beyond this one was brought back to it.
