@@ -1,6 +1,6 @@
 -- Tables in which one formula came, changed or left, and what stays coherent then. Serves the calls that add, remove and
 -- forget formulas.
-use Rattle.std.proofs.Common.{◌≡◌, ◌≢◌, ◌∙◌, sym, ap, refl, subst, arith, ℕ, ◌+◌, ◌<◌, ◌≤◌, max, ◌⊎◌, inl, inr, ⊎_elim, Bool, true, false, nat_eq, ne_eqb, Result, Ok, Err, Option, Some, None, option_map}
+use Rattle.std.proofs.Common.{◌≡◌, ◌≢◌, ◌∙◌, sym, ap, refl, subst, arith, ℕ, ◌≤◌, ◌⊎◌, inl, inr, Bool, false, nat_eq, ne_eqb, Result, Ok, Err, Some, None, option_map}
 use Rattle.std.proofs.lemmas.Bool.{cases_eq}
 use Rattle.std.proofs.lemmas.Option.{none-some, same_Some}
 use Rattle.std.specs.HashMap as hash
@@ -15,7 +15,7 @@ use Rattle.formula_tree.specs.declared.reference.Ref.{Ref}
 use Rattle.shift_line.specs.Track.{Track, last}
 use Rattle.tree_rewrite.specs.References.{FitsSheets}
 use Rattle.lazy_store.specs.Holders.{AreCoherent, kept_of, kept_under}
-use Rattle.lazy_store.specs.Kept.{IsAlong, IsCoherent, IsSoundLine, Kept, fresh, lowest, standing, standing_at, with_live}
+use Rattle.lazy_store.specs.Kept.{IsAlong, IsCoherent, IsSoundLine, Kept, fresh, lowest, standing_at, with_live}
 use Rattle.lazy_store.specs.declared.holder.Holder.{Holder}
 use Rattle.lazy_store.proofs.Histories.{coherent-from}
 

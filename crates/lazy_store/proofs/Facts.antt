@@ -1,5 +1,5 @@
 -- The laws, for the proofs of callers.
-use Rattle.std.proofs.Common.{◌≡◌, ◌≢◌, ◌∙◌, sym, ap, refl, subst, arith, ℕ, ◌+◌, ◌-◌, ◌<◌, ◌≤◌, ◌⊎◌, inl, inr, ⊎_elim, cond, leb, le-leb, length, Option, Some, None, MatchOption, option_and_then}
+use Rattle.std.proofs.Common.{◌≡◌, ◌≢◌, ◌∙◌, sym, ap, refl, subst, arith, ℕ, ◌+◌, ◌-◌, ◌<◌, ◌≤◌, ◌⊎◌, inl, inr, Option, Some, None, MatchOption, option_and_then}
 use Rattle.std.proofs.lemmas.Bool.{cases_lt}
 use Rattle.std.proofs.lemmas.Option.{none-some, same_Some, slice_get_past}
 use Rattle.formula_tree.specs.Term.{Term}
@@ -7,11 +7,11 @@ use Rattle.formula_tree.specs.declared.reference.Ref.{Ref}
 use Rattle.shift_core.specs.declared.shift.Shift.{Shift}
 use Rattle.shift_line.specs.Track.{Track, last, shift_at}
 use Rattle.tree_rewrite.specs.Rewritten.{Loses}
-use Rattle.lazy_store.specs.Kept.{IsAlong, IsCoherent, IsSavedAt, IsSoundLine, Kept, at, history, lowest, over}
+use Rattle.lazy_store.specs.Kept.{IsCoherent, IsSoundLine, Kept, at, history, lowest, over}
 use Rattle.lazy_store.specs.Laws.{HistoriesAreStandings, SavedWhereLost, StandingsFollow}
 use Rattle.lazy_store.specs.Standing.{IsSavedOver, Standing, after}
 use Rattle.lazy_store.proofs.Histories.{at-is, at-low, at-next}
-use Rattle.lazy_store.proofs.Lines.{shift-from, shift-below}
+use Rattle.lazy_store.proofs.Lines.{shift-from}
 
 -- behind the last operation there is none
 shift-past : (line : Track) (k : ℕ) → last line ≤ k → shift_at line k ≡ None

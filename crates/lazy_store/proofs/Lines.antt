@@ -1,15 +1,15 @@
 -- What one more operation, and forgetting the oldest ones, do to the standings of a formula that is kept as of a
 -- position of the line which stays. Serves the promises on cutting and settling.
-use Rattle.std.proofs.Common.{◌≡◌, ◌≢◌, ◌∙◌, sym, ap, refl, subst, arith, ℕ, zero, suc, ◌+◌, ◌-◌, ◌<◌, ◌≤◌, max, ◌⊎◌, inl, inr, ⊎_elim, leb, le-leb, leb-false, cond, List, [], ◌∷◌, ◌++◌, length, take, drop, slice_get, Option, Some, None, MatchOption, option_and_then}
+use Rattle.std.proofs.Common.{◌≡◌, ◌∙◌, sym, ap, refl, subst, arith, ℕ, zero, suc, ◌+◌, ◌-◌, ◌<◌, ◌≤◌, max, ◌⊎◌, inl, inr, leb, le-leb, List, [], ◌∷◌, ◌++◌, length, take, drop, slice_get, Option, Some, None, MatchOption, option_and_then}
 use Rattle.std.proofs.lemmas.Bool.{cases_lt, cases_order, cond-true, cond-false, lt-leb}
 use Rattle.std.proofs.lemmas.Option.{none-some, same_Some}
-use Rattle.std.proofs.lemmas.List.{length-drop, length-append, length_push}
+use Rattle.std.proofs.lemmas.List.{length-drop}
 use Rattle.formula_tree.specs.Term.{Term}
 use Rattle.formula_tree.specs.declared.reference.Ref.{Ref}
 use Rattle.shift_core.specs.Sound.{IsSound}
 use Rattle.shift_core.specs.declared.shift.Shift.{Shift}
-use Rattle.shift_line.specs.Track.{Track, forgotten, last, passed, pushed, shift_at, with_spare}
-use Rattle.lazy_store.specs.Kept.{IsAlong, IsCoherent, IsSavedAt, IsSoundLine, Kept, at, history, later, lowest, over, standing, standing_at}
+use Rattle.shift_line.specs.Track.{Track, forgotten, last, pushed, shift_at, with_spare}
+use Rattle.lazy_store.specs.Kept.{IsAlong, IsCoherent, IsSavedAt, IsSoundLine, Kept, at, history, later, lowest, standing, standing_at}
 use Rattle.lazy_store.specs.Standing.{IsSavedOver, Standing, after}
 use Rattle.lazy_store.specs.internal.Steps.{CutsOff}
 use Rattle.lazy_store.proofs.Histories.{at-is, at-low, at-next, at-up, coherent-from, later-same}

@@ -1,16 +1,15 @@
 -- A step over an operation, in either direction, keeps every history of a formula that goes along the line. Serves the
 -- reads, which are made of such steps.
-use Rattle.std.proofs.Common.{◌≡◌, ◌≢◌, ◌∙◌, sym, ap, refl, subst, arith, ℕ, ◌+◌, ◌-◌, ◌<◌, ◌≤◌, ◌⊎◌, inl, inr, ⊎_elim, Option, Some, None, MatchOption, option_map, option_and_then}
+use Rattle.std.proofs.Common.{◌≡◌, ◌≢◌, ◌∙◌, sym, ap, subst, arith, ℕ, ◌+◌, ◌-◌, ◌<◌, ◌≤◌, ◌⊎◌, inl, inr, Option, Some, None, MatchOption, option_map, option_and_then}
 use Rattle.std.proofs.lemmas.Bool.{cases_eq}
 use Rattle.std.proofs.lemmas.Option.{none-some, same_Some}
-use Rattle.formula_tree.specs.declared.reference.Home.{Home}
 use Rattle.formula_tree.specs.declared.reference.Ref.{Ref}
 use Rattle.formula_tree.specs.Term.{Term}
 use Rattle.shift_core.specs.declared.shift.Shift.{Shift}
 use Rattle.shift_line.specs.Track.{Track, shift_at}
-use Rattle.tree_rewrite.specs.Rewritten.{home_after, home_before, rewritten}
+use Rattle.tree_rewrite.specs.Rewritten.{home_after, home_before}
 use Rattle.lazy_store.specs.Kept.{IsAlong, IsSavedAt, IsSoundLine, Kept, back_over, over, standing}
-use Rattle.lazy_store.specs.Standing.{IsFit, IsSavedOver, Standing, after, before, returned_at, rewritten_at}
+use Rattle.lazy_store.specs.Standing.{IsSavedOver, Standing, after, before, returned_at, rewritten_at}
 use Rattle.lazy_store.specs.internal.Steps.{GoesBack, GoesOn}
 use Rattle.lazy_store.proofs.Histories.{back-over}
 

@@ -1,6 +1,6 @@
 -- As of which positions formulas are kept after they were taken along the line. Serves the calls that take all formulas of
 -- one side along.
-use Rattle.std.proofs.Common.{◌≡◌, ◌∙◌, sym, ap, refl, arith, ℕ, ◌<◌, ◌≤◌, max, min, ◌⊎◌, inl, inr, Result, Ok, Err, Bool, true, false, true≢false, Option, Some, None, option_map}
+use Rattle.std.proofs.Common.{◌≡◌, ◌∙◌, sym, ap, refl, arith, ℕ, max, min, ◌⊎◌, inl, inr, Result, Ok, Err, Bool, true, false, true≢false, Option, Some, None, option_map}
 use Rattle.std.proofs.lemmas.Bool.{ltb-false, ltb-true}
 use Rattle.std.proofs.lemmas.Option.{none-some, same_Some}
 use Rattle.std.specs.HashMap.{HashMap}

@@ -1,9 +1,9 @@
 -- A coherent formula that has a standing at a position goes along the line up to there. Serves the reads and settling.
-use Rattle.std.proofs.Common.{◌≡◌, ◌≢◌, ◌∙◌, sym, ap, refl, subst, arith, ℕ, zero, suc, ◌+◌, ◌-◌, ◌<◌, ◌≤◌, max, ◌⊎◌, inl, inr, ⊎_elim, Option, Some, None, option_and_then, unwrap_or}
+use Rattle.std.proofs.Common.{◌≡◌, ◌≢◌, ◌∙◌, sym, ap, refl, subst, arith, ℕ, zero, suc, ◌+◌, ◌-◌, ◌<◌, ◌≤◌, max, ◌⊎◌, inl, inr, Option, Some, None, option_and_then, unwrap_or}
 use Rattle.std.proofs.lemmas.Bool.{cases_lt}
-use Rattle.shift_line.specs.Track.{Track, last, shift_at}
+use Rattle.shift_line.specs.Track.{Track, last}
 use Rattle.lazy_store.specs.Kept.{IsAlong, IsCoherent, IsSoundLine, Kept, at, history, later, lowest, over, standing}
-use Rattle.lazy_store.specs.Standing.{IsFit, Standing}
+use Rattle.lazy_store.specs.Standing.{IsFit}
 use Rattle.lazy_store.specs.internal.Steps.{GoesAlong}
 use Rattle.lazy_store.proofs.Histories.{at-next, at-up, coherent-from, fit-over, later-more, same-at}
 

@@ -1,6 +1,6 @@
 -- Tables of holders whose line gets one more operation, or loses the oldest ones. Serves the promises on cutting and
 -- settling.
-use Rattle.std.proofs.Common.{◌≡◌, ◌≢◌, ◌∙◌, sym, ap, refl, subst, arith, ℕ, ◌+◌, ◌-◌, ◌<◌, ◌≤◌, ◌⊎◌, inl, inr, le-ltb, nat_eq, Bool, true, false, Result, Ok, Err, Option, Some, None, option_map, option_and_then}
+use Rattle.std.proofs.Common.{◌≡◌, ◌≢◌, ◌∙◌, sym, ap, refl, subst, arith, ℕ, ◌+◌, ◌-◌, ◌<◌, ◌≤◌, ◌⊎◌, inl, inr, le-ltb, nat_eq, true, false, Result, Ok, Err, Option, Some, None, option_map, option_and_then}
 use Rattle.std.proofs.lemmas.Bool.{ltb-false, ltb-true}
 use Rattle.std.specs.HashMap as hash
 use Rattle.std.specs.HashMap.{HashMap}
@@ -13,7 +13,7 @@ use Rattle.shift_core.specs.declared.shift.Shift.{Shift}
 use Rattle.shift_line.specs.Track.{Track, forgotten, last, pushed, with_spare}
 use Rattle.lazy_store.specs.Holders.{AreCoherent, kept_of, kept_under}
 use Rattle.lazy_store.specs.Kept.{IsCoherent, IsSoundLine, Kept, at, later, standing}
-use Rattle.lazy_store.specs.Standing.{Standing, after}
+use Rattle.lazy_store.specs.Standing.{after}
 use Rattle.lazy_store.specs.Store.{AreBehind, StandsAsBefore, StandsOneOn, at_in}
 use Rattle.lazy_store.specs.declared.holder.Holder.{Holder}
 use Rattle.lazy_store.specs.declared.holders.Side.TheVariants.{Before, Beyond}

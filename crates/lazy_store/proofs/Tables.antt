@@ -1,13 +1,13 @@
 -- Tables of holders after one of them changed, and in the order of their keys. Serves the calls that take formulas
 -- along the line.
-use Rattle.std.proofs.Common.{◌≡◌, ◌≢◌, ◌∙◌, sym, ap, refl, subst, arith, ℕ, zero, suc, ◌+◌, ◌<◌, ◌≤◌, ◌⊎◌, inl, inr, ⊎_elim, Bool, true, false, cond, nat_eq, eqb-true, ne_eqb, le-ltb, true≢false, List, [], ◌∷◌, length, map, slice_get, Option, Some, None, option_map, option_and_then}
+use Rattle.std.proofs.Common.{◌≡◌, ◌≢◌, ◌∙◌, sym, ap, refl, subst, arith, ℕ, suc, ◌+◌, ◌<◌, ◌≤◌, ◌⊎◌, inl, inr, Bool, true, false, cond, nat_eq, eqb-true, ne_eqb, le-ltb, true≢false, List, [], ◌∷◌, length, slice_get, Option, Some, None, option_map, option_and_then}
 use Rattle.std.proofs.lemmas.Bool.{cases_eq, cases_lt}
 use Rattle.std.proofs.lemmas.Map.Entries.{length-keys_of}
 use Rattle.std.proofs.lemmas.Option.{none-some, same_Some}
 use Rattle.std.specs.HashMap as hash
 use Rattle.std.specs.HashMap.{HashMap}
 use Rattle.std.specs.Map.{keys_of, lookup}
-use Rattle.shift_line.specs.Track.{Track, last}
+use Rattle.shift_line.specs.Track.{Track}
 use Rattle.lazy_store.specs.Holders.{AreCoherent, kept_of, kept_under}
 use Rattle.lazy_store.specs.Kept.{IsCoherent, Kept, at}
 use Rattle.lazy_store.specs.declared.holder.Holder.{Holder}

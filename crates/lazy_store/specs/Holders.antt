@@ -1,5 +1,5 @@
 -- The formulas of a table of holders. Source: this project's own.
-use Rattle.std.specs.Prelude.{◌≡◌, ◌≢◌, ◌⊎◌, ◌++◌, ℕ, ◌<◌, ◌≤◌, nat_eq, Bool, true, List, Option, Some, None, option_map, option_and_then}
+use Rattle.std.specs.Prelude.{◌≡◌, ◌++◌, ℕ, nat_eq, List, Option, Some, option_map}
 use Rattle.std.specs.BTreeMap as tree
 use Rattle.std.specs.HashMap as hash
 use Rattle.std.specs.HashMap.{HashMap}
@@ -8,7 +8,7 @@ use Rattle.formula_tree.specs.Relative.{relative}
 use Rattle.formula_tree.specs.Term.{Term}
 use Rattle.formula_tree.specs.declared.reference.Ref.{Ref}
 use Rattle.shift_line.specs.Track.{Track}
-use Rattle.lazy_store.specs.Kept.{Kept, IsCoherent, at}
+use Rattle.lazy_store.specs.Kept.{Kept, IsCoherent}
 use Rattle.lazy_store.specs.declared.holder.Holder.{Holder}
 
 -- what is kept in a holder

@@ -1,6 +1,6 @@
 -- What a store keeps of a formula, and the standing that the formula has by it at each position of the line.
 -- Source: this project's own.
-use Rattle.std.specs.Prelude.{◌≡◌, ◌≢◌, ℕ, zero, suc, ◌+◌, ◌-◌, ◌<◌, ◌≤◌, max, nat_lt, if◌then◌else◌, Bool, true, false, Option, Some, None, MatchOption, option_map, option_and_then, unwrap_or}
+use Rattle.std.specs.Prelude.{◌≡◌, ℕ, zero, suc, ◌+◌, ◌-◌, ◌<◌, ◌≤◌, max, nat_lt, if◌then◌else◌, Bool, true, Option, Some, None, MatchOption, option_and_then, unwrap_or}
 use Rattle.formula_tree.specs.StandsFor.{at_home}
 use Rattle.formula_tree.specs.Term.{Term}
 use Rattle.formula_tree.specs.declared.reference.Home.{Home}

@@ -2,7 +2,6 @@
 -- line. Source: this project's own.
 use Rattle.std.specs.Prelude.{◌≡◌, ◌≢◌, ℕ, ◌+◌, ◌<◌, ◌≤◌, max, min, Bool, true, Option, Some, None, option_map, option_and_then}
 use Rattle.std.specs.HashMap as hash
-use Rattle.formula_tree.specs.StandsFor.{at_home}
 use Rattle.formula_tree.specs.Term.{Term}
 use Rattle.formula_tree.specs.declared.reference.Home.{Home}
 use Rattle.formula_tree.specs.declared.reference.Ref.{Ref}

@@ -3,11 +3,10 @@
 use denote.Struct.Props as logic
 use mathlib.Core.HLevel.{collapsible→set}
 use mathlib.Core.Sum.{⊎_set}
-use Rattle.std.proofs.Common.{◌≡◌, ◌∙◌, sym, ap, refl, arith, ℕ, ◌+◌, ◌<◌, List, [], ℤ, pos, ◌⊎◌, inl, inr, Bool, true, false}
+use Rattle.std.proofs.Common.{◌≡◌, ◌∙◌, sym, ap, refl, arith, ℕ, List, [], pos, ◌⊎◌, inl, inr, Bool, true, false}
 use Rattle.std.proofs.Props.{props}
 use Rattle.std.specs.HashMap.{HashMap}
-use Rattle.std.specs.Prelude.{◌≢◌, Option, Some, None, if◌then◌else◌, unsigned_abs}
-use Rattle.cell_addr.specs.Place.{IsInside}
+use Rattle.std.specs.Prelude.{Option, Some, None, unsigned_abs}
 use Rattle.cell_addr.specs.declared.place.Place.{Place}
 use Rattle.formula_tree.specs.Reference.{IsHomeInside, is_fixed}
 use Rattle.formula_tree.specs.Term as tree
@@ -28,8 +27,8 @@ use Rattle.shift_core.specs.Sound.{IsSound}
 use Rattle.shift_core.specs.declared.shift.Shift.{Shift}
 use Rattle.shift_core.specs.declared.shift.Shift.TheVariants.{InsertRows, DeleteRows, InsertCols, DeleteCols, MoveRows, MoveCols, MoveBlock, DropSheet}
 use Rattle.shift_line.specs.Track.{Track}
-use Rattle.tree_rewrite.specs.References.{EachReference, EachReferenceOfAll, FitsSheets, IsAreaInside, IsReferenceInside}
-use Rattle.lazy_store.specs.Holders.{AreCoherent, kept_of}
+use Rattle.tree_rewrite.specs.References.{EachReferenceOfAll, FitsSheets, IsAreaInside, IsReferenceInside}
+use Rattle.lazy_store.specs.Holders.{AreCoherent}
 use Rattle.lazy_store.specs.Kept.{IsCoherent, IsSavedAt, IsSoundLine, Kept}
 use Rattle.lazy_store.specs.Standing.{IsFit, IsSavedOver, Standing}
 use Rattle.lazy_store.specs.declared.holder.Holder.{Holder}

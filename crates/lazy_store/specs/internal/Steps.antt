@@ -1,5 +1,5 @@
 -- What the steps of a holder along the line do to what it keeps.
-use Rattle.std.specs.Prelude.{◌≡◌, ◌≢◌, ℕ, ◌+◌, ◌<◌, ◌≤◌, Option, Some, None}
+use Rattle.std.specs.Prelude.{◌≡◌, ◌≢◌, ℕ, ◌+◌, ◌<◌, ◌≤◌, Some, None}
 use Rattle.shift_core.specs.declared.shift.Shift.{Shift}
 use Rattle.shift_line.specs.Track.{Track}
 use Rattle.lazy_store.specs.Kept.{Kept, IsCoherent, at, standing}

@@ -1,4 +1,3 @@
-use Rattle.std.proofs.Common.{◌≡◌, hash_map_len}
 use Rattle.formula_tree.specs.Pooled.{held}
 use Rattle.lazy_store.specs.Holders.{IsFront}
 use Rattle.lazy_store.specs.internal.Sweeps.{ArePlaced, Sweeps}

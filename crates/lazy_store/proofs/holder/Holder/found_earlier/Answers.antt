@@ -1,4 +1,4 @@
-use Rattle.std.proofs.Common.{◌≡◌, ◌∙◌, sym, ap, refl, arith, ◌-◌, Some}
+use Rattle.std.proofs.Common.{◌≡◌, ◌∙◌, sym, ap, refl, arith, Some}
 use Rattle.formula_tree.specs.Pooled.{held}
 use Rattle.formula_tree.specs.Relative.{relative}
 use Rattle.lazy_store.specs.Holders.{kept_of}

@@ -1,4 +1,4 @@
-use Rattle.std.proofs.Common.{◌≡◌, ◌≤◌, ◌∙◌, ap, sym, arith, le-ltb, option_map}
+use Rattle.std.proofs.Common.{◌≤◌, ◌∙◌, ap, sym, arith, le-ltb, option_map}
 use Rattle.shift_line.specs.Track.{last}
 use Rattle.lazy_store.specs.declared.holders.Side.TheVariants.{Before}
 use Rattle.lazy_store.proofs.Positions.{cut-positions, swept-positions}
