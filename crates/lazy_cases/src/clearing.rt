@@ -1,8 +1,7 @@
 // Formulas dropped that stand in the way of an operation, or of settling.
-ghost use Rattle.std.specs.Prelude.{◌≡◌, ◌≢◌, ℕ, ◌<◌, true, None, Some, OnOk};
-ghost use Rattle.lazy_cases.specs.Few.{AreFew};
-ghost use Rattle.lazy_store.specs.Kept.{Kept, at};
-ghost use Rattle.lazy_store.specs.Store.{CanComeBack, CanGoOn, KeepsOthers, kept_in};
+ghost use Rattle.std.specs.Prelude.{◌≡◌, true, None, IfOk, OnOk};
+ghost use Rattle.lazy_cases.specs.Ways.{AreFew, ComesBack, GoesOn};
+ghost use Rattle.lazy_store.specs.Store.{CanComeBack, CanGoOn, KeepsOthers, kept_in, position_in};
 
 use crate::guarded::IDS;
 use formula_tree::Pool;
@@ -24,20 +23,34 @@ pub(crate) fn clear_beyond(store: &mut Lazy, pool: &mut Pool) -> Result<(), Allo
 
 // Drops the formula under the id where it is kept as of a position beyond the cursor and can't come back to it.
 fn clear_way_back(store: &mut Lazy, pool: &mut Pool, id: u64) -> Result<(), AllocError>
-    ensures back { OnOk result ((h : Kept) → kept_in store.new id ≡ Some h → store.old.line.cursor < h.position → (h.live ≡ true) × (at store.old.line h store.old.line.cursor ≢ None)) }
+    ensures back { OnOk result (ComesBack store.new id) }
     ensures others { KeepsOthers id store.old store.new }
     ensures line { store.new.line ≡ store.old.line }
 {
-    let cursor = store.line().cursor();
-    match store.stored(id) {
-        Some(stored) if cursor < stored.position => {}
-        _ => return Ok(()),
-    }
-    if store.is_live(id) == Some(true) && store.tree_at(pool, id, cursor)?.is_some() {
+    if can_come_back(store, pool, id)? {
         return Ok(());
     }
     drop_formula(store, id);
     Ok(())
+}
+
+// Whether the formula under the id is kept as of a position up to the cursor, or can come back to it; so it does where
+// there is none.
+fn can_come_back(store: &Lazy, pool: &mut Pool, id: u64) -> Result<bool, AllocError>
+    ensures { IfOk result (λ can. can ≡ true → ComesBack store.now id) }
+{
+    let cursor = store.line().cursor();
+    let Some(kept) = position_of(store, id) else {
+        return Ok(true);
+    };
+    if kept <= cursor {
+        return Ok(true);
+    }
+    if store.is_live(id) != Some(true) {
+        return Ok(false);
+    }
+    let found = store.tree_at(pool, id, cursor)?;
+    Ok(found.is_some())
 }
 
 /// Drops each formula that is kept as of a position before this one and has no tree here.
@@ -59,19 +72,38 @@ pub(crate) fn clear_before(
 
 // Drops the formula under the id where it is kept as of a position before this one and has no tree here.
 fn clear_way_on(store: &mut Lazy, pool: &mut Pool, id: u64, position: u64) -> Result<(), AllocError>
-    ensures on { OnOk result ((h : Kept) → kept_in store.new id ≡ Some h → h.position < position → at store.old.line h position ≢ None) }
+    ensures on { OnOk result (GoesOn position store.new id) }
     ensures others { KeepsOthers id store.old store.new }
     ensures line { store.new.line ≡ store.old.line }
 {
-    match store.stored(id) {
-        Some(stored) if stored.position < position => {}
-        _ => return Ok(()),
-    }
-    if store.tree_at(pool, id, position)?.is_some() {
+    if can_go_on(store, pool, id, position)? {
         return Ok(());
     }
     drop_formula(store, id);
     Ok(())
+}
+
+// Whether the formula under the id is kept as of this position or a later one, or has a tree here; so it does where there
+// is none.
+fn can_go_on(store: &Lazy, pool: &mut Pool, id: u64, position: u64) -> Result<bool, AllocError>
+    ensures { IfOk result (λ can. can ≡ true → GoesOn position store.now id) }
+{
+    let Some(kept) = position_of(store, id) else {
+        return Ok(true);
+    };
+    if position <= kept {
+        return Ok(true);
+    }
+    let found = store.tree_at(pool, id, position)?;
+    Ok(found.is_some())
+}
+
+// As of which position the formula is kept.
+fn position_of(store: &Lazy, id: u64) -> Option<u64>
+    ensures { result ≡ position_in store.now id }
+{
+    let stored = store.stored(id)?;
+    Some(stored.position)
 }
 
 // Drops the formula under the id, live or removed.

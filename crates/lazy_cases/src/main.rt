@@ -52,10 +52,10 @@ impl Group {
     fn holds(self, alloc: Global) -> Result<bool, AllocError> {
         match self {
             Group::Line => rows::a_line_is_cut_and_forgotten(alloc),
-            Group::Read => rows::a_formula_is_read_and_settled(alloc),
-            Group::Lost => rows::a_lost_reference_comes_back(alloc),
-            Group::Clipped => rows::a_clipped_block_is_whole_again(alloc),
-            Group::Removed => rows::a_removed_formula_catches_up(alloc),
+            Group::Read => rows::all_hold(alloc, &rows::READ_AND_SETTLED),
+            Group::Lost => rows::all_hold(alloc, &rows::LOST_AND_BACK),
+            Group::Clipped => rows::all_hold(alloc, &rows::CLIPPED_AND_WHOLE),
+            Group::Removed => rows::all_hold(alloc, &rows::REMOVED_AND_BACK),
             Group::Room => rows::room_is_kept(alloc),
         }
     }

@@ -95,18 +95,38 @@ impl Pair {
 
     /// Compares the line, and all formulas at all positions and just beside them.
     pub(crate) fn compare(&mut self, tally: &mut Tally) -> Result<(), AllocError> {
-        let line = self.store.store().line();
-        let (first, cursor, last) = self.positions();
-        tally.compare((line.first(), line.cursor(), line.last()) == (first, cursor, last));
+        self.compare_line(tally);
+        let (first, _, last) = self.positions();
         'formulas: for id in 0..IDS {
             self.compare_kept(id, tally);
             'positions: for position in first.saturating_sub(1)..last.saturating_add(2) {
-                let found = self.store.store().tree_at(&mut self.pool, id, position)?;
-                let wanted = self.plain.formula(id).and_then(|f| f.at(position));
-                tally.compare(is_same(wanted, found.as_ref()));
+                self.compare_standing(id, position, tally)?;
                 self.compare_saved(id, position, tally);
             }
         }
+        Ok(())
+    }
+
+    // Compares the positions of the line.
+    fn compare_line(&self, tally: &mut Tally) {
+        let line = self.store.store().line();
+        let positions = (line.first(), line.cursor(), line.last());
+        tally.compare(positions == self.positions());
+    }
+
+    // Compares home and tree of the formula at the position.
+    fn compare_standing(
+        &mut self,
+        id: u64,
+        position: u64,
+        tally: &mut Tally,
+    ) -> Result<(), AllocError> {
+        let found = self.store.store().tree_at(&mut self.pool, id, position)?;
+        let wanted = match self.plain.formula(id) {
+            Some(formula) => formula.at(position),
+            None => None,
+        };
+        tally.compare(is_same(wanted, found.as_ref()));
         Ok(())
     }
 
