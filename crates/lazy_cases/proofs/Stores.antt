@@ -6,7 +6,7 @@ use Rattle.shift_line.specs.Track.{Track}
 use Rattle.lazy_cases.specs.Ways.{AreFew, ComesBack, GoesOn}
 use Rattle.lazy_cases.specs.declared.guarded.TheConstants.{IDS}
 use Rattle.lazy_store.specs.Kept.{Kept, at}
-use Rattle.lazy_store.specs.Store.{CanComeBack, CanGoOn, KeepsOthers, kept_in, live_in}
+use Rattle.lazy_store.specs.Store.{CanComeBack, CanGoOn, KeepsOthers, kept_in}
 use Rattle.lazy_store.specs.declared.lazy.Lazy.{Lazy}
 
 -- a formula under a small id changed, came or left
@@ -14,10 +14,6 @@ pub others-few : (id : ℕ) (old new : Lazy) → KeepsOthers id old new → id <
 others-few id old new others under few other from =
     let apart : other ≢ id = λ e. omega (arith, e, under, from) in
     ap (option_map (λ h. h.live)) (others other apart) ∙ few other from
-
--- the same formulas are live
-pub live-few : (old new : Lazy) → ((id : ℕ) → live_in new id ≡ live_in old id) → AreFew old → AreFew new
-live-few old new same few id from = same id ∙ few id from
 
 -- what holds of the ids gone by holds of one more
 module _ (id : ℕ) (old new : Lazy) (others : KeepsOthers id old new) (line : new.line ≡ old.line) where

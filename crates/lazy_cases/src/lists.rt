@@ -10,7 +10,7 @@ use formula_tree::Home;
 use std::alloc::{AllocError, Global};
 
 // How many lists there are, and how many calls in each.
-const LISTS: u64 = 24;
+const LISTS: u64 = 20;
 
 const CALLS: u32 = 300;
 
@@ -58,14 +58,14 @@ const KINDS: [Kind; 24] = [
     Kind::Read,
     Kind::Read,
     Kind::Read,
-    Kind::Read,
     Kind::Shift,
     Kind::Shift,
     Kind::Shift,
     Kind::Shift,
     Kind::Shift,
     Kind::Shift,
-    Kind::Shift,
+    Kind::MoveCursor,
+    Kind::MoveCursor,
     Kind::MoveCursor,
     Kind::MoveCursor,
     Kind::MoveCursor,
@@ -103,8 +103,8 @@ fn make_call(pair: &mut Pair, chance: &mut Chance, tally: &mut Tally) -> Result<
         Some(Kind::MoveCursor) => pair.move_cursor(near_cursor(pair, chance)),
         Some(Kind::Settle) => {
             let (first, cursor, _) = pair.positions();
-            let steps = u64::from(chance.below(5));
-            pair.settle(first.saturating_add(steps).min(cursor))?;
+            let position = first.saturating_add(up_to(chance, cursor.saturating_sub(first)));
+            pair.settle(position)?;
         }
         None => {}
     }
@@ -117,11 +117,17 @@ fn any_of<T: Copy>(chance: &mut Chance, items: &[T]) -> Option<T> {
     items.get(chance.below(count) as usize).copied()
 }
 
+// A number up to this one.
+fn up_to(chance: &mut Chance, most: u64) -> u64 {
+    let bound = u32::try_from(most).unwrap_or(u32::MAX).saturating_add(1);
+    u64::from(chance.below(bound))
+}
+
 // A position at most eight operations from the cursor.
 fn near_cursor(pair: &Pair, chance: &mut Chance) -> u64 {
     let (first, cursor, last) = pair.positions();
     let steps = u64::from(chance.below(9));
-    match chance.below(3) {
+    match chance.below(2) {
         0 => cursor.saturating_sub(steps).max(first),
         _ => cursor.saturating_add(steps).min(last),
     }

@@ -104,7 +104,7 @@ fn run_cases(rt: &HostRuntime) -> io::Result<bool> {
 // How a group's calls ended.
 fn said(end: &Result<bool, AllocError>) -> &'static str {
     match end {
-        Ok(true) => "as they should",
+        Ok(true) => "as it should",
         Ok(false) => "otherwise",
         Err(_) => "no memory",
     }
