@@ -1,0 +1,148 @@
+// Random lists of calls.
+
+use crate::chance::Chance;
+use crate::guarded::{Change, IDS};
+use crate::pair::Pair;
+use crate::shifts::any_shift;
+use crate::tally::Tally;
+use cell_addr::{NO_SHEET, Place};
+use formula_tree::Home;
+use std::alloc::{AllocError, Global};
+
+// How many lists there are, and how many calls in each.
+const LISTS: u64 = 20;
+
+const CALLS: u32 = 300;
+
+// The formulas that are put into the store: references and blocks with `$` and without, on their own sheet and another
+// one, at the ends of a sheet too.
+const TEXTS: [&str; 14] = [
+    "=B5",
+    "=$C$3+1",
+    "=A1*-D7%",
+    "=SUM(B2:B9)",
+    "=SUM(A1:C4,$B$6:$D$11)",
+    "=One!B4&\"x\"",
+    "=SUM(One!A2:D7)",
+    "=IF(A3>B$8,C2,#REF!)",
+    "=B40000",
+    "=SUM(B1:B40000)",
+    "=ZZZ2",
+    "=MAX(A2:ZZZ3)",
+    "=total+B2",
+    "=12.5",
+];
+
+// A kind of call.
+#[derive(Clone, Copy)]
+enum Kind {
+    Insert,
+    Change(Change),
+    Read,
+    Shift,
+    MoveCursor,
+    Settle,
+}
+
+// The kinds, each as often as it is to come.
+const KINDS: [Kind; 24] = [
+    Kind::Insert,
+    Kind::Insert,
+    Kind::Insert,
+    Kind::Change(Change::Remove),
+    Kind::Change(Change::Remove),
+    Kind::Change(Change::PutBack),
+    Kind::Change(Change::PutBack),
+    Kind::Change(Change::Forget),
+    Kind::Read,
+    Kind::Read,
+    Kind::Read,
+    Kind::Read,
+    Kind::Shift,
+    Kind::Shift,
+    Kind::Shift,
+    Kind::Shift,
+    Kind::Shift,
+    Kind::Shift,
+    Kind::MoveCursor,
+    Kind::MoveCursor,
+    Kind::MoveCursor,
+    Kind::MoveCursor,
+    Kind::MoveCursor,
+    Kind::Settle,
+];
+
+/// Makes lists of calls on a store and on the plain machine, and compares both after each call.
+pub(crate) fn run_lists(alloc: Global) -> Result<Tally, AllocError> {
+    let mut tally = Tally::default();
+    'lists: for seed in 0..LISTS {
+        let mut chance = Chance::new(seed);
+        let mut pair = Pair::new(alloc)?;
+        'calls: for _ in 0..CALLS {
+            make_call(&mut pair, &mut chance, &mut tally)?;
+            pair.compare(&mut tally)?;
+            tally.calls = tally.calls.saturating_add(1);
+        }
+        tally.lists = tally.lists.saturating_add(1);
+    }
+    Ok(tally)
+}
+
+// Makes some call.
+fn make_call(pair: &mut Pair, chance: &mut Chance, tally: &mut Tally) -> Result<(), AllocError> {
+    let id = u64::from(chance.below(IDS as u32));
+    match any_of(chance, &KINDS) {
+        Some(Kind::Insert) => {
+            let home = any_home(chance);
+            let text = any_of(chance, &TEXTS).unwrap_or("");
+            pair.insert(id, home, text)?;
+        }
+        Some(Kind::Change(change)) => pair.change(change, id),
+        Some(Kind::Read) => pair.read(id, tally)?,
+        Some(Kind::Shift) => pair.shift(any_shift(chance))?,
+        Some(Kind::MoveCursor) => pair.move_cursor(near_cursor(pair, chance)),
+        Some(Kind::Settle) => {
+            let (first, cursor, _) = pair.positions();
+            let position = first.saturating_add(up_to(chance, cursor.saturating_sub(first)));
+            pair.settle(position)?;
+        }
+        None => {}
+    }
+    Ok(())
+}
+
+// One of the items.
+fn any_of<T: Copy>(chance: &mut Chance, items: &[T]) -> Option<T> {
+    let count = u32::try_from(items.len()).ok()?;
+    items.get(chance.below(count) as usize).copied()
+}
+
+// A number up to this one.
+fn up_to(chance: &mut Chance, most: u64) -> u64 {
+    let bound = u32::try_from(most).unwrap_or(u32::MAX).saturating_add(1);
+    u64::from(chance.below(bound))
+}
+
+// A position at most eight operations from the cursor.
+fn near_cursor(pair: &Pair, chance: &mut Chance) -> u64 {
+    let (first, cursor, last) = pair.positions();
+    let steps = u64::from(chance.below(9));
+    match chance.below(2) {
+        0 => cursor.saturating_sub(steps).max(first),
+        _ => cursor.saturating_add(steps).min(last),
+    }
+}
+
+// The home of a cell, or of a name.
+fn any_home(chance: &mut Chance) -> Home {
+    let sheet = chance.below(2);
+    match chance.below(8) {
+        0 => Home::Name { sheet },
+        1 => Home::Name { sheet: NO_SHEET },
+        _ => Home::Cell(Place {
+            sheet,
+            row: chance.below(12),
+            col: chance.below(5),
+        }),
+    }
+}

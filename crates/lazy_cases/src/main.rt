@@ -1,0 +1,111 @@
+//! Formulas along a line of operations, beside whole trees that every operation rewrites at once.
+//!
+//! It makes calls whose answers are known, and random lists of calls, each on a store of lazy formulas and on the plain
+//! machine, and compares all formulas at all positions after each call. It prints a line for each group of calls. The
+//! status is 0 where all answers agree, and else 1.
+//!
+//! With the words `bench`, a number of formulas and a number of operations it times a store for `bench/lazy.py`.
+#![tactic(auto)]
+
+mod bench;
+mod chance;
+mod clearing;
+mod guarded;
+mod known;
+mod lists;
+mod onward;
+mod pair;
+mod plain;
+mod reading;
+mod rows;
+mod shifts;
+mod tally;
+mod whole;
+
+use lists::run_lists;
+use std::alloc::{AllocError, Global};
+use std::process::ExitCode;
+use std::{env, io};
+
+// A group of calls.
+#[derive(Clone, Copy)]
+enum Group {
+    Line,
+    Read,
+    Lost,
+    Clipped,
+    Removed,
+    Room,
+}
+
+impl Group {
+    const ALL: [(Group, &'static str); 6] = [
+        (Group::Line, "a line is cut and forgotten"),
+        (Group::Read, "a formula is read, looked up and settled"),
+        (Group::Lost, "a lost reference comes back"),
+        (Group::Clipped, "a clipped block is whole again"),
+        (Group::Removed, "a removed formula catches up"),
+        (Group::Room, "room is kept"),
+    ];
+
+    // Whether its calls answer as they should.
+    fn holds(self, alloc: Global) -> Result<bool, AllocError> {
+        match self {
+            Group::Line => rows::a_line_is_cut_and_forgotten(alloc),
+            Group::Read => rows::all_hold(alloc, &rows::READ_AND_SETTLED),
+            Group::Lost => rows::all_hold(alloc, &rows::LOST_AND_BACK),
+            Group::Clipped => rows::all_hold(alloc, &rows::CLIPPED_AND_WHOLE),
+            Group::Removed => rows::all_hold(alloc, &rows::REMOVED_AND_BACK),
+            Group::Room => rows::room_is_kept(alloc),
+        }
+    }
+}
+
+fn main(rt: HostRuntime) -> ExitCode {
+    match run(&rt) {
+        Ok(true) => ExitCode::SUCCESS,
+        Ok(false) | Err(_) => ExitCode::FAILURE,
+    }
+}
+
+// Runs what the words after the program's name say.
+fn run(rt: &HostRuntime) -> io::Result<bool> {
+    let mut words = env::args(rt)?;
+    let _program = words.next();
+    match words.next() {
+        None => run_cases(rt),
+        Some(word) if word.as_str() == "bench" => {
+            let formulas = number(words.next());
+            let operations = number(words.next());
+            bench::run_bench(rt, formulas, operations)
+        }
+        Some(_) => Ok(false),
+    }
+}
+
+// The number that a word spells; 0 where it spells none.
+fn number(word: Option<String>) -> u64 {
+    word.and_then(|w| w.parse::<u64>().ok()).unwrap_or(0)
+}
+
+// Whether all calls answered as they should.
+fn run_cases(rt: &HostRuntime) -> io::Result<bool> {
+    let mut all = true;
+    for (group, shows) in Group::ALL {
+        let end = group.holds(rt.alloc());
+        println!(rt; "{shows}: {}", said(&end))?;
+        all = all && end == Ok(true);
+    }
+    let tally = run_lists(rt.alloc())?;
+    println!(rt; "{tally}")?;
+    Ok(all && tally.differences == 0)
+}
+
+// How a group's calls ended.
+fn said(end: &Result<bool, AllocError>) -> &'static str {
+    match end {
+        Ok(true) => "as it should",
+        Ok(false) => "otherwise",
+        Err(_) => "no memory",
+    }
+}

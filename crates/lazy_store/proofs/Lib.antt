@@ -1,0 +1,10 @@
+pub mod Histories
+pub mod Passing
+pub mod Reaching
+pub mod Lines
+pub mod Tables
+pub mod Stepping
+pub mod Stores
+pub mod Facts
+pub mod Changes
+pub mod Positions

@@ -1,0 +1,12 @@
+use Rattle.formula_tree.specs.Pooled.{held}
+use Rattle.formula_tree.specs.Relative.{relative}
+use Rattle.lazy_store.proofs.Stepping.{front-changed}
+use Rattle.lazy_store.proofs.holder.Holder.go_on.Goals as goal
+
+pub returns-in_err-save-clause-pool : goal.returns-in_err-save-clause-pool
+returns-in_err-save-clause-pool c =
+    front-changed (held c.args.pool.now) (held c.forward.new.pool) (relative c.args.self.now.tree.value) (relative c.in_ok-tree.tree.value) c.in_ok-tree.ensures.held
+
+pub returns-clause-pool : goal.returns-clause-pool
+returns-clause-pool c =
+    front-changed (held c.args.pool.now) (held c.forward.new.pool) (relative c.args.self.now.tree.value) (relative c.in_ok-tree.tree.value) c.in_ok-tree.ensures.held

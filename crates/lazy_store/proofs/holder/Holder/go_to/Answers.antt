@@ -1,0 +1,81 @@
+use Rattle.std.proofs.Common.{◌≡◌, ◌∙◌, sym, ap, refl, subst, arith, ◌-◌, max}
+use Rattle.formula_tree.specs.Pooled.{held}
+use Rattle.shift_line.specs.Track.{shift_at}
+use Rattle.lazy_store.specs.Holders.{kept_of}
+use Rattle.lazy_store.specs.Kept.{history, lowest, standing}
+use Rattle.lazy_store.specs.internal.Steps.{GoesAlong}
+use Rattle.lazy_store.proofs.Passing.{back-home, goes-back, goes-on}
+use Rattle.lazy_store.proofs.Reaching.{reaches, went-along}
+use Rattle.lazy_store.proofs.Stepping.{front-refl, front-trans, lowest-below}
+use Rattle.lazy_store.proofs.holder.Holder.go_to.Goals as goal
+
+pub forward-init : goal.forward-init
+forward-init c = record {
+  along = reaches c.args.line.now (kept_of c.args.self.now) c.requires.sound c.requires.coherent c.args.position c.requires.there;
+  birth = refl;
+  live = refl;
+  pool = front-refl (held c.args.pool.now);
+}
+
+pub forward-preserved : goal.forward-preserved
+forward-preserved c =
+    let line = c.args.line.now in
+    let h = kept_of c.args.self.now in
+    let so_far = c.forward.invariant in
+    let goes = c.in_ok-go_on.ensures.ok in
+    record {
+      along = goes-on line (lowest line h) (max h.position c.args.position) (history line h) (kept_of c.forward.self) (kept_of c.go_on.new.self) c.in-Some.s so_far.along (sym c.in-Some.ensures) (omega (arith, c.forward-test.true)) goes;
+      birth = goes.birth ∙ so_far.birth;
+      live = goes.live ∙ so_far.live;
+      pool = front-trans (held c.args.pool.now) (held c.forward.pool) (held c.go_on.new.pool) so_far.pool c.go_on.ensures.pool;
+    }
+
+pub returns-in_err-go_on-clause-along : goal.returns-in_err-go_on-clause-along
+returns-in_err-go_on-clause-along c =
+    let line = c.args.line.now in
+    let h = kept_of c.args.self.now in
+    let so_far = c.forward.invariant in
+    subst (GoesAlong line h) (sym c.in_err-go_on.ensures.err)
+    (went-along line c.args.position h (kept_of c.forward.self) c.requires.sound c.requires.coherent c.requires.there c.requires.within so_far.along so_far.birth so_far.live)
+
+pub go_back-requires-clause-kept : goal.go_back-requires-clause-kept
+go_back-requires-clause-kept c =
+    let line = c.args.line.now in
+    let h = kept_of c.args.self.now in
+    let so_far = c.back.invariant in
+    let least = lowest-below line h c.args.position c.requires.coherent c.requires.there in
+    back-home line c.requires.sound (lowest line h) (max h.position c.args.position) (history line h) (kept_of c.back.self) so_far.along c.back.self.position c.in-Some-at.s (standing (kept_of c.back.self))
+    (omega (arith, least, c.back-test.true)) (omega arith) (sym c.in-Some-at.ensures) so_far.along.here
+
+pub back-preserved : goal.back-preserved
+back-preserved c =
+    let line = c.args.line.now in
+    let h = kept_of c.args.self.now in
+    let so_far = c.back.invariant in
+    let least = lowest-below line h c.args.position c.requires.coherent c.requires.there in
+    let goes = c.in_ok-go_back.ensures.ok in
+    let step = goes.position in
+    let place : c.go_back.new.self.position ≡ c.back.self.position - 1 = omega (arith, step) in
+    record {
+      along = goes-back line (lowest line h) (max h.position c.args.position) (history line h) (kept_of c.back.self) (kept_of c.go_back.new.self) c.in-Some-at.s c.requires.sound so_far.along
+          (ap (shift_at line) place ∙ sym c.in-Some-at.ensures) (omega (arith, least, c.back-test.true)) goes;
+      birth = goes.birth ∙ so_far.birth;
+      live = goes.live ∙ so_far.live;
+      past = omega (arith, step, c.back-test.true);
+      pool = front-trans (held c.args.pool.now) (held c.back.pool) (held c.go_back.new.pool) so_far.pool c.go_back.ensures.pool;
+    }
+
+pub returns-in_err-go_back-clause-along : goal.returns-in_err-go_back-clause-along
+returns-in_err-go_back-clause-along c =
+    let line = c.args.line.now in
+    let h = kept_of c.args.self.now in
+    let so_far = c.back.invariant in
+    subst (GoesAlong line h) (sym c.in_err-go_back.ensures.err)
+    (went-along line c.args.position h (kept_of c.back.self) c.requires.sound c.requires.coherent c.requires.there c.requires.within so_far.along so_far.birth so_far.live)
+
+pub returns-clause-along : goal.returns-clause-along
+returns-clause-along c =
+    let line = c.args.line.now in
+    let h = kept_of c.args.self.now in
+    let so_far = c.back.invariant in
+    went-along line c.args.position h (kept_of c.back.self) c.requires.sound c.requires.coherent c.requires.there c.requires.within so_far.along so_far.birth so_far.live

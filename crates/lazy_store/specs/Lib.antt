@@ -1,0 +1,6 @@
+pub mod Standing
+pub mod Kept
+pub mod Holders
+pub mod Store
+pub mod Laws
+pub mod internal

@@ -1,0 +1,4 @@
+-- What only the proofs of bodies need.
+pub mod Props
+pub mod Steps
+pub mod Sweeps

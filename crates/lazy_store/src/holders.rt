@@ -1,0 +1,125 @@
+// The formulas of a store, taken along the line one after the other.
+ghost use Rattle.std.specs.Prelude.{◌≡◌, ◌≢◌, ℕ, ◌≤◌, true, false, Some, None, IfSome, OnOk, IsOk, nat_eq, option_map, slice_get};
+ghost use Rattle.std.specs.HashMap as hash;
+ghost use Rattle.formula_tree.specs.Pooled.{held};
+ghost use Rattle.shift_line.specs.Track.{last};
+ghost use Rattle.lazy_store.specs.Holders.{AreCoherent, IsFront, kept_under};
+ghost use Rattle.lazy_store.specs.Kept.{IsSoundLine, Kept, at};
+ghost use Rattle.lazy_store.specs.internal.Sweeps.{ArePlaced, Brings, Cuts, CutsAll, Sweeps, is_off};
+
+use crate::holder::Holder;
+use formula_tree::Pool;
+use indexmap::IndexMap;
+use shift_line::Line;
+use std::alloc::{AllocError, Global};
+
+// Which formulas are taken to a position.
+#[derive(Clone, Copy)]
+pub(crate) enum Side {
+    // Those that are kept as of one before it.
+    Before,
+    // Those that are kept as of one beyond it.
+    Beyond,
+}
+
+impl Side {
+    // Whether a formula that is kept as of the second position is to be taken to the first.
+    fn is_off(self, position: u64, kept: u64) -> bool
+        ensures { result ≡ is_off self position kept }
+    {
+        match self {
+            Side::Before => kept < position,
+            Side::Beyond => position < kept,
+        }
+    }
+}
+
+// Takes the formula under the id to the position.
+pub(crate) fn bring(
+    alloc: Global,
+    holders: &mut IndexMap<u64, Holder>,
+    line: &Line,
+    pool: &mut Pool,
+    id: u64,
+    position: u64,
+) -> Result<(), AllocError>
+    requires sound { IsSoundLine line.now }
+    requires coherent { AreCoherent line.now holders.old }
+    requires within { position ≤ last line.now }
+    requires there { (h : Kept) → kept_under holders.old id ≡ Some h → at line.now h position ≢ None }
+    ensures brings { Brings line.now id holders.old holders.new }
+    ensures ok { OnOk result ((h : Kept) → kept_under holders.new id ≡ Some h → h.position ≡ position) }
+    ensures pool { IsFront (held pool.old) (held pool.new) }
+{
+    match holders.get_mut(&id) {
+        Some(holder) => holder.go_to(alloc, pool, line, position),
+        None => Ok(()),
+    }
+}
+
+// The id of the formula at the index, where it is to be taken to the position.
+fn off_at(holders: &IndexMap<u64, Holder>, index: usize, side: Side, position: u64) -> Option<u64>
+    ensures off { IfSome result (λ id. slice_get (hash.keys holders.now) index ≡ Some id) }
+    ensures there { IfSome result (λ id. hash.get nat_eq holders.now id ≢ None) }
+    ensures kept { IfSome result (λ id. (h : Kept) → kept_under holders.now id ≡ Some h → is_off side position h.position ≡ true) }
+    ensures none { result ≡ None → (id : ℕ) (h : Kept) → slice_get (hash.keys holders.now) index ≡ Some id → kept_under holders.now id ≡ Some h → is_off side position h.position ≡ false }
+{
+    let (id, holder) = holders.get_index(index)?;
+    side.is_off(position, holder.position).then_some(*id)
+}
+
+// Takes all formulas of a side to the position. For want of memory some may be there.
+pub(crate) fn bring_all(
+    alloc: Global,
+    holders: &mut IndexMap<u64, Holder>,
+    line: &Line,
+    pool: &mut Pool,
+    side: Side,
+    position: u64,
+) -> Result<(), AllocError>
+    requires sound { IsSoundLine line.now }
+    requires coherent { AreCoherent line.now holders.old }
+    requires within { position ≤ last line.now }
+    requires there { (id : ℕ) (h : Kept) → kept_under holders.old id ≡ Some h → is_off side position h.position ≡ true → at line.now h position ≢ None }
+    ensures sweeps { Sweeps line.now side position holders.old holders.new }
+    ensures ok { OnOk result ((id : ℕ) (h : Kept) → kept_under holders.new id ≡ Some h → is_off side position h.position ≡ false) }
+    ensures placed { OnOk result (ArePlaced position holders.old holders.new) }
+    ensures free { ((id : ℕ) (h : Kept) → kept_under holders.old id ≡ Some h → is_off side position h.position ≡ false) → IsOk result }
+    ensures pool { IsFront (held pool.old) (held pool.new) }
+{
+    'holders: for index in 0..holders.len() {
+        if let Some(id) = off_at(holders, index, side, position) {
+            bring(alloc, holders, line, pool, id, position)?;
+        }
+    }
+    Ok(())
+}
+
+// The id of the formula at the index.
+fn id_at(holders: &IndexMap<u64, Holder>, index: usize) -> Option<u64>
+    ensures { result ≡ slice_get (hash.keys holders.now) index }
+{
+    let (id, _) = holders.get_index(index)?;
+    Some(*id)
+}
+
+// Drops the trees of the formula under the id that were saved before the position.
+fn cut(holders: &mut IndexMap<u64, Holder>, id: u64, position: u64)
+    ensures { Cuts position id holders.old holders.new }
+{
+    if let Some(holder) = holders.get_mut(&id) {
+        holder.drop_saved(position);
+    }
+}
+
+// Drops the trees of all formulas that were saved before the position.
+pub(crate) fn cut_all(holders: &mut IndexMap<u64, Holder>, position: u64)
+    ensures cuts { CutsAll position holders.old holders.new }
+    ensures spare { hash.spare holders.new ≡ hash.spare holders.old }
+{
+    'holders: for index in 0..holders.len() {
+        if let Some(id) = id_at(holders, index) {
+            cut(holders, id, position);
+        }
+    }
+}
