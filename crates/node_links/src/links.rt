@@ -18,8 +18,8 @@ pub struct Links {
     needs: Vec<Vec<usize>>,
     // Which nodes need each node.
     users: Users,
-    ghost counts: { length users.sets.items ≡ length needs.items },
-    ghost exact: { (a b : ℕ) → is_in users.sets.items b a ≡ has b (needs_at needs.items a) },
+    pub ghost counts: { length users.sets.items ≡ length needs.items },
+    pub ghost exact: { (a b : ℕ) → is_in users.sets.items b a ≡ has b (needs_at needs.items a) },
     pub ghost known: { (a b : ℕ) → has b (needs_at needs.items a) ≡ true → b < length needs.items },
 }
 
