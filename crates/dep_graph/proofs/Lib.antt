@@ -6,3 +6,5 @@ pub mod Picking
 pub mod Reaching
 pub mod Ordering
 pub mod Listing
+pub mod Copying
+pub mod Bending

@@ -2,4 +2,5 @@ pub mod Nodes
 pub mod Needs
 pub mod Walks
 pub mod Graph
+pub mod Bent
 pub mod internal

@@ -4,3 +4,4 @@ pub mod Numbers
 pub mod Nets
 pub mod Arrows
 pub mod Walked
+pub mod BentNumbers

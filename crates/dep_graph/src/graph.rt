@@ -42,4 +42,14 @@ impl Graph {
     {
         self.net.unlink(a);
     }
+
+    /// An equal graph. Costs about the number of nodes and links, and that of the slots of the used ranges. Errs for want
+    /// of memory.
+    pub fn copied(&self) -> Result<Graph, AllocError>
+        ensures { IfOk result (λ graph. AreSame (links_of self.now) (links_of graph)) }
+    {
+        Ok(Graph {
+            net: self.net.copied()?,
+        })
+    }
 }

@@ -19,6 +19,8 @@
 #![tactic(auto)]
 
 mod arrows;
+mod bent;
+mod copy;
 mod graph;
 mod net;
 mod node;
