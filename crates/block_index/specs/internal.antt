@@ -1,0 +1,2 @@
+-- What only the definition of slots and the proofs of bodies need.
+pub mod Keys

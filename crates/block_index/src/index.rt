@@ -1,0 +1,178 @@
+// Numbers filed under the slots of blocks.
+ghost use Rattle.std.specs.Prelude.{◌≡◌, ◌+◌, ◌<◌, ◌^◌, ◌++◌, ◌∷◌, ℕ, [], true, false, position, length, slice_set, IfOk, OnOk, OnErr};
+ghost use Rattle.std.specs.Option.{option_to_list};
+ghost use Rattle.cell_addr.specs.Place.{covers};
+ghost use Rattle.cell_addr.specs.declared.place.Place.{Place};
+ghost use Rattle.block_slots.specs.Slots.{size_of};
+ghost use Rattle.needs_order.specs.Needs.{has, lists_of};
+ghost use Rattle.block_index.specs.internal.Keys.{AreSized, has_size, in_slot, key_at, key_size, place_of, same_key};
+
+use crate::key::SlotKey;
+use block_slots::{Size, Slot, slots};
+use cell_addr::{Block, Place};
+use indexmap::IndexSet;
+use std::alloc::{AllocError, Global};
+use std::ops::Range;
+
+/// Numbers filed under the slots of blocks.
+#[derive(Drop)]
+pub struct BlockIndex {
+    alloc: Global,
+    // The slots that have a list.
+    slots: IndexSet<SlotKey>,
+    // For each of them the numbers that are filed under it.
+    lists: Vec<Vec<usize>>,
+    // The sizes of these slots, each once.
+    sizes: Vec<Size>,
+    pub ghost counts: { length lists.items ≡ length slots.keys },
+    ghost sized: { AreSized slots.keys sizes.items },
+}
+
+impl BlockIndex {
+    ghost use Rattle.block_index.specs.Index.{Files, FindsAlike, filed_in, finds, slot_count, slots_of};
+
+    /// Nothing is filed.
+    pub fn new(alloc: Global) -> BlockIndex
+        ensures count { slot_count result ≡ 0 }
+        ensures finds { (p : Place) (n : ℕ) → finds result p n ≡ false }
+    {
+        BlockIndex {
+            alloc,
+            slots: IndexSet::new(alloc),
+            lists: Vec::new(alloc),
+            sizes: Vec::new(alloc),
+        }
+    }
+
+    /// How many slots have a list; they are numbered from 0 on, and keep their numbers.
+    pub fn len(&self) -> usize
+        ensures { result ≡ slot_count self.now }
+    {
+        self.lists.as_slice().len()
+    }
+
+    /// The slots that hold the place, of those that have a list. Costs a look-up for each size of slots in use. Errs for
+    /// want of memory.
+    pub fn slots_at(&self, at: Place) -> Result<Vec<usize>, AllocError>
+        ensures slots { IfOk result (λ slots. slots.items ≡ slots_of self.now at) }
+        ensures inside { (s : ℕ) → has s (slots_of self.now at) ≡ true → s < slot_count self.now }
+    {
+        let mut found = Vec::new(self.alloc);
+        'sizes: for size in &self.sizes {
+            push_some(&mut found, self.slot_at(at, *size))?;
+        }
+        Ok(found)
+    }
+
+    // The slot of a size that holds the place, where it has a list.
+    fn slot_at(&self, at: Place, size: Size) -> Option<usize>
+        ensures { result ≡ position (same_key (key_at at size)) self.now.slots.keys }
+    {
+        let slot = size.slot_at(u64::from(at.row), u64::from(at.col));
+        self.slots.get_index_of(&SlotKey::of(at.sheet, slot))
+    }
+
+    /// The numbers that are filed under a slot, each as often as it was filed there.
+    pub fn filed(&self, slot: usize) -> &[usize]
+        requires { slot < slot_count self.now }
+        ensures { result.now ≡ filed_in self.now slot }
+    {
+        &self.lists[slot]
+    }
+
+    /// Files the number under each slot of the block: the places of the block find it then. Where there is no memory some
+    /// of them may find it. Costs the number of the block's slots.
+    pub fn file(&mut self, b: Block, number: usize) -> Result<(), AllocError>
+        ensures files { Files (covers b) number self.old self.new }
+        ensures found { OnOk result ((p : Place) → covers b p ≡ true → finds self.new p number ≡ true) }
+    {
+        let slots = slots(self.alloc, lines(b.top, b.bottom), lines(b.left, b.right))?;
+        'slots: for slot in &slots {
+            self.file_under(b.sheet, *slot, number)?;
+        }
+        Ok(())
+    }
+
+    // Files the number under a slot of a sheet.
+    fn file_under(&mut self, sheet: u32, slot: Slot, number: usize) -> Result<(), AllocError>
+        ensures files { Files (in_slot sheet slot) number self.old self.new }
+        ensures found { OnOk result ((p : Place) → in_slot sheet slot p ≡ true → finds self.new p number ≡ true) }
+    {
+        self.use_size(slot.size())?;
+        let place = self.slot_under(SlotKey::of(sheet, slot))?;
+        self.push_at(place, number)
+    }
+
+    // Counts a size among those in use.
+    fn use_size(&mut self, size: Size) -> Result<(), AllocError>
+        ensures alike { FindsAlike self.old self.new }
+        ensures slots { self.new.slots ≡ self.old.slots }
+        ensures lists { self.new.lists ≡ self.old.lists }
+        ensures size { OnOk result (has_size size self.new.sizes.items ≡ true) }
+    {
+        if !self.sizes.contains(&size) {
+            self.sizes.push(size)?;
+        }
+        Ok(())
+    }
+
+    // The number of the slot under a key, which gets a list where it has none.
+    fn slot_under(&mut self, key: SlotKey) -> Result<usize, AllocError>
+        requires { has_size (key_size key) self.old.sizes.items ≡ true }
+        ensures alike { FindsAlike self.old self.new }
+        ensures sizes { self.new.sizes ≡ self.old.sizes }
+        ensures place { IfOk result (λ place. place ≡ place_of self.new.slots.keys key) }
+        ensures inside { IfOk result (λ place. place < length self.new.slots.keys) }
+    {
+        match self.slots.get_index_of(&key) {
+            Some(place) => Ok(place),
+            None => self.add_slot(key),
+        }
+    }
+
+    // Gives a list to the slot under a key, which has none, and answers its number.
+    fn add_slot(&mut self, key: SlotKey) -> Result<usize, AllocError>
+        requires size { has_size (key_size key) self.old.sizes.items ≡ true }
+        requires new { length self.old.slots.keys ≡ place_of self.old.slots.keys key }
+        ensures alike { FindsAlike self.old self.new }
+        ensures sizes { self.new.sizes ≡ self.old.sizes }
+        ensures place { IfOk result (λ place. place ≡ place_of self.new.slots.keys key) }
+        ensures inside { IfOk result (λ place. place < length self.new.slots.keys) }
+    {
+        let place = self.len();
+        self.lists.reserve(1)?;
+        self.slots.insert(key)?;
+        self.lists.push_reserved(Vec::new(self.alloc));
+        Ok(place)
+    }
+
+    // Puts the number at the end of a list.
+    fn push_at(&mut self, place: usize, number: usize) -> Result<(), AllocError>
+        requires { place < length self.old.lists.items }
+        ensures slots { self.new.slots ≡ self.old.slots }
+        ensures sizes { self.new.sizes ≡ self.old.sizes }
+        ensures ok { OnOk result (lists_of self.new.lists.items ≡ slice_set (lists_of self.old.lists.items) place (filed_in self.old place ++ number ∷ [])) }
+        ensures err { OnErr result (lists_of self.new.lists.items ≡ lists_of self.old.lists.items) }
+    {
+        self.lists[place].push(number)?;
+        Ok(())
+    }
+}
+
+// Puts the number at the end where there is one.
+fn push_some(found: &mut Vec<usize>, number: Option<usize>) -> Result<(), AllocError>
+    ensures { OnOk result (found.new.items ≡ found.old.items ++ option_to_list number) }
+{
+    if let Some(number) = number {
+        found.push(number)?;
+    }
+    Ok(())
+}
+
+// The lines from the first to the last.
+fn lines(first: u32, last: u32) -> Range<u64>
+    requires { last < 2 ^ 32 }
+    ensures { result ≡ record { start = first; end = last + 1 } }
+{
+    u64::from(first)..u64::from(last) + 1
+}

@@ -1,0 +1,30 @@
+// Under what numbers are filed.
+ghost use Rattle.std.specs.Prelude.{◌≡◌};
+ghost use Rattle.block_index.specs.internal.Keys.{key_of};
+
+use block_slots::Slot;
+
+// A slot of the cells of a sheet, by the levels and the indexes of its segments.
+#[derive(Clone, Copy, PartialEq, Eq, Hash, Debug)]
+pub(crate) struct SlotKey {
+    sheet: u32,
+    row_level: u32,
+    row_index: u64,
+    col_level: u32,
+    col_index: u64,
+}
+
+impl SlotKey {
+    // The key of a slot of a sheet.
+    pub(crate) fn of(sheet: u32, slot: Slot) -> SlotKey
+        ensures { result ≡ key_of sheet slot }
+    {
+        SlotKey {
+            sheet,
+            row_level: slot.rows.level,
+            row_index: slot.rows.index,
+            col_level: slot.cols.level,
+            col_index: slot.cols.index,
+        }
+    }
+}

@@ -1,0 +1,131 @@
+-- Nodes added, filed and linked. Serves the changes of a net.
+use Rattle.std.proofs.Common.{◌≡◌, ◌≢◌, ◌∙◌, sym, ap, refl, subst, arith, ℕ, ◌+◌, ◌<◌, ◌≤◌, ◌⊎◌, ⊎_elim, Bool, true, false, cond, ◌||◌, List, [], ◌∷◌, ◌++◌, map, length, get_or, take, eqb, eqb-true, Result, Ok, Err, OnOk, OnErr}
+use Rattle.std.specs.BTreeMap.{is_at}
+use Rattle.std.specs.BTreeSet.{BTreeSet, Updates, contains}
+use Rattle.std.specs.List.{list_any, position_or_len}
+use Rattle.std.specs.Ordering.{nat_cmp}
+use Rattle.std.proofs.lemmas.Bool.{eq-eqb, false≢true, ne_eqb, or_cases}
+use Rattle.std.proofs.lemmas.Bool.Decides.{nat_tests}
+use Rattle.std.proofs.lemmas.List.{map-append, take_more}
+use Rattle.std.proofs.lemmas.List.Folds.{position_or_len_push}
+use Rattle.cell_addr.specs.Place.{covers}
+use Rattle.cell_addr.specs.declared.place.Block.{Block}
+use Rattle.cell_addr.specs.declared.place.Place.{Place}
+use Rattle.needs_order.specs.Needs as plain
+use Rattle.needs_order.proofs.Lists as lists
+use Rattle.node_links.proofs.Sets.{put_contains}
+use Rattle.node_links.specs.Nodes.{needs_of}
+use Rattle.node_links.specs.declared.links.Links.{Links}
+use Rattle.block_index.specs.Index.{Files, finds}
+use Rattle.block_index.specs.declared.index.BlockIndex.{BlockIndex}
+use Rattle.dep_graph.specs.Nodes.{covers_node, has, same_node}
+use Rattle.dep_graph.specs.declared.net.Net.{Net}
+use Rattle.dep_graph.specs.declared.node.Node.{Node}
+use Rattle.dep_graph.specs.declared.node.Node.TheVariants.{Cell, Name, Range}
+use Rattle.dep_graph.specs.internal.Nets.{Grows, links_in}
+use Rattle.dep_graph.specs.internal.Numbers.{IsFiled, linked, node_at, place_of}
+use Rattle.dep_graph.proofs.Growing.{grown_map}
+use Rattle.dep_graph.proofs.Places.{at_place, cases_node, cases_true, other_node, place_inside}
+use Rattle.dep_graph.specs.internal.Hashed.{own_node}
+
+pub absent_node : (keys : List Node) (a : Node) → place_of keys a ≡ length keys → has a keys ≡ false
+absent_node keys a last = ⊎_elim
+    (λ (there : has a keys ≡ true). absurd (omega (arith, last, place_inside keys a there)))
+    (λ (out : has a keys ≡ false). out)
+    (cases_true (has a keys))
+
+pub place_last : (keys : List Node) (a : Node) → place_of keys a ≡ length keys → place_of (keys ++ a ∷ []) a ≡ length keys
+place_last keys a last = position_or_len_push (same_node a) keys a ∙ at_end (place_of keys a) (length keys) (same_node a a) last (own_node a)
+  where
+    either : (i n : ℕ) → i ≡ n → cond (eqb i n) (n + 0) i ≡ n
+    either i n same = grind (arith, nat_tests)
+
+    at_end : (i n : ℕ) (t : Bool) → i ≡ n → t ≡ true → cond (eqb i n) (n + cond t 0 1) i ≡ n
+    at_end i n t same own = ap (λ j. cond (eqb i n) (n + cond j 0 1) i) own ∙ either i n same
+
+-- ---- by results
+
+pub on_err : {A B : Type 0} (r : Result A B) (P : Type 0) → P → OnErr r P
+on_err (Ok _) P p = tt
+on_err (Err _) P p = p
+
+pub on_ok : {A B : Type 0} (r : Result A B) (P F : Type 0) → OnOk r P → (P → F) → OnOk r F
+on_ok (Ok _) P F ok f = f ok
+on_ok (Err _) P F ok f = tt
+
+pub err_on : {A B : Type 0} (r : Result A B) (P F : Type 0) → OnErr r P → (P → F) → OnErr r F
+err_on (Ok _) P F err f = tt
+err_on (Err _) P F err f = f err
+
+-- ---- ranges filed
+
+-- what is no range covers nothing
+pub cell_filed : (index : BlockIndex) (keys : List Node) (n : ℕ) (q : Place) → node_at keys n ≡ Cell q → IsFiled index keys n
+cell_filed index keys n q is p covered = absurd (false≢true (subst (λ x. covers_node x (Cell p) ≡ true) is covered))
+
+pub name_filed : (index : BlockIndex) (keys : List Node) (n scope word : ℕ) → node_at keys n ≡ Name scope word → IsFiled index keys n
+name_filed index keys n scope word is p covered = absurd (false≢true (subst (λ x. covers_node x (Cell p) ≡ true) is covered))
+
+module _ (old new : BlockIndex) (keys : List Node) (b : Block) (number : ℕ) (block : node_at keys number ≡ Range b) (files : Files (covers b) number old new) where
+  pub still_sound : ((p : Place) (n : ℕ) → finds old p n ≡ true → covers_node (node_at keys n) (Cell p) ≡ true) → (p : Place) (n : ℕ) → finds new p n ≡ true → covers_node (node_at keys n) (Cell p) ≡ true
+  still_sound sound p n found = ⊎_elim
+      (λ (before : finds old p n ≡ true). sound p n before)
+      (λ (filed : (covers b p ≡ true) × (n ≡ number)). subst (λ x. covers_node x (Cell p) ≡ true) (sym (ap (node_at keys) filed.1 ∙ block)) filed.0)
+      (files.only p n found)
+
+  pub still_filed : (n : ℕ) → IsFiled old keys n → IsFiled new keys n
+  still_filed n filed p covered = files.grows p n (filed p covered)
+
+  pub now_filed : ((p : Place) → covers b p ≡ true → finds new p number ≡ true) → IsFiled new keys number
+  now_filed found p covered = found p (subst (λ x. covers_node x (Cell p) ≡ true) block covered)
+
+-- what holds of all in a set holds still where it holds of the one that is put
+pub each_put : (old new : BTreeSet ℕ) (number : ℕ) (P : ℕ → Type 0) → Updates nat_cmp old new number true → ((n : ℕ) → contains nat_cmp old n ≡ true → P n) → P number → (n : ℕ) → contains nat_cmp new n ≡ true → P n
+each_put old new number P updates each here n h = ⊎_elim
+    (λ (was : contains nat_cmp old n ≡ true). each n was)
+    (λ (now : eqb n number ≡ true). subst P (sym (eqb-true n number now)) here)
+    (or_cases (contains nat_cmp old n) (eqb n number) (sym (put_contains old new number n updates) ∙ h))
+
+pub each_kept : (old new : BTreeSet ℕ) (P : ℕ → Type 0) → new.keys ≡ old.keys → ((n : ℕ) → contains nat_cmp old n ≡ true → P n) → (n : ℕ) → contains nat_cmp new n ≡ true → P n
+each_kept old new P same each n h = each n (subst (λ ks. list_any (is_at (nat_cmp n)) ks ≡ true) same h)
+
+-- ---- links replaced
+
+pub relinked_at : (old : Net) (links : Links) (a : Node) (node : ℕ) (needs : List ℕ) → node < length old.nodes.keys → node ≡ place_of old.nodes.keys a
+    → ((n : ℕ) → needs_of links n ≡ cond (eqb n node) needs (needs_of old.links n)) → (x : Node) → linked old.nodes.keys links x ≡ cond (same_node x a) (map (node_at old.nodes.keys) needs) (links_in old x)
+relinked_at old links a node needs inside is changed x = ap (map (node_at old.nodes.keys)) (changed (place_of old.nodes.keys x)) ∙ ⊎_elim
+    (λ (same : x ≡ a).
+    let here : place_of old.nodes.keys x ≡ node = ap (place_of old.nodes.keys) same ∙ sym is in
+    ap (λ t. map (node_at old.nodes.keys) (cond t needs (needs_of old.links (place_of old.nodes.keys x)))) (eq-eqb (place_of old.nodes.keys x) node here)
+    ∙ ap (λ t. cond t (map (node_at old.nodes.keys) needs) (links_in old x)) (sym (subst (λ y. same_node x y ≡ true) same (own_node x))))
+    (λ (other : x ≢ a).
+    let apart : place_of old.nodes.keys x ≢ node = λ (at : place_of old.nodes.keys x ≡ node).
+        other (sym (at_place old.nodes.keys x (subst (λ n. n < length old.nodes.keys) (sym at) inside)) ∙ (ap (node_at old.nodes.keys) (at ∙ is) ∙ at_place old.nodes.keys a (subst (λ n. n < length old.nodes.keys) is inside))) in
+    ap (λ t. map (node_at old.nodes.keys) (cond t needs (needs_of old.links (place_of old.nodes.keys x)))) (ne_eqb (place_of old.nodes.keys x) node apart)
+    ∙ ap (λ t. cond t (map (node_at old.nodes.keys) needs) (links_in old x)) (sym (other_node x a other)))
+    (cases_node x a)
+
+-- the linked nodes are filed where the new ones are
+pub used_relinked : (old : Net) (links : Links) (node : ℕ) (needs : List ℕ) (P : ℕ → Type 0) → ((n : ℕ) → needs_of links n ≡ cond (eqb n node) needs (needs_of old.links n))
+    → ((n : ℕ) → plain.has n needs ≡ true → P n) → ((a n : ℕ) → plain.has n (needs_of old.links a) ≡ true → P n) → (a n : ℕ) → plain.has n (needs_of links a) ≡ true → P n
+used_relinked old links node needs P changed new before a n h = by (eqb a node) (subst (λ l. plain.has n l ≡ true) (changed a) h)
+  where
+    by : (t : Bool) → plain.has n (cond t needs (needs_of old.links a)) ≡ true → P n
+    by true there = new n there
+    by false there = before a n there
+
+-- ---- numbers of nodes that some node is going to be linked to
+
+pub use_next : (a b : Net) (numbers more : List ℕ) (number : ℕ) (needs : List Node) (i : ℕ) (d x : Node) → Grows a b → map (node_at a.nodes.keys) numbers ≡ take i needs
+    → ((n : ℕ) → plain.has n numbers ≡ true → n < length a.nodes.keys) → i < length needs → get_or needs i d ≡ x → number ≡ place_of b.nodes.keys x → number < length b.nodes.keys → more ≡ numbers ++ number ∷ []
+    → map (node_at b.nodes.keys) more ≡ take (i + 1) needs
+use_next a b numbers more number needs i d x grows before inside i_in at place low is =
+    ap (map (node_at b.nodes.keys)) is ∙ (map-append (node_at b.nodes.keys) numbers (number ∷ [])
+    ∙ (ap (λ l. l ++ node_at b.nodes.keys number ∷ []) (grown_map a b numbers grows inside ∙ before)
+    ∙ (ap (λ y. take i needs ++ y ∷ []) (ap (node_at b.nodes.keys) place ∙ (at_place b.nodes.keys x (subst (λ n. n < length b.nodes.keys) place low) ∙ sym at)) ∙ sym (take_more needs i d i_in))))
+
+pub each_number : (numbers more : List ℕ) (number : ℕ) (P : ℕ → Type 0) → more ≡ numbers ++ number ∷ [] → ((n : ℕ) → plain.has n numbers ≡ true → P n) → P number → (n : ℕ) → plain.has n more ≡ true → P n
+each_number numbers more number P is before here n h = ⊎_elim
+    (λ (front : plain.has n numbers ≡ true). before n front)
+    (λ (last : plain.has n (number ∷ []) ≡ true). ⊎_elim (λ (same : number ≡ n). subst P same here) (λ (none : false ≡ true). absurd (false≢true none)) (lists.has_cases n number [] last))
+    (lists.has-append_cases n numbers (number ∷ []) (subst (λ l. plain.has n l ≡ true) is h))

@@ -1,0 +1,330 @@
+-- Arrows of a net and chains of needs: the ones lead where the others come from. Serves all walks.
+use Rattle.std.proofs.Common.{◌≡◌, ◌∙◌, sym, ap, refl, subst, arith, ℕ, ◌+◌, ◌-◌, ◌<◌, ◌≤◌, inl, inr, ◌⊎◌, ⊎_elim, Bool, true, false, cond, ◌||◌, List, [], ◌∷◌, ◌++◌, map, filter, length, nat_eq, nat_lt}
+use Rattle.std.proofs.lemmas.Bool.{cases_lt, false≢true}
+use Rattle.std.proofs.lemmas.Bool.Decides.{nat_tests}
+use Rattle.cell_addr.specs.declared.place.Block.{Block}
+use Rattle.cell_addr.specs.declared.place.Place.{Place}
+use Rattle.needs_order.specs.Needs as plain
+use Rattle.needs_order.proofs.Lists as lists
+use Rattle.node_links.specs.Nodes.{needs_of, users_of}
+use Rattle.node_reach.specs.Arrows.{LeadsTo, at_once, after}
+use Rattle.block_index.specs.Index.{filed_in, finds, slot_count, slots_of}
+use Rattle.block_index.proofs.Filing.{found_under, slot_with}
+use Rattle.dep_graph.specs.Needs as needs
+use Rattle.dep_graph.specs.Needs.{Chain, IsUsed, Needs}
+use Rattle.dep_graph.specs.Nodes.{covers_node, has}
+use Rattle.dep_graph.specs.declared.net.Net.{Net}
+use Rattle.dep_graph.specs.declared.node.Node.{Node}
+use Rattle.dep_graph.specs.declared.node.Node.TheVariants.{Cell, Name, Range}
+use Rattle.dep_graph.specs.internal.Arrows.{cell_slots, from_node, from_slot, is_used, node_total, slots_behind, starts_of, targets_of, total}
+use Rattle.dep_graph.specs.internal.Numbers.{IsFiled, node_at, place_of}
+use Rattle.dep_graph.specs.internal.Nets.{links_in}
+use Rattle.dep_graph.proofs.Growing.{known_inside, no_needs, unknown_links}
+use Rattle.dep_graph.proofs.Places.{at_place, has_map, map_has, place_at, place_is}
+
+-- ---- plain lists
+
+lt_true : (v n : ℕ) → v < n → nat_lt v n ≡ true
+lt_true v n h = grind (arith, nat_tests)
+
+ge_false : (v n : ℕ) → n ≤ v → nat_lt v n ≡ false
+ge_false v n h = grind (arith, nat_tests)
+
+some_of : (xs : List ℕ) → nat_lt 0 (length xs) ≡ true → (u : ℕ) × (plain.has u xs ≡ true)
+some_of [] h = absurd (false≢true (sym (none 0 refl) ∙ h))
+  where
+    none : (n : ℕ) → n ≡ 0 → nat_lt 0 n ≡ false
+    none n h = grind (arith, nat_tests)
+some_of (u ∷ xs) h = (u, lists.has_first u xs)
+
+pub of_some : (xs : List ℕ) (u : ℕ) → plain.has u xs ≡ true → nat_lt 0 (length xs) ≡ true
+of_some [] u h = absurd (false≢true h)
+of_some (x ∷ xs) u h = lt_true 0 (length (x ∷ xs)) (omega arith)
+
+pub map_plus : (n : ℕ) (ss : List ℕ) (c : ℕ) → plain.has c (map (λ s. n + s) ss) ≡ true → (s : ℕ) × (plain.has s ss ≡ true) × (n + s ≡ c)
+map_plus n [] c h = absurd (false≢true h)
+map_plus n (x ∷ ss) c h = ⊎_elim
+    (λ (same : n + x ≡ c). (x, lists.has_first x ss, same))
+    (λ (later : plain.has c (map (λ s. n + s) ss) ≡ true). let (s, there, is) = map_plus n ss c later in (s, lists.has-append_right s (x ∷ []) ss there, is))
+    (lists.has_cases c (n + x) (map (λ s. n + s) ss) h)
+
+pub plus_map : (n : ℕ) (ss : List ℕ) (s : ℕ) → plain.has s ss ≡ true → plain.has (n + s) (map (λ k. n + k) ss) ≡ true
+plus_map n [] s h = absurd (false≢true h)
+plus_map n (x ∷ ss) s h = ⊎_elim
+    (λ (same : x ≡ s). subst (λ k. plain.has (n + s) ((n + k) ∷ map (λ j. n + j) ss) ≡ true) (sym same) (lists.has_first (n + s) (map (λ j. n + j) ss)))
+    (λ (later : plain.has s ss ≡ true). lists.has-append_right (n + s) ((n + x) ∷ []) (map (λ j. n + j) ss) (plus_map n ss s later))
+    (lists.has_cases s x ss h)
+
+pub filter_has : (q : ℕ → Bool) (xs : List ℕ) (a : ℕ) → plain.has a (filter q xs) ≡ true → (plain.has a xs ≡ true) × (q a ≡ true)
+filter_has q [] a h = absurd (false≢true h)
+filter_has q (x ∷ xs) a h = by (q x) refl (λ later. filter_has q xs a later) h
+  where
+    by : (t : Bool) → q x ≡ t → (plain.has a (filter q xs) ≡ true → (plain.has a xs ≡ true) × (q a ≡ true)) → plain.has a (cond t (x ∷ filter q xs) (filter q xs)) ≡ true → (plain.has a (x ∷ xs) ≡ true) × (q a ≡ true)
+    by true e rest there = ⊎_elim
+        (λ (same : x ≡ a). (subst (λ k. plain.has k (x ∷ xs) ≡ true) same (lists.has_first x xs), subst (λ k. q k ≡ true) same e))
+        (λ (later : plain.has a (filter q xs) ≡ true). (lists.has-append_right a (x ∷ []) xs (rest later).0, (rest later).1))
+        (lists.has_cases a x (filter q xs) there)
+    by false e rest there = (lists.has-append_right a (x ∷ []) xs (rest there).0, (rest there).1)
+
+pub has_filter : (q : ℕ → Bool) (xs : List ℕ) (a : ℕ) → plain.has a xs ≡ true → q a ≡ true → plain.has a (filter q xs) ≡ true
+has_filter q [] a h passes = absurd (false≢true h)
+has_filter q (x ∷ xs) a h passes = by (q x) refl (λ later. has_filter q xs a later passes)
+  where
+    by : (t : Bool) → q x ≡ t → (plain.has a xs ≡ true → plain.has a (filter q xs) ≡ true) → plain.has a (cond t (x ∷ filter q xs) (filter q xs)) ≡ true
+    by true e rest = ⊎_elim
+        (λ (same : x ≡ a). subst (λ k. plain.has a (k ∷ filter q xs) ≡ true) (sym same) (lists.has_first a (filter q xs)))
+        (λ (later : plain.has a xs ≡ true). lists.has-append_right a (x ∷ []) (filter q xs) (rest later))
+        (lists.has_cases a x xs h)
+    by false e rest = ⊎_elim
+        (λ (same : x ≡ a). absurd (false≢true (sym e ∙ subst (λ k. q k ≡ true) (sym same) passes)))
+        (λ (later : plain.has a xs ≡ true). rest later)
+        (lists.has_cases a x xs h)
+
+-- ---- nodes that cover
+
+cell_of : (a b : Node) → covers_node a b ≡ true → (p : Place) × (b ≡ Cell p)
+cell_of (Range x) (Cell p) h = (p, refl)
+cell_of (Range x) (Name scope word) h = absurd (false≢true h)
+cell_of (Range x) (Range y) h = absurd (false≢true h)
+cell_of (Cell p) b h = absurd (false≢true h)
+cell_of (Name scope word) b h = absurd (false≢true h)
+
+-- ---- chains
+
+pub chain_end : {links : Node → List Node} {a b c : Node} → Chain links a b → Needs links b c → Chain links a c
+chain_end (needs.at_once x) y = needs.after x (needs.at_once y)
+chain_end (needs.after x rest) y = needs.after x (chain_end rest y)
+
+pub leads_on : {targets : ℕ → List ℕ} {a b c : ℕ} → LeadsTo targets a b → LeadsTo targets b c → LeadsTo targets a c
+leads_on (at_once x) rest = after x rest
+leads_on (after x led) rest = after x (leads_on led rest)
+
+module _ (net : Net) where
+
+  -- ---- arrows of one node
+
+  pub targets_low : (v : ℕ) → v < node_total net → targets_of net v ≡ from_node net v
+  targets_low v h = ap (λ t. cond t (from_node net v) (from_slot net (v - node_total net))) (lt_true v (node_total net) h)
+
+  pub targets_high : (v : ℕ) → node_total net ≤ v → targets_of net v ≡ from_slot net (v - node_total net)
+  targets_high v h = ap (λ t. cond t (from_node net v) (from_slot net (v - node_total net))) (ge_false v (node_total net) h)
+
+  -- a user of a number is a node that is linked to its node
+  pub user_link : (i u : ℕ) → i < node_total net → plain.has u (users_of net.links i) ≡ true → (u < node_total net) × (has (node_at net.nodes.keys i) (links_in net (node_at net.nodes.keys u)) ≡ true)
+  user_link i u inside h =
+      let linked : plain.has i (needs_of net.links u) ≡ true = sym (net.links.exact u i) ∙ h in
+      let low : u < node_total net = ⊎_elim
+          (λ (is : u < node_total net). is)
+          (λ (past : node_total net ≤ u). absurd (false≢true (subst (λ l. plain.has i l ≡ true) (no_needs net.links u (subst (λ n. n ≤ u) (sym net.counts) past)) linked)))
+          (cases_lt u (node_total net)) in
+      (low, subst (λ n. has (node_at net.nodes.keys i) (map (node_at net.nodes.keys) (needs_of net.links n)) ≡ true) (sym (place_at net.nodes.keys u net.once low)) (has_map (node_at net.nodes.keys) (needs_of net.links u) i linked))
+
+  -- a linked node has a user, and both have numbers
+  pub link_user : (a b : Node) → has b (links_in net a) ≡ true
+      → (place_of net.nodes.keys a < node_total net) × (place_of net.nodes.keys b < node_total net) × (plain.has (place_of net.nodes.keys b) (needs_of net.links (place_of net.nodes.keys a)) ≡ true)
+  link_user a b h =
+      let (k, there, is) = map_has (node_at net.nodes.keys) (needs_of net.links (place_of net.nodes.keys a)) b h in
+      let k_in : k < node_total net = known_inside net (place_of net.nodes.keys a) k there in
+      let same : place_of net.nodes.keys b ≡ k = place_is net.nodes.keys b k net.once k_in is in (
+        ⊎_elim
+        (λ (low : place_of net.nodes.keys a < node_total net). low)
+        (λ (past : node_total net ≤ place_of net.nodes.keys a). absurd (false≢true (subst (λ l. has b l ≡ true) (unknown_links net a past) h)))
+        (cases_lt (place_of net.nodes.keys a) (node_total net)),
+        subst (λ n. n < node_total net) (sym same) k_in,
+        subst (λ n. plain.has n (needs_of net.links (place_of net.nodes.keys a)) ≡ true) (sym same) there,
+      )
+
+  user_of : (a b : Node) → has b (links_in net a) ≡ true → plain.has (place_of net.nodes.keys a) (users_of net.links (place_of net.nodes.keys b)) ≡ true
+  user_of a b h = net.links.exact (place_of net.nodes.keys a) (place_of net.nodes.keys b) ∙ (link_user a b h).2
+
+  -- a used number is that of a used node
+  pub used_node : (r : ℕ) → is_used net r ≡ true → (r < node_total net) × IsUsed (links_in net) (node_at net.nodes.keys r)
+  used_node r h =
+      let (u, user) = some_of (users_of net.links r) h in
+      let low : r < node_total net = known_inside net u r (sym (net.links.exact u r) ∙ user) in
+      (low, (node_at net.nodes.keys u, (user_link r u low user).1))
+
+  -- ---- ranges
+
+  -- what is filed under a slot of a cell needs the cell where it is used
+  cover_need : (p : Place) (s r : ℕ) → plain.has s (slots_of net.index p) ≡ true → plain.has r (from_slot net s) ≡ true → (r < node_total net) × Needs (links_in net) (node_at net.nodes.keys r) (Cell p)
+  cover_need p s r slot under =
+      let (filed, used) = filter_has (is_used net) (filed_in net.index s) r under in
+      let (low, is) = used_node r used in
+      (low, inr (net.sound p r (found_under net.index p s r slot filed), is))
+
+  -- a used node that covers a cell is filed under a slot of it
+  covered_slot : (a : Node) (p : Place) → covers_node a (Cell p) ≡ true → IsUsed (links_in net) a
+      → (place_of net.nodes.keys a < node_total net) × ((s : ℕ) × (plain.has s (slots_of net.index p) ≡ true) × (plain.has (place_of net.nodes.keys a) (from_slot net s) ≡ true))
+  covered_slot a p covers (c, h) =
+      let (c_in, a_in, listed) = link_user c a h in
+      let found : finds net.index p (place_of net.nodes.keys a) ≡ true = net.used (place_of net.nodes.keys c) (place_of net.nodes.keys a) listed p (subst (λ x. covers_node x (Cell p) ≡ true) (sym (at_place net.nodes.keys a a_in)) covers) in
+      let (s, slot, filed) = slot_with net.index p (place_of net.nodes.keys a) found in
+      (a_in, (s, slot, has_filter (is_used net) (filed_in net.index s) (place_of net.nodes.keys a) filed (of_some (users_of net.links (place_of net.nodes.keys a)) (place_of net.nodes.keys c) (user_of c a h))))
+
+  -- ---- from arrows to chains
+
+  pub record Fwd (v w : ℕ) : Type 0 where
+    pub low : v < node_total net → Chain (links_in net) (node_at net.nodes.keys w) (node_at net.nodes.keys v)
+    pub high : node_total net ≤ v → (r : ℕ) × (plain.has r (from_slot net (v - node_total net)) ≡ true) × ((r ≡ w) ⊎ Chain (links_in net) (node_at net.nodes.keys w) (node_at net.nodes.keys r))
+
+  -- a chain to a range that needs a cell goes on to the cell
+  to_cell : (p : Place) (s r w : ℕ) → plain.has s (slots_of net.index p) ≡ true → plain.has r (from_slot net s) ≡ true → (r ≡ w) ⊎ Chain (links_in net) (node_at net.nodes.keys w) (node_at net.nodes.keys r)
+      → Chain (links_in net) (node_at net.nodes.keys w) (Cell p)
+  to_cell p s r w slot under ends =
+      let need : Needs (links_in net) (node_at net.nodes.keys r) (Cell p) = (cover_need p s r slot under).1 in
+      ⊎_elim
+      (λ (same : r ≡ w). needs.at_once (subst (λ n. Needs (links_in net) (node_at net.nodes.keys n) (Cell p)) same need))
+      (λ (chain : Chain (links_in net) (node_at net.nodes.keys w) (node_at net.nodes.keys r)). chain_end chain need)
+      ends
+
+  -- from the slots of a node
+  from_behind : (a : Node) (c w : ℕ) → plain.has c (slots_behind net a) ≡ true → Fwd c w → Chain (links_in net) (node_at net.nodes.keys w) a
+  from_behind (Cell p) c w there f =
+      let (s, slot, is) = map_plus (node_total net) (slots_of net.index p) c there in
+      let (r, under, ends) = f.high (omega (arith, is)) in
+      let here : c - node_total net ≡ s = omega (arith, is) in
+      to_cell p s r w slot (subst (λ n. plain.has r (from_slot net n) ≡ true) here under) ends
+  from_behind (Name scope word) c w there f = absurd (false≢true there)
+  from_behind (Range b) c w there f = absurd (false≢true there)
+
+  pub behind_high : (a : Node) (c : ℕ) → plain.has c (slots_behind net a) ≡ true → node_total net ≤ c
+  behind_high a c there = let (s, slot, is) = map_plus (node_total net) (cell_slots net.index a) c there in omega (arith, is)
+
+  step : (v c w : ℕ) → w < node_total net → plain.has c (targets_of net v) ≡ true → (c ≡ w) ⊎ Fwd c w → Fwd v w
+  step v c w w_in next led = record {
+      low = λ v_in. ⊎_elim
+          (λ (user : plain.has c (users_of net.links v) ≡ true).
+          let (c_in, linked) = user_link v c v_in user in
+          ⊎_elim
+          (λ (same : c ≡ w). needs.at_once (inl (subst (λ n. has (node_at net.nodes.keys v) (links_in net (node_at net.nodes.keys n)) ≡ true) same linked)))
+          (λ (f : Fwd c w). chain_end (f.low c_in) (inl linked))
+          led)
+          (λ (slot : plain.has c (slots_behind net (node_at net.nodes.keys v)) ≡ true). ⊎_elim
+          (λ (same : c ≡ w). absurd (omega (arith, same, w_in, behind_high (node_at net.nodes.keys v) c slot)))
+          (λ (f : Fwd c w). from_behind (node_at net.nodes.keys v) c w slot f)
+          led)
+          (lists.has-append_cases c (users_of net.links v) (slots_behind net (node_at net.nodes.keys v)) (subst (λ l. plain.has c l ≡ true) (targets_low v v_in) next));
+      high = λ past.
+          let under : plain.has c (from_slot net (v - node_total net)) ≡ true = subst (λ l. plain.has c l ≡ true) (targets_high v past) next in
+          let (filed, used) = filter_has (is_used net) (filed_in net.index (v - node_total net)) c under in
+          (c, under, ⊎_elim (λ (same : c ≡ w). inl same) (λ (f : Fwd c w). inr (f.low (used_node c used).0)) led);
+    }
+
+  pub fwd : {v w : ℕ} → LeadsTo (targets_of net) v w → w < node_total net → Fwd v w
+  fwd {v = v} {w = w} (at_once next) w_in = step v w w w_in next (inl refl)
+  fwd {v = v} {w = w} (after {b = c} next rest) w_in = step v c w w_in next (inr (fwd rest w_in))
+
+  -- ---- from chains to arrows
+
+  need_leads : (a b : Node) → Needs (links_in net) a b → place_of net.nodes.keys b < node_total net
+      → (place_of net.nodes.keys a < node_total net) × LeadsTo (targets_of net) (place_of net.nodes.keys b) (place_of net.nodes.keys a)
+  need_leads a b need b_in = ⊎_elim
+      (λ (h : has b (links_in net a) ≡ true). (
+        (link_user a b h).0,
+        at_once (subst (λ l. plain.has (place_of net.nodes.keys a) l ≡ true) (sym (targets_low (place_of net.nodes.keys b) b_in))
+        (lists.has-append_left (place_of net.nodes.keys a) (users_of net.links (place_of net.nodes.keys b)) (slots_behind net (node_at net.nodes.keys (place_of net.nodes.keys b))) (user_of a b h))),
+      ))
+      (λ (h : (covers_node a b ≡ true) × IsUsed (links_in net) a).
+      let (p, cell) = cell_of a b h.0 in
+      let (a_in, (s, slot, under)) = covered_slot a p (subst (λ x. covers_node a x ≡ true) cell h.0) h.1 in
+      let behind : plain.has (node_total net + s) (slots_behind net (node_at net.nodes.keys (place_of net.nodes.keys b))) ≡ true
+      = subst (λ x. plain.has (node_total net + s) (slots_behind net x) ≡ true) (sym (at_place net.nodes.keys b b_in ∙ cell)) (plus_map (node_total net) (slots_of net.index p) s slot) in (
+        a_in,
+        after (subst (λ l. plain.has (node_total net + s) l ≡ true) (sym (targets_low (place_of net.nodes.keys b) b_in))
+        (lists.has-append_right (node_total net + s) (users_of net.links (place_of net.nodes.keys b)) (slots_behind net (node_at net.nodes.keys (place_of net.nodes.keys b))) behind)) (slot_leads a s under),
+      ))
+      need
+    where
+      back_to : (n s : ℕ) → n + s - n ≡ s
+      back_to n s = omega arith
+
+      slot_leads : (a : Node) (s : ℕ) → plain.has (place_of net.nodes.keys a) (from_slot net s) ≡ true → LeadsTo (targets_of net) (node_total net + s) (place_of net.nodes.keys a)
+      slot_leads a s under = at_once (subst (λ l. plain.has (place_of net.nodes.keys a) l ≡ true) (sym (targets_high (node_total net + s) (omega arith) ∙ ap (from_slot net) (back_to (node_total net) s))) under)
+
+  unknown_need : (a b : Node) → Needs (links_in net) a b → node_total net ≤ place_of net.nodes.keys b
+      → (place_of net.nodes.keys a < node_total net) × ((v : ℕ) × (plain.has v (slots_behind net b) ≡ true) × LeadsTo (targets_of net) v (place_of net.nodes.keys a))
+  unknown_need a b need past = ⊎_elim
+      (λ (h : has b (links_in net a) ≡ true). absurd (omega (arith, past, (link_user a b h).1)))
+      (λ (h : (covers_node a b ≡ true) × IsUsed (links_in net) a).
+      let (p, cell) = cell_of a b h.0 in
+      let (a_in, (s, slot, under)) = covered_slot a p (subst (λ x. covers_node a x ≡ true) cell h.0) h.1 in (
+        a_in,
+        (
+          node_total net + s,
+          subst (λ x. plain.has (node_total net + s) (slots_behind net x) ≡ true) (sym cell) (plus_map (node_total net) (slots_of net.index p) s slot),
+          at_once (subst (λ l. plain.has (place_of net.nodes.keys a) l ≡ true) (sym (targets_high (node_total net + s) (omega arith) ∙ ap (from_slot net) (back_to (node_total net) s))) under),
+        ),
+      ))
+      need
+    where
+      back_to : (n s : ℕ) → n + s - n ≡ s
+      back_to n s = omega arith
+
+  pub starts_low : (m : Node) → place_of net.nodes.keys m < node_total net → starts_of net m ≡ place_of net.nodes.keys m ∷ []
+  starts_low m h = ap (λ t. cond t (place_of net.nodes.keys m ∷ []) (slots_behind net m)) (lt_true (place_of net.nodes.keys m) (node_total net) h)
+
+  pub starts_high : (m : Node) → node_total net ≤ place_of net.nodes.keys m → starts_of net m ≡ slots_behind net m
+  starts_high m h = ap (λ t. cond t (place_of net.nodes.keys m ∷ []) (slots_behind net m)) (ge_false (place_of net.nodes.keys m) (node_total net) h)
+
+  -- where a chain leads, arrows lead back
+  pub chain_back : {a m : Node} → Chain (links_in net) a m
+      → (place_of net.nodes.keys a < node_total net) × ((v : ℕ) × (plain.has v (starts_of net m) ≡ true) × LeadsTo (targets_of net) v (place_of net.nodes.keys a))
+  chain_back {a = a} {m = m} (needs.at_once need) = ⊎_elim
+      (λ (m_in : place_of net.nodes.keys m < node_total net).
+      let (a_in, led) = need_leads a m need m_in in
+      (a_in, (place_of net.nodes.keys m, subst (λ l. plain.has (place_of net.nodes.keys m) l ≡ true) (sym (starts_low m m_in)) (lists.has_first (place_of net.nodes.keys m) []), led)))
+      (λ (past : node_total net ≤ place_of net.nodes.keys m).
+      let (a_in, (v, start, led)) = unknown_need a m need past in
+      (a_in, (v, subst (λ l. plain.has v l ≡ true) (sym (starts_high m past)) start, led)))
+      (cases_lt (place_of net.nodes.keys m) (node_total net))
+  chain_back {a = a} {m = m} (needs.after {b = c} need rest) =
+      let (c_in, (v, start, led)) = chain_back rest in
+      let (a_in, more) = need_leads a c need c_in in
+      (a_in, (v, start, leads_on led more))
+
+  -- where arrows lead from a start of a node, a chain leads back
+  pub starts_chain : (m : Node) (v w : ℕ) → plain.has v (starts_of net m) ≡ true → LeadsTo (targets_of net) v w → w < node_total net → Chain (links_in net) (node_at net.nodes.keys w) m
+  starts_chain m v w start led w_in = ⊎_elim
+      (λ (m_in : place_of net.nodes.keys m < node_total net).
+      let same : place_of net.nodes.keys m ≡ v = one (place_of net.nodes.keys m) v (subst (λ l. plain.has v l ≡ true) (starts_low m m_in) start) in
+      subst (λ x. Chain (links_in net) (node_at net.nodes.keys w) x) (ap (node_at net.nodes.keys) (sym same) ∙ at_place net.nodes.keys m m_in) ((fwd led w_in).low (subst (λ n. n < node_total net) same m_in)))
+      (λ (past : node_total net ≤ place_of net.nodes.keys m). from_behind m v w (subst (λ l. plain.has v l ≡ true) (starts_high m past) start) (fwd led w_in))
+      (cases_lt (place_of net.nodes.keys m) (node_total net))
+    where
+      one : (x a : ℕ) → plain.has a (x ∷ []) ≡ true → x ≡ a
+      one x a h = ⊎_elim (λ (same : x ≡ a). same) (λ (none : false ≡ true). absurd (false≢true none)) (lists.has_cases a x [] h)
+
+  -- between nodes with numbers
+  pub chain_leads : {a b : Node} → Chain (links_in net) a b → place_of net.nodes.keys b < node_total net → LeadsTo (targets_of net) (place_of net.nodes.keys b) (place_of net.nodes.keys a)
+  chain_leads {a = a} {b = b} chain b_in =
+      let (a_in, (v, start, led)) = chain_back chain in
+      let same : place_of net.nodes.keys b ≡ v = one (place_of net.nodes.keys b) v (subst (λ l. plain.has v l ≡ true) (starts_low b b_in) start) in
+      subst (λ n. LeadsTo (targets_of net) n (place_of net.nodes.keys a)) (sym same) led
+    where
+      one : (x a : ℕ) → plain.has a (x ∷ []) ≡ true → x ≡ a
+      one x a h = ⊎_elim (λ (same : x ≡ a). same) (λ (none : false ≡ true). absurd (false≢true none)) (lists.has_cases a x [] h)
+
+  pub leads_chain : (v w : ℕ) → v < node_total net → w < node_total net → LeadsTo (targets_of net) v w → Chain (links_in net) (node_at net.nodes.keys w) (node_at net.nodes.keys v)
+  leads_chain v w v_in w_in led = (fwd led w_in).low v_in
+
+  -- ---- all arrows lead to nodes and slots
+
+  pub behind_inside : (a : Node) (c : ℕ) → plain.has c (slots_behind net a) ≡ true → ((p : Place) (s : ℕ) → plain.has s (slots_of net.index p) ≡ true → s < slot_count net.index) → c < total net
+  behind_inside (Cell p) c h inside = let (s, slot, is) = map_plus (node_total net) (slots_of net.index p) c h in let low : s < slot_count net.index = inside p s slot in omega (arith, low, is)
+  behind_inside (Name scope word) c h inside = absurd (false≢true h)
+  behind_inside (Range b) c h inside = absurd (false≢true h)
+
+  pub targets_inside : ((p : Place) (s : ℕ) → plain.has s (slots_of net.index p) ≡ true → s < slot_count net.index) → (v c : ℕ) → plain.has c (targets_of net v) ≡ true → c < total net
+  targets_inside inside v c h = ⊎_elim
+      (λ (v_in : v < node_total net). ⊎_elim
+      (λ (user : plain.has c (users_of net.links v) ≡ true). omega (arith, (user_link v c v_in user).0))
+      (λ (slot : plain.has c (slots_behind net (node_at net.nodes.keys v)) ≡ true). behind_inside (node_at net.nodes.keys v) c slot inside)
+      (lists.has-append_cases c (users_of net.links v) (slots_behind net (node_at net.nodes.keys v)) (subst (λ l. plain.has c l ≡ true) (targets_low v v_in) h)))
+      (λ (past : node_total net ≤ v).
+      let (filed, used) = filter_has (is_used net) (filed_in net.index (v - node_total net)) c (subst (λ l. plain.has c l ≡ true) (targets_high v past) h) in
+      omega (arith, (used_node c used).0))
+      (cases_lt v (node_total net))
+
+  pub slot_targets_inside : (s c : ℕ) → plain.has c (from_slot net s) ≡ true → c < total net
+  slot_targets_inside s c h = let (filed, used) = filter_has (is_used net) (filed_in net.index s) c h in omega (arith, (used_node c used).0)

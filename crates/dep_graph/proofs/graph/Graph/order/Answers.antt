@@ -1,0 +1,25 @@
+use Rattle.std.proofs.Common.{◌≡◌, ◌∙◌, ◌<◌, ◌+◌, ap, arith, subst, sym, true}
+use Rattle.std.specs.List.{All}
+use Rattle.needs_order.specs.Needs as plain
+use Rattle.node_links.proofs.Relinking.{all_of}
+use Rattle.node_reach.specs.Arrows as arrows
+use Rattle.dep_graph.specs.Nodes.{items_of}
+use Rattle.dep_graph.specs.internal.Arrows.{node_total, targets_of, total}
+use Rattle.dep_graph.specs.internal.Walked.{AreKnown, AreUnknown}
+use Rattle.dep_graph.proofs.Listing.{if_ok}
+use Rattle.dep_graph.proofs.Ordering.{all_ordered, known_inside_total}
+use Rattle.dep_graph.proofs.graph.Graph.order.Goals as goal
+
+pub order-requires : goal.order-requires
+order-requires c =
+    subst (λ l. All (λ b. b < total c.args.self.now.net) l) (sym c.as_slice.ensures.keys)
+    (all_of (total c.args.self.now.net) c.in_ok-known.known.keys (known_inside_total c.args.self.now.net _ c.in_ok-known.known.keys c.in_ok-known.ensures))
+
+pub returns : goal.returns
+returns c =
+    if_ok c.ordered.result _ _ c.ordered.ensures
+    (λ order is. all_ordered c.args.self.now.net (items_of c.args.nodes.now) c.in_ok-unknown.unknown.keys (items_of order) c.in_ok-known.known.keys c.in_ok-walk.walk.nodes.items c.in_ok-walk.walk.on_cycle.items
+    (subst (λ l. AreUnknown c.args.self.now.net l c.in_ok-unknown.unknown.keys) c.items.ensures c.in_ok-unknown.ensures)
+    (subst (λ l. AreKnown c.args.self.now.net l c.in_ok-known.known.keys) c.items-2.ensures c.in_ok-known.ensures)
+    (subst (λ l. arrows.AreReached (targets_of c.args.self.now.net) l c.in_ok-walk.walk.nodes.items) c.as_slice.ensures.keys c.in_ok-walk.ensures.reached)
+    c.in_ok-walk.ensures.counts c.in_ok-walk.ensures.cycles c.in_ok-walk.ensures.in_order is)

@@ -1,0 +1,6 @@
+pub mod Nodes
+pub mod Needs
+pub mod Walks
+pub mod Graph
+pub mod Bent
+pub mod internal

@@ -1,0 +1,138 @@
+// The arrows of a net, from what is needed to what needs it.
+ghost use Rattle.std.specs.Prelude.{◌≡◌, ◌+◌, ◌<◌, ◌++◌, ◌∷◌, [], if◌then◌else◌, map, IfOk, OnOk};
+ghost use Rattle.std.specs.List.{flat_map};
+ghost use Rattle.node_links.specs.Nodes.{users_of};
+ghost use Rattle.block_index.specs.Index.{slot_count};
+ghost use Rattle.dep_graph.specs.internal.Arrows.{from_node, from_slot, is_used, node_total, slots_behind, starts_of, targets_of, total};
+ghost use Rattle.dep_graph.specs.internal.Numbers.{node_at};
+
+use crate::net::Net;
+use crate::node::Node;
+use node_reach::Arrows;
+use std::alloc::{AllocError, Global};
+
+impl Arrows for Net {
+    ghost count = { total };
+
+    ghost targets = { targets_of };
+
+    // A node's users and, of a cell, its slots; a slot's used ranges.
+    fn arrows(&self, alloc: Global, node: usize) -> Result<Vec<usize>, AllocError> {
+        let count = self.nodes.len();
+        if node < count {
+            self.from_node(alloc, node)
+        } else {
+            self.from_slot(alloc, node - count)
+        }
+    }
+}
+
+impl Net {
+    // The users of a node, and the slots that hold it where it is a cell.
+    fn from_node(&self, alloc: Global, node: usize) -> Result<Vec<usize>, AllocError>
+        requires { node < node_total self.now }
+        ensures { IfOk result (λ found. found.items ≡ from_node self.now node) }
+    {
+        let mut found = self.users(alloc, node)?;
+        self.add_slots(&mut found, self.nodes.as_slice()[node])?;
+        Ok(found)
+    }
+
+    // The users of a node.
+    fn users(&self, alloc: Global, node: usize) -> Result<Vec<usize>, AllocError>
+        requires { node < node_total self.now }
+        ensures { IfOk result (λ found. found.items ≡ users_of self.now.links node) }
+    {
+        let mut found = Vec::new(alloc);
+        'users: for user in self.links.users(node) {
+            found.push(*user)?;
+        }
+        Ok(found)
+    }
+
+    // Adds the slots that hold the node, where it is a cell, as they are numbered behind the nodes.
+    fn add_slots(&self, found: &mut Vec<usize>, node: Node) -> Result<(), AllocError>
+        ensures { OnOk result (found.new.items ≡ found.old.items ++ slots_behind self.now node) }
+    {
+        match node {
+            Node::Cell(at) => {
+                let slots = self.index.slots_at(at)?;
+                add_behind(found, self.nodes.len(), &slots)
+            }
+            _ => Ok(()),
+        }
+    }
+
+    // The used ranges that are filed under a slot.
+    fn from_slot(&self, alloc: Global, slot: usize) -> Result<Vec<usize>, AllocError>
+        requires { slot < slot_count self.now.index }
+        ensures { IfOk result (λ found. found.items ≡ from_slot self.now slot) }
+    {
+        let mut found = Vec::new(alloc);
+        'filed: for range in self.index.filed(slot) {
+            push_if(&mut found, *range, self.is_used(*range))?;
+        }
+        Ok(found)
+    }
+
+    // Whether some node is linked to the one of this number.
+    fn is_used(&self, node: usize) -> bool
+        ensures { result ≡ is_used self.now node }
+    {
+        node < self.links.len() && !self.links.users(node).is_empty()
+    }
+
+    // Where walks from these nodes begin.
+    pub(crate) fn starts(&self, nodes: &[Node]) -> Result<Vec<usize>, AllocError>
+        ensures { IfOk result (λ starts. starts.items ≡ flat_map (starts_of self.now) nodes.now) }
+    {
+        let mut starts = Vec::new(self.alloc);
+        'nodes: for node in nodes {
+            self.add_starts(&mut starts, *node)?;
+        }
+        Ok(starts)
+    }
+
+    // Adds the number of the node, or where it has none the slots that hold it.
+    fn add_starts(&self, starts: &mut Vec<usize>, node: Node) -> Result<(), AllocError>
+        ensures { OnOk result (starts.new.items ≡ starts.old.items ++ starts_of self.now node) }
+    {
+        match self.number(node) {
+            Some(number) => {
+                starts.push(number)?;
+                Ok(())
+            }
+            None => self.add_slots(starts, node),
+        }
+    }
+}
+
+// Adds slots as they are numbered behind so many nodes.
+fn add_behind(found: &mut Vec<usize>, count: usize, slots: &[usize]) -> Result<(), AllocError>
+    ensures { OnOk result (found.new.items ≡ found.old.items ++ map (λ s. count + s) slots.now) }
+{
+    'slots: for slot in slots {
+        found.push(behind(count, *slot)?)?;
+    }
+    Ok(())
+}
+
+// The number of a slot behind so many nodes. No memory holds more than have numbers.
+fn behind(count: usize, slot: usize) -> Result<usize, AllocError>
+    ensures { IfOk result (λ number. number ≡ count + slot) }
+{
+    match count.checked_add(slot) {
+        Some(number) => Ok(number),
+        None => Err(AllocError),
+    }
+}
+
+// Adds the number where it is wanted.
+fn push_if(found: &mut Vec<usize>, number: usize, is_wanted: bool) -> Result<(), AllocError>
+    ensures { OnOk result (found.new.items ≡ (if is_wanted then found.old.items ++ number ∷ [] else found.old.items)) }
+{
+    if is_wanted {
+        found.push(number)?;
+    }
+    Ok(())
+}

@@ -1,0 +1,32 @@
+//! Which formulas need which cells, and what follows from it: what a change reaches, in which order it is computed anew,
+//! and what is on a cycle.
+//!
+//! A [`Node`] is a cell, a named expression, or a range that formulas read. A [`Graph`] stands for a finite map from
+//! nodes to the nodes that each of them was linked to. Beside these a range that some node is linked to needs each cell
+//! that it covers, without being linked to any. Ranges never list their cells: a range is filed under the few slots into
+//! which its block is cut, and a cell finds the ranges that cover it by its slots. So prefix sums over n rows cost about
+//! n and not the square of n.
+//!
+//! ```text
+//! let mut graph = Graph::new(alloc)?;
+//! graph.link(b1, &[a1])?;       // B1 reads A1
+//! graph.link(c1, &[b1])?;       // C1 reads B1
+//! graph.link(d1, &[a1_to_a9])?; // D1 reads the range A1:A9
+//! graph.reach(&marks_of_a1)?    // A1, B1, C1, D1 and A1:A9, in some order
+//! graph.order(&those)?          // the same, each after what it needs
+//! graph.on_cycle(d1)?           // false
+//! ```
+#![tactic(auto)]
+
+mod arrows;
+mod bent;
+mod copy;
+mod graph;
+mod net;
+mod node;
+mod nodes;
+mod walk;
+
+pub use graph::Graph;
+pub use node::Node;
+pub use nodes::Nodes;

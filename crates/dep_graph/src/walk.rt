@@ -1,0 +1,194 @@
+// What a graph reaches, in any order and in order.
+ghost use Rattle.std.specs.Prelude.{◌≡◌, ◌≢◌, ◌↔◌, ◌⊎◌, ◌<◌, ◌≤◌, ◌++◌, ◌∷◌, ℕ, [], true, false, map, filter, nat_lt, length, IsTrue, IfOk, OnOk, slice_index_or};
+ghost use Rattle.std.specs.List.{AllPairs};
+ghost use Rattle.needs_order.specs.Needs as plain;
+ghost use Rattle.dep_graph.specs.Graph.{links_of};
+ghost use Rattle.dep_graph.specs.Needs.{OnCycle};
+ghost use Rattle.dep_graph.specs.Nodes.{has, items_of};
+ghost use Rattle.dep_graph.specs.Walks.{AreReached, IsOnce, IsOrdered};
+ghost use Rattle.dep_graph.specs.declared.node.Node.{Node};
+ghost use Rattle.dep_graph.specs.internal.Arrows.{node_total};
+ghost use Rattle.dep_graph.specs.internal.Numbers.{node_at, place_of};
+ghost use Rattle.dep_graph.specs.internal.Walked.{AreKnown, AreUnknown, pick, picks};
+
+use crate::graph::Graph;
+use crate::net::Net;
+use crate::node::Node;
+use crate::nodes::Nodes;
+use indexmap::IndexSet;
+use node_reach::Walk;
+use std::alloc::AllocError;
+
+impl Graph {
+    /// The nodes from which needs lead to one of the marks, one or more after another, and the marks themselves: each
+    /// once, in any order. A mark may be a node that was never linked. Costs about the number of the answer's nodes and of
+    /// their links, and for each cell among them a look-up for each size of slots in use. Errs for want of memory.
+    pub fn reach(&self, marks: &Nodes) -> Result<Nodes, AllocError>
+        ensures { IfOk result (λ nodes. AreReached (links_of self.now) (items_of marks.now) (items_of nodes)) }
+    {
+        let unknown = self.net.unknown(marks.items())?;
+        let starts = self.net.starts(marks.items())?;
+        let reached = node_reach::reach(self.net.alloc, &self.net, &starts)?;
+        self.net.named(&unknown, &reached)
+    }
+
+    /// Those of the nodes that are on no cycle, each once, and after all of them that its needs lead to. Costs about what
+    /// [`Graph::reach`] of them does. Errs for want of memory.
+    pub fn order(&self, nodes: &Nodes) -> Result<Nodes, AllocError>
+        ensures { IfOk result (λ order. IsOrdered (links_of self.now) (items_of nodes.now) (items_of order)) }
+    {
+        let unknown = self.net.unknown(nodes.items())?;
+        let known = self.net.known(nodes.items())?;
+        let walk = node_reach::order(self.net.alloc, &self.net, known.as_slice())?;
+        self.net.ordered(&unknown, &known, &walk)
+    }
+
+    /// Whether needs lead from the node back to it, one or more after another. Costs about what [`Graph::reach`] of it
+    /// does. Errs for want of memory.
+    pub fn on_cycle(&self, a: Node) -> Result<bool, AllocError>
+        ensures { IfOk result (λ is_so. IsTrue is_so ↔ OnCycle (links_of self.now) a) }
+    {
+        match self.net.number(a) {
+            Some(number) => {
+                let walk = node_reach::order(self.net.alloc, &self.net, &[number])?;
+                Ok(flag_of(&walk, number))
+            }
+            None => Ok(false),
+        }
+    }
+}
+
+impl Net {
+    // Those of the nodes that have no number, each once.
+    fn unknown(&self, nodes: &[Node]) -> Result<IndexSet<Node>, AllocError>
+        ensures { IfOk result (λ set. AreUnknown self.now nodes.now set.keys) }
+    {
+        let mut unknown = IndexSet::new(self.alloc);
+        'nodes: for node in nodes {
+            self.put_unknown(&mut unknown, *node)?;
+        }
+        Ok(unknown)
+    }
+
+    // Puts the node into the set unless it has a number.
+    fn put_unknown(&self, unknown: &mut IndexSet<Node>, node: Node) -> Result<(), AllocError>
+        requires { IsOnce unknown.old.keys }
+        ensures once { OnOk result (IsOnce unknown.new.keys) }
+        ensures more { OnOk result ((a : Node) → IsTrue (has a unknown.new.keys) ↔ (IsTrue (has a unknown.old.keys) ⊎ ((a ≡ node) × (node_total self.now ≤ place_of self.now.nodes.keys node)))) }
+    {
+        match self.number(node) {
+            Some(_) => Ok(()),
+            None => {
+                unknown.insert(node)?;
+                Ok(())
+            }
+        }
+    }
+
+    // The numbers of those of the nodes that have one.
+    fn known(&self, nodes: &[Node]) -> Result<IndexSet<usize>, AllocError>
+        ensures { IfOk result (λ set. AreKnown self.now nodes.now set.keys) }
+    {
+        let mut known = IndexSet::new(self.alloc);
+        'nodes: for node in nodes {
+            self.put_known(&mut known, *node)?;
+        }
+        Ok(known)
+    }
+
+    // Puts the number of the node into the set where it has one.
+    fn put_known(&self, known: &mut IndexSet<usize>, node: Node) -> Result<(), AllocError>
+        ensures { OnOk result ((n : ℕ) → IsTrue (plain.has n known.new.keys) ↔ (IsTrue (plain.has n known.old.keys) ⊎ ((n ≡ place_of self.now.nodes.keys node) × (n < node_total self.now)))) }
+    {
+        match self.number(node) {
+            Some(number) => {
+                known.insert(number)?;
+                Ok(())
+            }
+            None => Ok(()),
+        }
+    }
+
+    // The unknown nodes, and behind them those of the numbers that are nodes.
+    pub(crate) fn named(&self, unknown: &IndexSet<Node>, numbers: &[usize]) -> Result<Nodes, AllocError>
+        ensures { IfOk result (λ nodes. items_of nodes ≡ unknown.now.keys ++ map (node_at self.now.nodes.keys) (filter (λ v. nat_lt v (node_total self.now)) numbers.now)) }
+    {
+        let mut nodes = Nodes::of(self.alloc, unknown.as_slice())?;
+        'numbers: for number in numbers {
+            self.push_node(&mut nodes, *number)?;
+        }
+        Ok(nodes)
+    }
+
+    // Adds the node of a number, where it is one.
+    fn push_node(&self, nodes: &mut Nodes, number: usize) -> Result<(), AllocError>
+        ensures { OnOk result (items_of nodes.new ≡ items_of nodes.old ++ map (node_at self.now.nodes.keys) (filter (λ v. nat_lt v (node_total self.now)) (number ∷ []))) }
+    {
+        match self.nodes.as_slice().get(number) {
+            Some(node) => nodes.push(*node),
+            None => Ok(()),
+        }
+    }
+
+    // The unknown nodes, and behind them the known ones that are on no cycle, in the opposite order of the walk.
+    fn ordered(
+        &self,
+        unknown: &IndexSet<Node>,
+        known: &IndexSet<usize>,
+        walk: &Walk,
+    ) -> Result<Nodes, AllocError>
+        requires marks { length walk.now.on_cycle.items ≡ length walk.now.nodes.items }
+        requires known { (n : ℕ) → plain.has n known.now.keys ≡ true → n < node_total self.now }
+        ensures { IfOk result (λ nodes. items_of nodes ≡ unknown.now.keys ++ map (node_at self.now.nodes.keys) (picks known.now.keys walk.now.nodes.items walk.now.on_cycle.items)) }
+    {
+        let mut nodes = Nodes::of(self.alloc, unknown.as_slice())?;
+        let mut left = walk.nodes.len();
+        'walk: while 0 < left {
+            left -= 1;
+            self.push_walked(&mut nodes, known, walk, left)?;
+        }
+        Ok(nodes)
+    }
+
+    // Adds the node at a place of the walk, where it is known and on no cycle.
+    fn push_walked(
+        &self,
+        nodes: &mut Nodes,
+        known: &IndexSet<usize>,
+        walk: &Walk,
+        place: usize,
+    ) -> Result<(), AllocError>
+        requires place { place < length walk.now.nodes.items }
+        requires marks { length walk.now.on_cycle.items ≡ length walk.now.nodes.items }
+        requires known { (n : ℕ) → plain.has n known.now.keys ≡ true → n < node_total self.now }
+        ensures { OnOk result (items_of nodes.new ≡ items_of nodes.old ++ map (node_at self.now.nodes.keys) (pick known.now.keys (slice_index_or walk.now.nodes.items place 0) (slice_index_or walk.now.on_cycle.items place false))) }
+    {
+        let number = walk.nodes[place];
+        let is_on_cycle = walk.on_cycle[place];
+        if is_on_cycle || !has_number(known, number) {
+            return Ok(());
+        }
+        nodes.push(self.nodes.as_slice()[number])
+    }
+}
+
+// Whether the number is in the set.
+fn has_number(set: &IndexSet<usize>, number: usize) -> bool
+    ensures { result ≡ plain.has number set.now.keys }
+{
+    set.contains(&number)
+}
+
+// What the walk says of a node, by its number: whether it is on a cycle.
+fn flag_of(walk: &Walk, node: usize) -> bool
+    requires marks { length walk.now.on_cycle.items ≡ length walk.now.nodes.items }
+    requires once { AllPairs (λ a b. a ≢ b) walk.now.nodes.items }
+    ensures { (i : ℕ) → i < length walk.now.nodes.items → slice_index_or walk.now.nodes.items i 0 ≡ node → result ≡ slice_index_or walk.now.on_cycle.items i false }
+{
+    'walk: for place in 0..walk.nodes.len() {
+        if walk.nodes[place] == node {
+            return walk.on_cycle[place];
+        }
+    }
+    false
+}
