@@ -120,7 +120,7 @@ relinked old new a node needs keys inside is links x =
     ∙ ap (λ t. cond t (map (node_at old.nodes.keys) needs) (links_in old x)) (sym (subst (λ y. same_node x y ≡ true) same (own_node x))))
     (λ (other : x ≢ a).
     let apart : place_of old.nodes.keys x ≢ node = λ (at : place_of old.nodes.keys x ≡ node).
-        other (sym (at_place old.nodes.keys x (subst (λ n. n < length old.nodes.keys) (sym at) inside)) ∙ (ap (node_at old.nodes.keys) (at ∙ is) ∙ at_place old.nodes.keys a (subst (λ n. n < length old.nodes.keys) is inside))) in
+    other (sym (at_place old.nodes.keys x (subst (λ n. n < length old.nodes.keys) (sym at) inside)) ∙ (ap (node_at old.nodes.keys) (at ∙ is) ∙ at_place old.nodes.keys a (subst (λ n. n < length old.nodes.keys) is inside))) in
     ap (λ t. map (node_at old.nodes.keys) (cond t needs (needs_of old.links (place_of old.nodes.keys x)))) (ne_eqb (place_of old.nodes.keys x) node apart)
     ∙ ap (λ t. cond t (map (node_at old.nodes.keys) needs) (links_in old x)) (sym (other_node x a other)))
     (cases_node x a))

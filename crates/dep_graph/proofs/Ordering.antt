@@ -103,10 +103,10 @@ module _ (net : Net) (nodes unknown order : List Node) (known walk : List ℕ) (
       let k : plain.has (place_of net.nodes.keys a) known ≡ true = (numbers (place_of net.nodes.keys a)).1 (a, listed, refl, inside) in
       let (j, j_in, at) = lists.at_has (place_of net.nodes.keys a) walk ((walked.0 (place_of net.nodes.keys a)).1 (inl k)) in
       let mark : get_or marks j false ≡ false = ⊎_elim
-          (λ (marked : get_or marks j false ≡ true). absurd (apart (subst (λ x. OnCycle (links_in net) x) (ap (node_at net.nodes.keys) at ∙ at_place net.nodes.keys a inside)
-          (leads_chain net (get_or walk j 0) (get_or walk j 0) (subst (λ n. n < node_total net) (sym at) inside) (subst (λ n. n < node_total net) (sym at) inside) ((cycles j j_in).0 marked)))))
-          (λ (out : get_or marks j false ≡ false). out)
-          (cases_true (get_or marks j false)) in
+      (λ (marked : get_or marks j false ≡ true). absurd (apart (subst (λ x. OnCycle (links_in net) x) (ap (node_at net.nodes.keys) at ∙ at_place net.nodes.keys a inside)
+      (leads_chain net (get_or walk j 0) (get_or walk j 0) (subst (λ n. n < node_total net) (sym at) inside) (subst (λ n. n < node_total net) (sym at) inside) ((cycles j j_in).0 marked)))))
+      (λ (out : get_or marks j false ≡ false). out)
+      (cases_true (get_or marks j false)) in
       has-append_right a unknown (map (node_at net.nodes.keys) (picks known walk marks))
       (subst (λ x. has x (map (node_at net.nodes.keys) (picks known walk marks)) ≡ true) (ap (node_at net.nodes.keys) at ∙ at_place net.nodes.keys a inside)
       (has_map (node_at net.nodes.keys) (picks known walk marks) (get_or walk j 0) (has_picks known walk marks j count j_in (subst (λ n. plain.has n known ≡ true) (sym at) k) mark))))
@@ -151,6 +151,7 @@ module _ (net : Net) (nodes unknown order : List Node) (known walk : List ℕ) (
         absurd (alone (subst (λ x. LeadsTo (targets_of net) m x) (sym one) led)))
         (cases_lt (length low) j))
         (cases_lt j (length low))
+
   sorted : InOrder (links_in net) order
   sorted front back a b split there chain = ⊎_elim
       (λ (early : (others : List Node) × (unknown ≡ front ++ a ∷ others)).

@@ -112,7 +112,6 @@ starts_inside net nodes inside v h =
 
 module _ (net : Net) (marks unknown nodes : List Node) (starts reached : List ℕ) (rest : AreUnknown net marks unknown) (begun : starts ≡ flat_map (starts_of net) marks)
     (walked : arrows.AreReached (targets_of net) starts reached) (is : nodes ≡ unknown ++ map (node_at net.nodes.keys) (filter (λ v. nat_lt v (node_total net)) reached)) where
-
   -- a start below the nodes' count is a mark
   start_mark : (v : ℕ) → v < node_total net → plain.has v starts ≡ true → has (node_at net.nodes.keys v) marks ≡ true
   start_mark v v_in h =
