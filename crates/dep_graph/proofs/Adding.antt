@@ -1,8 +1,8 @@
 -- Nodes added, filed and linked. Serves the changes of a net.
-use Rattle.std.proofs.Common.{◌≡◌, ◌≢◌, ◌∙◌, sym, ap, refl, subst, arith, ℕ, ◌+◌, ◌<◌, ◌≤◌, ◌⊎◌, ⊎_elim, Bool, true, false, cond, ◌||◌, List, [], ◌∷◌, ◌++◌, map, length, get_or, take, eqb, eqb-true, Result, Ok, Err, OnOk, OnErr}
+use Rattle.std.proofs.Common.{◌≡◌, ◌≢◌, ◌∙◌, sym, ap, subst, arith, ℕ, ◌+◌, ◌<◌, ⊎_elim, Bool, true, false, cond, List, [], ◌∷◌, ◌++◌, map, length, get_or, take, eqb, eqb-true, Result, Ok, Err, OnOk, OnErr}
 use Rattle.std.specs.BTreeMap.{is_at}
 use Rattle.std.specs.BTreeSet.{BTreeSet, Updates, contains}
-use Rattle.std.specs.List.{list_any, position_or_len}
+use Rattle.std.specs.List.{list_any}
 use Rattle.std.specs.Ordering.{nat_cmp}
 use Rattle.std.proofs.lemmas.Bool.{eq-eqb, false≢true, ne_eqb, or_cases}
 use Rattle.std.proofs.lemmas.Bool.Decides.{nat_tests}
@@ -100,7 +100,7 @@ relinked_at old links a node needs inside is changed x = ap (map (node_at old.no
     ∙ ap (λ t. cond t (map (node_at old.nodes.keys) needs) (links_in old x)) (sym (subst (λ y. same_node x y ≡ true) same (own_node x))))
     (λ (other : x ≢ a).
     let apart : place_of old.nodes.keys x ≢ node = λ (at : place_of old.nodes.keys x ≡ node).
-        other (sym (at_place old.nodes.keys x (subst (λ n. n < length old.nodes.keys) (sym at) inside)) ∙ (ap (node_at old.nodes.keys) (at ∙ is) ∙ at_place old.nodes.keys a (subst (λ n. n < length old.nodes.keys) is inside))) in
+    other (sym (at_place old.nodes.keys x (subst (λ n. n < length old.nodes.keys) (sym at) inside)) ∙ (ap (node_at old.nodes.keys) (at ∙ is) ∙ at_place old.nodes.keys a (subst (λ n. n < length old.nodes.keys) is inside))) in
     ap (λ t. map (node_at old.nodes.keys) (cond t needs (needs_of old.links (place_of old.nodes.keys x)))) (ne_eqb (place_of old.nodes.keys x) node apart)
     ∙ ap (λ t. cond t (map (node_at old.nodes.keys) needs) (links_in old x)) (sym (other_node x a other)))
     (cases_node x a)

@@ -1,6 +1,5 @@
 -- Nodes that an operation bends, one number after another. Serves the bent nodes.
-use Rattle.std.proofs.Common.{◌≡◌, ◌≢◌, ◌∙◌, sym, ap, refl, subst, arith, ℕ, ◌+◌, ◌<◌, ◌≤◌, inl, inr, ◌⊎◌, ⊎_elim, Bool, true, false, List, [], ◌∷◌, ◌++◌, map, length, get_or, take, IsTrue, ◌↔◌}
-use Rattle.std.specs.List.{AllPairs}
+use Rattle.std.proofs.Common.{◌≡◌, ◌∙◌, sym, ap, subst, arith, ℕ, ◌+◌, ◌<◌, ◌≤◌, ⊎_elim, true, false, List, [], ◌∷◌, ◌++◌, map, length, get_or, take, IsTrue, ◌↔◌}
 use Rattle.std.proofs.lemmas.Bool.{cases_lt, false≢true}
 use Rattle.std.proofs.lemmas.List.{take_more}
 use Rattle.needs_order.specs.Needs as plain
@@ -27,8 +26,9 @@ pub record AreBentUpTo (s : Shift) (net : Net) (i : ℕ) (nodes : List Node) : T
 
 pub bent_start : (s : Shift) (net : Net) (nodes : List Node) → nodes ≡ [] → AreBentUpTo s net 0 nodes
 bent_start s net nodes none = subst (λ l. AreBentUpTo s net 0 l) (sym none) (record {
-    which = λ a. (λ h. absurd (false≢true h), λ (found : (n : ℕ) × (n < 0) × (node_at net.nodes.keys n ≡ a) × IsBentAt s net n). absurd (omega (arith, found.1)));
-    once = λ i j d before inside. absurd (omega (arith, inside)); })
+  which = λ a. (λ h. absurd (false≢true h), λ (found : (n : ℕ) × (n < 0) × (node_at net.nodes.keys n ≡ a) × IsBentAt s net n). absurd (omega (arith, found.1)));
+  once = λ i j d before inside. absurd (omega (arith, inside));
+})
 
 pub bent_next : (s : Shift) (net : Net) (i : ℕ) (old new : List Node) → i < length net.nodes.keys → AreBentUpTo s net i old → PushesBent s net i old new → AreBentUpTo s net (i + 1) new
 bent_next s net i old new inside before push = ⊎_elim
@@ -69,9 +69,9 @@ all_bent s net i nodes past bent = (
     λ h.
         let (n, low, is, (m, listed, bends)) = (bent.which a).0 h in
         let n_in : n < length net.nodes.keys = ⊎_elim
-            (λ (inside : n < length net.nodes.keys). inside)
-            (λ (out : length net.nodes.keys ≤ n). absurd (false≢true (subst (λ l. plain.has m l ≡ true) (no_needs net.links n (subst (λ k. k ≤ n) (sym net.counts) out)) listed)))
-            (cases_lt n (length net.nodes.keys)) in
+        (λ (inside : n < length net.nodes.keys). inside)
+        (λ (out : length net.nodes.keys ≤ n). absurd (false≢true (subst (λ l. plain.has m l ≡ true) (no_needs net.links n (subst (λ k. k ≤ n) (sym net.counts) out)) listed)))
+        (cases_lt n (length net.nodes.keys)) in
         let at : place_of net.nodes.keys a ≡ n = place_is net.nodes.keys a n net.once n_in is in
         (node_at net.nodes.keys m, subst (λ k. has (node_at net.nodes.keys m) (map (node_at net.nodes.keys) (needs_of net.links k)) ≡ true) (sym at) (has_map (node_at net.nodes.keys) (needs_of net.links n) m listed), bends),
     λ (by : IsBentBy s (links_in net) a).

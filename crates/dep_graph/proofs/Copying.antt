@@ -1,5 +1,5 @@
 -- Nets that are copied node by node. Serves the copy.
-use Rattle.std.proofs.Common.{◌≡◌, ◌≢◌, ◌∙◌, sym, ap, refl, subst, arith, ℕ, ◌+◌, ◌<◌, ◌≤◌, inl, inr, ◌⊎◌, ⊎_elim, Bool, true, false, cond, List, [], ◌∷◌, ◌++◌, map, filter, length, nat_lt}
+use Rattle.std.proofs.Common.{◌≡◌, ◌≢◌, ◌∙◌, sym, ap, refl, subst, arith, ℕ, ◌+◌, ◌<◌, ◌≤◌, ⊎_elim, Bool, true, false, cond, List, [], ◌∷◌, ◌++◌, map, filter, length, nat_lt}
 use Rattle.std.proofs.lemmas.Bool.{cases_lt, false≢true}
 use Rattle.std.proofs.lemmas.Bool.Decides.{nat_tests}
 use Rattle.needs_order.specs.Needs as plain
@@ -44,7 +44,7 @@ next_copied net old new i a needs inside is are before linked x = linked x ∙ �
     ∙ (are ∙ (ap (λ n. map (node_at net.nodes.keys) (needs_of net.links n)) (sym at) ∙ sym (ap (λ t. cond t (links_in net x) []) (is_below (place_of net.nodes.keys x) i at)))))
     (λ (other : x ≢ a).
     let apart : place_of net.nodes.keys x ≢ i = λ (at : place_of net.nodes.keys x ≡ i).
-        other (sym (at_place net.nodes.keys x (subst (λ n. n < length net.nodes.keys) (sym at) inside)) ∙ (ap (node_at net.nodes.keys) at ∙ sym is)) in
+    other (sym (at_place net.nodes.keys x (subst (λ n. n < length net.nodes.keys) (sym at) inside)) ∙ (ap (node_at net.nodes.keys) at ∙ sym is)) in
     ap (λ t. cond t needs (links_in old x)) (other_node x a other) ∙ (before x ∙ sym (ap (λ t. cond t (links_in net x) []) (below_next (place_of net.nodes.keys x) i apart))))
     (cases_node x a)
 

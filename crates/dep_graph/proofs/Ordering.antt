@@ -1,13 +1,12 @@
 -- Exactly the nodes on no cycle are ordered, each after what its needs lead to. Serves the order of nodes.
-use Rattle.std.proofs.Common.{◌≡◌, ◌≢◌, ◌∙◌, sym, ap, refl, subst, arith, ℕ, zero, suc, ◌+◌, ◌-◌, ◌<◌, ◌≤◌, inl, inr, ◌⊎◌, ⊎_elim, Bool, true, false, cond, List, [], ◌∷◌, ◌++◌, map, length, get_or, take, drop, nat_eq, ◌↔◌}
-use Rattle.std.specs.List.{AllPairs}
+use Rattle.std.proofs.Common.{◌≡◌, ◌∙◌, sym, ap, refl, subst, arith, ℕ, suc, ◌+◌, ◌-◌, ◌<◌, ◌≤◌, inl, inr, ◌⊎◌, ⊎_elim, Bool, true, false, List, [], ◌∷◌, ◌++◌, map, length, get_or, take, drop, ◌↔◌}
 use Rattle.std.proofs.lemmas.Bool.{cases_lt, false≢true}
-use Rattle.std.proofs.lemmas.List.{drop_more, get_or-append_right, get_or_append_left, get_or-take, length-append, length-take-le, take-append-drop}
+use Rattle.std.proofs.lemmas.List.{drop_more, get_or-append_right, get_or-take, length-append, length-take-le, take-append-drop}
 use Rattle.needs_order.specs.Needs as plain
 use Rattle.needs_order.proofs.Lists as lists
 use Rattle.node_reach.specs.Arrows as arrows
 use Rattle.node_reach.specs.Arrows.{LeadsTo}
-use Rattle.dep_graph.specs.Needs.{Chain, OnCycle}
+use Rattle.dep_graph.specs.Needs.{OnCycle}
 use Rattle.dep_graph.specs.Nodes.{has}
 use Rattle.dep_graph.specs.Walks.{InOrder, IsOnce, IsOrdered}
 use Rattle.dep_graph.specs.declared.net.Net.{Net}
@@ -17,7 +16,7 @@ use Rattle.dep_graph.specs.internal.Numbers.{node_at, place_of}
 use Rattle.dep_graph.specs.internal.Nets.{links_in}
 use Rattle.dep_graph.specs.internal.Walked.{AreKnown, AreUnknown, picks}
 use Rattle.dep_graph.proofs.Picking.{has_picks, picks_has, picks_once, picks_split}
-use Rattle.dep_graph.proofs.Places.{at_place, cases_true, has-append_cases, has-append_left, has-append_right, has_at, has_first, has_later, has_map, map_has, place_at, place_is}
+use Rattle.dep_graph.proofs.Places.{at_place, cases_true, has-append_cases, has-append_left, has-append_right, has_first, has_map, map_has, place_at, place_is}
 use Rattle.dep_graph.proofs.Reaching.{once-append, once_map}
 use Rattle.dep_graph.proofs.Walking.{chain_back, chain_leads, leads_chain, leads_on}
 
@@ -103,10 +102,10 @@ module _ (net : Net) (nodes unknown order : List Node) (known walk : List ℕ) (
       let k : plain.has (place_of net.nodes.keys a) known ≡ true = (numbers (place_of net.nodes.keys a)).1 (a, listed, refl, inside) in
       let (j, j_in, at) = lists.at_has (place_of net.nodes.keys a) walk ((walked.0 (place_of net.nodes.keys a)).1 (inl k)) in
       let mark : get_or marks j false ≡ false = ⊎_elim
-          (λ (marked : get_or marks j false ≡ true). absurd (apart (subst (λ x. OnCycle (links_in net) x) (ap (node_at net.nodes.keys) at ∙ at_place net.nodes.keys a inside)
-          (leads_chain net (get_or walk j 0) (get_or walk j 0) (subst (λ n. n < node_total net) (sym at) inside) (subst (λ n. n < node_total net) (sym at) inside) ((cycles j j_in).0 marked)))))
-          (λ (out : get_or marks j false ≡ false). out)
-          (cases_true (get_or marks j false)) in
+      (λ (marked : get_or marks j false ≡ true). absurd (apart (subst (λ x. OnCycle (links_in net) x) (ap (node_at net.nodes.keys) at ∙ at_place net.nodes.keys a inside)
+      (leads_chain net (get_or walk j 0) (get_or walk j 0) (subst (λ n. n < node_total net) (sym at) inside) (subst (λ n. n < node_total net) (sym at) inside) ((cycles j j_in).0 marked)))))
+      (λ (out : get_or marks j false ≡ false). out)
+      (cases_true (get_or marks j false)) in
       has-append_right a unknown (map (node_at net.nodes.keys) (picks known walk marks))
       (subst (λ x. has x (map (node_at net.nodes.keys) (picks known walk marks)) ≡ true) (ap (node_at net.nodes.keys) at ∙ at_place net.nodes.keys a inside)
       (has_map (node_at net.nodes.keys) (picks known walk marks) (get_or walk j 0) (has_picks known walk marks j count j_in (subst (λ n. plain.has n known ≡ true) (sym at) k) mark))))
@@ -151,6 +150,7 @@ module _ (net : Net) (nodes unknown order : List Node) (known walk : List ℕ) (
         absurd (alone (subst (λ x. LeadsTo (targets_of net) m x) (sym one) led)))
         (cases_lt (length low) j))
         (cases_lt j (length low))
+
   sorted : InOrder (links_in net) order
   sorted front back a b split there chain = ⊎_elim
       (λ (early : (others : List Node) × (unknown ≡ front ++ a ∷ others)).

@@ -1,9 +1,9 @@
 -- Exactly the nodes that reach a mark are reached. Serves reach.
-use Rattle.std.proofs.Common.{◌≡◌, ◌≢◌, ◌∙◌, sym, ap, refl, subst, arith, ℕ, zero, suc, ◌+◌, ◌<◌, ◌≤◌, inl, inr, ◌⊎◌, ⊎_elim, Bool, true, false, cond, ◌||◌, List, [], ◌∷◌, ◌++◌, map, filter, length, get_or, take, nat_eq, nat_lt}
+use Rattle.std.proofs.Common.{◌≡◌, ◌≢◌, ◌∙◌, sym, ap, subst, arith, ℕ, zero, suc, ◌<◌, ◌≤◌, inl, inr, ⊎_elim, Bool, true, false, cond, List, [], ◌∷◌, ◌++◌, map, filter, length, get_or, nat_lt}
 use Rattle.std.specs.List.{flat_map, AllPairs}
 use Rattle.std.proofs.lemmas.Bool.{cases_lt, false≢true}
 use Rattle.std.proofs.lemmas.Bool.Decides.{nat_tests}
-use Rattle.std.proofs.lemmas.List.{get_or_append_left, get_or-append_right, get_or_default, length-append}
+use Rattle.std.proofs.lemmas.List.{get_or_default}
 use Rattle.needs_order.specs.Needs as plain
 use Rattle.needs_order.proofs.Lists as lists
 use Rattle.cell_addr.specs.declared.place.Place.{Place}
@@ -15,7 +15,6 @@ use Rattle.dep_graph.specs.Nodes.{has}
 use Rattle.dep_graph.specs.Walks.{AreReached, IsOnce}
 use Rattle.dep_graph.specs.declared.net.Net.{Net}
 use Rattle.dep_graph.specs.declared.node.Node.{Node}
-use Rattle.dep_graph.specs.declared.node.Node.TheVariants.{Name}
 use Rattle.dep_graph.specs.internal.Arrows.{node_total, starts_of, targets_of, total}
 use Rattle.dep_graph.specs.internal.Numbers.{node_at, place_of}
 use Rattle.dep_graph.specs.internal.Nets.{links_in}
@@ -112,7 +111,6 @@ starts_inside net nodes inside v h =
 
 module _ (net : Net) (marks unknown nodes : List Node) (starts reached : List ℕ) (rest : AreUnknown net marks unknown) (begun : starts ≡ flat_map (starts_of net) marks)
     (walked : arrows.AreReached (targets_of net) starts reached) (is : nodes ≡ unknown ++ map (node_at net.nodes.keys) (filter (λ v. nat_lt v (node_total net)) reached)) where
-
   -- a start below the nodes' count is a mark
   start_mark : (v : ℕ) → v < node_total net → plain.has v starts ≡ true → has (node_at net.nodes.keys v) marks ≡ true
   start_mark v v_in h =

@@ -1,8 +1,7 @@
 -- Arrows of a net and chains of needs: the ones lead where the others come from. Serves all walks.
-use Rattle.std.proofs.Common.{◌≡◌, ◌∙◌, sym, ap, refl, subst, arith, ℕ, ◌+◌, ◌-◌, ◌<◌, ◌≤◌, inl, inr, ◌⊎◌, ⊎_elim, Bool, true, false, cond, ◌||◌, List, [], ◌∷◌, ◌++◌, map, filter, length, nat_eq, nat_lt}
+use Rattle.std.proofs.Common.{◌≡◌, ◌∙◌, sym, ap, refl, subst, arith, ℕ, ◌+◌, ◌-◌, ◌<◌, ◌≤◌, inl, inr, ◌⊎◌, ⊎_elim, Bool, true, false, cond, List, [], ◌∷◌, map, filter, length, nat_lt}
 use Rattle.std.proofs.lemmas.Bool.{cases_lt, false≢true}
 use Rattle.std.proofs.lemmas.Bool.Decides.{nat_tests}
-use Rattle.cell_addr.specs.declared.place.Block.{Block}
 use Rattle.cell_addr.specs.declared.place.Place.{Place}
 use Rattle.needs_order.specs.Needs as plain
 use Rattle.needs_order.proofs.Lists as lists
@@ -17,7 +16,7 @@ use Rattle.dep_graph.specs.declared.net.Net.{Net}
 use Rattle.dep_graph.specs.declared.node.Node.{Node}
 use Rattle.dep_graph.specs.declared.node.Node.TheVariants.{Cell, Name, Range}
 use Rattle.dep_graph.specs.internal.Arrows.{cell_slots, from_node, from_slot, is_used, node_total, slots_behind, starts_of, targets_of, total}
-use Rattle.dep_graph.specs.internal.Numbers.{IsFiled, node_at, place_of}
+use Rattle.dep_graph.specs.internal.Numbers.{node_at, place_of}
 use Rattle.dep_graph.specs.internal.Nets.{links_in}
 use Rattle.dep_graph.proofs.Growing.{known_inside, no_needs, unknown_links}
 use Rattle.dep_graph.proofs.Places.{at_place, has_map, map_has, place_at, place_is}
@@ -100,7 +99,6 @@ leads_on (at_once x) rest = after x rest
 leads_on (after x led) rest = after x (leads_on led rest)
 
 module _ (net : Net) where
-
   -- ---- arrows of one node
 
   pub targets_low : (v : ℕ) → v < node_total net → targets_of net v ≡ from_node net v
@@ -114,9 +112,9 @@ module _ (net : Net) where
   user_link i u inside h =
       let linked : plain.has i (needs_of net.links u) ≡ true = sym (net.links.exact u i) ∙ h in
       let low : u < node_total net = ⊎_elim
-          (λ (is : u < node_total net). is)
-          (λ (past : node_total net ≤ u). absurd (false≢true (subst (λ l. plain.has i l ≡ true) (no_needs net.links u (subst (λ n. n ≤ u) (sym net.counts) past)) linked)))
-          (cases_lt u (node_total net)) in
+      (λ (is : u < node_total net). is)
+      (λ (past : node_total net ≤ u). absurd (false≢true (subst (λ l. plain.has i l ≡ true) (no_needs net.links u (subst (λ n. n ≤ u) (sym net.counts) past)) linked)))
+      (cases_lt u (node_total net)) in
       (low, subst (λ n. has (node_at net.nodes.keys i) (map (node_at net.nodes.keys) (needs_of net.links n)) ≡ true) (sym (place_at net.nodes.keys u net.once low)) (has_map (node_at net.nodes.keys) (needs_of net.links u) i linked))
 
   -- a linked node has a user, and both have numbers
@@ -127,9 +125,9 @@ module _ (net : Net) where
       let k_in : k < node_total net = known_inside net (place_of net.nodes.keys a) k there in
       let same : place_of net.nodes.keys b ≡ k = place_is net.nodes.keys b k net.once k_in is in (
         ⊎_elim
-        (λ (low : place_of net.nodes.keys a < node_total net). low)
-        (λ (past : node_total net ≤ place_of net.nodes.keys a). absurd (false≢true (subst (λ l. has b l ≡ true) (unknown_links net a past) h)))
-        (cases_lt (place_of net.nodes.keys a) (node_total net)),
+            (λ (low : place_of net.nodes.keys a < node_total net). low)
+            (λ (past : node_total net ≤ place_of net.nodes.keys a). absurd (false≢true (subst (λ l. has b l ≡ true) (unknown_links net a past) h)))
+            (cases_lt (place_of net.nodes.keys a) (node_total net)),
         subst (λ n. n < node_total net) (sym same) k_in,
         subst (λ n. plain.has n (needs_of net.links (place_of net.nodes.keys a)) ≡ true) (sym same) there,
       )
@@ -193,23 +191,23 @@ module _ (net : Net) where
 
   step : (v c w : ℕ) → w < node_total net → plain.has c (targets_of net v) ≡ true → (c ≡ w) ⊎ Fwd c w → Fwd v w
   step v c w w_in next led = record {
-      low = λ v_in. ⊎_elim
-          (λ (user : plain.has c (users_of net.links v) ≡ true).
-          let (c_in, linked) = user_link v c v_in user in
-          ⊎_elim
-          (λ (same : c ≡ w). needs.at_once (inl (subst (λ n. has (node_at net.nodes.keys v) (links_in net (node_at net.nodes.keys n)) ≡ true) same linked)))
-          (λ (f : Fwd c w). chain_end (f.low c_in) (inl linked))
-          led)
-          (λ (slot : plain.has c (slots_behind net (node_at net.nodes.keys v)) ≡ true). ⊎_elim
-          (λ (same : c ≡ w). absurd (omega (arith, same, w_in, behind_high (node_at net.nodes.keys v) c slot)))
-          (λ (f : Fwd c w). from_behind (node_at net.nodes.keys v) c w slot f)
-          led)
-          (lists.has-append_cases c (users_of net.links v) (slots_behind net (node_at net.nodes.keys v)) (subst (λ l. plain.has c l ≡ true) (targets_low v v_in) next));
-      high = λ past.
-          let under : plain.has c (from_slot net (v - node_total net)) ≡ true = subst (λ l. plain.has c l ≡ true) (targets_high v past) next in
-          let (filed, used) = filter_has (is_used net) (filed_in net.index (v - node_total net)) c under in
-          (c, under, ⊎_elim (λ (same : c ≡ w). inl same) (λ (f : Fwd c w). inr (f.low (used_node c used).0)) led);
-    }
+    low = λ v_in. ⊎_elim
+        (λ (user : plain.has c (users_of net.links v) ≡ true).
+        let (c_in, linked) = user_link v c v_in user in
+        ⊎_elim
+        (λ (same : c ≡ w). needs.at_once (inl (subst (λ n. has (node_at net.nodes.keys v) (links_in net (node_at net.nodes.keys n)) ≡ true) same linked)))
+        (λ (f : Fwd c w). chain_end (f.low c_in) (inl linked))
+        led)
+        (λ (slot : plain.has c (slots_behind net (node_at net.nodes.keys v)) ≡ true). ⊎_elim
+        (λ (same : c ≡ w). absurd (omega (arith, same, w_in, behind_high (node_at net.nodes.keys v) c slot)))
+        (λ (f : Fwd c w). from_behind (node_at net.nodes.keys v) c w slot f)
+        led)
+        (lists.has-append_cases c (users_of net.links v) (slots_behind net (node_at net.nodes.keys v)) (subst (λ l. plain.has c l ≡ true) (targets_low v v_in) next));
+    high = λ past.
+        let under : plain.has c (from_slot net (v - node_total net)) ≡ true = subst (λ l. plain.has c l ≡ true) (targets_high v past) next in
+        let (filed, used) = filter_has (is_used net) (filed_in net.index (v - node_total net)) c under in
+        (c, under, ⊎_elim (λ (same : c ≡ w). inl same) (λ (f : Fwd c w). inr (f.low (used_node c used).0)) led);
+  }
 
   pub fwd : {v w : ℕ} → LeadsTo (targets_of net) v w → w < node_total net → Fwd v w
   fwd {v = v} {w = w} (at_once next) w_in = step v w w w_in next (inl refl)
@@ -223,7 +221,7 @@ module _ (net : Net) where
       (λ (h : has b (links_in net a) ≡ true). (
         (link_user a b h).0,
         at_once (subst (λ l. plain.has (place_of net.nodes.keys a) l ≡ true) (sym (targets_low (place_of net.nodes.keys b) b_in))
-        (lists.has-append_left (place_of net.nodes.keys a) (users_of net.links (place_of net.nodes.keys b)) (slots_behind net (node_at net.nodes.keys (place_of net.nodes.keys b))) (user_of a b h))),
+            (lists.has-append_left (place_of net.nodes.keys a) (users_of net.links (place_of net.nodes.keys b)) (slots_behind net (node_at net.nodes.keys (place_of net.nodes.keys b))) (user_of a b h))),
       ))
       (λ (h : (covers_node a b ≡ true) × IsUsed (links_in net) a).
       let (p, cell) = cell_of a b h.0 in
@@ -232,7 +230,7 @@ module _ (net : Net) where
       = subst (λ x. plain.has (node_total net + s) (slots_behind net x) ≡ true) (sym (at_place net.nodes.keys b b_in ∙ cell)) (plus_map (node_total net) (slots_of net.index p) s slot) in (
         a_in,
         after (subst (λ l. plain.has (node_total net + s) l ≡ true) (sym (targets_low (place_of net.nodes.keys b) b_in))
-        (lists.has-append_right (node_total net + s) (users_of net.links (place_of net.nodes.keys b)) (slots_behind net (node_at net.nodes.keys (place_of net.nodes.keys b))) behind)) (slot_leads a s under),
+            (lists.has-append_right (node_total net + s) (users_of net.links (place_of net.nodes.keys b)) (slots_behind net (node_at net.nodes.keys (place_of net.nodes.keys b))) behind)) (slot_leads a s under),
       ))
       need
     where

@@ -14,10 +14,7 @@ pub enum Node {
     /// The cell at a place.
     Cell(Place),
     /// A named expression: the number of its scope, and the number of its word.
-    Name {
-        scope: u32,
-        word: u64,
-    },
+    Name { scope: u32, word: u64 },
     /// A range of cells that formulas read. It needs each of its cells where some node is linked to it.
     Range(Block),
 }

@@ -110,7 +110,11 @@ impl Net {
     }
 
     // The unknown nodes, and behind them those of the numbers that are nodes.
-    pub(crate) fn named(&self, unknown: &IndexSet<Node>, numbers: &[usize]) -> Result<Nodes, AllocError>
+    pub(crate) fn named(
+        &self,
+        unknown: &IndexSet<Node>,
+        numbers: &[usize],
+    ) -> Result<Nodes, AllocError>
         ensures { IfOk result (λ nodes. items_of nodes ≡ unknown.now.keys ++ map (node_at self.now.nodes.keys) (filter (λ v. nat_lt v (node_total self.now)) numbers.now)) }
     {
         let mut nodes = Nodes::of(self.alloc, unknown.as_slice())?;

@@ -7,7 +7,8 @@ use Rattle.dep_graph.proofs.net.Net.use_all.Given as goal
 -- the nodes gone by have their numbers, and are filed
 abbrev pub invariant-needs : goal.invariant-needs
 invariant-needs l = record {
-    grown : Grows l.fn.self l.self;
-    nodes : map (node_at l.self.nodes.keys) l.numbers.items ≡ take l.need-index l.needs;
-    inside : (n : ℕ) → has n l.numbers.items ≡ true → n < length l.self.nodes.keys;
-    filed : (n : ℕ) → has n l.numbers.items ≡ true → IsFiled l.self.index l.self.nodes.keys n }
+  grown : Grows l.fn.self l.self;
+  nodes : map (node_at l.self.nodes.keys) l.numbers.items ≡ take l.need-index l.needs;
+  inside : (n : ℕ) → has n l.numbers.items ≡ true → n < length l.self.nodes.keys;
+  filed : (n : ℕ) → has n l.numbers.items ≡ true → IsFiled l.self.index l.self.nodes.keys n;
+}
