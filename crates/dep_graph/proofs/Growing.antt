@@ -1,8 +1,8 @@
 -- Nets that get more nodes, and the links of their nodes. Serves linking.
-use Rattle.std.proofs.Common.{◌≡◌, ◌≢◌, ◌∙◌, sym, ap, refl, subst, arith, ℕ, ◌+◌, ◌<◌, ◌≤◌, inl, inr, ◌⊎◌, ⊎_elim, Bool, true, false, cond, ◌||◌, List, [], ◌∷◌, ◌++◌, map, length, get_or, take, eqb, nat_eq, append_assoc}
-use Rattle.std.specs.List.{list_any, AllPairs, IsDistinct}
-use Rattle.std.proofs.lemmas.Bool.{cases_lt, false≢true, eq-eqb, ne_eqb}
-use Rattle.std.proofs.lemmas.List.{append-nil, get_or_append_left, get_or_past, get_or_push, length-append, length-map, length_push, map-append, take_more}
+use Rattle.std.proofs.Common.{◌≡◌, ◌≢◌, ◌∙◌, sym, ap, refl, subst, arith, ℕ, ◌<◌, ◌≤◌, ⊎_elim, true, cond, List, [], ◌∷◌, ◌++◌, map, length, eqb, append_assoc}
+use Rattle.std.specs.List.{IsDistinct}
+use Rattle.std.proofs.lemmas.Bool.{cases_lt, eq-eqb, ne_eqb}
+use Rattle.std.proofs.lemmas.List.{append-nil, get_or_append_left, get_or_past, length-append, length-map}
 use Rattle.std.proofs.lemmas.Map.Made.{AllPairs-from_IsDistinct}
 use Rattle.cell_addr.specs.declared.place.Place.{Place}
 use Rattle.needs_order.specs.Needs as plain
@@ -12,14 +12,14 @@ use Rattle.node_links.specs.declared.links.Links.{Links}
 use Rattle.block_index.specs.Index.{finds}
 use Rattle.block_index.specs.declared.index.BlockIndex.{BlockIndex}
 use Rattle.dep_graph.specs.Graph.{AreLinked, AreSame}
-use Rattle.dep_graph.specs.Nodes.{covers_node, has, same_node}
+use Rattle.dep_graph.specs.Nodes.{covers_node, same_node}
 use Rattle.dep_graph.specs.Walks.{IsOnce}
 use Rattle.dep_graph.specs.declared.net.Net.{Net}
 use Rattle.dep_graph.specs.declared.node.Node.{Node}
 use Rattle.dep_graph.specs.declared.node.Node.TheVariants.{Cell, Name}
 use Rattle.dep_graph.specs.internal.Numbers.{IsFiled, linked, node_at, place_of}
 use Rattle.dep_graph.specs.internal.Nets.{Grows, links_in}
-use Rattle.dep_graph.proofs.Places.{at_place, cases_node, covering_inside, decides_nodes, other_node, place-behind, place-more, place_inside, place_is, place_within, stands_at}
+use Rattle.dep_graph.proofs.Places.{at_place, cases_node, covering_inside, decides_nodes, other_node, place-behind, place-more}
 use Rattle.dep_graph.specs.internal.Hashed.{own_node}
 
 -- ---- numbers that stay

@@ -1,12 +1,12 @@
 -- Lists made in loops, one element after another. Serves the arrows and the walks.
-use Rattle.std.proofs.Common.{◌≡◌, ◌≢◌, ◌∙◌, sym, ap, refl, subst, arith, ℕ, suc, ◌+◌, ◌-◌, ◌<◌, ◌≤◌, inl, inr, ◌⊎◌, ⊎_elim, Bool, true, false, cond, ◌||◌, List, [], ◌∷◌, ◌++◌, map, filter, length, get_or, take, drop, Option, Some, None, Result, Ok, Err, IfOk, IsTrue, ◌↔◌, append_assoc, nat_eq, nat_lt, eqb}
+use Rattle.std.proofs.Common.{◌≡◌, ◌∙◌, sym, ap, refl, subst, arith, ℕ, ◌+◌, ◌<◌, ◌≤◌, inl, inr, ◌⊎◌, ⊎_elim, Bool, true, false, cond, ◌||◌, List, [], ◌∷◌, ◌++◌, map, filter, length, get_or, take, Some, None, Result, Ok, Err, IfOk, IsTrue, ◌↔◌, nat_eq, nat_lt}
 use Rattle.std.specs.List.{flat_map, list_any, position, All}
 use Rattle.std.specs.declared.alloc.Global.{Global}
 use Rattle.std.specs.declared.vec.Vec.{Vec}
-use Rattle.std.proofs.lemmas.Bool.{cases_lt, false≢true, or_cases, or_left, or_right}
+use Rattle.std.proofs.lemmas.Bool.{false≢true, or_cases, or_left, or_right}
 use Rattle.std.proofs.lemmas.Bool.Decides.{nat_tests}
 use Rattle.std.proofs.lemmas.Grind.{flat_map-append}
-use Rattle.std.proofs.lemmas.List.{append-nil, map-append, take_all, take_more}
+use Rattle.std.proofs.lemmas.List.{append-nil, map-append, take_more}
 use Rattle.std.proofs.lemmas.List.Folds.{list_any_more}
 use Rattle.cell_addr.specs.declared.place.Place.{Place}
 use Rattle.block_index.specs.Index.{slot_count, slots_of}
@@ -20,7 +20,7 @@ use Rattle.dep_graph.specs.Walks.{IsOnce}
 use Rattle.dep_graph.specs.declared.net.Net.{Net}
 use Rattle.dep_graph.specs.declared.node.Node.{Node}
 use Rattle.dep_graph.specs.internal.Arrows.{node_total}
-use Rattle.dep_graph.specs.internal.Numbers.{node_at, place_of}
+use Rattle.dep_graph.specs.internal.Numbers.{place_of}
 use Rattle.dep_graph.specs.internal.Walked.{AreKnown, AreUnknown}
 use Rattle.dep_graph.proofs.Places.{cases_true, has-append_cases, has-append_left, has-append_right, has_first, has_one, place_within}
 use Rattle.dep_graph.specs.internal.Hashed.{own_node}

@@ -1,13 +1,12 @@
 -- Exactly the nodes on no cycle are ordered, each after what its needs lead to. Serves the order of nodes.
-use Rattle.std.proofs.Common.{◌≡◌, ◌≢◌, ◌∙◌, sym, ap, refl, subst, arith, ℕ, zero, suc, ◌+◌, ◌-◌, ◌<◌, ◌≤◌, inl, inr, ◌⊎◌, ⊎_elim, Bool, true, false, cond, List, [], ◌∷◌, ◌++◌, map, length, get_or, take, drop, nat_eq, ◌↔◌}
-use Rattle.std.specs.List.{AllPairs}
+use Rattle.std.proofs.Common.{◌≡◌, ◌∙◌, sym, ap, refl, subst, arith, ℕ, suc, ◌+◌, ◌-◌, ◌<◌, ◌≤◌, inl, inr, ◌⊎◌, ⊎_elim, Bool, true, false, List, [], ◌∷◌, ◌++◌, map, length, get_or, take, drop, ◌↔◌}
 use Rattle.std.proofs.lemmas.Bool.{cases_lt, false≢true}
-use Rattle.std.proofs.lemmas.List.{drop_more, get_or-append_right, get_or_append_left, get_or-take, length-append, length-take-le, take-append-drop}
+use Rattle.std.proofs.lemmas.List.{drop_more, get_or-append_right, get_or-take, length-append, length-take-le, take-append-drop}
 use Rattle.needs_order.specs.Needs as plain
 use Rattle.needs_order.proofs.Lists as lists
 use Rattle.node_reach.specs.Arrows as arrows
 use Rattle.node_reach.specs.Arrows.{LeadsTo}
-use Rattle.dep_graph.specs.Needs.{Chain, OnCycle}
+use Rattle.dep_graph.specs.Needs.{OnCycle}
 use Rattle.dep_graph.specs.Nodes.{has}
 use Rattle.dep_graph.specs.Walks.{InOrder, IsOnce, IsOrdered}
 use Rattle.dep_graph.specs.declared.net.Net.{Net}
@@ -17,7 +16,7 @@ use Rattle.dep_graph.specs.internal.Numbers.{node_at, place_of}
 use Rattle.dep_graph.specs.internal.Nets.{links_in}
 use Rattle.dep_graph.specs.internal.Walked.{AreKnown, AreUnknown, picks}
 use Rattle.dep_graph.proofs.Picking.{has_picks, picks_has, picks_once, picks_split}
-use Rattle.dep_graph.proofs.Places.{at_place, cases_true, has-append_cases, has-append_left, has-append_right, has_at, has_first, has_later, has_map, map_has, place_at, place_is}
+use Rattle.dep_graph.proofs.Places.{at_place, cases_true, has-append_cases, has-append_left, has-append_right, has_first, has_map, map_has, place_at, place_is}
 use Rattle.dep_graph.proofs.Reaching.{once-append, once_map}
 use Rattle.dep_graph.proofs.Walking.{chain_back, chain_leads, leads_chain, leads_on}
 

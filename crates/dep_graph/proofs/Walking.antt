@@ -1,8 +1,7 @@
 -- Arrows of a net and chains of needs: the ones lead where the others come from. Serves all walks.
-use Rattle.std.proofs.Common.{◌≡◌, ◌∙◌, sym, ap, refl, subst, arith, ℕ, ◌+◌, ◌-◌, ◌<◌, ◌≤◌, inl, inr, ◌⊎◌, ⊎_elim, Bool, true, false, cond, ◌||◌, List, [], ◌∷◌, ◌++◌, map, filter, length, nat_eq, nat_lt}
+use Rattle.std.proofs.Common.{◌≡◌, ◌∙◌, sym, ap, refl, subst, arith, ℕ, ◌+◌, ◌-◌, ◌<◌, ◌≤◌, inl, inr, ◌⊎◌, ⊎_elim, Bool, true, false, cond, List, [], ◌∷◌, map, filter, length, nat_lt}
 use Rattle.std.proofs.lemmas.Bool.{cases_lt, false≢true}
 use Rattle.std.proofs.lemmas.Bool.Decides.{nat_tests}
-use Rattle.cell_addr.specs.declared.place.Block.{Block}
 use Rattle.cell_addr.specs.declared.place.Place.{Place}
 use Rattle.needs_order.specs.Needs as plain
 use Rattle.needs_order.proofs.Lists as lists
@@ -17,7 +16,7 @@ use Rattle.dep_graph.specs.declared.net.Net.{Net}
 use Rattle.dep_graph.specs.declared.node.Node.{Node}
 use Rattle.dep_graph.specs.declared.node.Node.TheVariants.{Cell, Name, Range}
 use Rattle.dep_graph.specs.internal.Arrows.{cell_slots, from_node, from_slot, is_used, node_total, slots_behind, starts_of, targets_of, total}
-use Rattle.dep_graph.specs.internal.Numbers.{IsFiled, node_at, place_of}
+use Rattle.dep_graph.specs.internal.Numbers.{node_at, place_of}
 use Rattle.dep_graph.specs.internal.Nets.{links_in}
 use Rattle.dep_graph.proofs.Growing.{known_inside, no_needs, unknown_links}
 use Rattle.dep_graph.proofs.Places.{at_place, has_map, map_has, place_at, place_is}

@@ -1,4 +1,4 @@
-use Rattle.std.proofs.Common.{◌≡◌, ◌∙◌, ◌<◌, ◌≤◌, ◌+◌, ap, sym, subst, arith, true}
+use Rattle.std.proofs.Common.{◌≡◌, ◌<◌, sym, subst, arith, true}
 use Rattle.needs_order.specs.Needs as plain
 use Rattle.dep_graph.specs.internal.Arrows.{from_node, from_slot, node_total, total}
 use Rattle.dep_graph.proofs.Listing.{all_inside, slots_are_slots}

@@ -1,10 +1,9 @@
-use Rattle.std.proofs.Common.{◌≡◌, ◌∙◌, ◌<◌, ◌+◌, ap, arith, subst, sym, true}
+use Rattle.std.proofs.Common.{◌<◌, subst, sym}
 use Rattle.std.specs.List.{All}
-use Rattle.needs_order.specs.Needs as plain
 use Rattle.node_links.proofs.Relinking.{all_of}
 use Rattle.node_reach.specs.Arrows as arrows
 use Rattle.dep_graph.specs.Nodes.{items_of}
-use Rattle.dep_graph.specs.internal.Arrows.{node_total, targets_of, total}
+use Rattle.dep_graph.specs.internal.Arrows.{targets_of, total}
 use Rattle.dep_graph.specs.internal.Walked.{AreKnown, AreUnknown}
 use Rattle.dep_graph.proofs.Listing.{if_ok}
 use Rattle.dep_graph.proofs.Ordering.{all_ordered, known_inside_total}

@@ -1,4 +1,4 @@
-use Rattle.std.proofs.Common.{◌≡◌, ◌∙◌, ap, sym, subst, arith, length, [], ◌∷◌, ◌++◌, false, true, ◌+◌, ◌<◌}
+use Rattle.std.proofs.Common.{◌≡◌, ◌∙◌, ap, sym, subst, arith, length, [], ◌∷◌, ◌++◌, true}
 use Rattle.std.proofs.lemmas.List.{length_push}
 use Rattle.needs_order.specs.Needs as plain
 use Rattle.node_links.specs.Nodes.{needs_of}

@@ -1,6 +1,5 @@
 use Rattle.std.proofs.Common.{◌≡◌, ◌∙◌, ap, arith, map, length, ◌<◌, ◌≤◌}
-use Rattle.dep_graph.specs.Graph.{AreSame}
-use Rattle.dep_graph.specs.internal.Nets.{Grows, links_in}
+use Rattle.dep_graph.specs.internal.Nets.{Grows}
 use Rattle.dep_graph.specs.internal.Numbers.{node_at, place_of}
 use Rattle.dep_graph.proofs.Adding.{err_on, on_err, on_ok}
 use Rattle.dep_graph.proofs.Growing.{grown_length, grown_links, grown_place, grows_on, linked_after, relinked, same_after, unlinked_links}

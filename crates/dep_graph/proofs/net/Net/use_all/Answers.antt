@@ -1,4 +1,4 @@
-use Rattle.std.proofs.Common.{◌<◌, ◌≤◌, length, refl, ℕ}
+use Rattle.std.proofs.Common.{◌<◌, ◌≤◌, length, refl}
 use Rattle.dep_graph.specs.internal.Nets.{Grows}
 use Rattle.dep_graph.specs.internal.Numbers.{IsFiled}
 use Rattle.dep_graph.proofs.Adding.{each_number, use_next}
