@@ -6,6 +6,8 @@
 #[cfg(test)]
 mod calculation;
 #[cfg(test)]
+mod needs;
+#[cfg(test)]
 mod networks;
 #[cfg(test)]
 mod orders;
