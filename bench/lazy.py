@@ -3,7 +3,7 @@
     python3 bench/lazy.py [PROGRAM]
 
 PROGRAM is crates/lazy_cases/out/lazy_cases where no word is given (`rt run` there builds it). Its clock gives the times, and
-each is the least of three runs. Memory is the peak of a run, less that of a run without formulas.
+each is the least of three runs. Memory is the peak of a run, less that of a run with half as many formulas.
 """
 import os
 import subprocess
@@ -42,10 +42,11 @@ def main(words):
         times = least(program, 1, operations)
         print(f"one formula over {operations:,} operations that lose something: {times['losing'] / operations:6.0f} ns each; "
               f"and back: {times['back'] / operations:6.0f} ns each")
-    bare = run(program, 1, 0)[1]
-    for formulas in (100_000, 1_000_000):
+    for formulas in (1_000_000, 2_000_000):
+        half = run(program, formulas // 2, 0)[1]
         times, peak = run(program, formulas, 0)
-        print(f"{formulas:,} formulas of one tree: {(peak - bare) / formulas:6.1f} bytes each, {times['formulas'] / formulas:6.0f} ns each to put in")
+        print(f"{formulas:,} formulas of one tree: {(peak - half) / (formulas // 2):6.1f} bytes each, "
+              f"{times['formulas'] / formulas:6.0f} ns each to put in")
 
 
 if __name__ == "__main__":
