@@ -19,7 +19,7 @@ use Rattle.block_slots.specs.declared.slot.Size.{Size}
 use Rattle.block_slots.specs.declared.slot.Slot.{Slot}
 use Rattle.needs_order.specs.Needs.{has, lists_of}
 use Rattle.needs_order.proofs.Lists.{has-append_cases, has-append_left, has-append_right, has_cases, has_first, nat_eq_self}
-use Rattle.block_index.specs.Index.{Files, FindsAlike, filed_in, finds, slots_of}
+use Rattle.block_index.specs.Index.{Files, FindsAlike, filed_in, finds, slot_count, slots_of}
 use Rattle.block_index.specs.declared.index.BlockIndex.{BlockIndex}
 use Rattle.block_index.specs.declared.key.SlotKey.{SlotKey}
 use Rattle.block_index.specs.internal.Keys.{AreSized, has_size, in_slot, key_at, key_of, key_size, place_of, same_key}
@@ -379,7 +379,7 @@ module _ (b : Block) (rows cols : Range ℕ) (slots : List Slot) (r : rows ≡ r
 
 -- ---- the slots of a place are slots
 
-pub slots_inside : (keys : List SlotKey) (p : Place) (sizes : List Size) (s : ℕ) → has s (filter_map (λ z. position (same_key (key_at p z)) keys) sizes) ≡ true → s < length keys
+slots_inside : (keys : List SlotKey) (p : Place) (sizes : List Size) (s : ℕ) → has s (filter_map (λ z. position (same_key (key_at p z)) keys) sizes) ≡ true → s < length keys
 slots_inside keys p [] s h = absurd (false≢true h)
 slots_inside keys p (z ∷ sizes) s h = by (nat_lt (place_of keys (key_at p z)) (length keys)) refl (λ later. slots_inside keys p sizes s later) h
   where
@@ -393,6 +393,10 @@ slots_inside keys p (z ∷ sizes) s h = by (nat_lt (place_of keys (key_at p z)) 
         (λ (same : place_of keys (key_at p z) ≡ s). subst (λ n. n < length keys) same (below (place_of keys (key_at p z)) (length keys) e))
         (λ later. rest later)
         (has_cases s (place_of keys (key_at p z)) (filter_map (λ y. position (same_key (key_at p y)) keys) sizes) there)
+
+-- the slots that hold a place are among those that have a list
+pub slots_are_slots : (x : BlockIndex) (p : Place) (s : ℕ) → has s (slots_of x p) ≡ true → s < slot_count x
+slots_are_slots x p s h = slots_inside x.slots.keys p x.sizes.items s h
 
 -- ---- for those who walk from places to numbers
 

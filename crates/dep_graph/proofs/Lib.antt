@@ -8,3 +8,5 @@ pub mod Ordering
 pub mod Listing
 pub mod Copying
 pub mod Bending
+pub mod Shifting
+pub mod UnbentNodes

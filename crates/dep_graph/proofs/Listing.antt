@@ -8,10 +8,6 @@ use Rattle.std.proofs.lemmas.Bool.Decides.{nat_tests}
 use Rattle.std.proofs.lemmas.Grind.{flat_map-append}
 use Rattle.std.proofs.lemmas.List.{append-nil, map-append, take_more}
 use Rattle.std.proofs.lemmas.List.Folds.{list_any_more}
-use Rattle.cell_addr.specs.declared.place.Place.{Place}
-use Rattle.block_index.specs.Index.{slot_count, slots_of}
-use Rattle.block_index.specs.declared.index.BlockIndex.{BlockIndex}
-use Rattle.block_index.proofs.Filing.{slots_inside}
 use Rattle.node_links.proofs.Relinking.{all_of}
 use Rattle.needs_order.specs.Needs as plain
 use Rattle.needs_order.proofs.Lists as lists
@@ -199,6 +195,3 @@ if_ok (Err e) P Q h f = tt
 pub all_inside : {B : Type 0} (r : Result (Vec ℕ Global) B) (targets : List ℕ) (n : ℕ) → IfOk r (λ found. found.items ≡ targets) → ((b : ℕ) → plain.has b targets ≡ true → b < n) → IfOk r (λ found. All (λ b. b < n) found.items)
 all_inside (Ok found) targets n is each = subst (λ l. All (λ b. b < n) l) (sym is) (all_of n targets each)
 all_inside (Err e) targets n is each = tt
-
-pub slots_are_slots : (x : BlockIndex) (p : Place) (s : ℕ) → plain.has s (slots_of x p) ≡ true → s < slot_count x
-slots_are_slots x p s h = slots_inside x.slots.keys p x.sizes.items s h

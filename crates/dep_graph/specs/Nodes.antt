@@ -1,7 +1,7 @@
 -- Nodes of the graph of needs, and lists of them. Source: this project's own.
 use Rattle.std.specs.Prelude.{◌==◌, ◌&&◌, Bool, false, List}
 use Rattle.std.specs.List.{list_any}
-use Rattle.cell_addr.specs.Place.{covers, same_place}
+use Rattle.cell_addr.specs.Place.{covers, same_block, same_place}
 use Rattle.dep_graph.specs.declared.node.Node.{Node}
 use Rattle.dep_graph.specs.declared.node.Node.TheVariants.{Cell, Name, Range}
 use Rattle.dep_graph.specs.declared.nodes.Nodes.{Nodes}
@@ -10,7 +10,7 @@ use Rattle.dep_graph.specs.declared.nodes.Nodes.{Nodes}
 abbrev pub same_node : Node → Node → Bool
 same_node (Cell p) (Cell q) = same_place p q
 same_node (Name scope word) (Name other_scope other_word) = scope == other_scope && word == other_word
-same_node (Range b) (Range c) = b.sheet == c.sheet && (b.top == c.top && (b.left == c.left && (b.bottom == c.bottom && b.right == c.right)))
+same_node (Range b) (Range c) = same_block b c
 same_node _ _ = false
 
 -- the node is one of the list

@@ -5,3 +5,4 @@ pub mod Nets
 pub mod Arrows
 pub mod Walked
 pub mod BentNumbers
+pub mod ShiftedNumbers

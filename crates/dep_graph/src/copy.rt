@@ -26,7 +26,7 @@ impl Net {
     }
 
     // What the node of a number is linked to.
-    fn needs(&self, number: usize) -> Result<Nodes, AllocError>
+    pub(crate) fn needs(&self, number: usize) -> Result<Nodes, AllocError>
         requires { number < length self.now.nodes.keys }
         ensures { IfOk result (λ needs. items_of needs ≡ map (node_at self.now.nodes.keys) (needs_of self.now.links number)) }
     {

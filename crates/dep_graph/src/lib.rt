@@ -5,7 +5,8 @@
 //! nodes to the nodes that each of them was linked to. Beside these a range that some node is linked to needs each cell
 //! that it covers, without being linked to any. Ranges never list their cells: a range is filed under the few slots into
 //! which its block is cut, and a cell finds the ranges that cover it by its slots. So prefix sums over n rows cost about
-//! n and not the square of n.
+//! n and not the square of n. A structural operation takes the nodes along, and loses some with their links;
+//! [`Graph::bent`] tells beforehand which nodes are linked to one that it doesn't just carry along.
 //!
 //! ```text
 //! let mut graph = Graph::new(alloc)?;
@@ -15,6 +16,7 @@
 //! graph.reach(&marks_of_a1)?    // A1, B1, C1, D1 and A1:A9, in some order
 //! graph.order(&those)?          // the same, each after what it needs
 //! graph.on_cycle(d1)?           // false
+//! graph.shift(&row_put_first)?; // now B2 reads A2, C2 reads B2, and D2 reads the range A2:A10
 //! ```
 #![tactic(auto)]
 
@@ -22,11 +24,14 @@ mod arrows;
 mod bent;
 mod copy;
 mod graph;
+mod laws;
 mod net;
 mod node;
 mod nodes;
+mod shifted;
 mod walk;
 
 pub use graph::Graph;
+pub use laws::unbent_nodes_keep_their_links;
 pub use node::Node;
 pub use nodes::Nodes;

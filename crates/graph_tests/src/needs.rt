@@ -50,11 +50,33 @@ const A1_TO_A5: Node = Node::Range(Block {
     right: 0,
 });
 
+const A1_TO_A6: Node = Node::Range(Block {
+    sheet: 0,
+    top: 0,
+    left: 0,
+    bottom: 5,
+    right: 0,
+});
+
 const FIRST_ROW: Shift = Shift::DeleteRows {
     sheet: 0,
     at: 0,
     count: 1,
 };
+
+const SIXTH_ROW: Shift = Shift::DeleteRows {
+    sheet: 0,
+    at: 5,
+    count: 1,
+};
+
+const COLUMN_A: Shift = Shift::DeleteCols {
+    sheet: 0,
+    at: 0,
+    count: 1,
+};
+
+const FIRST_SHEET: Shift = Shift::DropSheet { sheet: 0 };
 
 // Whether the list has exactly these nodes, which differ from one another, in some order.
 fn has_each(list: &Nodes, expected: &[Node]) -> bool {
@@ -120,6 +142,38 @@ fn is_used(alloc: Global, graph: &mut Graph) -> Result<bool, AllocError> {
     Ok(has_each(&nodes, &[A3, A1_TO_A5, B1]) && has_each(&outside, &[A9]))
 }
 
+// Moves the graph where the operation is sound. Whether it is.
+fn is_shifted(graph: &mut Graph, s: &Shift) -> Result<bool, AllocError> {
+    if !sound(s) {
+        return Ok(false);
+    }
+    graph.shift(s)?;
+    Ok(true)
+}
+
+// Links B1 to A1:A5 and C1 to A1:A6, and deletes row 6. Whether both need A1:A5 then.
+fn is_one_range(alloc: Global, graph: &mut Graph) -> Result<bool, AllocError> {
+    graph.link(B1, &[A1_TO_A5])?;
+    graph.link(C1, &[A1_TO_A6])?;
+    let is_done = is_shifted(graph, &SIXTH_ROW)?;
+    let nodes = reached(alloc, graph, A3)?;
+    Ok(is_done && has_each(&nodes, &[A3, A1_TO_A5, B1, C1]))
+}
+
+// Deletes column A. Whether its cell is lost, and those of the columns behind it are linked as before.
+fn is_closed_up(alloc: Global, graph: &mut Graph) -> Result<bool, AllocError> {
+    let is_done = is_shifted(graph, &COLUMN_A)?;
+    let nodes = reached(alloc, graph, A1)?;
+    Ok(is_done && has_each(&nodes, &[A1, B1]) && graph.on_cycle(C1)?)
+}
+
+// Drops the sheet. Whether nothing is linked then.
+fn is_dropped(alloc: Global, graph: &mut Graph) -> Result<bool, AllocError> {
+    let is_done = is_shifted(graph, &FIRST_SHEET)?;
+    let nodes = reached(alloc, graph, A1)?;
+    Ok(is_done && has_each(&nodes, &[A1]) && !graph.on_cycle(C1)?)
+}
+
 // Cells that are linked to cells are reached, put in order, found on cycles and bent.
 #[test]
 fn cells_need_cells(rt: HostRuntime) -> Result<(), AllocError> {
@@ -147,5 +201,23 @@ fn ranges_need_their_cells(rt: HostRuntime) -> Result<(), AllocError> {
     assert!(rt; is_unused(rt.alloc(), &mut graph)?);
     assert!(rt; is_used(rt.alloc(), &mut graph)?);
     assert!(rt; graph.on_cycle(A1_TO_A5)?);
+    Ok(())
+}
+
+// Cells move with their links; what is lost goes with them.
+#[test]
+fn links_move(rt: HostRuntime) -> Result<(), AllocError> {
+    let mut graph = Graph::new(rt.alloc())?;
+    link_cells(&mut graph)?;
+    assert!(rt; is_closed_up(rt.alloc(), &mut graph)?);
+    assert!(rt; is_dropped(rt.alloc(), &mut graph)?);
+    Ok(())
+}
+
+// Two ranges that become one block have the users of both.
+#[test]
+fn ranges_become_one(rt: HostRuntime) -> Result<(), AllocError> {
+    let mut graph = Graph::new(rt.alloc())?;
+    assert!(rt; is_one_range(rt.alloc(), &mut graph)?);
     Ok(())
 }

@@ -3,7 +3,7 @@ use Rattle.std.specs.List.{filter_map, position}
 use Rattle.std.specs.Option.{option_to_list}
 use Rattle.std.proofs.lemmas.List.{take_all}
 use Rattle.block_index.specs.internal.Keys.{key_at, same_key}
-use Rattle.block_index.proofs.Filing.{slots_inside}
+use Rattle.block_index.proofs.Filing.{slots_are_slots}
 use Rattle.block_index.proofs.Tests.{filter_map_more}
 use Rattle.block_index.proofs.index.BlockIndex.slots_at.Goals as goal
 
@@ -19,7 +19,7 @@ returns-clause-slots c =
     c.sizes.invariant ∙ ap (filter_map (λ z. position (same_key (key_at c.args.at z)) c.args.self.now.slots.keys)) (take_all c.sizes.size-index c.deref-size-items.result.now c.sizes-test.false ∙ c.deref-size-items.ensures.value)
 
 pub returns-in_err-push_some-clause-inside : goal.returns-in_err-push_some-clause-inside
-returns-in_err-push_some-clause-inside c s = slots_inside c.args.self.now.slots.keys c.args.at c.args.self.now.sizes.items s
+returns-in_err-push_some-clause-inside c s = slots_are_slots c.args.self.now c.args.at s
 
 pub returns-clause-inside : goal.returns-clause-inside
-returns-clause-inside c s = slots_inside c.args.self.now.slots.keys c.args.at c.args.self.now.sizes.items s
+returns-clause-inside c s = slots_are_slots c.args.self.now c.args.at s

@@ -1,7 +1,8 @@
 use Rattle.std.proofs.Common.{◌≡◌, ◌<◌, sym, subst, arith, true}
 use Rattle.needs_order.specs.Needs as plain
 use Rattle.dep_graph.specs.internal.Arrows.{from_node, from_slot, node_total, total}
-use Rattle.dep_graph.proofs.Listing.{all_inside, slots_are_slots}
+use Rattle.block_index.proofs.Filing.{slots_are_slots}
+use Rattle.dep_graph.proofs.Listing.{all_inside}
 use Rattle.dep_graph.proofs.Walking.{slot_targets_inside, targets_inside, targets_low}
 use Rattle.dep_graph.proofs.arrows.NetArrows.arrows.Goals as goal
 

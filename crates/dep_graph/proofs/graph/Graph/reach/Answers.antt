@@ -6,7 +6,8 @@ use Rattle.dep_graph.specs.Nodes.{items_of}
 use Rattle.dep_graph.specs.internal.Arrows.{node_total, starts_of, total}
 use Rattle.dep_graph.specs.internal.Numbers.{node_at}
 use Rattle.dep_graph.specs.internal.Walked.{AreUnknown}
-use Rattle.dep_graph.proofs.Listing.{if_ok, slots_are_slots}
+use Rattle.block_index.proofs.Filing.{slots_are_slots}
+use Rattle.dep_graph.proofs.Listing.{if_ok}
 use Rattle.dep_graph.proofs.Reaching.{all_reached, starts_inside}
 use Rattle.dep_graph.proofs.graph.Graph.reach.Goals as goal
 
