@@ -1,0 +1,104 @@
+//! Graphs of needs beside what follows from their links plainly. It prints a line for each group of calls on small graphs,
+//! and for lists of calls that are drawn how many there were, and the first answer that differs from that of the plain
+//! model, a list of links. The status is 0 where all answers are as they should be, and else 1.
+//!
+//! With the word `bench` it times large graphs for `bench/graph.py`, and prints a line for each.
+#![tactic(auto)]
+
+mod bench;
+mod both;
+mod draws;
+mod lists;
+mod plain;
+mod rows;
+mod shapes;
+mod tally;
+
+use draws::Corner;
+use lists::lists;
+use rows::Step;
+use std::process::ExitCode;
+use std::{env, io};
+
+// The groups of calls on small graphs, with what they show.
+const GROUPS: [(&'static [Step], &'static str); 7] = [
+    (&rows::NEEDS_LEAD_ON, "needs lead on, and in a circle"),
+    (
+        &rows::USED_RANGES_NEED_THEIR_CELLS,
+        "a used range needs its cells",
+    ),
+    (&rows::OPERATIONS_BEND, "operations bend what formulas read"),
+    (&rows::A_COPY_IS_EQUAL, "a copy has the same links"),
+    (&rows::TWO_RANGES_BECOME_ONE, "two ranges become one"),
+    (&rows::A_LOST_CELL_GOES, "a lost cell goes with its links"),
+    (
+        &rows::A_DROPPED_SHEET_GOES,
+        "a dropped sheet goes with its links",
+    ),
+];
+
+// The corners of a sheet, by where lists draw their places.
+const CORNERS: [(Corner, &'static str); 2] = [
+    (Corner::First, "lists at the first cell"),
+    (Corner::Last, "lists at the last cell"),
+];
+
+fn main(rt: HostRuntime) -> ExitCode {
+    match run(&rt) {
+        Ok(true) => ExitCode::SUCCESS,
+        Ok(false) | Err(_) => ExitCode::FAILURE,
+    }
+}
+
+// Whether all answers are as they should be, or all graphs were timed.
+fn run(rt: &HostRuntime) -> io::Result<bool> {
+    let mut words = env::args(rt)?;
+    let _program = words.next();
+    match words.next() {
+        None => compare(rt),
+        Some(word) if word.as_str() == "bench" => {
+            bench::bench(rt)?;
+            Ok(true)
+        }
+        Some(_) => Ok(false),
+    }
+}
+
+// Whether all answers are as they should be.
+fn compare(rt: &HostRuntime) -> io::Result<bool> {
+    let small = groups_hold(rt)?;
+    let drawn = lists_agree(rt)?;
+    Ok(small && drawn)
+}
+
+// Whether each group of calls answers as it should.
+fn groups_hold(rt: &HostRuntime) -> io::Result<bool> {
+    let mut all = true;
+    'groups: for (steps, shows) in GROUPS {
+        all = group_holds(rt, steps, shows)? && all;
+    }
+    Ok(all)
+}
+
+// Whether a group of calls answers as it should.
+fn group_holds(rt: &HostRuntime, steps: &[Step], shows: &str) -> io::Result<bool> {
+    let holds = rows::all_hold(rt.alloc(), steps)?;
+    println!(rt; "{shows}: {}", said(holds))?;
+    Ok(holds)
+}
+
+// Whether no answer of the lists differs.
+fn lists_agree(rt: &HostRuntime) -> io::Result<bool> {
+    let mut all = true;
+    'corners: for (corner, shows) in CORNERS {
+        let tally = lists(rt.alloc(), corner)?;
+        println!(rt; "{shows}: {tally}")?;
+        all = all && tally.agrees();
+    }
+    Ok(all)
+}
+
+// How a group's calls answered.
+fn said(holds: bool) -> &'static str {
+    if holds { "as they should" } else { "otherwise" }
+}
