@@ -15,25 +15,21 @@
 
 ghost use Rattle.std.specs.Prelude.{◌≡◌, ◌<◌};
 ghost use Rattle.custom_fn.specs.Rule.{rule_value};
+ghost use Rattle.tariffs.specs.Tariffs as tariff;
 
 mod page;
-mod rules;
-mod table;
-mod tally;
-mod work;
+mod sheet;
 
-use cell_addr::Text;
+use case_files::{Tally, row_of};
 use cell_value::Scalar;
-use custom_fn::{Custom, RegError, Registry};
-use rules::{LEVY, POSTAGE, bands, tiers};
+use custom_fn::Registry;
+use sheet::Sheet;
 use std::marker::Brand;
 use std::process::ExitCode;
 use std::sync::ledger::{Blank, Ledger};
 use std::{env, fs, io};
 use steps::Steps;
-use table::{Row, row_of};
-use tally::Tally;
-use work::{Sheet, given, value_of};
+use tariffs::{customs, levy, postage};
 
 fn main(rt: HostRuntime) -> ExitCode {
     match run_files::<Brand>(&rt, Blank::new(1)) {
@@ -52,36 +48,20 @@ fn run_files<L: Ledger>(rt: &HostRuntime, blank: Blank) -> io::Result<Tally>
 {
     let alloc = rt.alloc();
     let mut steps = Steps::<L>::new(blank);
-    let mut registry = Registry::new(alloc)?;
-    if let (Some(rule), Some(stored)) = (bands(alloc, &POSTAGE)?, bands(alloc, &POSTAGE)?) {
-        let call = Box::new(
-            alloc,
-            move |x: &Scalar| -> Scalar
-                ensures { result ≡ rule_value stored x.now }
-            { stored.value_of(x) },
-        )?;
-        let postage = Custom::new(Text::from_str(alloc, "POSTAGE")?, rule, call);
-        tell(rt, registry.add(postage))?;
-    }
-    if let (Some(rule), Some(stored)) = (tiers(alloc, &LEVY)?, tiers(alloc, &LEVY)?) {
-        let call = Box::new(
-            alloc,
-            move |x: &Scalar| -> Scalar
-                ensures { result ≡ rule_value stored x.now }
-            { stored.value_of(x) },
-        )?;
-        let levy = Custom::new(Text::from_str(alloc, "LEVY")?, rule, call);
-        tell(rt, registry.add(levy))?;
-    }
+    let by_weight = Box::new(
+        alloc,
+        |x: &Scalar| -> Scalar
+            ensures { result ≡ rule_value tariff.postage x.now }
+        { postage(x) },
+    )?;
+    let on_amount = Box::new(
+        alloc,
+        |x: &Scalar| -> Scalar
+            ensures { result ≡ rule_value tariff.levy x.now }
+        { levy(x) },
+    )?;
+    let registry = customs(alloc, by_weight, on_amount)?;
     run_all(rt, &registry, &mut steps)
-}
-
-// Prints why a custom function could not be added.
-fn tell(rt: &HostRuntime, added: Result<(), RegError>) -> io::Result<()> {
-    if let Err(cause) = added {
-        println!(rt; "NOT ADDED: {cause}")?;
-    }
-    Ok(())
 }
 
 // Runs the cases of the files.
@@ -94,42 +74,49 @@ fn run_all<L: Ledger>(
     let mut names = env::args(rt)?;
     let _program = names.next();
     'files: for name in names {
-        match fs::read_to_string(rt, &name) {
-            Ok(text) => {
-                let tally = run_text(rt, &text, registry, steps)?;
-                println!(rt; "{name}: {tally}")?;
-                whole = whole.with(tally);
-            }
-            Err(cause) => {
-                println!(rt; "{name}: UNREADABLE: {cause}")?;
-                whole = whole.with(Tally::unreadable());
-            }
-        }
+        whole = whole.with(run_file(rt, &name, registry, steps)?);
     }
     Ok(whole)
+}
+
+// Runs the cases of a file, and prints how many they are.
+fn run_file<L: Ledger>(
+    rt: &HostRuntime,
+    name: &str,
+    registry: &Registry,
+    steps: &mut Steps<L>,
+) -> io::Result<Tally> {
+    match fs::read_to_string(rt, name) {
+        Ok(text) => {
+            let mut sheet = Sheet::new(rt.alloc())?;
+            let tally = run_text(rt, &text, &mut sheet, registry, steps)?;
+            println!(rt; "{name}: {tally}")?;
+            Ok(tally)
+        }
+        Err(cause) => {
+            println!(rt; "{name}: UNREADABLE: {cause}")?;
+            Ok(Tally::unreadable())
+        }
+    }
 }
 
 // Runs the cases of a text, and prints those that differ.
 fn run_text<L: Ledger>(
     rt: &HostRuntime,
     text: &str,
+    sheet: &mut Sheet,
     registry: &Registry,
     steps: &mut Steps<L>,
 ) -> io::Result<Tally> {
     let mut tally = Tally::default();
-    let mut sheet = Sheet::new(rt.alloc())?;
     'lines: for line in text.lines() {
         match row_of(line) {
-            Some(Row::Case { formula, value }) => {
-                tally.cases = tally.cases.saturating_add(1);
-                if !holds(rt, &mut sheet, formula, value, registry, steps)? {
-                    tally.differ = tally.differ.saturating_add(1);
-                }
+            Some((formula, value)) if formula.starts_with('=') => {
+                tally.count(holds(rt, sheet, formula, value, registry, steps)?);
             }
-            Some(Row::Given { head, text }) => {
-                if !given(rt.alloc(), &mut sheet, head, text, registry, steps)? {
-                    println!(rt; "    NOT GIVEN: {head}")?;
-                    tally.differ = tally.differ.saturating_add(1);
+            Some((head, text)) => {
+                if !is_given(rt, sheet, head, text, registry, steps)? {
+                    tally.count(false);
                 }
             }
             None => {}
@@ -147,18 +134,30 @@ fn holds<L: Ledger>(
     registry: &Registry,
     steps: &mut Steps<L>,
 ) -> io::Result<bool> {
-    match value_of(rt.alloc(), sheet, formula, registry, steps)? {
-        Some(value) => {
-            let shown = value.shown(rt.alloc())?;
-            if shown.as_str() == wanted {
-                return Ok(true);
-            }
-            println!(rt;
-                "    DIFFERS: {formula} is {}, wanted {wanted}",
-                shown.as_str()
-            )?;
-        }
-        None => println!(rt; "    NO FORMULA: {formula}")?,
+    let Some(shown) = sheet.shown(formula, registry, steps)? else {
+        println!(rt; "    NO FORMULA: {formula}")?;
+        return Ok(false);
+    };
+    let shown = shown.as_str();
+    if shown == wanted {
+        return Ok(true);
     }
+    println!(rt; "    DIFFERS: {formula} is {shown}, wanted {wanted}")?;
     Ok(false)
+}
+
+// Gives the page a cell's value or a name's formula; whether that could be done, which is printed where it couldn't.
+fn is_given<L: Ledger>(
+    rt: &HostRuntime,
+    sheet: &mut Sheet,
+    head: &str,
+    text: &str,
+    registry: &Registry,
+    steps: &mut Steps<L>,
+) -> io::Result<bool> {
+    let given = sheet.give(head, text, registry, steps)?;
+    if !given {
+        println!(rt; "    NOT GIVEN: {head}")?;
+    }
+    Ok(given)
 }

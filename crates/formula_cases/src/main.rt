@@ -34,22 +34,18 @@
 //! The status is 0 where every table could be read and no row differs, and else 1.
 #![tactic(auto)]
 
+mod outcome;
 mod reading;
 mod shifting;
 mod show;
 mod table;
-mod tally;
 
-ghost use Rattle.cell_addr.specs.Place.{IsInside};
-
-use cell_addr::Place;
-use formula_tree::Home;
-use reading::{column_trees, levels_of, texts_of};
-use shifting::{shift_of, shifted};
+use case_files::{Row, Tally};
+use outcome::outcome_of;
 use std::process::ExitCode;
 use std::{env, fs, io};
-use table::{ColumnRow, NestedRow, ShiftRow, Table, TextRow};
-use tally::Tally;
+use table::{Kind, Setting, document_row};
+use toml::{Table, Value};
 
 fn main(rt: HostRuntime) -> ExitCode {
     match run_tables(&rt) {
@@ -61,143 +57,86 @@ fn main(rt: HostRuntime) -> ExitCode {
 
 // Runs the tables that the words after the program's name name.
 fn run_tables(rt: &HostRuntime) -> io::Result<Tally> {
-    let mut tally = Tally::default();
+    let mut whole = Tally::default();
     let mut names = env::args(rt)?;
     let _program = names.next();
     'tables: for name in names {
         println!(rt; "{name}")?;
-        match table_of(rt, &name) {
-            Ok(table) => run_table(rt, &table, &mut tally)?,
-            Err(cause) => {
-                tally.unreadable_tables = tally.unreadable_tables.saturating_add(1);
-                println!(rt; "    UNREADABLE: {cause}")?;
-            }
+        whole = whole.with(run_file(rt, &name)?);
+    }
+    println!(rt; "{} rows, {} differ", whole.cases, whole.differ)?;
+    Ok(whole)
+}
+
+// Runs the rows of a file's table.
+fn run_file(rt: &HostRuntime, name: &str) -> io::Result<Tally> {
+    match table_of(rt, name) {
+        Ok(table) => run_table(rt, &table),
+        Err(cause) => {
+            println!(rt; "    UNREADABLE: {cause}")?;
+            Ok(Tally::unreadable())
         }
     }
-    println!(rt; "{tally}")?;
-    Ok(tally)
 }
 
 // The table of a file.
 fn table_of(rt: &HostRuntime, name: &str) -> anyhow::Result<Table> {
     let text = fs::read_to_string(rt, name)?;
-    let table: Table = toml::from_str(rt.alloc(), &text)?;
+    let table = toml::table_from_str(rt.alloc(), &text)?;
     Ok(table)
 }
 
 // Runs the rows of a table.
-fn run_table(rt: &HostRuntime, table: &Table, tally: &mut Tally) -> io::Result<()> {
-    let cell = table.cell.place();
-    if !cell.inside() {
-        tally.unreadable_tables = tally.unreadable_tables.saturating_add(1);
+fn run_table(rt: &HostRuntime, table: &Table) -> io::Result<Tally> {
+    let mut tally = Tally::default();
+    match document_row(table) {
+        Some(table) => run_kinds(rt, table, &mut tally)?,
+        None => println!(rt; "    UNREADABLE: no table of formulas")?,
+    }
+    Ok(tally)
+}
+
+// Runs the rows of each kind.
+fn run_kinds(rt: &HostRuntime, table: Row, tally: &mut Tally) -> io::Result<()> {
+    let Some(setting) = Setting::of(table) else {
         return println!(rt; "    UNREADABLE: the cell lies on no sheet");
-    }
-    'texts: for row in &table.texts {
-        let sheet = row.sheet.as_ref().unwrap_or(&table.sheet);
-        run_text(rt, sheet, cell, row, tally)?;
-    }
-    'nested: for row in &table.nested {
-        run_nested(rt, &table.sheet, cell, row, tally)?;
-    }
-    'columns: for row in &table.columns {
-        run_column(rt, &table.sheet, cell, row, tally)?;
-    }
-    'shifts: for row in &table.shifts {
-        run_shift(rt, &table.sheet, cell, row, tally)?;
+    };
+    'kinds: for (kind, key) in Kind::ALL {
+        run_rows(rt, &setting, kind, table.values(key), tally)?;
     }
     Ok(())
 }
 
-// Reads a text, and says where its tree or its canonical text isn't the wanted one.
-fn run_text(
+// Runs rows of a kind.
+fn run_rows(
     rt: &HostRuntime,
-    sheet: &str,
-    cell: Place,
-    row: &TextRow,
-    tally: &mut Tally,
-) -> io::Result<()>
-    requires { IsInside cell }
-{
-    let (tree, prints) = texts_of(rt.alloc(), sheet, Home::Cell(cell), &row.text)?;
-    tally.rows = tally.rows.saturating_add(1);
-    compare(rt, &row.text, &tree, &row.tree, tally)?;
-    compare(rt, &row.text, &prints, &row.prints, tally)
-}
-
-// Reads a formula that nests, and says where its levels aren't the wanted ones.
-fn run_nested(
-    rt: &HostRuntime,
-    sheet: &str,
-    cell: Place,
-    row: &NestedRow,
-    tally: &mut Tally,
-) -> io::Result<()>
-    requires { IsInside cell }
-{
-    let text = row.formula(rt.alloc())?;
-    let levels = levels_of(rt.alloc(), sheet, Home::Cell(cell), &text)?;
-    tally.rows = tally.rows.saturating_add(1);
-    let name = format!(in rt.alloc(); "{} of {}{}", row.count, row.front, row.after)?;
-    compare_numbers(rt, &name, u64::from(levels), u64::from(row.levels), tally)
-}
-
-// Reads a column of formulas, and says where the pool doesn't hold as many trees as wanted.
-fn run_column(
-    rt: &HostRuntime,
-    sheet: &str,
-    cell: Place,
-    row: &ColumnRow,
+    setting: &Setting,
+    kind: Kind,
+    rows: &[Value],
     tally: &mut Tally,
 ) -> io::Result<()> {
-    let trees = column_trees(rt.alloc(), sheet, cell, row)?;
-    tally.rows = tally.rows.saturating_add(1);
-    let name = format!(in rt.alloc(); "{} rows of {}", row.rows, row.text)?;
-    compare_numbers(rt, &name, trees as u64, row.trees, tally)
-}
-
-// Takes a formula over an operation and back, and says where it isn't what is wanted.
-fn run_shift(
-    rt: &HostRuntime,
-    sheet: &str,
-    cell: Place,
-    row: &ShiftRow,
-    tally: &mut Tally,
-) -> io::Result<()>
-    requires { IsInside cell }
-{
-    let found = match shift_of(rt.alloc(), &row.shift)? {
-        Some(shift) => shifted(rt.alloc(), sheet, cell, &row.text, &shift)?,
-        None => String::from_str(rt.alloc(), "no operation")?,
-    };
-    tally.rows = tally.rows.saturating_add(1);
-    let wanted = row.wanted(rt.alloc())?;
-    compare(rt, &row.shift, &found, &wanted, tally)
-}
-
-// Prints a difference where the number that was found isn't the wanted one.
-fn compare_numbers(
-    rt: &HostRuntime,
-    row: &str,
-    found: u64,
-    wanted: u64,
-    tally: &mut Tally,
-) -> io::Result<()> {
-    let found = format!(in rt.alloc(); "{found}")?;
-    let wanted = format!(in rt.alloc(); "{wanted}")?;
-    compare(rt, row, &found, &wanted, tally)
-}
-
-// Prints a difference where what was found isn't what is wanted.
-fn compare(
-    rt: &HostRuntime,
-    row: &str,
-    found: &str,
-    wanted: &str,
-    tally: &mut Tally,
-) -> io::Result<()> {
-    if found == wanted {
-        return Ok(());
+    'rows: for row in rows {
+        let holds = match row.as_table() {
+            Some(table) => row_holds(rt, setting, kind, table)?,
+            None => false,
+        };
+        tally.count(holds);
     }
-    tally.differ = tally.differ.saturating_add(1);
-    println!(rt; "    DIFFERS: {row}: found {found}, wanted {wanted}")
+    Ok(())
+}
+
+// Whether what is found of a row is what is wanted; where it isn't, both are printed.
+fn row_holds(rt: &HostRuntime, setting: &Setting, kind: Kind, table: &Table) -> io::Result<bool> {
+    let Some(outcome) = outcome_of(rt.alloc(), setting, kind, table)? else {
+        println!(rt; "    UNREADABLE: a row")?;
+        return Ok(false);
+    };
+    if outcome.found == outcome.wanted {
+        return Ok(true);
+    }
+    println!(rt;
+        "    DIFFERS: {}: found {}, wanted {}",
+        outcome.shows, outcome.found, outcome.wanted
+    )?;
+    Ok(false)
 }

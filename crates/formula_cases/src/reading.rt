@@ -13,24 +13,18 @@ use formula_print::print;
 use formula_tree::{Home, Pool, Tree, depth, to_absolute};
 use std::alloc::{AllocError, Global};
 
-/// The tree of a formula at the home, and its canonical text, where this sheet is listed; `none` for both where
-/// the text spells no tree. The home lies within the limits of a sheet.
+/// The tree of a formula at the home and its canonical text, where this sheet is listed; `none` for both where the
+/// text spells no tree. The home lies within the limits of a sheet.
 pub(crate) fn texts_of(
     alloc: Global,
     sheet: &str,
     home: Home,
     text: &str,
-) -> Result<(String, String), AllocError>
+) -> Result<String, AllocError>
     requires { IsHomeInside home }
 {
     let mut reading = Reading::new(alloc, sheet)?;
-    match reading.read(home, text)? {
-        Some(tree) => {
-            let shown = shown(alloc, &tree, home)?;
-            Ok((shown, reading.printed(&tree, home)?))
-        }
-        None => Ok((none(alloc)?, none(alloc)?)),
-    }
+    reading.texts(home, text)
 }
 
 /// The levels of the tree of a formula at the home, or 0 where the text spells none. The home lies within the
@@ -44,10 +38,7 @@ pub(crate) fn levels_of(
     requires { IsHomeInside home }
 {
     let mut reading = Reading::new(alloc, sheet)?;
-    match reading.read(home, text)? {
-        Some(tree) => Ok(depth(&tree)),
-        None => Ok(0),
-    }
+    reading.levels(home, text)
 }
 
 /// How many trees a column of formulas leaves in the pool. Those that would stand beyond the sheet's last row
@@ -64,10 +55,7 @@ pub(crate) fn column_trees(
             row: first.row.saturating_add(line),
             ..first
         };
-        if at.inside() {
-            let text = column.formula(alloc, u64::from(at.row) + 1)?;
-            let _tree = reading.read(Home::Cell(at), &text)?;
-        }
+        reading.read_row(at, column)?;
     }
     Ok(reading.pool.len())
 }
@@ -77,11 +65,6 @@ pub(crate) fn shown(alloc: Global, tree: &Tree, home: Home) -> Result<String, Al
     let mut shown = String::new(alloc);
     show(alloc, &mut shown, &to_absolute(alloc, tree, home)?)?;
     Ok(shown)
-}
-
-// What stands for a tree that isn't there.
-fn none(alloc: Global) -> Result<String, AllocError> {
-    String::from_str(alloc, "none")
 }
 
 /// Where formulas are read: the sheet that they may name, and the pool of their trees.
@@ -118,11 +101,44 @@ impl Reading {
         }
     }
 
-    // The canonical text of a tree at the home, whose places lie within the limits of a sheet.
-    fn printed(&self, tree: &Tree, home: Home) -> Result<String, AllocError>
+    // The texts of the tree of a formula at the home, which lies within the limits of a sheet.
+    fn texts(&mut self, home: Home, text: &str) -> Result<String, AllocError>
+        requires { IsHomeInside home }
+    {
+        match self.read(home, text)? {
+            Some(tree) => self.texts_of_tree(&tree, home),
+            None => String::from_str(self.alloc, "none, printed none"),
+        }
+    }
+
+    // A tree at the home and its canonical text; its places lie within the limits of a sheet.
+    fn texts_of_tree(&self, tree: &Tree, home: Home) -> Result<String, AllocError>
         requires { ArePlacesInside (at_home home (relative tree.now.value)) }
     {
-        let text = print(self.alloc, tree, home, &self.sheets)?;
-        String::from_str(self.alloc, text.as_str())
+        let mut texts = shown(self.alloc, tree, home)?;
+        let printed = print(self.alloc, tree, home, &self.sheets)?;
+        texts.push_str(", printed ")?;
+        texts.push_str(printed.as_str())?;
+        Ok(texts)
+    }
+
+    // The levels of the tree of a formula at the home, which lies within the limits of a sheet.
+    fn levels(&mut self, home: Home, text: &str) -> Result<u32, AllocError>
+        requires { IsHomeInside home }
+    {
+        match self.read(home, text)? {
+            Some(tree) => Ok(depth(&tree)),
+            None => Ok(0),
+        }
+    }
+
+    // Reads the formula of a row of a column, where the row is on the sheet.
+    fn read_row(&mut self, at: Place, column: &ColumnRow) -> Result<(), AllocError> {
+        if !at.inside() {
+            return Ok(());
+        }
+        let text = column.formula(self.alloc, u64::from(at.row) + 1)?;
+        let _tree = self.read(Home::Cell(at), &text)?;
+        Ok(())
     }
 }

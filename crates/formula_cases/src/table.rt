@@ -1,127 +1,232 @@
-// Tables of formulas as files of TOML hold them.
+// Tables of formulas as documents of TOML hold them.
+ghost use Rattle.cell_addr.specs.Place.{IsInside};
+
+use case_files::{Form, Key, Row};
 use cell_addr::Place;
-use serde::Deserialize;
 use std::alloc::{AllocError, Global};
+use toml::Table;
 
-/// Rows that are read for one cell, where one sheet is listed, whose number is 0.
-#[derive(Debug, Drop, Deserialize)]
-#[serde(deny_unknown_fields)]
-pub struct Table {
+// The keys of a document's table, of a cell, and of a row of each kind: those that it has, and those that it may have.
+const SETTING: [Key; 2] = [("sheet", Form::Text), ("cell", Form::Table)];
+
+const ROWS: [Key; 4] = [
+    ("texts", Form::Array),
+    ("nested", Form::Array),
+    ("columns", Form::Array),
+    ("shifts", Form::Array),
+];
+
+const CELL: [Key; 3] = [
+    ("sheet", Form::Number),
+    ("row", Form::Number),
+    ("col", Form::Number),
+];
+
+const TEXT: [Key; 3] = [
+    ("text", Form::Text),
+    ("tree", Form::Text),
+    ("prints", Form::Text),
+];
+
+const TEXT_MORE: [Key; 1] = [("sheet", Form::Text)];
+
+const NESTED: [Key; 5] = [
+    ("count", Form::Number),
+    ("front", Form::Text),
+    ("middle", Form::Text),
+    ("after", Form::Text),
+    ("levels", Form::Number),
+];
+
+const COLUMN: [Key; 3] = [
+    ("rows", Form::Number),
+    ("text", Form::Text),
+    ("trees", Form::Number),
+];
+
+const SHIFT: [Key; 6] = [
+    ("text", Form::Text),
+    ("shift", Form::Text),
+    ("after", Form::Text),
+    ("at", Form::Table),
+    ("back", Form::Text),
+    ("lost", Form::Truth),
+];
+
+/// The row that a document's table is.
+pub(crate) fn document_row(table: &Table) -> Option<Row<'_>> {
+    Row::new(table, &SETTING, &ROWS)
+}
+
+/// What the rows of a table are read for: one cell, where one sheet is listed, whose number is 0.
+#[derive(Drop)]
+pub(crate) struct Setting<'a> {
     /// The name of the listed sheet.
-    pub sheet: String,
+    pub(crate) sheet: &'a str,
     /// The cell whose formulas are read.
-    pub cell: Cell,
-    #[serde(default)]
-    pub texts: Vec<TextRow>,
-    #[serde(default)]
-    pub nested: Vec<NestedRow>,
-    #[serde(default)]
-    pub columns: Vec<ColumnRow>,
-    #[serde(default)]
-    pub shifts: Vec<ShiftRow>,
+    pub(crate) cell: Place,
+    ghost inside: { IsInside cell },
 }
 
-/// A cell: its sheet's number, its row and its column, counted from 0.
-#[derive(Clone, Copy, Debug, Deserialize)]
-#[serde(deny_unknown_fields)]
-pub struct Cell {
-    pub sheet: u32,
-    pub row: u32,
-    pub col: u32,
-}
-
-impl Cell {
-    /// The cell's place.
-    pub(crate) fn place(self) -> Place {
-        Place {
-            sheet: self.sheet,
-            row: self.row,
-            col: self.col,
+impl<'a> Setting<'a> {
+    /// The setting of a table; `None` where it gives none, or the cell lies on no sheet.
+    pub(crate) fn of(table: Row<'a>) -> Option<Setting<'a>> {
+        let cell = cell_of(table.table("cell")?)?;
+        if cell.inside() {
+            Some(Setting {
+                sheet: table.text("sheet"),
+                cell,
+            })
+        } else {
+            None
         }
     }
+}
+
+// A cell: its sheet's number, its row and its column, counted from 0.
+fn cell_of(table: &Table) -> Option<Place> {
+    let cell = Row::new(table, &CELL, &[])?;
+    Some(Place {
+        sheet: cell.number("sheet"),
+        row: cell.number("row"),
+        col: cell.number("col"),
+    })
+}
+
+/// A kind of row.
+#[derive(Clone, Copy, Debug)]
+pub(crate) enum Kind {
+    Text,
+    Nested,
+    Column,
+    Shift,
+}
+
+impl Kind {
+    /// The kinds, each with the key under which its rows stand.
+    pub(crate) const ALL: [(Kind, &'static str); 4] = [
+        (Kind::Text, "texts"),
+        (Kind::Nested, "nested"),
+        (Kind::Column, "columns"),
+        (Kind::Shift, "shifts"),
+    ];
 }
 
 /// A formula's text, and what it must be read as.
-#[derive(Debug, Drop, Deserialize)]
-#[serde(deny_unknown_fields)]
-pub struct TextRow {
-    pub text: String,
+#[derive(Clone, Copy, Debug)]
+pub(crate) struct TextRow<'a> {
+    pub(crate) text: &'a str,
     /// The tree, each operator in front of its operands, or `none`.
-    pub tree: String,
+    pub(crate) tree: &'a str,
     /// The canonical text, or `none`.
-    pub prints: String,
-    /// The name of the listed sheet, where it isn't the table's.
-    #[serde(default)]
-    pub sheet: Option<String>,
+    pub(crate) prints: &'a str,
+    /// The name of the listed sheet.
+    pub(crate) sheet: &'a str,
 }
 
-/// A formula that nests: `=`, so many of one part, a middle, and so many of another part.
-#[derive(Debug, Drop, Deserialize)]
-#[serde(deny_unknown_fields)]
-pub struct NestedRow {
-    pub count: u32,
-    pub front: String,
-    pub middle: String,
-    pub after: String,
-    /// The levels of the tree, or 0 where the text spells none.
-    pub levels: u32,
-}
-
-impl NestedRow {
-    /// The text of the formula.
-    pub(crate) fn formula(&self, alloc: Global) -> Result<String, AllocError> {
-        let mut text = String::from_str(alloc, "=")?;
-        'fronts: for _ in 0..self.count {
-            text.push_str(&self.front)?;
-        }
-        text.push_str(&self.middle)?;
-        'afters: for _ in 0..self.count {
-            text.push_str(&self.after)?;
-        }
-        Ok(text)
+impl<'a> TextRow<'a> {
+    /// The row of a table that may name the listed sheet, if it isn't this one.
+    pub(crate) fn of(table: &'a Table, sheet: &'a str) -> Option<TextRow<'a>> {
+        let row = Row::new(table, &TEXT, &TEXT_MORE)?;
+        Some(TextRow {
+            text: row.text("text"),
+            tree: row.text("tree"),
+            prints: row.text("prints"),
+            sheet: if row.has("sheet") {
+                row.text("sheet")
+            } else {
+                sheet
+            },
+        })
     }
 }
 
-/// A column of formulas from the table's cell downward: their text, with `{}` for the number of the row.
-#[derive(Debug, Drop, Deserialize)]
-#[serde(deny_unknown_fields)]
-pub struct ColumnRow {
-    pub rows: u32,
-    pub text: String,
-    /// How many trees the pool holds after all of them.
-    pub trees: u64,
+/// A formula that nests: `=`, so many of one part, a middle, and so many of another part.
+#[derive(Clone, Copy, Debug)]
+pub(crate) struct NestedRow<'a> {
+    pub(crate) count: u32,
+    pub(crate) front: &'a str,
+    pub(crate) middle: &'a str,
+    pub(crate) after: &'a str,
+    /// The levels of the tree, or 0 where the text spells none.
+    pub(crate) levels: u32,
 }
 
-impl ColumnRow {
+impl<'a> NestedRow<'a> {
+    /// The row of a table.
+    pub(crate) fn of(table: &'a Table) -> Option<NestedRow<'a>> {
+        let row = Row::new(table, &NESTED, &[])?;
+        Some(NestedRow {
+            count: row.number("count"),
+            front: row.text("front"),
+            middle: row.text("middle"),
+            after: row.text("after"),
+            levels: row.number("levels"),
+        })
+    }
+
+    /// The text of the formula.
+    pub(crate) fn formula(&self, alloc: Global) -> Result<String, AllocError> {
+        let fronts = self.front.repeat(alloc, self.count as usize)?;
+        let afters = self.after.repeat(alloc, self.count as usize)?;
+        format!(in alloc; "={}{}{}", fronts, self.middle, afters)
+    }
+}
+
+/// A column of formulas from the setting's cell downward: their text, with `{}` for the number of the row.
+#[derive(Clone, Copy, Debug)]
+pub(crate) struct ColumnRow<'a> {
+    pub(crate) rows: u32,
+    pub(crate) text: &'a str,
+    /// How many trees the pool holds after all of them.
+    pub(crate) trees: u32,
+}
+
+impl<'a> ColumnRow<'a> {
+    /// The row of a table.
+    pub(crate) fn of(table: &'a Table) -> Option<ColumnRow<'a>> {
+        let row = Row::new(table, &COLUMN, &[])?;
+        Some(ColumnRow {
+            rows: row.number("rows"),
+            text: row.text("text"),
+            trees: row.number("trees"),
+        })
+    }
+
     /// The text of the formula in the row of this number.
     pub(crate) fn formula(&self, alloc: Global, number: u64) -> Result<String, AllocError> {
         let number = format!(in alloc; "{number}")?;
-        let mut text = String::new(alloc);
-        'pieces: for (index, piece) in self.text.split("{}").enumerate() {
-            if index > 0 {
-                text.push_str(&number)?;
-            }
-            text.push_str(piece)?;
-        }
-        Ok(text)
+        self.text.replace(alloc, "{}", &number)
     }
 }
 
 /// A formula and an operation: what the formula is after it, where it is then, what it is when taken back, and
 /// whether that is another tree than before.
-#[derive(Debug, Drop, Deserialize)]
-#[serde(deny_unknown_fields)]
-pub struct ShiftRow {
-    pub text: String,
+#[derive(Clone, Copy, Debug)]
+pub(crate) struct ShiftRow<'a> {
+    pub(crate) text: &'a str,
     /// The operation's word and its numbers.
-    pub shift: String,
-    pub after: String,
-    pub at: Cell,
-    pub back: String,
-    pub lost: bool,
+    pub(crate) shift: &'a str,
+    pub(crate) after: &'a str,
+    pub(crate) at: Place,
+    pub(crate) back: &'a str,
+    pub(crate) lost: bool,
 }
 
-impl ShiftRow {
+impl<'a> ShiftRow<'a> {
+    /// The row of a table.
+    pub(crate) fn of(table: &'a Table) -> Option<ShiftRow<'a>> {
+        let row = Row::new(table, &SHIFT, &[])?;
+        Some(ShiftRow {
+            text: row.text("text"),
+            shift: row.text("shift"),
+            after: row.text("after"),
+            at: cell_of(row.table("at")?)?,
+            back: row.text("back"),
+            lost: row.is_true("lost"),
+        })
+    }
+
     /// What is wanted, as [`crate::shifting::shifted`] writes what is found.
     pub(crate) fn wanted(&self, alloc: Global) -> Result<String, AllocError> {
         let at = self.at;

@@ -69,8 +69,8 @@ pub(crate) fn value_of(alloc: Global, call: &str) -> Result<Option<Scalar>, Allo
     }
 }
 
-// The word of a call, and what stands between its parentheses.
-fn parts(call: &str) -> Option<(&str, &str)> {
+/// The word of a call, and what stands between its parentheses.
+pub(crate) fn parts(call: &str) -> Option<(&str, &str)> {
     let (word, rest) = call.strip_prefix("=")?.split_once('(')?;
     let arguments = rest.strip_suffix(")")?;
     Some((word, arguments))

@@ -21,19 +21,16 @@ mod block;
 mod call;
 mod rule;
 mod sheet;
-mod table;
-mod tally;
 mod words;
 
 use argument::literal;
 use call::value_of;
+use case_files::{Tally, row_of};
 use cell_value::Scalar;
 use rule::value_by_rule;
 use std::alloc::{AllocError, Global};
 use std::process::ExitCode;
 use std::{env, fs, io};
-use table::{Row, is_case, row_of};
-use tally::Tally;
 use words::run_words;
 
 fn main(rt: HostRuntime) -> ExitCode {
@@ -51,19 +48,24 @@ fn run_files(rt: &HostRuntime) -> io::Result<Tally> {
     let mut names = env::args(rt)?;
     let _program = names.next();
     'files: for name in names {
-        match fs::read_to_string(rt, &name) {
-            Ok(text) => {
-                let tally = run_text(rt, &text)?;
-                println!(rt; "{name}: {tally}")?;
-                whole = whole.with(tally);
-            }
-            Err(cause) => {
-                println!(rt; "{name}: UNREADABLE: {cause}")?;
-                whole = whole.with(Tally::unreadable());
-            }
-        }
+        whole = whole.with(run_file(rt, &name)?);
     }
     Ok(whole)
+}
+
+// Runs the cases of a file, and prints how many they are.
+fn run_file(rt: &HostRuntime, name: &str) -> io::Result<Tally> {
+    match fs::read_to_string(rt, name) {
+        Ok(text) => {
+            let tally = run_text(rt, &text)?;
+            println!(rt; "{name}: {tally}")?;
+            Ok(tally)
+        }
+        Err(cause) => {
+            println!(rt; "{name}: UNREADABLE: {cause}")?;
+            Ok(Tally::unreadable())
+        }
+    }
 }
 
 // Runs the cases of a text, and prints those that differ or can't be read.
@@ -71,19 +73,21 @@ fn run_text(rt: &HostRuntime, text: &str) -> io::Result<Tally> {
     let mut tally = Tally::default();
     'lines: for line in text.lines() {
         if is_case(line) {
-            tally.cases = tally.cases.saturating_add(1);
-            if !line_holds(rt, line)? {
-                tally.differ = tally.differ.saturating_add(1);
-            }
+            tally.count(line_holds(rt, line)?);
         }
     }
     Ok(tally)
 }
 
+// Whether the line is meant as a case: a row of a table whose first cell begins as a formula.
+fn is_case(line: &str) -> bool {
+    line.starts_with("| `=")
+}
+
 // Whether the case of the line can be read, and holds.
 fn line_holds(rt: &HostRuntime, line: &str) -> io::Result<bool> {
     match row_of(line) {
-        Some(row) => holds(rt, &row),
+        Some((call, wanted)) => holds(rt, call, wanted),
         None => {
             println!(rt; "    NO CASE: {line}")?;
             Ok(false)
@@ -92,20 +96,18 @@ fn line_holds(rt: &HostRuntime, line: &str) -> io::Result<bool> {
 }
 
 // Whether the call has the value; where it hasn't, both are printed.
-fn holds(rt: &HostRuntime, row: &Row) -> io::Result<bool> {
-    let Some(value) = case_value(rt.alloc(), row.call)? else {
-        println!(rt; "    NO CALL: {}", row.call)?;
+fn holds(rt: &HostRuntime, call: &str, wanted: &str) -> io::Result<bool> {
+    let Some(value) = case_value(rt.alloc(), call)? else {
+        println!(rt; "    NO CALL: {call}")?;
         return Ok(false);
     };
-    if is_wanted(rt.alloc(), &value, row.value)? {
+    if is_wanted(rt.alloc(), &value, wanted)? {
         return Ok(true);
     }
     let shown = value.shown(rt.alloc())?;
     println!(rt;
-        "    DIFFERS: {} is {}, wanted {}",
-        row.call,
-        shown.as_str(),
-        row.value
+        "    DIFFERS: {call} is {}, wanted {wanted}",
+        shown.as_str()
     )?;
     Ok(false)
 }

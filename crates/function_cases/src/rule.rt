@@ -1,5 +1,6 @@
 // Rules of custom functions as they are written, and their values.
 use crate::block::value_in;
+use crate::call::parts;
 use cell_addr::Text;
 use cell_value::Scalar;
 use custom_fn::Rule;
@@ -10,7 +11,10 @@ use std::alloc::{AllocError, Global};
 /// and whose number comes after it; the text `no rule` where the pairs make none. `None` where it isn't one
 /// that can be read.
 pub(crate) fn value_by_rule(alloc: Global, call: &str) -> Result<Option<Scalar>, AllocError> {
-    let Some((word, pairs, number)) = parts(call) else {
+    let Some((word, arguments)) = parts(call) else {
+        return Ok(None);
+    };
+    let Some((pairs, number)) = pairs_and_number(arguments) else {
         return Ok(None);
     };
     let (Some(pairs), Some(number)) = (pairs_of(alloc, pairs)?, value_in(alloc, number)?) else {
@@ -27,12 +31,10 @@ pub(crate) fn value_by_rule(alloc: Global, call: &str) -> Result<Option<Scalar>,
     }
 }
 
-// The word of a rule, what stands between its braces, and its number.
-fn parts(call: &str) -> Option<(&str, &str, &str)> {
-    let (word, rest) = call.strip_prefix("=")?.split_once('(')?;
-    let (pairs, rest) = rest.strip_prefix("{")?.split_once('}')?;
-    let number = rest.strip_prefix(",")?.strip_suffix(")")?;
-    Some((word, pairs, number))
+// What stands between the braces of a rule's arguments, and the number behind them.
+fn pairs_and_number(arguments: &str) -> Option<(&str, &str)> {
+    let (pairs, rest) = arguments.strip_prefix("{")?.split_once('}')?;
+    Some((pairs, rest.strip_prefix(",")?))
 }
 
 // The pairs of numbers that the text holds, which semicolons part; none where it is empty.

@@ -1,6 +1,6 @@
 // The words of the functions that every workbook has, beside the functions that there are.
 use crate::call::Function;
-use crate::tally::Tally;
+use case_files::Tally;
 use custom_fn::FUNCTION_WORDS;
 use func_date::DateFn;
 use func_look::LookFn;
@@ -42,15 +42,15 @@ fn is_known(word: &str) -> bool {
 pub(crate) fn run_words(rt: &HostRuntime) -> io::Result<Tally> {
     let mut tally = Tally::default();
     'words: for word in FUNCTION_WORDS {
-        tally.cases = tally.cases.saturating_add(1);
-        if !is_known(word) {
-            tally.differ = tally.differ.saturating_add(1);
+        let known = is_known(word);
+        tally.count(known);
+        if !known {
             println!(rt; "    NO FUNCTION, OR TWO: word {}", tally.cases)?;
         }
     }
     let functions = MathFn::ALL.len() + LookFn::ALL.len() + TextFn::ALL.len() + DateFn::ALL.len();
     if functions + OF_FORMULAS.len() != FUNCTION_WORDS.len() {
-        tally.differ = tally.differ.saturating_add(1);
+        tally.count(false);
         println!(rt; "    NOT LISTED: some of {functions} functions")?;
     }
     Ok(tally)

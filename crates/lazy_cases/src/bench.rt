@@ -1,6 +1,5 @@
 // Stores that are timed.
 
-use crate::known::Known;
 use crate::onward::Onward;
 use crate::reading::read_formula;
 use cell_addr::{Place, ROWS};
@@ -16,25 +15,65 @@ const BLOCK_ROWS: u32 = 30_000;
 
 const BLOCK: &str = "=SUM(B1:B30000)";
 
+const FIRST_CELL: Place = Place {
+    sheet: 0,
+    row: 0,
+    col: 0,
+};
+
 /// Times a store of so many formulas over so many operations, and prints what each part took, in nanoseconds: putting the
 /// formulas in, the operations, reading one formula over all of them; and, with one formula that loses something over each
 /// operation, reading it over all of them and back. Whether the formulas could be read.
 pub(crate) fn run_bench(rt: &HostRuntime, formulas: u64, operations: u64) -> io::Result<bool> {
-    let alloc = rt.alloc();
-    let mut pool = Pool::new(alloc)?;
+    let mut pool = Pool::new(rt.alloc())?;
+    let many = time_many(rt, &mut pool, formulas, operations)?;
+    let one = time_one(rt, &mut pool, operations)?;
+    Ok(many && one)
+}
+
+// Times a store of so many formulas; whether one of them could be read.
+fn time_many(
+    rt: &HostRuntime,
+    pool: &mut Pool,
+    formulas: u64,
+    operations: u64,
+) -> io::Result<bool> {
+    let mut many = Onward::new(rt.alloc())?;
+    time_calls(rt, &mut many, pool, formulas, operations)?;
+    let mut store = many.into_store();
+    time_read(rt, "read", &mut store, pool)
+}
+
+// Fills a store and puts operations on its line, and prints how long each of both took.
+fn time_calls(
+    rt: &HostRuntime,
+    store: &mut Onward,
+    pool: &mut Pool,
+    formulas: u64,
+    operations: u64,
+) -> io::Result<()> {
     let start = Instant::now(rt)?;
-    let mut many = filled(alloc, &mut pool, formulas)?;
+    fill(rt.alloc(), store, pool, formulas)?;
     println!(rt; "formulas {}", start.elapsed(rt)?.as_nanos())?;
     let start = Instant::now(rt)?;
-    insert_rows(&mut many, &mut pool, operations)?;
-    println!(rt; "operations {}", start.elapsed(rt)?.as_nanos())?;
-    let mut store = many.into_store();
-    let read = time_read(rt, "read", &mut store, &mut pool)?;
-    let mut one = losing(alloc, &mut pool, operations)?.into_store();
-    let on = time_read(rt, "losing", &mut one, &mut pool)?;
-    to_first(&mut one);
-    let back = time_read(rt, "back", &mut one, &mut pool)?;
-    Ok(read && on && back)
+    insert_rows(store, pool, operations)?;
+    println!(rt; "operations {}", start.elapsed(rt)?.as_nanos())
+}
+
+// Times a store of one formula that loses something over each operation; whether it could be read.
+fn time_one(rt: &HostRuntime, pool: &mut Pool, operations: u64) -> io::Result<bool> {
+    let mut one = Onward::new(rt.alloc())?;
+    lose_rows(rt.alloc(), &mut one, pool, operations)?;
+    let mut store = one.into_store();
+    time_both_ways(rt, &mut store, pool)
+}
+
+// Reads the formula under the id 0 at the last position and then at the first; whether it could be read at both.
+fn time_both_ways(rt: &HostRuntime, store: &mut Lazy, pool: &mut Pool) -> io::Result<bool> {
+    let on = time_read(rt, "losing", store, pool)?;
+    to_first(store);
+    let back = time_read(rt, "back", store, pool)?;
+    Ok(on && back)
 }
 
 // Reads the formula under the id 0, and prints how long that took; whether it could be read.
@@ -57,29 +96,41 @@ fn to_first(store: &mut Lazy) {
     }
 }
 
-// A store of so many formulas, each in a cell of its own.
-fn filled(alloc: Global, pool: &mut Pool, formulas: u64) -> Result<Onward, AllocError> {
-    let mut store = Onward::new(alloc)?;
+// Puts so many formulas into a store, each in a cell of its own.
+fn fill(
+    alloc: Global,
+    store: &mut Onward,
+    pool: &mut Pool,
+    formulas: u64,
+) -> Result<(), AllocError> {
     'formulas: for id in 0..formulas {
         let row = (id % u64::from(ROWS)) as u32;
         let col = u32::try_from(id / u64::from(ROWS)).unwrap_or(u32::MAX);
-        if let Some(standing) = formula(alloc, pool, row, col, "=$B$5")? {
-            store.insert(id, &standing)?;
-        }
+        put(
+            alloc,
+            store,
+            pool,
+            id,
+            Place { sheet: 0, row, col },
+            "=$B$5",
+        )?;
     }
-    Ok(store)
+    Ok(())
 }
 
-// The formula that the text spells in a cell of the first sheet.
-fn formula(
+// Puts the formula that the text spells in a cell into a store.
+fn put(
     alloc: Global,
+    store: &mut Onward,
     pool: &mut Pool,
-    row: u32,
-    col: u32,
+    id: u64,
+    cell: Place,
     text: &str,
-) -> Result<Option<Known>, AllocError> {
-    let home = Home::Cell(Place { sheet: 0, row, col });
-    read_formula(alloc, pool, home, text)
+) -> Result<(), AllocError> {
+    match read_formula(alloc, pool, Home::Cell(cell), text)? {
+        Some(standing) => store.insert(id, &standing),
+        None => Ok(()),
+    }
 }
 
 // Puts one row before row 2, so many times.
@@ -97,17 +148,16 @@ fn insert_rows(store: &mut Onward, pool: &mut Pool, operations: u64) -> Result<(
     Ok(())
 }
 
-// A store of one formula, with a block that loses its last row over each of so many operations.
-fn losing(alloc: Global, pool: &mut Pool, operations: u64) -> Result<Onward, AllocError> {
-    let mut store = Onward::new(alloc)?;
-    if let Some(standing) = formula(alloc, pool, 0, 0, BLOCK)? {
-        store.insert(0, &standing)?;
-    }
+// Puts a formula into a store, with a block that loses its last row over each of so many operations.
+fn lose_rows(
+    alloc: Global,
+    store: &mut Onward,
+    pool: &mut Pool,
+    operations: u64,
+) -> Result<(), AllocError> {
+    put(alloc, store, pool, 0, FIRST_CELL, BLOCK)?;
     'operations: for gone in 1..=operations {
-        let last = u32::try_from(gone)
-            .ok()
-            .and_then(|n| BLOCK_ROWS.checked_sub(n));
-        if let Some(at) = last {
+        if let Some(at) = last_row(gone) {
             store.shift(
                 pool,
                 Shift::DeleteRows {
@@ -118,5 +168,10 @@ fn losing(alloc: Global, pool: &mut Pool, operations: u64) -> Result<Onward, All
             )?;
         }
     }
-    Ok(store)
+    Ok(())
+}
+
+// The row that goes as the one of this number, counted from 1: the last one that the block has left.
+fn last_row(gone: u64) -> Option<u32> {
+    BLOCK_ROWS.checked_sub(u32::try_from(gone).ok()?)
 }

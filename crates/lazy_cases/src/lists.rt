@@ -76,16 +76,21 @@ const KINDS: [Kind; 24] = [
 pub(crate) fn run_lists(alloc: Global) -> Result<Tally, AllocError> {
     let mut tally = Tally::default();
     'lists: for seed in 0..LISTS {
-        let mut chance = Chance::new(seed);
         let mut pair = Pair::new(alloc)?;
-        'calls: for _ in 0..CALLS {
-            make_call(&mut pair, &mut chance, &mut tally)?;
-            pair.compare(&mut tally)?;
-            tally.calls = tally.calls.saturating_add(1);
-        }
-        tally.lists = tally.lists.saturating_add(1);
+        run_list(&mut pair, &mut Chance::new(seed), &mut tally)?;
     }
     Ok(tally)
+}
+
+// Makes the calls of a list.
+fn run_list(pair: &mut Pair, chance: &mut Chance, tally: &mut Tally) -> Result<(), AllocError> {
+    'calls: for _ in 0..CALLS {
+        make_call(pair, chance, tally)?;
+        pair.compare(tally)?;
+        tally.calls = tally.calls.saturating_add(1);
+    }
+    tally.lists = tally.lists.saturating_add(1);
+    Ok(())
 }
 
 // Makes some call.

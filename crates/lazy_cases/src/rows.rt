@@ -1,4 +1,5 @@
 // Calls whose answers are known beforehand: each row is a list of steps.
+ghost use Rattle.std.specs.Prelude.{◌≡◌};
 
 use crate::guarded::{Change, Guarded};
 use crate::reading::read_formula;
@@ -154,6 +155,26 @@ impl Scene {
         })
     }
 
+    // Whether all steps hold, on a store that has room for a formula and an operation.
+    fn all_hold(&mut self, steps: &[Step]) -> Result<bool, AllocError> {
+        self.store.reserve(2)?;
+        'steps: for step in steps {
+            if !self.holds(*step)? {
+                return Ok(false);
+            }
+        }
+        Ok(true)
+    }
+
+    // Whether room that is made serves a formula.
+    fn keeps_room(&mut self) -> Result<bool, AllocError> {
+        self.store.reserve(3)?;
+        let room = self.store.store().spare();
+        let put = self.put(ID, 0, "=B5")?;
+        let less = self.store.store().spare();
+        Ok(put && room >= 3 && less.saturating_add(1) >= room)
+    }
+
     // Puts the formula into a cell of column A, whose row counts from 0.
     fn put(&mut self, id: u64, row: u32, text: &str) -> Result<bool, AllocError> {
         match read_formula(self.alloc, &mut self.pool, cell(row), text)? {
@@ -244,39 +265,38 @@ fn cell(row: u32) -> Home {
 /// Whether all steps hold, on a store that has room for a formula and an operation.
 pub(crate) fn all_hold(alloc: Global, steps: &[Step]) -> Result<bool, AllocError> {
     let mut scene = Scene::new(alloc)?;
-    scene.store.reserve(2)?;
-    'steps: for step in steps {
-        if !scene.holds(*step)? {
-            return Ok(false);
-        }
-    }
-    Ok(true)
-}
-
-/// A line is cut, and its oldest operation forgotten.
-pub(crate) fn a_line_is_cut_and_forgotten(alloc: Global) -> Result<bool, AllocError> {
-    let mut line = Line::new(alloc)?;
-    line.push(INSERT)?;
-    line.push(INSERT_FOURTH)?;
-    let back = line.back();
-    line.push(DELETE_FIFTH)?;
-    if back != Some(INSERT_FOURTH) || line.last() != 2 || line.at(1) != Some(DELETE_FIFTH) {
-        return Ok(false);
-    }
-    if line.first() > 1 || line.cursor() < 1 {
-        return Ok(false);
-    }
-    line.forget_before(1);
-    let left = (line.first(), line.back(), line.back());
-    Ok(left == (1, Some(DELETE_FIFTH), None))
+    scene.all_hold(steps)
 }
 
 /// Room that was made serves formulas and operations.
 pub(crate) fn room_is_kept(alloc: Global) -> Result<bool, AllocError> {
     let mut scene = Scene::new(alloc)?;
-    scene.store.reserve(3)?;
-    let room = scene.store.store().spare();
-    let put = scene.put(ID, 0, "=B5")?;
-    let less = scene.store.store().spare();
-    Ok(put && room >= 3 && less.saturating_add(1) >= room)
+    scene.keeps_room()
+}
+
+/// A line is cut, and its oldest operation forgotten.
+pub(crate) fn a_line_is_cut_and_forgotten(alloc: Global) -> Result<bool, AllocError> {
+    let mut line = Line::new(alloc)?;
+    let cut = is_cut(&mut line)?;
+    Ok(cut && is_forgotten(&mut line))
+}
+
+// Whether an operation takes the place of the one that the cursor went back over.
+fn is_cut(line: &mut Line) -> Result<bool, AllocError>
+    requires { line.old.cursor ≡ 0 }
+{
+    line.push(INSERT)?;
+    line.push(INSERT_FOURTH)?;
+    let back = line.back();
+    line.push(DELETE_FIFTH)?;
+    Ok(back == Some(INSERT_FOURTH) && line.last() == 2 && line.at(1) == Some(DELETE_FIFTH))
+}
+
+// Whether the first of two operations is forgotten, and the second one stays.
+fn is_forgotten(line: &mut Line) -> bool {
+    if line.first() > 1 || line.cursor() < 1 {
+        return false;
+    }
+    line.forget_before(1);
+    line.first() == 1 && line.back() == Some(DELETE_FIFTH) && line.back().is_none()
 }

@@ -1,20 +1,21 @@
 // How many cases were run, and how they went.
-ghost use Rattle.std.specs.Prelude.{◌≡◌, ◌↔◌, ◌+◌, min, IsTrue};
+ghost use Rattle.std.specs.Prelude.{◌≡◌, ◌↔◌, ◌+◌, if◌then◌else◌, min, IsTrue};
 
 use std::fmt;
 
-/// The count of cases.
+/// The count of the cases of one file or more.
 #[derive(Clone, Copy, PartialEq, Eq, Debug, Default)]
 pub struct Tally {
     pub cases: u64,
+    /// How many of them aren't as they should be.
     pub differ: u64,
-    /// Files that can't be read, or have no case.
+    /// How many files can't be read, or have no case.
     pub empty_files: u64,
 }
 
 impl Tally {
     /// The count of a file that can't be read.
-    pub(crate) fn unreadable() -> Tally
+    pub fn unreadable() -> Tally
         ensures cases { result.cases ≡ 0 }
         ensures differ { result.differ ≡ 0 }
         ensures empty_files { result.empty_files ≡ 1 }
@@ -25,8 +26,20 @@ impl Tally {
         }
     }
 
+    /// One case more, which is as it should be or isn't.
+    pub fn count(&mut self, holds: bool)
+        ensures cases { self.new.cases ≡ min (self.old.cases + 1) u64.MAX }
+        ensures differ { self.new.differ ≡ (if holds then self.old.differ else min (self.old.differ + 1) u64.MAX) }
+        ensures empty_files { self.new.empty_files ≡ self.old.empty_files }
+    {
+        self.cases = self.cases.saturating_add(1);
+        if !holds {
+            self.differ = self.differ.saturating_add(1);
+        }
+    }
+
     /// This count and another file's.
-    pub(crate) fn with(self, file: Tally) -> Tally
+    pub fn with(self, file: Tally) -> Tally
         ensures cases { result.cases ≡ min (self.cases + file.cases) u64.MAX }
         ensures differ { result.differ ≡ min (self.differ + file.differ) u64.MAX }
     {
@@ -39,7 +52,7 @@ impl Tally {
     }
 
     /// Whether every file has cases and none differs.
-    pub(crate) fn is_clean(self) -> bool
+    pub fn is_clean(self) -> bool
         ensures { IsTrue result ↔ ((self.differ ≡ 0) × (self.empty_files ≡ 0)) }
     {
         self.differ == 0 && self.empty_files == 0
