@@ -22,6 +22,14 @@ use std::process::ExitCode;
 // A group of calls.
 #[derive(Clone, Copy)]
 enum Group {
+    Given,
+    Limit,
+    Over(Calls),
+}
+
+// Calls over an engine without sheets.
+#[derive(Clone, Copy)]
+enum Calls {
     Sheets,
     Rows,
     Columns,
@@ -30,31 +38,50 @@ enum Group {
     Clipboard,
     Links,
     Values,
+    // Three changes, of which so many steps are to be kept; `None` where none can be undone.
+    Kept(Option<usize>),
 }
 
 impl Group {
-    const ALL: [(Group, &'static str); 8] = [
-        (Group::Sheets, "sheets come and go"),
-        (Group::Rows, "formulas follow rows"),
-        (Group::Columns, "formulas follow columns and blocks"),
-        (Group::Steps, "steps go back and forward"),
-        (Group::Names, "names come and go"),
-        (Group::Clipboard, "blocks are pasted"),
-        (Group::Links, "links are listed in order"),
-        (Group::Values, "values follow names"),
+    const ALL: [(Group, &'static str); 10] = [
+        (Group::Given, "begins with given sheets"),
+        (Group::Limit, "steps are kept up to the limit"),
+        (Group::Over(Calls::Sheets), "sheets come and go"),
+        (Group::Over(Calls::Rows), "formulas follow rows"),
+        (
+            Group::Over(Calls::Columns),
+            "formulas follow columns and blocks",
+        ),
+        (Group::Over(Calls::Steps), "steps go back and forward"),
+        (Group::Over(Calls::Names), "names come and go"),
+        (Group::Over(Calls::Clipboard), "blocks are pasted"),
+        (Group::Over(Calls::Links), "links are listed in order"),
+        (Group::Over(Calls::Values), "values follow names"),
     ];
 
-    // Whether its calls answer as they should, over an engine without sheets.
-    fn holds(self, engine: &mut Engine<NoCustoms>) -> Result<bool, Stop> {
+    // Whether its calls answer as they should.
+    fn holds(self, alloc: Global) -> Result<bool, Stop> {
         match self {
-            Group::Sheets => groups::sheets_come_and_go(engine),
-            Group::Rows => groups::formulas_follow_rows(engine),
-            Group::Columns => groups::formulas_follow_columns(engine),
-            Group::Steps => groups::steps_go_back_and_forward(engine),
-            Group::Names => groups::names_come_and_go(engine),
-            Group::Clipboard => groups::blocks_are_pasted(engine),
-            Group::Links => groups::links_are_listed_in_order(engine),
-            Group::Values => groups::values_follow_names(engine),
+            Group::Given => begins_with_given_sheets(alloc),
+            Group::Limit => steps_are_kept_up_to_the_limit(alloc),
+            Group::Over(calls) => held(alloc, 20, calls),
+        }
+    }
+}
+
+impl Calls {
+    // Whether they answer as they should.
+    fn hold(self, engine: &mut Engine<NoCustoms>) -> Result<bool, Stop> {
+        match self {
+            Calls::Sheets => groups::sheets_come_and_go(engine),
+            Calls::Rows => groups::formulas_follow_rows(engine),
+            Calls::Columns => groups::formulas_follow_columns(engine),
+            Calls::Steps => groups::steps_go_back_and_forward(engine),
+            Calls::Names => groups::names_come_and_go(engine),
+            Calls::Clipboard => groups::blocks_are_pasted(engine),
+            Calls::Links => groups::links_are_listed_in_order(engine),
+            Calls::Values => groups::values_follow_names(engine),
+            Calls::Kept(steps) => Ok(kept(engine)? == steps),
         }
     }
 }
@@ -68,16 +95,11 @@ fn main(rt: HostRuntime) -> ExitCode {
 
 // Whether each group's calls answered as they should.
 fn run(rt: &HostRuntime) -> io::Result<bool> {
-    let alloc = rt.alloc();
-    let begun = begins_with_given_sheets(alloc);
-    println!(rt; "begins with given sheets: {}", said(&begun))?;
-    let limited = steps_are_kept_up_to_the_limit(alloc);
-    println!(rt; "steps are kept up to the limit: {}", said(&limited))?;
-    let mut all = begun == Ok(true) && limited == Ok(true);
+    let mut all = true;
     for (group, shows) in Group::ALL {
-        let end = held(alloc, group);
+        let end = group.holds(rt.alloc());
         println!(rt; "{shows}: {}", said(&end))?;
-        all = all && end == Ok(true);
+        all = all && matches!(end, Ok(true));
     }
     Ok(all)
 }
@@ -87,39 +109,32 @@ fn said(end: &Result<bool, Stop>) -> &'static str {
     match end {
         Ok(true) => "as they should",
         Ok(false) => "otherwise",
-        Err(Stop::Refused(_)) => "refused",
-        Err(Stop::NoMemory) => "no memory",
+        Err(stop) => why(stop),
     }
 }
 
-// An engine without sheets, of which so many steps can be undone.
-fn empty(alloc: Global, limit: u16) -> Result<Engine<NoCustoms>, Stop>
-    requires { limit ≤ MAX_UNDO }
-{
-    let engine = Engine::build(alloc, &[], limit, NoCustoms, 0)?;
-    Ok(engine)
+// Why a group's calls ended early.
+fn why(stop: &Stop) -> &'static str {
+    match stop {
+        Stop::Refused(_) => "refused",
+        Stop::NoMemory => "no memory",
+    }
 }
 
-// Whether the calls of a group answer as they should.
-fn held(alloc: Global, group: Group) -> Result<bool, Stop> {
-    let mut engine = empty(alloc, 20)?;
-    group.holds(&mut engine)
-}
-
-// How many steps are kept of three changes where so many can be undone; `None` where none can.
-fn kept_within(alloc: Global, limit: u16) -> Result<Option<usize>, Stop>
+// Whether calls answer as they should, over an engine of which so many steps can be undone.
+fn held(alloc: Global, limit: u16, calls: Calls) -> Result<bool, Stop>
     requires { limit ≤ MAX_UNDO }
 {
-    let mut engine = empty(alloc, limit)?;
-    kept(&mut engine)
+    let mut engine = Engine::build(alloc, &[], limit, NoCustoms, 0)?;
+    calls.hold(&mut engine)
 }
 
 // No more steps are kept than can be undone.
 fn steps_are_kept_up_to_the_limit(alloc: Global) -> Result<bool, Stop> {
     Ok(
-        kept_within(alloc, 0)? == None
-            && kept_within(alloc, 1)? == Some(1)
-            && kept_within(alloc, 1_000)? == Some(3),
+        held(alloc, 0, Calls::Kept(None))?
+            && held(alloc, 1, Calls::Kept(Some(1)))?
+            && held(alloc, 1_000, Calls::Kept(Some(3)))?,
     )
 }
 

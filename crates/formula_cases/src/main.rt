@@ -116,18 +116,14 @@ fn run_rows(
     tally: &mut Tally,
 ) -> io::Result<()> {
     'rows: for row in rows {
-        let holds = match row.as_table() {
-            Some(table) => row_holds(rt, setting, kind, table)?,
-            None => false,
-        };
-        tally.count(holds);
+        tally.count(row_holds(rt, setting, kind, row)?);
     }
     Ok(())
 }
 
 // Whether what is found of a row is what is wanted; where it isn't, both are printed.
-fn row_holds(rt: &HostRuntime, setting: &Setting, kind: Kind, table: &Table) -> io::Result<bool> {
-    let Some(outcome) = outcome_of(rt.alloc(), setting, kind, table)? else {
+fn row_holds(rt: &HostRuntime, setting: &Setting, kind: Kind, row: &Value) -> io::Result<bool> {
+    let Some(outcome) = outcome_of(rt.alloc(), setting, kind, row)? else {
         println!(rt; "    UNREADABLE: a row")?;
         return Ok(false);
     };

@@ -5,7 +5,7 @@ use crate::shifting::{shift_of, shifted};
 use crate::table::{ColumnRow, Kind, NestedRow, Setting, ShiftRow, TextRow};
 use formula_tree::Home;
 use std::alloc::{AllocError, Global};
-use toml::Table;
+use toml::Value;
 
 /// What a row is about, what is found and what is wanted.
 #[derive(Drop)]
@@ -15,13 +15,16 @@ pub(crate) struct Outcome {
     pub(crate) wanted: String,
 }
 
-/// The outcome of a row of the kind; `None` where the table is no such row.
+/// The outcome of a row of the kind; `None` where the value is no such row.
 pub(crate) fn outcome_of(
     alloc: Global,
     setting: &Setting,
     kind: Kind,
-    table: &Table,
+    row: &Value,
 ) -> Result<Option<Outcome>, AllocError> {
+    let Some(table) = row.as_table() else {
+        return Ok(None);
+    };
     match kind {
         Kind::Text => match TextRow::of(table, setting.sheet) {
             Some(row) => Ok(Some(of_text(alloc, setting, &row)?)),

@@ -1,26 +1,26 @@
 // Numbers that look random, and are the same in each run.
+use rand_core::Rng;
+use rand_pcg::Pcg32;
 
-// What a linear congruential generator of 64 bits multiplies by and adds: those of Knuth's MMIX.
-const FACTOR: u64 = 6_364_136_223_846_793_005;
+// Which of the generator's streams is drawn from.
+const STREAM: u64 = 0;
 
-const SUMMAND: u64 = 1_442_695_040_888_963_407;
-
-/// A list of numbers that a seed determines.
-#[derive(Clone, Copy)]
+/// Numbers that a seed determines.
+#[derive(Drop)]
 pub(crate) struct Chance {
-    state: u64,
+    generator: Pcg32,
 }
 
 impl Chance {
-    /// The list of this seed.
+    /// The numbers of this seed.
     pub(crate) fn new(seed: u64) -> Chance {
-        Chance { state: seed }
+        Chance {
+            generator: Pcg32::new(seed, STREAM),
+        }
     }
 
     /// The next number, below the bound; 0 where that is 0.
     pub(crate) fn below(&mut self, bound: u32) -> u32 {
-        self.state = self.state.wrapping_mul(FACTOR).wrapping_add(SUMMAND);
-        let high = (self.state >> 33) as u32;
-        high % bound.max(1)
+        self.generator.next_u32() % bound.max(1)
     }
 }

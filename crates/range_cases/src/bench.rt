@@ -122,16 +122,26 @@ const CASES: [(Case, &'static str); 6] = [
 pub(crate) fn bench<L: Ledger>(rt: &HostRuntime, steps: &mut Steps<L>) -> io::Result<()> {
     'cases: for (case, shows) in CASES {
         let mut summed = Summed::new(rt.alloc())?;
-        if let Case::Inserts(_, rows) = case {
-            summed.ask_prefixes(rows, steps)?;
-        }
-        let start = Instant::now(rt)?;
-        run(&mut summed, case, steps)?;
-        let time = start.elapsed(rt)?.as_micros();
+        let time = time_case(rt, &mut summed, case, steps)?;
         let merged = summed.ranges.merged();
         println!(rt; "{shows}: {time} microseconds, {merged} cells merged in all")?;
     }
     Ok(())
+}
+
+// How many microseconds a case takes.
+fn time_case<L: Ledger>(
+    rt: &HostRuntime,
+    summed: &mut Summed,
+    case: Case,
+    steps: &mut Steps<L>,
+) -> io::Result<u128> {
+    if let Case::Inserts(_, rows) = case {
+        summed.ask_prefixes(rows, steps)?;
+    }
+    let start = Instant::now(rt)?;
+    run(summed, case, steps)?;
+    Ok(start.elapsed(rt)?.as_micros())
 }
 
 // Runs a case.

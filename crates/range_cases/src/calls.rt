@@ -31,10 +31,16 @@ fn cell(row: u32) -> Place {
 // A number, a text and a number, one under the other.
 fn three_rows(alloc: Global) -> Result<Both, AllocError> {
     let mut both = Both::new(alloc)?;
+    put_three_rows(alloc, &mut both)?;
+    Ok(both)
+}
+
+// Puts them into a grid.
+fn put_three_rows(alloc: Global, both: &mut Both) -> Result<(), AllocError> {
     both.put(cell(0), Scalar::from(Fixed::from_int(1)))?;
     both.put(cell(1), Scalar::Text(Text::from_str(alloc, "three")?))?;
     both.put(cell(2), Scalar::from(Fixed::from_int(4)))?;
-    Ok(both)
+    Ok(())
 }
 
 // What they come to.
@@ -55,6 +61,11 @@ pub(crate) fn a_column_is_summed_up<L: Ledger>(
 ) -> Result<bool, AllocError> {
     let mut both = three_rows(alloc)?;
     let first = both.summary(rows(0, 2), steps)?;
+    Ok(first == Some((expected(), 3)) && is_kept(&mut both, steps)?)
+}
+
+// Whether the summary of three rows is kept over a row that is put in under them, and by a copy.
+fn is_kept<L: Ledger>(both: &mut Both, steps: &mut Steps<L>) -> Result<bool, AllocError> {
     let shift = Shift::InsertRows {
         sheet: 0,
         at: 8,
@@ -66,7 +77,7 @@ pub(crate) fn a_column_is_summed_up<L: Ledger>(
     both.shift(&shift)?;
     let equal = both.go_on_with_a_copy()?;
     let again = both.summary(rows(0, 2), steps)?;
-    Ok(equal && first == Some((expected(), 3)) && again == Some((expected(), 0)))
+    Ok(equal && again == Some((expected(), 0)))
 }
 
 // A block goes on from that without its last row; a place that is touched gives up what holds it, and no more.
@@ -75,8 +86,18 @@ pub(crate) fn a_longer_block_goes_on<L: Ledger>(
     steps: &mut Steps<L>,
 ) -> Result<bool, AllocError> {
     let mut both = three_rows(alloc)?;
+    Ok(goes_on(&mut both, steps)? && is_given_up(&mut both, steps)?)
+}
+
+// Whether four rows are summed up, and then the three that go before.
+fn goes_on<L: Ledger>(both: &mut Both, steps: &mut Steps<L>) -> Result<bool, AllocError> {
     let all = both.summary(rows(0, 3), steps)?;
     let shorter = both.summary(rows(0, 2), steps)?;
+    Ok(all == Some((expected(), 4)) && shorter == Some((expected(), 3)))
+}
+
+// Whether a fault in the fourth row gives up the summary that holds it alone.
+fn is_given_up<L: Ledger>(both: &mut Both, steps: &mut Steps<L>) -> Result<bool, AllocError> {
     both.put(cell(3), Scalar::Fault(FaultKind::Na))?;
     let kept = both.summary(rows(0, 2), steps)?;
     let again = both.summary(rows(0, 3), steps)?;
@@ -84,12 +105,7 @@ pub(crate) fn a_longer_block_goes_on<L: Ledger>(
         fault: Some(FaultKind::Na),
         ..expected()
     };
-    Ok(
-        all == Some((expected(), 4))
-            && shorter == Some((expected(), 3))
-            && kept == Some((expected(), 0))
-            && again == Some((with_fault, 1)),
-    )
+    Ok(kept == Some((expected(), 0)) && again == Some((with_fault, 1)))
 }
 
 // An operation, a block that is summed up before it, the block that it should be after, and how many cells are to be merged
@@ -190,10 +206,19 @@ pub(crate) fn operations_move_or_give_up<L: Ledger>(
 
 // Whether so many cells are merged for the block after the operation.
 fn holds<L: Ledger>(alloc: Global, case: &Case, steps: &mut Steps<L>) -> Result<bool, AllocError> {
+    let mut both = Both::new(alloc)?;
+    merges(&mut both, case, steps)
+}
+
+// Whether so many cells of an empty grid are merged.
+fn merges<L: Ledger>(
+    both: &mut Both,
+    case: &Case,
+    steps: &mut Steps<L>,
+) -> Result<bool, AllocError> {
     if !sound(&case.shift) {
         return Ok(false);
     }
-    let mut both = Both::new(alloc)?;
     both.summary(case.before, steps)?;
     both.shift(&case.shift)?;
     let after = both.summary(case.after, steps)?;

@@ -4,6 +4,8 @@ ghost use Rattle.std.specs.Prelude.{◌<◌};
 use cell_addr::{Block, Place, Text};
 use cell_value::{FaultKind, Scalar};
 use fix_num::{Fixed, NumError};
+use rand_core::Rng;
+use rand_pcg::Pcg32;
 use shift_core::Shift;
 use std::alloc::{AllocError, Global};
 
@@ -16,17 +18,20 @@ const MORE_ROWS: u32 = 6;
 
 const MORE_COLS: u32 = 3;
 
+// Which of the generator's streams is drawn from.
+const STREAM: u64 = 0;
+
 // A generator of numbers, and the corner from which places are drawn.
 #[derive(Drop)]
 pub(crate) struct Draws {
-    state: u64,
+    generator: Pcg32,
     corner: Place,
 }
 
 impl Draws {
     pub(crate) fn new(seed: u64, corner: Place) -> Draws {
         Draws {
-            state: seed,
+            generator: Pcg32::new(seed, STREAM),
             corner,
         }
     }
@@ -36,11 +41,7 @@ impl Draws {
         requires { 0 < limit }
         ensures { result < limit }
     {
-        self.state = self
-            .state
-            .wrapping_mul(6_364_136_223_846_793_005)
-            .wrapping_add(1_442_695_040_888_963_407);
-        ((self.state >> 33) % u64::from(limit)) as u32
+        self.generator.next_u32() % limit
     }
 
     // The first sheet mostly, and else the second.

@@ -1,62 +1,158 @@
-// Cases as files of TOML hold them.
-use serde::Deserialize;
+// Cases as documents of TOML hold them.
+use case_files::{Form, Key, Row};
+use std::alloc::AllocError;
+use toml::{Table, Value};
 
-/// A file of cases.
-#[derive(Debug, Drop, Deserialize)]
-#[serde(deny_unknown_fields)]
-pub struct CaseFile {
-    pub case: Vec<Case>,
-}
+// The keys of a document, of a case, and of a file of a case's folder: those that it has, and those that it may have.
+const DOCUMENT: [Key; 1] = [("case", Form::Array)];
+
+const CASE: [Key; 2] = [("shows", Form::Text), ("prints", Form::Text)];
+
+const CASE_MORE: [Key; 10] = [
+    ("words", Form::Array),
+    ("file", Form::Array),
+    ("day", Form::Number),
+    ("filled", Form::Number),
+    ("script", Form::Text),
+    ("latin1", Form::Truth),
+    ("failing_loads", Form::Array),
+    ("failing_reads", Form::Array),
+    ("failing_writes", Form::Array),
+    ("status", Form::Number),
+];
+
+const FILE: [Key; 2] = [("name", Form::Text), ("text", Form::Text)];
+
+const FILE_MORE: [Key; 1] = [("latin1", Form::Truth)];
+
+// The day of a case that names none: 2024-01-01.
+const TODAY: i32 = 45_292;
 
 /// What a run is given, and what it must print.
-#[derive(Debug, Drop, Deserialize)]
-#[serde(deny_unknown_fields)]
-pub struct Case {
+#[derive(Clone, Copy, Debug)]
+pub(crate) struct Case<'a> {
     /// What the case shows.
-    pub shows: String,
+    pub(crate) shows: &'a str,
     /// The words of the command line.
-    #[serde(default)]
-    pub words: Vec<String>,
+    pub(crate) words: &'a [Value],
     /// The files of the folder.
-    #[serde(default)]
-    pub file: Vec<NamedText>,
-    /// The serial number of today, where it isn't that of every other case.
-    pub day: Option<i32>,
+    pub(crate) files: &'a [Value],
+    /// The serial number of today.
+    pub(crate) day: i32,
     /// How many cells are filled before the script, column by column from A1 on; the run answers `ok` to each.
-    #[serde(default)]
-    pub filled: u32,
-    /// The text of the script, which the source has.
-    #[serde(default)]
-    pub script: String,
-    /// Whether the script's characters, none of them beyond U+00FF, are its bytes; else its bytes are
-    /// those of UTF-8.
-    #[serde(default)]
-    pub latin1: bool,
-    /// The numbers of the folder's calls that fail, counted from 1.
-    #[serde(default)]
-    pub failing_loads: Vec<u64>,
-    /// The numbers of the source's calls that fail, counted from 1.
-    #[serde(default)]
-    pub failing_reads: Vec<u64>,
-    /// The numbers of the sink's calls that fail, counted from 1.
-    #[serde(default)]
-    pub failing_writes: Vec<u64>,
+    pub(crate) filled: u32,
+    /// The script, which the source has.
+    pub(crate) script: Written<'a>,
+    pub(crate) failing: Failing<'a>,
     /// What the run must print.
-    pub prints: String,
+    pub(crate) prints: &'a str,
     /// The status that the run must answer.
-    #[serde(default)]
-    pub status: u8,
+    pub(crate) status: u32,
+}
+
+impl<'a> Case<'a> {
+    /// The case of a value of a document; `None` where it is none.
+    pub(crate) fn of(value: &'a Value) -> Option<Case<'a>> {
+        let row = Row::new(value.as_table()?, &CASE, &CASE_MORE)?;
+        Some(Case {
+            shows: row.text("shows"),
+            words: row.values("words"),
+            files: row.values("file"),
+            day: day_of(row),
+            filled: row.number("filled"),
+            script: Written::of(row, "script"),
+            failing: Failing::of(row),
+            prints: row.text("prints"),
+            status: row.number("status"),
+        })
+    }
+}
+
+// The day of a case.
+fn day_of(row: Row) -> i32 {
+    if row.has("day") {
+        i32::try_from(row.number("day")).unwrap_or(i32::MAX)
+    } else {
+        TODAY
+    }
+}
+
+/// The numbers of the calls that fail, counted from 1.
+#[derive(Clone, Copy, Debug)]
+pub(crate) struct Failing<'a> {
+    /// Those of the folder's calls.
+    pub(crate) loads: &'a [Value],
+    /// Those of the source's calls.
+    pub(crate) reads: &'a [Value],
+    /// Those of the sink's calls.
+    pub(crate) writes: &'a [Value],
+}
+
+impl<'a> Failing<'a> {
+    // The calls that a case says.
+    fn of(row: Row<'a>) -> Failing<'a> {
+        Failing {
+            loads: row.values("failing_loads"),
+            reads: row.values("failing_reads"),
+            writes: row.values("failing_writes"),
+        }
+    }
+}
+
+/// Bytes that are written down as a text.
+#[derive(Clone, Copy, Debug)]
+pub(crate) struct Written<'a> {
+    text: &'a str,
+    // Whether each character, none beyond U+00FF, is a byte; else the bytes are those of UTF-8.
+    latin1: bool,
+}
+
+impl<'a> Written<'a> {
+    // The bytes that the text under the key is.
+    fn of(row: Row<'a>, key: &str) -> Written<'a> {
+        Written {
+            text: row.text(key),
+            latin1: row.is_true("latin1"),
+        }
+    }
+
+    /// Puts the bytes at the end of others; whether they are written as they should be.
+    pub(crate) fn push_to(self, bytes: &mut Vec<u8>) -> Result<bool, AllocError> {
+        if !self.latin1 {
+            bytes.extend_from_slice(self.text.as_bytes())?;
+            return Ok(true);
+        }
+        'characters: for c in self.text.chars() {
+            match u8::try_from(u32::from(c)) {
+                Ok(byte) => bytes.push(byte)?,
+                Err(_) => return Ok(false),
+            }
+        }
+        Ok(true)
+    }
 }
 
 /// A file of the folder.
-#[derive(Debug, Drop, Deserialize)]
-#[serde(deny_unknown_fields)]
-pub struct NamedText {
+#[derive(Clone, Copy, Debug)]
+pub(crate) struct NamedBytes<'a> {
     /// Its name, as words give it.
-    pub name: String,
-    /// Its text.
-    pub text: String,
-    /// Whether the text's characters are its bytes, as for a script.
-    #[serde(default)]
-    pub latin1: bool,
+    pub(crate) name: &'a str,
+    pub(crate) bytes: Written<'a>,
+}
+
+impl<'a> NamedBytes<'a> {
+    /// The file of a value of a case; `None` where it is none.
+    pub(crate) fn of(value: &'a Value) -> Option<NamedBytes<'a>> {
+        let row = Row::new(value.as_table()?, &FILE, &FILE_MORE)?;
+        Some(NamedBytes {
+            name: row.text("name"),
+            bytes: Written::of(row, "text"),
+        })
+    }
+}
+
+/// The values of a document's cases; `None` where it has something else.
+pub(crate) fn cases_of(document: &Table) -> Option<&[Value]> {
+    let row = Row::new(document, &DOCUMENT, &[])?;
+    Some(row.values("case"))
 }

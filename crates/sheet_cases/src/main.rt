@@ -19,31 +19,24 @@
 #![tactic(auto)]
 
 mod case;
-mod tally;
+mod given;
 
 ghost use Rattle.std.specs.Prelude.{◌≡◌, ◌<◌};
 ghost use Rattle.custom_fn.specs.Rule.{rule_value};
 ghost use Rattle.tariffs.specs.Tariffs as tariff;
 
-use book_files::{FileMap, MemFolder, MemSink, MemSource};
-use case::{Case, CaseFile};
+use case::{Case, cases_of};
+use case_files::Tally;
 use cell_value::Scalar;
+use given::Given;
 use std::alloc::{AllocError, Global};
 use std::marker::Brand;
 use std::process::ExitCode;
 use std::sync::ledger::{Blank, Ledger};
 use std::{env, fs, io};
 use steps::Steps;
-use tally::Tally;
 use tariffs::{customs, levy, postage};
-
-// The day of a case that names none: 2024-01-01.
-const TODAY: i32 = 45_292;
-
-// The columns that a case can fill, and their rows.
-const COLUMNS: &str = "ABCDEFGHIJKLMNOPQRSTUVWXYZ";
-
-const ROWS: u32 = 40_000;
+use toml::{Table, Value};
 
 fn main(rt: HostRuntime) -> ExitCode {
     match run_files::<Brand>(&rt, Blank::new(1)) {
@@ -60,76 +53,106 @@ fn run_files<L: Ledger>(rt: &HostRuntime, blank: Blank) -> io::Result<Tally>
     requires some { 0 < blank.parts }
 {
     let mut steps = Steps::<L>::new(blank);
-    let mut tally = Tally::default();
+    let mut whole = Tally::default();
     let mut names = env::args(rt)?;
     let _program = names.next();
     'files: for name in names {
         println!(rt; "{name}")?;
-        match cases_of(rt, &name) {
-            Ok(cases) => {
-                'cases: for case in cases {
-                    run_case(rt, case, &mut tally, &mut steps)?;
-                }
-            }
-            Err(cause) => {
-                tally.unreadable_files = tally.unreadable_files.saturating_add(1);
-                println!(rt; "    UNREADABLE: {cause}")?;
-            }
+        whole = whole.with(run_file(rt, &name, &mut steps)?);
+    }
+    println!(rt; "{whole}")?;
+    Ok(whole)
+}
+
+// Runs the cases of a file.
+fn run_file<L: Ledger>(rt: &HostRuntime, name: &str, steps: &mut Steps<L>) -> io::Result<Tally> {
+    match document_of(rt, name) {
+        Ok(document) => run_document(rt, &document, steps),
+        Err(cause) => {
+            println!(rt; "    UNREADABLE: {cause}")?;
+            Ok(Tally::unreadable())
         }
     }
-    println!(rt; "{tally}")?;
+}
+
+// The document that a file holds.
+fn document_of(rt: &HostRuntime, name: &str) -> anyhow::Result<Table> {
+    let text = fs::read_to_string(rt, name)?;
+    let document = toml::table_from_str(rt.alloc(), &text)?;
+    Ok(document)
+}
+
+// Runs the cases of a document.
+fn run_document<L: Ledger>(
+    rt: &HostRuntime,
+    document: &Table,
+    steps: &mut Steps<L>,
+) -> io::Result<Tally> {
+    let Some(cases) = cases_of(document) else {
+        println!(rt; "    UNREADABLE: not only cases")?;
+        return Ok(Tally::unreadable());
+    };
+    let mut tally = Tally::default();
+    'cases: for value in cases {
+        tally.count(value_holds(rt, value, steps)?);
+    }
     Ok(tally)
 }
 
-// The cases of a file.
-fn cases_of(rt: &HostRuntime, name: &str) -> anyhow::Result<Vec<Case>> {
-    let text = fs::read_to_string(rt, name)?;
-    let file: CaseFile = toml::from_str(rt.alloc(), &text)?;
-    Ok(file.case)
-}
-
-// Runs a case, and prints whether it differs and where.
-fn run_case<L: Ledger>(
+// Whether a value is a case whose run answers as it should; it prints what the case shows, or where it differs.
+fn value_holds<L: Ledger>(
     rt: &HostRuntime,
-    case: Case,
-    tally: &mut Tally,
+    value: &Value,
     steps: &mut Steps<L>,
-) -> io::Result<()> {
-    tally.cases = tally.cases.saturating_add(1);
-    let shows = case.shows.clone()?;
-    let mut prints = "ok\n".repeat(rt.alloc(), case.filled as usize)?;
-    prints.push_str(&case.prints)?;
-    let wanted = case.status;
-    let (status, out) = match answer(rt, case, steps) {
-        Ok(answered) => answered,
-        Err(cause) => {
-            tally.differ = tally.differ.saturating_add(1);
-            return println!(rt; "    UNREADABLE: {shows}: {cause}");
-        }
+) -> io::Result<bool> {
+    let Some(case) = Case::of(value) else {
+        println!(rt; "    UNREADABLE: a case has other keys or values than it should")?;
+        return Ok(false);
     };
-    if status == wanted && out.bytes() == prints.as_bytes() {
-        return println!(rt; "    {shows}");
-    }
-    tally.differ = tally.differ.saturating_add(1);
-    println!(rt; "    DIFFERS: {shows}")?;
-    if status != wanted {
-        println!(rt; "        status {status}, wanted {wanted}")?;
-    }
-    match str::from_utf8(out.bytes()) {
-        Ok(printed) => print_differences(rt, printed, prints.as_str()),
-        Err(_) => println!(rt; "        what was printed isn't UTF-8"),
-    }
+    let Some(mut given) = Given::of(rt.alloc(), &case)? else {
+        println!(rt; "    UNREADABLE: {}", case.shows)?;
+        return Ok(false);
+    };
+    holds(rt, &case, &mut given, steps)
 }
 
-// The status of a case's run and the sink that it printed into. The custom functions are those of the program.
-fn answer<L: Ledger>(
+// Whether the run of a case answers as it should.
+fn holds<L: Ledger>(
     rt: &HostRuntime,
-    case: Case,
+    case: &Case,
+    given: &mut Given,
     steps: &mut Steps<L>,
-) -> anyhow::Result<(u8, MemSink)> {
-    let alloc = rt.alloc();
-    let script = script_bytes(rt, &case)?;
-    let files = files(rt, &case)?;
+) -> io::Result<bool> {
+    let status = u32::from(answer(rt.alloc(), given, case.day, steps)?);
+    let out = given.out.bytes();
+    let wanted = printed(rt.alloc(), case)?;
+    if status == case.status && out == wanted.as_bytes() {
+        println!(rt; "    {}", case.shows)?;
+        return Ok(true);
+    }
+    println!(rt; "    DIFFERS: {}", case.shows)?;
+    println!(rt; "        status {status}, wanted {}", case.status)?;
+    match str::from_utf8(out) {
+        Ok(out) => print_differences(rt, out, &wanted)?,
+        Err(_) => println!(rt; "        what was printed isn't UTF-8")?,
+    }
+    Ok(false)
+}
+
+// What the run of a case must print.
+fn printed(alloc: Global, case: &Case) -> Result<String, AllocError> {
+    let mut prints = "ok\n".repeat(alloc, case.filled as usize)?;
+    prints.push_str(case.prints)?;
+    Ok(prints)
+}
+
+// The status of a run. The custom functions are those of the program.
+fn answer<L: Ledger>(
+    alloc: Global,
+    given: &mut Given,
+    day: i32,
+    steps: &mut Steps<L>,
+) -> Result<u8, AllocError> {
     let by_weight = Box::new(
         alloc,
         |x: &Scalar| -> Scalar
@@ -143,68 +166,17 @@ fn answer<L: Ledger>(
         { levy(x) },
     )?;
     let registry = customs(alloc, by_weight, on_amount)?;
-    let mut folder = MemFolder::new(files, case.failing_loads);
-    let mut input = MemSource::new(script, case.failing_reads);
-    let mut out = MemSink::new(alloc, case.failing_writes)?;
     let status = sheet_cli::run(
         alloc,
-        &case.words,
-        &mut folder,
-        &mut input,
-        &mut out,
-        case.day.unwrap_or(TODAY),
+        &given.words,
+        &mut given.folder,
+        &mut given.input,
+        &mut given.out,
+        day,
         registry,
         steps,
     );
-    Ok((status, out))
-}
-
-// The files of a case's folder.
-fn files(rt: &HostRuntime, case: &Case) -> anyhow::Result<FileMap> {
-    let mut files = FileMap::new(rt.alloc())?;
-    'files: for file in &case.file {
-        let mut bytes = Vec::new(rt.alloc());
-        push_text(&mut bytes, &file.text, file.latin1)?;
-        files.put(&file.name, bytes)?;
-    }
-    Ok(files)
-}
-
-// The lines of a script that fill so many cells, column by column; those of the columns A to Z at most.
-fn filling(alloc: Global, count: u32) -> Result<String, AllocError> {
-    let mut lines = String::new(alloc);
-    let mut left = count;
-    'columns: for column in COLUMNS.chars() {
-        'rows: for row in 1..=ROWS {
-            if left == 0 {
-                return Ok(lines);
-            }
-            left -= 1;
-            lines.push_str(&format!(in alloc; "set,{column}{row},1\n")?)?;
-        }
-    }
-    Ok(lines)
-}
-
-// The bytes of a case's script, those that fill cells first.
-fn script_bytes(rt: &HostRuntime, case: &Case) -> anyhow::Result<Vec<u8>> {
-    let filling = filling(rt.alloc(), case.filled)?;
-    let mut bytes = Vec::from_slice(rt.alloc(), filling.as_bytes())?;
-    push_text(&mut bytes, &case.script, case.latin1)?;
-    Ok(bytes)
-}
-
-// Puts the bytes of a text at the end. An error where it should be one byte a character, and a character is beyond
-// U+00FF.
-fn push_text(bytes: &mut Vec<u8>, text: &str, latin1: bool) -> anyhow::Result<()> {
-    if !latin1 {
-        bytes.extend_from_slice(text.as_bytes())?;
-        return Ok(());
-    }
-    'characters: for c in text.chars() {
-        bytes.push(u8::try_from(u32::from(c))?)?;
-    }
-    Ok(())
+    Ok(status)
 }
 
 // Prints each line that isn't the wanted one, and those that are too many.
