@@ -50,7 +50,7 @@ impl fmt::Display for Millis {
 
 // Times all graphs, and prints a line for each part.
 pub(crate) fn bench(rt: &HostRuntime) -> io::Result<()> {
-    'cases: for (shape, name, count) in CASES {
+    'cases: for &(shape, name, count) in &CASES {
         time_case(rt, Case { shape, name, count })?;
     }
     Ok(())

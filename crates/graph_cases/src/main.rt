@@ -74,7 +74,7 @@ fn compare(rt: &HostRuntime) -> io::Result<bool> {
 // Whether each group of calls answers as it should.
 fn groups_hold(rt: &HostRuntime) -> io::Result<bool> {
     let mut all = true;
-    'groups: for (steps, shows) in GROUPS {
+    'groups: for &(steps, shows) in &GROUPS {
         all = group_holds(rt, steps, shows)? && all;
     }
     Ok(all)
@@ -90,7 +90,7 @@ fn group_holds(rt: &HostRuntime, steps: &[Step], shows: &str) -> io::Result<bool
 // Whether no answer of the lists differs.
 fn lists_agree(rt: &HostRuntime) -> io::Result<bool> {
     let mut all = true;
-    'corners: for (corner, shows) in CORNERS {
+    'corners: for &(corner, shows) in &CORNERS {
         let tally = lists(rt.alloc(), corner)?;
         println!(rt; "{shows}: {tally}")?;
         all = all && tally.agrees();
