@@ -1,27 +1,19 @@
 -- Nodes added, filed and linked. Serves the changes of a net.
-use Rattle.std.proofs.Common.{◌≡◌, ◌≢◌, ◌∙◌, sym, ap, subst, arith, ℕ, ◌+◌, ◌<◌, ⊎_elim, Bool, true, false, cond, List, [], ◌∷◌, ◌++◌, map, length, get_or, take, eqb, eqb-true, Result, Ok, Err, OnOk, OnErr}
-use Rattle.std.specs.BTreeMap.{is_at}
-use Rattle.std.specs.BTreeSet.{BTreeSet, Updates, contains}
-use Rattle.std.specs.List.{list_any}
-use Rattle.std.specs.Ordering.{nat_cmp}
-use Rattle.std.proofs.lemmas.Bool.{eq-eqb, false≢true, ne_eqb, or_cases}
+use Rattle.std.proofs.Common.{◌≡◌, ◌≢◌, ◌∙◌, sym, ap, subst, arith, ℕ, ◌+◌, ◌<◌, ⊎_elim, Bool, true, false, cond, List, [], ◌∷◌, ◌++◌, map, length, get_or, take, eqb, Result, Ok, Err, OnOk, OnErr}
+use Rattle.std.proofs.lemmas.Bool.{eq-eqb, false≢true, ne_eqb}
 use Rattle.std.proofs.lemmas.Bool.Decides.{nat_tests}
 use Rattle.std.proofs.lemmas.List.{map-append, take_more}
 use Rattle.std.proofs.lemmas.List.Folds.{position_or_len_push}
-use Rattle.cell_addr.specs.Place.{covers}
-use Rattle.cell_addr.specs.declared.place.Block.{Block}
 use Rattle.cell_addr.specs.declared.place.Place.{Place}
 use Rattle.needs_order.specs.Needs as plain
 use Rattle.needs_order.proofs.Lists as lists
-use Rattle.node_links.proofs.Sets.{put_contains}
 use Rattle.node_links.specs.Nodes.{needs_of}
 use Rattle.node_links.specs.declared.links.Links.{Links}
-use Rattle.block_index.specs.Index.{Files, finds}
 use Rattle.block_index.specs.declared.index.BlockIndex.{BlockIndex}
 use Rattle.dep_graph.specs.Nodes.{covers_node, has, same_node}
 use Rattle.dep_graph.specs.declared.net.Net.{Net}
 use Rattle.dep_graph.specs.declared.node.Node.{Node}
-use Rattle.dep_graph.specs.declared.node.Node.TheVariants.{Cell, Name, Range}
+use Rattle.dep_graph.specs.declared.node.Node.TheVariants.{Cell, Name}
 use Rattle.dep_graph.specs.internal.Nets.{Grows, links_in}
 use Rattle.dep_graph.specs.internal.Numbers.{IsFiled, linked, node_at, place_of}
 use Rattle.dep_graph.proofs.Growing.{grown_map}
@@ -66,29 +58,6 @@ cell_filed index keys n q is p covered = absurd (false≢true (subst (λ x. cove
 pub name_filed : (index : BlockIndex) (keys : List Node) (n scope word : ℕ) → node_at keys n ≡ Name scope word → IsFiled index keys n
 name_filed index keys n scope word is p covered = absurd (false≢true (subst (λ x. covers_node x (Cell p) ≡ true) is covered))
 
-module _ (old new : BlockIndex) (keys : List Node) (b : Block) (number : ℕ) (block : node_at keys number ≡ Range b) (files : Files (covers b) number old new) where
-  pub still_sound : ((p : Place) (n : ℕ) → finds old p n ≡ true → covers_node (node_at keys n) (Cell p) ≡ true) → (p : Place) (n : ℕ) → finds new p n ≡ true → covers_node (node_at keys n) (Cell p) ≡ true
-  still_sound sound p n found = ⊎_elim
-      (λ (before : finds old p n ≡ true). sound p n before)
-      (λ (filed : (covers b p ≡ true) × (n ≡ number)). subst (λ x. covers_node x (Cell p) ≡ true) (sym (ap (node_at keys) filed.1 ∙ block)) filed.0)
-      (files.only p n found)
-
-  pub still_filed : (n : ℕ) → IsFiled old keys n → IsFiled new keys n
-  still_filed n filed p covered = files.grows p n (filed p covered)
-
-  pub now_filed : ((p : Place) → covers b p ≡ true → finds new p number ≡ true) → IsFiled new keys number
-  now_filed found p covered = found p (subst (λ x. covers_node x (Cell p) ≡ true) block covered)
-
--- what holds of all in a set holds still where it holds of the one that is put
-pub each_put : (old new : BTreeSet ℕ) (number : ℕ) (P : ℕ → Type 0) → Updates nat_cmp old new number true → ((n : ℕ) → contains nat_cmp old n ≡ true → P n) → P number → (n : ℕ) → contains nat_cmp new n ≡ true → P n
-each_put old new number P updates each here n h = ⊎_elim
-    (λ (was : contains nat_cmp old n ≡ true). each n was)
-    (λ (now : eqb n number ≡ true). subst P (sym (eqb-true n number now)) here)
-    (or_cases (contains nat_cmp old n) (eqb n number) (sym (put_contains old new number n updates) ∙ h))
-
-pub each_kept : (old new : BTreeSet ℕ) (P : ℕ → Type 0) → new.keys ≡ old.keys → ((n : ℕ) → contains nat_cmp old n ≡ true → P n) → (n : ℕ) → contains nat_cmp new n ≡ true → P n
-each_kept old new P same each n h = each n (subst (λ ks. list_any (is_at (nat_cmp n)) ks ≡ true) same h)
-
 -- ---- links replaced
 
 pub relinked_at : (old : Net) (links : Links) (a : Node) (node : ℕ) (needs : List ℕ) → node < length old.nodes.keys → node ≡ place_of old.nodes.keys a
@@ -104,15 +73,6 @@ relinked_at old links a node needs inside is changed x = ap (map (node_at old.no
     ap (λ t. map (node_at old.nodes.keys) (cond t needs (needs_of old.links (place_of old.nodes.keys x)))) (ne_eqb (place_of old.nodes.keys x) node apart)
     ∙ ap (λ t. cond t (map (node_at old.nodes.keys) needs) (links_in old x)) (sym (other_node x a other)))
     (cases_node x a)
-
--- the linked nodes are filed where the new ones are
-pub used_relinked : (old : Net) (links : Links) (node : ℕ) (needs : List ℕ) (P : ℕ → Type 0) → ((n : ℕ) → needs_of links n ≡ cond (eqb n node) needs (needs_of old.links n))
-    → ((n : ℕ) → plain.has n needs ≡ true → P n) → ((a n : ℕ) → plain.has n (needs_of old.links a) ≡ true → P n) → (a n : ℕ) → plain.has n (needs_of links a) ≡ true → P n
-used_relinked old links node needs P changed new before a n h = by (eqb a node) (subst (λ l. plain.has n l ≡ true) (changed a) h)
-  where
-    by : (t : Bool) → plain.has n (cond t needs (needs_of old.links a)) ≡ true → P n
-    by true there = new n there
-    by false there = before a n there
 
 -- ---- numbers of nodes that some node is going to be linked to
 

@@ -1,9 +1,7 @@
 -- Nodes that an operation bends, one number after another. Serves the bent nodes.
-use Rattle.std.proofs.Common.{◌≡◌, ◌∙◌, sym, ap, subst, arith, ℕ, ◌+◌, ◌<◌, ◌≤◌, ⊎_elim, true, false, List, [], ◌∷◌, ◌++◌, map, length, get_or, take, IsTrue, ◌↔◌}
+use Rattle.std.proofs.Common.{◌≡◌, ◌∙◌, sym, ap, subst, arith, ℕ, ◌+◌, ◌<◌, ◌≤◌, ⊎_elim, true, List, [], ◌∷◌, ◌++◌, map, length, IsTrue, ◌↔◌}
 use Rattle.std.proofs.lemmas.Bool.{cases_lt, false≢true}
-use Rattle.std.proofs.lemmas.List.{take_more}
 use Rattle.needs_order.specs.Needs as plain
-use Rattle.needs_order.proofs.Lists as lists
 use Rattle.node_links.specs.Nodes.{needs_of}
 use Rattle.shift_core.specs.declared.shift.Shift.{Shift}
 use Rattle.dep_graph.specs.Bent.{AreBent, Bends, IsBentBy}
@@ -80,14 +78,3 @@ all_bent s net i nodes past bent = (
   ),
   bent.once,
 )
-
--- none of the needs gone by is bent
-pub bent_none : (s : Shift) (keys : List Node) (needs : List ℕ) (i : ℕ) (d m : ℕ) → i < length needs → ((k : ℕ) → plain.has k (take i needs) ≡ true → ¬ Bends s (node_at keys k)) → ¬ Bends s (node_at keys (get_or needs i d))
-    → plain.has m (take (i + 1) needs) ≡ true → ¬ Bends s (node_at keys m)
-bent_none s keys needs i d m inside before here h bends = ⊎_elim
-    (λ (gone_by : plain.has m (take i needs) ≡ true). before m gone_by bends)
-    (λ (now : plain.has m (get_or needs i d ∷ []) ≡ true). ⊎_elim
-    (λ (same : get_or needs i d ≡ m). here (subst (λ k. Bends s (node_at keys k)) (sym same) bends))
-    (λ (none : false ≡ true). absurd (false≢true none))
-    (lists.has_cases m (get_or needs i d) [] now))
-    (lists.has-append_cases m (take i needs) (get_or needs i d ∷ []) (subst (λ l. plain.has m l ≡ true) (take_more needs i d inside) h))

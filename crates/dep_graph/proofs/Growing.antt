@@ -2,7 +2,7 @@
 use Rattle.std.proofs.Common.{◌≡◌, ◌≢◌, ◌∙◌, sym, ap, refl, subst, arith, ℕ, ◌<◌, ◌≤◌, ⊎_elim, true, cond, List, [], ◌∷◌, ◌++◌, map, length, eqb, append_assoc}
 use Rattle.std.specs.List.{IsDistinct}
 use Rattle.std.proofs.lemmas.Bool.{cases_lt, eq-eqb, ne_eqb}
-use Rattle.std.proofs.lemmas.List.{append-nil, get_or_append_left, get_or_past, length-append, length-map}
+use Rattle.std.proofs.lemmas.List.{get_or_append_left, get_or_past, length-append, length-map}
 use Rattle.std.proofs.lemmas.Map.Made.{AllPairs-from_IsDistinct}
 use Rattle.cell_addr.specs.declared.place.Place.{Place}
 use Rattle.needs_order.specs.Needs as plain
@@ -50,9 +50,6 @@ pub known_inside : (net : Net) (n : ℕ) (b : ℕ) → plain.has b (needs_of net
 known_inside net n b h = subst (λ k. b < k) net.counts (net.links.known n b h)
 
 -- ---- nets that grow
-
-pub grows_none : (net : Net) → Grows net net
-grows_none net = record { nodes = ([], sym (append-nil net.nodes.keys)); needs = λ n. refl; filed = λ n inside f. f }
 
 pub grows_on : (a b c : Net) → Grows a b → Grows b c → Grows a c
 grows_on a b c f g =
@@ -135,10 +132,3 @@ linked_after old mid new a needs nodes same is linked x = linked x ∙ (ap (λ l
 
 pub same_after : (old mid new : Net) → AreSame (links_in old) (links_in mid) → AreSame (links_in mid) (links_in new) → AreSame (links_in old) (links_in new)
 same_after old mid new f g x = g x ∙ f x
-
--- a node without a number needs no unlinking
-pub unknown_unlinked : (net : Net) (a : Node) → length net.nodes.keys ≤ place_of net.nodes.keys a → AreLinked a [] (links_in net) (links_in net)
-unknown_unlinked net a past x = ⊎_elim
-    (λ (same : x ≡ a). ap (links_in net) same ∙ (unknown_links net a past ∙ sym (ap (λ t. cond t [] (links_in net x)) (subst (λ y. same_node x y ≡ true) same (own_node x)))))
-    (λ (other : x ≢ a). sym (ap (λ t. cond t [] (links_in net x)) (other_node x a other)))
-    (cases_node x a)

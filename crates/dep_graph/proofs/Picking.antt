@@ -1,8 +1,8 @@
 -- Numbers picked from a walk, from its end. Serves the order of nodes.
-use Rattle.std.proofs.Common.{◌≡◌, ◌≢◌, ◌∙◌, sym, ap, refl, subst, arith, ℕ, zero, suc, ◌+◌, ◌<◌, ◌≤◌, ◌⊎◌, ⊎_elim, Bool, true, false, cond, not, ◌&&◌, List, [], ◌∷◌, ◌++◌, length, drop, get_or}
+use Rattle.std.proofs.Common.{◌≡◌, ◌≢◌, ◌∙◌, sym, ap, refl, subst, arith, ℕ, zero, suc, ◌+◌, ◌<◌, ⊎_elim, Bool, true, false, cond, not, ◌&&◌, List, [], ◌∷◌, ◌++◌, length, get_or}
 use Rattle.std.specs.List.{AllPairs}
 use Rattle.std.proofs.lemmas.Bool.{false≢true}
-use Rattle.std.proofs.lemmas.List.{append-nil, drop_all, drop_more}
+use Rattle.std.proofs.lemmas.List.{append-nil}
 use Rattle.needs_order.specs.Needs as plain
 use Rattle.needs_order.proofs.Lists as lists
 use Rattle.dep_graph.specs.internal.Walked.{pick, picks}
@@ -20,16 +20,6 @@ pick_has known n mark m h = by (plain.has n known) mark refl refl h
 
 pub picked : (known : List ℕ) (n : ℕ) (mark : Bool) → plain.has n known ≡ true → mark ≡ false → pick known n mark ≡ n ∷ []
 picked known n mark k c = ap (λ t. cond (t && not mark) (n ∷ []) []) k ∙ ap (λ t. cond (true && not t) (n ∷ []) []) c
-
-pub not_picked : (known : List ℕ) (n : ℕ) (mark : Bool) → (plain.has n known ≡ false) ⊎ (mark ≡ true) → pick known n mark ≡ []
-not_picked known n mark out = ⊎_elim
-    (λ (k : plain.has n known ≡ false). ap (λ t. cond (t && not mark) (n ∷ []) []) k)
-    (λ (c : mark ≡ true). ap (λ t. cond (plain.has n known && not t) (n ∷ []) []) c ∙ none (plain.has n known) n)
-    out
-  where
-    none : (k : Bool) (n : ℕ) → cond (k && not true) (n ∷ []) [] ≡ []
-    none true n = refl
-    none false n = refl
 
 -- a picked number stands in the walk, is known, and isn't marked there
 pub picks_has : (known walk : List ℕ) (marks : List Bool) (m : ℕ) → plain.has m (picks known walk marks) ≡ true
@@ -100,12 +90,3 @@ picks_split known (n ∷ walk) (mark ∷ marks) front back a count is = ⊎_elim
     let (none, same) = alone (plain.has n known && not mark) n last.0 back a last.2 in
     ([], walk, marks, ap (λ x. x ∷ walk) (sym same), omega (arith, count), last.1 ∙ (ap (λ l. picks known walk marks ++ l) none ∙ append-nil (picks known walk marks)), λ j. ap (λ k. get_or (mark ∷ marks) k false) (one_more j)))
     (lists.split_append (picks known walk marks) (pick known n mark) front back a is)
-
--- one place more, from the end
-pub picks_more : (known walk : List ℕ) (marks : List Bool) (i : ℕ) → length marks ≡ length walk → i < length walk
-    → picks known (drop i walk) (drop i marks) ≡ picks known (drop (i + 1) walk) (drop (i + 1) marks) ++ pick known (get_or walk i 0) (get_or marks i false)
-picks_more known walk marks i count inside =
-    ap (λ l. picks known l (drop i marks)) (drop_more walk i 0 inside) ∙ ap (λ l. picks known (get_or walk i 0 ∷ drop (i + 1) walk) l) (drop_more marks i false (omega (arith, count, inside)))
-
-pub picks_none : (known walk : List ℕ) (marks : List Bool) (i : ℕ) → length walk ≤ i → picks known (drop i walk) (drop i marks) ≡ []
-picks_none known walk marks i past = ap (λ l. picks known l (drop i marks)) (drop_all i walk past)

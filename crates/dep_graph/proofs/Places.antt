@@ -31,12 +31,6 @@ cases_node a b = ⊎_elim
 pub other_node : (a b : Node) → (a ≢ b) → same_node a b ≡ false
 other_node a b other = ⊎_elim (λ (same : same_node a b ≡ true). absurd (other (same_nodes a b same))) (λ (is : same_node a b ≡ false). is) (cases_true (same_node a b))
 
-pub node_turned : (a b : Node) → same_node a b ≡ same_node b a
-node_turned a b = ⊎_elim
-    (λ (same : a ≡ b). subst (λ c. same_node a c ≡ same_node c a) same refl)
-    (λ (other : a ≢ b). other_node a b other ∙ sym (other_node b a (λ same. other (sym same))))
-    (cases_node a b)
-
 pub decides_nodes : (a b : Node) → Decides (same_node a b) (a ≡ b)
 decides_nodes a b = (same_nodes a b, λ same. subst (λ c. same_node a c ≡ true) same (own_node a))
 
