@@ -8,11 +8,15 @@ pub type Key = (&'static str, Form);
 /// A form of values.
 #[derive(Clone, Copy, PartialEq, Eq, Debug)]
 pub enum Form {
+    /// A text.
     Text,
     /// A whole number of 32 bits without a sign.
     Number,
+    /// `true` or `false`.
     Truth,
+    /// An array of values of any forms.
     Array,
+    /// A table.
     Table,
 }
 

@@ -1,7 +1,7 @@
 //! Cases that are data: how they stand in files, and the count of those that ran.
 //!
 //! A file of cases is one of two things. In a page of Markdown each row of a table whose first cell begins with a
-//! backtick is a case, which [`row_of`] reads. In a document of TOML each case is a table, and [`Row`] says what
+//! backtick says something, which [`cells_of`] reads. In a document of TOML each case is a table, and [`Row`] says what
 //! stands under its keys:
 //!
 //! ```text
@@ -18,6 +18,6 @@ mod row;
 mod tally;
 
 pub use form::{Form, Key};
-pub use page::row_of;
+pub use page::cells_of;
 pub use row::Row;
 pub use tally::Tally;

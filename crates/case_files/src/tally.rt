@@ -1,11 +1,12 @@
 // How many cases were run, and how they went.
-ghost use Rattle.std.specs.Prelude.{◌≡◌, ◌↔◌, ◌+◌, if◌then◌else◌, min, IsTrue};
+ghost use Rattle.std.specs.Prelude.{◌≡◌, ◌↔◌, ◌==◌, ◌+◌, if◌then◌else◌, min, IsTrue};
 
 use std::fmt;
 
 /// The count of the cases of one file or more.
 #[derive(Clone, Copy, PartialEq, Eq, Debug, Default)]
 pub struct Tally {
+    /// How many cases were run.
     pub cases: u64,
     /// How many of them aren't as they should be.
     pub differ: u64,
@@ -14,18 +15,6 @@ pub struct Tally {
 }
 
 impl Tally {
-    /// The count of a file that can't be read.
-    pub fn unreadable() -> Tally
-        ensures cases { result.cases ≡ 0 }
-        ensures differ { result.differ ≡ 0 }
-        ensures empty_files { result.empty_files ≡ 1 }
-    {
-        Tally {
-            empty_files: 1,
-            ..Tally::default()
-        }
-    }
-
     /// One case more, which is as it should be or isn't.
     pub fn count(&mut self, holds: bool)
         ensures cases { self.new.cases ≡ min (self.old.cases + 1) u64.MAX }
@@ -38,10 +27,11 @@ impl Tally {
         }
     }
 
-    /// This count and another file's.
+    /// This count and that of one file more, which counts as empty where it has no case.
     pub fn with(self, file: Tally) -> Tally
         ensures cases { result.cases ≡ min (self.cases + file.cases) u64.MAX }
         ensures differ { result.differ ≡ min (self.differ + file.differ) u64.MAX }
+        ensures empty_files { result.empty_files ≡ min (self.empty_files + (if file.cases == 0 then 1 else 0)) u64.MAX }
     {
         let none = if file.cases == 0 { 1 } else { 0 };
         Tally {

@@ -10,3 +10,4 @@ pub mod Copying
 pub mod Bending
 pub mod Shifting
 pub mod UnbentNodes
+pub mod InsideNodes

@@ -35,8 +35,12 @@ HaveGone s old new =
     ((a : Node) → IsTrue (has a old) → (b : Node) × IsTrue (has b new) × GoesAndComesBack s a b)
     × ((b : Node) → IsTrue (has b new) → (a : Node) × IsTrue (has a old) × GoesAndComesBack s a b)
 
--- a cell or a name that the operation doesn't bend is linked to just the nodes that its needs have moved to, and each of
--- these goes back to where it was
+-- an operation leaves the nodes of such a graph within the limits
+abbrev pub LinksStayInside : Type 0
+LinksStayInside = (s : Shift) (old new : Links) → IsSound s → AreLinksInside old → AreShifted s old new → AreLinksInside new
+
+-- in such a graph a cell or a name that the operation neither loses nor bends is linked to just the nodes that its needs
+-- have moved to, and each of these goes back to where it was
 abbrev pub UnbentNodesKeepTheirLinks : Type 0
 UnbentNodesKeepTheirLinks =
     (s : Shift) (old new : Links) (a after : Node) → IsSound s → AreLinksInside old → IsNodeInside a → IsNoRange a →

@@ -13,7 +13,7 @@ node_after s (Cell p) = option_map Cell (place_after s p)
 node_after s (Name scope word) = Some (Name scope word)
 node_after s (Range b) = option_map Range (block_after s b)
 
--- which node an operation moved here; none where there was none
+-- where a node that stands here was before an operation: a cell by its place, a range by its ends, and a name stays
 abbrev pub node_before : Shift → Node → Option Node
 node_before s (Cell p) = option_map Cell (place_before s p)
 node_before s (Name scope word) = Some (Name scope word)

@@ -32,6 +32,6 @@ mod shifted;
 mod walk;
 
 pub use graph::Graph;
-pub use laws::unbent_nodes_keep_their_links;
+pub use laws::{links_stay_inside, unbent_nodes_keep_their_links};
 pub use node::Node;
 pub use nodes::Nodes;

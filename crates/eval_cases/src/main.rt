@@ -10,7 +10,7 @@
 //! ```
 //!
 //! The formulas are those of cell E5 on Sheet1, and the day is 29 February 2024. The status is 0 where every
-//! file could be read, each has cases and none differs, and else 1.
+//! file could be read, each has cases and none differs, 1 where not, and 2 where there is no memory or no output.
 #![tactic(auto)]
 
 ghost use Rattle.std.specs.Prelude.{◌≡◌, ◌<◌};
@@ -20,7 +20,7 @@ ghost use Rattle.tariffs.specs.Tariffs as tariff;
 mod page;
 mod sheet;
 
-use case_files::{Tally, row_of};
+use case_files::{Tally, cells_of};
 use cell_value::Scalar;
 use custom_fn::Registry;
 use sheet::Sheet;
@@ -95,7 +95,7 @@ fn run_file<L: Ledger>(
         }
         Err(cause) => {
             println!(rt; "{name}: UNREADABLE: {cause}")?;
-            Ok(Tally::unreadable())
+            Ok(Tally::default())
         }
     }
 }
@@ -110,7 +110,7 @@ fn run_text<L: Ledger>(
 ) -> io::Result<Tally> {
     let mut tally = Tally::default();
     'lines: for line in text.lines() {
-        match row_of(line) {
+        match cells_of(line) {
             Some((formula, value)) if formula.starts_with('=') => {
                 tally.count(holds(rt, sheet, formula, value, registry, steps)?);
             }
@@ -119,10 +119,19 @@ fn run_text<L: Ledger>(
                     tally.count(false);
                 }
             }
+            None if is_row(line) => {
+                println!(rt; "    NO ROW: {line}")?;
+                tally.count(false);
+            }
             None => {}
         }
     }
     Ok(tally)
+}
+
+// Whether the line is meant as a row of a table whose first cell stands between backticks.
+fn is_row(line: &str) -> bool {
+    line.starts_with("| `")
 }
 
 // Whether the formula has the value; where it hasn't, both are printed.

@@ -31,7 +31,8 @@
 //! lost = false
 //! ```
 //!
-//! The status is 0 where every table could be read and no row differs, and else 1.
+//! The status is 0 where every table could be read, each has rows and none differs, 1 where not, and 2 where there is no
+//! memory or no output.
 #![tactic(auto)]
 
 mod outcome;
@@ -74,7 +75,7 @@ fn run_file(rt: &HostRuntime, name: &str) -> io::Result<Tally> {
         Ok(table) => run_table(rt, &table),
         Err(cause) => {
             println!(rt; "    UNREADABLE: {cause}")?;
-            Ok(Tally::unreadable())
+            Ok(Tally::default())
         }
     }
 }
@@ -90,19 +91,22 @@ fn table_of(rt: &HostRuntime, name: &str) -> anyhow::Result<Table> {
 fn run_table(rt: &HostRuntime, table: &Table) -> io::Result<Tally> {
     let mut tally = Tally::default();
     match document_row(table) {
-        Some(table) => run_kinds(rt, table, &mut tally)?,
+        Some(document) => run_kinds(rt, document, &mut tally)?,
         None => println!(rt; "    UNREADABLE: no table of formulas")?,
     }
     Ok(tally)
 }
 
 // Runs the rows of each kind.
-fn run_kinds(rt: &HostRuntime, table: Row, tally: &mut Tally) -> io::Result<()> {
-    let Some(setting) = Setting::of(table) else {
-        return println!(rt; "    UNREADABLE: the cell lies on no sheet");
+fn run_kinds(rt: &HostRuntime, document: Row, tally: &mut Tally) -> io::Result<()> {
+    let Some(setting) = Setting::of(document) else {
+        return println!(rt; "    UNREADABLE: the cell is none of a sheet");
     };
     'kinds: for (kind, key) in Kind::ALL {
-        run_rows(rt, &setting, kind, table.values(key), tally)?;
+        run_rows(rt, &setting, kind, document.values(key), tally)?;
+    }
+    if tally.cases == 0 {
+        println!(rt; "    NO ROWS")?;
     }
     Ok(())
 }
@@ -124,7 +128,7 @@ fn run_rows(
 // Whether what is found of a row is what is wanted; where it isn't, both are printed.
 fn row_holds(rt: &HostRuntime, setting: &Setting, kind: Kind, row: &Value) -> io::Result<bool> {
     let Some(outcome) = outcome_of(rt.alloc(), setting, kind, row)? else {
-        println!(rt; "    UNREADABLE: a row")?;
+        println!(rt; "    UNREADABLE: a row of kind {kind:?}")?;
         return Ok(false);
     };
     if outcome.found == outcome.wanted {

@@ -13,7 +13,8 @@
 //! sheet that `sheet` holds, or a block whose values are written out: `{1,2;3,4}` has two rows of two cells.
 //! BANDS and TIERS are rules of custom functions over such a block of pairs, and the number comes after it.
 //! Before that it compares the words that no custom function may have with the functions that there are.
-//! The status is 0 where every file could be read, each has cases and none differs, and else 1.
+//! The status is 0 where every file could be read, each has cases and none differs, 1 where not, and 2 where there is
+//! no memory or no output.
 #![tactic(auto)]
 
 mod argument;
@@ -25,7 +26,7 @@ mod words;
 
 use argument::literal;
 use call::value_of;
-use case_files::{Tally, row_of};
+use case_files::{Tally, cells_of};
 use cell_value::Scalar;
 use rule::value_by_rule;
 use std::alloc::{AllocError, Global};
@@ -63,7 +64,7 @@ fn run_file(rt: &HostRuntime, name: &str) -> io::Result<Tally> {
         }
         Err(cause) => {
             println!(rt; "{name}: UNREADABLE: {cause}")?;
-            Ok(Tally::unreadable())
+            Ok(Tally::default())
         }
     }
 }
@@ -86,7 +87,7 @@ fn is_case(line: &str) -> bool {
 
 // Whether the case of the line can be read, and holds.
 fn line_holds(rt: &HostRuntime, line: &str) -> io::Result<bool> {
-    match row_of(line) {
+    match cells_of(line) {
         Some((call, wanted)) => holds(rt, call, wanted),
         None => {
             println!(rt; "    NO CASE: {line}")?;

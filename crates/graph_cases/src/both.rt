@@ -26,8 +26,8 @@ impl Both {
     }
 
     // What is linked, or is linked to, by any number.
-    pub(crate) fn any(&self, number: u32) -> Option<Node> {
-        self.plain.any(number)
+    pub(crate) fn end_of_a_link(&self, number: u32) -> Option<Node> {
+        self.plain.end_of_a_link(number)
     }
 
     // Replaces what the node was linked to.

@@ -93,7 +93,8 @@ impl Draws {
         }
     }
 
-    // A block of a few rows and columns. Many begin at one row, as those of growing sums do.
+    // A block of a few rows and columns, which may end outside the sheet. Many begin at one row, as those of growing sums
+    // do.
     fn block(&mut self) -> Block {
         let first = self.place();
         let (height, width) = (self.below(BLOCK_ROWS), self.below(BLOCK_COLS));
@@ -106,8 +107,8 @@ impl Draws {
             sheet: first.sheet,
             top,
             left: first.col,
-            bottom: top.saturating_add(height).min(ROWS - 1),
-            right: first.col.saturating_add(width).min(COLS - 1),
+            bottom: top.saturating_add(height),
+            right: first.col.saturating_add(width),
         }
     }
 

@@ -108,7 +108,7 @@ impl List {
 
     // A node that is an end of some link mostly, and else any.
     fn node(&mut self) -> Node {
-        let linked = self.both.any(self.draws.below(MANY));
+        let linked = self.both.end_of_a_link(self.draws.below(MANY));
         let any = self.draws.node();
         if self.draws.below(4) == 0 {
             any

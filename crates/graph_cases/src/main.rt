@@ -2,7 +2,7 @@
 //! and for lists of calls that are drawn how many there were, and the first answer that differs from that of the plain
 //! model, a list of links. The status is 0 where all answers are as they should be, and else 1.
 //!
-//! With the word `bench` it times large graphs for `bench/graph.py`, and prints a line for each.
+//! With the word `bench` it times large graphs for `bench/graph.py`, and prints a line for each part.
 #![tactic(auto)]
 
 mod bench;

@@ -57,7 +57,7 @@ impl Plain {
     }
 
     // An end of one of the links, by any number: what needs, or what it needs.
-    pub(crate) fn any(&self, number: u32) -> Option<Node> {
+    pub(crate) fn end_of_a_link(&self, number: u32) -> Option<Node> {
         let count = self.links.len();
         if count == 0 {
             return None;

@@ -58,7 +58,7 @@ impl<'a> Case<'a> {
             shows: row.text("shows"),
             words: row.values("words"),
             files: row.values("file"),
-            day: day_of(row),
+            day: day_of(row)?,
             filled: row.number("filled"),
             script: Written::of(row, "script"),
             failing: Failing::of(row),
@@ -68,12 +68,12 @@ impl<'a> Case<'a> {
     }
 }
 
-// The day of a case.
-fn day_of(row: Row) -> i32 {
+// The day of a case; `None` where its number is none of a day.
+fn day_of(row: Row) -> Option<i32> {
     if row.has("day") {
-        i32::try_from(row.number("day")).unwrap_or(i32::MAX)
+        i32::try_from(row.number("day")).ok()
     } else {
-        TODAY
+        Some(TODAY)
     }
 }
 

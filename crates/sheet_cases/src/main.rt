@@ -15,7 +15,8 @@
 //! '''
 //! ```
 //!
-//! The status is 0 where every file could be read and no case differs, and else 1.
+//! The status is 0 where every file could be read, each has cases and none differs, 1 where not, and 2 where there is no
+//! memory or no output.
 #![tactic(auto)]
 
 mod case;
@@ -70,7 +71,7 @@ fn run_file<L: Ledger>(rt: &HostRuntime, name: &str, steps: &mut Steps<L>) -> io
         Ok(document) => run_document(rt, &document, steps),
         Err(cause) => {
             println!(rt; "    UNREADABLE: {cause}")?;
-            Ok(Tally::unreadable())
+            Ok(Tally::default())
         }
     }
 }
@@ -90,11 +91,14 @@ fn run_document<L: Ledger>(
 ) -> io::Result<Tally> {
     let Some(cases) = cases_of(document) else {
         println!(rt; "    UNREADABLE: not only cases")?;
-        return Ok(Tally::unreadable());
+        return Ok(Tally::default());
     };
     let mut tally = Tally::default();
     'cases: for value in cases {
         tally.count(value_holds(rt, value, steps)?);
+    }
+    if tally.cases == 0 {
+        println!(rt; "    NO CASES")?;
     }
     Ok(tally)
 }
@@ -131,7 +135,9 @@ fn holds<L: Ledger>(
         return Ok(true);
     }
     println!(rt; "    DIFFERS: {}", case.shows)?;
-    println!(rt; "        status {status}, wanted {}", case.status)?;
+    if status != case.status {
+        println!(rt; "        status {status}, wanted {}", case.status)?;
+    }
     match str::from_utf8(out) {
         Ok(out) => print_differences(rt, out, &wanted)?,
         Err(_) => println!(rt; "        what was printed isn't UTF-8")?,
