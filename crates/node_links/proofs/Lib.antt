@@ -1,2 +1,5 @@
 pub mod Sets
 pub mod Relinking
+pub mod Listed
+pub mod LinkingEach
+pub mod Redirecting

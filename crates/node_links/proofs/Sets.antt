@@ -67,11 +67,11 @@ put_contains old new item x updates = updates.0 x ∙ (ap (λ t. cond t true (co
 drop_contains : (old new : BTreeSet ℕ) (item x : ℕ) → Updates nat_cmp old new item false → contains nat_cmp new x ≡ (contains nat_cmp old x && not (eqb x item))
 drop_contains old new item x updates = updates.0 x ∙ (ap (λ t. cond t false (contains nat_cmp old x)) (at_equal item x) ∙ cond_and (eqb x item) (contains nat_cmp old x))
 
-or_false : (b : Bool) → (b || false) ≡ b
+pub or_false : (b : Bool) → (b || false) ≡ b
 or_false true = refl
 or_false false = refl
 
-and_true : (b : Bool) → (b && true) ≡ b
+pub and_true : (b : Bool) → (b && true) ≡ b
 and_true true = refl
 and_true false = refl
 

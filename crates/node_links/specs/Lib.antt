@@ -1,3 +1,4 @@
 pub mod Links
 pub mod Nodes
+pub mod Redirect
 pub mod internal

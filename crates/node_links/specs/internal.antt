@@ -1,2 +1,4 @@
 -- What only the proofs of bodies need.
+pub mod Lists
+pub mod Redirected
 pub mod Sets

@@ -3,7 +3,8 @@
 //! Nodes are numbers from 0 on, in the order in which they were added. A node's needs are a list that
 //! [`Links::link`] replaces; the users of a node are kept beside it, as a set, and are always exactly those nodes in
 //! whose lists it stands. A change of a node's needs costs about the number of its old and new needs, however many
-//! users these have.
+//! users these have. [`Links::link_each`] changes those of many nodes at once, or none, and [`Links::redirect`] takes
+//! all links along where nodes become others, and several become one.
 //!
 //! ```text
 //! let mut links = Links::new(alloc);
@@ -16,6 +17,8 @@
 #![tactic(auto)]
 
 mod links;
+mod lists;
+mod redirect;
 mod users;
 
 pub use links::Links;

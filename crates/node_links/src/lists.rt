@@ -1,0 +1,86 @@
+// Lists of needs, for some of the nodes.
+ghost use Rattle.std.specs.Prelude.{◌≡◌, ◌≤◌, ℕ, length, option_map, unwrap_or, IfOk};
+ghost use Rattle.needs_order.specs.Needs.{has};
+ghost use Rattle.node_links.specs.Links.{list_for, needs_at};
+ghost use Rattle.node_links.specs.internal.Lists.{items_in, list_in, listed, replaced, replaced_at};
+ghost use Rattle.node_links.specs.internal.Sets.{is_in};
+
+use crate::users::set_of;
+use std::alloc::{AllocError, Global};
+use std::collections::BTreeSet;
+use std::mem;
+
+// The numbers in a list; none where there is no list.
+pub(crate) fn items_of(list: &Option<Vec<usize>>) -> &[usize]
+    ensures { result.now ≡ items_in list.now }
+{
+    match list {
+        Some(list) => list,
+        None => &[],
+    }
+}
+
+// The needs that a list replaces; none where there is no list.
+fn replaced_by<'a>(list: &Option<Vec<usize>>, needs: &'a [usize]) -> &'a [usize]
+    ensures { result.now ≡ replaced list.now needs.now }
+{
+    match list {
+        Some(_) => needs,
+        None => &[],
+    }
+}
+
+// For each list the set of its numbers.
+pub(crate) fn sets_of(
+    alloc: Global,
+    lists: &[Option<Vec<usize>>],
+) -> Result<Vec<BTreeSet<usize>>, AllocError>
+    ensures count { IfOk result (λ sets. length sets.items ≡ length lists.now) }
+    ensures sets { IfOk result (λ sets. (i x : ℕ) → is_in sets.items i x ≡ has x (listed lists.now i)) }
+{
+    let mut sets = Vec::new(alloc);
+    'lists: for list in lists {
+        sets.push(set_of(alloc, items_of(list))?)?;
+    }
+    Ok(sets)
+}
+
+// For each list the set of the needs that it replaces.
+pub(crate) fn sets_replaced(
+    alloc: Global,
+    lists: &[Option<Vec<usize>>],
+    needs: &[Vec<usize>],
+) -> Result<Vec<BTreeSet<usize>>, AllocError>
+    requires { length lists.now ≤ length needs.now }
+    ensures count { IfOk result (λ sets. length sets.items ≡ length lists.now) }
+    ensures sets { IfOk result (λ sets. (i x : ℕ) → is_in sets.items i x ≡ has x (replaced_at lists.now needs.now i)) }
+{
+    let mut sets = Vec::new(alloc);
+    'lists: for (node, list) in lists.iter().enumerate() {
+        sets.push(set_of(alloc, replaced_by(list, &needs[node]))?)?;
+    }
+    Ok(sets)
+}
+
+// Exchanges the needs of each node for which there is a list with that list.
+pub(crate) fn exchange(needs: &mut [Vec<usize>], lists: &mut [Option<Vec<usize>>])
+    requires { length lists.old ≤ length needs.old }
+    ensures needs { (a : ℕ) → needs_at needs.new a ≡ unwrap_or (list_for lists.old a) (needs_at needs.old a) }
+    ensures lists { (a : ℕ) → list_for lists.new a ≡ option_map (λ _. needs_at needs.old a) (list_for lists.old a) }
+    ensures needs_count { length needs.new ≡ length needs.old }
+    ensures lists_count { length lists.new ≡ length lists.old }
+{
+    'lists: for (node, list) in lists.iter_mut().enumerate() {
+        exchange_one(&mut needs[node], list);
+    }
+}
+
+// Exchanges needs with a list, if there is one.
+fn exchange_one(needs: &mut Vec<usize>, list: &mut Option<Vec<usize>>)
+    ensures needs { needs.new.items ≡ unwrap_or (list_in list.old) needs.old.items }
+    ensures list { list_in list.new ≡ option_map (λ _. needs.old.items) (list_in list.old) }
+{
+    if let Some(list) = list {
+        mem::swap(needs, list);
+    }
+}
