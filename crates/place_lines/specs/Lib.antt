@@ -1,0 +1,4 @@
+pub mod Spots
+pub mod Moved
+pub mod Laws
+pub mod internal
