@@ -1,4 +1,4 @@
--- Numbers in lists under keys, and what places find by them. Serves the index of blocks.
+-- Numbers in lists under keys, and what cells find by them. Serves the index of blocks.
 use Rattle.std.proofs.Common.{◌≡◌, ◌≢◌, ◌∙◌, sym, ap, refl, subst, arith, ℕ, ◌+◌, ◌<◌, ◌≤◌, inl, inr, ◌⊎◌, ⊎_elim, Bool, true, false, cond, ◌&&◌, ◌||◌, List, [], ◌∷◌, ◌++◌, Some, None, take, length, get_or, set, eqb, nat_eq, nat_lt, eqb-true, not, suc, zero, Result, Ok, Err, OnErr, OnOk}
 use Rattle.std.specs.List.{list_any, filter_map, cons_option, position}
 use Rattle.std.specs.declared.alloc.Global.{Global}
@@ -9,9 +9,6 @@ use Rattle.std.proofs.lemmas.Bool.Decides.{nat_tests}
 use Rattle.std.proofs.lemmas.List.{get_or-set_other, get_or-set_same, get_or_append_left, get_or_past, get_or_push, length-map, length_push}
 use Rattle.std.proofs.lemmas.List.Folds.{list_any_at, list_any_more, position_or_len_push}
 use Rattle.std.proofs.lemmas.List.Sums.{passes_at_first}
-use Rattle.cell_addr.specs.Place.{covers}
-use Rattle.cell_addr.specs.declared.place.Block.{Block}
-use Rattle.cell_addr.specs.declared.place.Place.{Place}
 use Rattle.block_slots.specs.Segments.{has_line, segment_at}
 use Rattle.block_slots.specs.Slots.{has_cell, in_block, size_of, slot_at}
 use Rattle.block_slots.specs.declared.segment.Segment.{Segment}
@@ -19,7 +16,7 @@ use Rattle.block_slots.specs.declared.slot.Size.{Size}
 use Rattle.block_slots.specs.declared.slot.Slot.{Slot}
 use Rattle.needs_order.specs.Needs.{has, lists_of}
 use Rattle.needs_order.proofs.Lists.{has-append_cases, has-append_left, has-append_right, has_cases, has_first, nat_eq_self}
-use Rattle.block_index.specs.Index.{Files, FindsAlike, filed_in, finds, slot_count, slots_of}
+use Rattle.block_index.specs.Index.{Files, FindsAlike, filed_in, finds, in_cells, slot_count, slots_of}
 use Rattle.block_index.specs.declared.index.BlockIndex.{BlockIndex}
 use Rattle.block_index.specs.declared.key.SlotKey.{SlotKey}
 use Rattle.block_index.specs.internal.Keys.{AreSized, has_size, in_slot, key_at, key_of, key_size, place_of, same_key}
@@ -71,27 +68,27 @@ cases_is a b = by (eqb a b) refl
     by true e = inl (eqb-true a b e)
     by false e = inr (λ same. false≢true (sym e ∙ (ap (λ c. eqb a c) (sym same) ∙ nat_eq_self a)))
 
--- ---- what places find, by the keys
+-- ---- what cells find, by the keys
 
 -- the list under a key; none where there is none
 abbrev pub under : List SlotKey → List (List ℕ) → SlotKey → List ℕ
 under keys lists k = get_or lists (place_of keys k) []
 
-abbrev pub found_by : List SlotKey → List (List ℕ) → List Size → Place → ℕ → Bool
-found_by keys lists sizes p n = list_any (λ z. has n (under keys lists (key_at p z))) sizes
+abbrev pub found_by : List SlotKey → List (List ℕ) → List Size → ℕ → ℕ → ℕ → ℕ → Bool
+found_by keys lists sizes sheet row col n = list_any (λ z. has n (under keys lists (key_at sheet row col z))) sizes
 
 module _ (keys : List SlotKey) (lists : List (List ℕ)) (counts : length lists ≡ length keys) where
   kept : (q : ℕ → Bool) (c : Bool) (i : ℕ) (rest : List ℕ) → (c ≡ false → q i ≡ false) → list_any q (cons_option (cond c (Some i) None) rest) ≡ (q i || list_any q rest)
   kept q true i rest none = refl
   kept q false i rest none = sym (ap (λ t. t || list_any q rest) (none refl))
 
-  pub by_keys : (p : Place) (n : ℕ) (sizes : List Size) → list_any (λ s. has n (get_or lists s [])) (filter_map (λ z. position (same_key (key_at p z)) keys) sizes) ≡ found_by keys lists sizes p n
-  by_keys p n [] = refl
-  by_keys p n (z ∷ sizes) =
-      let k = key_at p z in
-      kept (λ s. has n (get_or lists s [])) (nat_lt (place_of keys (key_at p z)) (length keys)) (place_of keys (key_at p z)) (filter_map (λ y. position (same_key (key_at p y)) keys) sizes)
-      (λ out. ap (has n) (get_or_past lists (place_of keys (key_at p z)) [] (past (place_of keys (key_at p z)) (length keys) (length lists) counts out)))
-      ∙ ap (λ t. has n (under keys lists (key_at p z)) || t) (by_keys p n sizes)
+  pub by_keys : (sheet row col n : ℕ) (sizes : List Size) → list_any (λ s. has n (get_or lists s [])) (filter_map (λ z. position (same_key (key_at sheet row col z)) keys) sizes) ≡ found_by keys lists sizes sheet row col n
+  by_keys sheet row col n [] = refl
+  by_keys sheet row col n (z ∷ sizes) =
+      let k = key_at sheet row col z in
+      kept (λ s. has n (get_or lists s [])) (nat_lt (place_of keys (key_at sheet row col z)) (length keys)) (place_of keys (key_at sheet row col z)) (filter_map (λ y. position (same_key (key_at sheet row col y)) keys) sizes)
+      (λ out. ap (has n) (get_or_past lists (place_of keys (key_at sheet row col z)) [] (past (place_of keys (key_at sheet row col z)) (length keys) (length lists) counts out)))
+      ∙ ap (λ t. has n (under keys lists (key_at sheet row col z)) || t) (by_keys sheet row col n sizes)
     where
       past : (i m l : ℕ) → l ≡ m → nat_lt i m ≡ false → l ≤ i
       past i m l same out = grind (arith, nat_tests)
@@ -152,9 +149,9 @@ module _ (keys : List SlotKey) (lists : List (List ℕ)) (counts : length lists 
     pub set_has : (l : SlotKey) → place_of keys l ≡ i → has n (under keys (set lists i (get_or lists i [] ++ n ∷ [])) l) ≡ true
     set_has l same = subst (λ xs. has n xs ≡ true) (sym (under-set_same l same)) (has-append_right n (under keys lists l) (n ∷ []) (has_first n []))
 
--- what a place finds is told by the keys
-pub finds_by : (x : BlockIndex) (p : Place) (n : ℕ) → finds x p n ≡ found_by x.slots.keys (lists_of x.lists.items) x.sizes.items p n
-finds_by x p n = by_keys x.slots.keys (lists_of x.lists.items) (length-map x.lists.items (λ list. list.items) ∙ x.counts) p n x.sizes.items
+-- what a cell finds is told by the keys
+pub finds_by : (x : BlockIndex) (sheet row col n : ℕ) → finds x sheet row col n ≡ found_by x.slots.keys (lists_of x.lists.items) x.sizes.items sheet row col n
+finds_by x sheet row col n = by_keys x.slots.keys (lists_of x.lists.items) (length-map x.lists.items (λ list. list.items) ∙ x.counts) sheet row col n x.sizes.items
 
 -- the lists of a Vec, one of them replaced or one more behind the last
 pub lists-set : (lists : List (Vec ℕ Global)) (i : ℕ) (v : Vec ℕ Global) → lists_of (set lists i v) ≡ set (lists_of lists) i v.items
@@ -180,18 +177,18 @@ lists-same (w ∷ lists) (suc i) old new inside is same = ap (λ ls. w.items ∷
 -- ---- a size more in use
 
 pub size_more : (old : BlockIndex) (sizes : List Size) (z : Size) → has_size z old.sizes.items ≡ false → sizes ≡ old.sizes.items ++ z ∷ []
-    → (p : Place) (n : ℕ) → list_any (λ s. has n (filed_in old s)) (filter_map (λ y. position (same_key (key_at p y)) old.slots.keys) sizes) ≡ finds old p n
-size_more old sizes z fresh is p n =
-    by_keys old.slots.keys (lists_of old.lists.items) (length-map old.lists.items (λ list. list.items) ∙ old.counts) p n sizes
-    ∙ (ap (λ zs. found_by old.slots.keys (lists_of old.lists.items) zs p n) is
-    ∙ (any_push (λ y. has n (under old.slots.keys (lists_of old.lists.items) (key_at p y))) old.sizes.items z nothing ∙ sym (finds_by old p n)))
+    → (sheet row col n : ℕ) → list_any (λ s. has n (filed_in old s)) (filter_map (λ y. position (same_key (key_at sheet row col y)) old.slots.keys) sizes) ≡ finds old sheet row col n
+size_more old sizes z fresh is sheet row col n =
+    by_keys old.slots.keys (lists_of old.lists.items) (length-map old.lists.items (λ list. list.items) ∙ old.counts) sheet row col n sizes
+    ∙ (ap (λ zs. found_by old.slots.keys (lists_of old.lists.items) zs sheet row col n) is
+    ∙ (any_push (λ y. has n (under old.slots.keys (lists_of old.lists.items) (key_at sheet row col y))) old.sizes.items z nothing ∙ sym (finds_by old sheet row col n)))
   where
-    nothing : has n (under old.slots.keys (lists_of old.lists.items) (key_at p z)) ≡ false
-    nothing = ap (has n) (get_or_past (lists_of old.lists.items) (place_of old.slots.keys (key_at p z)) [] (⊎_elim
-        (λ (inside : place_of old.slots.keys (key_at p z) < length old.slots.keys).
-        absurd (false≢true (sym fresh ∙ subst (λ k. has_size (key_size k) old.sizes.items ≡ true) (stands_at old.slots.keys (key_at p z) (key_at p z) inside) (old.sized (place_of old.slots.keys (key_at p z)) (key_at p z) inside))))
-        (λ (past : length old.slots.keys ≤ place_of old.slots.keys (key_at p z)). omega (arith, past, length-map old.lists.items (λ list. list.items), old.counts))
-        (cases_lt (place_of old.slots.keys (key_at p z)) (length old.slots.keys))))
+    nothing : has n (under old.slots.keys (lists_of old.lists.items) (key_at sheet row col z)) ≡ false
+    nothing = ap (has n) (get_or_past (lists_of old.lists.items) (place_of old.slots.keys (key_at sheet row col z)) [] (⊎_elim
+        (λ (inside : place_of old.slots.keys (key_at sheet row col z) < length old.slots.keys).
+        absurd (false≢true (sym fresh ∙ subst (λ k. has_size (key_size k) old.sizes.items ≡ true) (stands_at old.slots.keys (key_at sheet row col z) (key_at sheet row col z) inside) (old.sized (place_of old.slots.keys (key_at sheet row col z)) (key_at sheet row col z) inside))))
+        (λ (past : length old.slots.keys ≤ place_of old.slots.keys (key_at sheet row col z)). omega (arith, past, length-map old.lists.items (λ list. list.items), old.counts))
+        (cases_lt (place_of old.slots.keys (key_at sheet row col z)) (length old.slots.keys))))
 
 pub sized_more : (keys : List SlotKey) (old new : List Size) (z : Size) → new ≡ old ++ z ∷ [] → AreSized keys old → AreSized keys new
 sized_more keys old new z is sized i d inside = subst (λ zs. has_size (key_size (get_or keys i d)) zs ≡ true) (sym is) (in_front (key_size (get_or keys i d)) old z (sized i d inside))
@@ -213,14 +210,14 @@ size_last old new z is = subst (λ zs. has_size z zs ≡ true) (sym is) (at_end 
 -- ---- a slot more
 
 pub slot_more : (old : BlockIndex) (keys : List SlotKey) (lists : List (List ℕ)) (k : SlotKey) → keys ≡ old.slots.keys ++ k ∷ [] → lists ≡ lists_of old.lists.items ++ [] ∷ []
-    → (p : Place) (n : ℕ) → list_any (λ s. has n (get_or lists s [])) (filter_map (λ y. position (same_key (key_at p y)) keys) old.sizes.items) ≡ finds old p n
-slot_more old keys lists k is lists_are p n =
-    ap (λ ks. list_any (λ s. has n (get_or lists s [])) (filter_map (λ y. position (same_key (key_at p y)) ks) old.sizes.items)) is
-    ∙ (ap (λ ls. list_any (λ s. has n (get_or ls s [])) (filter_map (λ y. position (same_key (key_at p y)) (old.slots.keys ++ k ∷ [])) old.sizes.items)) lists_are
-    ∙ (by_keys (old.slots.keys ++ k ∷ []) (lists_of old.lists.items ++ [] ∷ []) more p n old.sizes.items
-    ∙ (any_alike (λ z. has n (under (old.slots.keys ++ k ∷ []) (lists_of old.lists.items ++ [] ∷ []) (key_at p z))) (λ z. has n (under old.slots.keys (lists_of old.lists.items) (key_at p z))) old.sizes.items
-    (λ z. ap (has n) (under-key_more old.slots.keys (lists_of old.lists.items) (length-map old.lists.items (λ list. list.items) ∙ old.counts) k (key_at p z)))
-    ∙ sym (finds_by old p n))))
+    → (sheet row col n : ℕ) → list_any (λ s. has n (get_or lists s [])) (filter_map (λ y. position (same_key (key_at sheet row col y)) keys) old.sizes.items) ≡ finds old sheet row col n
+slot_more old keys lists k is lists_are sheet row col n =
+    ap (λ ks. list_any (λ s. has n (get_or lists s [])) (filter_map (λ y. position (same_key (key_at sheet row col y)) ks) old.sizes.items)) is
+    ∙ (ap (λ ls. list_any (λ s. has n (get_or ls s [])) (filter_map (λ y. position (same_key (key_at sheet row col y)) (old.slots.keys ++ k ∷ [])) old.sizes.items)) lists_are
+    ∙ (by_keys (old.slots.keys ++ k ∷ []) (lists_of old.lists.items ++ [] ∷ []) more sheet row col n old.sizes.items
+    ∙ (any_alike (λ z. has n (under (old.slots.keys ++ k ∷ []) (lists_of old.lists.items ++ [] ∷ []) (key_at sheet row col z))) (λ z. has n (under old.slots.keys (lists_of old.lists.items) (key_at sheet row col z))) old.sizes.items
+    (λ z. ap (has n) (under-key_more old.slots.keys (lists_of old.lists.items) (length-map old.lists.items (λ list. list.items) ∙ old.counts) k (key_at sheet row col z)))
+    ∙ sym (finds_by old sheet row col n))))
   where
     more : length (lists_of old.lists.items ++ [] ∷ []) ≡ length (old.slots.keys ++ k ∷ [])
     more = omega (arith, length_push (lists_of old.lists.items) [], length_push old.slots.keys k, length-map old.lists.items (λ list. list.items), old.counts)
@@ -262,19 +259,14 @@ own_cell z row col = and_from (has_line (segment_at z.row_level row) row) (has_l
 abbrev pub slot_of : SlotKey → Slot
 slot_of k = record { rows = record { level = k.row_level; index = k.row_index }; cols = record { level = k.col_level; index = k.col_index } }
 
--- the key of a slot at a place is the slot's own where the place lies in it
-pub in_its_slot : (sheet : ℕ) (slot : Slot) (p : Place) (z : Size) → key_at p z ≡ key_of sheet slot → in_slot sheet slot p ≡ true
-in_its_slot sheet slot p z same = and_from (nat_eq p.sheet sheet) (has_cell slot p.row p.col)
-    (subst (λ n. nat_eq p.sheet n ≡ true) (ap (λ k. k.sheet) same) (nat_eq_self p.sheet))
-    (subst (λ s. has_cell s p.row p.col ≡ true) (ap slot_of same) (own_cell z p.row p.col))
+-- where the key at a cell is a slot's own, the cell lies in the slot
+pub in_its_slot : (its : ℕ) (slot : Slot) (sheet row col : ℕ) (z : Size) → key_at sheet row col z ≡ key_of its slot → in_slot its slot sheet row col ≡ true
+in_its_slot its slot sheet row col z same = and_from (nat_eq sheet its) (has_cell slot row col)
+    (subst (λ n. nat_eq sheet n ≡ true) (ap (λ k. k.sheet) same) (nat_eq_self sheet))
+    (subst (λ s. has_cell s row col ≡ true) (ap slot_of same) (own_cell z row col))
 
-pub slot_key : (sheet : ℕ) (slot : Slot) (p : Place) → in_slot sheet slot p ≡ true → key_at p (size_of slot) ≡ key_of sheet slot
-slot_key sheet slot p h =
-    let (s, c) = and_parts (nat_eq p.sheet sheet) (has_cell slot p.row p.col) h in
-    ap (λ x. key_of p.sheet x) (cell_in slot p.row p.col c) ∙ ap (λ n. key_of n slot) (eqb-true p.sheet sheet s)
-
-module _ (old mid new : BlockIndex) (sheet : ℕ) (slot : Slot) (n i : ℕ) (alike : FindsAlike old mid) (slots : new.slots ≡ mid.slots) (sizes : new.sizes ≡ mid.sizes)
-    (is : i ≡ place_of mid.slots.keys (key_of sheet slot)) (inside : i < length mid.slots.keys)
+module _ (old mid new : BlockIndex) (its : ℕ) (slot : Slot) (n i : ℕ) (alike : FindsAlike old mid) (slots : new.slots ≡ mid.slots) (sizes : new.sizes ≡ mid.sizes)
+    (is : i ≡ place_of mid.slots.keys (key_of its slot)) (inside : i < length mid.slots.keys)
     (put : lists_of new.lists.items ≡ set (lists_of mid.lists.items) i (get_or (lists_of mid.lists.items) i [] ++ n ∷ [])) where
   keys : List SlotKey
   keys = mid.slots.keys
@@ -285,128 +277,106 @@ module _ (old mid new : BlockIndex) (sheet : ℕ) (slot : Slot) (n i : ℕ) (ali
   counts : length (lists_of mid.lists.items) ≡ length mid.slots.keys
   counts = length-map mid.lists.items (λ list. list.items) ∙ mid.counts
 
-  pub after : (p : Place) (m : ℕ) → finds new p m ≡ found_by mid.slots.keys (set (lists_of mid.lists.items) i (get_or (lists_of mid.lists.items) i [] ++ n ∷ [])) mid.sizes.items p m
-  after p m =
-      finds_by new p m
-      ∙ (ap (λ s. found_by s.keys (lists_of new.lists.items) new.sizes.items p m) slots
-      ∙ (ap (λ z. found_by mid.slots.keys (lists_of new.lists.items) z.items p m) sizes ∙ ap (λ ls. found_by mid.slots.keys ls mid.sizes.items p m) put))
+  pub after : (sheet row col m : ℕ) → finds new sheet row col m ≡ found_by mid.slots.keys (set (lists_of mid.lists.items) i (get_or (lists_of mid.lists.items) i [] ++ n ∷ [])) mid.sizes.items sheet row col m
+  after sheet row col m =
+      finds_by new sheet row col m
+      ∙ (ap (λ s. found_by s.keys (lists_of new.lists.items) new.sizes.items sheet row col m) slots
+      ∙ (ap (λ z. found_by mid.slots.keys (lists_of new.lists.items) z.items sheet row col m) sizes ∙ ap (λ ls. found_by mid.slots.keys ls mid.sizes.items sheet row col m) put))
 
-  pub filed_grows : (p : Place) (m : ℕ) → finds old p m ≡ true → finds new p m ≡ true
-  filed_grows p m h =
-      after p m ∙ any_more (λ z. has m (under mid.slots.keys (lists_of mid.lists.items) (key_at p z))) (λ z. has m (under mid.slots.keys (set (lists_of mid.lists.items) i (get_or (lists_of mid.lists.items) i [] ++ n ∷ [])) (key_at p z))) mid.sizes.items
-      (λ z. set_grows mid.slots.keys (lists_of mid.lists.items) counts i n inside (key_at p z) m) (sym (finds_by mid p m) ∙ (alike p m ∙ h))
+  pub filed_grows : (sheet row col m : ℕ) → finds old sheet row col m ≡ true → finds new sheet row col m ≡ true
+  filed_grows sheet row col m h =
+      after sheet row col m ∙ any_more (λ z. has m (under mid.slots.keys (lists_of mid.lists.items) (key_at sheet row col z))) (λ z. has m (under mid.slots.keys (set (lists_of mid.lists.items) i (get_or (lists_of mid.lists.items) i [] ++ n ∷ [])) (key_at sheet row col z))) mid.sizes.items
+      (λ z. set_grows mid.slots.keys (lists_of mid.lists.items) counts i n inside (key_at sheet row col z) m) (sym (finds_by mid sheet row col m) ∙ (alike sheet row col m ∙ h))
 
-  pub filed_only : (p : Place) (m : ℕ) → finds new p m ≡ true → (finds old p m ≡ true) ⊎ ((in_slot sheet slot p ≡ true) × (m ≡ n))
-  filed_only p m h = ⊎_elim
-      (λ (before : found_by mid.slots.keys (lists_of mid.lists.items) mid.sizes.items p m ≡ true). inl (sym (alike p m) ∙ (finds_by mid p m ∙ before)))
-      (λ (filed : (in_slot sheet slot p ≡ true) × (m ≡ n)). inr filed)
-      (any_or (λ z. has m (under mid.slots.keys (set (lists_of mid.lists.items) i (get_or (lists_of mid.lists.items) i [] ++ n ∷ [])) (key_at p z))) (λ z. has m (under mid.slots.keys (lists_of mid.lists.items) (key_at p z)))
-      ((in_slot sheet slot p ≡ true) × (m ≡ n)) mid.sizes.items
+  pub filed_only : (sheet row col m : ℕ) → finds new sheet row col m ≡ true → (finds old sheet row col m ≡ true) ⊎ ((in_slot its slot sheet row col ≡ true) × (m ≡ n))
+  filed_only sheet row col m h = ⊎_elim
+      (λ (before : found_by mid.slots.keys (lists_of mid.lists.items) mid.sizes.items sheet row col m ≡ true). inl (sym (alike sheet row col m) ∙ (finds_by mid sheet row col m ∙ before)))
+      (λ (filed : (in_slot its slot sheet row col ≡ true) × (m ≡ n)). inr filed)
+      (any_or (λ z. has m (under mid.slots.keys (set (lists_of mid.lists.items) i (get_or (lists_of mid.lists.items) i [] ++ n ∷ [])) (key_at sheet row col z))) (λ z. has m (under mid.slots.keys (lists_of mid.lists.items) (key_at sheet row col z)))
+      ((in_slot its slot sheet row col ≡ true) × (m ≡ n)) mid.sizes.items
       (λ z here. ⊎_elim
-      (λ (was : has m (under mid.slots.keys (lists_of mid.lists.items) (key_at p z)) ≡ true). inl was)
-      (λ (filed : (place_of mid.slots.keys (key_at p z) ≡ i) × (m ≡ n)).
-      inr (in_its_slot sheet slot p z (one_place mid.slots.keys (key_of sheet slot) (key_at p z) (subst (λ j. j < length mid.slots.keys) is inside) (filed.0 ∙ is)), filed.1))
-      (set_only mid.slots.keys (lists_of mid.lists.items) counts i n inside (key_at p z) m here))
-      (sym (after p m) ∙ h))
+      (λ (was : has m (under mid.slots.keys (lists_of mid.lists.items) (key_at sheet row col z)) ≡ true). inl was)
+      (λ (filed : (place_of mid.slots.keys (key_at sheet row col z) ≡ i) × (m ≡ n)).
+      inr (in_its_slot its slot sheet row col z (one_place mid.slots.keys (key_of its slot) (key_at sheet row col z) (subst (λ j. j < length mid.slots.keys) is inside) (filed.0 ∙ is)), filed.1))
+      (set_only mid.slots.keys (lists_of mid.lists.items) counts i n inside (key_at sheet row col z) m here))
+      (sym (after sheet row col m) ∙ h))
 
-  pub filed_found : has_size (size_of slot) mid.sizes.items ≡ true → (p : Place) → in_slot sheet slot p ≡ true → finds new p n ≡ true
-  filed_found size p here =
-      after p n ∙ any_size (λ z. has n (under mid.slots.keys (set (lists_of mid.lists.items) i (get_or (lists_of mid.lists.items) i [] ++ n ∷ [])) (key_at p z))) mid.sizes.items (size_of slot) size
-      (set_has mid.slots.keys (lists_of mid.lists.items) counts i n inside (key_at p (size_of slot)) (ap (place_of mid.slots.keys) (slot_key sheet slot p here) ∙ sym is))
+  pub filed_found : has_size (size_of slot) mid.sizes.items ≡ true → (row col : ℕ) → has_cell slot row col ≡ true → finds new its row col n ≡ true
+  filed_found size row col here =
+      after its row col n ∙ any_size (λ z. has n (under mid.slots.keys (set (lists_of mid.lists.items) i (get_or (lists_of mid.lists.items) i [] ++ n ∷ [])) (key_at its row col z))) mid.sizes.items (size_of slot) size
+      (set_has mid.slots.keys (lists_of mid.lists.items) counts i n inside (key_at its row col (size_of slot)) (ap (λ s. place_of mid.slots.keys (key_of its s)) (cell_in slot row col here) ∙ sym is))
 
--- ---- a block's slots, one after another
+-- ---- slots, one after another
 
-pub Files-on : (test : Place → Bool) (n : ℕ) (a b c : BlockIndex) → Files test n a b → Files test n b c → Files test n a c
+pub Files-on : (test : ℕ → ℕ → ℕ → Bool) (n : ℕ) (a b c : BlockIndex) → Files test n a b → Files test n b c → Files test n a c
 Files-on test n a b c f g = record {
-  grows = λ p m h. g.grows p m (f.grows p m h);
-  only = λ p m h. ⊎_elim (λ (before : finds b p m ≡ true). f.only p m before) (λ (filed : (test p ≡ true) × (m ≡ n)). inr filed) (g.only p m h);
+  grows = λ sheet row col m h. g.grows sheet row col m (f.grows sheet row col m h);
+  only = λ sheet row col m h. ⊎_elim (λ (before : finds b sheet row col m ≡ true). f.only sheet row col m before) (λ (filed : (test sheet row col ≡ true) × (m ≡ n)). inr filed) (g.only sheet row col m h);
 }
 
-pub Files-to : (test more : Place → Bool) (n : ℕ) (a b : BlockIndex) → ((p : Place) → test p ≡ true → more p ≡ true) → Files test n a b → Files more n a b
+pub Files-to : (test more : ℕ → ℕ → ℕ → Bool) (n : ℕ) (a b : BlockIndex) → ((sheet row col : ℕ) → test sheet row col ≡ true → more sheet row col ≡ true) → Files test n a b → Files more n a b
 Files-to test more n a b wider f = record {
   grows = f.grows;
-  only = λ p m h. ⊎_elim (λ (before : finds a p m ≡ true). inl before) (λ (filed : (test p ≡ true) × (m ≡ n)). inr (wider p filed.0, filed.1)) (f.only p m h);
+  only = λ sheet row col m h. ⊎_elim (λ (before : finds a sheet row col m ≡ true). inl before) (λ (filed : (test sheet row col ≡ true) × (m ≡ n)). inr (wider sheet row col filed.0, filed.1)) (f.only sheet row col m h);
 }
 
-pub Files-none : (test : Place → Bool) (n : ℕ) (a b : BlockIndex) → FindsAlike a b → Files test n a b
-Files-none test n a b alike = record { grows = λ p m h. alike p m ∙ h; only = λ p m h. inl (sym (alike p m) ∙ h) }
+pub Files-none : (test : ℕ → ℕ → ℕ → Bool) (n : ℕ) (a b : BlockIndex) → FindsAlike a b → Files test n a b
+Files-none test n a b alike = record { grows = λ sheet row col m h. alike sheet row col m ∙ h; only = λ sheet row col m h. inl (sym (alike sheet row col m) ∙ h) }
 
--- the cells of the slots are the places that the block covers
-within : (b : Block) (p : Place) → (nat_eq p.sheet b.sheet && in_block (record { start = b.top; end = b.bottom + 1 }) (record { start = b.left; end = b.right + 1 }) p.row p.col) ≡ covers b p
-within b p = both (nat_eq p.sheet b.sheet && in_block (record { start = b.top; end = b.bottom + 1 }) (record { start = b.left; end = b.right + 1 }) p.row p.col) (covers b p) (forth b p) (back b p)
-  where
-    both : (s t : Bool) → (s ≡ true → t ≡ true) → (t ≡ true → s ≡ true) → s ≡ t
-    both true true f g = refl
-    both false false f g = refl
-    both true false f g = sym (f refl)
-    both false true f g = g refl
+-- the slots into which rows by columns of a sheet are cut
+module _ (its : ℕ) (rows cols : Range ℕ) (slots : List Slot) (cells : (row col : ℕ) → list_any (λ s. has_cell s row col) slots ≡ in_block rows cols row col) where
+  -- a cell of one of the slots is one of the rows by the columns
+  pub slot_covered : (i : ℕ) (d : Slot) → i < length slots → (sheet row col : ℕ) → in_slot its (get_or slots i d) sheet row col ≡ true → in_cells its rows cols sheet row col ≡ true
+  slot_covered i d inside sheet row col h =
+      let (s, cell) = and_parts (nat_eq sheet its) (has_cell (get_or slots i d) row col) h in
+      and_from (nat_eq sheet its) (in_block rows cols row col) s (sym (cells row col) ∙ list_any_at (λ x. has_cell x row col) slots i d inside cell)
 
-    forth : (b : Block) (p : Place) → (nat_eq p.sheet b.sheet && in_block (record { start = b.top; end = b.bottom + 1 }) (record { start = b.left; end = b.right + 1 }) p.row p.col) ≡ true → covers b p ≡ true
-    forth b p h = grind (arith, nat_tests)
-
-    back : (b : Block) (p : Place) → covers b p ≡ true → (nat_eq p.sheet b.sheet && in_block (record { start = b.top; end = b.bottom + 1 }) (record { start = b.left; end = b.right + 1 }) p.row p.col) ≡ true
-    back b p h = grind (arith, nat_tests)
-
-module _ (b : Block) (rows cols : Range ℕ) (slots : List Slot) (r : rows ≡ record { start = b.top; end = b.bottom + 1 }) (c : cols ≡ record { start = b.left; end = b.right + 1 })
-    (cells : (row col : ℕ) → list_any (λ s. has_cell s row col) slots ≡ in_block rows cols row col) where
-  covered : (p : Place) → (nat_eq p.sheet b.sheet && list_any (λ s. has_cell s p.row p.col) slots) ≡ covers b p
-  covered p =
-      ap (λ t. nat_eq p.sheet b.sheet && t) (cells p.row p.col ∙ (ap (λ x. in_block x cols p.row p.col) r ∙ ap (λ x. in_block (record { start = b.top; end = b.bottom + 1 }) x p.row p.col) c)) ∙ within b p
-
-  -- a place of one of the slots is covered by the block
-  pub slot_covered : (i : ℕ) (d : Slot) → i < length slots → (p : Place) → in_slot b.sheet (get_or slots i d) p ≡ true → covers b p ≡ true
-  slot_covered i d inside p h =
-      let (s, cell) = and_parts (nat_eq p.sheet b.sheet) (has_cell (get_or slots i d) p.row p.col) h in
-      sym (covered p) ∙ and_from (nat_eq p.sheet b.sheet) (list_any (λ x. has_cell x p.row p.col) slots) s (list_any_at (λ x. has_cell x p.row p.col) slots i d inside cell)
-
-  -- the places of the slots gone by find the number, and those of one more
+  -- the cells of the slots gone by find the number, and those of one more
   pub found_more : (old new : BlockIndex) (n i : ℕ) (d : Slot) → i < length slots
-      → ((p : Place) → (nat_eq p.sheet b.sheet && list_any (λ s. has_cell s p.row p.col) (take i slots)) ≡ true → finds old p n ≡ true)
-      → Files (covers b) n old new → ((p : Place) → in_slot b.sheet (get_or slots i d) p ≡ true → finds new p n ≡ true)
-      → (p : Place) → (nat_eq p.sheet b.sheet && list_any (λ s. has_cell s p.row p.col) (take (i + 1) slots)) ≡ true → finds new p n ≡ true
-  found_more old new n i d inside before files here p h =
-      let (s, cell) = and_parts (nat_eq p.sheet b.sheet) (list_any (λ x. has_cell x p.row p.col) (take (i + 1) slots)) h in
-      ⊎_elim
-      (λ (gone_by : list_any (λ x. has_cell x p.row p.col) (take i slots) ≡ true). files.grows p n (before p (and_from (nat_eq p.sheet b.sheet) (list_any (λ x. has_cell x p.row p.col) (take i slots)) s gone_by)))
-      (λ (now : has_cell (get_or slots i d) p.row p.col ≡ true). here p (and_from (nat_eq p.sheet b.sheet) (has_cell (get_or slots i d) p.row p.col) s now))
-      (or_cases (list_any (λ x. has_cell x p.row p.col) (take i slots)) (has_cell (get_or slots i d) p.row p.col) (sym (list_any_more (λ x. has_cell x p.row p.col) slots i d inside) ∙ cell))
+      → ((row col : ℕ) → list_any (λ s. has_cell s row col) (take i slots) ≡ true → finds old its row col n ≡ true)
+      → Files (in_cells its rows cols) n old new → ((row col : ℕ) → has_cell (get_or slots i d) row col ≡ true → finds new its row col n ≡ true)
+      → (row col : ℕ) → list_any (λ s. has_cell s row col) (take (i + 1) slots) ≡ true → finds new its row col n ≡ true
+  found_more old new n i d inside before files here row col h = ⊎_elim
+      (λ (gone_by : list_any (λ x. has_cell x row col) (take i slots) ≡ true). files.grows its row col n (before row col gone_by))
+      (λ (now : has_cell (get_or slots i d) row col ≡ true). here row col now)
+      (or_cases (list_any (λ x. has_cell x row col) (take i slots)) (has_cell (get_or slots i d) row col) (sym (list_any_more (λ x. has_cell x row col) slots i d inside) ∙ h))
 
-  -- past the last slot the block's places find it
-  pub all_found : (x : BlockIndex) (n i : ℕ) (gone_by : List Slot) → gone_by ≡ slots
-      → ((p : Place) → (nat_eq p.sheet b.sheet && list_any (λ s. has_cell s p.row p.col) gone_by) ≡ true → finds x p n ≡ true)
-      → (p : Place) → covers b p ≡ true → finds x p n ≡ true
-  all_found x n i gone_by all before p h = before p (ap (λ ss. nat_eq p.sheet b.sheet && list_any (λ s. has_cell s p.row p.col) ss) all ∙ (covered p ∙ h))
+  -- past the last slot all of them find it
+  pub all_found : (x : BlockIndex) (n : ℕ) (gone_by : List Slot) → gone_by ≡ slots
+      → ((row col : ℕ) → list_any (λ s. has_cell s row col) gone_by ≡ true → finds x its row col n ≡ true)
+      → (row col : ℕ) → in_block rows cols row col ≡ true → finds x its row col n ≡ true
+  all_found x n gone_by all before row col h = before row col (ap (λ ss. list_any (λ s. has_cell s row col) ss) all ∙ (cells row col ∙ h))
 
--- ---- the slots of a place are slots
+-- ---- the slots of a cell are slots
 
-slots_inside : (keys : List SlotKey) (p : Place) (sizes : List Size) (s : ℕ) → has s (filter_map (λ z. position (same_key (key_at p z)) keys) sizes) ≡ true → s < length keys
-slots_inside keys p [] s h = absurd (false≢true h)
-slots_inside keys p (z ∷ sizes) s h = by (nat_lt (place_of keys (key_at p z)) (length keys)) refl (λ later. slots_inside keys p sizes s later) h
+slots_inside : (keys : List SlotKey) (sheet row col : ℕ) (sizes : List Size) (s : ℕ) → has s (filter_map (λ z. position (same_key (key_at sheet row col z)) keys) sizes) ≡ true → s < length keys
+slots_inside keys sheet row col [] s h = absurd (false≢true h)
+slots_inside keys sheet row col (z ∷ sizes) s h = by (nat_lt (place_of keys (key_at sheet row col z)) (length keys)) refl (λ later. slots_inside keys sheet row col sizes s later) h
   where
     below : (i n : ℕ) → nat_lt i n ≡ true → i < n
     below i n h = grind (arith, nat_tests)
 
-    by : (t : Bool) → nat_lt (place_of keys (key_at p z)) (length keys) ≡ t → (has s (filter_map (λ y. position (same_key (key_at p y)) keys) sizes) ≡ true → s < length keys)
-        → has s (cons_option (cond t (Some (place_of keys (key_at p z))) None) (filter_map (λ y. position (same_key (key_at p y)) keys) sizes)) ≡ true → s < length keys
+    by : (t : Bool) → nat_lt (place_of keys (key_at sheet row col z)) (length keys) ≡ t → (has s (filter_map (λ y. position (same_key (key_at sheet row col y)) keys) sizes) ≡ true → s < length keys)
+        → has s (cons_option (cond t (Some (place_of keys (key_at sheet row col z))) None) (filter_map (λ y. position (same_key (key_at sheet row col y)) keys) sizes)) ≡ true → s < length keys
     by false e rest there = rest there
     by true e rest there = ⊎_elim
-        (λ (same : place_of keys (key_at p z) ≡ s). subst (λ n. n < length keys) same (below (place_of keys (key_at p z)) (length keys) e))
+        (λ (same : place_of keys (key_at sheet row col z) ≡ s). subst (λ n. n < length keys) same (below (place_of keys (key_at sheet row col z)) (length keys) e))
         (λ later. rest later)
-        (has_cases s (place_of keys (key_at p z)) (filter_map (λ y. position (same_key (key_at p y)) keys) sizes) there)
+        (has_cases s (place_of keys (key_at sheet row col z)) (filter_map (λ y. position (same_key (key_at sheet row col y)) keys) sizes) there)
 
--- the slots that hold a place are among those that have a list
-pub slots_are_slots : (x : BlockIndex) (p : Place) (s : ℕ) → has s (slots_of x p) ≡ true → s < slot_count x
-slots_are_slots x p s h = slots_inside x.slots.keys p x.sizes.items s h
+-- the slots that hold a cell are among those that have a list
+pub slots_are_slots : (x : BlockIndex) (sheet row col s : ℕ) → has s (slots_of x sheet row col) ≡ true → s < slot_count x
+slots_are_slots x sheet row col s h = slots_inside x.slots.keys sheet row col x.sizes.items s h
 
--- ---- for those who walk from places to numbers
+-- ---- for those who walk from cells to numbers
 
--- what is filed under a slot of a place is found there
-pub found_under : (x : BlockIndex) (p : Place) (s n : ℕ) → has s (slots_of x p) ≡ true → has n (filed_in x s) ≡ true → finds x p n ≡ true
-found_under x p s n slot filed = any_has (λ t. has n (filed_in x t)) (slots_of x p) s slot filed
+-- what is filed under a slot of a cell is found there
+pub found_under : (x : BlockIndex) (sheet row col s n : ℕ) → has s (slots_of x sheet row col) ≡ true → has n (filed_in x s) ≡ true → finds x sheet row col n ≡ true
+found_under x sheet row col s n slot filed = any_has (λ t. has n (filed_in x t)) (slots_of x sheet row col) s slot filed
 
--- what is found is filed under a slot of the place
-pub slot_with : (x : BlockIndex) (p : Place) (n : ℕ) → finds x p n ≡ true → (s : ℕ) × (has s (slots_of x p) ≡ true) × (has n (filed_in x s) ≡ true)
-slot_with x p n found = has_any (λ t. has n (filed_in x t)) (slots_of x p) found
+-- what is found is filed under a slot of the cell
+pub slot_with : (x : BlockIndex) (sheet row col n : ℕ) → finds x sheet row col n ≡ true → (s : ℕ) × (has s (slots_of x sheet row col) ≡ true) × (has n (filed_in x s) ≡ true)
+slot_with x sheet row col n found = has_any (λ t. has n (filed_in x t)) (slots_of x sheet row col) found
 
 -- ---- keys that don't stand in a list
 
@@ -452,7 +422,7 @@ on_ok (Err _) P F ok f = tt
 
 -- where all stays, all is found as before
 pub alike_same : (old new : BlockIndex) → new.slots ≡ old.slots → new.sizes ≡ old.sizes → lists_of new.lists.items ≡ lists_of old.lists.items → FindsAlike old new
-alike_same old new slots sizes lists p n =
-    finds_by new p n
-    ∙ (ap (λ s. found_by s.keys (lists_of new.lists.items) new.sizes.items p n) slots
-    ∙ (ap (λ z. found_by old.slots.keys (lists_of new.lists.items) z.items p n) sizes ∙ (ap (λ ls. found_by old.slots.keys ls old.sizes.items p n) lists ∙ sym (finds_by old p n))))
+alike_same old new slots sizes lists sheet row col n =
+    finds_by new sheet row col n
+    ∙ (ap (λ s. found_by s.keys (lists_of new.lists.items) new.sizes.items sheet row col n) slots
+    ∙ (ap (λ z. found_by old.slots.keys (lists_of new.lists.items) z.items sheet row col n) sizes ∙ (ap (λ ls. found_by old.slots.keys ls old.sizes.items sheet row col n) lists ∙ sym (finds_by old sheet row col n))))

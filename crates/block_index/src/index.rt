@@ -1,15 +1,12 @@
 // Numbers filed under the slots of blocks.
-ghost use Rattle.std.specs.Prelude.{◌≡◌, ◌+◌, ◌<◌, ◌^◌, ◌++◌, ◌∷◌, ℕ, [], true, false, position, length, slice_set, IfOk, OnOk, OnErr};
+ghost use Rattle.std.specs.Prelude.{◌≡◌, ◌<◌, ◌++◌, ◌∷◌, ℕ, [], true, false, position, length, slice_set, IfOk, OnOk, OnErr};
 ghost use Rattle.std.specs.Option.{option_to_list};
-ghost use Rattle.cell_addr.specs.Place.{covers};
-ghost use Rattle.cell_addr.specs.declared.place.Place.{Place};
-ghost use Rattle.block_slots.specs.Slots.{size_of};
+ghost use Rattle.block_slots.specs.Slots.{has_cell, in_block, size_of};
 ghost use Rattle.needs_order.specs.Needs.{has, lists_of};
 ghost use Rattle.block_index.specs.internal.Keys.{AreSized, has_size, in_slot, key_at, key_size, place_of, same_key};
 
 use crate::key::SlotKey;
 use block_slots::{Size, Slot, slots};
-use cell_addr::{Block, Place};
 use indexmap::IndexSet;
 use std::alloc::{AllocError, Global};
 use std::ops::Range;
@@ -29,12 +26,12 @@ pub struct BlockIndex {
 }
 
 impl BlockIndex {
-    ghost use Rattle.block_index.specs.Index.{Files, FindsAlike, filed_in, finds, slot_count, slots_of};
+    ghost use Rattle.block_index.specs.Index.{Files, FindsAlike, filed_in, finds, in_cells, slot_count, slots_of};
 
     /// Nothing is filed.
     pub fn new(alloc: Global) -> BlockIndex
         ensures count { slot_count result ≡ 0 }
-        ensures finds { (p : Place) (n : ℕ) → finds result p n ≡ false }
+        ensures finds { (sheet row col n : ℕ) → finds result sheet row col n ≡ false }
     {
         BlockIndex {
             alloc,
@@ -51,25 +48,25 @@ impl BlockIndex {
         self.lists.as_slice().len()
     }
 
-    /// The slots that hold the place, of those that have a list. Costs a look-up for each size of slots in use. Errs for
-    /// want of memory.
-    pub fn slots_at(&self, at: Place) -> Result<Vec<usize>, AllocError>
-        ensures slots { IfOk result (λ slots. slots.items ≡ slots_of self.now at) }
-        ensures inside { (s : ℕ) → has s (slots_of self.now at) ≡ true → s < slot_count self.now }
+    /// The slots that hold the cell of a row and a column of a sheet, of those that have a list. Costs a look-up for
+    /// each size of slots in use. Errs for want of memory.
+    pub fn slots_at(&self, sheet: u32, row: u64, col: u64) -> Result<Vec<usize>, AllocError>
+        ensures slots { IfOk result (λ slots. slots.items ≡ slots_of self.now sheet row col) }
+        ensures inside { (s : ℕ) → has s (slots_of self.now sheet row col) ≡ true → s < slot_count self.now }
     {
         let mut found = Vec::new(self.alloc);
         'sizes: for size in &self.sizes {
-            push_some(&mut found, self.slot_at(at, *size))?;
+            push_some(&mut found, self.slot_at(sheet, row, col, *size))?;
         }
         Ok(found)
     }
 
-    // The slot of a size that holds the place, where it has a list.
-    fn slot_at(&self, at: Place, size: Size) -> Option<usize>
-        ensures { result ≡ position (same_key (key_at at size)) self.now.slots.keys }
+    // The slot of a size that holds the cell, where it has a list.
+    fn slot_at(&self, sheet: u32, row: u64, col: u64, size: Size) -> Option<usize>
+        ensures { result ≡ position (same_key (key_at sheet row col size)) self.now.slots.keys }
     {
-        let slot = size.slot_at(u64::from(at.row), u64::from(at.col));
-        self.slots.get_index_of(&SlotKey::of(at.sheet, slot))
+        let slot = size.slot_at(row, col);
+        self.slots.get_index_of(&SlotKey::of(sheet, slot))
     }
 
     /// The numbers that are filed under a slot, each as often as it was filed there.
@@ -80,15 +77,21 @@ impl BlockIndex {
         &self.lists[slot]
     }
 
-    /// Files the number under each slot of the block: the places of the block find it then. Where there is no memory some
-    /// of them may find it. Costs the number of the block's slots.
-    pub fn file(&mut self, b: Block, number: usize) -> Result<(), AllocError>
-        ensures files { Files (covers b) number self.old self.new }
-        ensures found { OnOk result ((p : Place) → covers b p ≡ true → finds self.new p number ≡ true) }
+    /// Files the number under each slot of the rows by the columns of a sheet: their cells find it then. Where there is
+    /// no memory some of them may find it. Costs the number of the slots.
+    pub fn file(
+        &mut self,
+        sheet: u32,
+        rows: Range<u64>,
+        cols: Range<u64>,
+        number: usize,
+    ) -> Result<(), AllocError>
+        ensures files { Files (in_cells sheet rows cols) number self.old self.new }
+        ensures found { OnOk result ((row col : ℕ) → in_block rows cols row col ≡ true → finds self.new sheet row col number ≡ true) }
     {
-        let slots = slots(self.alloc, lines(b.top, b.bottom), lines(b.left, b.right))?;
+        let slots = slots(self.alloc, rows, cols)?;
         'slots: for slot in &slots {
-            self.file_under(b.sheet, *slot, number)?;
+            self.file_under(sheet, *slot, number)?;
         }
         Ok(())
     }
@@ -96,7 +99,7 @@ impl BlockIndex {
     // Files the number under a slot of a sheet.
     fn file_under(&mut self, sheet: u32, slot: Slot, number: usize) -> Result<(), AllocError>
         ensures files { Files (in_slot sheet slot) number self.old self.new }
-        ensures found { OnOk result ((p : Place) → in_slot sheet slot p ≡ true → finds self.new p number ≡ true) }
+        ensures found { OnOk result ((row col : ℕ) → has_cell slot row col ≡ true → finds self.new sheet row col number ≡ true) }
     {
         self.use_size(slot.size())?;
         let place = self.slot_under(SlotKey::of(sheet, slot))?;
@@ -167,12 +170,4 @@ fn push_some(found: &mut Vec<usize>, number: Option<usize>) -> Result<(), AllocE
         found.push(number)?;
     }
     Ok(())
-}
-
-// The lines from the first to the last.
-fn lines(first: u32, last: u32) -> Range<u64>
-    requires { last < 2 ^ 32 }
-    ensures { result ≡ record { start = first; end = last + 1 } }
-{
-    u64::from(first)..u64::from(last) + 1
 }

@@ -1,39 +1,145 @@
 -- Nodes added, filed and linked. Serves the changes of a net.
-use Rattle.std.proofs.Common.{◌≡◌, ◌≢◌, ◌∙◌, sym, ap, subst, arith, ℕ, ◌+◌, ◌<◌, ⊎_elim, Bool, true, false, cond, List, [], ◌∷◌, ◌++◌, map, length, get_or, take, eqb, Result, Ok, Err, OnOk, OnErr}
-use Rattle.std.proofs.lemmas.Bool.{eq-eqb, false≢true, ne_eqb}
+use Rattle.std.proofs.Common.{◌≡◌, ◌∙◌, sym, ap, refl, subst, arith, ℕ, zero, suc, ◌+◌, ◌<◌, ◌≤◌, inl, inr, ◌⊎◌, ⊎_elim, Bool, true, false, cond, not, ◌||◌, List, [], ◌∷◌, ◌++◌, map, length, get_or, take, eqb, Result, Ok, Err, OnOk, OnErr, Option, Some, None}
+use Rattle.std.specs.Prelude.{IsSome, slice_get, unwrap_or}
+use Rattle.std.specs.List.{list_any, position_or_len}
+use Rattle.std.proofs.lemmas.Bool.{cases_lt, eq-eqb, eqb-true, false≢true}
 use Rattle.std.proofs.lemmas.Bool.Decides.{nat_tests}
-use Rattle.std.proofs.lemmas.List.{map-append, take_more}
+use Rattle.std.proofs.lemmas.List.{get_or_past, length_push, map-append, take_more}
 use Rattle.std.proofs.lemmas.List.Folds.{position_or_len_push}
-use Rattle.cell_addr.specs.declared.place.Place.{Place}
+use Rattle.std.proofs.lemmas.Option.{same_Some}
+use Rattle.cell_addr.specs.declared.place.Block.{Block}
 use Rattle.needs_order.specs.Needs as plain
 use Rattle.needs_order.proofs.Lists as lists
 use Rattle.node_links.specs.Nodes.{needs_of}
-use Rattle.node_links.specs.declared.links.Links.{Links}
-use Rattle.block_index.specs.declared.index.BlockIndex.{BlockIndex}
-use Rattle.dep_graph.specs.Nodes.{covers_node, has, same_node}
+use Rattle.std.specs.declared.alloc.Global.{Global}
+use Rattle.std.specs.declared.vec.Vec.{Vec}
+use Rattle.block_index.specs.Index.{finds}
+use Rattle.place_lines.specs.Spots.{spot_of}
+use Rattle.place_lines.specs.declared.lines.PlaceLines.{PlaceLines}
+use Rattle.dep_graph.specs.declared.files.Files.{Files}
+use Rattle.dep_graph.specs.declared.key.Key.{Key}
 use Rattle.dep_graph.specs.declared.net.Net.{Net}
 use Rattle.dep_graph.specs.declared.node.Node.{Node}
-use Rattle.dep_graph.specs.declared.node.Node.TheVariants.{Cell, Name}
-use Rattle.dep_graph.specs.internal.Nets.{Grows, links_in}
-use Rattle.dep_graph.specs.internal.Numbers.{IsFiled, linked, node_at, place_of}
-use Rattle.dep_graph.proofs.Growing.{grown_map}
-use Rattle.dep_graph.proofs.Places.{at_place, cases_node, cases_true, other_node, place_inside}
-use Rattle.dep_graph.specs.internal.Hashed.{own_node}
+use Rattle.dep_graph.specs.declared.node.Node.TheVariants.{Name, Range}
+use Rattle.dep_graph.specs.declared.table.NodeTable.{NodeTable}
+use Rattle.dep_graph.specs.internal.Files.{FilesOn, HoldsBlock}
+use Rattle.dep_graph.specs.internal.Filings.{filing_of}
+use Rattle.dep_graph.specs.internal.Keys.{AreNarrow, is_narrow, own_key, same_key}
+use Rattle.dep_graph.specs.internal.Nets.{Grows}
+use Rattle.dep_graph.specs.internal.Numbers.{AreFilings, IsAlive, IsFiled, count_of, found_at, found_under, is_range, node_at, place_of}
+use Rattle.dep_graph.proofs.Filed.{kept_holds}
+use Rattle.dep_graph.proofs.Growing.{found_more, grown_map, known_inside}
+use Rattle.dep_graph.proofs.Numbers.{alive_inside, at_place, gets-more, got}
 
-pub absent_node : (keys : List Node) (a : Node) → place_of keys a ≡ length keys → has a keys ≡ false
-absent_node keys a last = ⊎_elim
-    (λ (there : has a keys ≡ true). absurd (omega (arith, last, place_inside keys a there)))
-    (λ (out : has a keys ≡ false). out)
-    (cases_true (has a keys))
+-- ---- one key more
 
-pub place_last : (keys : List Node) (a : Node) → place_of keys a ≡ length keys → place_of (keys ++ a ∷ []) a ≡ length keys
-place_last keys a last = position_or_len_push (same_node a) keys a ∙ at_end (place_of keys a) (length keys) (same_node a a) last (own_node a)
+pub absent_key : (keys : List Key) (k : Key) → position_or_len (same_key k) keys ≡ length keys → list_any (same_key k) keys ≡ false
+absent_key [] k last = refl
+absent_key (x ∷ keys) k last = by (same_key k x) refl last (absent_key keys k)
+  where
+    by : (t : Bool) → same_key k x ≡ t → cond (not t) (1 + position_or_len (same_key k) keys) 0 ≡ suc (length keys) → (position_or_len (same_key k) keys ≡ length keys → list_any (same_key k) keys ≡ false)
+        → (t || list_any (same_key k) keys) ≡ false
+    by true e is rest = absurd (omega (arith, is))
+    by false e is rest = rest (omega (arith, is))
+
+pub place_last : (keys : List Key) (k : Key) → position_or_len (same_key k) keys ≡ length keys → position_or_len (same_key k) (keys ++ k ∷ []) ≡ length keys
+place_last keys a last = position_or_len_push (same_key a) keys a ∙ at_end (position_or_len (same_key a) keys) (length keys) (same_key a a) last (own_key a)
   where
     either : (i n : ℕ) → i ≡ n → cond (eqb i n) (n + 0) i ≡ n
     either i n same = grind (arith, nat_tests)
 
     at_end : (i n : ℕ) (t : Bool) → i ≡ n → t ≡ true → cond (eqb i n) (n + cond t 0 1) i ≡ n
     at_end i n t same own = ap (λ j. cond (eqb i n) (n + cond j 0 1) i) own ∙ either i n same
+
+pub narrow_push : (keys longer : List Key) (k : Key) → AreNarrow keys → is_narrow k ≡ true → longer ≡ keys ++ k ∷ [] → AreNarrow longer
+narrow_push keys longer k narrow one is n x e = ⊎_elim
+    (λ (low : n < length keys). narrow n x (sym (gets-more keys (k ∷ []) n low) ∙ (ap (λ ks. slice_get ks n) (sym is) ∙ e)))
+    (λ (past : length keys ≤ n). subst (λ y. is_narrow y ≡ true) (same_Some k x (sym (last keys n past (got longer n x x e).0 (ap length is ∙ length_push keys k)) ∙ (ap (λ ks. slice_get ks n) (sym is) ∙ e))) one)
+    (cases_lt n (length keys))
+  where
+    last : (l : List Key) (n : ℕ) → length l ≤ n → n < length longer → length longer ≡ length l + 1 → slice_get (l ++ k ∷ []) n ≡ Some k
+    last l n past low count = at l n (omega (arith, past, low, count))
+      where
+        at : (l : List Key) (n : ℕ) → n ≡ length l → slice_get (l ++ k ∷ []) n ≡ Some k
+        at [] zero e = refl
+        at [] (suc n) e = absurd (omega (arith, e))
+        at (x ∷ l) zero e = absurd (omega (arith, e))
+        at (x ∷ l) (suc n) e = at l n (omega (arith, e))
+
+-- ---- filings where nodes were added behind
+
+some_is : {A : Type 0} (x : A) (o : Option A) → o ≡ Some x → IsSome o
+some_is x (Some y) e = refl
+some_is x None e = absurd (none e)
+  where
+    none : None ≡ Some x → ⊥
+    none e = cc
+
+-- a number with a present filing is that of a node
+pub filed_inside : (net : Net) (n f : ℕ) → filing_of net.files.current n ≡ Some f → n < count_of net.nodes
+filed_inside net n f e = ⊎_elim
+    (λ (low : n < count_of net.nodes). low)
+    (λ (past : count_of net.nodes ≤ n). absurd (none (sym (get_or_past net.files.current.items n None (omega (arith, past, net.rooms))) ∙ e)))
+    (cases_lt n (count_of net.nodes))
+  where
+    none : None ≡ Some f → ⊥
+    none e = cc
+
+module _ (net : Net) (keys more : List Key) (behind : keys ≡ net.nodes.keys.keys ++ more) where
+  same_found : (n : ℕ) → n < count_of net.nodes → found_under net.nodes.lines keys n ≡ found_at net.nodes n
+  same_found n low = found_more net.nodes.lines net.nodes.keys.keys keys more n behind low
+
+  still_alive : (n : ℕ) → IsAlive net.nodes n → found_under net.nodes.lines keys n ≡ Some (unwrap_or (found_under net.nodes.lines keys n) (Name 0 0))
+  still_alive n alive =
+      let same : found_under net.nodes.lines keys n ≡ found_at net.nodes n = same_found n (alive_inside net.nodes n alive) in
+      same ∙ (alive ∙ ap (λ o. Some (unwrap_or o (Name 0 0))) (sym same))
+
+  pub alive_more : (links : ℕ → List ℕ) → ((n : ℕ) → links n ≡ needs_of net.links n) → (a n : ℕ) → plain.has n (links a) ≡ true
+      → (found_under net.nodes.lines keys a ≡ Some (unwrap_or (found_under net.nodes.lines keys a) (Name 0 0))) × (found_under net.nodes.lines keys n ≡ Some (unwrap_or (found_under net.nodes.lines keys n) (Name 0 0)))
+  alive_more links same a n h =
+      let (first, second) = net.alive a n (subst (λ l. plain.has n l ≡ true) (same a) h) in
+      (still_alive a first, still_alive n second)
+
+  pub filed_more : (current : Vec (Option ℕ) Global) (n : ℕ) → n < count_of net.nodes → filing_of current n ≡ filing_of net.files.current n → IsFiled net.nodes net.files n
+      → (b : Block) → found_under net.nodes.lines keys n ≡ Some (Range b) → IsSome (filing_of current n)
+  filed_more current n low same filed b e = subst IsSome (sym same) (filed b (sym (same_found n low) ∙ e))
+
+  pub filings_more : (current : Vec (Option ℕ) Global) → ((n : ℕ) → filing_of current n ≡ filing_of net.files.current n) → (n f : ℕ) → filing_of current n ≡ Some f
+      → (is_range (found_under net.nodes.lines keys n) ≡ true) × ((b : Block) → found_under net.nodes.lines keys n ≡ Some (Range b) → HoldsBlock net.nodes.lines net.files f b)
+  filings_more current same n f e =
+      let was : filing_of net.files.current n ≡ Some f = sym (same n) ∙ e in
+      let found : found_under net.nodes.lines keys n ≡ found_at net.nodes n = same_found n (filed_inside net n f was) in
+      (ap is_range found ∙ (net.filed n f was).0, λ b at. (net.filed n f was).1 b (sym found ∙ at))
+
+  pub used_more : (links : ℕ → List ℕ) (current : Vec (Option ℕ) Global) → ((n : ℕ) → links n ≡ needs_of net.links n) → ((n : ℕ) → filing_of current n ≡ filing_of net.files.current n)
+      → (a n : ℕ) → plain.has n (links a) ≡ true → (b : Block) → found_under net.nodes.lines keys n ≡ Some (Range b) → IsSome (filing_of current n)
+  used_more links current same filings a n h =
+      let before : plain.has n (needs_of net.links a) ≡ true = subst (λ l. plain.has n l ≡ true) (same a) h in
+      filed_more current n (known_inside net a n before) (filings n) (net.used a n before)
+
+-- ---- links of one node replaced
+
+pub either_need : {A B : Type 0} (r : Result A B) (new old : ℕ → List ℕ) (node : ℕ) (needs : List ℕ) → OnOk r ((n : ℕ) → new n ≡ cond (eqb n node) needs (old n)) → OnErr r ((n : ℕ) → new n ≡ old n)
+    → (a n : ℕ) → plain.has n (new a) ≡ true → (plain.has n (old a) ≡ true) ⊎ ((a ≡ node) × (plain.has n needs ≡ true))
+either_need (Err e) new old node needs ok err a n h = inl (subst (λ l. plain.has n l ≡ true) (err a) h)
+either_need (Ok x) new old node needs ok err a n h = by (eqb a node) refl (subst (λ l. plain.has n l ≡ true) (ok a) h)
+  where
+    by : (t : Bool) → eqb a node ≡ t → plain.has n (cond t needs (old a)) ≡ true → (plain.has n (old a) ≡ true) ⊎ ((a ≡ node) × (plain.has n needs ≡ true))
+    by true e h = inr (eqb-true a node e, h)
+    by false e h = inl h
+
+pub was_need : (new old : ℕ → List ℕ) (node : ℕ) → ((n : ℕ) → new n ≡ cond (eqb n node) [] (old n)) → (a n : ℕ) → plain.has n (new a) ≡ true → plain.has n (old a) ≡ true
+was_need new old node is a n h = by (eqb a node) (subst (λ l. plain.has n l ≡ true) (is a) h)
+  where
+    by : (t : Bool) → plain.has n (cond t [] (old a)) ≡ true → plain.has n (old a) ≡ true
+    by true h = absurd (false≢true h)
+    by false h = h
+
+-- ---- ranges filed
+
+-- what is no range needs no filing
+pub cell_filed : (t : NodeTable) (files : Files) (n : ℕ) (a : Node) → found_at t n ≡ Some a → is_range (Some a) ≡ false → IsFiled t files n
+cell_filed t files n a is none b e = absurd (false≢true (sym none ∙ ap is_range (sym is ∙ e)))
 
 -- ---- by results
 
@@ -49,43 +155,67 @@ pub err_on : {A B : Type 0} (r : Result A B) (P F : Type 0) → OnErr r P → (P
 err_on (Ok _) P F err f = tt
 err_on (Err _) P F err f = f err
 
--- ---- ranges filed
-
--- what is no range covers nothing
-pub cell_filed : (index : BlockIndex) (keys : List Node) (n : ℕ) (q : Place) → node_at keys n ≡ Cell q → IsFiled index keys n
-cell_filed index keys n q is p covered = absurd (false≢true (subst (λ x. covers_node x (Cell p) ≡ true) is covered))
-
-pub name_filed : (index : BlockIndex) (keys : List Node) (n scope word : ℕ) → node_at keys n ≡ Name scope word → IsFiled index keys n
-name_filed index keys n scope word is p covered = absurd (false≢true (subst (λ x. covers_node x (Cell p) ≡ true) is covered))
-
--- ---- links replaced
-
-pub relinked_at : (old : Net) (links : Links) (a : Node) (node : ℕ) (needs : List ℕ) → node < length old.nodes.keys → node ≡ place_of old.nodes.keys a
-    → ((n : ℕ) → needs_of links n ≡ cond (eqb n node) needs (needs_of old.links n)) → (x : Node) → linked old.nodes.keys links x ≡ cond (same_node x a) (map (node_at old.nodes.keys) needs) (links_in old x)
-relinked_at old links a node needs inside is changed x = ap (map (node_at old.nodes.keys)) (changed (place_of old.nodes.keys x)) ∙ ⊎_elim
-    (λ (same : x ≡ a).
-    let here : place_of old.nodes.keys x ≡ node = ap (place_of old.nodes.keys) same ∙ sym is in
-    ap (λ t. map (node_at old.nodes.keys) (cond t needs (needs_of old.links (place_of old.nodes.keys x)))) (eq-eqb (place_of old.nodes.keys x) node here)
-    ∙ ap (λ t. cond t (map (node_at old.nodes.keys) needs) (links_in old x)) (sym (subst (λ y. same_node x y ≡ true) same (own_node x))))
-    (λ (other : x ≢ a).
-    let apart : place_of old.nodes.keys x ≢ node = λ (at : place_of old.nodes.keys x ≡ node).
-    other (sym (at_place old.nodes.keys x (subst (λ n. n < length old.nodes.keys) (sym at) inside)) ∙ (ap (node_at old.nodes.keys) (at ∙ is) ∙ at_place old.nodes.keys a (subst (λ n. n < length old.nodes.keys) is inside))) in
-    ap (λ t. map (node_at old.nodes.keys) (cond t needs (needs_of old.links (place_of old.nodes.keys x)))) (ne_eqb (place_of old.nodes.keys x) node apart)
-    ∙ ap (λ t. cond t (map (node_at old.nodes.keys) needs) (links_in old x)) (sym (other_node x a other)))
-    (cases_node x a)
-
 -- ---- numbers of nodes that some node is going to be linked to
 
-pub use_next : (a b : Net) (numbers more : List ℕ) (number : ℕ) (needs : List Node) (i : ℕ) (d x : Node) → Grows a b → map (node_at a.nodes.keys) numbers ≡ take i needs
-    → ((n : ℕ) → plain.has n numbers ≡ true → n < length a.nodes.keys) → i < length needs → get_or needs i d ≡ x → number ≡ place_of b.nodes.keys x → number < length b.nodes.keys → more ≡ numbers ++ number ∷ []
-    → map (node_at b.nodes.keys) more ≡ take (i + 1) needs
+pub use_next : (a b : Net) (numbers more : List ℕ) (number : ℕ) (needs : List Node) (i : ℕ) (d x : Node) → Grows a b → map (node_at a.nodes) numbers ≡ take i needs
+    → ((n : ℕ) → plain.has n numbers ≡ true → n < count_of a.nodes) → i < length needs → get_or needs i d ≡ x → number ≡ place_of b.nodes x → number < count_of b.nodes → more ≡ numbers ++ number ∷ []
+    → map (node_at b.nodes) more ≡ take (i + 1) needs
 use_next a b numbers more number needs i d x grows before inside i_in at place low is =
-    ap (map (node_at b.nodes.keys)) is ∙ (map-append (node_at b.nodes.keys) numbers (number ∷ [])
-    ∙ (ap (λ l. l ++ node_at b.nodes.keys number ∷ []) (grown_map a b numbers grows inside ∙ before)
-    ∙ (ap (λ y. take i needs ++ y ∷ []) (ap (node_at b.nodes.keys) place ∙ (at_place b.nodes.keys x (subst (λ n. n < length b.nodes.keys) place low) ∙ sym at)) ∙ sym (take_more needs i d i_in))))
+    ap (map (node_at b.nodes)) is ∙ (map-append (node_at b.nodes) numbers (number ∷ [])
+    ∙ (ap (λ l. l ++ node_at b.nodes number ∷ []) (grown_map a b numbers grows inside ∙ before)
+    ∙ (ap (λ y. take i needs ++ y ∷ []) (ap (node_at b.nodes) place ∙ (at_place b.nodes x (subst (λ n. n < count_of b.nodes) place low) ∙ sym at)) ∙ sym (take_more needs i d i_in))))
 
 pub each_number : (numbers more : List ℕ) (number : ℕ) (P : ℕ → Type 0) → more ≡ numbers ++ number ∷ [] → ((n : ℕ) → plain.has n numbers ≡ true → P n) → P number → (n : ℕ) → plain.has n more ≡ true → P n
 each_number numbers more number P is before here n h = ⊎_elim
     (λ (front : plain.has n numbers ≡ true). before n front)
     (λ (last : plain.has n (number ∷ []) ≡ true). ⊎_elim (λ (same : number ≡ n). subst P same here) (λ (none : false ≡ true). absurd (false≢true none)) (lists.has_cases n number [] last))
     (lists.has-append_cases n numbers (number ∷ []) (subst (λ l. plain.has n l ≡ true) is h))
+
+-- ---- a node that is filed anew
+
+holds_same : (lines : PlaceLines) (old new : Files) (f : ℕ) (b : Block) → new.index ≡ old.index → HoldsBlock lines old f b → HoldsBlock lines new f b
+holds_same lines old new f b index h = record {
+  exact = λ p. ap (λ x. finds x (spot_of lines p).sheet (spot_of lines p).row (spot_of lines p).col f) index ∙ h.exact p;
+  known = λ spot found. h.known spot (sym (ap (λ x. finds x spot.sheet spot.row spot.col f) index) ∙ found);
+}
+
+present_filing : (files : Files) (n f : ℕ) → filing_of files.current n ≡ Some f → f < length files.owners.items
+present_filing files n f e = inside files.owners.items f n (files.owned n f e)
+  where
+    inside : (l : List ℕ) (i x : ℕ) → slice_get l i ≡ Some x → i < length l
+    inside [] i x e = absurd (none e)
+      where
+        none : None ≡ Some x → ⊥
+        none e = cc
+    inside (y ∷ l) zero x e = omega arith
+    inside (y ∷ l) (suc i) x e = let low : i < length l = inside l i x e in omega (arith, low)
+
+-- where filings were added
+pub filings_on : (t : NodeTable) (old new : Files) → AreFilings t old → FilesOn old new → AreFilings t new
+filings_on t old new filed on n f e =
+    let was : filing_of old.current n ≡ Some f = sym (ap (λ c. filing_of c n) on.current) ∙ e in
+    ((filed n f was).0, λ b at. kept_holds t.lines old new f b on (present_filing old n f was) ((filed n f was).1 b at))
+
+one_range : (a b : Block) → Range a ≡ Range b → a ≡ b
+one_range a b e = cc
+
+-- where one of them is a node's present one
+pub filings_kept : (t : NodeTable) (mid new : Files) (number filing : ℕ) (block : Block) → AreFilings t mid → new.index ≡ mid.index → ((n : ℕ) → filing_of new.current n ≡ cond (eqb n number) (Some filing) (filing_of mid.current n))
+    → found_at t number ≡ Some (Range block) → HoldsBlock t.lines mid filing block → AreFilings t new
+filings_kept t mid new number filing block filed index kept found holds n f e = by (eqb n number) refl (sym (kept n) ∙ e)
+  where
+    by : (c : Bool) → eqb n number ≡ c → cond c (Some filing) (filing_of mid.current n) ≡ Some f → (is_range (found_at t n) ≡ true) × ((b : Block) → found_at t n ≡ Some (Range b) → HoldsBlock t.lines new f b)
+    by true is same =
+        let here : found_at t n ≡ Some (Range block) = ap (found_at t) (eqb-true n number is) ∙ found in
+        (ap is_range here, λ b at. holds_same t.lines mid new f b index (subst (λ g. HoldsBlock t.lines mid g b) (same_Some filing f same) (subst (λ x. HoldsBlock t.lines mid filing x) (one_range block b (same_Some (Range block) (Range b) (sym here ∙ at))) holds)))
+    by false is same = ((filed n f same).0, λ b at. holds_same t.lines mid new f b index ((filed n f same).1 b at))
+
+pub still_filed : (t : NodeTable) (mid new : Files) (number filing : ℕ) → ((n : ℕ) → filing_of new.current n ≡ cond (eqb n number) (Some filing) (filing_of mid.current n)) → (n : ℕ) → IsFiled t mid n → IsFiled t new n
+still_filed t mid new number filing kept n filed b at = subst IsSome (sym (kept n)) (by (eqb n number) (filed b at))
+  where
+    by : (c : Bool) → IsSome (filing_of mid.current n) → IsSome (cond c (Some filing) (filing_of mid.current n))
+    by true h = refl
+    by false h = h
+
+pub now_filed : (t : NodeTable) (mid new : Files) (number filing : ℕ) → ((n : ℕ) → filing_of new.current n ≡ cond (eqb n number) (Some filing) (filing_of mid.current n)) → IsFiled t new number
+now_filed t mid new number filing kept b at = subst IsSome (sym (kept number ∙ ap (λ c. cond c (Some filing) (filing_of mid.current number)) (eq-eqb number number refl))) refl

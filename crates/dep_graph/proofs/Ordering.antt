@@ -12,11 +12,12 @@ use Rattle.dep_graph.specs.Walks.{InOrder, IsOnce, IsOrdered}
 use Rattle.dep_graph.specs.declared.net.Net.{Net}
 use Rattle.dep_graph.specs.declared.node.Node.{Node}
 use Rattle.dep_graph.specs.internal.Arrows.{node_total, targets_of, total}
-use Rattle.dep_graph.specs.internal.Numbers.{node_at, place_of}
+use Rattle.dep_graph.specs.internal.Numbers.{IsAlive, node_at, place_of}
 use Rattle.dep_graph.specs.internal.Nets.{links_in}
 use Rattle.dep_graph.specs.internal.Walked.{AreKnown, AreUnknown, picks}
 use Rattle.dep_graph.proofs.Picking.{has_picks, picks_has, picks_once, picks_split}
-use Rattle.dep_graph.proofs.Places.{at_place, cases_true, has-append_cases, has-append_left, has-append_right, has_first, has_map, map_has, place_at, place_is}
+use Rattle.dep_graph.proofs.Numbers.{alive_inside, alive_number, alive_place, at_place, place_is}
+use Rattle.dep_graph.proofs.Places.{cases_true, has-append_cases, has-append_left, has-append_right, has_first, has_map, map_has}
 use Rattle.dep_graph.proofs.Reaching.{once-append, once_map}
 use Rattle.dep_graph.proofs.Walking.{chain_back, chain_leads, leads_chain, leads_on}
 
@@ -69,56 +70,57 @@ behind low n high j later = get_or-append_right low (n ∷ high) (length low) j 
 
 module _ (net : Net) (nodes unknown order : List Node) (known walk : List ℕ) (marks : List Bool) (rest : AreUnknown net nodes unknown) (numbers : AreKnown net nodes known)
     (walked : arrows.AreReached (targets_of net) known walk) (count : length marks ≡ length walk) (cycles : arrows.CyclesAre (targets_of net) walk marks) (in_order : arrows.InOrder (targets_of net) walk)
-    (is : order ≡ unknown ++ map (node_at net.nodes.keys) (picks known walk marks)) where
+    (is : order ≡ unknown ++ map (node_at net.nodes) (picks known walk marks)) where
   -- a known number is that of one of the nodes
-  known_node : (n : ℕ) → plain.has n known ≡ true → (n < node_total net) × (has (node_at net.nodes.keys n) nodes ≡ true)
+  known_node : (n : ℕ) → plain.has n known ≡ true → (IsAlive net.nodes n) × (has (node_at net.nodes n) nodes ≡ true)
   known_node n h =
       let (a, listed, at, inside) = (numbers n).0 h in
-      (inside, subst (λ x. has x nodes ≡ true) (sym (at_place net.nodes.keys a (subst (λ k. k < node_total net) at inside)) ∙ ap (node_at net.nodes.keys) (sym at)) listed)
+      let low : place_of net.nodes a < node_total net = subst (λ k. k < node_total net) at inside in
+      (subst (IsAlive net.nodes) (sym at) (alive_place net.nodes a low), subst (λ x. has x nodes ≡ true) (sym (at_place net.nodes a low) ∙ ap (node_at net.nodes) (sym at)) listed)
 
   -- one that isn't marked is on no cycle
-  unmarked : (j : ℕ) → j < length walk → get_or walk j 0 < node_total net → get_or marks j false ≡ false → OnCycle (links_in net) (node_at net.nodes.keys (get_or walk j 0)) → ⊥
-  unmarked j inside low mark cycle =
-      let at : place_of net.nodes.keys (node_at net.nodes.keys (get_or walk j 0)) ≡ get_or walk j 0 = place_at net.nodes.keys (get_or walk j 0) net.once low in
+  unmarked : (j : ℕ) → j < length walk → IsAlive net.nodes (get_or walk j 0) → get_or marks j false ≡ false → OnCycle (links_in net) (node_at net.nodes (get_or walk j 0)) → ⊥
+  unmarked j inside alive mark cycle =
+      let at : place_of net.nodes (node_at net.nodes (get_or walk j 0)) ≡ get_or walk j 0 = alive_number net.nodes (get_or walk j 0) alive in
       let led : LeadsTo (targets_of net) (get_or walk j 0) (get_or walk j 0)
-      = subst (λ n. LeadsTo (targets_of net) n n) at (chain_leads net cycle (subst (λ n. n < node_total net) (sym at) low)) in
+      = subst (λ n. LeadsTo (targets_of net) n n) at (chain_leads net cycle (subst (λ n. n < node_total net) (sym at) (alive_inside net.nodes (get_or walk j 0) alive))) in
       false≢true (sym mark ∙ (cycles j inside).1 led)
 
   only : (a : Node) → has a order ≡ true → (has a nodes ≡ true) × ¬ OnCycle (links_in net) a
   only a h = ⊎_elim
       (λ (out : has a unknown ≡ true). let (listed, past) = (rest.0 a).0 out in (listed, λ cycle. absurd (omega (arith, past, (chain_back net cycle).0))))
-      (λ (inside : has a (map (node_at net.nodes.keys) (picks known walk marks)) ≡ true).
-      let (n, there, same) = map_has (node_at net.nodes.keys) (picks known walk marks) a inside in
+      (λ (inside : has a (map (node_at net.nodes) (picks known walk marks)) ≡ true).
+      let (n, there, same) = map_has (node_at net.nodes) (picks known walk marks) a inside in
       let (k, (j, j_in, at, mark)) = picks_has known walk marks n there in
-      let (low, listed) = known_node n k in (
+      let (alive, listed) = known_node n k in (
         subst (λ x. has x nodes ≡ true) same listed,
-        λ cycle. unmarked j j_in (subst (λ m. m < node_total net) (sym at) low) mark (subst (λ x. OnCycle (links_in net) x) (sym same ∙ ap (node_at net.nodes.keys) (sym at)) cycle),
+        λ cycle. unmarked j j_in (subst (IsAlive net.nodes) (sym at) alive) mark (subst (λ x. OnCycle (links_in net) x) (sym same ∙ ap (node_at net.nodes) (sym at)) cycle),
       ))
-      (has-append_cases a unknown (map (node_at net.nodes.keys) (picks known walk marks)) (subst (λ l. has a l ≡ true) is h))
+      (has-append_cases a unknown (map (node_at net.nodes) (picks known walk marks)) (subst (λ l. has a l ≡ true) is h))
 
   every : (a : Node) → has a nodes ≡ true → ¬ OnCycle (links_in net) a → has a order ≡ true
   every a listed apart = subst (λ l. has a l ≡ true) (sym is) (⊎_elim
-      (λ (inside : place_of net.nodes.keys a < node_total net).
-      let k : plain.has (place_of net.nodes.keys a) known ≡ true = (numbers (place_of net.nodes.keys a)).1 (a, listed, refl, inside) in
-      let (j, j_in, at) = lists.at_has (place_of net.nodes.keys a) walk ((walked.0 (place_of net.nodes.keys a)).1 (inl k)) in
+      (λ (inside : place_of net.nodes a < node_total net).
+      let k : plain.has (place_of net.nodes a) known ≡ true = (numbers (place_of net.nodes a)).1 (a, listed, refl, inside) in
+      let (j, j_in, at) = lists.at_has (place_of net.nodes a) walk ((walked.0 (place_of net.nodes a)).1 (inl k)) in
       let mark : get_or marks j false ≡ false = ⊎_elim
-      (λ (marked : get_or marks j false ≡ true). absurd (apart (subst (λ x. OnCycle (links_in net) x) (ap (node_at net.nodes.keys) at ∙ at_place net.nodes.keys a inside)
-      (leads_chain net (get_or walk j 0) (get_or walk j 0) (subst (λ n. n < node_total net) (sym at) inside) (subst (λ n. n < node_total net) (sym at) inside) ((cycles j j_in).0 marked)))))
+      (λ (marked : get_or marks j false ≡ true). absurd (apart (subst (λ x. OnCycle (links_in net) x) (ap (node_at net.nodes) at ∙ at_place net.nodes a inside)
+      (leads_chain net (get_or walk j 0) (get_or walk j 0) (subst (IsAlive net.nodes) (sym at) (alive_place net.nodes a inside)) (subst (λ n. n < node_total net) (sym at) inside) ((cycles j j_in).0 marked)))))
       (λ (out : get_or marks j false ≡ false). out)
       (cases_true (get_or marks j false)) in
-      has-append_right a unknown (map (node_at net.nodes.keys) (picks known walk marks))
-      (subst (λ x. has x (map (node_at net.nodes.keys) (picks known walk marks)) ≡ true) (ap (node_at net.nodes.keys) at ∙ at_place net.nodes.keys a inside)
-      (has_map (node_at net.nodes.keys) (picks known walk marks) (get_or walk j 0) (has_picks known walk marks j count j_in (subst (λ n. plain.has n known ≡ true) (sym at) k) mark))))
-      (λ (past : node_total net ≤ place_of net.nodes.keys a). has-append_left a unknown (map (node_at net.nodes.keys) (picks known walk marks)) ((rest.0 a).1 (listed, past)))
-      (cases_lt (place_of net.nodes.keys a) (node_total net)))
+      has-append_right a unknown (map (node_at net.nodes) (picks known walk marks))
+      (subst (λ x. has x (map (node_at net.nodes) (picks known walk marks)) ≡ true) (ap (node_at net.nodes) at ∙ at_place net.nodes a inside)
+      (has_map (node_at net.nodes) (picks known walk marks) (get_or walk j 0) (has_picks known walk marks j count j_in (subst (λ n. plain.has n known ≡ true) (sym at) k) mark))))
+      (λ (past : node_total net ≤ place_of net.nodes a). has-append_left a unknown (map (node_at net.nodes) (picks known walk marks)) ((rest.0 a).1 (listed, past)))
+      (cases_lt (place_of net.nodes a) (node_total net)))
 
   once : IsOnce order
-  once = subst IsOnce (sym is) (once-append unknown (map (node_at net.nodes.keys) (picks known walk marks)) rest.1
-      (once_map net.nodes.keys (picks known walk marks) net.once (picks_once known walk marks walked.1) (λ n there. (known_node n (picks_has known walk marks n there).0).0))
+  once = subst IsOnce (sym is) (once-append unknown (map (node_at net.nodes) (picks known walk marks)) rest.1
+      (once_map net.nodes (picks known walk marks) (picks_once known walk marks walked.1) (λ n there. (known_node n (picks_has known walk marks n there).0).0))
       (λ a out inside.
-      let (n, there, same) = map_has (node_at net.nodes.keys) (picks known walk marks) a inside in
-      let low : n < node_total net = (known_node n (picks_has known walk marks n there).0).0 in
-      absurd (omega (arith, place_is net.nodes.keys a n net.once low same, low, ((rest.0 a).0 out).1))))
+      let (n, there, same) = map_has (node_at net.nodes) (picks known walk marks) a inside in
+      let alive : IsAlive net.nodes n = (known_node n (picks_has known walk marks n there).0).0 in
+      absurd (omega (arith, place_is net.nodes a n alive same, alive_inside net.nodes n alive, ((rest.0 a).0 out).1))))
 
   -- of two picked numbers of which the first leads to the second, the second is picked later in the walk than the first
   module _ (front back : List ℕ) (n m : ℕ) (split : picks known walk marks ≡ front ++ n ∷ back) (there : plain.has m (picks known walk marks) ≡ true) (led : LeadsTo (targets_of net) m n) where
@@ -155,43 +157,47 @@ module _ (net : Net) (nodes unknown order : List Node) (known walk : List ℕ) (
   sorted front back a b split there chain = ⊎_elim
       (λ (early : (others : List Node) × (unknown ≡ front ++ a ∷ others)).
       absurd (omega (arith, (chain_back net chain).0, ((rest.0 a).0 (subst (λ l. has a l ≡ true) (sym early.1) (has_middle front early.0 a))).1)))
-      (λ (late : (more : List Node) × (front ≡ unknown ++ more) × (map (node_at net.nodes.keys) (picks known walk marks) ≡ more ++ a ∷ back)).
+      (λ (late : (more : List Node) × (front ≡ unknown ++ more) × (map (node_at net.nodes) (picks known walk marks) ≡ more ++ a ∷ back)).
       subst (λ l. has b l ≡ true) (sym late.1) (⊎_elim
       (λ (out : has b unknown ≡ true). has-append_left b unknown late.0 out)
-      (λ (inside : has b (map (node_at net.nodes.keys) (picks known walk marks)) ≡ true).
-      let (low, high, n, parts, fronts, n_is) = map_split (node_at net.nodes.keys) (picks known walk marks) late.0 back a late.2 in
-      let (m, m_in, m_is) = map_has (node_at net.nodes.keys) (picks known walk marks) b inside in
-      let n_low : n < node_total net = (known_node n (picks_has known walk marks n (subst (λ l. plain.has n l ≡ true) (sym parts) (lists.has-append_right n low (n ∷ high) (lists.has_first n high)))).0).0 in
-      let m_low : m < node_total net = (known_node m (picks_has known walk marks m m_in).0).0 in
-      let n_at : place_of net.nodes.keys a ≡ n = place_is net.nodes.keys a n net.once n_low n_is in
-      let m_at : place_of net.nodes.keys b ≡ m = place_is net.nodes.keys b m net.once m_low m_is in
+      (λ (inside : has b (map (node_at net.nodes) (picks known walk marks)) ≡ true).
+      let (low, high, n, parts, fronts, n_is) = map_split (node_at net.nodes) (picks known walk marks) late.0 back a late.2 in
+      let (m, m_in, m_is) = map_has (node_at net.nodes) (picks known walk marks) b inside in
+      let n_alive : IsAlive net.nodes n = (known_node n (picks_has known walk marks n (subst (λ l. plain.has n l ≡ true) (sym parts) (lists.has-append_right n low (n ∷ high) (lists.has_first n high)))).0).0 in
+      let m_alive : IsAlive net.nodes m = (known_node m (picks_has known walk marks m m_in).0).0 in
+      let n_at : place_of net.nodes a ≡ n = place_is net.nodes a n n_alive n_is in
+      let m_at : place_of net.nodes b ≡ m = place_is net.nodes b m m_alive m_is in
       let led : LeadsTo (targets_of net) m n
-      = subst (λ x. LeadsTo (targets_of net) x n) m_at (subst (λ x. LeadsTo (targets_of net) (place_of net.nodes.keys b) x) n_at (chain_leads net chain (subst (λ x. x < node_total net) (sym m_at) m_low))) in
-      has-append_right b unknown late.0 (subst (λ l. has b l ≡ true) fronts (subst (λ x. has x (map (node_at net.nodes.keys) low) ≡ true) m_is (has_map (node_at net.nodes.keys) low m (before low high n m parts m_in led)))))
-      (has-append_cases b unknown (map (node_at net.nodes.keys) (picks known walk marks)) (subst (λ l. has b l ≡ true) is there))))
-      (node_split unknown (map (node_at net.nodes.keys) (picks known walk marks)) front back a (sym is ∙ split))
+      = subst (λ x. LeadsTo (targets_of net) x n) m_at (subst (λ x. LeadsTo (targets_of net) (place_of net.nodes b) x) n_at (chain_leads net chain (subst (λ x. x < node_total net) (sym m_at) (alive_inside net.nodes m m_alive)))) in
+      has-append_right b unknown late.0 (subst (λ l. has b l ≡ true) fronts (subst (λ x. has x (map (node_at net.nodes) low) ≡ true) m_is (has_map (node_at net.nodes) low m (before low high n m parts m_in led)))))
+      (has-append_cases b unknown (map (node_at net.nodes) (picks known walk marks)) (subst (λ l. has b l ≡ true) is there))))
+      (node_split unknown (map (node_at net.nodes) (picks known walk marks)) front back a (sym is ∙ split))
 
   pub all_ordered : IsOrdered (links_in net) nodes order
   all_ordered = record { which = λ a. (only a, λ h. every a h.0 h.1); once = once; in_order = sorted }
 
 -- ---- one node on a cycle
 
-pub cycle_of : (net : Net) (a : Node) (number : ℕ) (walk : List ℕ) (marks : List Bool) (flag : Bool) → number ≡ place_of net.nodes.keys a → number < node_total net
+pub cycle_of : (net : Net) (a : Node) (number : ℕ) (walk : List ℕ) (marks : List Bool) (flag : Bool) → number ≡ place_of net.nodes a → number < node_total net
     → arrows.AreReached (targets_of net) (number ∷ []) walk → arrows.CyclesAre (targets_of net) walk marks → ((i : ℕ) → i < length walk → get_or walk i 0 ≡ number → flag ≡ get_or marks i false)
     → (flag ≡ true) ↔ OnCycle (links_in net) a
 cycle_of net a number walk marks flag at low walked cycles told =
     let (j, j_in, j_at) = lists.at_has number walk ((walked.0 number).1 (inl (lists.has_first number []))) in
-    let node : node_at net.nodes.keys number ≡ a = ap (node_at net.nodes.keys) at ∙ at_place net.nodes.keys a (subst (λ n. n < node_total net) at low) in (
+    let node : node_at net.nodes number ≡ a = ap (node_at net.nodes) at ∙ at_place net.nodes a (subst (λ n. n < node_total net) at low) in (
       λ h.
           let led : LeadsTo (targets_of net) number number = subst (λ n. LeadsTo (targets_of net) n n) j_at ((cycles j j_in).0 (sym (told j j_in j_at) ∙ h)) in
-          subst (λ x. OnCycle (links_in net) x) node (leads_chain net number number low low led),
+          subst (λ x. OnCycle (links_in net) x) node (leads_chain net number number (subst (IsAlive net.nodes) (sym at) (alive_place net.nodes a (subst (λ n. n < node_total net) at low))) low led),
       λ cycle.
           let led : LeadsTo (targets_of net) number number = subst (λ n. LeadsTo (targets_of net) n n) (sym at) (chain_leads net cycle (subst (λ n. n < node_total net) at low)) in
           told j j_in j_at ∙ (cycles j j_in).1 (subst (λ n. LeadsTo (targets_of net) n n) (sym j_at) led),
     )
 
-pub no_cycle : (net : Net) (a : Node) → node_total net ≤ place_of net.nodes.keys a → (false ≡ true) ↔ OnCycle (links_in net) a
+pub no_cycle : (net : Net) (a : Node) → node_total net ≤ place_of net.nodes a → (false ≡ true) ↔ OnCycle (links_in net) a
 no_cycle net a past = (λ h. absurd (false≢true h), λ cycle. absurd (omega (arith, past, (chain_back net cycle).0)))
 
 pub known_inside_total : (net : Net) (nodes : List Node) (known : List ℕ) → AreKnown net nodes known → (n : ℕ) → plain.has n known ≡ true → n < total net
 known_inside_total net nodes known numbers n h = let (a, listed, at, inside) = (numbers n).0 h in omega (arith, inside)
+
+-- a known number has a node
+pub known_alive : (net : Net) (nodes : List Node) (known : List ℕ) → AreKnown net nodes known → (n : ℕ) → plain.has n known ≡ true → IsAlive net.nodes n
+known_alive net nodes known numbers n h = let (a, listed, at, inside) = (numbers n).0 h in subst (IsAlive net.nodes) (sym at) (alive_place net.nodes a (subst (λ k. k < node_total net) at inside))

@@ -1,19 +1,16 @@
--- Lists of nodes: what they have, and where it stands. Serves the numbers of nodes.
-use Rattle.std.proofs.Common.{◌≡◌, ◌≢◌, ◌∙◌, sym, ap, refl, subst, arith, ℕ, zero, suc, ◌+◌, ◌<◌, ◌≤◌, inl, inr, ◌⊎◌, ⊎_elim, Bool, true, false, cond, not, List, [], ◌∷◌, ◌++◌, map, length, get_or, nat_eq}
+-- Lists of nodes: what they have, and where it stands. Serves all that speaks of lists of nodes.
+use Rattle.std.proofs.Common.{◌≡◌, ◌≢◌, ◌∙◌, sym, refl, subst, arith, ℕ, zero, suc, ◌<◌, inl, inr, ◌⊎◌, ⊎_elim, Bool, true, false, List, [], ◌∷◌, ◌++◌, map, length, get_or, nat_eq}
 use Rattle.std.specs.Bool.{Decides}
-use Rattle.std.proofs.lemmas.Bool.{cases_lt, or_cases, or_left, or_right, false≢true}
-use Rattle.std.proofs.lemmas.List.{get_or_past}
+use Rattle.std.proofs.lemmas.Bool.{or_cases, or_left, or_right, false≢true}
 use Rattle.std.proofs.lemmas.List.Folds.{list_any-append, list_any_at}
-use Rattle.std.proofs.lemmas.List.Sums.{fails_before_first, passes_at_first, position_or_len_is}
-use Rattle.cell_addr.specs.declared.place.Place.{Place}
+use Rattle.std.specs.List.{IsDistinct}
+use Rattle.std.proofs.lemmas.Map.Made.{AllPairs-from_IsDistinct}
 use Rattle.needs_order.specs.Needs as plain
 use Rattle.needs_order.proofs.Lists as lists
-use Rattle.dep_graph.specs.Nodes.{covers_node, has, same_node}
+use Rattle.dep_graph.specs.Nodes.{has, same_node}
 use Rattle.dep_graph.specs.Walks.{IsOnce}
 use Rattle.dep_graph.specs.declared.node.Node.{Node}
-use Rattle.dep_graph.specs.declared.node.Node.TheVariants.{Cell, Name}
 use Rattle.dep_graph.specs.internal.Hashed.{own_node, same_nodes}
-use Rattle.dep_graph.specs.internal.Numbers.{node_at, place_of}
 
 -- ---- the test of nodes
 
@@ -82,64 +79,7 @@ map_has f (k ∷ ns) a h = ⊎_elim
     (λ (later : has a (map f ns) ≡ true). let (n, there, is) = map_has f ns a later in (n, or_right (nat_eq k n) (plain.has n ns) there, is))
     (has_cases a (f k) (map f ns) h)
 
--- ---- numbers of nodes
+-- ---- nodes of sets
 
-pub stands_at : (keys : List Node) (a d : Node) → place_of keys a < length keys → get_or keys (place_of keys a) d ≡ a
-stands_at keys a d inside = sym (same_nodes a (get_or keys (place_of keys a) d) (passes_at_first (same_node a) keys d inside))
-
-pub at_place : (keys : List Node) (a : Node) → place_of keys a < length keys → node_at keys (place_of keys a) ≡ a
-at_place keys a inside = stands_at keys a (Name 0 0) inside
-
-pub place_inside : (keys : List Node) (a : Node) → has a keys ≡ true → place_of keys a < length keys
-place_inside keys a h =
-    let (m, inside, is) = at_has a keys (Name 0 0) h in
-    ⊎_elim
-    (λ (low : place_of keys a < length keys). low)
-    (λ (past : length keys ≤ place_of keys a).
-    absurd (false≢true (sym (fails_before_first (same_node a) keys m (Name 0 0) (omega (arith, inside, past))) ∙ subst (λ x. same_node a x ≡ true) (sym is) (own_node a))))
-    (cases_lt (place_of keys a) (length keys))
-
-pub inside_place : (keys : List Node) (a : Node) → place_of keys a < length keys → has a keys ≡ true
-inside_place keys a inside = subst (λ x. has x keys ≡ true) (at_place keys a inside) (has_at keys (place_of keys a) (Name 0 0) inside)
-
-pub place_at : (keys : List Node) (i : ℕ) → IsOnce keys → i < length keys → place_of keys (node_at keys i) ≡ i
-place_at keys i once inside = position_or_len_is (same_node (node_at keys i)) keys i (Name 0 0) (omega (arith, inside))
-    (λ k before. other_node (node_at keys i) (node_at keys k) (λ same. once k i (Name 0 0) before inside (sym same)))
-    (λ _. own_node (node_at keys i))
-
-pub place_is : (keys : List Node) (a : Node) (i : ℕ) → IsOnce keys → i < length keys → node_at keys i ≡ a → place_of keys a ≡ i
-place_is keys a i once inside is = subst (λ x. place_of keys x ≡ i) is (place_at keys i once inside)
-
--- a node that covers a cell has a number
-pub covering_inside : (keys : List Node) (n : ℕ) (p : Place) → covers_node (node_at keys n) (Cell p) ≡ true → n < length keys
-covering_inside keys n p h = ⊎_elim
-    (λ (inside : n < length keys). inside)
-    (λ (past : length keys ≤ n). absurd (false≢true (subst (λ x. covers_node x (Cell p) ≡ true) (get_or_past keys n (Name 0 0) past) h)))
-    (cases_lt n (length keys))
-
--- the number of a node where others were added behind
-pub place-more : (keys more : List Node) (a : Node) → place_of keys a < length keys → place_of (keys ++ more) a ≡ place_of keys a
-place-more [] more a inside = absurd (omega (arith, inside))
-place-more (k ∷ keys) more a inside = by (same_node a k) (λ low. place-more keys more a low) inside
-  where
-    by : (t : Bool) → (place_of keys a < length keys → place_of (keys ++ more) a ≡ place_of keys a) → cond (not t) (1 + place_of keys a) 0 < suc (length keys)
-        → cond (not t) (1 + place_of (keys ++ more) a) 0 ≡ cond (not t) (1 + place_of keys a) 0
-    by true rest low = refl
-    by false rest low = ap (λ n. 1 + n) (rest (omega (arith, low)))
-
-pub place-behind : (keys more : List Node) (a : Node) → length keys ≤ place_of keys a → length keys ≤ place_of (keys ++ more) a
-place-behind [] more a past = omega arith
-place-behind (k ∷ keys) more a past = by (same_node a k) (λ low. place-behind keys more a low) past
-  where
-    by : (t : Bool) → (length keys ≤ place_of keys a → length keys ≤ place_of (keys ++ more) a) → suc (length keys) ≤ cond (not t) (1 + place_of keys a) 0
-        → suc (length keys) ≤ cond (not t) (1 + place_of (keys ++ more) a) 0
-    by true rest low = absurd (omega (arith, low))
-    by false rest low = let later : length keys ≤ place_of (keys ++ more) a = rest (omega (arith, low)) in omega (arith, later)
-
-pub place_within : (keys : List Node) (a : Node) → place_of keys a ≤ length keys
-place_within [] a = omega arith
-place_within (k ∷ keys) a = by (same_node a k) (place_within keys a)
-  where
-    by : (t : Bool) → place_of keys a ≤ length keys → cond (not t) (1 + place_of keys a) 0 ≤ suc (length keys)
-    by true rest = omega arith
-    by false rest = omega (arith, rest)
+pub once_nodes : (keys : List Node) → IsDistinct same_node keys → IsOnce keys
+once_nodes keys distinct = AllPairs-from_IsDistinct decides_nodes keys distinct

@@ -1,164 +1,158 @@
--- Links that an operation moves, one number after another. Serves the shift of the graph.
-use Rattle.std.proofs.Common.{◌≡◌, ◌≢◌, ◌∙◌, sym, ap, refl, subst, arith, ℕ, ◌+◌, ◌<◌, ◌≤◌, inl, inr, ⊎_elim, true, cond, List, [], ◌∷◌, ◌++◌, map, length, append_assoc, take, get_or, Option, Some, None, IsTrue, ◌↔◌}
-use Rattle.std.specs.List.{cons_option, filter_map}
-use Rattle.std.specs.Option.{option_to_list}
-use Rattle.std.proofs.lemmas.Bool.{cases_lt, false≢true}
-use Rattle.std.proofs.lemmas.List.{take_more}
+-- Links that a structural operation moves: those between the targets of numbers. Serves the shift of the graph.
+use Rattle.std.proofs.Common.{◌≡◌, ◌∙◌, sym, ap, refl, subst, ℕ, ◌<◌, true, List, map, Option, Some, None, IsTrue}
+use Rattle.std.specs.Prelude.{IsSome}
+use Rattle.std.specs.Option.{option_and_then, option_map}
+use Rattle.std.specs.declared.alloc.Global.{Global}
+use Rattle.std.specs.declared.vec.Vec.{Vec}
 use Rattle.std.proofs.lemmas.Option.{same_Some}
-use Rattle.block_index.proofs.Tests.{filter_map_more}
+use Rattle.cell_addr.specs.declared.place.Block.{Block}
 use Rattle.needs_order.specs.Needs as plain
-use Rattle.needs_order.proofs.Lists as lists
 use Rattle.node_links.specs.Nodes.{needs_of}
+use Rattle.node_links.specs.Redirect.{AreRedirected, target_of}
+use Rattle.node_links.specs.declared.links.Links.{Links}
+use Rattle.place_lines.specs.declared.lines.PlaceLines.{PlaceLines}
 use Rattle.shift_core.specs.declared.shift.Shift.{Shift}
-use Rattle.dep_graph.specs.Graph.{AreLinked}
-use Rattle.dep_graph.specs.Needs.{Links}
-use Rattle.dep_graph.specs.Nodes.{has, same_node}
+use Rattle.dep_graph.specs.Graph.{AreSame}
+use Rattle.dep_graph.specs.Needs as needs
+use Rattle.dep_graph.specs.Nodes.{has}
 use Rattle.dep_graph.specs.Shifted.{AreShifted, node_after}
 use Rattle.dep_graph.specs.declared.net.Net.{Net}
 use Rattle.dep_graph.specs.declared.node.Node.{Node}
-use Rattle.dep_graph.specs.internal.Hashed.{own_node}
-use Rattle.dep_graph.specs.internal.Nets.{links_in}
-use Rattle.dep_graph.specs.internal.Numbers.{node_at, place_of}
-use Rattle.dep_graph.specs.internal.ShiftedNumbers.{AddsMoved, AllStay, moved_needs}
-use Rattle.dep_graph.proofs.Growing.{no_needs}
-use Rattle.dep_graph.proofs.Places.{at_place, cases_node, has-append_cases, has-append_left, has-append_right, has_at, has_cases, has_first, has_later, has_map, has_one, inside_place, other_node, place_at}
+use Rattle.dep_graph.specs.declared.node.Node.TheVariants.{Range}
+use Rattle.dep_graph.specs.declared.table.NodeTable.{NodeTable}
+use Rattle.dep_graph.specs.internal.Files.{HoldsBlock}
+use Rattle.dep_graph.specs.internal.Filings.{filing_of}
+use Rattle.dep_graph.specs.internal.Keys.{key_of}
+use Rattle.dep_graph.specs.internal.Nets.{Grows, links_in}
+use Rattle.dep_graph.specs.internal.Numbers.{IsAlive, found_at, is_range, key_place, linked, node_at, place_of}
+use Rattle.dep_graph.specs.internal.ShiftedNumbers.{AreFilingsUnder, AreRefiled, AreTargets, after_at, is_linked}
+use Rattle.dep_graph.proofs.Growing.{grown_links}
+use Rattle.dep_graph.proofs.Numbers.{alive_is, alive_number, at_place, found_place, key_found, place_found}
+use Rattle.dep_graph.proofs.Places.{has_map, map_has}
+use Rattle.dep_graph.proofs.Refiling.{target_stands}
+use Rattle.dep_graph.proofs.Targets.{linked_alive, needing_linked, used_by, used_linked}
 use Rattle.dep_graph.proofs.Walking.{link_user}
 
--- ---- lists of what some numbers have become
+-- the same keys by other lines
+abbrev pub by_lines : PlaceLines → NodeTable → NodeTable
+by_lines lines t = record { lines = lines; keys = t.keys; once = t.once; narrow = t.narrow }
 
-pub came_from : (f : ℕ → Option Node) (ns : List ℕ) (b : Node) → has b (filter_map f ns) ≡ true → (m : ℕ) × (plain.has m ns ≡ true) × (f m ≡ Some b)
-came_from f [] b h = absurd (false≢true h)
-came_from f (n ∷ ns) b h = by (f n) refl (λ later. came_from f ns b later) h
-  where
-    by : (o : Option Node) → f n ≡ o → (has b (filter_map f ns) ≡ true → (m : ℕ) × (plain.has m ns ≡ true) × (f m ≡ Some b)) → has b (cons_option o (filter_map f ns)) ≡ true
-        → (m : ℕ) × (plain.has m (n ∷ ns) ≡ true) × (f m ≡ Some b)
-    by None e rest there = let (m, listed, is) = rest there in (m, lists.has-append_right m (n ∷ []) ns listed, is)
-    by (Some x) e rest there = ⊎_elim
-        (λ (same : b ≡ x). (n, lists.has_first n ns, e ∙ ap Some (sym same)))
-        (λ (later : has b (filter_map f ns) ≡ true). let (m, listed, is) = rest later in (m, lists.has-append_right m (n ∷ []) ns listed, is))
-        (has_cases b x (filter_map f ns) there)
+moves_to : (f : Node → Option Node) (x : Option Node) (y : Node) → x ≡ Some y → option_and_then f x ≡ f y
+moves_to f x y e = ap (option_and_then f) e
 
-pub goes_to : (f : ℕ → Option Node) (ns : List ℕ) (m : ℕ) (b : Node) → plain.has m ns ≡ true → f m ≡ Some b → has b (filter_map f ns) ≡ true
-goes_to f [] m b h is = absurd (false≢true h)
-goes_to f (n ∷ ns) m b h is = ⊎_elim
-    (λ (same : n ≡ m). subst (λ o. has b (cons_option o (filter_map f ns)) ≡ true) (sym (ap f same ∙ is)) (has_first b (filter_map f ns)))
-    (λ (later : plain.has m ns ≡ true). behind (f n) (goes_to f ns m b later is))
-    (lists.has_cases m n ns h)
-  where
-    behind : (o : Option Node) → has b (filter_map f ns) ≡ true → has b (cons_option o (filter_map f ns)) ≡ true
-    behind None there = there
-    behind (Some x) there = has_later b x (filter_map f ns) there
+module _ (s : Shift) (lines : PlaceLines) (net : Net) (targets : List (Option ℕ)) (are : AreTargets s lines net targets) where
+  -- the table after the operation
+  abbrev after : NodeTable
+  after = by_lines lines net.nodes
 
-pub moved_next : (f : ℕ → Option Node) (ns items : List ℕ) (i : ℕ) (before old new : List Node) (o : Option Node) → items ≡ ns → i < length items → old ≡ before ++ filter_map f (take i ns) → o ≡ f (get_or items i 0) → new ≡ old ++ option_to_list o
-    → new ≡ before ++ filter_map f (take (i + 1) ns)
-moved_next f ns items i before old new o same inside was is added =
-    let one_more : filter_map f (take (i + 1) ns) ≡ filter_map f (take i ns) ++ option_to_list (f (get_or ns i 0)) = filter_map_more f ns i 0 (subst (λ l. i < length l) same inside) in
-    added ∙ (ap (λ l. l ++ option_to_list o) was
-    ∙ (append_assoc before (filter_map f (take i ns)) (option_to_list o)
-    ∙ ap (λ l. before ++ l) (ap (λ y. filter_map f (take i ns) ++ option_to_list y) (is ∙ ap (λ l. f (get_or l i 0)) same) ∙ sym one_more)))
-
--- ---- the links of one number more
-
-module _ (s : Shift) (net : Net) where
-  -- exactly the moved links of the first numbers
-  abbrev pub AreShiftedUpTo : ℕ → Links → Type 0
-  AreShiftedUpTo i links =
-      (a b : Node) → IsTrue (has b (links a)) ↔ ((n : ℕ) × (n < i) × (node_after s (node_at net.nodes.keys n) ≡ Some a) × IsTrue (has b (moved_needs s net n)))
-
-  pub next_shifted : (i : ℕ) (old new : Links) → AreShiftedUpTo i old → AddsMoved s net i old new → AreShiftedUpTo (i + 1) new
-  next_shifted i old new before adds a b = (
-    λ h. ⊎_elim
-        (λ (was : has b (old a) ≡ true). let (n, low, is, moved) = (before a b).0 was in (n, omega (arith, low), is, moved))
-        (λ (now : (node_after s (node_at net.nodes.keys i) ≡ Some a) × IsTrue (has b (moved_needs s net i))). (i, omega arith, now.0, now.1))
-        ((adds a b).0 h),
-    λ (from : (n : ℕ) × (n < i + 1) × (node_after s (node_at net.nodes.keys n) ≡ Some a) × IsTrue (has b (moved_needs s net n))). ⊎_elim
-        (λ (low : from.0 < i). (adds a b).1 (inl ((before a b).1 (from.0, low, from.2, from.3))))
-        (λ (high : i ≤ from.0).
-        let here : from.0 ≡ i = omega (arith, high, from.1) in
-        (adds a b).1 (inr (subst (λ n. node_after s (node_at net.nodes.keys n) ≡ Some a) here from.2, subst (λ n. has b (moved_needs s net n) ≡ true) here from.3)))
-        (cases_lt from.0 i),
-  )
-
-  -- a number with needs is that of a node
-  needing_inside : (n m : ℕ) → plain.has m (needs_of net.links n) ≡ true → n < length net.nodes.keys
-  needing_inside n m listed = ⊎_elim
-      (λ (inside : n < length net.nodes.keys). inside)
-      (λ (past : length net.nodes.keys ≤ n). absurd (false≢true (subst (λ l. plain.has m l ≡ true) (no_needs net.links n (subst (λ k. k ≤ n) (sym net.counts) past)) listed)))
-      (cases_lt n (length net.nodes.keys))
-
-  pub all_shifted : (i : ℕ) (links : Links) → length net.nodes.keys ≤ i → AreShiftedUpTo i links → AreShifted s (links_in net) links
-  all_shifted i links past shifted a b = (
-    λ h.
-        let (n, low, is, moved) = (shifted a b).0 h in
-        let (m, listed, goes) = came_from (λ k. node_after s (node_at net.nodes.keys k)) (needs_of net.links n) b moved in
-        let at : place_of net.nodes.keys (node_at net.nodes.keys n) ≡ n = place_at net.nodes.keys n net.once (needing_inside n m listed) in (
-          node_at net.nodes.keys n,
-          node_at net.nodes.keys m,
-          subst (λ k. has (node_at net.nodes.keys m) (map (node_at net.nodes.keys) (needs_of net.links k)) ≡ true) (sym at) (has_map (node_at net.nodes.keys) (needs_of net.links n) m listed),
-          is,
-          goes,
-        ),
-    λ (link : (x : Node) × (y : Node) × IsTrue (has y (links_in net x)) × (node_after s x ≡ Some a) × (node_after s y ≡ Some b)).
-        let (x_in, y_in, listed) = link_user net link.0 link.1 link.2 in
-        (shifted a b).1 (
-          place_of net.nodes.keys link.0,
-          omega (arith, x_in, past),
-          ap (node_after s) (at_place net.nodes.keys link.0 x_in) ∙ link.3,
-          goes_to (λ k. node_after s (node_at net.nodes.keys k)) (needs_of net.links (place_of net.nodes.keys link.0)) (place_of net.nodes.keys link.1) b listed (ap (node_after s) (at_place net.nodes.keys link.1 y_in) ∙ link.4),
-        ),
-  )
-
-  -- a node that stands somewhere adds its needs to what is linked there
-  pub adds_needs : (n : ℕ) (after : Node) (needs : List Node) (old new : Links) → node_after s (node_at net.nodes.keys n) ≡ Some after → needs ≡ old after ++ moved_needs s net n → AreLinked after needs old new → AddsMoved s net n old new
-  adds_needs n after needs old new stands are linked a b = (
-    λ h. ⊎_elim
-        (λ (same : a ≡ after). ⊎_elim
-        (λ (was : has b (old after) ≡ true). inl (subst (λ x. has b (old x) ≡ true) (sym same) was))
-        (λ (now : has b (moved_needs s net n) ≡ true). inr (stands ∙ ap Some (sym same), now))
-        (has-append_cases b (old after) (moved_needs s net n) (subst (λ l. has b l ≡ true) (here a same) h)))
-        (λ (other : a ≢ after). inl (subst (λ l. has b l ≡ true) (there a other) h))
-        (cases_node a after),
-    λ either. ⊎_elim
-        (λ (same : a ≡ after). subst (λ l. has b l ≡ true) (sym (here a same)) (⊎_elim
-        (λ (was : has b (old a) ≡ true). has-append_left b (old after) (moved_needs s net n) (subst (λ x. has b (old x) ≡ true) same was))
-        (λ (now : (node_after s (node_at net.nodes.keys n) ≡ Some a) × IsTrue (has b (moved_needs s net n))). has-append_right b (old after) (moved_needs s net n) now.1)
-        either))
-        (λ (other : a ≢ after). subst (λ l. has b l ≡ true) (sym (there a other)) (⊎_elim
-        (λ (was : has b (old a) ≡ true). was)
-        (λ (now : (node_after s (node_at net.nodes.keys n) ≡ Some a) × IsTrue (has b (moved_needs s net n))). absurd (other (same_Some a after (sym now.0 ∙ stands))))
-        either))
-        (cases_node a after),
-  )
+  -- what the node of a linked number becomes is found at its target
+  pub target_node : (n t : ℕ) → is_linked net n ≡ true → target_of targets n ≡ Some t
+      → (a : Node) × (node_after s (node_at net.nodes n) ≡ Some a) × (found_at after t ≡ Some a)
+  target_node n t has_link target = by (node_after s (node_at net.nodes n)) refl
     where
-      here : (x : Node) → x ≡ after → new x ≡ old after ++ moved_needs s net n
-      here x same = linked x ∙ (ap (λ t. cond t needs (old x)) (subst (λ y. same_node x y ≡ true) same (own_node x)) ∙ are)
+      alive : IsAlive net.nodes n
+      alive = linked_alive net n has_link
 
-      there : (x : Node) → x ≢ after → new x ≡ old x
-      there x other = linked x ∙ ap (λ t. cond t needs (old x)) (other_node x after other)
+      goes : after_at s net n ≡ node_after s (node_at net.nodes n)
+      goes = moves_to (node_after s) (found_at net.nodes n) (node_at net.nodes n) alive
 
--- ---- where no node moves
+      by : (o : Option Node) → node_after s (node_at net.nodes n) ≡ o → (a : Node) × (node_after s (node_at net.nodes n) ≡ Some a) × (found_at after t ≡ Some a)
+      by None e = absurd (none (sym (are.aims n has_link ∙ ap (option_map (λ x. key_place net.nodes (key_of lines x))) (goes ∙ e)) ∙ target))
+        where
+          none : None ≡ Some t → ⊥
+          none e = cc
+      by (Some a) e = (a, e, key_found lines net.nodes.keys.keys t a net.nodes.narrow (target_stands s lines net targets n t a are has_link target (goes ∙ e)))
 
-module _ (s : Shift) (net : Net) (stay : AllStay s net.nodes.keys) where
-  -- a node that has a number is where it was
-  kept : (x : Node) → place_of net.nodes.keys x < length net.nodes.keys → node_after s x ≡ Some x
-  kept x inside = stay x (inside_place net.nodes.keys x inside)
+  -- a linked number whose node stands somewhere after the operation has a target
+  pub node_target : (n : ℕ) (x a : Node) → is_linked net n ≡ true → node_at net.nodes n ≡ x → node_after s x ≡ Some a
+      → (t : ℕ) × (target_of targets n ≡ Some t) × (found_at after t ≡ Some a)
+  node_target n x a has_link is moves =
+      let alive : found_at net.nodes n ≡ Some x = linked_alive net n has_link ∙ ap Some is in
+      let goes : after_at s net n ≡ Some a = moves_to (node_after s) (found_at net.nodes n) x alive ∙ moves in
+      let target : target_of targets n ≡ Some (key_place net.nodes (key_of lines a)) = are.aims n has_link ∙ ap (option_map (λ y. key_place net.nodes (key_of lines y))) goes in (
+        key_place net.nodes (key_of lines a),
+        target,
+        key_found lines net.nodes.keys.keys (key_place net.nodes (key_of lines a)) a net.nodes.narrow
+            (target_stands s lines net targets n (key_place net.nodes (key_of lines a)) a are has_link target goes),
+      )
 
-  pub shifted_where_they_stay : AreShifted s (links_in net) (links_in net)
-  shifted_where_they_stay a b = (
-    λ h. let (a_in, b_in, listed) = link_user net a b h in (a, b, h, kept a a_in, kept b b_in),
-    λ (link : (x : Node) × (y : Node) × IsTrue (has y (links_in net x)) × (node_after s x ≡ Some a) × (node_after s y ≡ Some b)).
-        let (x_in, y_in, listed) = link_user net link.0 link.1 link.2 in
-        let first : link.0 ≡ a = same_Some link.0 a (sym (kept link.0 x_in) ∙ link.3) in
-        let second : link.1 ≡ b = same_Some link.1 b (sym (kept link.1 y_in) ∙ link.4) in
-        subst (λ x. has b (links_in net x) ≡ true) first (subst (λ y. has y (links_in net link.0) ≡ true) second link.2),
-  )
+  module _ (links : Links) (redirected : AreRedirected (target_of targets) (needs_of net.links) (needs_of links)) where
+    -- both ends of a link have nodes
+    pub ends_alive : (a n : ℕ) → plain.has n (needs_of links a) ≡ true → IsAlive after a × IsAlive after n
+    ends_alive a n h =
+        let (k, m, from, there, to) = (redirected a n).0 h in
+        let (x, moves_x, found_x) = target_node k a (needing_linked net k m there) from in
+        let (y, moves_y, found_y) = target_node m n (used_linked net k m there) to in
+        ((alive_is after a x found_x).1, (alive_is after n y found_y).1)
 
--- the nodes gone by stay, and so does this one
-pub stay_next : (s : Shift) (nodes : List Node) (i : ℕ) (d : Node) → i < length nodes → AllStay s (take i nodes) → node_after s (get_or nodes i d) ≡ Some (get_or nodes i d) → AllStay s (take (i + 1) nodes)
-stay_next s nodes i d inside before here a h = ⊎_elim
-    (λ (gone_by : has a (take i nodes) ≡ true). before a gone_by)
-    (λ (now : has a (get_or nodes i d ∷ []) ≡ true). subst (λ x. node_after s x ≡ Some x) (sym (has_one a (get_or nodes i d) now)) here)
-    (has-append_cases a (take i nodes) (get_or nodes i d ∷ []) (subst (λ l. has a l ≡ true) (take_more nodes i d inside) h))
+    -- what has a number and is linked after the operation was moved there, with its link
+    came : (a b : Node) → has b (linked after links a) ≡ true → (x : Node) × (y : Node) × IsTrue (has y (links_in net x)) × (node_after s x ≡ Some a) × (node_after s y ≡ Some b)
+    came a b h =
+        let (u, listed, is) = map_has (node_at after) (needs_of links (place_of after a)) b h in
+        let (n, m, from, there, to) = (redirected (place_of after a) u).0 listed in
+        let (x, moves_x, found_x) = target_node n (place_of after a) (needing_linked net n m there) from in
+        let (y, moves_y, found_y) = target_node m u (used_linked net n m there) to in
+        let first : x ≡ a = same_Some x a (sym found_x ∙ found_place after a (are.inside n (place_of after a) from)) in
+        let second : y ≡ b = sym (alive_is after u y found_y).0 ∙ is in
+        let listed_there : has (node_at net.nodes m) (map (node_at net.nodes) (needs_of net.links n)) ≡ true = has_map (node_at net.nodes) (needs_of net.links n) m there in
+        let number : place_of net.nodes (node_at net.nodes n) ≡ n = alive_number net.nodes n (linked_alive net n (needing_linked net n m there)) in (
+          node_at net.nodes n,
+          node_at net.nodes m,
+          subst (λ k. has (node_at net.nodes m) (map (node_at net.nodes) (needs_of net.links k)) ≡ true) (sym number) listed_there,
+          moves_x ∙ ap Some first,
+          moves_y ∙ ap Some second,
+        )
 
-pub one_stays : (s : Shift) (nodes keys : List Node) (i : ℕ) (d : Node) → nodes ≡ keys → i < length nodes → AllStay s keys → node_after s (get_or nodes i d) ≡ Some (get_or nodes i d)
-one_stays s nodes keys i d same inside all = all (get_or nodes i d) (subst (λ l. has (get_or nodes i d) l ≡ true) same (has_at nodes i d inside))
+    goes : (a b x y : Node) → has y (links_in net x) ≡ true → node_after s x ≡ Some a → node_after s y ≡ Some b → has b (linked after links a) ≡ true
+    goes a b x y h moves_x moves_y =
+        let (x_in, y_in, there) = link_user net x y h in
+        let (t, from, found_t) = node_target (place_of net.nodes x) x a (needing_linked net (place_of net.nodes x) (place_of net.nodes y) there) (at_place net.nodes x x_in) moves_x in
+        let (u, to, found_u) = node_target (place_of net.nodes y) y b (used_linked net (place_of net.nodes x) (place_of net.nodes y) there) (at_place net.nodes y y_in) moves_y in
+        let listed : plain.has u (needs_of links t) ≡ true = (redirected t u).1 (place_of net.nodes x, place_of net.nodes y, from, there, to) in
+        let here : place_of after a ≡ t = place_found after t a found_t in
+        let is : node_at after u ≡ b = (alive_is after u b found_u).0 in
+        subst (λ k. has b (map (node_at after) (needs_of links k)) ≡ true) (sym here)
+        (subst (λ z. has z (map (node_at after) (needs_of links t)) ≡ true) is (has_map (node_at after) (needs_of links t) u listed))
+
+    pub all_shifted : AreShifted s (links_in net) (linked after links)
+    all_shifted a b = (came a b, λ link. goes a b link.0 link.1 link.2 link.3 link.4)
+
+    -- the range that a used one becomes is filed
+    pub used_filed : (current : Vec (Option ℕ) Global) (i : ℕ) → AreRefiled s net targets i current → ((n t : ℕ) → target_of targets n ≡ Some t → n < i) → (a n : ℕ) → plain.has n (needs_of links a) ≡ true
+        → (b : Block) → found_at after n ≡ Some (Range b) → IsSome (filing_of current n)
+    used_filed current i refiled low a n h b range =
+        let (k, m, from, there, to) = (redirected a n).0 h in
+        let linked_m : is_linked net m ≡ true = used_linked net k m there in
+        let (y, moves_y, found_y) = target_node m n linked_m to in
+        let is : y ≡ Range b = same_Some y (Range b) (sym found_y ∙ range) in
+        refiled m n b (low m n to) (used_by net k m there, to, moves_to (node_after s) (found_at net.nodes m) (node_at net.nodes m) (linked_alive net m linked_m) ∙ (moves_y ∙ ap Some is))
+
+-- the filings after the operation are those of ranges
+pub filings_after : (lines : PlaceLines) (net : Net) (current : Vec (Option ℕ) Global) → AreFilingsUnder lines net current → (n f : ℕ) → filing_of current n ≡ Some f
+    → (is_range (found_at (by_lines lines net.nodes) n) ≡ true) × ((b : Block) → found_at (by_lines lines net.nodes) n ≡ Some (Range b) → HoldsBlock lines net.files f b)
+filings_after lines net current under n f e =
+    let (owner, low, range) = under n f e in
+    let (block, stands, holds) = range in
+    let found : found_at (by_lines lines net.nodes) n ≡ Some (Range block) = key_found lines net.nodes.keys.keys n (Range block) net.nodes.narrow stands in
+    (ap is_range found, λ b at. subst (HoldsBlock lines net.files f) (one_range block b (same_Some (Range block) (Range b) (sym found ∙ at))) holds)
+  where
+    one_range : (a b : Block) → Range a ≡ Range b → a ≡ b
+    one_range a b e = cc
+
+-- ---- after the links were the same
+
+pub shifted_after : (s : Shift) (old mid new : needs.Links) → AreSame old mid → AreShifted s mid new → AreShifted s old new
+shifted_after s old mid new same shifted a b = (
+  λ h. let (x, y, there, moves_x, moves_y) = (shifted a b).0 h in (x, y, subst (λ l. has y l ≡ true) (same x) there, moves_x, moves_y),
+  λ link. (shifted a b).1 (link.0, link.1, subst (λ l. has link.1 l ≡ true) (sym (same link.0)) link.2, link.3, link.4),
+)
+
+pub shifted_before : (s : Shift) (old mid new : needs.Links) → AreShifted s old mid → AreSame mid new → AreShifted s old new
+shifted_before s old mid new shifted same a b = (
+  λ h. (shifted a b).0 (subst (λ l. has b l ≡ true) (same a) h),
+  λ link. subst (λ l. has b l ≡ true) (sym (same a)) ((shifted a b).1 link),
+)
+
+-- a net that grew, and then stayed but for its files
+pub same_links : (a b c : Net) → Grows a b → c.nodes ≡ b.nodes → c.links ≡ b.links → AreSame (links_in a) (links_in c)
+same_links a b c f nodes links x = ap (λ (t : NodeTable). linked t c.links x) nodes ∙ (ap (λ (l : Links). linked b.nodes l x) links ∙ grown_links a b f x)

@@ -1,13 +1,19 @@
 -- Arrows of a net and chains of needs: the ones lead where the others come from. Serves all walks.
-use Rattle.std.proofs.Common.{◌≡◌, ◌∙◌, sym, ap, refl, subst, arith, ℕ, ◌+◌, ◌-◌, ◌<◌, ◌≤◌, inl, inr, ◌⊎◌, ⊎_elim, Bool, true, false, cond, List, [], ◌∷◌, map, filter, length, nat_lt}
-use Rattle.std.proofs.lemmas.Bool.{cases_lt, false≢true}
+use Rattle.std.proofs.Common.{◌≡◌, ◌∙◌, sym, ap, refl, subst, arith, ℕ, ◌+◌, ◌-◌, ◌<◌, ◌≤◌, inl, inr, ◌⊎◌, ⊎_elim, Bool, true, false, cond, List, [], ◌∷◌, map, filter, length, nat_lt, eqb, Option, Some, None}
+use Rattle.std.proofs.lemmas.Bool.{cases_lt, eq-eqb, eqb-true, false≢true}
 use Rattle.std.proofs.lemmas.Bool.Decides.{nat_tests}
+use Rattle.std.specs.Prelude.{IsSome}
+use Rattle.std.specs.List.{cons_option, filter_map}
+use Rattle.std.proofs.lemmas.Option.{same_Some}
+use Rattle.cell_addr.specs.Place.{covers}
+use Rattle.cell_addr.specs.declared.place.Block.{Block}
 use Rattle.cell_addr.specs.declared.place.Place.{Place}
+use Rattle.place_lines.specs.Spots.{spot_of}
 use Rattle.needs_order.specs.Needs as plain
 use Rattle.needs_order.proofs.Lists as lists
 use Rattle.node_links.specs.Nodes.{needs_of, users_of}
 use Rattle.node_reach.specs.Arrows.{LeadsTo, at_once, after}
-use Rattle.block_index.specs.Index.{filed_in, finds, slot_count, slots_of}
+use Rattle.block_index.specs.Index.{filed_in, slot_count, slots_of}
 use Rattle.block_index.proofs.Filing.{found_under, slot_with}
 use Rattle.dep_graph.specs.Needs as needs
 use Rattle.dep_graph.specs.Needs.{Chain, IsUsed, Needs}
@@ -15,11 +21,18 @@ use Rattle.dep_graph.specs.Nodes.{covers_node, has}
 use Rattle.dep_graph.specs.declared.net.Net.{Net}
 use Rattle.dep_graph.specs.declared.node.Node.{Node}
 use Rattle.dep_graph.specs.declared.node.Node.TheVariants.{Cell, Name, Range}
-use Rattle.dep_graph.specs.internal.Arrows.{cell_slots, from_node, from_slot, is_used, node_total, slots_behind, starts_of, targets_of, total}
-use Rattle.dep_graph.specs.internal.Numbers.{node_at, place_of}
+use Rattle.dep_graph.specs.internal.Arrows.{cell_slots, from_node, from_slot, is_used, node_total, slots_behind, starts_of, targets_of, total, under_slot}
+use Rattle.dep_graph.specs.internal.Numbers.{IsAlive, found_at, is_range, key_at, node_at, place_of}
+use Rattle.dep_graph.specs.internal.Files.{finds_filing, if_filing, if_present, owner_of}
+use Rattle.dep_graph.specs.internal.Filings.{filing_of, owner_at}
+use Rattle.dep_graph.specs.internal.Keys.{key_of}
 use Rattle.dep_graph.specs.internal.Nets.{links_in}
-use Rattle.dep_graph.proofs.Growing.{known_inside, no_needs, unknown_links}
-use Rattle.dep_graph.proofs.Places.{at_place, has_map, map_has, place_at, place_is}
+use Rattle.dep_graph.specs.declared.files.Files.{Files}
+use Rattle.dep_graph.specs.declared.key.Key.{Key}
+use Rattle.dep_graph.specs.declared.key.Key.TheVariants as key
+use Rattle.dep_graph.proofs.Growing.{unknown_links}
+use Rattle.dep_graph.proofs.Numbers.{alive_inside, alive_number, alive_place, at_place, found_place, key_is, place_is}
+use Rattle.dep_graph.proofs.Places.{has_map, map_has}
 
 -- ---- plain lists
 
@@ -29,7 +42,7 @@ lt_true v n h = grind (arith, nat_tests)
 ge_false : (v n : ℕ) → n ≤ v → nat_lt v n ≡ false
 ge_false v n h = grind (arith, nat_tests)
 
-some_of : (xs : List ℕ) → nat_lt 0 (length xs) ≡ true → (u : ℕ) × (plain.has u xs ≡ true)
+pub some_of : (xs : List ℕ) → nat_lt 0 (length xs) ≡ true → (u : ℕ) × (plain.has u xs ≡ true)
 some_of [] h = absurd (false≢true (sym (none 0 refl) ∙ h))
   where
     none : (n : ℕ) → n ≡ 0 → nat_lt 0 n ≡ false
@@ -98,6 +111,83 @@ pub leads_on : {targets : ℕ → List ℕ} {a b c : ℕ} → LeadsTo targets a 
 leads_on (at_once x) rest = after x rest
 leads_on (after x led) rest = after x (leads_on led rest)
 
+-- ---- filings
+
+module _ (files : Files) where
+  -- what stands for a filing is the node whose present one it is
+  pub owner_filing : (f n : ℕ) → owner_of files f ≡ Some n → filing_of files.current n ≡ Some f
+  owner_filing f n e = by (owner_at files.owners f) e
+    where
+      present : (m : ℕ) (o : Option ℕ) → filing_of files.current m ≡ o → if_filing m f o ≡ Some n → filing_of files.current n ≡ Some f
+      present m None at e = absurd (none e)
+        where
+          none : None ≡ Some n → ⊥
+          none e = cc
+      present m (Some own) at e = tested (eqb own f) refl e
+        where
+          none : None ≡ Some n → ⊥
+          none e = cc
+
+          tested : (t : Bool) → eqb own f ≡ t → cond t (Some m) None ≡ Some n → filing_of files.current n ≡ Some f
+          tested true is e = subst (λ k. filing_of files.current k ≡ Some f) (same_Some m n e) (at ∙ ap Some (eqb-true own f is))
+          tested false is e = absurd (none e)
+
+      by : (o : Option ℕ) → if_present files f o ≡ Some n → filing_of files.current n ≡ Some f
+      by None e = absurd (none e)
+        where
+          none : None ≡ Some n → ⊥
+          none e = cc
+      by (Some m) e = present m (filing_of files.current m) refl e
+
+  pub filing_owner : (f n : ℕ) → filing_of files.current n ≡ Some f → owner_of files f ≡ Some n
+  filing_owner f n e =
+      ap (if_present files f) (files.owned n f e)
+      ∙ (ap (if_filing n f) e ∙ ap (λ t. cond t (Some n) None) (eq-eqb f f refl))
+
+  -- the nodes under a slot
+  pub owner_has : (fs : List ℕ) (n : ℕ) → plain.has n (filter_map (owner_of files) fs) ≡ true → (f : ℕ) × (plain.has f fs ≡ true) × (filing_of files.current n ≡ Some f)
+  owner_has [] n h = absurd (false≢true h)
+  owner_has (f ∷ fs) n h = by (owner_of files f) refl (owner_has fs n) h
+    where
+      by : (o : Option ℕ) → owner_of files f ≡ o → (plain.has n (filter_map (owner_of files) fs) ≡ true → (g : ℕ) × (plain.has g fs ≡ true) × (filing_of files.current n ≡ Some g)) → plain.has n (cons_option o (filter_map (owner_of files) fs)) ≡ true
+          → (g : ℕ) × (plain.has g (f ∷ fs) ≡ true) × (filing_of files.current n ≡ Some g)
+      by None e rest h = let (g, there, at) = rest h in (g, lists.has-append_right g (f ∷ []) fs there, at)
+      by (Some m) e rest h = ⊎_elim
+          (λ (same : m ≡ n). (f, lists.has_first f fs, owner_filing f n (e ∙ ap Some same)))
+          (λ (later : plain.has n (filter_map (owner_of files) fs) ≡ true). let (g, there, at) = rest later in (g, lists.has-append_right g (f ∷ []) fs there, at))
+          (lists.has_cases n m (filter_map (owner_of files) fs) h)
+
+  pub has_owner : (fs : List ℕ) (f n : ℕ) → plain.has f fs ≡ true → filing_of files.current n ≡ Some f → plain.has n (filter_map (owner_of files) fs) ≡ true
+  has_owner [] f n h at = absurd (false≢true h)
+  has_owner (g ∷ fs) f n h at = ⊎_elim
+      (λ (same : g ≡ f). subst (λ o. plain.has n (cons_option o (filter_map (owner_of files) fs)) ≡ true) (sym (ap (owner_of files) same ∙ filing_owner f n at)) (lists.has_first n (filter_map (owner_of files) fs)))
+      (λ (later : plain.has f fs ≡ true). behind (owner_of files g) (has_owner fs f n later at))
+      (lists.has_cases f g fs h)
+    where
+      behind : (o : Option ℕ) → plain.has n (filter_map (owner_of files) fs) ≡ true → plain.has n (cons_option o (filter_map (owner_of files) fs)) ≡ true
+      behind None there = there
+      behind (Some m) there = lists.has-append_right n (m ∷ []) (filter_map (owner_of files) fs) there
+
+-- a range is one by the test, and the other way round
+range_is : (o : Option Node) → is_range o ≡ true → (b : Block) × (o ≡ Some (Range b))
+range_is (Some (Range b)) h = (b, refl)
+range_is (Some (Cell p)) h = absurd (false≢true h)
+range_is (Some (Name scope word)) h = absurd (false≢true h)
+range_is None h = absurd (false≢true h)
+
+some_filing : (o : Option ℕ) → IsSome o → (f : ℕ) × (o ≡ Some f)
+some_filing (Some f) h = (f, refl)
+some_filing None h = absurd (false≢true h)
+
+range_of : (a : Node) (p : Place) → covers_node a (Cell p) ≡ true → (b : Block) × (a ≡ Range b) × (covers b p ≡ true)
+range_of (Range b) p h = (b, refl, h)
+range_of (Cell q) p h = absurd (false≢true h)
+range_of (Name scope word) p h = absurd (false≢true h)
+
+-- the slots that hold a place
+abbrev spot_slots : Net → Place → List ℕ
+spot_slots net p = slots_of net.files.index (spot_of net.nodes.lines p).sheet (spot_of net.nodes.lines p).row (spot_of net.nodes.lines p).col
+
 module _ (net : Net) where
   -- ---- arrows of one node
 
@@ -107,141 +197,164 @@ module _ (net : Net) where
   pub targets_high : (v : ℕ) → node_total net ≤ v → targets_of net v ≡ from_slot net (v - node_total net)
   targets_high v h = ap (λ t. cond t (from_node net v) (from_slot net (v - node_total net))) (ge_false v (node_total net) h)
 
-  -- a user of a number is a node that is linked to its node
-  pub user_link : (i u : ℕ) → i < node_total net → plain.has u (users_of net.links i) ≡ true → (u < node_total net) × (has (node_at net.nodes.keys i) (links_in net (node_at net.nodes.keys u)) ≡ true)
-  user_link i u inside h =
+  -- a user of a number is a node that is linked to its node, and both have numbers
+  pub user_alive : (i u : ℕ) → plain.has u (users_of net.links i) ≡ true → IsAlive net.nodes u × IsAlive net.nodes i
+  user_alive i u h = net.alive u i (sym (net.links.exact u i) ∙ h)
+
+  pub user_link : (i u : ℕ) → plain.has u (users_of net.links i) ≡ true → (IsAlive net.nodes u) × (has (node_at net.nodes i) (links_in net (node_at net.nodes u)) ≡ true)
+  user_link i u h =
       let linked : plain.has i (needs_of net.links u) ≡ true = sym (net.links.exact u i) ∙ h in
-      let low : u < node_total net = ⊎_elim
-      (λ (is : u < node_total net). is)
-      (λ (past : node_total net ≤ u). absurd (false≢true (subst (λ l. plain.has i l ≡ true) (no_needs net.links u (subst (λ n. n ≤ u) (sym net.counts) past)) linked)))
-      (cases_lt u (node_total net)) in
-      (low, subst (λ n. has (node_at net.nodes.keys i) (map (node_at net.nodes.keys) (needs_of net.links n)) ≡ true) (sym (place_at net.nodes.keys u net.once low)) (has_map (node_at net.nodes.keys) (needs_of net.links u) i linked))
+      let alive : IsAlive net.nodes u = (net.alive u i linked).0 in
+      (alive, subst (λ n. has (node_at net.nodes i) (map (node_at net.nodes) (needs_of net.links n)) ≡ true) (sym (alive_number net.nodes u alive)) (has_map (node_at net.nodes) (needs_of net.links u) i linked))
 
   -- a linked node has a user, and both have numbers
   pub link_user : (a b : Node) → has b (links_in net a) ≡ true
-      → (place_of net.nodes.keys a < node_total net) × (place_of net.nodes.keys b < node_total net) × (plain.has (place_of net.nodes.keys b) (needs_of net.links (place_of net.nodes.keys a)) ≡ true)
+      → (place_of net.nodes a < node_total net) × (place_of net.nodes b < node_total net) × (plain.has (place_of net.nodes b) (needs_of net.links (place_of net.nodes a)) ≡ true)
   link_user a b h =
-      let (k, there, is) = map_has (node_at net.nodes.keys) (needs_of net.links (place_of net.nodes.keys a)) b h in
-      let k_in : k < node_total net = known_inside net (place_of net.nodes.keys a) k there in
-      let same : place_of net.nodes.keys b ≡ k = place_is net.nodes.keys b k net.once k_in is in (
+      let (k, there, is) = map_has (node_at net.nodes) (needs_of net.links (place_of net.nodes a)) b h in
+      let alive : IsAlive net.nodes k = (net.alive (place_of net.nodes a) k there).1 in
+      let same : place_of net.nodes b ≡ k = place_is net.nodes b k alive is in (
         ⊎_elim
-            (λ (low : place_of net.nodes.keys a < node_total net). low)
-            (λ (past : node_total net ≤ place_of net.nodes.keys a). absurd (false≢true (subst (λ l. has b l ≡ true) (unknown_links net a past) h)))
-            (cases_lt (place_of net.nodes.keys a) (node_total net)),
-        subst (λ n. n < node_total net) (sym same) k_in,
-        subst (λ n. plain.has n (needs_of net.links (place_of net.nodes.keys a)) ≡ true) (sym same) there,
+            (λ (low : place_of net.nodes a < node_total net). low)
+            (λ (past : node_total net ≤ place_of net.nodes a). absurd (false≢true (subst (λ l. has b l ≡ true) (unknown_links net a past) h)))
+            (cases_lt (place_of net.nodes a) (node_total net)),
+        subst (λ n. n < node_total net) (sym same) (alive_inside net.nodes k alive),
+        subst (λ n. plain.has n (needs_of net.links (place_of net.nodes a)) ≡ true) (sym same) there,
       )
 
-  user_of : (a b : Node) → has b (links_in net a) ≡ true → plain.has (place_of net.nodes.keys a) (users_of net.links (place_of net.nodes.keys b)) ≡ true
-  user_of a b h = net.links.exact (place_of net.nodes.keys a) (place_of net.nodes.keys b) ∙ (link_user a b h).2
+  user_of : (a b : Node) → has b (links_in net a) ≡ true → plain.has (place_of net.nodes a) (users_of net.links (place_of net.nodes b)) ≡ true
+  user_of a b h = net.links.exact (place_of net.nodes a) (place_of net.nodes b) ∙ (link_user a b h).2
 
   -- a used number is that of a used node
-  pub used_node : (r : ℕ) → is_used net r ≡ true → (r < node_total net) × IsUsed (links_in net) (node_at net.nodes.keys r)
+  pub used_node : (r : ℕ) → is_used net r ≡ true → (IsAlive net.nodes r) × IsUsed (links_in net) (node_at net.nodes r)
   used_node r h =
       let (u, user) = some_of (users_of net.links r) h in
-      let low : r < node_total net = known_inside net u r (sym (net.links.exact u r) ∙ user) in
-      (low, (node_at net.nodes.keys u, (user_link r u low user).1))
+      ((user_alive r u user).1, (node_at net.nodes u, (user_link r u user).1))
 
   -- ---- ranges
 
   -- what is filed under a slot of a cell needs the cell where it is used
-  cover_need : (p : Place) (s r : ℕ) → plain.has s (slots_of net.index p) ≡ true → plain.has r (from_slot net s) ≡ true → (r < node_total net) × Needs (links_in net) (node_at net.nodes.keys r) (Cell p)
+  cover_need : (p : Place) (s r : ℕ) → plain.has s (spot_slots net p) ≡ true → plain.has r (from_slot net s) ≡ true → (IsAlive net.nodes r) × Needs (links_in net) (node_at net.nodes r) (Cell p)
   cover_need p s r slot under =
-      let (filed, used) = filter_has (is_used net) (filed_in net.index s) r under in
-      let (low, is) = used_node r used in
-      (low, inr (net.sound p r (found_under net.index p s r slot filed), is))
+      let (owned, used) = filter_has (is_used net) (under_slot net s) r under in
+      let (f, filed, at) = owner_has net.files (filed_in net.files.index s) r owned in
+      let (alive, is) = used_node r used in
+      let (b, range) = range_is (found_at net.nodes r) (net.filed r f at).0 in
+      let found : finds_filing net.files (spot_of net.nodes.lines p) f ≡ true = found_under net.files.index (spot_of net.nodes.lines p).sheet (spot_of net.nodes.lines p).row (spot_of net.nodes.lines p).col s f slot filed in
+      let covered : covers b p ≡ true = sym (((net.filed r f at).1 b range).exact p) ∙ found in
+      (alive, inr (subst (λ x. covers_node x (Cell p) ≡ true) (sym (same_Some (node_at net.nodes r) (Range b) (sym alive ∙ range))) covered, is))
 
   -- a used node that covers a cell is filed under a slot of it
   covered_slot : (a : Node) (p : Place) → covers_node a (Cell p) ≡ true → IsUsed (links_in net) a
-      → (place_of net.nodes.keys a < node_total net) × ((s : ℕ) × (plain.has s (slots_of net.index p) ≡ true) × (plain.has (place_of net.nodes.keys a) (from_slot net s) ≡ true))
-  covered_slot a p covers (c, h) =
+      → (place_of net.nodes a < node_total net) × ((s : ℕ) × (plain.has s (spot_slots net p) ≡ true) × (plain.has (place_of net.nodes a) (from_slot net s) ≡ true))
+  covered_slot a p covers_it (c, h) =
       let (c_in, a_in, listed) = link_user c a h in
-      let found : finds net.index p (place_of net.nodes.keys a) ≡ true = net.used (place_of net.nodes.keys c) (place_of net.nodes.keys a) listed p (subst (λ x. covers_node x (Cell p) ≡ true) (sym (at_place net.nodes.keys a a_in)) covers) in
-      let (s, slot, filed) = slot_with net.index p (place_of net.nodes.keys a) found in
-      (a_in, (s, slot, has_filter (is_used net) (filed_in net.index s) (place_of net.nodes.keys a) filed (of_some (users_of net.links (place_of net.nodes.keys a)) (place_of net.nodes.keys c) (user_of c a h))))
+      let (b, is, covered) = range_of a p covers_it in
+      let range : found_at net.nodes (place_of net.nodes a) ≡ Some (Range b) = found_place net.nodes a a_in ∙ ap Some is in
+      let (f, at) = some_filing (filing_of net.files.current (place_of net.nodes a)) (net.used (place_of net.nodes c) (place_of net.nodes a) listed b range) in
+      let found : finds_filing net.files (spot_of net.nodes.lines p) f ≡ true = ((net.filed (place_of net.nodes a) f at).1 b range).exact p ∙ covered in
+      let (s, slot, filed) = slot_with net.files.index (spot_of net.nodes.lines p).sheet (spot_of net.nodes.lines p).row (spot_of net.nodes.lines p).col f found in
+      (a_in, (s, slot, has_filter (is_used net) (under_slot net s) (place_of net.nodes a) (has_owner net.files (filed_in net.files.index s) f (place_of net.nodes a) filed at) (of_some (users_of net.links (place_of net.nodes a)) (place_of net.nodes c) (user_of c a h))))
 
   -- ---- from arrows to chains
 
   pub record Fwd (v w : ℕ) : Type 0 where
-    pub low : v < node_total net → Chain (links_in net) (node_at net.nodes.keys w) (node_at net.nodes.keys v)
-    pub high : node_total net ≤ v → (r : ℕ) × (plain.has r (from_slot net (v - node_total net)) ≡ true) × ((r ≡ w) ⊎ Chain (links_in net) (node_at net.nodes.keys w) (node_at net.nodes.keys r))
+    pub low : v < node_total net → IsAlive net.nodes v → Chain (links_in net) (node_at net.nodes w) (node_at net.nodes v)
+    pub high : node_total net ≤ v → (r : ℕ) × (plain.has r (from_slot net (v - node_total net)) ≡ true) × ((r ≡ w) ⊎ Chain (links_in net) (node_at net.nodes w) (node_at net.nodes r))
 
   -- a chain to a range that needs a cell goes on to the cell
-  to_cell : (p : Place) (s r w : ℕ) → plain.has s (slots_of net.index p) ≡ true → plain.has r (from_slot net s) ≡ true → (r ≡ w) ⊎ Chain (links_in net) (node_at net.nodes.keys w) (node_at net.nodes.keys r)
-      → Chain (links_in net) (node_at net.nodes.keys w) (Cell p)
+  to_cell : (p : Place) (s r w : ℕ) → plain.has s (spot_slots net p) ≡ true → plain.has r (from_slot net s) ≡ true → (r ≡ w) ⊎ Chain (links_in net) (node_at net.nodes w) (node_at net.nodes r)
+      → Chain (links_in net) (node_at net.nodes w) (Cell p)
   to_cell p s r w slot under ends =
-      let need : Needs (links_in net) (node_at net.nodes.keys r) (Cell p) = (cover_need p s r slot under).1 in
+      let need : Needs (links_in net) (node_at net.nodes r) (Cell p) = (cover_need p s r slot under).1 in
       ⊎_elim
-      (λ (same : r ≡ w). needs.at_once (subst (λ n. Needs (links_in net) (node_at net.nodes.keys n) (Cell p)) same need))
-      (λ (chain : Chain (links_in net) (node_at net.nodes.keys w) (node_at net.nodes.keys r)). chain_end chain need)
+      (λ (same : r ≡ w). needs.at_once (subst (λ n. Needs (links_in net) (node_at net.nodes n) (Cell p)) same need))
+      (λ (chain : Chain (links_in net) (node_at net.nodes w) (node_at net.nodes r)). chain_end chain need)
       ends
 
   -- from the slots of a node
-  from_behind : (a : Node) (c w : ℕ) → plain.has c (slots_behind net a) ≡ true → Fwd c w → Chain (links_in net) (node_at net.nodes.keys w) a
+  from_behind : (a : Node) (c w : ℕ) → plain.has c (slots_behind net (key_of net.nodes.lines a)) ≡ true → Fwd c w → Chain (links_in net) (node_at net.nodes w) a
   from_behind (Cell p) c w there f =
-      let (s, slot, is) = map_plus (node_total net) (slots_of net.index p) c there in
+      let (s, slot, is) = map_plus (node_total net) (spot_slots net p) c there in
       let (r, under, ends) = f.high (omega (arith, is)) in
       let here : c - node_total net ≡ s = omega (arith, is) in
       to_cell p s r w slot (subst (λ n. plain.has r (from_slot net n) ≡ true) here under) ends
   from_behind (Name scope word) c w there f = absurd (false≢true there)
   from_behind (Range b) c w there f = absurd (false≢true there)
 
-  pub behind_high : (a : Node) (c : ℕ) → plain.has c (slots_behind net a) ≡ true → node_total net ≤ c
-  behind_high a c there = let (s, slot, is) = map_plus (node_total net) (cell_slots net.index a) c there in omega (arith, is)
+  pub behind_high : (k : Key) (c : ℕ) → plain.has c (slots_behind net k) ≡ true → node_total net ≤ c
+  behind_high k c there = let (s, slot, is) = map_plus (node_total net) (cell_slots net.files.index k) c there in omega (arith, is)
 
   step : (v c w : ℕ) → w < node_total net → plain.has c (targets_of net v) ≡ true → (c ≡ w) ⊎ Fwd c w → Fwd v w
   step v c w w_in next led = record {
-    low = λ v_in. ⊎_elim
+    low = λ v_in alive. ⊎_elim
         (λ (user : plain.has c (users_of net.links v) ≡ true).
-        let (c_in, linked) = user_link v c v_in user in
+        let (c_alive, linked) = user_link v c user in
         ⊎_elim
-        (λ (same : c ≡ w). needs.at_once (inl (subst (λ n. has (node_at net.nodes.keys v) (links_in net (node_at net.nodes.keys n)) ≡ true) same linked)))
-        (λ (f : Fwd c w). chain_end (f.low c_in) (inl linked))
+        (λ (same : c ≡ w). needs.at_once (inl (subst (λ n. has (node_at net.nodes v) (links_in net (node_at net.nodes n)) ≡ true) same linked)))
+        (λ (f : Fwd c w). chain_end (f.low (alive_inside net.nodes c c_alive) c_alive) (inl linked))
         led)
-        (λ (slot : plain.has c (slots_behind net (node_at net.nodes.keys v)) ≡ true). ⊎_elim
-        (λ (same : c ≡ w). absurd (omega (arith, same, w_in, behind_high (node_at net.nodes.keys v) c slot)))
-        (λ (f : Fwd c w). from_behind (node_at net.nodes.keys v) c w slot f)
+        (λ (slot : plain.has c (slots_behind net (key_at net.nodes v)) ≡ true). ⊎_elim
+        (λ (same : c ≡ w). absurd (omega (arith, same, w_in, behind_high (key_at net.nodes v) c slot)))
+        (λ (f : Fwd c w). from_behind (node_at net.nodes v) c w (subst (λ k. plain.has c (slots_behind net k) ≡ true) (key_is net.nodes v alive) slot) f)
         led)
-        (lists.has-append_cases c (users_of net.links v) (slots_behind net (node_at net.nodes.keys v)) (subst (λ l. plain.has c l ≡ true) (targets_low v v_in) next));
+        (lists.has-append_cases c (users_of net.links v) (slots_behind net (key_at net.nodes v)) (subst (λ l. plain.has c l ≡ true) (targets_low v v_in) next));
     high = λ past.
         let under : plain.has c (from_slot net (v - node_total net)) ≡ true = subst (λ l. plain.has c l ≡ true) (targets_high v past) next in
-        let (filed, used) = filter_has (is_used net) (filed_in net.index (v - node_total net)) c under in
-        (c, under, ⊎_elim (λ (same : c ≡ w). inl same) (λ (f : Fwd c w). inr (f.low (used_node c used).0)) led);
+        let (filed, used) = filter_has (is_used net) (under_slot net (v - node_total net)) c under in
+        let alive : IsAlive net.nodes c = (used_node c used).0 in
+        (c, under, ⊎_elim (λ (same : c ≡ w). inl same) (λ (f : Fwd c w). inr (f.low (alive_inside net.nodes c alive) alive)) led);
   }
 
   pub fwd : {v w : ℕ} → LeadsTo (targets_of net) v w → w < node_total net → Fwd v w
   fwd {v = v} {w = w} (at_once next) w_in = step v w w w_in next (inl refl)
   fwd {v = v} {w = w} (after {b = c} next rest) w_in = step v c w w_in next (inr (fwd rest w_in))
 
+  -- a number to which arrows lead has a node
+  target_alive : (v w : ℕ) → plain.has w (targets_of net v) ≡ true → w < node_total net → IsAlive net.nodes w
+  target_alive v w next w_in = ⊎_elim
+      (λ (v_in : v < node_total net). ⊎_elim
+      (λ (user : plain.has w (users_of net.links v) ≡ true). (user_alive v w user).0)
+      (λ (slot : plain.has w (slots_behind net (key_at net.nodes v)) ≡ true). absurd (omega (arith, w_in, behind_high (key_at net.nodes v) w slot)))
+      (lists.has-append_cases w (users_of net.links v) (slots_behind net (key_at net.nodes v)) (subst (λ l. plain.has w l ≡ true) (targets_low v v_in) next)))
+      (λ (past : node_total net ≤ v).
+      let (filed, used) = filter_has (is_used net) (under_slot net (v - node_total net)) w (subst (λ l. plain.has w l ≡ true) (targets_high v past) next) in
+      (used_node w used).0)
+      (cases_lt v (node_total net))
+
+  pub led_alive : {v w : ℕ} → LeadsTo (targets_of net) v w → w < node_total net → IsAlive net.nodes w
+  led_alive {v = v} {w = w} (at_once next) w_in = target_alive v w next w_in
+  led_alive (after next rest) w_in = led_alive rest w_in
+
   -- ---- from chains to arrows
 
-  need_leads : (a b : Node) → Needs (links_in net) a b → place_of net.nodes.keys b < node_total net
-      → (place_of net.nodes.keys a < node_total net) × LeadsTo (targets_of net) (place_of net.nodes.keys b) (place_of net.nodes.keys a)
+  need_leads : (a b : Node) → Needs (links_in net) a b → place_of net.nodes b < node_total net
+      → (place_of net.nodes a < node_total net) × LeadsTo (targets_of net) (place_of net.nodes b) (place_of net.nodes a)
   need_leads a b need b_in = ⊎_elim
       (λ (h : has b (links_in net a) ≡ true). (
         (link_user a b h).0,
-        at_once (subst (λ l. plain.has (place_of net.nodes.keys a) l ≡ true) (sym (targets_low (place_of net.nodes.keys b) b_in))
-            (lists.has-append_left (place_of net.nodes.keys a) (users_of net.links (place_of net.nodes.keys b)) (slots_behind net (node_at net.nodes.keys (place_of net.nodes.keys b))) (user_of a b h))),
+        at_once (subst (λ l. plain.has (place_of net.nodes a) l ≡ true) (sym (targets_low (place_of net.nodes b) b_in))
+            (lists.has-append_left (place_of net.nodes a) (users_of net.links (place_of net.nodes b)) (slots_behind net (key_at net.nodes (place_of net.nodes b))) (user_of a b h))),
       ))
       (λ (h : (covers_node a b ≡ true) × IsUsed (links_in net) a).
       let (p, cell) = cell_of a b h.0 in
       let (a_in, (s, slot, under)) = covered_slot a p (subst (λ x. covers_node a x ≡ true) cell h.0) h.1 in
-      let behind : plain.has (node_total net + s) (slots_behind net (node_at net.nodes.keys (place_of net.nodes.keys b))) ≡ true
-      = subst (λ x. plain.has (node_total net + s) (slots_behind net x) ≡ true) (sym (at_place net.nodes.keys b b_in ∙ cell)) (plus_map (node_total net) (slots_of net.index p) s slot) in (
+      let behind : plain.has (node_total net + s) (slots_behind net (key_at net.nodes (place_of net.nodes b))) ≡ true
+      = subst (λ x. plain.has (node_total net + s) (slots_behind net x) ≡ true) (sym (key_is net.nodes (place_of net.nodes b) (alive_place net.nodes b b_in) ∙ ap (key_of net.nodes.lines) (at_place net.nodes b b_in ∙ cell))) (plus_map (node_total net) (spot_slots net p) s slot) in (
         a_in,
-        after (subst (λ l. plain.has (node_total net + s) l ≡ true) (sym (targets_low (place_of net.nodes.keys b) b_in))
-            (lists.has-append_right (node_total net + s) (users_of net.links (place_of net.nodes.keys b)) (slots_behind net (node_at net.nodes.keys (place_of net.nodes.keys b))) behind)) (slot_leads a s under),
+        after (subst (λ l. plain.has (node_total net + s) l ≡ true) (sym (targets_low (place_of net.nodes b) b_in))
+            (lists.has-append_right (node_total net + s) (users_of net.links (place_of net.nodes b)) (slots_behind net (key_at net.nodes (place_of net.nodes b))) behind)) (slot_leads a s under),
       ))
       need
     where
       back_to : (n s : ℕ) → n + s - n ≡ s
       back_to n s = omega arith
 
-      slot_leads : (a : Node) (s : ℕ) → plain.has (place_of net.nodes.keys a) (from_slot net s) ≡ true → LeadsTo (targets_of net) (node_total net + s) (place_of net.nodes.keys a)
-      slot_leads a s under = at_once (subst (λ l. plain.has (place_of net.nodes.keys a) l ≡ true) (sym (targets_high (node_total net + s) (omega arith) ∙ ap (from_slot net) (back_to (node_total net) s))) under)
+      slot_leads : (a : Node) (s : ℕ) → plain.has (place_of net.nodes a) (from_slot net s) ≡ true → LeadsTo (targets_of net) (node_total net + s) (place_of net.nodes a)
+      slot_leads a s under = at_once (subst (λ l. plain.has (place_of net.nodes a) l ≡ true) (sym (targets_high (node_total net + s) (omega arith) ∙ ap (from_slot net) (back_to (node_total net) s))) under)
 
-  unknown_need : (a b : Node) → Needs (links_in net) a b → node_total net ≤ place_of net.nodes.keys b
-      → (place_of net.nodes.keys a < node_total net) × ((v : ℕ) × (plain.has v (slots_behind net b) ≡ true) × LeadsTo (targets_of net) v (place_of net.nodes.keys a))
+  unknown_need : (a b : Node) → Needs (links_in net) a b → node_total net ≤ place_of net.nodes b
+      → (place_of net.nodes a < node_total net) × ((v : ℕ) × (plain.has v (slots_behind net (key_of net.nodes.lines b)) ≡ true) × LeadsTo (targets_of net) v (place_of net.nodes a))
   unknown_need a b need past = ⊎_elim
       (λ (h : has b (links_in net a) ≡ true). absurd (omega (arith, past, (link_user a b h).1)))
       (λ (h : (covers_node a b ≡ true) × IsUsed (links_in net) a).
@@ -250,8 +363,8 @@ module _ (net : Net) where
         a_in,
         (
           node_total net + s,
-          subst (λ x. plain.has (node_total net + s) (slots_behind net x) ≡ true) (sym cell) (plus_map (node_total net) (slots_of net.index p) s slot),
-          at_once (subst (λ l. plain.has (place_of net.nodes.keys a) l ≡ true) (sym (targets_high (node_total net + s) (omega arith) ∙ ap (from_slot net) (back_to (node_total net) s))) under),
+          subst (λ x. plain.has (node_total net + s) (slots_behind net (key_of net.nodes.lines x)) ≡ true) (sym cell) (plus_map (node_total net) (spot_slots net p) s slot),
+          at_once (subst (λ l. plain.has (place_of net.nodes a) l ≡ true) (sym (targets_high (node_total net + s) (omega arith) ∙ ap (from_slot net) (back_to (node_total net) s))) under),
         ),
       ))
       need
@@ -259,70 +372,74 @@ module _ (net : Net) where
       back_to : (n s : ℕ) → n + s - n ≡ s
       back_to n s = omega arith
 
-  pub starts_low : (m : Node) → place_of net.nodes.keys m < node_total net → starts_of net m ≡ place_of net.nodes.keys m ∷ []
-  starts_low m h = ap (λ t. cond t (place_of net.nodes.keys m ∷ []) (slots_behind net m)) (lt_true (place_of net.nodes.keys m) (node_total net) h)
+  pub starts_low : (m : Node) → place_of net.nodes m < node_total net → starts_of net m ≡ place_of net.nodes m ∷ []
+  starts_low m h = ap (λ t. cond t (place_of net.nodes m ∷ []) (slots_behind net (key_of net.nodes.lines m))) (lt_true (place_of net.nodes m) (node_total net) h)
 
-  pub starts_high : (m : Node) → node_total net ≤ place_of net.nodes.keys m → starts_of net m ≡ slots_behind net m
-  starts_high m h = ap (λ t. cond t (place_of net.nodes.keys m ∷ []) (slots_behind net m)) (ge_false (place_of net.nodes.keys m) (node_total net) h)
+  pub starts_high : (m : Node) → node_total net ≤ place_of net.nodes m → starts_of net m ≡ slots_behind net (key_of net.nodes.lines m)
+  starts_high m h = ap (λ t. cond t (place_of net.nodes m ∷ []) (slots_behind net (key_of net.nodes.lines m))) (ge_false (place_of net.nodes m) (node_total net) h)
 
   -- where a chain leads, arrows lead back
   pub chain_back : {a m : Node} → Chain (links_in net) a m
-      → (place_of net.nodes.keys a < node_total net) × ((v : ℕ) × (plain.has v (starts_of net m) ≡ true) × LeadsTo (targets_of net) v (place_of net.nodes.keys a))
+      → (place_of net.nodes a < node_total net) × ((v : ℕ) × (plain.has v (starts_of net m) ≡ true) × LeadsTo (targets_of net) v (place_of net.nodes a))
   chain_back {a = a} {m = m} (needs.at_once need) = ⊎_elim
-      (λ (m_in : place_of net.nodes.keys m < node_total net).
+      (λ (m_in : place_of net.nodes m < node_total net).
       let (a_in, led) = need_leads a m need m_in in
-      (a_in, (place_of net.nodes.keys m, subst (λ l. plain.has (place_of net.nodes.keys m) l ≡ true) (sym (starts_low m m_in)) (lists.has_first (place_of net.nodes.keys m) []), led)))
-      (λ (past : node_total net ≤ place_of net.nodes.keys m).
+      (a_in, (place_of net.nodes m, subst (λ l. plain.has (place_of net.nodes m) l ≡ true) (sym (starts_low m m_in)) (lists.has_first (place_of net.nodes m) []), led)))
+      (λ (past : node_total net ≤ place_of net.nodes m).
       let (a_in, (v, start, led)) = unknown_need a m need past in
       (a_in, (v, subst (λ l. plain.has v l ≡ true) (sym (starts_high m past)) start, led)))
-      (cases_lt (place_of net.nodes.keys m) (node_total net))
+      (cases_lt (place_of net.nodes m) (node_total net))
   chain_back {a = a} {m = m} (needs.after {b = c} need rest) =
       let (c_in, (v, start, led)) = chain_back rest in
       let (a_in, more) = need_leads a c need c_in in
       (a_in, (v, start, leads_on led more))
 
   -- where arrows lead from a start of a node, a chain leads back
-  pub starts_chain : (m : Node) (v w : ℕ) → plain.has v (starts_of net m) ≡ true → LeadsTo (targets_of net) v w → w < node_total net → Chain (links_in net) (node_at net.nodes.keys w) m
+  pub starts_chain : (m : Node) (v w : ℕ) → plain.has v (starts_of net m) ≡ true → LeadsTo (targets_of net) v w → w < node_total net → Chain (links_in net) (node_at net.nodes w) m
   starts_chain m v w start led w_in = ⊎_elim
-      (λ (m_in : place_of net.nodes.keys m < node_total net).
-      let same : place_of net.nodes.keys m ≡ v = one (place_of net.nodes.keys m) v (subst (λ l. plain.has v l ≡ true) (starts_low m m_in) start) in
-      subst (λ x. Chain (links_in net) (node_at net.nodes.keys w) x) (ap (node_at net.nodes.keys) (sym same) ∙ at_place net.nodes.keys m m_in) ((fwd led w_in).low (subst (λ n. n < node_total net) same m_in)))
-      (λ (past : node_total net ≤ place_of net.nodes.keys m). from_behind m v w (subst (λ l. plain.has v l ≡ true) (starts_high m past) start) (fwd led w_in))
-      (cases_lt (place_of net.nodes.keys m) (node_total net))
+      (λ (m_in : place_of net.nodes m < node_total net).
+      let same : place_of net.nodes m ≡ v = one (place_of net.nodes m) v (subst (λ l. plain.has v l ≡ true) (starts_low m m_in) start) in
+      subst (λ x. Chain (links_in net) (node_at net.nodes w) x) (ap (node_at net.nodes) (sym same) ∙ at_place net.nodes m m_in) ((fwd led w_in).low (subst (λ n. n < node_total net) same m_in) (subst (IsAlive net.nodes) same (alive_place net.nodes m m_in))))
+      (λ (past : node_total net ≤ place_of net.nodes m). from_behind m v w (subst (λ l. plain.has v l ≡ true) (starts_high m past) start) (fwd led w_in))
+      (cases_lt (place_of net.nodes m) (node_total net))
     where
       one : (x a : ℕ) → plain.has a (x ∷ []) ≡ true → x ≡ a
       one x a h = ⊎_elim (λ (same : x ≡ a). same) (λ (none : false ≡ true). absurd (false≢true none)) (lists.has_cases a x [] h)
 
   -- between nodes with numbers
-  pub chain_leads : {a b : Node} → Chain (links_in net) a b → place_of net.nodes.keys b < node_total net → LeadsTo (targets_of net) (place_of net.nodes.keys b) (place_of net.nodes.keys a)
+  pub chain_leads : {a b : Node} → Chain (links_in net) a b → place_of net.nodes b < node_total net → LeadsTo (targets_of net) (place_of net.nodes b) (place_of net.nodes a)
   chain_leads {a = a} {b = b} chain b_in =
       let (a_in, (v, start, led)) = chain_back chain in
-      let same : place_of net.nodes.keys b ≡ v = one (place_of net.nodes.keys b) v (subst (λ l. plain.has v l ≡ true) (starts_low b b_in) start) in
-      subst (λ n. LeadsTo (targets_of net) n (place_of net.nodes.keys a)) (sym same) led
+      let same : place_of net.nodes b ≡ v = one (place_of net.nodes b) v (subst (λ l. plain.has v l ≡ true) (starts_low b b_in) start) in
+      subst (λ n. LeadsTo (targets_of net) n (place_of net.nodes a)) (sym same) led
     where
       one : (x a : ℕ) → plain.has a (x ∷ []) ≡ true → x ≡ a
       one x a h = ⊎_elim (λ (same : x ≡ a). same) (λ (none : false ≡ true). absurd (false≢true none)) (lists.has_cases a x [] h)
 
-  pub leads_chain : (v w : ℕ) → v < node_total net → w < node_total net → LeadsTo (targets_of net) v w → Chain (links_in net) (node_at net.nodes.keys w) (node_at net.nodes.keys v)
-  leads_chain v w v_in w_in led = (fwd led w_in).low v_in
+  pub leads_chain : (v w : ℕ) → IsAlive net.nodes v → w < node_total net → LeadsTo (targets_of net) v w → Chain (links_in net) (node_at net.nodes w) (node_at net.nodes v)
+  leads_chain v w alive w_in led = (fwd led w_in).low (alive_inside net.nodes v alive) alive
 
   -- ---- all arrows lead to nodes and slots
 
-  pub behind_inside : (a : Node) (c : ℕ) → plain.has c (slots_behind net a) ≡ true → ((p : Place) (s : ℕ) → plain.has s (slots_of net.index p) ≡ true → s < slot_count net.index) → c < total net
-  behind_inside (Cell p) c h inside = let (s, slot, is) = map_plus (node_total net) (slots_of net.index p) c h in let low : s < slot_count net.index = inside p s slot in omega (arith, low, is)
-  behind_inside (Name scope word) c h inside = absurd (false≢true h)
-  behind_inside (Range b) c h inside = absurd (false≢true h)
-
-  pub targets_inside : ((p : Place) (s : ℕ) → plain.has s (slots_of net.index p) ≡ true → s < slot_count net.index) → (v c : ℕ) → plain.has c (targets_of net v) ≡ true → c < total net
-  targets_inside inside v c h = ⊎_elim
-      (λ (v_in : v < node_total net). ⊎_elim
-      (λ (user : plain.has c (users_of net.links v) ≡ true). omega (arith, (user_link v c v_in user).0))
-      (λ (slot : plain.has c (slots_behind net (node_at net.nodes.keys v)) ≡ true). behind_inside (node_at net.nodes.keys v) c slot inside)
-      (lists.has-append_cases c (users_of net.links v) (slots_behind net (node_at net.nodes.keys v)) (subst (λ l. plain.has c l ≡ true) (targets_low v v_in) h)))
-      (λ (past : node_total net ≤ v).
-      let (filed, used) = filter_has (is_used net) (filed_in net.index (v - node_total net)) c (subst (λ l. plain.has c l ≡ true) (targets_high v past) h) in
-      omega (arith, (used_node c used).0))
-      (cases_lt v (node_total net))
+  pub behind_inside : (k : Key) (c : ℕ) → plain.has c (slots_behind net k) ≡ true → ((sheet row col s : ℕ) → plain.has s (slots_of net.files.index sheet row col) ≡ true → s < slot_count net.files.index) → c < total net
+  behind_inside (key.Cell x) c h inside =
+      let (s, slot, is) = map_plus (node_total net) (slots_of net.files.index x.sheet x.row x.col) c h in
+      let low : s < slot_count net.files.index = inside x.sheet x.row x.col s slot in
+      omega (arith, low, is)
+  behind_inside (key.Name scope word) c h inside = absurd (false≢true h)
+  behind_inside (key.Range a) c h inside = absurd (false≢true h)
 
   pub slot_targets_inside : (s c : ℕ) → plain.has c (from_slot net s) ≡ true → c < total net
-  slot_targets_inside s c h = let (filed, used) = filter_has (is_used net) (filed_in net.index s) c h in omega (arith, (used_node c used).0)
+  slot_targets_inside s c h =
+      let (filed, used) = filter_has (is_used net) (under_slot net s) c h in
+      let low : c < node_total net = alive_inside net.nodes c (used_node c used).0 in
+      omega (arith, low)
+
+  pub targets_inside : ((sheet row col s : ℕ) → plain.has s (slots_of net.files.index sheet row col) ≡ true → s < slot_count net.files.index) → (v c : ℕ) → plain.has c (targets_of net v) ≡ true → c < total net
+  targets_inside inside v c h = ⊎_elim
+      (λ (v_in : v < node_total net). ⊎_elim
+      (λ (user : plain.has c (users_of net.links v) ≡ true). let low : c < node_total net = alive_inside net.nodes c (user_alive v c user).0 in omega (arith, low))
+      (λ (slot : plain.has c (slots_behind net (key_at net.nodes v)) ≡ true). behind_inside (key_at net.nodes v) c slot inside)
+      (lists.has-append_cases c (users_of net.links v) (slots_behind net (key_at net.nodes v)) (subst (λ l. plain.has c l ≡ true) (targets_low v v_in) h)))
+      (λ (past : node_total net ≤ v). slot_targets_inside (v - node_total net) c (subst (λ l. plain.has c l ≡ true) (targets_high v past) h))
+      (cases_lt v (node_total net))

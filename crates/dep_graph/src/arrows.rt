@@ -3,9 +3,9 @@ ghost use Rattle.std.specs.Prelude.{◌≡◌, ◌+◌, ◌<◌, ◌++◌, ◌�
 ghost use Rattle.std.specs.List.{flat_map};
 ghost use Rattle.node_links.specs.Nodes.{users_of};
 ghost use Rattle.block_index.specs.Index.{slot_count};
-ghost use Rattle.dep_graph.specs.internal.Arrows.{from_node, from_slot, is_used, node_total, slots_behind, starts_of, targets_of, total};
-ghost use Rattle.dep_graph.specs.internal.Numbers.{node_at};
+ghost use Rattle.dep_graph.specs.internal.Arrows.{from_node, from_slot, node_total, slots_behind, starts_of, targets_of, total};
 
+use crate::key::Key;
 use crate::net::Net;
 use crate::node::Node;
 use node_reach::Arrows;
@@ -34,7 +34,7 @@ impl Net {
         ensures { IfOk result (λ found. found.items ≡ from_node self.now node) }
     {
         let mut found = self.users(alloc, node)?;
-        self.add_slots(&mut found, self.nodes.as_slice()[node])?;
+        self.add_slots(&mut found, self.nodes.key(node))?;
         Ok(found)
     }
 
@@ -50,13 +50,13 @@ impl Net {
         Ok(found)
     }
 
-    // Adds the slots that hold the node, where it is a cell, as they are numbered behind the nodes.
-    fn add_slots(&self, found: &mut Vec<usize>, node: Node) -> Result<(), AllocError>
-        ensures { OnOk result (found.new.items ≡ found.old.items ++ slots_behind self.now node) }
+    // Adds the slots that hold the node of the key, where it is a cell, as they are numbered behind the nodes.
+    fn add_slots(&self, found: &mut Vec<usize>, key: Key) -> Result<(), AllocError>
+        ensures { OnOk result (found.new.items ≡ found.old.items ++ slots_behind self.now key) }
     {
-        match node {
-            Node::Cell(at) => {
-                let slots = self.index.slots_at(at)?;
+        match key {
+            Key::Cell(spot) => {
+                let slots = self.files.index.slots_at(spot.sheet, spot.row, spot.col)?;
                 add_behind(found, self.nodes.len(), &slots)
             }
             _ => Ok(()),
@@ -65,21 +65,15 @@ impl Net {
 
     // The used ranges that are filed under a slot.
     fn from_slot(&self, alloc: Global, slot: usize) -> Result<Vec<usize>, AllocError>
-        requires { slot < slot_count self.now.index }
+        requires { slot < slot_count self.now.files.index }
         ensures { IfOk result (λ found. found.items ≡ from_slot self.now slot) }
     {
         let mut found = Vec::new(alloc);
-        'filed: for range in self.index.filed(slot) {
+        let ranges = self.files.nodes_under(slot)?;
+        'filed: for range in &ranges {
             push_if(&mut found, *range, self.is_used(*range))?;
         }
         Ok(found)
-    }
-
-    // Whether some node is linked to the one of this number.
-    fn is_used(&self, node: usize) -> bool
-        ensures { result ≡ is_used self.now node }
-    {
-        node < self.links.len() && !self.links.users(node).is_empty()
     }
 
     // Where walks from these nodes begin.
@@ -97,12 +91,12 @@ impl Net {
     fn add_starts(&self, starts: &mut Vec<usize>, node: Node) -> Result<(), AllocError>
         ensures { OnOk result (starts.new.items ≡ starts.old.items ++ starts_of self.now node) }
     {
-        match self.number(node) {
+        match self.nodes.number(node) {
             Some(number) => {
                 starts.push(number)?;
                 Ok(())
             }
-            None => self.add_slots(starts, node),
+            None => self.add_slots(starts, Key::of(self.nodes.lines(), node)),
         }
     }
 }

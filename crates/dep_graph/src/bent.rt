@@ -1,5 +1,5 @@
 // Which nodes a structural operation bends.
-ghost use Rattle.std.specs.Prelude.{◌≡◌, ◌↔◌, ◌<◌, ℕ, true, IsTrue, IfOk, OnOk, length};
+ghost use Rattle.std.specs.Prelude.{◌≡◌, ◌↔◌, ◌<◌, ℕ, true, IsTrue, IfOk, OnOk};
 ghost use Rattle.needs_order.specs.Needs as plain;
 ghost use Rattle.node_links.specs.Nodes.{needs_of};
 ghost use Rattle.shift_core.specs.Sound.{IsSound};
@@ -7,7 +7,7 @@ ghost use Rattle.dep_graph.specs.Bent.{AreBent, Bends};
 ghost use Rattle.dep_graph.specs.Graph.{links_of};
 ghost use Rattle.dep_graph.specs.Nodes.{items_of};
 ghost use Rattle.dep_graph.specs.internal.BentNumbers.{IsBentAt, PushesBent};
-ghost use Rattle.dep_graph.specs.internal.Numbers.{node_at};
+ghost use Rattle.dep_graph.specs.internal.Numbers.{count_of, node_at};
 
 use crate::graph::Graph;
 use crate::net::Net;
@@ -36,11 +36,11 @@ impl Net {
     // Adds the node of a number where it is linked to one that the operation bends.
     fn push_bent(&self, nodes: &mut Nodes, s: &Shift, number: usize) -> Result<(), AllocError>
         requires sound { IsSound s.now }
-        requires number { number < length self.now.nodes.keys }
+        requires number { number < count_of self.now.nodes }
         ensures { OnOk result (PushesBent s.now self.now number (items_of nodes.old) (items_of nodes.new)) }
     {
         if self.is_bent(s, number) {
-            nodes.push(self.node(number))
+            self.push_node(nodes, number)
         } else {
             Ok(())
         }
@@ -49,7 +49,7 @@ impl Net {
     // Whether the node of a number is linked to one that the operation bends.
     fn is_bent(&self, s: &Shift, number: usize) -> bool
         requires sound { IsSound s.now }
-        requires number { number < length self.now.nodes.keys }
+        requires number { number < count_of self.now.nodes }
         ensures { IsTrue result ↔ IsBentAt s.now self.now number }
     {
         'numbers: for need in self.links.needs(number) {
@@ -63,10 +63,13 @@ impl Net {
     // Whether the operation bends the node of a number.
     fn bends(&self, s: &Shift, number: usize) -> bool
         requires sound { IsSound s.now }
-        requires number { number < length self.now.nodes.keys }
-        ensures { IsTrue result ↔ Bends s.now (node_at self.now.nodes.keys number) }
+        requires number { number < count_of self.now.nodes }
+        ensures { IsTrue result ↔ Bends s.now (node_at self.now.nodes number) }
     {
-        bends(s, self.node(number))
+        match self.nodes.node(number) {
+            Some(node) => bends(s, node),
+            None => false,
+        }
     }
 }
 

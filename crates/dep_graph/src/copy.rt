@@ -1,44 +1,53 @@
 // Equal nets of nodes.
-ghost use Rattle.std.specs.Prelude.{◌≡◌, ◌<◌, map, length, IfOk};
+ghost use Rattle.std.specs.Prelude.{◌≡◌, ◌<◌, IfOk, OnOk};
+ghost use Rattle.std.specs.List.{filter_map};
 ghost use Rattle.node_links.specs.Nodes.{needs_of};
 ghost use Rattle.dep_graph.specs.Graph.{AreSame};
 ghost use Rattle.dep_graph.specs.Nodes.{items_of};
+ghost use Rattle.dep_graph.specs.internal.Copied.{AddsCopied};
 ghost use Rattle.dep_graph.specs.internal.Nets.{links_in};
-ghost use Rattle.dep_graph.specs.internal.Numbers.{node_at};
+ghost use Rattle.dep_graph.specs.internal.Numbers.{count_of, found_at};
 
 use crate::net::Net;
-use crate::node::Node;
 use crate::nodes::Nodes;
 use indexmap::IndexSet;
 use std::alloc::AllocError;
 
 impl Net {
-    // A net with the same links.
+    // A net with the same links, on sheets whose lines are numbered anew.
     pub(crate) fn copied(&self) -> Result<Net, AllocError>
         ensures { IfOk result (λ net. AreSame (links_in self.now) (links_in net)) }
     {
-        let mut copy = Net::new(self.alloc);
+        let mut copy = Net::new(self.alloc)?;
         'nodes: for number in 0..self.nodes.len() {
-            let needs = self.needs(number)?;
-            copy.link(self.node(number), needs.items())?;
+            self.copy_links(&mut copy, number)?;
         }
         Ok(copy)
     }
 
+    // Links the node of a number as it is linked here. Where it is linked to none it isn't added.
+    fn copy_links(&self, copy: &mut Net, number: usize) -> Result<(), AllocError>
+        requires { number < count_of self.now.nodes }
+        ensures { OnOk result (AddsCopied self.now number (links_in copy.old) (links_in copy.new)) }
+    {
+        if self.links.needs(number).is_empty() {
+            return Ok(());
+        }
+        match self.nodes.node(number) {
+            Some(node) => {
+                let needs = self.needs(number)?;
+                copy.link(node, needs.items())
+            }
+            None => Ok(()),
+        }
+    }
+
     // What the node of a number is linked to.
     pub(crate) fn needs(&self, number: usize) -> Result<Nodes, AllocError>
-        requires { number < length self.now.nodes.keys }
-        ensures { IfOk result (λ needs. items_of needs ≡ map (node_at self.now.nodes.keys) (needs_of self.now.links number)) }
+        requires { number < count_of self.now.nodes }
+        ensures { IfOk result (λ needs. items_of needs ≡ filter_map (found_at self.now.nodes) (needs_of self.now.links number)) }
     {
         let none = IndexSet::new(self.alloc);
         self.named(&none, self.links.needs(number))
-    }
-
-    // The node of a number.
-    pub(crate) fn node(&self, number: usize) -> Node
-        requires { number < length self.now.nodes.keys }
-        ensures { result ≡ node_at self.now.nodes.keys number }
-    {
-        self.nodes.as_slice()[number]
     }
 }

@@ -18,17 +18,17 @@ pub struct Graph {
 impl Graph {
     ghost use Rattle.dep_graph.specs.Graph.{AreLinked, AreSame, links_of};
 
-    /// A graph in which no node was linked. Takes no memory.
+    /// A graph in which no node was linked. Errs for want of memory.
     pub fn new(alloc: Global) -> Result<Graph, AllocError>
         ensures { IfOk result (λ graph. (a : Node) → links_of graph a ≡ []) }
     {
         Ok(Graph {
-            net: Net::new(alloc),
+            net: Net::new(alloc)?,
         })
     }
 
     /// Replaces what the node was linked to. Where there is no memory all links stay as they were. Costs about the number
-    /// of the node's old and new needs, and for a range that is needed for the first time the number of its slots.
+    /// of the node's old and new needs, and for a range that no node needs yet the number of its slots.
     pub fn link(&mut self, a: Node, needs: &[Node]) -> Result<(), AllocError>
         ensures ok { OnOk result (AreLinked a needs.now (links_of self.old) (links_of self.new)) }
         ensures err { OnErr result (AreSame (links_of self.old) (links_of self.new)) }

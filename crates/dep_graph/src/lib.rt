@@ -4,9 +4,11 @@
 //! A [`Node`] is a cell, a named expression, or a range that formulas read. A [`Graph`] stands for a finite map from
 //! nodes to the nodes that each of them was linked to. Beside these a range that some node is linked to needs each cell
 //! that it covers, without being linked to any. Ranges never list their cells: a range is filed under the few slots into
-//! which its block is cut, and a cell finds the ranges that cover it by its slots. So prefix sums over n rows cost about
+//! which the numbers of its lines are cut, and a cell finds the ranges that cover it by its slots. So prefix sums over n rows cost about
 //! n and not the square of n. A structural operation takes the nodes along, and loses some with their links;
-//! [`Graph::bent`] tells beforehand which nodes are linked to one that it doesn't just carry along.
+//! [`Graph::bent`] tells beforehand which nodes are linked to one that it doesn't just carry along. Cells and ranges are
+//! kept under the numbers of their lines, which stay while operations move these, so that what an operation only carries
+//! along isn't touched.
 //!
 //! ```text
 //! let mut graph = Graph::new(alloc)?;
@@ -23,12 +25,15 @@
 mod arrows;
 mod bent;
 mod copy;
+mod files;
 mod graph;
+mod key;
 mod laws;
 mod net;
 mod node;
 mod nodes;
 mod shifted;
+mod table;
 mod walk;
 
 pub use graph::Graph;

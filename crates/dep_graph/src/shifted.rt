@@ -1,105 +1,299 @@
 // Graphs moved over structural operations.
-ghost use Rattle.std.specs.Prelude.{◌≡◌, ◌↔◌, ◌<◌, ◌++◌, ℕ, length, Some, IsTrue, IfOk, OnOk, OnErr};
-ghost use Rattle.std.specs.Option.{option_to_list};
+ghost use Rattle.std.specs.Prelude.{◌≡◌, ◌==◌, ◌↔◌, ◌+◌, ◌<◌, ℕ, true, Some, length, slice_get, if◌then◌else◌, IsSome, IsTrue, IfOk, OnOk, OnErr};
+ghost use Rattle.place_lines.specs.Moved.{AreMoved};
+ghost use Rattle.shift_core.specs.Form.{form_of};
 ghost use Rattle.shift_core.specs.Sound.{IsSound};
 ghost use Rattle.dep_graph.specs.Graph.{AreSame, links_of};
-ghost use Rattle.dep_graph.specs.Nodes.{items_of};
 ghost use Rattle.dep_graph.specs.Shifted.{AreShifted, node_after};
-ghost use Rattle.dep_graph.specs.internal.Nets.{links_in};
-ghost use Rattle.dep_graph.specs.internal.ShiftedNumbers.{AddsMoved, AllStay, moved_needs};
+ghost use Rattle.dep_graph.specs.declared.node.Node.TheVariants.{Range};
+ghost use Rattle.dep_graph.specs.internal.Files.{FilesOn, HoldsBlock};
+ghost use Rattle.dep_graph.specs.internal.Filings.{filing_of, owner_at};
+ghost use Rattle.dep_graph.specs.internal.Keys.{is_narrow, key_of};
+ghost use Rattle.dep_graph.specs.internal.Nets.{Grows, links_in};
+ghost use Rattle.dep_graph.specs.internal.Numbers.{count_of, key_place};
+ghost use Rattle.dep_graph.specs.internal.ShiftedNumbers.{AreFilingsUnder, AreRefiled, AreTargets, IsCarriedAt, after_at, aim_of, block_in, is_linked};
 
 use crate::graph::Graph;
+use crate::key::Key;
 use crate::net::Net;
 use crate::node::Node;
-use crate::nodes::Nodes;
-use shift_core::{Shift, moved_block, moved_place};
+use cell_addr::Block;
+use place_lines::PlaceLines;
+use shift_core::{Shift, is_bent, is_cut, moved_block, moved_place};
 use std::alloc::AllocError;
 
 impl Graph {
     /// Moves the nodes over the operation, with their links. A lost node goes with its links. Two ranges that become one
     /// block are one node, with the needs and the users of both. In which order a node's links stand then isn't told. Where
-    /// there is no memory all links stay as they were. Costs a look at each node where none moves, and otherwise about the
-    /// number of all nodes and links, and that of the slots of the used ranges; where nodes with links become one, these
-    /// are linked anew for each of them.
+    /// there is no memory, or where the numbers of lines are used up, after more edits than fit a lifetime, all links stay
+    /// as they were. Costs a look at each node and each link, and the runs of lines of all edited sheets, which are copied;
+    /// besides, for each node that the operation loses or bends, that it takes along with moved cells, or that isn't inside
+    /// its sheet, about the number of its slots, of its links and of its users' links. What it only carries along isn't
+    /// touched. Takes memory for each node while it runs. Now and then, where many ranges were bent or many nodes lost
+    /// their links, the graph is made anew, which costs what [`Graph::copied`] does.
     pub fn shift(&mut self, s: &Shift) -> Result<(), AllocError>
         requires { IsSound s.now }
         ensures ok { OnOk result (AreShifted s.now (links_of self.old) (links_of self.new)) }
         ensures err { OnErr result (AreSame (links_of self.old) (links_of self.new)) }
     {
-        if self.net.stays(s) {
-            return Ok(());
+        self.net.shift(s)?;
+        if self.net.is_fragmented() {
+            self.net.renew();
         }
-        self.net = self.net.shifted(s)?;
         Ok(())
     }
 }
 
 impl Net {
-    // Whether the operation leaves each node where it is.
-    fn stays(&self, s: &Shift) -> bool
+    // Moves the nodes over the operation, with their links.
+    fn shift(&mut self, s: &Shift) -> Result<(), AllocError>
         requires { IsSound s.now }
-        ensures { IsTrue result ↔ AllStay s.now self.now.nodes.keys }
+        ensures ok { OnOk result (AreShifted s.now (links_in self.old) (links_in self.new)) }
+        ensures err { OnErr result (AreSame (links_in self.old) (links_in self.new)) }
     {
-        'nodes: for node in self.nodes.as_slice() {
-            if !stays(s, *node) {
-                return false;
-            }
-        }
-        true
+        let lines = self.nodes.lines.moved(self.alloc, s)?;
+        let targets = self.targets(&lines, s)?;
+        let current = self.refiled(&lines, s, &targets)?;
+        self.links.redirect(&targets)?;
+        self.nodes.lines = lines;
+        self.files.current = current;
+        Ok(())
     }
 
-    // A net with the links as the operation moves them.
-    fn shifted(&self, s: &Shift) -> Result<Net, AllocError>
+    // For each number that of what its node becomes, which is added where it isn't known. Nodes without links have none.
+    fn targets(&mut self, lines: &PlaceLines, s: &Shift) -> Result<Vec<Option<usize>>, AllocError>
         requires { IsSound s.now }
-        ensures { IfOk result (λ net. AreShifted s.now (links_in self.now) (links_in net)) }
+        ensures grown { Grows self.old self.new }
+        ensures targets { IfOk result (λ targets. AreTargets s.now lines.now self.new targets.items) }
     {
-        let mut moved = Net::new(self.alloc);
-        'nodes: for number in 0..self.nodes.len() {
-            self.move_links(&mut moved, s, number)?;
+        let mut targets = Vec::new(self.alloc);
+        'numbers: for number in 0..self.nodes.len() {
+            let target = self.target(lines, s, number)?;
+            targets.push(target)?;
         }
-        Ok(moved)
+        Ok(targets)
     }
 
-    // Links what the node of a number has become to what its needs have become, and to what it was linked to there before.
-    fn move_links(&self, moved: &mut Net, s: &Shift, number: usize) -> Result<(), AllocError>
+    // The number of what the node of a number becomes.
+    fn target(
+        &mut self,
+        lines: &PlaceLines,
+        s: &Shift,
+        number: usize,
+    ) -> Result<Option<usize>, AllocError>
         requires sound { IsSound s.now }
-        requires number { number < length self.now.nodes.keys }
-        ensures { OnOk result (AddsMoved s.now self.now number (links_in moved.old) (links_in moved.new)) }
+        requires number { number < count_of self.old.nodes }
+        ensures grown { Grows self.old self.new }
+        ensures aim { IfOk result (λ target. is_linked self.old number ≡ true → target ≡ aim_of s.now lines.now self.new number) }
+        ensures inside { IfOk result (λ target. (t : ℕ) → target ≡ Some t → t < count_of self.new.nodes) }
     {
-        if self.links.needs(number).is_empty() {
+        if !self.is_linked(number) {
+            return Ok(None);
+        }
+        match self.moved(s, number) {
+            Some(after) => self.target_of_key(Key::of(lines, after), number),
+            None => Ok(None),
+        }
+    }
+
+    // The number of a key, which is most often this one.
+    fn target_of_key(&mut self, key: Key, number: usize) -> Result<Option<usize>, AllocError>
+        requires number { number < count_of self.old.nodes }
+        requires narrow { is_narrow key ≡ true }
+        ensures grown { Grows self.old self.new }
+        ensures place { IfOk result (λ target. target ≡ Some (key_place self.new.nodes key)) }
+        ensures inside { IfOk result (λ target. key_place self.new.nodes key < count_of self.new.nodes) }
+    {
+        if self.nodes.key(number) == key {
+            return Ok(Some(number));
+        }
+        Ok(Some(self.know_key(key)?))
+    }
+
+    // Whether the node of a number is linked to some, or some to it.
+    fn is_linked(&self, number: usize) -> bool
+        requires { number < count_of self.now.nodes }
+        ensures { result ≡ is_linked self.now number }
+    {
+        !self.links.needs(number).is_empty() || self.is_used(number)
+    }
+
+    // Where the operation moves the node of a number.
+    fn moved(&self, s: &Shift, number: usize) -> Option<Node>
+        requires { IsSound s.now }
+        ensures { result ≡ after_at s.now self.now number }
+    {
+        moved_node(s, self.nodes.node(number)?)
+    }
+
+    // The filings after the operation: each used range is filed where it goes. The present ones stay.
+    fn refiled(
+        &mut self,
+        lines: &PlaceLines,
+        s: &Shift,
+        targets: &[Option<usize>],
+    ) -> Result<Vec<Option<usize>>, AllocError>
+        requires sound { IsSound s.now }
+        requires moved { AreMoved (form_of s.now) self.old.nodes.lines lines.now }
+        requires targets { AreTargets s.now lines.now self.old targets.now }
+        ensures nodes { self.new.nodes ≡ self.old.nodes }
+        ensures links { self.new.links ≡ self.old.links }
+        ensures files { FilesOn self.old.files self.new.files }
+        ensures count { IfOk result (λ current. length current.items ≡ count_of self.new.nodes) }
+        ensures filings { IfOk result (AreFilingsUnder lines.now self.new) }
+        ensures refiled { IfOk result (AreRefiled s.now self.new targets.now (length targets.now)) }
+    {
+        let mut current = Vec::from_elem(self.alloc, None, self.nodes.len())?;
+        'numbers: for number in 0..targets.len() {
+            self.refile(&mut current, lines, s, targets, number)?;
+        }
+        Ok(current)
+    }
+
+    // Files what the node of a number becomes, where that is a used range, unless it is filed.
+    fn refile(
+        &mut self,
+        current: &mut Vec<Option<usize>>,
+        lines: &PlaceLines,
+        s: &Shift,
+        targets: &[Option<usize>],
+        number: usize,
+    ) -> Result<(), AllocError>
+        requires sound { IsSound s.now }
+        requires number { number < length targets.now }
+        requires moved { AreMoved (form_of s.now) self.old.nodes.lines lines.now }
+        requires targets { AreTargets s.now lines.now self.old targets.now }
+        requires count { length current.old.items ≡ count_of self.old.nodes }
+        requires filings { AreFilingsUnder lines.now self.old current.old }
+        requires refiled { AreRefiled s.now self.old targets.now number current.old }
+        ensures nodes { self.new.nodes ≡ self.old.nodes }
+        ensures links { self.new.links ≡ self.old.links }
+        ensures files { FilesOn self.old.files self.new.files }
+        ensures count { length current.new.items ≡ length current.old.items }
+        ensures filings { AreFilingsUnder lines.now self.new current.new }
+        ensures refiled { OnOk result (AreRefiled s.now self.new targets.now (number + 1) current.new) }
+    {
+        if !self.is_used(number) {
             return Ok(());
         }
-        match moved_node(s, self.node(number)) {
-            Some(after) => {
-                let mut needs = moved.linked_to(after)?;
-                self.push_moved(&mut needs, s, number)?;
-                moved.link(after, needs.items())
-            }
+        match targets[number] {
+            Some(target) => match self.moved_range(s, number) {
+                Some(after) => self.refile_range(current, lines, s, number, target, after),
+                None => Ok(()),
+            },
             None => Ok(()),
         }
     }
 
-    // What the node is linked to; nothing where it has no number.
-    fn linked_to(&self, a: Node) -> Result<Nodes, AllocError>
-        ensures { IfOk result (λ needs. items_of needs ≡ links_in self.now a) }
+    // The range that the node of a number becomes; none where it becomes none.
+    fn moved_range(&self, s: &Shift, number: usize) -> Option<Block>
+        requires { IsSound s.now }
+        ensures { result ≡ block_in (after_at s.now self.now number) }
     {
-        match self.number(a) {
-            Some(number) => self.needs(number),
-            None => Nodes::new(self.alloc),
+        match self.moved(s, number) {
+            Some(Node::Range(block)) => Some(block),
+            _ => None,
         }
     }
 
-    // Adds what the needs of the node of a number have become; the lost ones are left out.
-    fn push_moved(&self, needs: &mut Nodes, s: &Shift, number: usize) -> Result<(), AllocError>
+    // Files the range that the node of a number becomes, under its number then, unless it is filed.
+    fn refile_range(
+        &mut self,
+        current: &mut Vec<Option<usize>>,
+        lines: &PlaceLines,
+        s: &Shift,
+        number: usize,
+        target: usize,
+        after: Block,
+    ) -> Result<(), AllocError>
         requires sound { IsSound s.now }
-        requires number { number < length self.now.nodes.keys }
-        ensures { OnOk result (items_of needs.new ≡ items_of needs.old ++ moved_needs s.now self.now number) }
+        requires moved { AreMoved (form_of s.now) self.old.nodes.lines lines.now }
+        requires after { after_at s.now self.old number ≡ Some (Range after) }
+        requires target { slice_get self.old.nodes.keys.keys target ≡ Some (key_of lines.now (Range after)) }
+        requires inside { target < length current.old.items }
+        requires filings { AreFilingsUnder lines.now self.old current.old }
+        ensures nodes { self.new.nodes ≡ self.old.nodes }
+        ensures links { self.new.links ≡ self.old.links }
+        ensures files { FilesOn self.old.files self.new.files }
+        ensures count { length current.new.items ≡ length current.old.items }
+        ensures filings { AreFilingsUnder lines.now self.new current.new }
+        ensures kept { (n : ℕ) → IsSome (filing_of current.old n) → IsSome (filing_of current.new n) }
+        ensures filed { OnOk result (IsSome (filing_of current.new target)) }
     {
-        'needs: for need in self.links.needs(number) {
-            push_some(needs, moved_node(s, self.node(*need)))?;
+        if current[target].is_some() {
+            return Ok(());
         }
+        let filing = self.filing_after(lines, s, number, target, after)?;
+        put_filing(current, target, filing);
         Ok(())
     }
+
+    // A filing of the range that a range becomes: the present one, where the operation just carries it along.
+    fn filing_after(
+        &mut self,
+        lines: &PlaceLines,
+        s: &Shift,
+        number: usize,
+        target: usize,
+        after: Block,
+    ) -> Result<usize, AllocError>
+        requires sound { IsSound s.now }
+        requires moved { AreMoved (form_of s.now) self.old.nodes.lines lines.now }
+        requires after { after_at s.now self.old number ≡ Some (Range after) }
+        requires target { slice_get self.old.nodes.keys.keys target ≡ Some (key_of lines.now (Range after)) }
+        ensures nodes { self.new.nodes ≡ self.old.nodes }
+        ensures links { self.new.links ≡ self.old.links }
+        ensures files { FilesOn self.old.files self.new.files }
+        ensures owner { IfOk result (λ f. owner_at self.new.files.owners f ≡ Some target) }
+        ensures holds { IfOk result (λ f. HoldsBlock lines.now self.new.files f after) }
+    {
+        if target == number && self.is_carried(s, number) {
+            if let Some(filing) = self.files.filing(number) {
+                return Ok(filing);
+            }
+        }
+        self.files.file(lines, after, target)
+    }
+
+    // Whether the node of a number is a range that the operation just carries along.
+    fn is_carried(&self, s: &Shift, number: usize) -> bool
+        requires { IsSound s.now }
+        ensures { IsTrue result → IsCarriedAt s.now self.now number }
+    {
+        match self.nodes.node(number) {
+            Some(Node::Range(block)) => block.inside() && !is_bent(s, block) && !is_cut(s, block),
+            _ => false,
+        }
+    }
+
+    // Whether less than half of the keys have links, or more than four rectangles were filed for each linked node.
+    fn is_fragmented(&self) -> bool {
+        let mut linked = 0;
+        'numbers: for number in 0..self.nodes.len() {
+            if self.is_linked(number) {
+                linked += 1;
+            }
+        }
+        self.nodes.len() / 2 > linked || self.files.filed / 4 > linked
+    }
+
+    // Makes the net anew, with the same links; where there is no memory it stays as it is.
+    fn renew(&mut self)
+        ensures { AreSame (links_in self.old) (links_in self.new) }
+    {
+        if let Ok(net) = self.copied() {
+            *self = net;
+        }
+    }
+}
+
+// Makes a filing the present one of a number.
+fn put_filing(current: &mut Vec<Option<usize>>, number: usize, filing: usize)
+    requires { number < length current.old.items }
+    ensures count { length current.new.items ≡ length current.old.items }
+    ensures kept { (n : ℕ) → filing_of current.new n ≡ (if n == number then Some filing else filing_of current.old n) }
+{
+    current[number] = Some(filing);
 }
 
 // Where the operation moves the node; None where its place or its block is lost.
@@ -111,26 +305,5 @@ fn moved_node(s: &Shift, node: Node) -> Option<Node>
         Node::Cell(at) => Some(Node::Cell(moved_place(s, at)?)),
         Node::Name { .. } => Some(node),
         Node::Range(block) => Some(Node::Range(moved_block(s, block)?)),
-    }
-}
-
-// Whether the operation leaves the node where it is.
-fn stays(s: &Shift, node: Node) -> bool
-    requires { IsSound s.now }
-    ensures { IsTrue result ↔ (node_after s.now node ≡ Some node) }
-{
-    match moved_node(s, node) {
-        Some(after) => after == node,
-        None => false,
-    }
-}
-
-// Adds the node at the end where there is one.
-fn push_some(nodes: &mut Nodes, node: Option<Node>) -> Result<(), AllocError>
-    ensures { OnOk result (items_of nodes.new ≡ items_of nodes.old ++ option_to_list node) }
-{
-    match node {
-        Some(node) => nodes.push(node),
-        None => Ok(()),
     }
 }

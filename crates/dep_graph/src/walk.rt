@@ -1,6 +1,7 @@
 // What a graph reaches, in any order and in order.
-ghost use Rattle.std.specs.Prelude.{◌≡◌, ◌≢◌, ◌↔◌, ◌⊎◌, ◌<◌, ◌≤◌, ◌++◌, ◌∷◌, ℕ, [], true, false, map, filter, nat_lt, length, IsTrue, IfOk, OnOk, slice_index_or};
-ghost use Rattle.std.specs.List.{AllPairs};
+ghost use Rattle.std.specs.Prelude.{◌≡◌, ◌≢◌, ◌↔◌, ◌⊎◌, ◌<◌, ◌≤◌, ◌++◌, ℕ, true, false, length, IsTrue, IfOk, OnOk, slice_index_or};
+ghost use Rattle.std.specs.List.{AllPairs, filter_map};
+ghost use Rattle.std.specs.Option.{option_to_list};
 ghost use Rattle.needs_order.specs.Needs as plain;
 ghost use Rattle.dep_graph.specs.Graph.{links_of};
 ghost use Rattle.dep_graph.specs.Needs.{OnCycle};
@@ -8,7 +9,7 @@ ghost use Rattle.dep_graph.specs.Nodes.{has, items_of};
 ghost use Rattle.dep_graph.specs.Walks.{AreReached, IsOnce, IsOrdered};
 ghost use Rattle.dep_graph.specs.declared.node.Node.{Node};
 ghost use Rattle.dep_graph.specs.internal.Arrows.{node_total};
-ghost use Rattle.dep_graph.specs.internal.Numbers.{node_at, place_of};
+ghost use Rattle.dep_graph.specs.internal.Numbers.{found_at, place_of};
 ghost use Rattle.dep_graph.specs.internal.Walked.{AreKnown, AreUnknown, pick, picks};
 
 use crate::graph::Graph;
@@ -22,7 +23,8 @@ use std::alloc::AllocError;
 impl Graph {
     /// The nodes from which needs lead to one of the marks, one or more after another, and the marks themselves: each
     /// once, in any order. A mark may be a node that was never linked. Costs about the number of the answer's nodes and of
-    /// their links, and for each cell among them a look-up for each size of slots in use. Errs for want of memory.
+    /// their links, and for each cell among them a look-up for each size of slots in use and a look at each range that was
+    /// filed under its slots, also as it was before it was bent. Errs for want of memory.
     pub fn reach(&self, marks: &Nodes) -> Result<Nodes, AllocError>
         ensures { IfOk result (λ nodes. AreReached (links_of self.now) (items_of marks.now) (items_of nodes)) }
     {
@@ -48,7 +50,7 @@ impl Graph {
     pub fn on_cycle(&self, a: Node) -> Result<bool, AllocError>
         ensures { IfOk result (λ is_so. IsTrue is_so ↔ OnCycle (links_of self.now) a) }
     {
-        match self.net.number(a) {
+        match self.net.nodes.number(a) {
             Some(number) => {
                 let walk = node_reach::order(self.net.alloc, &self.net, &[number])?;
                 Ok(flag_of(&walk, number))
@@ -74,9 +76,9 @@ impl Net {
     fn put_unknown(&self, unknown: &mut IndexSet<Node>, node: Node) -> Result<(), AllocError>
         requires { IsOnce unknown.old.keys }
         ensures once { OnOk result (IsOnce unknown.new.keys) }
-        ensures more { OnOk result ((a : Node) → IsTrue (has a unknown.new.keys) ↔ (IsTrue (has a unknown.old.keys) ⊎ ((a ≡ node) × (node_total self.now ≤ place_of self.now.nodes.keys node)))) }
+        ensures more { OnOk result ((a : Node) → IsTrue (has a unknown.new.keys) ↔ (IsTrue (has a unknown.old.keys) ⊎ ((a ≡ node) × (node_total self.now ≤ place_of self.now.nodes node)))) }
     {
-        match self.number(node) {
+        match self.nodes.number(node) {
             Some(_) => Ok(()),
             None => {
                 unknown.insert(node)?;
@@ -98,9 +100,9 @@ impl Net {
 
     // Puts the number of the node into the set where it has one.
     fn put_known(&self, known: &mut IndexSet<usize>, node: Node) -> Result<(), AllocError>
-        ensures { OnOk result ((n : ℕ) → IsTrue (plain.has n known.new.keys) ↔ (IsTrue (plain.has n known.old.keys) ⊎ ((n ≡ place_of self.now.nodes.keys node) × (n < node_total self.now)))) }
+        ensures { OnOk result ((n : ℕ) → IsTrue (plain.has n known.new.keys) ↔ (IsTrue (plain.has n known.old.keys) ⊎ ((n ≡ place_of self.now.nodes node) × (n < node_total self.now)))) }
     {
-        match self.number(node) {
+        match self.nodes.number(node) {
             Some(number) => {
                 known.insert(number)?;
                 Ok(())
@@ -109,13 +111,13 @@ impl Net {
         }
     }
 
-    // The unknown nodes, and behind them those of the numbers that are nodes.
+    // The unknown nodes, and behind them those of the numbers.
     pub(crate) fn named(
         &self,
         unknown: &IndexSet<Node>,
         numbers: &[usize],
     ) -> Result<Nodes, AllocError>
-        ensures { IfOk result (λ nodes. items_of nodes ≡ unknown.now.keys ++ map (node_at self.now.nodes.keys) (filter (λ v. nat_lt v (node_total self.now)) numbers.now)) }
+        ensures { IfOk result (λ nodes. items_of nodes ≡ unknown.now.keys ++ filter_map (found_at self.now.nodes) numbers.now) }
     {
         let mut nodes = Nodes::of(self.alloc, unknown.as_slice())?;
         'numbers: for number in numbers {
@@ -124,12 +126,12 @@ impl Net {
         Ok(nodes)
     }
 
-    // Adds the node of a number, where it is one.
-    fn push_node(&self, nodes: &mut Nodes, number: usize) -> Result<(), AllocError>
-        ensures { OnOk result (items_of nodes.new ≡ items_of nodes.old ++ map (node_at self.now.nodes.keys) (filter (λ v. nat_lt v (node_total self.now)) (number ∷ []))) }
+    // Adds the node of a number, where it has one.
+    pub(crate) fn push_node(&self, nodes: &mut Nodes, number: usize) -> Result<(), AllocError>
+        ensures { OnOk result (items_of nodes.new ≡ items_of nodes.old ++ option_to_list (found_at self.now.nodes number)) }
     {
-        match self.nodes.as_slice().get(number) {
-            Some(node) => nodes.push(*node),
+        match self.nodes.node(number) {
+            Some(node) => nodes.push(node),
             None => Ok(()),
         }
     }
@@ -142,8 +144,7 @@ impl Net {
         walk: &Walk,
     ) -> Result<Nodes, AllocError>
         requires marks { length walk.now.on_cycle.items ≡ length walk.now.nodes.items }
-        requires known { (n : ℕ) → plain.has n known.now.keys ≡ true → n < node_total self.now }
-        ensures { IfOk result (λ nodes. items_of nodes ≡ unknown.now.keys ++ map (node_at self.now.nodes.keys) (picks known.now.keys walk.now.nodes.items walk.now.on_cycle.items)) }
+        ensures { IfOk result (λ nodes. items_of nodes ≡ unknown.now.keys ++ filter_map (found_at self.now.nodes) (picks known.now.keys walk.now.nodes.items walk.now.on_cycle.items)) }
     {
         let mut nodes = Nodes::of(self.alloc, unknown.as_slice())?;
         let mut left = walk.nodes.len();
@@ -164,15 +165,14 @@ impl Net {
     ) -> Result<(), AllocError>
         requires place { place < length walk.now.nodes.items }
         requires marks { length walk.now.on_cycle.items ≡ length walk.now.nodes.items }
-        requires known { (n : ℕ) → plain.has n known.now.keys ≡ true → n < node_total self.now }
-        ensures { OnOk result (items_of nodes.new ≡ items_of nodes.old ++ map (node_at self.now.nodes.keys) (pick known.now.keys (slice_index_or walk.now.nodes.items place 0) (slice_index_or walk.now.on_cycle.items place false))) }
+        ensures { OnOk result (items_of nodes.new ≡ items_of nodes.old ++ filter_map (found_at self.now.nodes) (pick known.now.keys (slice_index_or walk.now.nodes.items place 0) (slice_index_or walk.now.on_cycle.items place false))) }
     {
         let number = walk.nodes[place];
         let is_on_cycle = walk.on_cycle[place];
         if is_on_cycle || !has_number(known, number) {
             return Ok(());
         }
-        nodes.push(self.nodes.as_slice()[number])
+        self.push_node(nodes, number)
     }
 }
 

@@ -4,15 +4,14 @@ use Rattle.std.specs.List.{list_any, position_or_len}
 use Rattle.block_slots.specs.Slots.{has_cell, slot_at}
 use Rattle.block_slots.specs.declared.slot.Size.{Size}
 use Rattle.block_slots.specs.declared.slot.Slot.{Slot}
-use Rattle.cell_addr.specs.declared.place.Place.{Place}
 use Rattle.block_index.specs.declared.key.SlotKey.{SlotKey}
 
--- the key of a slot of a sheet, and of the slot of a size at a place
+-- the key of a slot of a sheet, and of the slot of a size at a cell
 abbrev pub key_of : ℕ → Slot → SlotKey
 key_of sheet slot = record { sheet = sheet; row_level = slot.rows.level; row_index = slot.rows.index; col_level = slot.cols.level; col_index = slot.cols.index }
 
-abbrev pub key_at : Place → Size → SlotKey
-key_at p size = key_of p.sheet (slot_at size p.row p.col)
+abbrev pub key_at : ℕ → ℕ → ℕ → Size → SlotKey
+key_at sheet row col size = key_of sheet (slot_at size row col)
 
 -- the size of the slot of a key
 abbrev pub key_size : SlotKey → Size
@@ -34,6 +33,6 @@ has_size z sizes = list_any (λ y. y.row_level == z.row_level && y.col_level == 
 abbrev pub AreSized : List SlotKey → List Size → Type 0
 AreSized keys sizes = (i : ℕ) (d : SlotKey) → i < length keys → has_size (key_size (slice_index_or keys i d)) sizes ≡ true
 
--- the place lies in the slot of the sheet
-abbrev pub in_slot : ℕ → Slot → Place → Bool
-in_slot sheet slot p = p.sheet == sheet && has_cell slot p.row p.col
+-- the cell lies in the slot of the sheet
+abbrev pub in_slot : ℕ → Slot → ℕ → ℕ → ℕ → Bool
+in_slot sheet slot s r c = s == sheet && has_cell slot r c

@@ -10,8 +10,8 @@ use Rattle.dep_graph.specs.internal.Numbers.{node_at}
 
 -- the node of the number is linked to one that the operation bends
 abbrev pub IsBentAt : Shift → Net → ℕ → Type 0
-IsBentAt s net n = (m : ℕ) × (plain.has m (needs_of net.links n) ≡ true) × Bends s (node_at net.nodes.keys m)
+IsBentAt s net n = (m : ℕ) × (plain.has m (needs_of net.links n) ≡ true) × Bends s (node_at net.nodes m)
 
 -- the node of the number was added exactly where it is
 abbrev pub PushesBent : Shift → Net → ℕ → List Node → List Node → Type 0
-PushesBent s net n old new = ((new ≡ old ++ node_at net.nodes.keys n ∷ []) × IsBentAt s net n) ⊎ ((new ≡ old) × ¬ IsBentAt s net n)
+PushesBent s net n old new = ((new ≡ old ++ node_at net.nodes n ∷ []) × IsBentAt s net n) ⊎ ((new ≡ old) × ¬ IsBentAt s net n)

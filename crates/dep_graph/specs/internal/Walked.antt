@@ -10,11 +10,11 @@ use Rattle.dep_graph.specs.internal.Numbers.{place_of}
 
 -- those of the nodes that have no number, each once
 abbrev pub AreUnknown : Net → List Node → List Node → Type 0
-AreUnknown net nodes unknown = ((a : Node) → IsTrue (has a unknown) ↔ (IsTrue (has a nodes) × (node_total net ≤ place_of net.nodes.keys a))) × IsOnce unknown
+AreUnknown net nodes unknown = ((a : Node) → IsTrue (has a unknown) ↔ (IsTrue (has a nodes) × (node_total net ≤ place_of net.nodes a))) × IsOnce unknown
 
 -- the numbers of those of the nodes that have one
 abbrev pub AreKnown : Net → List Node → List ℕ → Type 0
-AreKnown net nodes known = (n : ℕ) → IsTrue (plain.has n known) ↔ ((a : Node) × IsTrue (has a nodes) × (n ≡ place_of net.nodes.keys a) × (n < node_total net))
+AreKnown net nodes known = (n : ℕ) → IsTrue (plain.has n known) ↔ ((a : Node) × IsTrue (has a nodes) × (n ≡ place_of net.nodes a) × (n < node_total net))
 
 -- the number where it is known and not marked
 abbrev pub pick : List ℕ → ℕ → Bool → List ℕ

@@ -1,14 +1,12 @@
-use Rattle.std.proofs.Common.{◌≡◌, ◌&&◌, true, nat_eq, take}
+use Rattle.std.proofs.Common.{◌≡◌, ℕ, true, take}
 use Rattle.std.specs.List.{list_any}
-use Rattle.cell_addr.specs.Place.{covers}
-use Rattle.cell_addr.specs.declared.place.Place.{Place}
 use Rattle.block_slots.specs.Slots.{has_cell}
-use Rattle.block_index.specs.Index.{Files, finds}
+use Rattle.block_index.specs.Index.{Files, finds, in_cells}
 use Rattle.block_index.proofs.index.BlockIndex.file.Given as goal
 
--- the places of the slots gone by find the number
+-- the cells of the slots gone by find the number
 abbrev pub invariant-slots : goal.invariant-slots
 invariant-slots l = record {
-  files : Files (covers l.fn.b) l.fn.number l.fn.self l.self;
-  found : (p : Place) → (nat_eq p.sheet l.fn.b.sheet && list_any (λ s. has_cell s p.row p.col) (take l.slot-index l.slot-items)) ≡ true → finds l.self p l.fn.number ≡ true;
+  files : Files (in_cells l.fn.sheet l.fn.rows l.fn.cols) l.fn.number l.fn.self l.self;
+  found : (row col : ℕ) → list_any (λ s. has_cell s row col) (take l.slot-index l.slot-items) ≡ true → finds l.self l.fn.sheet row col l.fn.number ≡ true;
 }

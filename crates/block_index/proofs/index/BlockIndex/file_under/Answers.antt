@@ -7,7 +7,7 @@ use Rattle.block_index.proofs.index.BlockIndex.file_under.Goals as goal
 
 pub returns-clause-files : goal.returns-clause-files
 returns-clause-files c =
-    let alike : FindsAlike c.args.self.now c.slot_under.new.self = λ p n. c.slot_under.ensures.alike p n ∙ c.use_size.ensures.alike p n in
+    let alike : FindsAlike c.args.self.now c.slot_under.new.self = λ sheet row col n. c.slot_under.ensures.alike sheet row col n ∙ c.use_size.ensures.alike sheet row col n in
     let is : c.in_ok-place.place ≡ place_of c.slot_under.new.self.slots.keys (key_of c.args.sheet c.args.slot) = c.in_ok-place.ensures.place ∙ ap (place_of c.slot_under.new.self.slots.keys) c.of.ensures in
     either_way c.push_at.result _ _ _ c.push_at.ensures.ok c.push_at.ensures.err
     (λ put. record {
@@ -15,11 +15,11 @@ returns-clause-files c =
       only = filed_only c.args.self.now c.slot_under.new.self c.push_at.new.self c.args.sheet c.args.slot c.args.number c.in_ok-place.place alike c.push_at.ensures.slots c.push_at.ensures.sizes is c.in_ok-place.ensures.inside put;
     })
     (λ same. Files-none (in_slot c.args.sheet c.args.slot) c.args.number c.args.self.now c.push_at.new.self
-    (λ p n. alike_same c.slot_under.new.self c.push_at.new.self c.push_at.ensures.slots c.push_at.ensures.sizes same p n ∙ alike p n))
+    (λ sheet row col n. alike_same c.slot_under.new.self c.push_at.new.self c.push_at.ensures.slots c.push_at.ensures.sizes same sheet row col n ∙ alike sheet row col n))
 
 pub returns-clause-found : goal.returns-clause-found
 returns-clause-found c =
-    let alike : FindsAlike c.args.self.now c.slot_under.new.self = λ p n. c.slot_under.ensures.alike p n ∙ c.use_size.ensures.alike p n in
+    let alike : FindsAlike c.args.self.now c.slot_under.new.self = λ sheet row col n. c.slot_under.ensures.alike sheet row col n ∙ c.use_size.ensures.alike sheet row col n in
     let is : c.in_ok-place.place ≡ place_of c.slot_under.new.self.slots.keys (key_of c.args.sheet c.args.slot) = c.in_ok-place.ensures.place ∙ ap (place_of c.slot_under.new.self.slots.keys) c.of.ensures in
     let size : has_size (size_of c.args.slot) c.slot_under.new.self.sizes.items ≡ true
     = subst (λ z. has_size z c.slot_under.new.self.sizes.items ≡ true) c.size.ensures (subst (λ zs. has_size c.size.result zs.items ≡ true) (sym c.slot_under.ensures.sizes) c.in_ok-use_size.ensures.size) in

@@ -5,4 +5,4 @@ use Rattle.block_index.proofs.index.BlockIndex.slots_at.Given as goal
 
 -- the slots of the sizes gone by
 abbrev pub invariant-sizes : goal.invariant-sizes
-invariant-sizes l = l.found.items ≡ filter_map (λ z. position (same_key (key_at l.at z)) l.self.slots.keys) (take l.size-index l.size-items)
+invariant-sizes l = l.found.items ≡ filter_map (λ z. position (same_key (key_at l.sheet l.row l.col z)) l.self.slots.keys) (take l.size-index l.size-items)

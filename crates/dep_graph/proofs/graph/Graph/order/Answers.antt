@@ -1,12 +1,14 @@
-use Rattle.std.proofs.Common.{◌<◌, subst, sym}
+use Rattle.std.proofs.Common.{◌<◌, ◌∙◌, ◌++◌, ap, subst, sym}
 use Rattle.std.specs.List.{All}
 use Rattle.node_links.proofs.Relinking.{all_of}
 use Rattle.node_reach.specs.Arrows as arrows
 use Rattle.dep_graph.specs.Nodes.{items_of}
 use Rattle.dep_graph.specs.internal.Arrows.{targets_of, total}
-use Rattle.dep_graph.specs.internal.Walked.{AreKnown, AreUnknown}
+use Rattle.dep_graph.specs.internal.Walked.{AreKnown, AreUnknown, picks}
 use Rattle.dep_graph.proofs.Listing.{if_ok}
-use Rattle.dep_graph.proofs.Ordering.{all_ordered, known_inside_total}
+use Rattle.dep_graph.proofs.Numbers.{found_all}
+use Rattle.dep_graph.proofs.Ordering.{all_ordered, known_alive, known_inside_total}
+use Rattle.dep_graph.proofs.Picking.{picks_has}
 use Rattle.dep_graph.proofs.graph.Graph.order.Goals as goal
 
 pub order-requires : goal.order-requires
@@ -21,4 +23,7 @@ returns c =
     (subst (λ l. AreUnknown c.args.self.now.net l c.in_ok-unknown.unknown.keys) c.items.ensures c.in_ok-unknown.ensures)
     (subst (λ l. AreKnown c.args.self.now.net l c.in_ok-known.known.keys) c.items-2.ensures c.in_ok-known.ensures)
     (subst (λ l. arrows.AreReached (targets_of c.args.self.now.net) l c.in_ok-walk.walk.nodes.items) c.as_slice.ensures.keys c.in_ok-walk.ensures.reached)
-    c.in_ok-walk.ensures.counts c.in_ok-walk.ensures.cycles c.in_ok-walk.ensures.in_order is)
+    c.in_ok-walk.ensures.counts c.in_ok-walk.ensures.cycles c.in_ok-walk.ensures.in_order
+    (is ∙ ap (λ l. c.in_ok-unknown.unknown.keys ++ l) (found_all c.args.self.now.net.nodes (picks c.in_ok-known.known.keys c.in_ok-walk.walk.nodes.items c.in_ok-walk.walk.on_cycle.items)
+    (λ n h. known_alive c.args.self.now.net (items_of c.args.nodes.now) c.in_ok-known.known.keys (subst (λ l. AreKnown c.args.self.now.net l c.in_ok-known.known.keys) c.items-2.ensures c.in_ok-known.ensures) n
+    (picks_has c.in_ok-known.known.keys c.in_ok-walk.walk.nodes.items c.in_ok-walk.walk.on_cycle.items n h).0))))

@@ -1,5 +1,7 @@
-use Rattle.dep_graph.proofs.Shifting.{shifted_where_they_stay}
+use Rattle.dep_graph.specs.internal.Nets.{links_in}
+use Rattle.dep_graph.proofs.Shifting.{shifted_before}
 use Rattle.dep_graph.proofs.graph.Graph.shift.Goals as goal
 
-pub returns-then-stays-clause-ok : goal.returns-then-stays-clause-ok
-returns-then-stays-clause-ok c = shifted_where_they_stay c.args.s.now c.args.self.now.net (c.stays.ensures.0 c.if-stays.true)
+pub returns-then-is_fragmented-clause-ok : goal.returns-then-is_fragmented-clause-ok
+returns-then-is_fragmented-clause-ok c =
+    shifted_before c.args.s.now (links_in c.args.self.now.net) (links_in c.shift.new.self) (links_in c.renew.new.self) c.in_ok-shift.ensures.ok c.renew.ensures

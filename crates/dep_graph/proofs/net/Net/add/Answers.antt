@@ -1,49 +1,53 @@
-use Rattle.std.proofs.Common.{◌≡◌, ◌∙◌, ap, sym, subst, arith, length, [], ◌∷◌, ◌++◌, true}
-use Rattle.std.proofs.lemmas.List.{length_push}
-use Rattle.needs_order.specs.Needs as plain
+use Rattle.std.proofs.Common.{◌∙◌, ap, sym, arith, length, [], ◌∷◌, ◌++◌, refl, None}
+use Rattle.std.specs.Prelude.{slice_index_or}
+use Rattle.std.specs.List.{list_any}
+use Rattle.std.proofs.lemmas.List.{append-nil, length_push}
 use Rattle.node_links.specs.Nodes.{needs_of}
-use Rattle.dep_graph.specs.Nodes.{covers_node, has}
-use Rattle.dep_graph.specs.declared.node.Node.TheVariants.{Cell}
-use Rattle.dep_graph.specs.internal.Numbers.{IsFiled, node_at, place_of}
-use Rattle.dep_graph.proofs.Adding.{absent_node, place_last}
-use Rattle.dep_graph.proofs.Growing.{filed_more, known_inside, sound_more}
+use Rattle.dep_graph.specs.internal.Keys.{same_key}
+use Rattle.dep_graph.proofs.Adding.{absent_key, alive_more, filed_more, filings_more, narrow_push, used_more}
+use Rattle.dep_graph.proofs.Growing.{filing-more}
 use Rattle.dep_graph.proofs.net.Net.add.Goals as goal
 
 pub put_last-requires-clause-new : goal.put_last-requires-clause-new
-put_last-requires-clause-new c = ap (has c.args.a) c.in_ok-reserve.ensures.keys ∙ absent_node c.args.self.now.nodes.keys c.args.a c.requires
+put_last-requires-clause-new c = ap (list_any (same_key c.args.key)) c.reserve.ensures.keys ∙ absent_key c.args.self.now.nodes.keys.keys c.args.key c.requires.new
 
-pub invariant_of-self-2 : goal.invariant_of-self-2
-invariant_of-self-2 c =
-    let keys : c.put_last.new.nodes.keys ≡ c.args.self.now.nodes.keys ++ c.args.a ∷ [] = c.put_last.ensures.keys ∙ ap (λ ks. ks ++ c.args.a ∷ []) c.in_ok-reserve.ensures.keys in
-    record {
-      once = c.put_last.ensures.once;
-      counts = omega (arith, ap length keys, length_push c.args.self.now.nodes.keys c.args.a, c.in_ok-number.ensures.count, c.args.self.now.counts);
-      sound = λ p n found. subst (λ ks. covers_node (node_at ks n) (Cell p) ≡ true) (sym keys) (sound_more c.args.self.now.index c.args.self.now.nodes.keys c.args.a c.args.self.now.sound p n found);
-      filed_whole = λ n h.
-          let (inside, filed) = c.args.self.now.filed_whole n h in (
-            omega (arith, inside, ap length keys, length_push c.args.self.now.nodes.keys c.args.a),
-            subst (λ ks. IsFiled c.args.self.now.index ks n) (sym keys) (filed_more c.args.self.now.index c.args.self.now.nodes.keys c.args.a n inside filed),
-          );
-      used = λ a n h.
-          let before : plain.has n (needs_of c.args.self.now.links a) ≡ true = subst (λ l. plain.has n l ≡ true) (c.in_ok-number.ensures.needs a) h in
-          subst (λ ks. IsFiled c.args.self.now.index ks n) (sym keys) (filed_more c.args.self.now.index c.args.self.now.nodes.keys c.args.a n (known_inside c.args.self.now a n before) (c.args.self.now.used a n before));
-    }
+pub invariant_of-self-in-Break-1 : goal.invariant_of-self-in-Break-1
+invariant_of-self-in-Break-1 c = record {
+  counts = c.args.self.now.counts ∙ sym (ap length c.reserve.ensures.keys);
+  rooms = c.args.self.now.rooms ∙ sym (ap length c.reserve.ensures.keys);
+  alive = alive_more c.args.self.now (c.reserve.new.self.keys) ([]) (c.reserve.ensures.keys ∙ sym (append-nil c.args.self.now.nodes.keys.keys)) (needs_of c.args.self.now.links) (λ n. refl);
+  filed = filings_more c.args.self.now (c.reserve.new.self.keys) ([]) (c.reserve.ensures.keys ∙ sym (append-nil c.args.self.now.nodes.keys.keys)) (c.args.self.now.files.current) (λ n. refl);
+  used = used_more c.args.self.now (c.reserve.new.self.keys) ([]) (c.reserve.ensures.keys ∙ sym (append-nil c.args.self.now.nodes.keys.keys)) (needs_of c.args.self.now.links) (c.args.self.now.files.current) (λ n. refl) (λ n. refl);
+}
+
+pub invariant_of-self-in-Break-branch-2 : goal.invariant_of-self-in-Break-branch-2
+invariant_of-self-in-Break-branch-2 c = record {
+  counts = c.args.self.now.counts ∙ sym (ap length c.reserve.ensures.keys);
+  rooms = ap length c.reserve-2.ensures.items ∙ (c.args.self.now.rooms ∙ sym (ap length c.reserve.ensures.keys));
+  alive = alive_more c.args.self.now (c.reserve.new.self.keys) ([]) (c.reserve.ensures.keys ∙ sym (append-nil c.args.self.now.nodes.keys.keys)) (needs_of c.args.self.now.links) (λ n. refl);
+  filed = filings_more c.args.self.now (c.reserve.new.self.keys) ([]) (c.reserve.ensures.keys ∙ sym (append-nil c.args.self.now.nodes.keys.keys)) (c.reserve-2.new.self) (λ n. ap (λ l. slice_index_or l n None) c.reserve-2.ensures.items);
+  used = used_more c.args.self.now (c.reserve.new.self.keys) ([]) (c.reserve.ensures.keys ∙ sym (append-nil c.args.self.now.nodes.keys.keys)) (needs_of c.args.self.now.links) (c.reserve-2.new.self) (λ n. refl) (λ n. ap (λ l. slice_index_or l n None) c.reserve-2.ensures.items);
+}
+
+pub invariant_of-self-in-Break-branch-3 : goal.invariant_of-self-in-Break-branch-3
+invariant_of-self-in-Break-branch-3 c = record {
+  counts = c.in_err-number.ensures.err ∙ (c.args.self.now.counts ∙ sym (ap length c.reserve.ensures.keys));
+  rooms = ap length c.reserve-2.ensures.items ∙ (c.args.self.now.rooms ∙ sym (ap length c.reserve.ensures.keys));
+  alive = alive_more c.args.self.now (c.reserve.new.self.keys) ([]) (c.reserve.ensures.keys ∙ sym (append-nil c.args.self.now.nodes.keys.keys)) (needs_of c.add.new.self) c.add.ensures.needs;
+  filed = filings_more c.args.self.now (c.reserve.new.self.keys) ([]) (c.reserve.ensures.keys ∙ sym (append-nil c.args.self.now.nodes.keys.keys)) (c.reserve-2.new.self) (λ n. ap (λ l. slice_index_or l n None) c.reserve-2.ensures.items);
+  used = used_more c.args.self.now (c.reserve.new.self.keys) ([]) (c.reserve.ensures.keys ∙ sym (append-nil c.args.self.now.nodes.keys.keys)) (needs_of c.add.new.self) (c.reserve-2.new.self) c.add.ensures.needs (λ n. ap (λ l. slice_index_or l n None) c.reserve-2.ensures.items);
+}
+
+pub invariant_of-self-4 : goal.invariant_of-self-4
+invariant_of-self-4 c = (
+  (c.put_last.ensures.once, (narrow_push c.args.self.now.nodes.keys.keys c.put_last.new.keys.keys c.args.key c.args.self.now.nodes.narrow c.requires.narrow (c.put_last.ensures.keys ∙ ap (λ ks. ks ++ c.args.key ∷ []) c.reserve.ensures.keys), tt)),
+  ((omega (arith, ap length (c.put_last.ensures.keys ∙ ap (λ ks. ks ++ c.args.key ∷ []) c.reserve.ensures.keys), length_push c.args.self.now.nodes.keys.keys c.args.key, c.in_ok-number.ensures.count, c.args.self.now.counts)), ((omega (arith, ap length (c.put_last.ensures.keys ∙ ap (λ ks. ks ++ c.args.key ∷ []) c.reserve.ensures.keys), length_push c.args.self.now.nodes.keys.keys c.args.key, ap length c.push_reserved.ensures.items, length_push c.reserve-2.new.self.items None, ap length c.reserve-2.ensures.items, c.args.self.now.rooms)), ((alive_more c.args.self.now (c.put_last.new.keys.keys) (c.args.key ∷ []) (c.put_last.ensures.keys ∙ ap (λ ks. ks ++ c.args.key ∷ []) c.reserve.ensures.keys) (needs_of c.add.new.self) c.add.ensures.needs), ((filings_more c.args.self.now (c.put_last.new.keys.keys) (c.args.key ∷ []) (c.put_last.ensures.keys ∙ ap (λ ks. ks ++ c.args.key ∷ []) c.reserve.ensures.keys) (c.push_reserved.new.self) (λ n. filing-more c.reserve-2.new.self c.push_reserved.new.self n c.push_reserved.ensures.items ∙ ap (λ l. slice_index_or l n None) c.reserve-2.ensures.items)), ((used_more c.args.self.now (c.put_last.new.keys.keys) (c.args.key ∷ []) (c.put_last.ensures.keys ∙ ap (λ ks. ks ++ c.args.key ∷ []) c.reserve.ensures.keys) (needs_of c.add.new.self) (c.push_reserved.new.self) c.add.ensures.needs (λ n. filing-more c.reserve-2.new.self c.push_reserved.new.self n c.push_reserved.ensures.items ∙ ap (λ l. slice_index_or l n None) c.reserve-2.ensures.items)), tt))))),
+)
 
 pub returns-clause-grown : goal.returns-clause-grown
-returns-clause-grown c =
-    let keys : c.put_last.new.nodes.keys ≡ c.args.self.now.nodes.keys ++ c.args.a ∷ [] = c.put_last.ensures.keys ∙ ap (λ ks. ks ++ c.args.a ∷ []) c.in_ok-reserve.ensures.keys in
-    record {
-      nodes = (c.args.a ∷ [], keys);
-      needs = c.in_ok-number.ensures.needs;
-      filed = λ n inside filed. subst (λ ks. IsFiled c.args.self.now.index ks n) (sym keys) (filed_more c.args.self.now.index c.args.self.now.nodes.keys c.args.a n inside filed);
-    }
-
-pub returns-clause-place : goal.returns-clause-place
-returns-clause-place c =
-    let keys : c.put_last.new.nodes.keys ≡ c.args.self.now.nodes.keys ++ c.args.a ∷ [] = c.put_last.ensures.keys ∙ ap (λ ks. ks ++ c.args.a ∷ []) c.in_ok-reserve.ensures.keys in
-    c.in_ok-number.ensures.number ∙ (c.args.self.now.counts ∙ (sym (place_last c.args.self.now.nodes.keys c.args.a c.requires) ∙ ap (λ ks. place_of ks c.args.a) (sym keys)))
-
-pub returns-clause-inside : goal.returns-clause-inside
-returns-clause-inside c =
-    let keys : c.put_last.new.nodes.keys ≡ c.args.self.now.nodes.keys ++ c.args.a ∷ [] = c.put_last.ensures.keys ∙ ap (λ ks. ks ++ c.args.a ∷ []) c.in_ok-reserve.ensures.keys in
-    omega (arith, c.in_ok-number.ensures.number, c.args.self.now.counts, ap length keys, length_push c.args.self.now.nodes.keys c.args.a)
+returns-clause-grown c = record {
+  keys = (c.args.key ∷ [], c.put_last.ensures.keys ∙ ap (λ ks. ks ++ c.args.key ∷ []) c.reserve.ensures.keys);
+  lines = refl;
+  needs = c.add.ensures.needs;
+  filed = λ n low filed. filed_more c.args.self.now (c.put_last.new.keys.keys) (c.args.key ∷ []) (c.put_last.ensures.keys ∙ ap (λ ks. ks ++ c.args.key ∷ []) c.reserve.ensures.keys) (c.push_reserved.new.self) n low (filing-more c.reserve-2.new.self c.push_reserved.new.self n c.push_reserved.ensures.items ∙ ap (λ l. slice_index_or l n None) c.reserve-2.ensures.items) filed;
+}

@@ -7,4 +7,4 @@ use Rattle.dep_graph.proofs.net.Net.is_bent.Given as goal
 
 -- none of the nodes of the numbers gone by is bent
 abbrev pub invariant-numbers : goal.invariant-numbers
-invariant-numbers l = (k : ℕ) → has k (take l.need-index (needs_of l.self.links l.number)) ≡ true → ¬ Bends l.s (node_at l.self.nodes.keys k)
+invariant-numbers l = (k : ℕ) → has k (take l.need-index (needs_of l.self.links l.number)) ≡ true → ¬ Bends l.s (node_at l.self.nodes k)

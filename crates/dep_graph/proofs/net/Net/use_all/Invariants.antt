@@ -1,6 +1,6 @@
-use Rattle.std.proofs.Common.{◌≡◌, ◌<◌, ℕ, true, length, map, take}
+use Rattle.std.proofs.Common.{◌≡◌, ℕ, true, map, take}
 use Rattle.needs_order.specs.Needs.{has}
-use Rattle.dep_graph.specs.internal.Numbers.{IsFiled, node_at}
+use Rattle.dep_graph.specs.internal.Numbers.{IsAlive, IsFiled, node_at}
 use Rattle.dep_graph.specs.internal.Nets.{Grows}
 use Rattle.dep_graph.proofs.net.Net.use_all.Given as goal
 
@@ -8,7 +8,7 @@ use Rattle.dep_graph.proofs.net.Net.use_all.Given as goal
 abbrev pub invariant-needs : goal.invariant-needs
 invariant-needs l = record {
   grown : Grows l.fn.self l.self;
-  nodes : map (node_at l.self.nodes.keys) l.numbers.items ≡ take l.need-index l.needs;
-  inside : (n : ℕ) → has n l.numbers.items ≡ true → n < length l.self.nodes.keys;
-  filed : (n : ℕ) → has n l.numbers.items ≡ true → IsFiled l.self.index l.self.nodes.keys n;
+  nodes : map (node_at l.self.nodes) l.numbers.items ≡ take l.need-index l.needs;
+  alive : (n : ℕ) → has n l.numbers.items ≡ true → IsAlive l.self.nodes n;
+  filed : (n : ℕ) → has n l.numbers.items ≡ true → IsFiled l.self.nodes l.self.files n;
 }

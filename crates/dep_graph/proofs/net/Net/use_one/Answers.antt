@@ -1,13 +1,14 @@
-use Rattle.std.proofs.Common.{◌∙◌, ap, subst, ◌<◌, length}
-use Rattle.dep_graph.specs.internal.Numbers.{node_at}
+use Rattle.std.proofs.Common.{◌∙◌, ap, subst, ◌<◌}
+use Rattle.dep_graph.specs.internal.Numbers.{count_of, found_at}
 use Rattle.dep_graph.proofs.Growing.{grows_on}
-use Rattle.dep_graph.proofs.Places.{at_place}
+use Rattle.dep_graph.proofs.Numbers.{found_place}
 use Rattle.dep_graph.proofs.net.Net.use_one.Goals as goal
 
-pub file_node-requires-clause-node : goal.file_node-requires-clause-node
-file_node-requires-clause-node c =
-    ap (node_at c.know.new.self.nodes.keys) c.in_ok-number.ensures.place
-    ∙ at_place c.know.new.self.nodes.keys c.args.a (subst (λ n. n < length c.know.new.self.nodes.keys) c.in_ok-number.ensures.place c.in_ok-number.ensures.inside)
+pub file_node-requires : goal.file_node-requires
+file_node-requires c = record {
+  node = ap (found_at c.know.new.self.nodes) c.in_ok-number.ensures.place
+      ∙ found_place c.know.new.self.nodes c.args.a (subst (λ n. n < count_of c.know.new.self.nodes) c.in_ok-number.ensures.place c.in_ok-number.ensures.inside);
+}
 
 pub returns-in_err-file_node-clause-grown : goal.returns-in_err-file_node-clause-grown
 returns-in_err-file_node-clause-grown c = grows_on c.args.self.now c.know.new.self c.file_node.new.self c.know.ensures.grown c.file_node.ensures.grown

@@ -1,0 +1,48 @@
+use Rattle.std.proofs.Common.{◌≡◌, ◌∙◌, ◌<◌, ◌↔◌, ap, length, refl, subst, sym, true, []}
+use Rattle.std.proofs.lemmas.List.{append-nil}
+use Rattle.place_lines.specs.declared.spot.Spot.{Spot}
+use Rattle.dep_graph.specs.internal.Files.{HasSpot, finds_filing}
+use Rattle.std.specs.Prelude.{IsSome}
+use Rattle.dep_graph.specs.internal.Filings.{filing_of}
+use Rattle.dep_graph.proofs.Adding.{filings_kept, filings_on, now_filed, still_filed}
+use Rattle.dep_graph.proofs.Filed.{held}
+use Rattle.dep_graph.proofs.Numbers.{alive_inside, alive_is}
+use Rattle.dep_graph.proofs.net.Net.file.Goals as goal
+
+pub invariant_of-self-in-Break-1 : goal.invariant_of-self-in-Break-1
+invariant_of-self-in-Break-1 c = record {
+  counts = c.args.self.now.counts;
+  rooms = ap (λ v. length v.items) c.file.ensures.on.current ∙ c.args.self.now.rooms;
+  alive = c.args.self.now.alive;
+  filed = filings_on c.args.self.now.nodes c.args.self.now.files c.file.new.self c.args.self.now.filed c.file.ensures.on;
+  used = λ a n h b at. subst IsSome (sym (ap (λ v. filing_of v n) c.file.ensures.on.current)) (c.args.self.now.used a n h b at);
+}
+
+pub keep-requires-clause-node : goal.keep-requires-clause-node
+keep-requires-clause-node c =
+    let low : c.args.number < length c.args.self.now.files.current.items = subst (λ k. c.args.number < k) (sym c.args.self.now.rooms) (alive_inside c.args.self.now.nodes c.args.number (alive_is c.args.self.now.nodes c.args.number _ c.requires.block).1) in
+    subst (λ v. c.args.number < length v.items) (sym c.file.ensures.on.current) low
+
+pub invariant_of-self-2 : goal.invariant_of-self-2
+invariant_of-self-2 c = record {
+  counts = c.args.self.now.counts;
+  rooms = c.keep.ensures.count ∙ (ap (λ v. length v.items) c.file.ensures.on.current ∙ c.args.self.now.rooms);
+  alive = c.args.self.now.alive;
+  filed = filings_kept c.args.self.now.nodes c.file.new.self c.keep.new.self c.args.number c.in_ok-filing.filing c.args.block
+      (filings_on c.args.self.now.nodes c.args.self.now.files c.file.new.self c.args.self.now.filed c.file.ensures.on) c.keep.ensures.index c.keep.ensures.kept c.requires.block
+      (held c.args.self.now.nodes.lines c.file.new.self c.in_ok-filing.filing c.args.block (subst (λ l. (spot : Spot) → (finds_filing c.file.new.self spot c.in_ok-filing.filing ≡ true) ↔ HasSpot l c.args.block spot) c.lines.ensures c.in_ok-filing.ensures.exact));
+  used = λ a n h. still_filed c.args.self.now.nodes c.file.new.self c.keep.new.self c.args.number c.in_ok-filing.filing c.keep.ensures.kept n
+      (λ b at. subst IsSome (sym (ap (λ v. filing_of v n) c.file.ensures.on.current)) (c.args.self.now.used a n h b at));
+}
+
+pub returns-clause-grown : goal.returns-clause-grown
+returns-clause-grown c = record {
+  keys = ([], sym (append-nil c.args.self.now.nodes.keys.keys));
+  lines = refl;
+  needs = λ n. refl;
+  filed = λ n low h. still_filed c.args.self.now.nodes c.file.new.self c.keep.new.self c.args.number c.in_ok-filing.filing c.keep.ensures.kept n
+      (λ b at. subst IsSome (sym (ap (λ v. filing_of v n) c.file.ensures.on.current)) (h b at));
+}
+
+pub returns-clause-filed : goal.returns-clause-filed
+returns-clause-filed c = now_filed c.args.self.now.nodes c.file.new.self c.keep.new.self c.args.number c.in_ok-filing.filing c.keep.ensures.kept
