@@ -6,26 +6,14 @@ use cell_addr::Place;
 use std::alloc::{AllocError, Global};
 use toml::Table;
 
-// The key of the listed sheet's name, which a row has only where it isn't the document's.
-const SHEET: &str = "sheet";
-
-// The keys of the rows of each kind, of which a document has those that it likes.
-const TEXT_ROWS: &str = "texts";
-
-const NESTED_ROWS: &str = "nested";
-
-const COLUMN_ROWS: &str = "columns";
-
-const SHIFT_ROWS: &str = "shifts";
-
 // The keys of a document's table, of a cell, and of a row of each kind: those that it has, and those that it may have.
-const SETTING: [Key; 2] = [(SHEET, Form::Text), ("cell", Form::Table)];
+const SETTING: [Key; 2] = [("sheet", Form::Text), ("cell", Form::Table)];
 
 const ROWS: [Key; 4] = [
-    (TEXT_ROWS, Form::Array),
-    (NESTED_ROWS, Form::Array),
-    (COLUMN_ROWS, Form::Array),
-    (SHIFT_ROWS, Form::Array),
+    ("texts", Form::Array),
+    ("nested", Form::Array),
+    ("columns", Form::Array),
+    ("shifts", Form::Array),
 ];
 
 const CELL: [Key; 3] = [
@@ -40,7 +28,7 @@ const TEXT: [Key; 3] = [
     ("prints", Form::Text),
 ];
 
-const TEXT_MORE: [Key; 1] = [(SHEET, Form::Text)];
+const TEXT_MORE: [Key; 1] = [("sheet", Form::Text)];
 
 const NESTED: [Key; 5] = [
     ("count", Form::Number),
@@ -86,7 +74,7 @@ impl<'a> Setting<'a> {
         let cell = cell_of(table.table("cell")?)?;
         if cell.inside() {
             Some(Setting {
-                sheet: table.text(SHEET)?,
+                sheet: table.text("sheet"),
                 cell,
             })
         } else {
@@ -99,9 +87,9 @@ impl<'a> Setting<'a> {
 fn cell_of(table: &Table) -> Option<Place> {
     let cell = Row::new(table, &CELL, &[])?;
     Some(Place {
-        sheet: cell.number("sheet")?,
-        row: cell.number("row")?,
-        col: cell.number("col")?,
+        sheet: cell.number("sheet"),
+        row: cell.number("row"),
+        col: cell.number("col"),
     })
 }
 
@@ -117,10 +105,10 @@ pub(crate) enum Kind {
 impl Kind {
     /// The kinds, each with the key under which its rows stand.
     pub(crate) const ALL: [(Kind, &'static str); 4] = [
-        (Kind::Text, TEXT_ROWS),
-        (Kind::Nested, NESTED_ROWS),
-        (Kind::Column, COLUMN_ROWS),
-        (Kind::Shift, SHIFT_ROWS),
+        (Kind::Text, "texts"),
+        (Kind::Nested, "nested"),
+        (Kind::Column, "columns"),
+        (Kind::Shift, "shifts"),
     ];
 }
 
@@ -141,10 +129,14 @@ impl<'a> TextRow<'a> {
     pub(crate) fn of(table: &'a Table, sheet: &'a str) -> Option<TextRow<'a>> {
         let row = Row::new(table, &TEXT, &TEXT_MORE)?;
         Some(TextRow {
-            text: row.text("text")?,
-            tree: row.text("tree")?,
-            prints: row.text("prints")?,
-            sheet: row.text(SHEET).unwrap_or(sheet),
+            text: row.text("text"),
+            tree: row.text("tree"),
+            prints: row.text("prints"),
+            sheet: if row.has("sheet") {
+                row.text("sheet")
+            } else {
+                sheet
+            },
         })
     }
 }
@@ -165,11 +157,11 @@ impl<'a> NestedRow<'a> {
     pub(crate) fn of(table: &'a Table) -> Option<NestedRow<'a>> {
         let row = Row::new(table, &NESTED, &[])?;
         Some(NestedRow {
-            count: row.number("count")?,
-            front: row.text("front")?,
-            middle: row.text("middle")?,
-            after: row.text("after")?,
-            levels: row.number("levels")?,
+            count: row.number("count"),
+            front: row.text("front"),
+            middle: row.text("middle"),
+            after: row.text("after"),
+            levels: row.number("levels"),
         })
     }
 
@@ -195,9 +187,9 @@ impl<'a> ColumnRow<'a> {
     pub(crate) fn of(table: &'a Table) -> Option<ColumnRow<'a>> {
         let row = Row::new(table, &COLUMN, &[])?;
         Some(ColumnRow {
-            rows: row.number("rows")?,
-            text: row.text("text")?,
-            trees: row.number("trees")?,
+            rows: row.number("rows"),
+            text: row.text("text"),
+            trees: row.number("trees"),
         })
     }
 
@@ -226,12 +218,12 @@ impl<'a> ShiftRow<'a> {
     pub(crate) fn of(table: &'a Table) -> Option<ShiftRow<'a>> {
         let row = Row::new(table, &SHIFT, &[])?;
         Some(ShiftRow {
-            text: row.text("text")?,
-            shift: row.text("shift")?,
-            after: row.text("after")?,
+            text: row.text("text"),
+            shift: row.text("shift"),
+            after: row.text("after"),
             at: cell_of(row.table("at")?)?,
-            back: row.text("back")?,
-            lost: row.truth("lost")?,
+            back: row.text("back"),
+            lost: row.is_true("lost"),
         })
     }
 
