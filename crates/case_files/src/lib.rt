@@ -7,8 +7,9 @@
 //! ```text
 //! let table = toml::table_from_str(alloc, "text = '=A1'\nlevels = 1")?;
 //! let row = Row::new(&table, &[("text", Form::Text)], &[("levels", Form::Number)])?;
-//! row.text("text")          // "=A1"
-//! row.number("levels")      // 1
+//! row.text("text")          // Some("=A1")
+//! row.number("levels")      // Some(1)
+//! row.text("levels")        // None
 //! ```
 #![tactic(auto)]
 

@@ -103,7 +103,8 @@ fn run_kinds(rt: &HostRuntime, document: Row, tally: &mut Tally) -> io::Result<(
         return println!(rt; "    UNREADABLE: the cell is none of a sheet");
     };
     'kinds: for (kind, key) in Kind::ALL {
-        run_rows(rt, &setting, kind, document.values(key), tally)?;
+        let rows = document.values(key).unwrap_or_default();
+        run_rows(rt, &setting, kind, rows, tally)?;
     }
     if tally.cases == 0 {
         println!(rt; "    NO ROWS")?;

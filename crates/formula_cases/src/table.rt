@@ -6,14 +6,26 @@ use cell_addr::Place;
 use std::alloc::{AllocError, Global};
 use toml::Table;
 
+// The key of the listed sheet's name, which a row has only where it isn't the document's.
+const SHEET: &str = "sheet";
+
+// The keys of the rows of each kind, of which a document has those that it likes.
+const TEXT_ROWS: &str = "texts";
+
+const NESTED_ROWS: &str = "nested";
+
+const COLUMN_ROWS: &str = "columns";
+
+const SHIFT_ROWS: &str = "shifts";
+
 // The keys of a document's table, of a cell, and of a row of each kind: those that it has, and those that it may have.
-const SETTING: [Key; 2] = [("sheet", Form::Text), ("cell", Form::Table)];
+const SETTING: [Key; 2] = [(SHEET, Form::Text), ("cell", Form::Table)];
 
 const ROWS: [Key; 4] = [
-    ("texts", Form::Array),
-    ("nested", Form::Array),
-    ("columns", Form::Array),
-    ("shifts", Form::Array),
+    (TEXT_ROWS, Form::Array),
+    (NESTED_ROWS, Form::Array),
+    (COLUMN_ROWS, Form::Array),
+    (SHIFT_ROWS, Form::Array),
 ];
 
 const CELL: [Key; 3] = [
@@ -28,7 +40,7 @@ const TEXT: [Key; 3] = [
     ("prints", Form::Text),
 ];
 
-const TEXT_MORE: [Key; 1] = [("sheet", Form::Text)];
+const TEXT_MORE: [Key; 1] = [(SHEET, Form::Text)];
 
 const NESTED: [Key; 5] = [
     ("count", Form::Number),
@@ -74,7 +86,7 @@ impl<'a> Setting<'a> {
         let cell = cell_of(table.table("cell")?)?;
         if cell.inside() {
             Some(Setting {
-                sheet: table.text("sheet"),
+                sheet: table.text(SHEET)?,
                 cell,
             })
         } else {
@@ -87,9 +99,9 @@ impl<'a> Setting<'a> {
 fn cell_of(table: &Table) -> Option<Place> {
     let cell = Row::new(table, &CELL, &[])?;
     Some(Place {
-        sheet: cell.number("sheet"),
-        row: cell.number("row"),
-        col: cell.number("col"),
+        sheet: cell.number("sheet")?,
+        row: cell.number("row")?,
+        col: cell.number("col")?,
     })
 }
 
@@ -105,15 +117,15 @@ pub(crate) enum Kind {
 impl Kind {
     /// The kinds, each with the key under which its rows stand.
     pub(crate) const ALL: [(Kind, &'static str); 4] = [
-        (Kind::Text, "texts"),
-        (Kind::Nested, "nested"),
-        (Kind::Column, "columns"),
-        (Kind::Shift, "shifts"),
+        (Kind::Text, TEXT_ROWS),
+        (Kind::Nested, NESTED_ROWS),
+        (Kind::Column, COLUMN_ROWS),
+        (Kind::Shift, SHIFT_ROWS),
     ];
 }
 
 /// A formula's text, and what it must be read as.
-#[derive(Clone, Copy, Debug)]
+#[derive(Clone, Copy)]
 pub(crate) struct TextRow<'a> {
     pub(crate) text: &'a str,
     /// The tree, each operator in front of its operands, or `none`.
@@ -129,20 +141,16 @@ impl<'a> TextRow<'a> {
     pub(crate) fn of(table: &'a Table, sheet: &'a str) -> Option<TextRow<'a>> {
         let row = Row::new(table, &TEXT, &TEXT_MORE)?;
         Some(TextRow {
-            text: row.text("text"),
-            tree: row.text("tree"),
-            prints: row.text("prints"),
-            sheet: if row.has("sheet") {
-                row.text("sheet")
-            } else {
-                sheet
-            },
+            text: row.text("text")?,
+            tree: row.text("tree")?,
+            prints: row.text("prints")?,
+            sheet: row.text(SHEET).unwrap_or(sheet),
         })
     }
 }
 
 /// A formula that nests: `=`, so many of one part, a middle, and so many of another part.
-#[derive(Clone, Copy, Debug)]
+#[derive(Clone, Copy)]
 pub(crate) struct NestedRow<'a> {
     pub(crate) count: u32,
     pub(crate) front: &'a str,
@@ -157,11 +165,11 @@ impl<'a> NestedRow<'a> {
     pub(crate) fn of(table: &'a Table) -> Option<NestedRow<'a>> {
         let row = Row::new(table, &NESTED, &[])?;
         Some(NestedRow {
-            count: row.number("count"),
-            front: row.text("front"),
-            middle: row.text("middle"),
-            after: row.text("after"),
-            levels: row.number("levels"),
+            count: row.number("count")?,
+            front: row.text("front")?,
+            middle: row.text("middle")?,
+            after: row.text("after")?,
+            levels: row.number("levels")?,
         })
     }
 
@@ -174,7 +182,7 @@ impl<'a> NestedRow<'a> {
 }
 
 /// A column of formulas from the setting's cell downward: their text, with `{}` for the number of the row.
-#[derive(Clone, Copy, Debug)]
+#[derive(Clone, Copy)]
 pub(crate) struct ColumnRow<'a> {
     pub(crate) rows: u32,
     pub(crate) text: &'a str,
@@ -187,9 +195,9 @@ impl<'a> ColumnRow<'a> {
     pub(crate) fn of(table: &'a Table) -> Option<ColumnRow<'a>> {
         let row = Row::new(table, &COLUMN, &[])?;
         Some(ColumnRow {
-            rows: row.number("rows"),
-            text: row.text("text"),
-            trees: row.number("trees"),
+            rows: row.number("rows")?,
+            text: row.text("text")?,
+            trees: row.number("trees")?,
         })
     }
 
@@ -202,7 +210,7 @@ impl<'a> ColumnRow<'a> {
 
 /// A formula and an operation: what the formula is after it, where it is then, what it is when taken back, and
 /// whether that is another tree than before.
-#[derive(Clone, Copy, Debug)]
+#[derive(Clone, Copy)]
 pub(crate) struct ShiftRow<'a> {
     pub(crate) text: &'a str,
     /// The operation's word and its numbers.
@@ -218,12 +226,12 @@ impl<'a> ShiftRow<'a> {
     pub(crate) fn of(table: &'a Table) -> Option<ShiftRow<'a>> {
         let row = Row::new(table, &SHIFT, &[])?;
         Some(ShiftRow {
-            text: row.text("text"),
-            shift: row.text("shift"),
-            after: row.text("after"),
+            text: row.text("text")?,
+            shift: row.text("shift")?,
+            after: row.text("after")?,
             at: cell_of(row.table("at")?)?,
-            back: row.text("back"),
-            lost: row.is_true("lost"),
+            back: row.text("back")?,
+            lost: row.truth("lost")?,
         })
     }
 

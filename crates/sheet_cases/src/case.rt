@@ -3,27 +3,48 @@ use case_files::{Form, Key, Row};
 use std::alloc::AllocError;
 use toml::{Table, Value};
 
+// The keys that a case may have.
+const WORDS: &str = "words";
+
+const FILES: &str = "file";
+
+const DAY: &str = "day";
+
+const FILLED: &str = "filled";
+
+const SCRIPT: &str = "script";
+
+const LATIN1: &str = "latin1";
+
+const FAILING_LOADS: &str = "failing_loads";
+
+const FAILING_READS: &str = "failing_reads";
+
+const FAILING_WRITES: &str = "failing_writes";
+
+const STATUS: &str = "status";
+
 // The keys of a document, of a case, and of a file of a case's folder: those that it has, and those that it may have.
 const DOCUMENT: [Key; 1] = [("case", Form::Array)];
 
 const CASE: [Key; 2] = [("shows", Form::Text), ("prints", Form::Text)];
 
 const CASE_MORE: [Key; 10] = [
-    ("words", Form::Array),
-    ("file", Form::Array),
-    ("day", Form::Number),
-    ("filled", Form::Number),
-    ("script", Form::Text),
-    ("latin1", Form::Truth),
-    ("failing_loads", Form::Array),
-    ("failing_reads", Form::Array),
-    ("failing_writes", Form::Array),
-    ("status", Form::Number),
+    (WORDS, Form::Array),
+    (FILES, Form::Array),
+    (DAY, Form::Number),
+    (FILLED, Form::Number),
+    (SCRIPT, Form::Text),
+    (LATIN1, Form::Truth),
+    (FAILING_LOADS, Form::Array),
+    (FAILING_READS, Form::Array),
+    (FAILING_WRITES, Form::Array),
+    (STATUS, Form::Number),
 ];
 
 const FILE: [Key; 2] = [("name", Form::Text), ("text", Form::Text)];
 
-const FILE_MORE: [Key; 1] = [("latin1", Form::Truth)];
+const FILE_MORE: [Key; 1] = [(LATIN1, Form::Truth)];
 
 // The day of a case that names none: 2024-01-01.
 const TODAY: i32 = 45_292;
@@ -55,25 +76,24 @@ impl<'a> Case<'a> {
     pub(crate) fn of(value: &'a Value) -> Option<Case<'a>> {
         let row = Row::new(value.as_table()?, &CASE, &CASE_MORE)?;
         Some(Case {
-            shows: row.text("shows"),
-            words: row.values("words"),
-            files: row.values("file"),
+            shows: row.text("shows")?,
+            words: row.values(WORDS).unwrap_or_default(),
+            files: row.values(FILES).unwrap_or_default(),
             day: day_of(row)?,
-            filled: row.number("filled"),
-            script: Written::of(row, "script"),
+            filled: row.number(FILLED).unwrap_or(0),
+            script: Written::of(row, row.text(SCRIPT).unwrap_or("")),
             failing: Failing::of(row),
-            prints: row.text("prints"),
-            status: row.number("status"),
+            prints: row.text("prints")?,
+            status: row.number(STATUS).unwrap_or(0),
         })
     }
 }
 
 // The day of a case; `None` where its number is none of a day.
 fn day_of(row: Row) -> Option<i32> {
-    if row.has("day") {
-        i32::try_from(row.number("day")).ok()
-    } else {
-        Some(TODAY)
+    match row.number(DAY) {
+        Some(day) => i32::try_from(day).ok(),
+        None => Some(TODAY),
     }
 }
 
@@ -92,9 +112,9 @@ impl<'a> Failing<'a> {
     // The calls that a case says.
     fn of(row: Row<'a>) -> Failing<'a> {
         Failing {
-            loads: row.values("failing_loads"),
-            reads: row.values("failing_reads"),
-            writes: row.values("failing_writes"),
+            loads: row.values(FAILING_LOADS).unwrap_or_default(),
+            reads: row.values(FAILING_READS).unwrap_or_default(),
+            writes: row.values(FAILING_WRITES).unwrap_or_default(),
         }
     }
 }
@@ -108,11 +128,11 @@ pub(crate) struct Written<'a> {
 }
 
 impl<'a> Written<'a> {
-    // The bytes that the text under the key is.
-    fn of(row: Row<'a>, key: &str) -> Written<'a> {
+    // The bytes that a text of the row is.
+    fn of(row: Row<'a>, text: &'a str) -> Written<'a> {
         Written {
-            text: row.text(key),
-            latin1: row.is_true("latin1"),
+            text,
+            latin1: row.truth(LATIN1).unwrap_or(false),
         }
     }
 
@@ -145,8 +165,8 @@ impl<'a> NamedBytes<'a> {
     pub(crate) fn of(value: &'a Value) -> Option<NamedBytes<'a>> {
         let row = Row::new(value.as_table()?, &FILE, &FILE_MORE)?;
         Some(NamedBytes {
-            name: row.text("name"),
-            bytes: Written::of(row, "text"),
+            name: row.text("name")?,
+            bytes: Written::of(row, row.text("text")?),
         })
     }
 }
@@ -154,5 +174,5 @@ impl<'a> NamedBytes<'a> {
 /// The values of a document's cases; `None` where it has something else.
 pub(crate) fn cases_of(document: &Table) -> Option<&[Value]> {
     let row = Row::new(document, &DOCUMENT, &[])?;
-    Some(row.values("case"))
+    row.values("case")
 }
