@@ -19,7 +19,7 @@ use Rattle.cell_addr.specs.declared.place.Block.{Block}
 use Rattle.cell_addr.specs.declared.place.Place.{Place}
 use Rattle.cell_value.specs.declared.scalar.Scalar.{Scalar}
 use Rattle.cell_value.specs.declared.scalar.Scalar.TheVariants.{Empty}
-use Rattle.cell_values.proofs.Books.{same_at}
+use Rattle.book_cells.proofs.Books.{same_at}
 use Rattle.book_values.specs.Workbook.{place}
 use Rattle.book_calc.specs.Values.{shown, value_numbered}
 use Rattle.book_calc.specs.declared.values.Values.{Values}

@@ -15,7 +15,7 @@ use Rattle.cell_addr.specs.Place.{covers, same_place}
 use Rattle.cell_addr.specs.Sheets.{same_name}
 use Rattle.cell_addr.specs.Text.{folded}
 use Rattle.cell_addr.specs.declared.place.Place.{Place}
-use Rattle.cell_values.proofs.Books.{same_at}
+use Rattle.book_cells.proofs.Books.{same_at}
 use Rattle.formula_tree.proofs.Once.{lists_once}
 use Rattle.formula_tree.proofs.SameLinks.{links_alike, names_alike}
 use Rattle.formula_tree.specs.Links.{links_in, names_in, once, same_link}

@@ -13,10 +13,10 @@ use Rattle.std.proofs.lemmas.Map.Keys.{Less-from_sorted}
 use Rattle.cell_addr.proofs.Places.{place_cmp-IsTotalOrder}
 use Rattle.cell_addr.specs.Order.{place_cmp}
 use Rattle.cell_addr.specs.declared.place.Place.{Place}
-use Rattle.cell_values.proofs.Books.{cell_at, get-contents, same_at}
-use Rattle.cell_values.specs.Workbook.{book_of, content_at}
-use Rattle.cell_values.specs.declared.workbook.Cell.{Cell}
-use Rattle.cell_values.specs.declared.workbook.Workbook.{Workbook}
+use Rattle.book_cells.proofs.Books.{cell_at, get-contents, same_at}
+use Rattle.book_cells.specs.Workbook.{book_of, content_at}
+use Rattle.book_cells.specs.declared.workbook.Cell.{Cell}
+use Rattle.book_cells.specs.declared.workbook.Workbook.{Workbook}
 use Rattle.book_calc.specs.internal.Numbers.{NumbersAll, number_at, origin}
 use Rattle.book_calc.specs.declared.nodes.Nodes.{Nodes}
 

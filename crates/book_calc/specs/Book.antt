@@ -1,5 +1,5 @@
 -- A workbook of the program as a workbook of the definitions. Source: this project's own.
-use Rattle.cell_values.specs.Workbook.{book_of}
+use Rattle.book_cells.specs.Workbook.{book_of}
 use Rattle.book_values.specs.Workbook.{Workbook}
 use Rattle.book_calc.specs.Names.{names_of}
 use Rattle.book_calc.specs.declared.book.Book.{Book}

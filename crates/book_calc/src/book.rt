@@ -1,7 +1,7 @@
 // Workbooks with names.
 ghost use Rattle.std.specs.Prelude.{◌≡◌, OnErr, OnOk, []};
 ghost use Rattle.std.specs.FinMap as map;
-ghost use Rattle.cell_values.specs.Workbook.{content_at};
+ghost use Rattle.book_cells.specs.Workbook.{content_at};
 ghost use Rattle.formula_tree.specs.Relative.{relative};
 ghost use Rattle.formula_tree.specs.StandsFor.{at_home};
 ghost use Rattle.book_values.specs.Names.{key_of};
@@ -10,8 +10,8 @@ ghost use Rattle.book_calc.specs.Book.{workbook_of};
 ghost use Rattle.book_calc.specs.Names.{with_name};
 
 use crate::names::NameTable;
+use book_cells::{Cell, Workbook};
 use cell_addr::Place;
-use cell_values::{Cell, Workbook};
 use formula_tree::Tree;
 use std::alloc::{AllocError, Global};
 

@@ -20,6 +20,6 @@ mod values;
 mod view;
 
 pub use book::Book;
+pub use book_cells::Cell;
 pub use calculation::calculated;
-pub use cell_values::Cell;
 pub use values::Values;

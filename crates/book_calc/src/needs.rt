@@ -14,8 +14,8 @@ ghost use Rattle.needs_order.specs.Needs.{lists_of};
 use crate::book::Book;
 use crate::names::NameTable;
 use crate::nodes::Nodes;
+use book_cells::Cell;
 use cell_addr::{Block, Place, Text};
-use cell_values::Cell;
 use formula_tree::{Home, Link, Tree, names_of as words_of, places_of};
 use std::alloc::{AllocError, Global};
 

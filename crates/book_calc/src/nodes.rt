@@ -5,11 +5,11 @@ ghost use Rattle.std.specs.Option.{option_copied};
 ghost use Rattle.std.specs.BTreeMap.{IsOrdered};
 ghost use Rattle.cell_addr.specs.Order.{place_cmp};
 ghost use Rattle.cell_addr.specs.Place.{covers};
-ghost use Rattle.cell_values.specs.Workbook.{book_of};
+ghost use Rattle.book_cells.specs.Workbook.{book_of};
 
 use crate::block::next_in;
+use book_cells::Workbook;
 use cell_addr::{Block, Place};
-use cell_values::Workbook;
 use std::alloc::{AllocError, Global};
 use std::collections::BTreeMap;
 

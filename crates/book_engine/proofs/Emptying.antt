@@ -11,7 +11,7 @@ use Rattle.cell_addr.specs.Place.{IsInside, covers}
 use Rattle.cell_addr.specs.declared.place.Block.{Block}
 use Rattle.cell_addr.specs.declared.place.Place.{Place}
 use Rattle.cell_addr.proofs.Places.{place_cmp-IsTotalOrder, place_cmp-IsAntisymmetric}
-use Rattle.cell_values.specs.Workbook.{Book as Contents, Content}
+use Rattle.book_cells.specs.Workbook.{Book as Contents, Content}
 use Rattle.grid_store.specs.Grid.{within}
 use Rattle.grid_store.specs.declared.cell.Cell.{Cell}
 use Rattle.shift_core.proofs.MovedMaps.{each_place}

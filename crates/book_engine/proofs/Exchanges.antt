@@ -13,7 +13,7 @@ use Rattle.shift_core.specs.Maps.{PlaceMap}
 use Rattle.book_model.proofs.Contents.{is_at}
 use Rattle.book_model.specs.Names.{NameMap}
 use Rattle.book_model.specs.Workbook.{Workbook}
-use Rattle.cell_values.specs.Workbook.{Book as Contents}
+use Rattle.book_cells.specs.Workbook.{Book as Contents}
 use Rattle.book_engine.specs.Formulas.{Numbered, Stood, stood}
 use Rattle.book_engine.specs.Steps.{cell_held, cells_undone, exchanged, released, with_cell, with_held}
 use Rattle.book_engine.specs.Stored.{AllStand, StandsAt, Stored, contents_of}

@@ -8,7 +8,7 @@ use Rattle.std.proofs.Math.ListN.{get_or-map}
 use Rattle.std.proofs.lemmas.Grind.{take_at_read}
 use Rattle.cell_addr.specs.Text.{folded}
 use Rattle.cell_addr.specs.declared.place.Place.{Place}
-use Rattle.cell_values.specs.Workbook.{Book as Contents, Content}
+use Rattle.book_cells.specs.Workbook.{Book as Contents, Content}
 use Rattle.name_table.specs.SheetLists.{CanJoin}
 use Rattle.book_model.specs.Given.{CanBegin, IsGivenCell, IsGivenSheet, given_entries, given_entry, given_sheet, given_sheets, numbered}
 use Rattle.book_model.specs.Workbook.{Workbook}

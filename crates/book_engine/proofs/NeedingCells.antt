@@ -14,7 +14,7 @@ use Rattle.std.proofs.lemmas.Option.{same_Some}
 use Rattle.cell_addr.specs.Order.{place_cmp}
 use Rattle.cell_addr.specs.declared.place.Place.{Place}
 use Rattle.cell_addr.proofs.Places.{place_cmp-IsTotalOrder, place_cmp-IsAntisymmetric}
-use Rattle.cell_values.specs.Workbook.{Book as Contents, Content, number, truth, text, formula, unreadable}
+use Rattle.book_cells.specs.Workbook.{Book as Contents, Content, number, truth, text, formula, unreadable}
 use Rattle.formula_tree.specs.declared.link.Link.{Link}
 use Rattle.formula_tree.specs.declared.link.Link.TheVariants as links
 use Rattle.calc_terms.specs.Needs.{mentions}

@@ -10,7 +10,7 @@ use Rattle.cell_addr.specs.Order.{place_cmp}
 use Rattle.cell_addr.specs.Place.{Covers, IsBlockInside, IsInside, covers}
 use Rattle.cell_addr.specs.declared.place.Block.{Block}
 use Rattle.cell_addr.specs.declared.place.Place.{Place}
-use Rattle.cell_values.specs.Workbook.{Book as Contents, Content}
+use Rattle.book_cells.specs.Workbook.{Book as Contents, Content}
 use Rattle.clip_board.specs.declared.clip.CopyItem.{CopyItem}
 use Rattle.shift_core.proofs.CellMoves.{Covers-from_covers, carried_covered}
 use Rattle.shift_core.specs.Carried.{carried_place, destination}

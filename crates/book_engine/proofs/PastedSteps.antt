@@ -8,7 +8,7 @@ use Rattle.undo_book.specs.History.{History}
 use Rattle.cell_addr.specs.Place.{IsBlockInside}
 use Rattle.cell_addr.specs.declared.place.Block.{Block}
 use Rattle.cell_addr.specs.declared.place.Place.{Place}
-use Rattle.cell_values.specs.Workbook.{Book as Contents}
+use Rattle.book_cells.specs.Workbook.{Book as Contents}
 use Rattle.clip_board.specs.declared.clip.CopyItem.{CopyItem}
 use Rattle.shift_core.specs.Carried.{destination}
 use Rattle.book_model.proofs.SoundSteps.{next_sound}

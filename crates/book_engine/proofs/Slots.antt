@@ -1,9 +1,9 @@
 -- What stands under each number, as slots change. Serves the table of formulas.
-use Rattle.std.proofs.Common.{◌≡◌, ◌∙◌, sym, ap, refl, arith, ℕ, zero, suc, ◌<◌, Bool, true, false, cond, List, [], ◌∷◌, ◌++◌, length, map, get_or, set, Option, None, option_map, nat_eq, ◌==◌}
+use Rattle.std.proofs.Common.{◌≡◌, ◌∙◌, sym, ap, refl, arith, ℕ, zero, suc, ◌<◌, Bool, true, false, cond, List, [], ◌∷◌, ◌++◌, length, map, get_or, set, Option, None, option_map, nat_eq, ◌==◌, ⊎_elim}
 use Rattle.std.specs.Prelude.{option_and_then}
-use Rattle.std.proofs.lemmas.Bool.Decides.{nat_tests}
+use Rattle.std.proofs.lemmas.Bool.Decides.{nat_tests, eqb_tells}
+use Rattle.std.proofs.lemmas.List.{get_or-set_same, get_or-set_other}
 use Rattle.std.proofs.Math.ListN.{get_or-map}
-use Rattle.cell_values.proofs.Lists.{get_or-set}
 use Rattle.shift_core.specs.declared.shift.Shift.{Shift}
 use Rattle.book_engine.specs.Formulas.{Stood, stood, stood_after}
 use Rattle.book_engine.specs.declared.formulas.Formula.{Formula}
@@ -18,6 +18,13 @@ under-get slots n = get_or-map (option_map stood) slots n None
 mapped : (b : Bool) (y r : Option Formula) → option_map stood (cond b y r) ≡ cond b (option_map stood y) (option_map stood r)
 mapped true y r = refl
 mapped false y r = refl
+
+-- what stands at a number, where one element was set
+get_or-set : {X : Type 0} (xs : List X) (i j : ℕ) (a d : X) → i < length xs → get_or (set xs i a) j d ≡ cond (nat_eq j i) a (get_or xs j d)
+get_or-set xs i j a d h = ⊎_elim
+    (λ (t : (nat_eq j i ≡ true) × (j ≡ i)). ap (λ k. get_or (set xs i a) k d) t.1 ∙ get_or-set_same xs i a d h ∙ sym (ap (λ b. cond b a (get_or xs j d)) t.0))
+    (λ t. get_or-set_other xs i j a d t.1 ∙ sym (ap (λ b. cond b a (get_or xs j d)) t.0))
+    (eqb_tells j i)
 
 -- a slot is filled or emptied
 pub under-set : (slots : List (Option Formula)) (i : ℕ) (y : Option Formula) (k : ℕ) → i < length slots → under (set slots i y) k ≡ cond (k == i) (option_map stood y) (under slots k)

@@ -1,7 +1,7 @@
 // Cells and their formulas, as single cells change.
 ghost use Rattle.std.specs.Prelude.{◌≡◌, None, Some, OnOk, OnErr, IfOk, option_map};
 ghost use Rattle.cell_addr.specs.Place.{IsInside, covers};
-ghost use Rattle.cell_values.specs.Workbook as content;
+ghost use Rattle.book_cells.specs.Workbook as content;
 ghost use Rattle.shift_core.specs.Maps.{AreInside};
 ghost use Rattle.book_model.specs.Changes.{emptied};
 ghost use Rattle.book_engine.specs.Formula.{tree_at};

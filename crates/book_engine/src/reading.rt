@@ -11,7 +11,7 @@ ghost use Rattle.book_values.specs.Workbook.{Node};
 ghost use Rattle.book_values.specs.Workbook as nodes;
 ghost use Rattle.book_calc.specs.Book.{workbook_of};
 ghost use Rattle.book_calc.specs.Values.{shown as shown_in, workbook_in, world_in};
-ghost use Rattle.cell_values.specs.Workbook as contents;
+ghost use Rattle.book_cells.specs.Workbook as contents;
 ghost use Rattle.book_model.specs.Answers.{content_text, first_cell, formula_of, name_value_of, shown, tried_value, value_of, valued, world};
 ghost use Rattle.book_model.specs.Operation as op;
 ghost use Rattle.book_engine.specs.Expressions.{slot_of};

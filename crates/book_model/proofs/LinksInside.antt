@@ -7,7 +7,7 @@ use Rattle.std.specs.FinMap.{get-entries}
 use Rattle.std.proofs.lemmas.List.Elements.{All-nil, All-cons, All-head, All-tail, All-append, All-weaker, All-from_recursion}
 use Rattle.cell_addr.specs.Place.{IsBlockInside, IsInside}
 use Rattle.cell_addr.specs.declared.place.Place.{Place}
-use Rattle.cell_values.specs.Workbook.{Content, number, text, truth, formula, unreadable}
+use Rattle.book_cells.specs.Workbook.{Content, number, text, truth, formula, unreadable}
 use Rattle.formula_tree.specs.Links.{is_place_word, once, once_after}
 use Rattle.formula_tree.specs.Mentions.{mentions_in, mentions_in_all, same_mention}
 use Rattle.formula_tree.specs.Proper.{AreProper, IsProper}

@@ -11,7 +11,7 @@ use Rattle.cell_addr.specs.declared.place.Place.{Place}
 use Rattle.cell_value.specs.declared.fault.FaultKind.TheVariants as fault
 use Rattle.cell_value.specs.declared.scalar.Scalar.{Scalar}
 use Rattle.cell_value.specs.declared.scalar.Scalar.TheVariants as scalar
-use Rattle.cell_values.specs.Workbook.{Content, formula}
+use Rattle.book_cells.specs.Workbook.{Content, formula}
 use Rattle.formula_tree.specs.Links.{once}
 use Rattle.formula_tree.specs.Mentions.{mentions_in, same_mention}
 use Rattle.formula_tree.specs.Term.{Term}

@@ -10,9 +10,8 @@ use Rattle.cell_addr.proofs.SamePlaces.{same_place-equal, same_place-self}
 use Rattle.cell_addr.specs.Order.{place_cmp}
 use Rattle.cell_addr.specs.Place.{same_place}
 use Rattle.cell_addr.specs.declared.place.Place.{Place}
-use Rattle.cell_values.proofs.Books.{same_at}
-use Rattle.cell_values.specs.Values.{is_formula}
-use Rattle.cell_values.specs.Workbook.{Content}
+use Rattle.book_cells.proofs.Books.{same_at}
+use Rattle.book_cells.specs.Workbook.{Content, is_formula}
 use Rattle.formula_tree.specs.Links.{same_scope}
 use Rattle.formula_tree.specs.Term.{Term}
 use Rattle.formula_tree.specs.declared.reference.Corner.{Corner}

@@ -9,7 +9,7 @@ use Rattle.cell_addr.specs.Order.{place_cmp}
 use Rattle.cell_addr.specs.Place.{covers}
 use Rattle.cell_addr.specs.Sheets.{same_name}
 use Rattle.cell_addr.specs.declared.place.Place.{Place}
-use Rattle.cell_values.specs.Workbook as cells
+use Rattle.book_cells.specs.Workbook as cells
 use Rattle.formula_tree.specs.Links.{links_in, names_in, once, same_link}
 use Rattle.formula_tree.specs.Reference.{sheet_of}
 use Rattle.formula_tree.specs.Term.{Term}

@@ -2,7 +2,7 @@
 use Rattle.std.specs.Prelude.{◌≡◌, ◌≢◌, ℕ, List, [], ◌∷◌, Option, Some, None, IsSome, ⊤}
 use Rattle.std.specs.FinMap as fin
 use Rattle.cell_addr.specs.declared.place.Place.{Place}
-use Rattle.cell_values.specs.Workbook.{Book as Contents, Content}
+use Rattle.book_cells.specs.Workbook.{Book as Contents, Content}
 use Rattle.grid_store.specs.declared.cell.Cell.{Cell}
 use Rattle.grid_store.specs.declared.cell.Cell.TheVariants as cell
 use Rattle.book_model.specs.Changes.{placed}

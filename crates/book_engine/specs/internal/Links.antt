@@ -3,7 +3,7 @@ use Rattle.std.specs.Prelude.{◌==◌, ◌&&◌, ℕ, Bool, false, if◌then◌
 use Rattle.std.specs.FinMap as fin
 use Rattle.cell_addr.specs.Text.{capitals}
 use Rattle.cell_addr.specs.declared.place.Place.{Place}
-use Rattle.cell_values.specs.Workbook.{Content, formula}
+use Rattle.book_cells.specs.Workbook.{Content, formula}
 use Rattle.formula_tree.specs.Links.{once}
 use Rattle.formula_tree.specs.Mentions.{mentions_in, same_mention}
 use Rattle.formula_tree.specs.Term.{Term}

@@ -1,6 +1,6 @@
 -- Readings of the texts that are given to names, and tests of their trees.
 use Rattle.std.specs.Prelude.{◌≡◌, Option, Some, None, Result, Ok, Err, ⊤}
-use Rattle.cell_values.specs.Workbook.{Book as Contents, Content}
+use Rattle.book_cells.specs.Workbook.{Book as Contents, Content}
 use Rattle.std.specs.FinMap as fin
 use Rattle.cell_addr.specs.declared.place.Place.{Place}
 use Rattle.book_values.specs.Names.{Names}

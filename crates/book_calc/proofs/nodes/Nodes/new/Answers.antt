@@ -5,7 +5,7 @@ use Rattle.std.specs.List.Sorted.{IsStrictlySortedBy}
 use Rattle.std.specs.Map.{keys_of}
 use Rattle.cell_addr.specs.Order.{place_cmp}
 use Rattle.cell_addr.specs.declared.place.Place.{Place}
-use Rattle.cell_values.specs.declared.workbook.Cell.{Cell}
+use Rattle.book_cells.specs.declared.workbook.Cell.{Cell}
 use Rattle.book_calc.proofs.NumberedCells.{NumbersDone, numbers_all, numbers_more}
 use Rattle.book_calc.proofs.nodes.Nodes.new.Goals as goal
 

@@ -2,7 +2,7 @@ use Rattle.std.proofs.Common.{◌≡◌, ◌++◌, List}
 use Rattle.std.specs.BTreeMap.{get}
 use Rattle.cell_addr.specs.Order.{place_cmp}
 use Rattle.cell_addr.specs.declared.place.Place.{Place}
-use Rattle.cell_values.specs.declared.workbook.Cell.{Cell}
+use Rattle.book_cells.specs.declared.workbook.Cell.{Cell}
 use Rattle.book_calc.proofs.NumberedCells.{NumbersDone}
 use Rattle.book_calc.proofs.nodes.Nodes.new.Given as goal
 

@@ -2,7 +2,7 @@ use Rattle.std.proofs.Common.{◌≡◌, ◌∙◌, sym, ap, subst, Some, None, 
 use Rattle.std.specs.Option.{option_copied}
 use Rattle.std.specs.FinMap as fin
 use Rattle.std.proofs.lemmas.Option.{same_Some}
-use Rattle.cell_values.specs.Workbook.{formula}
+use Rattle.book_cells.specs.Workbook.{formula}
 use Rattle.formula_tree.specs.Proper.{IsProper}
 use Rattle.formula_tree.specs.Relative.{relative}
 use Rattle.formula_tree.specs.StandsFor.{at_home}

@@ -3,7 +3,7 @@ use Rattle.std.specs.FinMap as fin
 use Rattle.grid_store.specs.Grid.{cells_of}
 use Rattle.grid_store.specs.declared.cell.Cell.TheVariants as cell
 use Rattle.name_table.specs.Listed.{listed}
-use Rattle.cell_values.specs.Workbook.{formula}
+use Rattle.book_cells.specs.Workbook.{formula}
 use Rattle.book_engine.specs.Formula.{tree_at}
 use Rattle.book_engine.specs.Expressions.{names_in}
 use Rattle.book_engine.specs.Formulas.{numbered, stood}

@@ -1,5 +1,5 @@
 use Rattle.std.proofs.Common.{◌≡◌, ◌∙◌, sym, ap, subst, option_map, IfOk}
-use Rattle.cell_values.specs.Workbook.{content_at}
+use Rattle.book_cells.specs.Workbook.{content_at}
 use Rattle.grid_store.specs.Grid.{cells_of}
 use Rattle.book_engine.specs.Formulas.{numbered}
 use Rattle.book_engine.specs.Stored.{content_of}

@@ -1,9 +1,0 @@
-pub mod Books
-pub mod Networks
-pub mod Lists
-pub mod Tries
-pub mod Waits
-pub mod Releases
-pub mod ValueSteps
-pub mod NodeNumbers
-pub mod LinkedPlaces

@@ -1,5 +1,0 @@
-use Rattle.cell_values.proofs.Networks.{values_unfold}
-use Rattle.cell_values.proofs.laws.values_unfold.Goals as goal
-
-pub returns : goal.returns
-returns c = values_unfold
