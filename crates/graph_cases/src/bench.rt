@@ -27,7 +27,7 @@ const CASES: [(Shape, &'static str, u32); 13] = [
     (Shape::Cycle, "formulas in a cycle", 10_000),
 ];
 
-// How many rows are put in among prefix sums.
+// How many rows are put in.
 const INSERTS: u32 = 100;
 
 // What is timed: a graph of so many formulas.
@@ -48,10 +48,12 @@ impl fmt::Display for Millis {
     }
 }
 
-// Times all graphs, and prints a line for each part.
-pub(crate) fn bench(rt: &HostRuntime) -> io::Result<()> {
+// Times the graphs of a name, or all where no name is given, and prints a line for each part.
+pub(crate) fn bench(rt: &HostRuntime, only: Option<&str>) -> io::Result<()> {
     'cases: for &(shape, name, count) in &CASES {
-        time_case(rt, Case { shape, name, count })?;
+        if only.unwrap_or(name) == name {
+            time_case(rt, Case { shape, name, count })?;
+        }
     }
     Ok(())
 }
@@ -93,11 +95,15 @@ impl Case {
         self.print_order(rt, start, reached.items().len(), order.items().len())
     }
 
-    // Times rows that are put in among prefix sums.
+    // Times rows that are put in among formulas that stand row by row: the half of all prefix sums is bent by one, of the
+    // rolling sums as many as they have rows, and of an invoice the sum of all.
     fn time_inserts(self, rt: &HostRuntime, graph: &mut Graph) -> io::Result<()> {
-        let Shape::Prefixes = self.shape else {
+        if !matches!(
+            self.shape,
+            Shape::Prefixes | Shape::Rolling | Shape::Invoice
+        ) {
             return Ok(());
-        };
+        }
         let start = Instant::now(rt)?;
         put_rows_in(graph, self.count)?;
         self.print_time(rt, "row put in", start, INSERTS)

@@ -1,8 +1,9 @@
 // Lists of calls that are drawn, on a graph of needs beside the plain model.
 use crate::both::Both;
-use crate::draws::{Corner, Draws};
+use crate::nodes::any_node;
 use crate::tally::Tally;
 use dep_graph::Node;
+use draws::{Corner, Draws};
 use shift_core::sound;
 use std::alloc::{AllocError, Global};
 
@@ -81,7 +82,7 @@ impl List {
 
     // Links a node to some others, and unlinks it where that closes a cycle that isn't kept.
     fn link(&mut self) -> Result<(), AllocError> {
-        let user = self.draws.node();
+        let user = any_node(&mut self.draws);
         let needs = self.needs()?;
         self.both.link(user, &needs)?;
         self.tally.links = self.tally.links.saturating_add(1);
@@ -95,7 +96,7 @@ impl List {
     fn needs(&mut self) -> Result<Vec<Node>, AllocError> {
         let mut needs = Vec::new(self.alloc);
         'needs: for _ in 0..1 + self.draws.below(NEEDS) {
-            needs.push(self.draws.node())?;
+            needs.push(any_node(&mut self.draws))?;
         }
         Ok(needs)
     }
@@ -109,7 +110,7 @@ impl List {
     // A node that is an end of some link mostly, and else any.
     fn node(&mut self) -> Node {
         let linked = self.both.end_of_a_link(self.draws.below(MANY));
-        let any = self.draws.node();
+        let any = any_node(&mut self.draws);
         if self.draws.below(4) == 0 {
             any
         } else {

@@ -2,13 +2,14 @@
 //! and for lists of calls that are drawn how many there were, and the first answer that differs from that of the plain
 //! model, a list of links. The status is 0 where all answers are as they should be, and else 1.
 //!
-//! With the word `bench` it times large graphs for `bench/graph.py`, and prints a line for each part.
+//! With the word `bench` it times large graphs for `bench/graph.py`, and prints a line for each part; with a name behind it,
+//! as `"prefix sums"`, those of that name alone.
 #![tactic(auto)]
 
 mod bench;
 mod both;
-mod draws;
 mod lists;
+mod nodes;
 mod plain;
 mod rows;
 mod shapes;
@@ -37,12 +38,6 @@ const GROUPS: [(&'static [Step], &'static str); 7] = [
     ),
 ];
 
-// The corners of a sheet, by where lists draw their places.
-const CORNERS: [(Corner, &'static str); 2] = [
-    (Corner::First, "lists at the first cell"),
-    (Corner::Last, "lists at the last cell"),
-];
-
 fn main(rt: HostRuntime) -> ExitCode {
     match run(&rt) {
         Ok(true) => ExitCode::SUCCESS,
@@ -57,7 +52,7 @@ fn run(rt: &HostRuntime) -> io::Result<bool> {
     match words.next() {
         None => compare(rt),
         Some(word) if word.as_str() == "bench" => {
-            bench::bench(rt)?;
+            bench::bench(rt, words.next().as_ref().map(|word| word.as_str()))?;
             Ok(true)
         }
         Some(_) => Ok(false),
@@ -90,9 +85,9 @@ fn group_holds(rt: &HostRuntime, steps: &[Step], shows: &str) -> io::Result<bool
 // Whether no answer of the lists differs.
 fn lists_agree(rt: &HostRuntime) -> io::Result<bool> {
     let mut all = true;
-    'corners: for &(corner, shows) in &CORNERS {
+    'corners: for corner in Corner::ALL {
         let tally = lists(rt.alloc(), corner)?;
-        println!(rt; "{shows}: {tally}")?;
+        println!(rt; "lists at {corner}: {tally}")?;
         all = all && tally.agrees();
     }
     Ok(all)

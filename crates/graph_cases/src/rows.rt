@@ -235,7 +235,7 @@ impl Scene {
     // Whether all steps hold, one after the other.
     fn all_hold(&mut self, steps: &[Step]) -> Result<bool, AllocError> {
         'steps: for step in steps {
-            if !self.holds(*step)? {
+            if !self.holds(step)? {
                 return Ok(false);
             }
         }
@@ -243,8 +243,8 @@ impl Scene {
     }
 
     // Whether the call could be made, or the answer is the wanted one.
-    fn holds(&mut self, step: Step) -> Result<bool, AllocError> {
-        match step {
+    fn holds(&mut self, step: &Step) -> Result<bool, AllocError> {
+        match *step {
             Step::Link(user, needs) => {
                 self.graph.link(user, needs)?;
                 Ok(true)
@@ -253,7 +253,7 @@ impl Scene {
                 self.graph.unlink(user);
                 Ok(true)
             }
-            Step::Shift(s) => self.shift(&s),
+            Step::Shift(ref s) => self.shift(s),
             Step::Copy => {
                 go_on_with_a_copy(&mut self.graph)?;
                 Ok(true)
@@ -261,7 +261,7 @@ impl Scene {
             Step::Reach(mark, wanted) => self.reaches(mark, wanted),
             Step::Order(list, wanted) => self.orders(list, wanted),
             Step::OnCycle(node, wanted) => Ok(self.graph.on_cycle(node)? == wanted),
-            Step::Bent(s, wanted) => self.bends(&s, wanted),
+            Step::Bent(ref s, wanted) => self.bends(s, wanted),
         }
     }
 

@@ -1,11 +1,10 @@
 // Random lists of calls.
 
-use crate::chance::Chance;
 use crate::guarded::{Change, IDS};
 use crate::pair::Pair;
-use crate::shifts::any_shift;
 use crate::tally::Tally;
-use cell_addr::{NO_SHEET, Place};
+use cell_addr::NO_SHEET;
+use draws::{Corner, Draws};
 use formula_tree::Home;
 use std::alloc::{AllocError, Global};
 
@@ -77,15 +76,15 @@ pub(crate) fn run_lists(alloc: Global) -> Result<Tally, AllocError> {
     let mut tally = Tally::default();
     'lists: for seed in 0..LISTS {
         let mut pair = Pair::new(alloc)?;
-        run_list(&mut pair, &mut Chance::new(seed), &mut tally)?;
+        run_list(&mut pair, &mut Draws::new(seed, Corner::First), &mut tally)?;
     }
     Ok(tally)
 }
 
 // Makes the calls of a list.
-fn run_list(pair: &mut Pair, chance: &mut Chance, tally: &mut Tally) -> Result<(), AllocError> {
+fn run_list(pair: &mut Pair, draws: &mut Draws, tally: &mut Tally) -> Result<(), AllocError> {
     'calls: for _ in 0..CALLS {
-        make_call(pair, chance, tally)?;
+        make_call(pair, draws, tally)?;
         pair.compare(tally)?;
         tally.calls = tally.calls.saturating_add(1);
     }
@@ -94,21 +93,21 @@ fn run_list(pair: &mut Pair, chance: &mut Chance, tally: &mut Tally) -> Result<(
 }
 
 // Makes some call.
-fn make_call(pair: &mut Pair, chance: &mut Chance, tally: &mut Tally) -> Result<(), AllocError> {
-    let id = u64::from(chance.below(IDS as u32));
-    match any_of(chance, &KINDS) {
+fn make_call(pair: &mut Pair, draws: &mut Draws, tally: &mut Tally) -> Result<(), AllocError> {
+    let id = u64::from(draws.below(IDS as u32));
+    match any_of(draws, &KINDS) {
         Some(Kind::Insert) => {
-            let home = any_home(chance);
-            let text = any_of(chance, &TEXTS).unwrap_or("");
+            let home = any_home(draws);
+            let text = any_of(draws, &TEXTS).unwrap_or("");
             pair.insert(id, home, text)?;
         }
         Some(Kind::Change(change)) => pair.change(change, id),
         Some(Kind::Read) => pair.read(id, tally)?,
-        Some(Kind::Shift) => pair.shift(any_shift(chance))?,
-        Some(Kind::MoveCursor) => pair.move_cursor(near_cursor(pair, chance)),
+        Some(Kind::Shift) => pair.shift(draws.shift())?,
+        Some(Kind::MoveCursor) => pair.move_cursor(near_cursor(pair, draws)),
         Some(Kind::Settle) => {
             let (first, cursor, _) = pair.positions();
-            let position = first.saturating_add(up_to(chance, cursor.saturating_sub(first)));
+            let position = first.saturating_add(up_to(draws, cursor.saturating_sub(first)));
             pair.settle(position)?;
         }
         None => {}
@@ -117,37 +116,37 @@ fn make_call(pair: &mut Pair, chance: &mut Chance, tally: &mut Tally) -> Result<
 }
 
 // One of the items.
-fn any_of<T: Copy>(chance: &mut Chance, items: &[T]) -> Option<T> {
+fn any_of<T: Copy>(draws: &mut Draws, items: &[T]) -> Option<T> {
     let count = u32::try_from(items.len()).ok()?;
-    items.get(chance.below(count) as usize).copied()
+    if count == 0 {
+        return None;
+    }
+    items.get(draws.below(count) as usize).copied()
 }
 
 // A number up to this one.
-fn up_to(chance: &mut Chance, most: u64) -> u64 {
+fn up_to(draws: &mut Draws, most: u64) -> u64 {
     let bound = u32::try_from(most).unwrap_or(u32::MAX).saturating_add(1);
-    u64::from(chance.below(bound))
+    u64::from(draws.below(bound))
 }
 
 // A position at most eight operations from the cursor.
-fn near_cursor(pair: &Pair, chance: &mut Chance) -> u64 {
+fn near_cursor(pair: &Pair, draws: &mut Draws) -> u64 {
     let (first, cursor, last) = pair.positions();
-    let steps = u64::from(chance.below(9));
-    match chance.below(2) {
+    let steps = u64::from(draws.below(9));
+    match draws.below(2) {
         0 => cursor.saturating_sub(steps).max(first),
         _ => cursor.saturating_add(steps).min(last),
     }
 }
 
 // The home of a cell, or of a name.
-fn any_home(chance: &mut Chance) -> Home {
-    let sheet = chance.below(2);
-    match chance.below(8) {
-        0 => Home::Name { sheet },
+fn any_home(draws: &mut Draws) -> Home {
+    match draws.below(8) {
+        0 => Home::Name {
+            sheet: draws.sheet(),
+        },
         1 => Home::Name { sheet: NO_SHEET },
-        _ => Home::Cell(Place {
-            sheet,
-            row: chance.below(12),
-            col: chance.below(5),
-        }),
+        _ => Home::Cell(draws.place()),
     }
 }

@@ -8,7 +8,6 @@
 #![tactic(auto)]
 
 mod bench;
-mod chance;
 mod clearing;
 mod guarded;
 mod known;
@@ -18,7 +17,6 @@ mod pair;
 mod plain;
 mod reading;
 mod rows;
-mod shifts;
 mod tally;
 mod whole;
 

@@ -120,7 +120,7 @@ const CASES: [(Case, &'static str); 6] = [
 
 // Times all cases, and prints a line for each.
 pub(crate) fn bench<L: Ledger>(rt: &HostRuntime, steps: &mut Steps<L>) -> io::Result<()> {
-    'cases: for (case, shows) in CASES {
+    'cases: for &(case, shows) in &CASES {
         let mut summed = Summed::new(rt.alloc())?;
         let time = time_case(rt, &mut summed, case, steps)?;
         let merged = summed.ranges.merged();

@@ -108,89 +108,105 @@ fn is_given_up<L: Ledger>(both: &mut Both, steps: &mut Steps<L>) -> Result<bool,
     Ok(kept == Some((expected(), 0)) && again == Some((with_fault, 1)))
 }
 
-// An operation, a block that is summed up before it, the block that it should be after, and how many cells are to be merged
-// for that.
+// An operation on rows, or on cells of the first column.
 #[derive(Clone, Copy)]
-struct Case {
-    shift: Shift,
-    before: Block,
-    after: Block,
-    merged: u64,
+enum Change {
+    // Two rows put in.
+    Insert { at: u32 },
+    // One row taken out.
+    Delete { at: u32 },
+    // One row taken elsewhere.
+    Move { from: u32, before: u32 },
+    // Cells moved.
+    Carry { top: u32, bottom: u32, to: u32 },
 }
+
+impl Change {
+    // The operation.
+    fn shift(self) -> Shift {
+        match self {
+            Change::Insert { at } => Shift::InsertRows {
+                sheet: 0,
+                at,
+                count: 2,
+            },
+            Change::Delete { at } => Shift::DeleteRows {
+                sheet: 0,
+                at,
+                count: 1,
+            },
+            Change::Move { from, before } => Shift::MoveRows {
+                sheet: 0,
+                from,
+                count: 1,
+                before,
+            },
+            Change::Carry { top, bottom, to } => Shift::MoveBlock {
+                source: rows(top, bottom),
+                to: cell(to),
+            },
+        }
+    }
+}
+
+// An operation, the first and the last row of a block that is summed up before it, those of the block that it should be
+// after, and how many cells are to be merged for that.
+type Case = (Change, (u32, u32), (u32, u32), u64);
+
+// The last row of a sheet.
+const LAST: u32 = ROWS - 1;
 
 // What operations do to summaries of three rows.
-fn cases() -> [Case; 11] {
-    [
-        // Put in above, between and under.
-        a_case(inserted(0), rows(2, 4), rows(4, 6), 0),
-        a_case(inserted(3), rows(2, 4), rows(2, 6), 5),
-        a_case(inserted(5), rows(2, 4), rows(2, 4), 0),
-        // Cut at the end of the sheet, and not.
-        a_case(inserted(0), last_rows(), rows(ROWS - 1, ROWS - 1), 1),
-        a_case(inserted(0), rows(ROWS - 5, ROWS - 3), last_rows(), 0),
-        // Taken out above and within.
-        a_case(deleted(0), rows(2, 4), rows(1, 3), 0),
-        a_case(deleted(3), rows(2, 4), rows(2, 3), 2),
-        // A row within taken elsewhere within.
-        a_case(
-            Shift::MoveRows {
-                sheet: 0,
-                from: 2,
-                count: 1,
-                before: 4,
-            },
-            rows(2, 4),
-            rows(2, 4),
-            3,
-        ),
-        // Moved as cells: whole, in part, and moved over.
-        a_case(cells(rows(0, 5), 7), rows(2, 4), rows(9, 11), 0),
-        a_case(cells(rows(0, 3), 7), rows(2, 4), rows(2, 4), 3),
-        a_case(cells(rows(10, 11), 4), rows(2, 4), rows(2, 4), 3),
-    ]
-}
-
-// The last rows of a sheet.
-fn last_rows() -> Block {
-    rows(ROWS - 3, ROWS - 1)
-}
-
-fn a_case(shift: Shift, before: Block, after: Block, merged: u64) -> Case {
-    Case {
-        shift,
-        before,
-        after,
-        merged,
-    }
-}
-
-// Two rows put in, one taken out, and cells moved within the first column.
-fn inserted(at: u32) -> Shift {
-    Shift::InsertRows {
-        sheet: 0,
-        at,
-        count: 2,
-    }
-}
-
-fn deleted(at: u32) -> Shift {
-    Shift::DeleteRows {
-        sheet: 0,
-        at,
-        count: 1,
-    }
-}
-
-fn cells(source: Block, row: u32) -> Shift {
-    Shift::MoveBlock {
-        source,
-        to: Place {
-            sheet: 0,
-            row,
-            col: 0,
+const CASES: [Case; 11] = [
+    // Put in above, between and under.
+    (Change::Insert { at: 0 }, (2, 4), (4, 6), 0),
+    (Change::Insert { at: 3 }, (2, 4), (2, 6), 5),
+    (Change::Insert { at: 5 }, (2, 4), (2, 4), 0),
+    // Cut at the end of the sheet, and not.
+    (Change::Insert { at: 0 }, (LAST - 2, LAST), (LAST, LAST), 1),
+    (
+        Change::Insert { at: 0 },
+        (LAST - 4, LAST - 2),
+        (LAST - 2, LAST),
+        0,
+    ),
+    // Taken out above and within.
+    (Change::Delete { at: 0 }, (2, 4), (1, 3), 0),
+    (Change::Delete { at: 3 }, (2, 4), (2, 3), 2),
+    // A row within taken elsewhere within.
+    (Change::Move { from: 2, before: 4 }, (2, 4), (2, 4), 3),
+    // Moved as cells: whole, in part, and moved over.
+    (
+        Change::Carry {
+            top: 0,
+            bottom: 5,
+            to: 7,
         },
-    }
-}
+        (2, 4),
+        (9, 11),
+        0,
+    ),
+    (
+        Change::Carry {
+            top: 0,
+            bottom: 3,
+            to: 7,
+        },
+        (2, 4),
+        (2, 4),
+        3,
+    ),
+    (
+        Change::Carry {
+            top: 10,
+            bottom: 11,
+            to: 4,
+        },
+        (2, 4),
+        (2, 4),
+        3,
+    ),
+];
 
 // Operations move what is kept, or give it up.
 pub(crate) fn operations_move_or_give_up<L: Ledger>(
@@ -198,7 +214,7 @@ pub(crate) fn operations_move_or_give_up<L: Ledger>(
     steps: &mut Steps<L>,
 ) -> Result<bool, AllocError> {
     let mut all = true;
-    'cases: for case in &cases() {
+    'cases: for case in &CASES {
         all = holds(alloc, case, steps)? && all;
     }
     Ok(all)
@@ -216,11 +232,13 @@ fn merges<L: Ledger>(
     case: &Case,
     steps: &mut Steps<L>,
 ) -> Result<bool, AllocError> {
-    if !sound(&case.shift) {
+    let &(change, (top, bottom), (first, last), merged) = case;
+    let shift = change.shift();
+    if !sound(&shift) {
         return Ok(false);
     }
-    both.summary(case.before, steps)?;
-    both.shift(&case.shift)?;
-    let after = both.summary(case.after, steps)?;
-    Ok(after == Some((Summary::new(), case.merged)))
+    both.summary(rows(top, bottom), steps)?;
+    both.shift(&shift)?;
+    let after = both.summary(rows(first, last), steps)?;
+    Ok(after == Some((Summary::new(), merged)))
 }

@@ -1,9 +1,10 @@
 // Lists of calls that are drawn, on kept summaries beside what is worked out plainly.
 use crate::both::Both;
-use crate::draws::Draws;
 use crate::plain::Expected;
-use cell_addr::{Block, Place};
+use crate::values::value;
+use cell_addr::Block;
 use cell_value::Summary;
+use draws::{Corner, Draws};
 use shift_core::{moved_block, sound};
 use std::alloc::{AllocError, Global};
 use std::fmt;
@@ -21,7 +22,7 @@ const ROLLS: u32 = 6;
 const MANY: u32 = 100_000;
 
 // How many calls were made, and how many summaries or counts differed from what they should be.
-#[derive(Clone, Copy, PartialEq, Eq, Debug, Default)]
+#[derive(Clone, Copy, Default)]
 pub(crate) struct Tally {
     values: u64,
     shifts: u64,
@@ -35,8 +36,13 @@ impl fmt::Display for Tally {
     fn fmt<W: fmt::Write>(&self, f: &mut fmt::Formatter<W>) -> fmt::Result {
         write!(
             f,
-            "{} values, {} operations, {} copies, {} summaries, of which {} were kept, {} differ",
-            self.values, self.shifts, self.copies, self.summaries, self.kept, self.differ
+            "{} values, {} operations, {} copies, ",
+            self.values, self.shifts, self.copies
+        )?;
+        write!(
+            f,
+            "{} summaries, of which {} were kept, {} differ",
+            self.summaries, self.kept, self.differ
         )
     }
 }
@@ -51,10 +57,10 @@ struct List {
     tally: Tally,
 }
 
-// What comes of so many lists, whose places are drawn from a corner.
+// What comes of so many lists, whose places are drawn near a corner.
 pub(crate) fn lists<L: Ledger>(
     alloc: Global,
-    corner: Place,
+    corner: Corner,
     seeds: u64,
     steps: &mut Steps<L>,
 ) -> Result<Tally, AllocError> {
@@ -101,7 +107,7 @@ impl List {
     // Gives a place a value.
     fn put(&mut self) -> Result<(), AllocError> {
         let at = self.draws.place();
-        let value = self.draws.value(self.alloc)?;
+        let value = value(&mut self.draws, self.alloc)?;
         if self.both.put(at, value)? {
             self.expected.touch(at);
             self.tally.values = self.tally.values.saturating_add(1);

@@ -10,12 +10,12 @@ ghost use Rattle.std.specs.Prelude.{◌≡◌, ◌<◌};
 mod bench;
 mod both;
 mod calls;
-mod draws;
 mod grid;
 mod lists;
 mod plain;
+mod values;
 
-use cell_addr::{COLS, Place, ROWS};
+use draws::Corner;
 use lists::lists;
 use std::alloc::{AllocError, Global};
 use std::marker::Brand;
@@ -26,26 +26,6 @@ use steps::Steps;
 
 // How many lists are drawn at each corner.
 const LISTS: u64 = 12;
-
-// The corners of a sheet, by where lists draw their places.
-const CORNERS: [(Place, &'static str); 2] = [
-    (
-        Place {
-            sheet: 0,
-            row: 0,
-            col: 0,
-        },
-        "lists at the first cell",
-    ),
-    (
-        Place {
-            sheet: 0,
-            row: ROWS - 14,
-            col: COLS - 7,
-        },
-        "lists at the last cell",
-    ),
-];
 
 fn main(rt: HostRuntime) -> ExitCode {
     match run::<Brand>(&rt, Blank::new(1)) {
@@ -101,9 +81,9 @@ fn calls_hold<L: Ledger>(rt: &HostRuntime, steps: &mut Steps<L>) -> io::Result<b
 // Whether no answer of the lists differs.
 fn lists_agree<L: Ledger>(rt: &HostRuntime, steps: &mut Steps<L>) -> io::Result<bool> {
     let mut all = true;
-    'corners: for (corner, shows) in CORNERS {
+    'corners: for corner in Corner::ALL {
         let tally = lists(rt.alloc(), corner, LISTS, steps)?;
-        println!(rt; "{shows}: {tally}")?;
+        println!(rt; "lists at {corner}: {tally}")?;
         all = all && tally.differ == 0;
     }
     Ok(all)
