@@ -11,7 +11,7 @@ use std::alloc::{AllocError, Global};
 const TODAY: i32 = 45_351;
 
 /// A function of any crate.
-#[derive(Clone, Copy, Debug)]
+#[derive(Clone, Copy)]
 pub enum Function {
     Math(MathFn),
     Look(LookFn),

@@ -35,13 +35,13 @@ const OF_FORMULAS: [&str; 21] = [
 
 // Whether the word is that of one function here, or of one of formulas, and not of both.
 fn is_known(word: &str) -> bool {
-    OF_FORMULAS.iter().any(|other| *other == word) != Function::named(word).is_some()
+    OF_FORMULAS.contains(&word) != Function::named(word).is_some()
 }
 
 /// Counts each word that names no function, or two, and each function whose word isn't listed, and prints it.
 pub(crate) fn run_words(rt: &HostRuntime) -> io::Result<Tally> {
     let mut tally = Tally::default();
-    'words: for word in FUNCTION_WORDS {
+    'words: for &word in &FUNCTION_WORDS {
         let known = is_known(word);
         tally.count(known);
         if !known {
