@@ -43,8 +43,9 @@ impl Net {
         requires { node < node_total self.now }
         ensures { IfOk result (λ found. found.items ≡ users_of self.now.links node) }
     {
-        let mut found = Vec::new(alloc);
-        'users: for user in self.links.users(node) {
+        let users = self.links.users(node);
+        let mut found = Vec::with_capacity(alloc, users.len())?;
+        'users: for user in users {
             found.push(*user)?;
         }
         Ok(found)

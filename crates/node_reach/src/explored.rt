@@ -73,7 +73,7 @@ fn put_all(
     ensures put { OnOk result (ArePut set.old.keys nodes.now set.new.keys) }
     ensures places { IfOk result (λ places. AreAt set.new.keys nodes.now places.items) }
 {
-    let mut places = Vec::new(alloc);
+    let mut places = Vec::with_capacity(alloc, nodes.len())?;
     'nodes: for node in nodes {
         let place = put(set, *node)?;
         places.push(place)?;

@@ -3,7 +3,7 @@ use Rattle.node_reach.proofs.Putting.{all_at, all_put, more_placed, none_put, st
 use Rattle.node_reach.proofs.explored.put_all.Goals as goal
 
 pub nodes-init : goal.nodes-init
-nodes-init c = record { put = none_put c.args.set.now.keys; places = start_at c.args.set.now.keys c.args.nodes.now c.new-places.result.items c.new-places.ensures.items }
+nodes-init c = record { put = none_put c.args.set.now.keys; places = start_at c.args.set.now.keys c.args.nodes.now c.in_ok-places.places.items c.in_ok-places.ensures.items }
 
 pub nodes-preserved : goal.nodes-preserved
 nodes-preserved c =
