@@ -33,16 +33,16 @@ use Rattle.dep_graph.proofs.FiledCells.{same_test}
 line_passes : (axis : Axis) (lines : PlaceLines) (sheet n : ℕ) → IsKnownLine (table_along axis lines sheet) n → is_known_line (table_along axis lines sheet) n ≡ true
 line_passes axis lines sheet n known =
     let next = (table_along axis lines sheet).next in ⊎_elim
-    (λ low. or_left (nat_lt n next) (nat_le 9223372036854775808 n) (lt-ltb n next low))
-    (λ high. or_right (nat_lt n next) (nat_le 9223372036854775808 n) (le-leb 9223372036854775808 n high))
+    (λ low. or_left (nat_lt n next) _ (lt-ltb n next low))
+    (λ high. or_right (nat_lt n next) _ (le-leb _ n high))
     known
 
 line_known : (axis : Axis) (lines : PlaceLines) (sheet n : ℕ) → is_known_line (table_along axis lines sheet) n ≡ true → IsKnownLine (table_along axis lines sheet) n
 line_known axis lines sheet n passes =
     let next = (table_along axis lines sheet).next in ⊎_elim
     (λ low. inl (ltb-true n next low))
-    (λ high. inr (leb-true 9223372036854775808 n high))
-    (or_cases (nat_lt n next) (nat_le 9223372036854775808 n) passes)
+    (λ high. inr (leb-true _ n high))
+    (or_cases (nat_lt n next) _ passes)
 
 pub known_passes : (lines : PlaceLines) (spot : Spot) → IsKnown lines spot → is_known lines spot ≡ true
 known_passes lines spot known =

@@ -8,7 +8,7 @@ use Rattle.std.proofs.lemmas.Bool.{and_parts, cases_lt}
 use Rattle.std.proofs.lemmas.Bool.Decides.{nat_tests}
 use Rattle.std.proofs.lemmas.List.Sums.{passes_at_first, position_or_len_is}
 use Rattle.std.proofs.lemmas.Option.{same_Some}
-use Rattle.place_lines.specs.Spots.{area_of, block_at, place_at, spot_of}
+use Rattle.place_lines.specs.Spots.{area_of, block_at, past, place_at, positions, spot_of}
 use Rattle.place_lines.specs.declared.area.Area.{Area}
 use Rattle.place_lines.specs.declared.lines.PlaceLines.{PlaceLines}
 use Rattle.place_lines.specs.declared.spot.Spot.{Spot}
@@ -80,7 +80,7 @@ key_inside t k n e = subst (λ m. m < count_of t) (sym (key_number t k n e)) (go
 
 -- ---- nodes under keys
 
-low_line : (number : ℕ) → is_narrow_line number ≡ true → number < 9223372041149743104
+low_line : (number : ℕ) → is_narrow_line number ≡ true → number < past positions
 low_line number h = grind (arith, nat_tests)
 
 -- a node whose key is narrow is found under it

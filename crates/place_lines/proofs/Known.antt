@@ -15,7 +15,7 @@ use Rattle.stable_lines.specs.Sheets.{table_of}
 use Rattle.stable_lines.specs.declared.table.LineTable.{LineTable}
 use Rattle.place_lines.specs.Laws.{IsNarrow}
 use Rattle.place_lines.specs.Moved.{AreMoved, IsKnown, IsKnownLine, OthersStay}
-use Rattle.place_lines.specs.Spots.{number_of, spot_of, table_along}
+use Rattle.place_lines.specs.Spots.{number_of, positions, spot_of, table_along}
 use Rattle.place_lines.specs.internal.Low.{HasLowLines}
 use Rattle.place_lines.specs.declared.lines.PlaceLines.{PlaceLines}
 use Rattle.place_lines.specs.declared.spot.Spot.{Spot}
@@ -127,5 +127,5 @@ spot_was_there f old new q moved known =
       record { sheet = q.sheet; row = row.0; col = col.0 },
       same_spot _ _ refl row.1 col.1,
       λ inside. (row.2 (limit_of Rows) (omega arith) inside.0, col.2 (limit_of Cols) (omega arith) inside.1),
-      λ narrow. (row.2 4294967296 (omega arith) narrow.0, col.2 4294967296 (omega arith) narrow.1),
+      λ narrow. (row.2 positions (omega arith) narrow.0, col.2 positions (omega arith) narrow.1),
     )

@@ -6,7 +6,8 @@ use Rattle.std.proofs.lemmas.Option.{same_Some}
 use Rattle.stable_lines.specs.Lines.{line_at, position_of}
 use Rattle.stable_lines.specs.declared.table.LineTable.{LineTable}
 use Rattle.place_lines.specs.internal.Low.{HasLowLines}
-use Rattle.place_lines.specs.Spots.{number_of, past, past_position, position_at}
+use Rattle.place_lines.specs.Spots.{number_of, past, past_position, position_at, positions}
+use Rattle.place_lines.specs.declared.past.TheConstants.{PAST}
 
 -- a position has a line, or stands past the sheet's end
 abbrev pub HasNumber : LineTable → ℕ → Type 0
@@ -50,17 +51,17 @@ one_position t x y low e =
       ]
     ]
 
-low_position : (t : LineTable) (n : ℕ) → n < 9223372036854775808 → position_at t n ≡ position_of t n
-low_position t n lt = cond-true _ _ _ (lt-ltb n 9223372036854775808 lt)
+low_position : (t : LineTable) (n : ℕ) → n < PAST → position_at t n ≡ position_of t n
+low_position t n lt = cond-true _ _ _ (lt-ltb n PAST lt)
 
 high_position : (t : LineTable) (x : ℕ) → position_at t (past x) ≡ past_position t x
 high_position t x = grind (arith, nat_tests)
 
-past_stands : (t : LineTable) (x : ℕ) → t.limit ≤ x → x < 4294967296 → past_position t x ≡ Some x
+past_stands : (t : LineTable) (x : ℕ) → t.limit ≤ x → x < positions → past_position t x ≡ Some x
 past_stands t x le lt = grind (arith, nat_tests)
 
 -- a number stands where it was read
-pub position_returns : (t : LineTable) (x : ℕ) → HasLowLines t → x < 4294967296 → position_at t (number_of t x) ≡ Some x
+pub position_returns : (t : LineTable) (x : ℕ) → HasLowLines t → x < positions → position_at t (number_of t x) ≡ Some x
 position_returns t x low narrow =
     elim (has_number t x) [
       | inl (l, at, here, lt) ↦ ap (position_at t) here ∙ low_position t l (low x l at) ∙ (t.inverse x l).0 at
@@ -73,9 +74,9 @@ past_found t m x h = (grind (arith, nat_tests), grind (arith, nat_tests))
 -- and is read where it stands
 pub number_returns : (t : LineTable) (n x : ℕ) → position_at t n ≡ Some x → number_of t x ≡ n
 number_returns t n x h =
-    elim (cases_lt n 9223372036854775808) [
+    elim (cases_lt n PAST) [
       | inl lt ↦ number_line t x n ((t.inverse x n).1 (sym (low_position t n lt) ∙ h))
       | inr le ↦
-          let w = past_found t (n - 9223372036854775808) x (sym (cond-false _ _ _ (le-ltb n 9223372036854775808 le)) ∙ h) in
+          let w = past_found t (n - PAST) x (sym (cond-false _ _ _ (le-ltb n PAST le)) ∙ h) in
           number_past t x w.1 ∙ omega arith
     ]

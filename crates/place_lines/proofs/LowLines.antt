@@ -8,20 +8,21 @@ use Rattle.stable_lines.specs.declared.run.Run.{Run}
 use Rattle.stable_lines.specs.declared.sheets.SheetLines.{SheetLines}
 use Rattle.stable_lines.specs.declared.table.LineTable.{LineTable}
 use Rattle.place_lines.specs.internal.Low.{HasLowLines}
+use Rattle.place_lines.specs.declared.past.TheConstants.{PAST}
 
 -- the lines before a position have low numbers
 abbrev pub AreLowBefore : LineTable → ℕ → Type 0
-AreLowBefore t end = (position line : ℕ) → position < end → line_at t position ≡ Some line → line < 9223372036854775808
+AreLowBefore t end = (position line : ℕ) → position < end → line_at t position ≡ Some line → line < PAST
 
-in_run : (t : LineTable) (r : Run) (start position line : ℕ) → IsRunFrom t start r → r.to + r.count ≤ 9223372036854775808
-    → start ≤ position → position < start + r.count → line_at t position ≡ Some line → line < 9223372036854775808
+in_run : (t : LineTable) (r : Run) (start position line : ℕ) → IsRunFrom t start r → r.to + r.count ≤ PAST
+    → start ≤ position → position < start + r.count → line_at t position ≡ Some line → line < PAST
 in_run t r start position line run low from before found =
     let back : start + (position - start) ≡ position = omega arith in
     let same : r.to + (position - start) ≡ line = same_Some (r.to + (position - start)) line (sym (run.3 (position - start) (omega arith)) ∙ ap (line_at t) back ∙ found) in
     omega arith
 
 -- and so do those of a run from there on, where it ends low
-pub low_through : (t : LineTable) (r : Run) (start : ℕ) → IsRunFrom t start r → r.to + r.count ≤ 9223372036854775808
+pub low_through : (t : LineTable) (r : Run) (start : ℕ) → IsRunFrom t start r → r.to + r.count ≤ PAST
     → AreLowBefore t start → AreLowBefore t (start + r.count)
 low_through t r start run low lows position line before found = ⊎_elim
     (λ lt. lows position line lt found)

@@ -6,11 +6,11 @@ use Rattle.cell_addr.specs.declared.place.Place.{Place}
 use Rattle.shift_core.specs.Carried.{first_place, last_place}
 use Rattle.stable_lines.specs.declared.table.LineTable.{LineTable}
 use Rattle.place_lines.specs.Laws.{IsNarrow, IsNarrowBlock}
-use Rattle.place_lines.specs.Spots.{area_of, number_of, spot_of, table_along}
+use Rattle.place_lines.specs.Spots.{area_of, number_of, past, positions, spot_of, table_along}
 use Rattle.place_lines.specs.declared.lines.PlaceLines.{PlaceLines}
 use Rattle.place_lines.proofs.LineNumbers.{has_number}
 
-narrow_position : (t : LineTable) (x : ℕ) → number_of t x < 9223372041149743104 → x < 4294967296
+narrow_position : (t : LineTable) (x : ℕ) → number_of t x < past positions → x < positions
 narrow_position t x low =
     elim (has_number t x) [
       | inl (l, at, here, within) ↦ let small = t.narrow in omega arith
@@ -18,10 +18,10 @@ narrow_position t x low =
     ]
 
 -- the numbers of a spot tell that its place is narrow
-pub narrow_place : (lines : PlaceLines) (p : Place) → (spot_of lines p).row < 9223372041149743104 → (spot_of lines p).col < 9223372041149743104 → IsNarrow p
+pub narrow_place : (lines : PlaceLines) (p : Place) → (spot_of lines p).row < past positions → (spot_of lines p).col < past positions → IsNarrow p
 narrow_place lines p row col = (narrow_position (table_along Rows lines p.sheet) p.row row, narrow_position (table_along Cols lines p.sheet) p.col col)
 
 -- the same of the corners of a block
-pub narrow_block : (lines : PlaceLines) (b : Block) → (area_of lines b).top < 9223372041149743104 → (area_of lines b).left < 9223372041149743104
-    → (area_of lines b).bottom < 9223372041149743104 → (area_of lines b).right < 9223372041149743104 → IsNarrowBlock b
+pub narrow_block : (lines : PlaceLines) (b : Block) → (area_of lines b).top < past positions → (area_of lines b).left < past positions
+    → (area_of lines b).bottom < past positions → (area_of lines b).right < past positions → IsNarrowBlock b
 narrow_block lines b top left bottom right = (narrow_place lines (first_place b) top left, narrow_place lines (last_place b) bottom right)

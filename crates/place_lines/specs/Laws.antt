@@ -11,14 +11,14 @@ use Rattle.shift_core.specs.Sound.{IsSound}
 use Rattle.shift_core.specs.Tables.{block_after, place_after}
 use Rattle.shift_core.specs.declared.shift.Shift.{Shift}
 use Rattle.place_lines.specs.Moved.{AreMoved, IsKnown}
-use Rattle.place_lines.specs.Spots.{area_of, block_at, place_at, spot_of}
+use Rattle.place_lines.specs.Spots.{area_of, block_at, place_at, positions, spot_of}
 use Rattle.place_lines.specs.declared.area.Area.{Area}
 use Rattle.place_lines.specs.declared.lines.PlaceLines.{PlaceLines}
 use Rattle.place_lines.specs.declared.spot.Spot.{Spot}
 
 -- the lines of the place, or of the block, are numbers of 32 bits, as those of every value of a program are
 abbrev pub IsNarrow : Place → Type 0
-IsNarrow p = (p.row < 4294967296) × (p.col < 4294967296)
+IsNarrow p = (p.row < positions) × (p.col < positions)
 
 abbrev pub IsNarrowBlock : Block → Type 0
 IsNarrowBlock b = IsNarrow (first_place b) × IsNarrow (last_place b)

@@ -12,6 +12,7 @@ use Rattle.stable_lines.specs.declared.table.LineTable.{LineTable}
 use Rattle.place_lines.specs.Spots.{table_along}
 use Rattle.place_lines.specs.declared.lines.PlaceLines.{PlaceLines}
 use Rattle.place_lines.specs.declared.spot.Spot.{Spot}
+use Rattle.place_lines.specs.declared.past.TheConstants.{PAST}
 
 -- along the axis the lines of all other sheets are the same
 abbrev pub OthersStay : Axis → ℕ → PlaceLines → PlaceLines → Type 0
@@ -30,7 +31,7 @@ AreMoved _ old new = (axis : Axis) → AllStay axis old new
 
 -- the number is one that a line may have had by now, or that of a position past the sheet's end
 abbrev pub IsKnownLine : LineTable → ℕ → Type 0
-IsKnownLine t number = (number < t.next) ⊎ (9223372036854775808 ≤ number)
+IsKnownLine t number = (number < t.next) ⊎ (PAST ≤ number)
 
 -- both lines of the spot are known
 abbrev pub IsKnown : PlaceLines → Spot → Type 0
@@ -38,7 +39,7 @@ IsKnown lines spot = IsKnownLine (table_of lines.rows spot.sheet) spot.row × Is
 
 -- the same as tests
 abbrev pub is_known_line : LineTable → ℕ → Bool
-is_known_line t number = nat_lt number t.next || nat_le 9223372036854775808 number
+is_known_line t number = nat_lt number t.next || nat_le PAST number
 
 abbrev pub is_known : PlaceLines → Spot → Bool
 is_known lines spot = is_known_line (table_of lines.rows spot.sheet) spot.row && is_known_line (table_of lines.cols spot.sheet) spot.col

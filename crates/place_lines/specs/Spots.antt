@@ -14,10 +14,15 @@ use Rattle.stable_lines.specs.declared.table.LineTable.{LineTable}
 use Rattle.place_lines.specs.declared.area.Area.{Area}
 use Rattle.place_lines.specs.declared.lines.PlaceLines.{PlaceLines}
 use Rattle.place_lines.specs.declared.spot.Spot.{Spot}
+use Rattle.place_lines.specs.declared.past.TheConstants.{PAST}
+
+-- how many positions 32 bits count
+abbrev pub positions : ℕ
+positions = 4294967296
 
 -- a position past a sheet's end as the number of a line
 abbrev pub past : ℕ → ℕ
-past position = 9223372036854775808 + position
+past position = PAST + position
 
 -- the number of the line at a position
 abbrev pub number_of : LineTable → ℕ → ℕ
@@ -25,11 +30,11 @@ number_of t position = unwrap_or (line_at t position) (past position)
 
 -- the position past the sheet's end that a number stands for; none where it is one of the sheet's, or no position
 abbrev pub past_position : LineTable → ℕ → Option ℕ
-past_position t position = if nat_le t.limit position && nat_lt position 4294967296 then Some position else None
+past_position t position = if nat_le t.limit position && nat_lt position positions then Some position else None
 
 -- where the line of a number stands; none where it stands nowhere
 abbrev pub position_at : LineTable → ℕ → Option ℕ
-position_at t number = if nat_lt number 9223372036854775808 then position_of t number else past_position t (number - 9223372036854775808)
+position_at t number = if nat_lt number PAST then position_of t number else past_position t (number - PAST)
 
 -- the lines of a sheet along an axis
 abbrev pub table_along : Axis → PlaceLines → ℕ → LineTable

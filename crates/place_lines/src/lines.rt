@@ -4,6 +4,7 @@ ghost use Rattle.cell_addr.specs.declared.axis.Axis.TheVariants.{Cols, Rows};
 ghost use Rattle.cell_addr.specs.Axis.{limit_of};
 ghost use Rattle.stable_lines.specs.Lines.{line_at};
 ghost use Rattle.stable_lines.specs.Sheets.{table_of};
+ghost use Rattle.place_lines.specs.declared.past.TheConstants.{PAST};
 
 use crate::area::Area;
 use crate::past::{number, position};
@@ -22,8 +23,8 @@ pub struct PlaceLines {
     pub(crate) cols: SheetLines,
     pub ghost row_limit: { rows.plain.limit ≡ limit_of Rows },
     pub ghost col_limit: { cols.plain.limit ≡ limit_of Cols },
-    pub ghost low_rows: { (sheet position line : ℕ) → line_at (table_of rows sheet) position ≡ Some line → line < 9223372036854775808 },
-    pub ghost low_cols: { (sheet position line : ℕ) → line_at (table_of cols sheet) position ≡ Some line → line < 9223372036854775808 },
+    pub ghost low_rows: { (sheet position line : ℕ) → line_at (table_of rows sheet) position ≡ Some line → line < PAST },
+    pub ghost low_cols: { (sheet position line : ℕ) → line_at (table_of cols sheet) position ≡ Some line → line < PAST },
 }
 
 impl PlaceLines {

@@ -1,6 +1,6 @@
 // The numbers of lines that follow one another in a block.
 ghost use Rattle.std.specs.Prelude.{◌≡◌, ◌<◌, ◌≤◌, ◌+◌, ◌-◌, ℕ, IfOk};
-ghost use Rattle.place_lines.specs.Spots.{AreNumbersOf, number_of, table_along};
+ghost use Rattle.place_lines.specs.Spots.{AreNumbersOf, number_of, positions, table_along};
 
 use crate::lines::PlaceLines;
 use crate::past::PAST;
@@ -39,7 +39,7 @@ impl PlaceLines {
 // The numbers of lines that follow one another from the position on, as far as they do so before the end.
 fn run_from(table: &LineTable, position: u32, end: u64) -> Range<u64>
     requires before { position < end }
-    requires narrow { end ≤ 4294967296 }
+    requires narrow { end ≤ positions }
     ensures some { result.start < result.end }
     ensures within { position + (result.end - result.start) ≤ end }
     ensures numbers { (i : ℕ) → i < result.end - result.start → number_of table.now (position + i) ≡ result.start + i }

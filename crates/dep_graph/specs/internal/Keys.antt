@@ -5,7 +5,7 @@ use Rattle.std.specs.Cmp.{IsEquivalence, decided}
 use Rattle.std.specs.List.{AllPairs}
 use Rattle.std.proofs.Common.{ap, eqb-true, subst}
 use Rattle.std.proofs.lemmas.Bool.{and_from, and_parts, eq-eqb, false≢true}
-use Rattle.place_lines.specs.Spots.{area_of, block_at, place_at, spot_of}
+use Rattle.place_lines.specs.Spots.{area_of, block_at, past, place_at, positions, spot_of}
 use Rattle.place_lines.specs.declared.area.Area.{Area}
 use Rattle.place_lines.specs.declared.lines.PlaceLines.{PlaceLines}
 use Rattle.place_lines.specs.declared.spot.Spot.{Spot}
@@ -46,7 +46,7 @@ fed_key (Range a) = fed.u8 2 ++ (fed.u32 a.sheet ++ (fed.u64 a.top ++ (fed.u64 a
 
 -- the number is that of a line, or of a position past a sheet's end
 abbrev pub is_narrow_line : ℕ → Bool
-is_narrow_line number = nat_lt number 9223372041149743104
+is_narrow_line number = nat_lt number (past positions)
 
 -- so are those of the key
 abbrev pub is_narrow : Key → Bool
