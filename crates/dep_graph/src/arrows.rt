@@ -1,7 +1,6 @@
 // The arrows of a net, from what is needed to what needs it.
 ghost use Rattle.std.specs.Prelude.{◌≡◌, ◌+◌, ◌<◌, ◌++◌, ◌∷◌, [], if◌then◌else◌, map, IfOk, OnOk};
 ghost use Rattle.std.specs.List.{flat_map};
-ghost use Rattle.node_links.specs.Nodes.{users_of};
 ghost use Rattle.block_index.specs.Index.{slot_count};
 ghost use Rattle.dep_graph.specs.internal.Arrows.{from_node, from_slot, node_total, slots_behind, starts_of, targets_of, total};
 
@@ -20,7 +19,7 @@ impl Arrows for Net {
     fn arrows(&self, alloc: Global, node: usize) -> Result<Vec<usize>, AllocError> {
         let count = self.nodes.len();
         if node < count {
-            self.from_node(alloc, node)
+            self.from_node(node)
         } else {
             self.from_slot(alloc, node - count)
         }
@@ -29,25 +28,12 @@ impl Arrows for Net {
 
 impl Net {
     // The users of a node, and the slots that hold it where it is a cell.
-    fn from_node(&self, alloc: Global, node: usize) -> Result<Vec<usize>, AllocError>
+    fn from_node(&self, node: usize) -> Result<Vec<usize>, AllocError>
         requires { node < node_total self.now }
         ensures { IfOk result (λ found. found.items ≡ from_node self.now node) }
     {
-        let mut found = self.users(alloc, node)?;
+        let mut found = self.links.users(node)?;
         self.add_slots(&mut found, self.nodes.key(node))?;
-        Ok(found)
-    }
-
-    // The users of a node.
-    fn users(&self, alloc: Global, node: usize) -> Result<Vec<usize>, AllocError>
-        requires { node < node_total self.now }
-        ensures { IfOk result (λ found. found.items ≡ users_of self.now.links node) }
-    {
-        let users = self.links.users(node);
-        let mut found = Vec::with_capacity(alloc, users.len())?;
-        'users: for user in users {
-            found.push(*user)?;
-        }
         Ok(found)
     }
 
@@ -81,7 +67,7 @@ impl Net {
     pub(crate) fn starts(&self, nodes: &[Node]) -> Result<Vec<usize>, AllocError>
         ensures { IfOk result (λ starts. starts.items ≡ flat_map (starts_of self.now) nodes.now) }
     {
-        let mut starts = Vec::new(self.alloc);
+        let mut starts = Vec::with_capacity(self.alloc, nodes.len())?;
         'nodes: for node in nodes {
             self.add_starts(&mut starts, *node)?;
         }

@@ -91,7 +91,7 @@ impl Net {
         ensures alive { IfOk result (λ numbers. (n : ℕ) → has n numbers.items ≡ true → IsAlive self.new.nodes n) }
         ensures filed { IfOk result (λ numbers. (n : ℕ) → has n numbers.items ≡ true → IsFiled self.new.nodes self.new.files n) }
     {
-        let mut numbers = Vec::new(self.alloc);
+        let mut numbers = Vec::with_capacity(self.alloc, needs.len())?;
         'needs: for need in needs {
             let number = self.use_one(*need)?;
             numbers.push(number)?;
@@ -144,7 +144,7 @@ impl Net {
     pub(crate) fn is_used(&self, node: usize) -> bool
         ensures { result ≡ is_used self.now node }
     {
-        node < self.links.len() && !self.links.users(node).is_empty()
+        node < self.links.len() && self.links.is_needed(node)
     }
 
     // The number of a node, which is added where it isn't known.

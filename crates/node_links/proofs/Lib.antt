@@ -1,3 +1,4 @@
+pub mod NodeSets
 pub mod Sets
 pub mod Relinking
 pub mod Listed

@@ -2,8 +2,6 @@
 -- many nodes.
 use Rattle.std.proofs.Common.{◌≡◌, ◌∙◌, sym, ap, refl, subst, arith, ℕ, ◌+◌, ◌<◌, ◌≤◌, inl, inr, ⊎_elim, Bool, true, false, cond, not, ◌&&◌, ◌||◌, List, [], length, get_or, take, eqb, Option, None, Some, option_map, unwrap_or, IfSome}
 use Rattle.std.specs.List.{All}
-use Rattle.std.specs.Ordering.{nat_cmp}
-use Rattle.std.specs.BTreeSet.{BTreeSet, contains}
 use Rattle.std.specs.declared.alloc.Global.{Global}
 use Rattle.std.specs.declared.vec.Vec.{Vec}
 use Rattle.std.proofs.lemmas.Bool.{eqb-true, false≢true, or_cases, or_left, true≢false}
@@ -11,7 +9,8 @@ use Rattle.std.proofs.lemmas.List.{take_all}
 use Rattle.needs_order.specs.Needs.{has}
 use Rattle.node_links.specs.Links.{AreBelow, list_for, needs_at}
 use Rattle.node_links.specs.internal.Lists.{items_in, listed, replaced_at, ArePartlyPut}
-use Rattle.node_links.specs.internal.Sets.{is_in, IsPartlyPut}
+use Rattle.node_links.specs.declared.node_set.NodeSet.{NodeSet}
+use Rattle.node_links.specs.internal.Sets.{is_in, nodes_in, IsPartlyPut}
 use Rattle.node_links.proofs.Listed.{listed_front, listed_more, none_yet, read_is}
 use Rattle.node_links.proofs.Relinking.{all_of, of_all}
 use Rattle.node_links.proofs.Sets.{and_true, is_in_at}
@@ -33,7 +32,7 @@ module _ (lists : List (Option (Vec ℕ Global))) (k : ℕ) (list : Option (Vec 
   put_there false false true = refl
   put_there false false false = refl
 
-  pub more_lists_put : (old mid new : List (BTreeSet ℕ)) (items : List ℕ) → items ≡ items_in list
+  pub more_lists_put : (old mid new : List NodeSet) (items : List ℕ) → items ≡ items_in list
       → ((i x : ℕ) → is_in mid i x ≡ (is_in old i x || has i (listed (take k lists) x)))
       → ((i x : ℕ) → is_in new i x ≡ (is_in mid i x || (has i items && eqb x k)))
       → (i x : ℕ) → is_in new i x ≡ (is_in old i x || has i (listed (take (k + 1) lists) x))
@@ -56,25 +55,25 @@ module _ (lists : List (Option (Vec ℕ Global))) (k : ℕ) (list : Option (Vec 
   drop_there o h j true false = and_true (o && not (h && not j))
   drop_there o h j false i = and_true (o && not (h && not j))
 
-  pub more_lists_taken : (old mid new kept : List (BTreeSet ℕ)) (items : List ℕ) (own : BTreeSet ℕ) → items ≡ items_in list → k < length kept → own ≡ get_or kept k own
+  pub more_lists_taken : (old mid new kept : List NodeSet) (items : List ℕ) (own : NodeSet) → items ≡ items_in list → k < length kept → own ≡ get_or kept k own
       → ((i x : ℕ) → is_in mid i x ≡ (is_in old i x && not (has i (listed (take k lists) x) && not (is_in kept x i))))
-      → ((i x : ℕ) → is_in new i x ≡ (is_in mid i x && not ((has i items && not (contains nat_cmp own i)) && eqb x k)))
+      → ((i x : ℕ) → is_in new i x ≡ (is_in mid i x && not ((has i items && not (has i (nodes_in own))) && eqb x k)))
       → (i x : ℕ) → is_in new i x ≡ (is_in old i x && not (has i (listed (take (k + 1) lists) x) && not (is_in kept x i)))
   more_lists_taken old mid new kept items own is within own_is before taken i x =
-      taken i x ∙ (ap (λ b. b && not ((has i items && not (contains nat_cmp own i)) && eqb x k)) (before i x)
+      taken i x ∙ (ap (λ b. b && not ((has i items && not (has i (nodes_in own))) && eqb x k)) (before i x)
       ∙ (by (eqb x k) refl ∙ ap (λ l. is_in old i x && not (has i l && not (is_in kept x i))) (sym (listed_more lists k list inside was x))))
     where
-      by : (t : Bool) → eqb x k ≡ t → ((is_in old i x && not (has i (listed (take k lists) x) && not (is_in kept x i))) && not ((has i items && not (contains nat_cmp own i)) && t))
+      by : (t : Bool) → eqb x k ≡ t → ((is_in old i x && not (has i (listed (take k lists) x) && not (is_in kept x i))) && not ((has i items && not (has i (nodes_in own))) && t))
           ≡ (is_in old i x && not (has i (cond t (items_in list) (listed (take k lists) x)) && not (is_in kept x i)))
       by true e =
-          let kept_is : contains nat_cmp own i ≡ is_in kept x i = ap (λ s. contains nat_cmp s i) own_is ∙ (sym (is_in_at kept k own i within) ∙ ap (λ a. is_in kept a i) (sym (eqb-true x k e))) in
-          ap (λ h. (is_in old i x && not (h && not (is_in kept x i))) && not ((has i items && not (contains nat_cmp own i)) && true)) (nothing_yet i x e)
+          let kept_is : has i (nodes_in own) ≡ is_in kept x i = ap (λ s. has i (nodes_in s)) own_is ∙ (sym (is_in_at kept k own i within) ∙ ap (λ a. is_in kept a i) (sym (eqb-true x k e))) in
+          ap (λ h. (is_in old i x && not (h && not (is_in kept x i))) && not ((has i items && not (has i (nodes_in own))) && true)) (nothing_yet i x e)
           ∙ (ap (λ j. (is_in old i x && not (false && not (is_in kept x i))) && not ((has i items && not j) && true)) kept_is
           ∙ (drop_here (is_in old i x) (has i items) (is_in kept x i) ∙ ap (λ l. is_in old i x && not (has i l && not (is_in kept x i))) is))
-      by false e = drop_there (is_in old i x) (has i (listed (take k lists) x)) (is_in kept x i) (has i items) (contains nat_cmp own i)
+      by false e = drop_there (is_in old i x) (has i (listed (take k lists) x)) (is_in kept x i) (has i items) (has i (nodes_in own))
 
   -- the nodes gone by are put, and one more in part
-  pub lists_partly_put : (old mid new : List (BTreeSet ℕ)) (items : List ℕ) → items ≡ items_in list
+  pub lists_partly_put : (old mid new : List NodeSet) (items : List ℕ) → items ≡ items_in list
       → ((i x : ℕ) → is_in mid i x ≡ (is_in old i x || has i (listed (take k lists) x))) → IsPartlyPut mid items k new → ArePartlyPut old lists new
   lists_partly_put old mid new items is before partly = record {
     kept = λ i x h. partly.kept i x (before i x ∙ or_left (is_in old i x) (has i (listed (take k lists) x)) h);
@@ -89,18 +88,18 @@ module _ (lists : List (Option (Vec ℕ Global))) (k : ℕ) (list : Option (Vec 
   }
 
 -- past the last list all nodes are put, or dropped
-pub whole_lists_put : (old new : List (BTreeSet ℕ)) (lists : List (Option (Vec ℕ Global))) (k : ℕ)
+pub whole_lists_put : (old new : List NodeSet) (lists : List (Option (Vec ℕ Global))) (k : ℕ)
     → ((i x : ℕ) → is_in new i x ≡ (is_in old i x || has i (listed (take k lists) x))) → length lists ≤ k
     → (i x : ℕ) → is_in new i x ≡ (is_in old i x || has i (listed lists x))
 whole_lists_put old new lists k before past i x = before i x ∙ ap (λ l. is_in old i x || has i (listed l x)) (take_all k lists past)
 
-pub whole_lists_taken : (old new kept : List (BTreeSet ℕ)) (lists : List (Option (Vec ℕ Global))) (k : ℕ)
+pub whole_lists_taken : (old new kept : List NodeSet) (lists : List (Option (Vec ℕ Global))) (k : ℕ)
     → ((i x : ℕ) → is_in new i x ≡ (is_in old i x && not (has i (listed (take k lists) x) && not (is_in kept x i)))) → length lists ≤ k
     → (i x : ℕ) → is_in new i x ≡ (is_in old i x && not (has i (listed lists x) && not (is_in kept x i)))
 whole_lists_taken old new kept lists k before past i x = before i x ∙ ap (λ l. is_in old i x && not (has i (listed l x) && not (is_in kept x i))) (take_all k lists past)
 
 -- nodes that were put in part are put back
-pub lists_put_back : (old mid new was : List (BTreeSet ℕ)) (lists : List (Option (Vec ℕ Global)))
+pub lists_put_back : (old mid new was : List NodeSet) (lists : List (Option (Vec ℕ Global)))
     → ((i x : ℕ) → has i (listed lists x) ≡ true → is_in was x i ≡ is_in old i x) → ArePartlyPut old lists mid
     → ((i x : ℕ) → is_in new i x ≡ (is_in mid i x && not (has i (listed lists x) && not (is_in was x i))))
     → (i x : ℕ) → is_in new i x ≡ is_in old i x
@@ -120,7 +119,7 @@ lists_put_back old mid new was lists same partly taken i x = taken i x ∙ by (i
         (partly.only i x em))
 
 -- the needs that lists replace are the users that there were
-pub replaced_users : (old : List (BTreeSet ℕ)) (lists : List (Option (Vec ℕ Global))) (needs : List (Vec ℕ Global)) (was : List (BTreeSet ℕ))
+pub replaced_users : (old : List NodeSet) (lists : List (Option (Vec ℕ Global))) (needs : List (Vec ℕ Global)) (was : List NodeSet)
     → ((a b : ℕ) → is_in old b a ≡ has b (needs_at needs a)) → ((a b : ℕ) → is_in was a b ≡ has b (replaced_at lists needs a))
     → (i x : ℕ) → has i (listed lists x) ≡ true → is_in was x i ≡ is_in old i x
 replaced_users old lists needs was exact is i x h = is x i ∙ (by (get_or lists x None) refl ∙ sym (exact x i))
@@ -140,7 +139,7 @@ unswapped : (h : Bool) → ((h || false) && not (false && not false)) ≡ h
 unswapped true = refl
 unswapped false = refl
 
-pub relinked_each : (old mid new now : List (BTreeSet ℕ)) (needs after : List (Vec ℕ Global)) (lists swapped : List (Option (Vec ℕ Global)))
+pub relinked_each : (old mid new now : List NodeSet) (needs after : List (Vec ℕ Global)) (lists swapped : List (Option (Vec ℕ Global)))
     → ((a b : ℕ) → is_in old b a ≡ has b (needs_at needs a)) → ((a b : ℕ) → is_in now a b ≡ has b (listed lists a))
     → ((i x : ℕ) → is_in mid i x ≡ (is_in old i x || has i (listed lists x)))
     → ((a : ℕ) → list_for swapped a ≡ option_map (λ _. needs_at needs a) (list_for lists a))

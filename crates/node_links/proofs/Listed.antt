@@ -2,8 +2,6 @@
 -- the linking of many nodes.
 use Rattle.std.proofs.Common.{◌≡◌, ◌∙◌, sym, ap, refl, subst, arith, ℕ, zero, suc, ◌+◌, ◌<◌, ◌≤◌, ⊎_elim, Bool, true, false, cond, List, [], ◌∷◌, ◌++◌, length, get_or, set, take, eqb, Option, None, Some, option_map, unwrap_or, IfSome}
 use Rattle.std.specs.List.{All}
-use Rattle.std.specs.Ordering.{nat_cmp}
-use Rattle.std.specs.BTreeSet.{BTreeSet, contains}
 use Rattle.std.specs.declared.alloc.Global.{Global}
 use Rattle.std.specs.declared.vec.Vec.{Vec}
 use Rattle.std.proofs.lemmas.Bool.{cases_lt, eq-eqb, eqb-true, ne_eqb, false≢true}
@@ -11,9 +9,10 @@ use Rattle.std.proofs.lemmas.List.{get_or_default, get_or_past, get_or-set_other
 use Rattle.needs_order.specs.Needs.{has}
 use Rattle.node_links.specs.Links.{AreBelow, list_for, needs_at}
 use Rattle.node_links.specs.internal.Lists.{items_in, list_in, listed, replaced, replaced_at}
-use Rattle.node_links.specs.internal.Sets.{is_in}
+use Rattle.node_links.specs.declared.node_set.NodeSet.{NodeSet}
+use Rattle.node_links.specs.internal.Sets.{is_in, nodes_in}
 use Rattle.node_links.proofs.Relinking.{needs-set}
-use Rattle.node_links.proofs.Sets.{contains_has, next_same}
+use Rattle.node_links.proofs.Sets.{next_same}
 
 -- what stands at a place of the first ones, when there is one more
 one_more : {X : Type 0} (xs : List X) (k a : ℕ) (d : X) → k < length xs → get_or (take (suc k) xs) a d ≡ cond (eqb a k) (get_or xs k d) (get_or (take k xs) a d)
@@ -85,28 +84,28 @@ listed_front (l ∷ lists) (suc k) b zero h = h
 listed_front (l ∷ lists) (suc k) b (suc a) h = listed_front lists k b a h
 
 -- a set is put behind the last
-push_in : (sets : List (BTreeSet ℕ)) (s : BTreeSet ℕ) (i x : ℕ) → is_in (sets ++ s ∷ []) i x ≡ cond (eqb i (length sets)) (contains nat_cmp s x) (is_in sets i x)
-push_in [] s zero x = sym (contains_has s x) ∙ sym (ap (λ t. cond t (contains nat_cmp s x) false) (eq-eqb zero zero refl))
-push_in [] s (suc i) x = sym (ap (λ t. cond t (contains nat_cmp s x) false) (ne_eqb (suc i) zero (λ same. omega (arith, same))))
-push_in (t ∷ sets) s zero x = sym (ap (λ b. cond b (contains nat_cmp s x) (has x t.keys)) (ne_eqb zero (suc (length sets)) (λ same. omega (arith, same))))
-push_in (t ∷ sets) s (suc i) x = push_in sets s i x ∙ ap (λ b. cond b (contains nat_cmp s x) (is_in sets i x)) (sym (next_same i (length sets)))
+push_in : (sets : List NodeSet) (s : NodeSet) (i x : ℕ) → is_in (sets ++ s ∷ []) i x ≡ cond (eqb i (length sets)) (has x (nodes_in s)) (is_in sets i x)
+push_in [] s zero x = sym (ap (λ t. cond t (has x (nodes_in s)) false) (eq-eqb zero zero refl))
+push_in [] s (suc i) x = sym (ap (λ t. cond t (has x (nodes_in s)) false) (ne_eqb (suc i) zero (λ same. omega (arith, same))))
+push_in (t ∷ sets) s zero x = sym (ap (λ b. cond b (has x (nodes_in s)) (has x (nodes_in t))) (ne_eqb zero (suc (length sets)) (λ same. omega (arith, same))))
+push_in (t ∷ sets) s (suc i) x = push_in sets s i x ∙ ap (λ b. cond b (has x (nodes_in s)) (is_in sets i x)) (sym (next_same i (length sets)))
 
 -- the sets of the items at some places, when there is one more
-pub more_sets : (sets new : List (BTreeSet ℕ)) (s : BTreeSet ℕ) (k : ℕ) (items : List ℕ) (before after : ℕ → List ℕ)
-    → length sets ≡ k → new ≡ sets ++ s ∷ [] → ((i x : ℕ) → is_in sets i x ≡ has x (before i)) → ((x : ℕ) → contains nat_cmp s x ≡ has x items) → ((i : ℕ) → after i ≡ cond (eqb i k) items (before i))
+pub more_sets : (sets new : List NodeSet) (s : NodeSet) (k : ℕ) (items : List ℕ) (before after : ℕ → List ℕ)
+    → length sets ≡ k → new ≡ sets ++ s ∷ [] → ((i x : ℕ) → is_in sets i x ≡ has x (before i)) → ((x : ℕ) → has x (nodes_in s) ≡ has x items) → ((i : ℕ) → after i ≡ cond (eqb i k) items (before i))
     → (i x : ℕ) → is_in new i x ≡ has x (after i)
 more_sets sets new s k items before after long pushed were is next i x =
-    ap (λ l. is_in l i x) pushed ∙ (push_in sets s i x ∙ (ap (λ n. cond (eqb i n) (contains nat_cmp s x) (is_in sets i x)) long ∙ (by (eqb i k) ∙ ap (has x) (sym (next i)))))
+    ap (λ l. is_in l i x) pushed ∙ (push_in sets s i x ∙ (ap (λ n. cond (eqb i n) (has x (nodes_in s)) (is_in sets i x)) long ∙ (by (eqb i k) ∙ ap (has x) (sym (next i)))))
   where
-    by : (t : Bool) → cond t (contains nat_cmp s x) (is_in sets i x) ≡ has x (cond t items (before i))
+    by : (t : Bool) → cond t (has x (nodes_in s)) (is_in sets i x) ≡ has x (cond t items (before i))
     by true = is x
     by false = were i x
 
-pub more_count : (sets new : List (BTreeSet ℕ)) (s : BTreeSet ℕ) (k : ℕ) → length sets ≡ k → new ≡ sets ++ s ∷ [] → length new ≡ k + 1
+pub more_count : (sets new : List NodeSet) (s : NodeSet) (k : ℕ) → length sets ≡ k → new ≡ sets ++ s ∷ [] → length new ≡ k + 1
 more_count sets new s k long pushed = ap length pushed ∙ (length_push sets s ∙ ap (λ n. n + 1) long)
 
 -- no sets are the sets of no items
-pub no_sets : (sets : List (BTreeSet ℕ)) → sets ≡ [] → (i x : ℕ) → is_in sets i x ≡ false
+pub no_sets : (sets : List NodeSet) → sets ≡ [] → (i x : ℕ) → is_in sets i x ≡ false
 no_sets sets none i x = ap (λ l. is_in l i x) none
 
 -- needs and lists exchanged at one node more

@@ -1,5 +1,5 @@
 -- Lists of needs that nodes get where links are redirected. Serves the redirection of links.
-use Rattle.std.proofs.Common.{◌≡◌, ◌∙◌, sym, ap, refl, subst, arith, ℕ, zero, suc, ◌+◌, ◌<◌, ◌≤◌, ◌⊎◌, inl, inr, ⊎_elim, true, List, [], ◌∷◌, ◌++◌, length, append_assoc, take, get_or, set, Option, Some, None, option_map, is_some, unwrap_or, IsTrue, IsSome, IfSome, ◌↔◌, Result, Ok, Err, OnOk}
+use Rattle.std.proofs.Common.{◌≡◌, ◌∙◌, sym, ap, refl, subst, arith, ℕ, zero, suc, ◌+◌, ◌<◌, ◌≤◌, ◌⊎◌, inl, inr, ⊎_elim, true, List, [], ◌∷◌, ◌++◌, length, append_assoc, take, get_or, set, Option, Some, None, option_map, is_some, unwrap_or, IsTrue, IsSome, IfSome, ◌↔◌}
 use Rattle.std.specs.List.{All, cons_option, filter_map}
 use Rattle.std.specs.Option.{option_to_list}
 use Rattle.std.specs.declared.alloc.Global.{Global}
@@ -224,11 +224,6 @@ pub needing_inside : (lists : List (Vec ℕ Global)) (a m : ℕ) → has m (need
 needing_inside [] a m h = absurd (false≢true h)
 needing_inside (w ∷ lists) zero m h = omega arith
 needing_inside (w ∷ lists) (suc a) m h = omega (arith, needing_inside lists a m h)
-
--- what follows from what holds on success
-pub on_ok : {A B : Type 0} (r : Result A B) (P Q : Type 0) → OnOk r P → (P → Q) → OnOk r Q
-on_ok (Ok _) P Q p follows = follows p
-on_ok (Err _) P Q p follows = tt
 
 module _ (f : ℕ → Option ℕ) (needs : ℕ → List ℕ) (n : ℕ) (lists : List (Option (Vec ℕ Global))) (gathered : AreGathered f needs n lists) where
   -- what is listed are nodes

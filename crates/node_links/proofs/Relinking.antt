@@ -1,8 +1,6 @@
 -- Lists of needs, one of them replaced, and the users beside them. Serves linking and unlinking.
 use Rattle.std.proofs.Common.{◌≡◌, ◌∙◌, sym, ap, refl, subst, arith, ℕ, zero, suc, ◌<◌, ⊎_elim, Bool, true, false, cond, not, ◌&&◌, ◌||◌, List, [], ◌∷◌, ◌++◌, length, get_or, set, eqb}
 use Rattle.std.specs.List.{All}
-use Rattle.std.specs.Ordering.{nat_cmp}
-use Rattle.std.specs.BTreeSet.{BTreeSet, contains}
 use Rattle.std.specs.declared.alloc.Global.{Global}
 use Rattle.std.specs.declared.vec.Vec.{Vec}
 use Rattle.std.proofs.lemmas.Bool.{eq-eqb, eqb-true, ne_eqb, true≢false}
@@ -10,7 +8,8 @@ use Rattle.std.proofs.lemmas.List.{get_or_default}
 use Rattle.needs_order.specs.Needs.{has}
 use Rattle.needs_order.proofs.Lists.{at_has, has_at}
 use Rattle.node_links.specs.Links.{needs_at}
-use Rattle.node_links.specs.internal.Sets.{is_in, IsPartlyPut}
+use Rattle.node_links.specs.declared.node_set.NodeSet.{NodeSet}
+use Rattle.node_links.specs.internal.Sets.{is_in, nodes_in, IsPartlyPut}
 use Rattle.node_links.proofs.Sets.{next_same}
 
 -- what holds of each number that a list has holds at each of its places
@@ -66,20 +65,20 @@ there false false true false = refl
 there false false false true = refl
 there false false false false = refl
 
-pub relinked : (old mid new : List (BTreeSet ℕ)) (lists : List (Vec ℕ Global)) (node : ℕ) (before after : List ℕ) (kept : BTreeSet ℕ)
-    → ((a b : ℕ) → is_in old b a ≡ has b (needs_at lists a)) → before ≡ needs_at lists node → ((i : ℕ) → contains nat_cmp kept i ≡ has i after)
+pub relinked : (old mid new : List NodeSet) (lists : List (Vec ℕ Global)) (node : ℕ) (before after : List ℕ) (kept : NodeSet)
+    → ((a b : ℕ) → is_in old b a ≡ has b (needs_at lists a)) → before ≡ needs_at lists node → ((i : ℕ) → has i (nodes_in kept) ≡ has i after)
     → ((i x : ℕ) → is_in mid i x ≡ (is_in old i x || (has i after && eqb x node)))
-    → ((i x : ℕ) → is_in new i x ≡ (is_in mid i x && not ((has i before && not (contains nat_cmp kept i)) && eqb x node)))
+    → ((i x : ℕ) → is_in new i x ≡ (is_in mid i x && not ((has i before && not (has i (nodes_in kept))) && eqb x node)))
     → (a b : ℕ) → is_in new b a ≡ has b (cond (eqb a node) after (needs_at lists a))
 relinked old mid new lists node before after kept exact was stays put taken a b =
-    taken b a ∙ (ap (λ t. t && not ((has b before && not (contains nat_cmp kept b)) && eqb a node)) (put b a) ∙ by (eqb a node) refl)
+    taken b a ∙ (ap (λ t. t && not ((has b before && not (has b (nodes_in kept))) && eqb a node)) (put b a) ∙ by (eqb a node) refl)
   where
-    by : (t : Bool) → eqb a node ≡ t → ((is_in old b a || (has b after && t)) && not ((has b before && not (contains nat_cmp kept b)) && t)) ≡ has b (cond t after (needs_at lists a))
+    by : (t : Bool) → eqb a node ≡ t → ((is_in old b a || (has b after && t)) && not ((has b before && not (has b (nodes_in kept))) && t)) ≡ has b (cond t after (needs_at lists a))
     by true e =
         let same : is_in old b a ≡ has b before = exact a b ∙ (ap (λ x. has b (needs_at lists x)) (eqb-true a node e) ∙ ap (has b) (sym was)) in
-        ap (λ t. (t || (has b after && true)) && not ((has b before && not (contains nat_cmp kept b)) && true)) same
+        ap (λ t. (t || (has b after && true)) && not ((has b before && not (has b (nodes_in kept))) && true)) same
         ∙ (ap (λ t. (has b before || (has b after && true)) && not ((has b before && not t) && true)) (stays b) ∙ here (has b before) (has b after))
-    by false e = there (is_in old b a) (has b after) (has b before) (contains nat_cmp kept b) ∙ exact a b
+    by false e = there (is_in old b a) (has b after) (has b before) (has b (nodes_in kept)) ∙ exact a b
 
 -- all needs are nodes after a node's needs were replaced
 pub known-set : (lists : List (Vec ℕ Global)) (node : ℕ) (after : List ℕ) (n : ℕ) → ((a b : ℕ) → has b (needs_at lists a) ≡ true → b < n) → ((b : ℕ) → has b after ≡ true → b < n)
@@ -101,13 +100,13 @@ ends false true = refl
 ends false false = refl
 
 -- what was put at some places is taken back
-pub put_back : (old mid new : List (BTreeSet ℕ)) (needs : List ℕ) (node : ℕ) (was : BTreeSet ℕ)
-    → ((i : ℕ) → contains nat_cmp was i ≡ is_in old i node) → IsPartlyPut old needs node mid
-    → ((i x : ℕ) → is_in new i x ≡ (is_in mid i x && not ((has i needs && not (contains nat_cmp was i)) && eqb x node)))
+pub put_back : (old mid new : List NodeSet) (needs : List ℕ) (node : ℕ) (was : NodeSet)
+    → ((i : ℕ) → has i (nodes_in was) ≡ is_in old i node) → IsPartlyPut old needs node mid
+    → ((i x : ℕ) → is_in new i x ≡ (is_in mid i x && not ((has i needs && not (has i (nodes_in was))) && eqb x node)))
     → (i x : ℕ) → is_in new i x ≡ is_in old i x
-put_back old mid new needs node was same partly taken i x = taken i x ∙ by (is_in old i x) (is_in mid i x) (eqb x node) (has i needs) (contains nat_cmp was i) refl refl refl refl refl
+put_back old mid new needs node was same partly taken i x = taken i x ∙ by (is_in old i x) (is_in mid i x) (eqb x node) (has i needs) (has i (nodes_in was)) refl refl refl refl refl
   where
-    by : (o m t h k : Bool) → is_in old i x ≡ o → is_in mid i x ≡ m → eqb x node ≡ t → has i needs ≡ h → contains nat_cmp was i ≡ k → (m && not ((h && not k) && t)) ≡ o
+    by : (o m t h k : Bool) → is_in old i x ≡ o → is_in mid i x ≡ m → eqb x node ≡ t → has i needs ≡ h → has i (nodes_in was) ≡ k → (m && not ((h && not k) && t)) ≡ o
     by true false t h k eo em et eh ek = absurd (true≢false (sym (partly.kept i x eo) ∙ em))
     by true true true h k eo em et eh ek =
         let kept : k ≡ true = sym ek ∙ (same i ∙ (ap (is_in old i) (sym (eqb-true x node et)) ∙ eo)) in

@@ -18,6 +18,7 @@
 
 mod links;
 mod lists;
+mod node_set;
 mod redirect;
 mod users;
 

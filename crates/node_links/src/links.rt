@@ -1,14 +1,14 @@
 // Nodes and their links.
-ghost use Rattle.std.specs.Prelude.{◌≡◌, ◌+◌, ◌<◌, ◌≤◌, ◌==◌, ℕ, [], true, if◌then◌else◌, length, unwrap_or, IfOk, OnOk, OnErr};
+ghost use Rattle.std.specs.Prelude.{◌≡◌, ◌+◌, ◌<◌, ◌≤◌, ◌==◌, ℕ, [], true, if◌then◌else◌, length, nat_lt, unwrap_or, IfOk, OnOk, OnErr};
 ghost use Rattle.std.specs.List.{All};
 ghost use Rattle.needs_order.specs.Needs.{has};
 ghost use Rattle.node_links.specs.Links.{AreBelow, list_for, needs_at};
 ghost use Rattle.node_links.specs.internal.Sets.{is_in};
 
 use crate::lists::{exchange, sets_of, sets_replaced};
+use crate::node_set::NodeSet;
 use crate::users::{Users, set_of};
 use std::alloc::{AllocError, Global};
-use std::collections::BTreeSet;
 use std::mem;
 
 /// Nodes, and the nodes that each of them needs.
@@ -56,7 +56,7 @@ impl Links {
     {
         let number = self.len();
         self.needs.reserve(1)?;
-        self.users.add(self.alloc)?;
+        self.users.add()?;
         self.needs.push_reserved(Vec::new(self.alloc));
         Ok(number)
     }
@@ -69,13 +69,21 @@ impl Links {
         &self.needs[node]
     }
 
-    /// The nodes that need the node, in the order of their numbers.
-    pub fn users(&self, node: usize) -> &BTreeSet<usize>
+    /// The nodes that need the node, in the order of their numbers. Errs for want of memory.
+    pub fn users(&self, node: usize) -> Result<Vec<usize>, AllocError>
         requires { node < node_count self.now }
-        ensures list { result.now.keys ≡ users_of self.now node }
+        ensures list { IfOk result (λ users. users.items ≡ users_of self.now node) }
         ensures exact { (a : ℕ) → has a (users_of self.now node) ≡ has node (needs_of self.now a) }
     {
-        &self.users.sets[node]
+        self.users.sets[node].to_vec(self.alloc)
+    }
+
+    /// Whether some node needs the node.
+    pub fn is_needed(&self, node: usize) -> bool
+        requires { node < node_count self.now }
+        ensures { result ≡ nat_lt 0 (length (users_of self.now node)) }
+    {
+        !self.users.sets[node].is_empty()
     }
 
     /// Replaces what the node needs. Where there is no memory all stays as it was. Costs about the number of old and
@@ -120,7 +128,6 @@ impl Links {
         ensures count { node_count self.new ≡ node_count self.old }
     {
         let before = mem::replace(&mut self.needs[node], Vec::new(self.alloc));
-        self.users
-            .drop_each(&before, node, &BTreeSet::new(self.alloc));
+        self.users.drop_each(&before, node, &NodeSet::Empty);
     }
 }

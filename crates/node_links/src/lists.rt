@@ -5,9 +5,9 @@ ghost use Rattle.node_links.specs.Links.{list_for, needs_at};
 ghost use Rattle.node_links.specs.internal.Lists.{items_in, list_in, listed, replaced, replaced_at};
 ghost use Rattle.node_links.specs.internal.Sets.{is_in};
 
+use crate::node_set::NodeSet;
 use crate::users::set_of;
 use std::alloc::{AllocError, Global};
-use std::collections::BTreeSet;
 use std::mem;
 
 // The numbers in a list; none where there is no list.
@@ -34,7 +34,7 @@ fn replaced_by<'a>(list: &Option<Vec<usize>>, needs: &'a [usize]) -> &'a [usize]
 pub(crate) fn sets_of(
     alloc: Global,
     lists: &[Option<Vec<usize>>],
-) -> Result<Vec<BTreeSet<usize>>, AllocError>
+) -> Result<Vec<NodeSet>, AllocError>
     ensures count { IfOk result (λ sets. length sets.items ≡ length lists.now) }
     ensures sets { IfOk result (λ sets. (i x : ℕ) → is_in sets.items i x ≡ has x (listed lists.now i)) }
 {
@@ -50,7 +50,7 @@ pub(crate) fn sets_replaced(
     alloc: Global,
     lists: &[Option<Vec<usize>>],
     needs: &[Vec<usize>],
-) -> Result<Vec<BTreeSet<usize>>, AllocError>
+) -> Result<Vec<NodeSet>, AllocError>
     requires { length lists.now ≤ length needs.now }
     ensures count { IfOk result (λ sets. length sets.items ≡ length lists.now) }
     ensures sets { IfOk result (λ sets. (i x : ℕ) → is_in sets.items i x ≡ has x (replaced_at lists.now needs.now i)) }

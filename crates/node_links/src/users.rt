@@ -1,21 +1,20 @@
 // The nodes that need each node.
 ghost use Rattle.std.specs.Prelude.{◌≡◌, ◌+◌, ◌<◌, ◌≤◌, ◌==◌, ◌&&◌, ◌||◌, not, ℕ, true, [], length, IfOk, OnOk, OnErr};
 ghost use Rattle.std.specs.List.{All};
-ghost use Rattle.std.specs.Ordering.{nat_cmp};
-ghost use Rattle.std.specs.BTreeSet as sorted;
 ghost use Rattle.needs_order.specs.Needs.{has};
 ghost use Rattle.node_links.specs.Links.{AreBelow};
 ghost use Rattle.node_links.specs.internal.Lists.{listed, ArePartlyPut};
-ghost use Rattle.node_links.specs.internal.Sets.{is_in, users_at, IsPartlyPut};
+ghost use Rattle.node_links.specs.internal.Sets.{is_in, nodes_in, IsPartlyPut};
 
 use crate::lists::items_of;
+use crate::node_set::NodeSet;
 use std::alloc::{AllocError, Global};
-use std::collections::BTreeSet;
 
 // For each node the set of those that need it.
 #[derive(Drop)]
 pub(crate) struct Users {
-    pub(crate) sets: Vec<BTreeSet<usize>>,
+    alloc: Global,
+    pub(crate) sets: Vec<NodeSet>,
 }
 
 impl Users {
@@ -24,17 +23,18 @@ impl Users {
         ensures { result.sets.items ≡ [] }
     {
         Users {
+            alloc,
             sets: Vec::new(alloc),
         }
     }
 
     // Adds a node that none needs.
-    pub(crate) fn add(&mut self, alloc: Global) -> Result<(), AllocError>
+    pub(crate) fn add(&mut self) -> Result<(), AllocError>
         ensures count { OnOk result (length self.new.sets.items ≡ length self.old.sets.items + 1) }
         ensures same { (i x : ℕ) → is_in self.new.sets.items i x ≡ is_in self.old.sets.items i x }
         ensures err { OnErr result (self.new.sets.items ≡ self.old.sets.items) }
     {
-        self.sets.push(BTreeSet::new(alloc))?;
+        self.sets.push(NodeSet::Empty)?;
         Ok(())
     }
 
@@ -57,10 +57,10 @@ impl Users {
         &mut self,
         needs: &[usize],
         node: usize,
-        was: &BTreeSet<usize>,
+        was: &NodeSet,
     ) -> Result<(), AllocError>
         requires needs { All (λ p. p < length self.old.sets.items) needs.now }
-        requires was { (i : ℕ) → sorted.contains nat_cmp was.now i ≡ is_in self.old.sets.items i node }
+        requires was { (i : ℕ) → has i (nodes_in was.now) ≡ is_in self.old.sets.items i node }
         ensures ok { OnOk result ((i x : ℕ) → is_in self.new.sets.items i x ≡ (is_in self.old.sets.items i x || (has i needs.now && x == node))) }
         ensures err { OnErr result ((i x : ℕ) → is_in self.new.sets.items i x ≡ is_in self.old.sets.items i x) }
         ensures count { length self.new.sets.items ≡ length self.old.sets.items }
@@ -75,9 +75,9 @@ impl Users {
     }
 
     // Takes the node from those that need each of these, but for those that are kept.
-    pub(crate) fn drop_each(&mut self, needs: &[usize], node: usize, kept: &BTreeSet<usize>)
+    pub(crate) fn drop_each(&mut self, needs: &[usize], node: usize, kept: &NodeSet)
         requires { All (λ p. p < length self.old.sets.items) needs.now }
-        ensures rest { (i x : ℕ) → is_in self.new.sets.items i x ≡ (is_in self.old.sets.items i x && not ((has i needs.now && not (sorted.contains nat_cmp kept.now i)) && x == node)) }
+        ensures rest { (i x : ℕ) → is_in self.new.sets.items i x ≡ (is_in self.old.sets.items i x && not ((has i needs.now && not (has i (nodes_in kept.now))) && x == node)) }
         ensures count { length self.new.sets.items ≡ length self.old.sets.items }
     {
         'needs: for need in needs {
@@ -103,7 +103,7 @@ impl Users {
     pub(crate) fn put_all_lists(
         &mut self,
         lists: &[Option<Vec<usize>>],
-        was: &[BTreeSet<usize>],
+        was: &[NodeSet],
     ) -> Result<(), AllocError>
         requires lists { AreBelow (length self.old.sets.items) lists.now }
         requires count { length lists.now ≤ length was.now }
@@ -122,7 +122,7 @@ impl Users {
     }
 
     // Takes each node from those that need the ones in its list, but for those that are kept for it.
-    pub(crate) fn drop_lists(&mut self, lists: &[Option<Vec<usize>>], kept: &[BTreeSet<usize>])
+    pub(crate) fn drop_lists(&mut self, lists: &[Option<Vec<usize>>], kept: &[NodeSet])
         requires lists { AreBelow (length self.old.sets.items) lists.now }
         requires count { length lists.now ≤ length kept.now }
         ensures rest { (i x : ℕ) → is_in self.new.sets.items i x ≡ (is_in self.old.sets.items i x && not (has i (listed lists.now x) && not (is_in kept.now x i))) }
@@ -140,17 +140,16 @@ impl Users {
         ensures err { OnErr result ((i x : ℕ) → is_in self.new.sets.items i x ≡ is_in self.old.sets.items i x) }
         ensures count { length self.new.sets.items ≡ length self.old.sets.items }
     {
-        self.sets[need].insert(node)?;
-        Ok(())
+        self.sets[need].insert(self.alloc, node)
     }
 
     // Takes the node from those that need this one, unless that is kept.
-    fn drop_unless(&mut self, need: usize, node: usize, kept: &BTreeSet<usize>)
+    fn drop_unless(&mut self, need: usize, node: usize, kept: &NodeSet)
         requires { need < length self.old.sets.items }
-        ensures rest { (i x : ℕ) → is_in self.new.sets.items i x ≡ (is_in self.old.sets.items i x && not ((i == need && not (sorted.contains nat_cmp kept.now need)) && x == node)) }
+        ensures rest { (i x : ℕ) → is_in self.new.sets.items i x ≡ (is_in self.old.sets.items i x && not ((i == need && not (has need (nodes_in kept.now))) && x == node)) }
         ensures count { length self.new.sets.items ≡ length self.old.sets.items }
     {
-        if !kept.contains(&need) {
+        if !kept.contains(need) {
             self.drop(need, node);
         }
     }
@@ -161,17 +160,17 @@ impl Users {
         ensures rest { (i x : ℕ) → is_in self.new.sets.items i x ≡ (is_in self.old.sets.items i x && not (i == need && x == node)) }
         ensures count { length self.new.sets.items ≡ length self.old.sets.items }
     {
-        self.sets[need].remove(&node);
+        self.sets[need].remove(node);
     }
 }
 
 // The set of the items.
-pub(crate) fn set_of(alloc: Global, items: &[usize]) -> Result<BTreeSet<usize>, AllocError>
-    ensures { IfOk result (λ set. (x : ℕ) → sorted.contains nat_cmp set x ≡ has x items.now) }
+pub(crate) fn set_of(alloc: Global, items: &[usize]) -> Result<NodeSet, AllocError>
+    ensures { IfOk result (λ set. (x : ℕ) → has x (nodes_in set) ≡ has x items.now) }
 {
-    let mut set = BTreeSet::new(alloc);
+    let mut set = NodeSet::Empty;
     'items: for item in items {
-        set.insert(*item)?;
+        set.insert(alloc, *item)?;
     }
     Ok(set)
 }

@@ -1,10 +1,10 @@
 -- Lists of needs for some of the nodes.
 use Rattle.std.specs.Prelude.{◌≡◌, ◌⊎◌, ℕ, true, List, [], slice_index_or, Option, None, option_map, unwrap_or}
-use Rattle.std.specs.BTreeSet.{BTreeSet}
 use Rattle.std.specs.declared.alloc.Global.{Global}
 use Rattle.std.specs.declared.vec.Vec.{Vec}
 use Rattle.needs_order.specs.Needs.{has}
 use Rattle.node_links.specs.Links.{list_for, needs_at}
+use Rattle.node_links.specs.declared.node_set.NodeSet.{NodeSet}
 use Rattle.node_links.specs.internal.Sets.{is_in}
 
 -- the numbers, if there is a list
@@ -28,6 +28,6 @@ abbrev pub replaced_at : List (Option (Vec ℕ Global)) → List (Vec ℕ Global
 replaced_at lists needs a = replaced (slice_index_or lists a None) (needs_at needs a)
 
 -- some nodes were put into the sets at the places that their lists have
-pub record ArePartlyPut (old : List (BTreeSet ℕ)) (lists : List (Option (Vec ℕ Global))) (new : List (BTreeSet ℕ)) : Type 0 where
+pub record ArePartlyPut (old : List NodeSet) (lists : List (Option (Vec ℕ Global))) (new : List NodeSet) : Type 0 where
   pub kept : (i x : ℕ) → is_in old i x ≡ true → is_in new i x ≡ true
   pub only : (i x : ℕ) → is_in new i x ≡ true → (is_in old i x ≡ true) ⊎ (has i (listed lists x) ≡ true)

@@ -1,6 +1,7 @@
 use Rattle.node_links.specs.Nodes.{needs_of, node_count}
 use Rattle.node_links.specs.Redirect.{target_of, AreRedirected}
-use Rattle.node_links.proofs.Redirecting.{below, needing_inside, on_ok, redirected}
+use Rattle.node_links.proofs.Redirecting.{below, needing_inside, redirected}
+use Rattle.node_links.proofs.Sets.{on_ok}
 use Rattle.node_links.proofs.links.Links.redirect.Goals as goal
 
 pub link_each-requires-clause-needs : goal.link_each-requires-clause-needs

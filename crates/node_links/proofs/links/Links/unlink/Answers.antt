@@ -4,7 +4,8 @@ use Rattle.std.proofs.lemmas.Bool.{false≢true}
 use Rattle.std.proofs.lemmas.List.{length-set}
 use Rattle.needs_order.specs.Needs.{has}
 use Rattle.node_links.specs.Links.{needs_at}
-use Rattle.node_links.proofs.Sets.{nothing_put, start_set}
+use Rattle.node_links.specs.declared.node_set.NodeSet.TheVariants.{Empty}
+use Rattle.node_links.proofs.Sets.{nothing_put}
 use Rattle.node_links.proofs.Relinking.{all_of, known-set, needs-set, needs_read, relinked}
 use Rattle.node_links.proofs.links.Links.unlink.Goals as goal
 
@@ -23,8 +24,8 @@ invariant_of-self c =
     record {
       counts = c.drop_each.ensures.count ∙ (c.args.self.now.counts ∙ sym (length-set c.args.self.now.needs.items c.args.node c.replace-before.new.dest));
       exact = λ a b.
-          relinked c.args.self.now.users.sets.items c.args.self.now.users.sets.items c.drop_each.new.self.sets.items c.args.self.now.needs.items c.args.node c.deref.result.now c.replace-before.new.dest.items c.new-2.result
-          c.args.self.now.exact (c.deref.ensures.value ∙ was) (λ i. start_set c.new-2.result [] c.new-2.ensures.len i ∙ ap (has i) (sym now)) (nothing_put c.args.self.now.users.sets.items c.replace-before.new.dest.items c.args.node now) c.drop_each.ensures.rest a b
+          relinked c.args.self.now.users.sets.items c.args.self.now.users.sets.items c.drop_each.new.self.sets.items c.args.self.now.needs.items c.args.node c.deref.result.now c.replace-before.new.dest.items Empty
+          c.args.self.now.exact (c.deref.ensures.value ∙ was) (λ i. ap (has i) (sym now)) (nothing_put c.args.self.now.users.sets.items c.replace-before.new.dest.items c.args.node now) c.drop_each.ensures.rest a b
           ∙ ap (has b) (sym (at a));
       known = λ a b h. subst (λ n. b < n) (sym (length-set c.args.self.now.needs.items c.args.node c.replace-before.new.dest))
           (known-set c.args.self.now.needs.items c.args.node c.replace-before.new.dest.items (length c.args.self.now.needs.items) c.args.self.now.known (λ x y. absurd (false≢true (sym (ap (has x) now) ∙ y))) a b (subst (λ l. has b l ≡ true) (at a) h));
