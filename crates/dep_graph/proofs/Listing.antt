@@ -13,12 +13,13 @@ use Rattle.std.proofs.lemmas.List.Folds.{list_any_more}
 use Rattle.node_links.proofs.Relinking.{all_of}
 use Rattle.needs_order.specs.Needs as plain
 use Rattle.dep_graph.specs.Nodes.{has, same_node}
+use Rattle.dep_graph.specs.Walks.{IsOnce}
 use Rattle.dep_graph.specs.declared.key.Key.{Key}
 use Rattle.dep_graph.specs.declared.net.Net.{Net}
 use Rattle.dep_graph.specs.declared.node.Node.{Node}
 use Rattle.dep_graph.specs.internal.Arrows.{node_total}
 use Rattle.dep_graph.specs.internal.Numbers.{place_of}
-use Rattle.dep_graph.specs.internal.Walked.{AreKnown, pick, picks}
+use Rattle.dep_graph.specs.internal.Walked.{AreKnown, AreUnknown, pick, picks}
 use Rattle.dep_graph.specs.internal.Keys.{same_key}
 use Rattle.dep_graph.proofs.Numbers.{place_within}
 use Rattle.dep_graph.proofs.Places.{has_one}
@@ -55,7 +56,7 @@ none_number keys a is = by (nat_lt (position_or_len (same_key a) keys) (length k
 pub last_number : (keys : List Key) (k : Key) → None ≡ position (same_key k) keys → position_or_len (same_key k) keys ≡ length keys
 last_number keys k is = omega (arith, none_number keys k is, place_within keys k)
 
--- ---- known nodes, one more gone by
+-- ---- known and unknown nodes, one more gone by
 
 module _ (net : Net) (nodes : List Node) (i : ℕ) (d : Node) (inside : i < length nodes) where
   taken : (a : Node) → has a (take (i + 1) nodes) ≡ (has a (take i nodes) || same_node a (get_or nodes i d))
@@ -84,6 +85,22 @@ module _ (net : Net) (nodes : List Node) (i : ℕ) (d : Node) (inside : i < leng
         (λ (listed : has known.0 (take i nodes) ≡ true). inl ((before n).1 (known.0, listed, known.2, known.3)))
         (λ (same : known.0 ≡ get_or nodes i d). inr (known.2 ∙ ap (place_of net.nodes) (same ∙ at), known.3))
         (either_taken known.0 known.1)),
+  )
+
+  pub unknown_next : (old new : List Node) (node : Node) → get_or nodes i d ≡ node → AreUnknown net (take i nodes) old
+      → ((a : Node) → IsTrue (has a new) ↔ (IsTrue (has a old) ⊎ ((a ≡ node) × (node_total net ≤ place_of net.nodes node)))) → IsOnce new → AreUnknown net (take (i + 1) nodes) new
+  unknown_next old new node at before put once = (
+    λ a. (
+      λ h. ⊎_elim
+          (λ (was : has a old ≡ true). let both = (before.0 a).0 was in (was_taken a both.0, both.1))
+          (λ (now : (a ≡ node) × (node_total net ≤ place_of net.nodes node)). (now_taken a (now.0 ∙ sym at), subst (λ x. node_total net ≤ place_of net.nodes x) (sym now.0) now.1))
+          ((put a).0 h),
+      λ (both : IsTrue (has a (take (i + 1) nodes)) × (node_total net ≤ place_of net.nodes a)). (put a).1 (⊎_elim
+          (λ (listed : has a (take i nodes) ≡ true). inl ((before.0 a).1 (listed, both.1)))
+          (λ (same : a ≡ get_or nodes i d). let is : a ≡ node = same ∙ at in inr (is, subst (λ x. node_total net ≤ place_of net.nodes x) is both.1))
+          (either_taken a both.0)),
+    ),
+    once,
   )
 
 -- ---- the same where the list is known as what it grew from

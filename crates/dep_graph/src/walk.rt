@@ -1,5 +1,5 @@
 // What a graph reaches, in any order and in order.
-ghost use Rattle.std.specs.Prelude.{◌≡◌, ◌≢◌, ◌↔◌, ◌⊎◌, ◌<◌, ◌≤◌, ◌++◌, ℕ, true, false, length, IsTrue, IfOk, OnOk, slice_index_or};
+ghost use Rattle.std.specs.Prelude.{◌≡◌, ◌≢◌, ◌↔◌, ◌⊎◌, ◌<◌, ◌≤◌, ◌++◌, [], ℕ, true, false, length, IsTrue, IfOk, OnOk, slice_index_or};
 ghost use Rattle.std.specs.List.{AllPairs, filter_map};
 ghost use Rattle.std.specs.Option.{option_to_list};
 ghost use Rattle.needs_order.specs.Needs as plain;
@@ -18,7 +18,7 @@ use crate::node::Node;
 use crate::nodes::Nodes;
 use indexmap::IndexSet;
 use node_reach::Walk;
-use std::alloc::AllocError;
+use std::alloc::{AllocError, Global};
 
 impl Graph {
     /// The nodes from which needs lead to one of the marks, one or more after another, and the marks themselves: each
@@ -28,10 +28,10 @@ impl Graph {
     pub fn reach(&self, marks: &Nodes) -> Result<Nodes, AllocError>
         ensures { IfOk result (λ nodes. AreReached (links_of self.now) (items_of marks.now) (items_of nodes)) }
     {
-        let unknown = self.net.unknown(marks.items())?;
+        let split = self.net.split(marks.items())?;
         let starts = self.net.starts(marks.items())?;
         let reached = node_reach::reach(self.net.alloc, &self.net, &starts)?;
-        self.net.named(&unknown, &reached)
+        self.net.named(&split.unknown, &reached)
     }
 
     /// Those of the nodes that are on no cycle, each once, and after all of them that its needs lead to. Costs about what
@@ -39,10 +39,9 @@ impl Graph {
     pub fn order(&self, nodes: &Nodes) -> Result<Nodes, AllocError>
         ensures { IfOk result (λ order. IsOrdered (links_of self.now) (items_of nodes.now) (items_of order)) }
     {
-        let unknown = self.net.unknown(nodes.items())?;
-        let known = self.net.known(nodes.items())?;
-        let walk = node_reach::order(self.net.alloc, &self.net, known.as_slice())?;
-        self.net.ordered(&unknown, &known, &walk)
+        let split = self.net.split(nodes.items())?;
+        let walk = node_reach::order(self.net.alloc, &self.net, split.known.as_slice())?;
+        self.net.ordered(&split.unknown, &split.known, &walk)
     }
 
     /// Whether needs lead from the node back to it, one or more after another. Costs about what [`Graph::reach`] of it
@@ -60,55 +59,52 @@ impl Graph {
     }
 }
 
+// Nodes, split into those that have a number and those that have none.
+#[derive(Drop)]
+struct Split {
+    // Those without one, each once.
+    unknown: IndexSet<Node>,
+    // The numbers of the others, each once.
+    known: IndexSet<usize>,
+    pub ghost once: { IsOnce unknown.keys },
+}
+
+impl Split {
+    // No nodes; there is room for so many that have a number.
+    fn new(alloc: Global, count: usize) -> Result<Split, AllocError>
+        ensures unknown { IfOk result (λ split. split.unknown.keys ≡ []) }
+        ensures known { IfOk result (λ split. split.known.keys ≡ []) }
+    {
+        Ok(Split {
+            unknown: IndexSet::new(alloc),
+            known: IndexSet::with_capacity(alloc, count)?,
+        })
+    }
+}
+
 impl Net {
-    // Those of the nodes that have no number, each once.
-    fn unknown(&self, nodes: &[Node]) -> Result<IndexSet<Node>, AllocError>
-        ensures { IfOk result (λ set. AreUnknown self.now nodes.now set.keys) }
+    // The nodes, split into those that have a number and those that have none.
+    fn split(&self, nodes: &[Node]) -> Result<Split, AllocError>
+        ensures unknown { IfOk result (λ split. AreUnknown self.now nodes.now split.unknown.keys) }
+        ensures known { IfOk result (λ split. AreKnown self.now nodes.now split.known.keys) }
     {
-        let mut unknown = IndexSet::new(self.alloc);
+        let mut split = Split::new(self.alloc, nodes.len())?;
         'nodes: for node in nodes {
-            self.put_unknown(&mut unknown, *node)?;
+            self.put(&mut split, *node)?;
         }
-        Ok(unknown)
+        Ok(split)
     }
 
-    // Puts the node into the set unless it has a number.
-    fn put_unknown(&self, unknown: &mut IndexSet<Node>, node: Node) -> Result<(), AllocError>
-        requires { IsOnce unknown.old.keys }
-        ensures once { OnOk result (IsOnce unknown.new.keys) }
-        ensures more { OnOk result ((a : Node) → IsTrue (has a unknown.new.keys) ↔ (IsTrue (has a unknown.old.keys) ⊎ ((a ≡ node) × (node_total self.now ≤ place_of self.now.nodes node)))) }
+    // Puts a node to those that it belongs to.
+    fn put(&self, split: &mut Split, node: Node) -> Result<(), AllocError>
+        ensures unknown { OnOk result ((a : Node) → IsTrue (has a split.new.unknown.keys) ↔ (IsTrue (has a split.old.unknown.keys) ⊎ ((a ≡ node) × (node_total self.now ≤ place_of self.now.nodes node)))) }
+        ensures known { OnOk result ((n : ℕ) → IsTrue (plain.has n split.new.known.keys) ↔ (IsTrue (plain.has n split.old.known.keys) ⊎ ((n ≡ place_of self.now.nodes node) × (n < node_total self.now)))) }
     {
         match self.nodes.number(node) {
-            Some(_) => Ok(()),
-            None => {
-                unknown.insert(node)?;
-                Ok(())
-            }
-        }
-    }
-
-    // The numbers of those of the nodes that have one.
-    fn known(&self, nodes: &[Node]) -> Result<IndexSet<usize>, AllocError>
-        ensures { IfOk result (λ set. AreKnown self.now nodes.now set.keys) }
-    {
-        let mut known = IndexSet::new(self.alloc);
-        'nodes: for node in nodes {
-            self.put_known(&mut known, *node)?;
-        }
-        Ok(known)
-    }
-
-    // Puts the number of the node into the set where it has one.
-    fn put_known(&self, known: &mut IndexSet<usize>, node: Node) -> Result<(), AllocError>
-        ensures { OnOk result ((n : ℕ) → IsTrue (plain.has n known.new.keys) ↔ (IsTrue (plain.has n known.old.keys) ⊎ ((n ≡ place_of self.now.nodes node) × (n < node_total self.now)))) }
-    {
-        match self.nodes.number(node) {
-            Some(number) => {
-                known.insert(number)?;
-                Ok(())
-            }
-            None => Ok(()),
-        }
+            Some(number) => split.known.insert(number)?,
+            None => split.unknown.insert(node)?,
+        };
+        Ok(())
     }
 
     // The unknown nodes, and behind them those of the numbers.

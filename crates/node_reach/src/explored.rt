@@ -18,15 +18,15 @@ pub(crate) struct Explored {
 }
 
 impl Explored {
-    // Nothing was found yet.
-    fn new(alloc: Global) -> Explored
-        ensures nodes { length result.nodes.keys ≡ 0 }
-        ensures lists { result.lists.items ≡ [] }
+    // Nothing was found yet; there is room for so many nodes.
+    fn new(alloc: Global, count: usize) -> Result<Explored, AllocError>
+        ensures nodes { IfOk result (λ found. length found.nodes.keys ≡ 0) }
+        ensures lists { IfOk result (λ found. found.lists.items ≡ []) }
     {
-        Explored {
-            nodes: IndexSet::new(alloc),
-            lists: Vec::new(alloc),
-        }
+        Ok(Explored {
+            nodes: IndexSet::with_capacity(alloc, count)?,
+            lists: Vec::with_capacity(alloc, count)?,
+        })
     }
 
     // The first node whose arrows weren't followed yet; None where there is none.
@@ -54,7 +54,7 @@ pub(crate) fn explore<A: Arrows>(
     requires { All (λ a. a < A.count graph.now) starts.now }
     ensures { IfOk result (λ found. IsExplored (A.count graph.now) (A.targets graph.now) starts.now found.nodes.keys (lists_of found.lists.items)) }
 {
-    let mut found = Explored::new(alloc);
+    let mut found = Explored::new(alloc, starts.len())?;
     put_all(alloc, &mut found.nodes, starts)?;
     'exploring: while let Some(node) = found.next() {
         let targets = graph.arrows(alloc, node)?;

@@ -57,7 +57,7 @@ fn read<T: Copy>(alloc: Global, list: &[T], places: &[usize]) -> Result<Vec<T>, 
     requires { All (λ p. p < length list.now) places.now }
     ensures { IfOk result (λ found. (d : T) → found.items ≡ map (λ p. slice_index_or list.now p d) places.now) }
 {
-    let mut found = Vec::new(alloc);
+    let mut found = Vec::with_capacity(alloc, places.len())?;
     'places: for place in places {
         found.push(list[*place])?;
     }

@@ -3,8 +3,8 @@ use Rattle.node_reach.proofs.explored.explore.Goals as goal
 
 pub exploring-init : goal.exploring-init
 exploring-init g c =
-    starts_kept (g.A.Arrows.count c.args.graph.now) (g.A.Arrows.targets c.args.graph.now) c.new-found.result.nodes.keys c.args.starts.now _ _ c.new-found.result.lists.items
-    c.new-found.ensures.nodes c.new-found.ensures.lists c.requires c.in_ok-put_all.ensures.put c.in_ok-put_all.ensures.places
+    starts_kept (g.A.Arrows.count c.args.graph.now) (g.A.Arrows.targets c.args.graph.now) c.in_ok-found.found.nodes.keys c.args.starts.now _ _ c.in_ok-found.found.lists.items
+    c.in_ok-found.ensures.nodes c.in_ok-found.ensures.lists c.requires c.in_ok-put_all.ensures.put c.in_ok-put_all.ensures.places
 
 pub arrows-requires : goal.arrows-requires
 arrows-requires g c =

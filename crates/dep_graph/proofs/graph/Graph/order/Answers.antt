@@ -14,16 +14,16 @@ use Rattle.dep_graph.proofs.graph.Graph.order.Goals as goal
 pub order-requires : goal.order-requires
 order-requires c =
     subst (λ l. All (λ b. b < total c.args.self.now.net) l) (sym c.as_slice.ensures.keys)
-    (all_of (total c.args.self.now.net) c.in_ok-known.known.keys (known_inside_total c.args.self.now.net _ c.in_ok-known.known.keys c.in_ok-known.ensures))
+    (all_of (total c.args.self.now.net) c.in_ok-split.split.known.keys (known_inside_total c.args.self.now.net _ c.in_ok-split.split.known.keys c.in_ok-split.ensures.known))
 
 pub returns : goal.returns
 returns c =
     if_ok c.ordered.result _ _ c.ordered.ensures
-    (λ order is. all_ordered c.args.self.now.net (items_of c.args.nodes.now) c.in_ok-unknown.unknown.keys (items_of order) c.in_ok-known.known.keys c.in_ok-walk.walk.nodes.items c.in_ok-walk.walk.on_cycle.items
-    (subst (λ l. AreUnknown c.args.self.now.net l c.in_ok-unknown.unknown.keys) c.items.ensures c.in_ok-unknown.ensures)
-    (subst (λ l. AreKnown c.args.self.now.net l c.in_ok-known.known.keys) c.items-2.ensures c.in_ok-known.ensures)
+    (λ order is. all_ordered c.args.self.now.net (items_of c.args.nodes.now) c.in_ok-split.split.unknown.keys (items_of order) c.in_ok-split.split.known.keys c.in_ok-walk.walk.nodes.items c.in_ok-walk.walk.on_cycle.items
+    (subst (λ l. AreUnknown c.args.self.now.net l c.in_ok-split.split.unknown.keys) c.items.ensures c.in_ok-split.ensures.unknown)
+    (subst (λ l. AreKnown c.args.self.now.net l c.in_ok-split.split.known.keys) c.items.ensures c.in_ok-split.ensures.known)
     (subst (λ l. arrows.AreReached (targets_of c.args.self.now.net) l c.in_ok-walk.walk.nodes.items) c.as_slice.ensures.keys c.in_ok-walk.ensures.reached)
     c.in_ok-walk.ensures.counts c.in_ok-walk.ensures.cycles c.in_ok-walk.ensures.in_order
-    (is ∙ ap (λ l. c.in_ok-unknown.unknown.keys ++ l) (found_all c.args.self.now.net.nodes (picks c.in_ok-known.known.keys c.in_ok-walk.walk.nodes.items c.in_ok-walk.walk.on_cycle.items)
-    (λ n h. known_alive c.args.self.now.net (items_of c.args.nodes.now) c.in_ok-known.known.keys (subst (λ l. AreKnown c.args.self.now.net l c.in_ok-known.known.keys) c.items-2.ensures c.in_ok-known.ensures) n
-    (picks_has c.in_ok-known.known.keys c.in_ok-walk.walk.nodes.items c.in_ok-walk.walk.on_cycle.items n h).0))))
+    (is ∙ ap (λ l. c.in_ok-split.split.unknown.keys ++ l) (found_all c.args.self.now.net.nodes (picks c.in_ok-split.split.known.keys c.in_ok-walk.walk.nodes.items c.in_ok-walk.walk.on_cycle.items)
+    (λ n h. known_alive c.args.self.now.net (items_of c.args.nodes.now) c.in_ok-split.split.known.keys (subst (λ l. AreKnown c.args.self.now.net l c.in_ok-split.split.known.keys) c.items.ensures c.in_ok-split.ensures.known) n
+    (picks_has c.in_ok-split.split.known.keys c.in_ok-walk.walk.nodes.items c.in_ok-walk.walk.on_cycle.items n h).0))))

@@ -21,10 +21,10 @@ reach-requires c =
 pub returns : goal.returns
 returns c =
     if_ok c.named.result _ _ c.named.ensures
-    (λ nodes is. all_reached c.args.self.now.net (items_of c.args.marks.now) c.in_ok-unknown.unknown.keys (items_of nodes) c.deref.result.now c.in_ok-reached.reached.items
-    (subst (λ l. AreUnknown c.args.self.now.net l c.in_ok-unknown.unknown.keys) c.items.ensures c.in_ok-unknown.ensures)
+    (λ nodes is. all_reached c.args.self.now.net (items_of c.args.marks.now) c.in_ok-split.split.unknown.keys (items_of nodes) c.deref.result.now c.in_ok-reached.reached.items
+    (subst (λ l. AreUnknown c.args.self.now.net l c.in_ok-split.split.unknown.keys) c.items.ensures c.in_ok-split.ensures.unknown)
     (c.deref.ensures.value ∙ (c.in_ok-starts.ensures ∙ ap (flat_map (starts_of c.args.self.now.net)) c.items-2.ensures))
     c.in_ok-reached.ensures
-    (is ∙ ap (λ l. c.in_ok-unknown.unknown.keys ++ l) (ap (filter_map (found_at c.args.self.now.net.nodes)) c.deref-2.ensures.value
+    (is ∙ ap (λ l. c.in_ok-split.split.unknown.keys ++ l) (ap (filter_map (found_at c.args.self.now.net.nodes)) c.deref-2.ensures.value
     ∙ found_low c.args.self.now.net.nodes c.in_ok-reached.reached.items (reached_alive c.args.self.now.net (items_of c.args.marks.now) c.deref.result.now c.in_ok-reached.reached.items
     (c.deref.ensures.value ∙ (c.in_ok-starts.ensures ∙ ap (flat_map (starts_of c.args.self.now.net)) c.items-2.ensures)) c.in_ok-reached.ensures))))
