@@ -1,4 +1,6 @@
 // Structural operations.
+ghost use Rattle.std.specs.Prelude.{◌≡◌, ◌<◌};
+
 use crate::draws::Draws;
 use shift_core::Shift;
 
@@ -6,8 +8,15 @@ use shift_core::Shift;
 const COUNT: u32 = 4;
 
 impl Draws {
-    /// An operation on lines, cells or a sheet. It may be one that doesn't fit its sheet, as one on no lines.
-    pub fn shift(&mut self) -> Shift {
+    ghost use Rattle.draws.specs.Shifts.{IsShiftNear};
+    ghost use Rattle.draws.specs.declared.shifts.TheConstants.{COUNT};
+
+    /// An operation on lines near the corner, on cells there or on one of the sheets. It may be one that doesn't fit its
+    /// sheet, as one on no lines.
+    pub fn shift(&mut self) -> Shift
+        ensures shift { IsShiftNear self.old.from result }
+        ensures corner { self.new.from ≡ self.old.from }
+    {
         let (sheet, count) = (self.sheet(), self.below(COUNT));
         match self.below(20) {
             0..6 => self.insert(sheet, count),
@@ -22,7 +31,12 @@ impl Draws {
     }
 
     // Rows put in mostly, and else columns.
-    fn insert(&mut self, sheet: u32, count: u32) -> Shift {
+    fn insert(&mut self, sheet: u32, count: u32) -> Shift
+        requires sheet { sheet < 2 }
+        requires count { count < COUNT }
+        ensures shift { IsShiftNear self.old.from result }
+        ensures corner { self.new.from ≡ self.old.from }
+    {
         if self.below(3) == 0 {
             Shift::InsertCols {
                 sheet,
@@ -39,7 +53,12 @@ impl Draws {
     }
 
     // Rows taken out mostly, and else columns.
-    fn delete(&mut self, sheet: u32, count: u32) -> Shift {
+    fn delete(&mut self, sheet: u32, count: u32) -> Shift
+        requires sheet { sheet < 2 }
+        requires count { count < COUNT }
+        ensures shift { IsShiftNear self.old.from result }
+        ensures corner { self.new.from ≡ self.old.from }
+    {
         if self.below(3) == 0 {
             Shift::DeleteCols {
                 sheet,
@@ -56,7 +75,12 @@ impl Draws {
     }
 
     // Rows moved, or columns.
-    fn move_lines(&mut self, sheet: u32, count: u32) -> Shift {
+    fn move_lines(&mut self, sheet: u32, count: u32) -> Shift
+        requires sheet { sheet < 2 }
+        requires count { count < COUNT }
+        ensures shift { IsShiftNear self.old.from result }
+        ensures corner { self.new.from ≡ self.old.from }
+    {
         if self.below(2) == 0 {
             Shift::MoveRows {
                 sheet,
