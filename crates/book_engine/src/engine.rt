@@ -93,6 +93,15 @@ impl<C: Customs> Engine<C> {
         Ok(())
     }
 
+    // Does a structural operation, after which no block is cut.
+    fn structural(&mut self, s: Shift) -> Result<(), Stop>
+        ensures { Does C.customs (op.structural s) NoAnswer self.old self.new result }
+    {
+        self.parts.structural(&s)?;
+        self.waiting.clear_cut();
+        Ok(())
+    }
+
     /// Puts so many rows before a row of the sheet.
     ///
     /// # Errors
@@ -101,10 +110,7 @@ impl<C: Customs> Engine<C> {
     pub fn insert_rows(&mut self, sheet: u32, at: u32, count: u32) -> Result<(), Stop>
         ensures { Does C.customs (op.structural (shifts.InsertRows sheet at count)) NoAnswer self.old self.new result }
     {
-        self.parts
-            .structural(&Shift::InsertRows { sheet, at, count })?;
-        self.waiting.clear_cut();
-        Ok(())
+        self.structural(Shift::InsertRows { sheet, at, count })
     }
 
     /// Deletes so many rows of the sheet from a row on, with their cells.
@@ -114,30 +120,21 @@ impl<C: Customs> Engine<C> {
     pub fn delete_rows(&mut self, sheet: u32, at: u32, count: u32) -> Result<(), Stop>
         ensures { Does C.customs (op.structural (shifts.DeleteRows sheet at count)) NoAnswer self.old self.new result }
     {
-        self.parts
-            .structural(&Shift::DeleteRows { sheet, at, count })?;
-        self.waiting.clear_cut();
-        Ok(())
+        self.structural(Shift::DeleteRows { sheet, at, count })
     }
 
     /// Puts so many columns before a column of the sheet. Its errors are those of [`Engine::insert_rows`].
     pub fn insert_cols(&mut self, sheet: u32, at: u32, count: u32) -> Result<(), Stop>
         ensures { Does C.customs (op.structural (shifts.InsertCols sheet at count)) NoAnswer self.old self.new result }
     {
-        self.parts
-            .structural(&Shift::InsertCols { sheet, at, count })?;
-        self.waiting.clear_cut();
-        Ok(())
+        self.structural(Shift::InsertCols { sheet, at, count })
     }
 
     /// Deletes so many columns of the sheet from a column on. Its errors are those of [`Engine::delete_rows`].
     pub fn delete_cols(&mut self, sheet: u32, at: u32, count: u32) -> Result<(), Stop>
         ensures { Does C.customs (op.structural (shifts.DeleteCols sheet at count)) NoAnswer self.old self.new result }
     {
-        self.parts
-            .structural(&Shift::DeleteCols { sheet, at, count })?;
-        self.waiting.clear_cut();
-        Ok(())
+        self.structural(Shift::DeleteCols { sheet, at, count })
     }
 
     /// Moves so many rows of the sheet from a row on to before another row.
@@ -148,14 +145,12 @@ impl<C: Customs> Engine<C> {
     pub fn move_rows(&mut self, sheet: u32, from: u32, count: u32, before: u32) -> Result<(), Stop>
         ensures { Does C.customs (op.structural (shifts.MoveRows sheet from count before)) NoAnswer self.old self.new result }
     {
-        self.parts.structural(&Shift::MoveRows {
+        self.structural(Shift::MoveRows {
             sheet,
             from,
             count,
             before,
-        })?;
-        self.waiting.clear_cut();
-        Ok(())
+        })
     }
 
     /// Moves so many columns of the sheet from a column on to before another one. Its errors are those of
@@ -163,14 +158,12 @@ impl<C: Customs> Engine<C> {
     pub fn move_cols(&mut self, sheet: u32, from: u32, count: u32, before: u32) -> Result<(), Stop>
         ensures { Does C.customs (op.structural (shifts.MoveCols sheet from count before)) NoAnswer self.old self.new result }
     {
-        self.parts.structural(&Shift::MoveCols {
+        self.structural(Shift::MoveCols {
             sheet,
             from,
             count,
             before,
-        })?;
-        self.waiting.clear_cut();
-        Ok(())
+        })
     }
 
     /// Moves the cells of a block to the block of the same size that begins at a place. They replace what stood there, and
@@ -182,9 +175,7 @@ impl<C: Customs> Engine<C> {
     pub fn move_block(&mut self, source: Block, to: Place) -> Result<(), Stop>
         ensures { Does C.customs (op.structural (shifts.MoveBlock source to)) NoAnswer self.old self.new result }
     {
-        self.parts.structural(&Shift::MoveBlock { source, to })?;
-        self.waiting.clear_cut();
-        Ok(())
+        self.structural(Shift::MoveBlock { source, to })
     }
 
     /// Adds a sheet at the end of the list, and answers its number. A number is never given to another new sheet.
@@ -207,9 +198,7 @@ impl<C: Customs> Engine<C> {
     pub fn drop_sheet(&mut self, sheet: u32) -> Result<(), Stop>
         ensures { Does C.customs (op.structural (shifts.DropSheet sheet)) NoAnswer self.old self.new result }
     {
-        self.parts.structural(&Shift::DropSheet { sheet })?;
-        self.waiting.clear_cut();
-        Ok(())
+        self.structural(Shift::DropSheet { sheet })
     }
 
     /// Gives a sheet another name. Formulas keep pointing at it.
