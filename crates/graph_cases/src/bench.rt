@@ -11,7 +11,7 @@ use std::time::Instant;
 use std::{fmt, io};
 
 // Shapes with their names, and how many formulas they have.
-const CASES: [(Shape, &'static str, u32); 13] = [
+const CASES: [(Shape, &'static str, u32); 14] = [
     (Shape::Prefixes, "prefix sums", 1_000),
     (Shape::Prefixes, "prefix sums", 10_000),
     (Shape::Prefixes, "prefix sums", 40_000),
@@ -21,6 +21,7 @@ const CASES: [(Shape, &'static str, u32); 13] = [
     (Shape::Invoice, "lines of an invoice", 10_000),
     (Shape::Columns, "sums of columns", 100),
     (Shape::Columns, "sums of columns", 200),
+    (Shape::Chain, "formulas in a chain", 10_000),
     (Shape::Chain, "formulas in a chain", 50_000),
     (Shape::Chain, "formulas in a chain", 100_000),
     (Shape::Cycle, "formulas in a cycle", 5_000),
