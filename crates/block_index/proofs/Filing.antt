@@ -26,16 +26,16 @@ use Rattle.block_index.proofs.Tests.{any_alike, any_has, any_more, any_or, any_p
 
 pub same_key_equal : (a b : SlotKey) → same_key a b ≡ true → a ≡ b
 same_key_equal a b h =
-    let (s, rest) = and_parts (nat_eq a.sheet b.sheet) (nat_eq a.row_level b.row_level && (nat_eq a.row_index b.row_index && (nat_eq a.col_level b.col_level && nat_eq a.col_index b.col_index))) h in
-    let (rl, rest2) = and_parts (nat_eq a.row_level b.row_level) (nat_eq a.row_index b.row_index && (nat_eq a.col_level b.col_level && nat_eq a.col_index b.col_index)) rest in
-    let (ri, rest3) = and_parts (nat_eq a.row_index b.row_index) (nat_eq a.col_level b.col_level && nat_eq a.col_index b.col_index) rest2 in
-    let (cl, ci) = and_parts (nat_eq a.col_level b.col_level) (nat_eq a.col_index b.col_index) rest3 in
+    let (s, rest) = and_parts (nat_eq a.sheet b.sheet) (nat_eq a.col_level b.col_level && (nat_eq a.col_index b.col_index && (nat_eq a.row_level b.row_level && nat_eq a.row_index b.row_index))) h in
+    let (cl, rest2) = and_parts (nat_eq a.col_level b.col_level) (nat_eq a.col_index b.col_index && (nat_eq a.row_level b.row_level && nat_eq a.row_index b.row_index)) rest in
+    let (ci, rest3) = and_parts (nat_eq a.col_index b.col_index) (nat_eq a.row_level b.row_level && nat_eq a.row_index b.row_index) rest2 in
+    let (rl, ri) = and_parts (nat_eq a.row_level b.row_level) (nat_eq a.row_index b.row_index) rest3 in
     let e1 = eqb-true a.sheet b.sheet s in
-    let e2 = eqb-true a.row_level b.row_level rl in
-    let e3 = eqb-true a.row_index b.row_index ri in
-    let e4 = eqb-true a.col_level b.col_level cl in
-    let e5 = eqb-true a.col_index b.col_index ci in
-    λ i. record { sheet = e1 i; row_level = e2 i; row_index = e3 i; col_level = e4 i; col_index = e5 i }
+    let e2 = eqb-true a.col_level b.col_level cl in
+    let e3 = eqb-true a.col_index b.col_index ci in
+    let e4 = eqb-true a.row_level b.row_level rl in
+    let e5 = eqb-true a.row_index b.row_index ri in
+    λ i. record { sheet = e1 i; col_level = e2 i; col_index = e3 i; row_level = e4 i; row_index = e5 i }
 
 -- the key that stands where another is looked for is that other
 pub stands_at : (keys : List SlotKey) (k d : SlotKey) → place_of keys k < length keys → get_or keys (place_of keys k) d ≡ k

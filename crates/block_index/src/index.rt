@@ -8,6 +8,7 @@ ghost use Rattle.block_index.specs.internal.Keys.{AreSized, has_size, in_slot, k
 use crate::key::SlotKey;
 use block_slots::{Size, Slot, slots};
 use indexmap::IndexSet;
+use near_hash::NearHash;
 use std::alloc::{AllocError, Global};
 use std::ops::Range;
 
@@ -16,7 +17,7 @@ use std::ops::Range;
 pub struct BlockIndex {
     alloc: Global,
     // The slots that have a list.
-    slots: IndexSet<SlotKey>,
+    slots: IndexSet<SlotKey, NearHash>,
     // For each of them the numbers that are filed under it.
     lists: Vec<Vec<usize>>,
     // The sizes of these slots, each once.
@@ -35,7 +36,7 @@ impl BlockIndex {
     {
         BlockIndex {
             alloc,
-            slots: IndexSet::new(alloc),
+            slots: IndexSet::with_hasher(alloc, NearHash::new()),
             lists: Vec::new(alloc),
             sizes: Vec::new(alloc),
         }

@@ -4,14 +4,15 @@ ghost use Rattle.block_index.specs.internal.Keys.{key_of};
 
 use block_slots::Slot;
 
-// A slot of the cells of a sheet, by the levels and the indexes of its segments.
+// A slot of the cells of a sheet, by the levels and the indexes of its segments. The rows come last, along which slots
+// follow one another in most sheets, so that their keys are near one another.
 #[derive(Clone, Copy, PartialEq, Eq, Hash, Debug)]
 pub(crate) struct SlotKey {
     sheet: u32,
-    row_level: u32,
-    row_index: u64,
     col_level: u32,
     col_index: u64,
+    row_level: u32,
+    row_index: u64,
 }
 
 impl SlotKey {
@@ -21,10 +22,10 @@ impl SlotKey {
     {
         SlotKey {
             sheet,
-            row_level: slot.rows.level,
-            row_index: slot.rows.index,
             col_level: slot.cols.level,
             col_index: slot.cols.index,
+            row_level: slot.rows.level,
+            row_index: slot.rows.index,
         }
     }
 }

@@ -97,13 +97,14 @@ impl Hash for Key {
 
     ghost respects_eq = { same_key_fed };
 
+    // A row comes last, along which cells and ranges follow one another in most sheets.
     fn hash<H: Hasher>(&self, state: &mut H) {
         match *self {
             Key::Cell(spot) => {
                 state.write_u8(0);
                 state.write_u32(spot.sheet);
-                state.write_u64(spot.row);
                 state.write_u64(spot.col);
+                state.write_u64(spot.row);
             }
             Key::Name { scope, word } => {
                 state.write_u8(1);
@@ -113,10 +114,10 @@ impl Hash for Key {
             Key::Range(area) => {
                 state.write_u8(2);
                 state.write_u32(area.sheet);
-                state.write_u64(area.top);
                 state.write_u64(area.left);
-                state.write_u64(area.bottom);
                 state.write_u64(area.right);
+                state.write_u64(area.top);
+                state.write_u64(area.bottom);
             }
         }
     }

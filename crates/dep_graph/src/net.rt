@@ -15,6 +15,7 @@ use crate::node::Node;
 use crate::table::NodeTable;
 use cell_addr::Block;
 use indexmap::IndexSet;
+use near_hash::NearHash;
 use node_links::Links;
 use std::alloc::{AllocError, Global};
 
@@ -190,7 +191,7 @@ impl Net {
 }
 
 // Puts a key that isn't there at the end, where there is room.
-fn put_last(keys: &mut IndexSet<Key>, key: Key)
+fn put_last(keys: &mut IndexSet<Key, NearHash>, key: Key)
     requires room { 0 < spare keys.old }
     requires new { list_any (same_key key) keys.old.keys ≡ false }
     ensures keys { keys.new.keys ≡ keys.old.keys ++ key ∷ [] }

@@ -5,6 +5,7 @@ ghost use Rattle.dep_graph.specs.internal.Keys.{AreKeysOnce, AreNarrow};
 use crate::key::Key;
 use crate::node::Node;
 use indexmap::IndexSet;
+use near_hash::NearHash;
 use place_lines::PlaceLines;
 use std::alloc::{AllocError, Global};
 
@@ -14,7 +15,7 @@ pub(crate) struct NodeTable {
     // Where their lines stand.
     pub(crate) lines: PlaceLines,
     // Their keys, in the order in which they came.
-    pub(crate) keys: IndexSet<Key>,
+    pub(crate) keys: IndexSet<Key, NearHash>,
     pub ghost once: { AreKeysOnce keys.keys },
     pub ghost narrow: { AreNarrow keys.keys },
 }
@@ -29,7 +30,7 @@ impl NodeTable {
     {
         Ok(NodeTable {
             lines: PlaceLines::new(alloc)?,
-            keys: IndexSet::new(alloc),
+            keys: IndexSet::with_hasher(alloc, NearHash::new()),
         })
     }
 

@@ -17,6 +17,7 @@ use crate::net::Net;
 use crate::node::Node;
 use crate::nodes::Nodes;
 use indexmap::IndexSet;
+use near_hash::NearHash;
 use node_reach::Walk;
 use std::alloc::{AllocError, Global};
 
@@ -65,7 +66,7 @@ struct Split {
     // Those without one, each once.
     unknown: IndexSet<Node>,
     // The numbers of the others, each once.
-    known: IndexSet<usize>,
+    known: IndexSet<usize, NearHash>,
     pub ghost once: { IsOnce unknown.keys },
 }
 
@@ -77,7 +78,7 @@ impl Split {
     {
         Ok(Split {
             unknown: IndexSet::new(alloc),
-            known: IndexSet::with_capacity(alloc, count)?,
+            known: IndexSet::with_capacity_and_hasher(alloc, count, NearHash::new())?,
         })
     }
 }
@@ -136,7 +137,7 @@ impl Net {
     fn ordered(
         &self,
         unknown: &IndexSet<Node>,
-        known: &IndexSet<usize>,
+        known: &IndexSet<usize, NearHash>,
         walk: &Walk,
     ) -> Result<Nodes, AllocError>
         requires marks { length walk.now.on_cycle.items ≡ length walk.now.nodes.items }
@@ -155,7 +156,7 @@ impl Net {
     fn push_walked(
         &self,
         nodes: &mut Nodes,
-        known: &IndexSet<usize>,
+        known: &IndexSet<usize, NearHash>,
         walk: &Walk,
         place: usize,
     ) -> Result<(), AllocError>
@@ -173,7 +174,7 @@ impl Net {
 }
 
 // Whether the number is in the set.
-fn has_number(set: &IndexSet<usize>, number: usize) -> bool
+fn has_number(set: &IndexSet<usize, NearHash>, number: usize) -> bool
     ensures { result ≡ plain.has number set.now.keys }
 {
     set.contains(&number)

@@ -6,13 +6,14 @@ ghost use Rattle.node_reach.specs.internal.Explored.{AreAt, ArePut, IsExplored, 
 
 use crate::arrows::Arrows;
 use indexmap::IndexSet;
+use near_hash::NearHash;
 use std::alloc::{AllocError, Global};
 
 // The reached nodes, and the arrows between them.
 #[derive(Drop)]
 pub(crate) struct Explored {
     // The nodes, in the order in which they were found.
-    pub(crate) nodes: IndexSet<usize>,
+    pub(crate) nodes: IndexSet<usize, NearHash>,
     // For each of them the places, among the nodes, of those to which its arrows lead.
     pub(crate) lists: Vec<Vec<usize>>,
 }
@@ -24,7 +25,7 @@ impl Explored {
         ensures lists { IfOk result (λ found. found.lists.items ≡ []) }
     {
         Ok(Explored {
-            nodes: IndexSet::with_capacity(alloc, count)?,
+            nodes: IndexSet::with_capacity_and_hasher(alloc, count, NearHash::new())?,
             lists: Vec::with_capacity(alloc, count)?,
         })
     }
@@ -67,7 +68,7 @@ pub(crate) fn explore<A: Arrows>(
 // The places of nodes in a set, where those that it hasn't are put at its end, in their order.
 fn put_all(
     alloc: Global,
-    set: &mut IndexSet<usize>,
+    set: &mut IndexSet<usize, NearHash>,
     nodes: &[usize],
 ) -> Result<Vec<usize>, AllocError>
     ensures put { OnOk result (ArePut set.old.keys nodes.now set.new.keys) }
@@ -82,7 +83,7 @@ fn put_all(
 }
 
 // The place of a node in a set, at whose end it is put unless the set has it.
-fn put(set: &mut IndexSet<usize>, node: usize) -> Result<usize, AllocError>
+fn put(set: &mut IndexSet<usize, NearHash>, node: usize) -> Result<usize, AllocError>
     ensures { IfOk result (λ place. IsPut set.old.keys node set.new.keys place) }
 {
     let (place, _) = set.insert_full(node)?;

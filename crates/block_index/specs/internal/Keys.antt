@@ -19,7 +19,7 @@ key_size k = record { row_level = k.row_level; col_level = k.col_level }
 
 -- tests whether two keys are the same
 abbrev pub same_key : SlotKey → SlotKey → Bool
-same_key a b = a.sheet == b.sheet && (a.row_level == b.row_level && (a.row_index == b.row_index && (a.col_level == b.col_level && a.col_index == b.col_index)))
+same_key a b = a.sheet == b.sheet && (a.col_level == b.col_level && (a.col_index == b.col_index && (a.row_level == b.row_level && a.row_index == b.row_index)))
 
 -- where a key stands; past the last where it isn't
 abbrev pub place_of : List SlotKey → SlotKey → ℕ

@@ -40,9 +40,9 @@ same_key (Range a) (Range b) = same_area a b
 same_key _ _ = false
 
 abbrev pub fed_key : Key → List (List ℕ)
-fed_key (Cell s) = fed.u8 0 ++ (fed.u32 s.sheet ++ (fed.u64 s.row ++ fed.u64 s.col))
+fed_key (Cell s) = fed.u8 0 ++ (fed.u32 s.sheet ++ (fed.u64 s.col ++ fed.u64 s.row))
 fed_key (Name scope word) = fed.u8 1 ++ (fed.u32 scope ++ fed.u64 word)
-fed_key (Range a) = fed.u8 2 ++ (fed.u32 a.sheet ++ (fed.u64 a.top ++ (fed.u64 a.left ++ (fed.u64 a.bottom ++ fed.u64 a.right))))
+fed_key (Range a) = fed.u8 2 ++ (fed.u32 a.sheet ++ (fed.u64 a.left ++ (fed.u64 a.right ++ (fed.u64 a.top ++ fed.u64 a.bottom))))
 
 -- the number is that of a line, or of a position past a sheet's end
 abbrev pub is_narrow_line : ℕ → Bool
