@@ -1,13 +1,15 @@
 """Times the graph of needs on large workbooks, by the built program `graph_cases`.
 
-    python3 bench/graph.py [--counted] [--program PROGRAM] [NAME ..]
+    python3 bench/graph.py [--counted] [--rounds COUNT] [--program PROGRAM] [NAME ..]
 
 A NAME is that of graphs, as "prefix sums" or "formulas in a chain"; without any, all are made. PROGRAM is
-crates/graph_cases/out/graph_cases where it isn't given (`rt run` there builds it). Its clock gives the times, and each is the
-least of some runs. With --counted it runs under valgrind's callgrind instead, which counts the instructions of each part: the
-same number in each run, whatever else the machine does, and without what caches add where a graph outgrows them. Where a
-graph comes in several sizes, each figure has its growth since the smaller size beside it, as a factor for each doubling;
-figures too small to tell anything have none. The status is 1 where a factor is over the wanted one.
+crates/graph_cases/out/graph_cases where it isn't given (`rt run` there builds it). Each graph is made in a process of its own,
+so that none is timed in memory that another has left. The program's clock gives the times, and each is the least of some
+rounds, of which each makes all graphs, so that a machine that is slower at times is so for all of them. With --counted the
+program runs under valgrind's callgrind instead, which counts the instructions of each part: the same number in each run,
+whatever else the machine does, and without what caches add where a graph outgrows them. Where a graph comes in several
+sizes, each figure has its growth since the smaller size beside it, as a factor for each doubling; figures too small to tell
+anything have none. The status is 1 where a factor is over the wanted one.
 """
 import argparse
 import glob
@@ -18,7 +20,7 @@ import subprocess
 import sys
 import tempfile
 
-RUNS = 5
+ROUNDS = 9
 # The program begins a graph by a call of the one function, and prints the time of a part by a call of the other.
 BEGINNING, PRINTING = "dep_graph::net::Net::new", "graph_cases::bench::Case::print_time"
 # The part for which a graph is begun.
@@ -39,9 +41,9 @@ def lines_of(command):
     return subprocess.run(command, stdout=subprocess.PIPE, check=True).stdout.decode().split("\n")
 
 
-def timed(bench):
-    """The least time of each part over some runs."""
-    runs = [dict(parts_of(lines_of(bench))) for _ in range(RUNS)]
+def timed(benches, rounds):
+    """The least time of each part over some rounds."""
+    runs = [dict(part for bench in benches for part in parts_of(lines_of(bench))) for _ in range(rounds)]
     return {part: min(times[part] for times in runs) for part in runs[0]}
 
 
@@ -77,18 +79,23 @@ def main(words):
     here = os.path.dirname(os.path.abspath(__file__))
     options = argparse.ArgumentParser()
     options.add_argument("--counted", action="store_true")
+    options.add_argument("--rounds", type=int, default=ROUNDS)
     options.add_argument("--program", default=os.path.join(here, "..", "crates", "graph_cases", "out", "graph_cases"))
     options.add_argument("names", nargs="*")
     said = options.parse_args(words)
-    measure, unit, least = (counted, "instructions", LEAST_COUNT) if said.counted else (timed, "ms", LEAST_TIME)
+    titles = [title for title in lines_of([said.program, "graphs"]) if title]
+    wanted = [title for title in titles if not said.names or title.split(" ", 1)[1] in said.names]
+    benches = [[said.program, "bench", title] for title in wanted]
+    if said.counted:
+        figures, unit, least = {part: count for bench in benches for part, count in counted(bench).items()}, "instructions", LEAST_COUNT
+    else:
+        figures, unit, least = timed(benches, said.rounds), "ms", LEAST_TIME
     before, greatest = {}, 0
-    for name in said.names or [None]:
-        bench = [said.program, "bench"] if name is None else [said.program, "bench", name]
-        for (graph, part, size), figure in measure(bench).items():
-            factor = growth(before[graph, part], (size, figure), least) if (graph, part) in before else None
-            before[graph, part] = size, figure
-            greatest = max(greatest, factor or 0)
-            print(f"{size:7,} {graph}, {part}: {figure:13,} {unit}" + (f", {factor:.2f} for each doubling" if factor else ""))
+    for (graph, part, size), figure in figures.items():
+        factor = growth(before[graph, part], (size, figure), least) if (graph, part) in before else None
+        before[graph, part] = size, figure
+        greatest = max(greatest, factor or 0)
+        print(f"{size:7,} {graph}, {part}: {figure:13,} {unit}" + (f", {factor:.2f} for each doubling" if factor else ""))
     print(f"the greatest growth for each doubling is {greatest:.2f}; at most {WANTED} is wanted")
     return 0 if greatest <= WANTED else 1
 

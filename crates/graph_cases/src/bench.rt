@@ -39,6 +39,13 @@ struct Case {
     count: u32,
 }
 
+// Its title.
+impl fmt::Display for Case {
+    fn fmt<W: fmt::Write>(&self, f: &mut fmt::Formatter<W>) -> fmt::Result {
+        write!(f, "{} {}", self.count, self.name)
+    }
+}
+
 // Milliseconds, as a count of thousandths.
 #[derive(Clone, Copy)]
 struct Millis(u128);
@@ -49,11 +56,20 @@ impl fmt::Display for Millis {
     }
 }
 
-// Times the graphs of a name, or all where no name is given, and prints a line for each part.
-pub(crate) fn bench(rt: &HostRuntime, only: Option<&str>) -> io::Result<()> {
+// Prints the titles of all graphs, a line each.
+pub(crate) fn print_titles(rt: &HostRuntime) -> io::Result<()> {
     'cases: for &(shape, name, count) in &CASES {
-        if only.unwrap_or(name) == name {
-            time_case(rt, Case { shape, name, count })?;
+        println!(rt; "{}", Case { shape, name, count })?;
+    }
+    Ok(())
+}
+
+// Times the graph of a title, or all where no title is given, and prints a line for each part.
+pub(crate) fn bench(rt: &HostRuntime, title: Option<&str>) -> io::Result<()> {
+    'cases: for &(shape, name, count) in &CASES {
+        let case = Case { shape, name, count };
+        if case.is_wanted(rt, title)? {
+            time_case(rt, case)?;
         }
     }
     Ok(())
@@ -66,6 +82,17 @@ fn time_case(rt: &HostRuntime, case: Case) -> io::Result<()> {
 }
 
 impl Case {
+    // Whether the title is that of the graph, or none is given.
+    fn is_wanted(self, rt: &HostRuntime, title: Option<&str>) -> io::Result<bool> {
+        match title {
+            None => Ok(true),
+            Some(title) => {
+                let own = format!(in rt.alloc(); "{self}")?;
+                Ok(own.as_str() == title)
+            }
+        }
+    }
+
     // Times how the graph is linked, what it answers, and rows that are put in.
     fn time(self, rt: &HostRuntime, graph: &mut Graph) -> io::Result<()> {
         let start = Instant::now(rt)?;
@@ -115,7 +142,7 @@ impl Case {
         requires { 0 < times }
     {
         let time = Millis(start.elapsed(rt)?.as_micros() / u128::from(times));
-        println!(rt; "{} {}, {what}: {time} ms", self.count, self.name)
+        println!(rt; "{self}, {what}: {time} ms")
     }
 
     // Prints the time since the start, for the order of what is reached, and how many nodes that is.
@@ -127,10 +154,7 @@ impl Case {
         ordered: usize,
     ) -> io::Result<()> {
         self.print_time(rt, "order", start, 1)?;
-        println!(rt;
-            "{} {}: {reached} nodes reached, {ordered} ordered",
-            self.count, self.name
-        )
+        println!(rt; "{self}: {reached} nodes reached, {ordered} ordered")
     }
 }
 

@@ -2,8 +2,8 @@
 //! and for lists of calls that are drawn how many there were, and the first answer that differs from that of the plain
 //! model, a list of links. The status is 0 where all answers are as they should be, and else 1.
 //!
-//! With the word `bench` it times large graphs for `bench/graph.py`, and prints a line for each part; with a name behind it,
-//! as `"prefix sums"`, those of that name alone.
+//! For `bench/graph.py` it times large graphs: with the word `graphs` it prints the title of each, with `bench` and a title,
+//! as `"1000 prefix sums"`, it times that graph and prints a line for each part, and with `bench` alone it times all.
 #![tactic(auto)]
 
 mod bench;
@@ -51,12 +51,22 @@ fn run(rt: &HostRuntime) -> io::Result<bool> {
     let _program = words.next();
     match words.next() {
         None => compare(rt),
-        Some(word) if word.as_str() == "bench" => {
-            bench::bench(rt, words.next().as_ref().map(|word| word.as_str()))?;
-            Ok(true)
-        }
-        Some(_) => Ok(false),
+        Some(word) => time(
+            rt,
+            word.as_str(),
+            words.next().as_ref().map(|word| word.as_str()),
+        ),
     }
+}
+
+// Whether the word asks for titles of graphs or for their times; if so, these are printed.
+fn time(rt: &HostRuntime, word: &str, title: Option<&str>) -> io::Result<bool> {
+    match word {
+        "graphs" => bench::print_titles(rt)?,
+        "bench" => bench::bench(rt, title)?,
+        _ => return Ok(false),
+    }
+    Ok(true)
 }
 
 // Whether all answers are as they should be.
