@@ -1,7 +1,7 @@
 // Numbers filed under the slots of blocks.
 ghost use Rattle.std.specs.Prelude.{◌≡◌, ◌<◌, ◌++◌, ◌∷◌, ℕ, [], true, false, position, length, slice_set, IfOk, OnOk, OnErr};
 ghost use Rattle.std.specs.Option.{option_to_list};
-ghost use Rattle.block_slots.specs.Slots.{has_cell, in_block, size_of};
+ghost use Rattle.block_slots.specs.Slots.{has_cell, in_block};
 ghost use Rattle.needs_order.specs.Needs.{has, lists_of};
 ghost use Rattle.block_index.specs.internal.Keys.{AreSized, has_size, in_slot, key_at, key_size, place_of, same_key};
 

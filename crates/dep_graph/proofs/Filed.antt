@@ -2,7 +2,6 @@
 -- bend. Serves the needs of the graph by its filings.
 use Rattle.std.proofs.Common.{◌≡◌, ◌∙◌, sym, ap, refl, subst, ℕ, ◌<◌, ◌↔◌, ⊎_elim, inl, inr, true, length, nat_lt, Some}
 use Rattle.std.proofs.lemmas.Bool.{and_from, and_parts, le-leb, leb-true, lt-ltb, ltb-true, or_cases, or_left, or_right}
-use Rattle.std.specs.Prelude.{nat_le}
 use Rattle.cell_addr.specs.Place.{IsBlockInside, covers}
 use Rattle.cell_addr.specs.declared.axis.Axis.{Axis}
 use Rattle.cell_addr.specs.declared.axis.Axis.TheVariants.{Cols, Rows}

@@ -1,7 +1,6 @@
 // Which nodes a structural operation bends.
-ghost use Rattle.std.specs.Prelude.{◌≡◌, ◌↔◌, ◌<◌, ℕ, true, IsTrue, IfOk, OnOk};
+ghost use Rattle.std.specs.Prelude.{◌↔◌, ◌<◌, true, IsTrue, IfOk, OnOk};
 ghost use Rattle.needs_order.specs.Needs as plain;
-ghost use Rattle.node_links.specs.Nodes.{needs_of};
 ghost use Rattle.shift_core.specs.Sound.{IsSound};
 ghost use Rattle.dep_graph.specs.Bent.{AreBent, Bends};
 ghost use Rattle.dep_graph.specs.Graph.{links_of};

@@ -1,5 +1,5 @@
 // Nodes under numbers, with their links and the ranges filed under slots.
-ghost use Rattle.std.specs.Prelude.{◌≡◌, ◌==◌, ◌<◌, ◌++◌, ◌∷◌, ℕ, [], true, false, Some, map, position, length, if◌then◌else◌, IfOk, OnOk, OnErr};
+ghost use Rattle.std.specs.Prelude.{◌≡◌, ◌==◌, ◌<◌, ◌++◌, ◌∷◌, ℕ, [], true, false, Some, map, length, if◌then◌else◌, IfOk, OnOk, OnErr};
 ghost use Rattle.std.specs.List.{list_any};
 ghost use Rattle.needs_order.specs.Needs.{has};
 ghost use Rattle.node_links.specs.Nodes.{needs_of, node_count};

@@ -1,5 +1,5 @@
 // Graphs moved over structural operations.
-ghost use Rattle.std.specs.Prelude.{◌≡◌, ◌==◌, ◌↔◌, ◌+◌, ◌<◌, ℕ, true, Some, length, slice_get, if◌then◌else◌, IsSome, IsTrue, IfOk, OnOk, OnErr};
+ghost use Rattle.std.specs.Prelude.{◌≡◌, ◌==◌, ◌+◌, ◌<◌, ℕ, true, Some, length, slice_get, if◌then◌else◌, IsSome, IsTrue, IfOk, OnOk, OnErr};
 ghost use Rattle.place_lines.specs.Moved.{AreMoved};
 ghost use Rattle.shift_core.specs.Form.{form_of};
 ghost use Rattle.shift_core.specs.Sound.{IsSound};

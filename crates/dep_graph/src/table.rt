@@ -1,5 +1,5 @@
 // The nodes that have numbers.
-ghost use Rattle.std.specs.Prelude.{◌≡◌, ◌<◌, [], length, position, IfOk};
+ghost use Rattle.std.specs.Prelude.{◌≡◌, ◌<◌, [], position, IfOk};
 ghost use Rattle.dep_graph.specs.internal.Keys.{AreKeysOnce, AreNarrow};
 
 use crate::key::Key;

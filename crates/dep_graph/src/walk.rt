@@ -1,5 +1,5 @@
 // What a graph reaches, in any order and in order.
-ghost use Rattle.std.specs.Prelude.{◌≡◌, ◌≢◌, ◌↔◌, ◌⊎◌, ◌<◌, ◌≤◌, ◌++◌, [], ℕ, true, false, length, IsTrue, IfOk, OnOk, slice_index_or};
+ghost use Rattle.std.specs.Prelude.{◌≡◌, ◌≢◌, ◌↔◌, ◌⊎◌, ◌<◌, ◌≤◌, ◌++◌, [], ℕ, false, length, IsTrue, IfOk, OnOk, slice_index_or};
 ghost use Rattle.std.specs.List.{AllPairs, filter_map};
 ghost use Rattle.std.specs.Option.{option_to_list};
 ghost use Rattle.needs_order.specs.Needs as plain;

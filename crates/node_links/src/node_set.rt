@@ -1,5 +1,5 @@
 // Sets of nodes, most of which hold no more than one.
-ghost use Rattle.std.specs.Prelude.{◌≡◌, ◌<◌, ◌==◌, ◌&&◌, ◌||◌, not, nat_lt, ℕ, [], length, IfOk, OnOk, OnErr};
+ghost use Rattle.std.specs.Prelude.{◌≡◌, ◌<◌, ◌==◌, ◌&&◌, ◌||◌, not, nat_lt, ℕ, length, IfOk, OnOk, OnErr};
 ghost use Rattle.needs_order.specs.Needs.{has};
 ghost use Rattle.node_links.specs.internal.Sets.{nodes_in};
 
