@@ -2,8 +2,7 @@
 -- many nodes.
 use Rattle.std.proofs.Common.{◌≡◌, ◌∙◌, sym, ap, refl, subst, arith, ℕ, ◌+◌, ◌<◌, ◌≤◌, inl, inr, ⊎_elim, Bool, true, false, cond, not, ◌&&◌, ◌||◌, List, [], length, get_or, take, eqb, Option, None, Some, option_map, unwrap_or, IfSome}
 use Rattle.std.specs.List.{All}
-use Rattle.std.specs.declared.alloc.Global.{Global}
-use Rattle.std.specs.declared.vec.Vec.{Vec}
+use Rattle.smallvec.specs.SmallVec.{SmallVec}
 use Rattle.std.proofs.lemmas.Bool.{eqb-true, false≢true, or_cases, or_left, true≢false}
 use Rattle.std.proofs.lemmas.List.{take_all}
 use Rattle.needs_order.specs.Needs.{has}
@@ -15,7 +14,7 @@ use Rattle.node_links.proofs.Listed.{listed_front, listed_more, none_yet, read_i
 use Rattle.node_links.proofs.Relinking.{all_of, of_all}
 use Rattle.node_links.proofs.Sets.{and_true, is_in_at}
 
-module _ (lists : List (Option (Vec ℕ Global))) (k : ℕ) (list : Option (Vec ℕ Global)) (inside : k < length lists) (was : list ≡ get_or lists k list) where
+module _ (lists : List (Option (SmallVec ℕ))) (k : ℕ) (list : Option (SmallVec ℕ)) (inside : k < length lists) (was : list ≡ get_or lists k list) where
   -- what the lists gone by have for the next node, and for it with its own list
   nothing_yet : (i x : ℕ) → eqb x k ≡ true → has i (listed (take k lists) x) ≡ false
   nothing_yet i x e = ap (λ a. has i (listed (take k lists) a)) (eqb-true x k e) ∙ ap (λ l. has i (items_in l)) (none_yet lists k (omega (arith, inside)))
@@ -88,18 +87,18 @@ module _ (lists : List (Option (Vec ℕ Global))) (k : ℕ) (list : Option (Vec 
   }
 
 -- past the last list all nodes are put, or dropped
-pub whole_lists_put : (old new : List NodeSet) (lists : List (Option (Vec ℕ Global))) (k : ℕ)
+pub whole_lists_put : (old new : List NodeSet) (lists : List (Option (SmallVec ℕ))) (k : ℕ)
     → ((i x : ℕ) → is_in new i x ≡ (is_in old i x || has i (listed (take k lists) x))) → length lists ≤ k
     → (i x : ℕ) → is_in new i x ≡ (is_in old i x || has i (listed lists x))
 whole_lists_put old new lists k before past i x = before i x ∙ ap (λ l. is_in old i x || has i (listed l x)) (take_all k lists past)
 
-pub whole_lists_taken : (old new kept : List NodeSet) (lists : List (Option (Vec ℕ Global))) (k : ℕ)
+pub whole_lists_taken : (old new kept : List NodeSet) (lists : List (Option (SmallVec ℕ))) (k : ℕ)
     → ((i x : ℕ) → is_in new i x ≡ (is_in old i x && not (has i (listed (take k lists) x) && not (is_in kept x i)))) → length lists ≤ k
     → (i x : ℕ) → is_in new i x ≡ (is_in old i x && not (has i (listed lists x) && not (is_in kept x i)))
 whole_lists_taken old new kept lists k before past i x = before i x ∙ ap (λ l. is_in old i x && not (has i (listed l x) && not (is_in kept x i))) (take_all k lists past)
 
 -- nodes that were put in part are put back
-pub lists_put_back : (old mid new was : List NodeSet) (lists : List (Option (Vec ℕ Global)))
+pub lists_put_back : (old mid new was : List NodeSet) (lists : List (Option (SmallVec ℕ)))
     → ((i x : ℕ) → has i (listed lists x) ≡ true → is_in was x i ≡ is_in old i x) → ArePartlyPut old lists mid
     → ((i x : ℕ) → is_in new i x ≡ (is_in mid i x && not (has i (listed lists x) && not (is_in was x i))))
     → (i x : ℕ) → is_in new i x ≡ is_in old i x
@@ -119,12 +118,12 @@ lists_put_back old mid new was lists same partly taken i x = taken i x ∙ by (i
         (partly.only i x em))
 
 -- the needs that lists replace are the users that there were
-pub replaced_users : (old : List NodeSet) (lists : List (Option (Vec ℕ Global))) (needs : List (Vec ℕ Global)) (was : List NodeSet)
+pub replaced_users : (old : List NodeSet) (lists : List (Option (SmallVec ℕ))) (needs : List (SmallVec ℕ)) (was : List NodeSet)
     → ((a b : ℕ) → is_in old b a ≡ has b (needs_at needs a)) → ((a b : ℕ) → is_in was a b ≡ has b (replaced_at lists needs a))
     → (i x : ℕ) → has i (listed lists x) ≡ true → is_in was x i ≡ is_in old i x
 replaced_users old lists needs was exact is i x h = is x i ∙ (by (get_or lists x None) refl ∙ sym (exact x i))
   where
-    by : (l : Option (Vec ℕ Global)) → get_or lists x None ≡ l → has i (replaced_at lists needs x) ≡ has i (needs_at needs x)
+    by : (l : Option (SmallVec ℕ)) → get_or lists x None ≡ l → has i (replaced_at lists needs x) ≡ has i (needs_at needs x)
     by None e = absurd (false≢true (sym (ap (λ l. has i (items_in l)) e) ∙ h))
     by (Some v) e = ap (λ l. has i (unwrap_or (option_map (λ _. needs_at needs x) l) [])) e
 
@@ -139,7 +138,7 @@ unswapped : (h : Bool) → ((h || false) && not (false && not false)) ≡ h
 unswapped true = refl
 unswapped false = refl
 
-pub relinked_each : (old mid new now : List NodeSet) (needs after : List (Vec ℕ Global)) (lists swapped : List (Option (Vec ℕ Global)))
+pub relinked_each : (old mid new now : List NodeSet) (needs after : List (SmallVec ℕ)) (lists swapped : List (Option (SmallVec ℕ)))
     → ((a b : ℕ) → is_in old b a ≡ has b (needs_at needs a)) → ((a b : ℕ) → is_in now a b ≡ has b (listed lists a))
     → ((i x : ℕ) → is_in mid i x ≡ (is_in old i x || has i (listed lists x)))
     → ((a : ℕ) → list_for swapped a ≡ option_map (λ _. needs_at needs a) (list_for lists a))
@@ -159,7 +158,7 @@ relinked_each old mid new now needs after lists swapped exact now_is put swap is
     by (Some l) = after_swap (has b (needs_at needs a)) (has b l)
 
 -- what is exchanged for lists is as low as all needs
-pub swapped_below : (needs : List (Vec ℕ Global)) (lists swapped : List (Option (Vec ℕ Global))) (n : ℕ) → ((a b : ℕ) → has b (needs_at needs a) ≡ true → b < n)
+pub swapped_below : (needs : List (SmallVec ℕ)) (lists swapped : List (Option (SmallVec ℕ))) (n : ℕ) → ((a b : ℕ) → has b (needs_at needs a) ≡ true → b < n)
     → ((a : ℕ) → list_for swapped a ≡ option_map (λ _. needs_at needs a) (list_for lists a)) → AreBelow n swapped
 swapped_below needs lists swapped n known swap a = subst (λ l. IfSome l (All (λ b. b < n))) (sym (swap a)) (by (list_for lists a))
   where
@@ -168,7 +167,7 @@ swapped_below needs lists swapped n known swap a = subst (λ l. IfSome l (All (�
     by (Some l) = all_of n (needs_at needs a) (known a)
 
 -- all needs are nodes after many nodes were linked
-pub known_each : (needs after : List (Vec ℕ Global)) (lists : List (Option (Vec ℕ Global))) (n : ℕ) → ((a b : ℕ) → has b (needs_at needs a) ≡ true → b < n) → AreBelow n lists
+pub known_each : (needs after : List (SmallVec ℕ)) (lists : List (Option (SmallVec ℕ))) (n : ℕ) → ((a b : ℕ) → has b (needs_at needs a) ≡ true → b < n) → AreBelow n lists
     → ((a : ℕ) → needs_at after a ≡ unwrap_or (list_for lists a) (needs_at needs a)) → (a b : ℕ) → has b (needs_at after a) ≡ true → b < n
 known_each needs after lists n known below is a b h = by (list_for lists a) (below a) (subst (λ l. has b l ≡ true) (is a) h)
   where

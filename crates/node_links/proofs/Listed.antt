@@ -2,8 +2,7 @@
 -- the linking of many nodes.
 use Rattle.std.proofs.Common.{◌≡◌, ◌∙◌, sym, ap, refl, subst, arith, ℕ, zero, suc, ◌+◌, ◌<◌, ◌≤◌, ⊎_elim, Bool, true, false, cond, List, [], ◌∷◌, ◌++◌, length, get_or, set, take, eqb, Option, None, Some, option_map, unwrap_or, IfSome}
 use Rattle.std.specs.List.{All}
-use Rattle.std.specs.declared.alloc.Global.{Global}
-use Rattle.std.specs.declared.vec.Vec.{Vec}
+use Rattle.smallvec.specs.SmallVec.{SmallVec}
 use Rattle.std.proofs.lemmas.Bool.{cases_lt, eq-eqb, eqb-true, ne_eqb, false≢true}
 use Rattle.std.proofs.lemmas.List.{get_or_default, get_or_past, get_or-set_other, get_or-set_same, length-take-le, length_push}
 use Rattle.needs_order.specs.Needs.{has}
@@ -30,7 +29,7 @@ at-set xs k a v d inside = by (eqb a k) refl
     by true e = ap (λ b. get_or (set xs k v) b d) (eqb-true a k e) ∙ get_or-set_same xs k v d inside
     by false e = get_or-set_other xs k a v d (λ same. false≢true (sym e ∙ eq-eqb a k same))
 
-module _ (lists : List (Option (Vec ℕ Global))) (k : ℕ) (list : Option (Vec ℕ Global)) (inside : k < length lists) (was : list ≡ get_or lists k list) where
+module _ (lists : List (Option (SmallVec ℕ))) (k : ℕ) (list : Option (SmallVec ℕ)) (inside : k < length lists) (was : list ≡ get_or lists k list) where
   -- the list that was read at a place
   pub read_is : get_or lists k None ≡ list
   read_is = get_or_default lists k None list inside ∙ sym was
@@ -55,7 +54,7 @@ module _ (lists : List (Option (Vec ℕ Global))) (k : ℕ) (list : Option (Vec 
       by true = refl
       by false = refl
 
-  pub replaced_more : (needs : List (Vec ℕ Global)) (own : List ℕ) → own ≡ needs_at needs k → (a : ℕ) → replaced_at (take (k + 1) lists) needs a ≡ cond (eqb a k) (replaced list own) (replaced_at (take k lists) needs a)
+  pub replaced_more : (needs : List (SmallVec ℕ)) (own : List ℕ) → own ≡ needs_at needs k → (a : ℕ) → replaced_at (take (k + 1) lists) needs a ≡ cond (eqb a k) (replaced list own) (replaced_at (take k lists) needs a)
   replaced_more needs own is a = ap (λ l. replaced l (needs_at needs a)) (list_more a) ∙ by (eqb a k) refl
     where
       by : (t : Bool) → eqb a k ≡ t → replaced (cond t list (get_or (take k lists) a None)) (needs_at needs a) ≡ cond t (replaced list own) (replaced_at (take k lists) needs a)
@@ -67,16 +66,16 @@ module _ (lists : List (Option (Vec ℕ Global))) (k : ℕ) (list : Option (Vec 
   below_in n count items is same below =
       subst (λ l. All (λ b. b < count) l) (sym is) (subst (λ m. All (λ b. b < m) (items_in list)) (sym same) (from list (subst (λ l. IfSome (list_in l) (All (λ b. b < n))) read_is (below k))))
     where
-      from : (l : Option (Vec ℕ Global)) → IfSome (list_in l) (All (λ b. b < n)) → All (λ b. b < n) (items_in l)
+      from : (l : Option (SmallVec ℕ)) → IfSome (list_in l) (All (λ b. b < n)) → All (λ b. b < n) (items_in l)
       from None h = λ i d short. absurd (omega (arith, short))
       from (Some v) h = h
 
 -- the lists gone by have none for the next node
-pub none_yet : (lists : List (Option (Vec ℕ Global))) (k : ℕ) → k ≤ length lists → get_or (take k lists) k None ≡ None
+pub none_yet : (lists : List (Option (SmallVec ℕ))) (k : ℕ) → k ≤ length lists → get_or (take k lists) k None ≡ None
 none_yet lists k inside = get_or_past (take k lists) k None (omega (arith, length-take-le k lists inside))
 
 -- what a list gone by has, one of all has
-pub listed_front : (lists : List (Option (Vec ℕ Global))) (k b a : ℕ) → has b (listed (take k lists) a) ≡ true → has b (listed lists a) ≡ true
+pub listed_front : (lists : List (Option (SmallVec ℕ))) (k b a : ℕ) → has b (listed (take k lists) a) ≡ true → has b (listed lists a) ≡ true
 listed_front [] zero b a h = h
 listed_front [] (suc k) b a h = h
 listed_front (l ∷ lists) zero b a h = absurd (false≢true h)
@@ -109,7 +108,7 @@ pub no_sets : (sets : List NodeSet) → sets ≡ [] → (i x : ℕ) → is_in se
 no_sets sets none i x = ap (λ l. is_in l i x) none
 
 -- needs and lists exchanged at one node more
-module _ (needs mid : List (Vec ℕ Global)) (lists now : List (Option (Vec ℕ Global))) (k : ℕ) (own new : Vec ℕ Global) (list after : Option (Vec ℕ Global))
+module _ (needs mid : List (SmallVec ℕ)) (lists now : List (Option (SmallVec ℕ))) (k : ℕ) (own new : SmallVec ℕ) (list after : Option (SmallVec ℕ))
     (inside : k < length lists) (within : k < length now) (under : k < length mid)
     (same : (a : ℕ) → k ≤ a → list_for now a ≡ list_for lists a) (changed : (a : ℕ) → needs_at mid a ≡ unwrap_or (list_for (take k lists) a) (needs_at needs a))
     (own_is : own.items ≡ needs_at mid k) (list_is : list ≡ get_or now k list)
@@ -148,7 +147,7 @@ module _ (needs mid : List (Vec ℕ Global)) (lists now : List (Option (Vec ℕ 
   later_lists a high = list_for-set a ∙ (ap (λ t. cond t (list_in after) (list_for now a)) (ne_eqb a k (λ is. omega (arith, high, is))) ∙ same a (omega (arith, high)))
 
 -- all are exchanged past the last list
-pub all_exchanged : (needs : List (Vec ℕ Global)) (lists now : List (Option (Vec ℕ Global))) (k : ℕ) → length lists ≤ k
+pub all_exchanged : (needs : List (SmallVec ℕ)) (lists now : List (Option (SmallVec ℕ))) (k : ℕ) → length lists ≤ k
     → ((a : ℕ) → a < k → list_for now a ≡ option_map (λ _. needs_at needs a) (list_for lists a)) → ((a : ℕ) → k ≤ a → list_for now a ≡ list_for lists a)
     → (a : ℕ) → list_for now a ≡ option_map (λ _. needs_at needs a) (list_for lists a)
 all_exchanged needs lists now k past before after a = ⊎_elim
@@ -157,12 +156,12 @@ all_exchanged needs lists now k past before after a = ⊎_elim
     (cases_lt a k)
 
 -- what is said of lists and needs that are equal
-pub lists_swapped : (n needs : List (Vec ℕ Global)) (l lists now swapped : List (Option (Vec ℕ Global))) → n ≡ needs → l ≡ lists → swapped ≡ now
+pub lists_swapped : (n needs : List (SmallVec ℕ)) (l lists now swapped : List (Option (SmallVec ℕ))) → n ≡ needs → l ≡ lists → swapped ≡ now
     → ((a : ℕ) → list_for now a ≡ option_map (λ _. needs_at n a) (list_for l a)) → (a : ℕ) → list_for swapped a ≡ option_map (λ _. needs_at needs a) (list_for lists a)
 lists_swapped n needs l lists now swapped same equal is given a =
     ap (λ x. list_for x a) is ∙ (given a ∙ (ap (λ x. option_map (λ _. needs_at x a) (list_for l a)) same ∙ ap (λ x. option_map (λ _. needs_at needs a) (list_for x a)) equal))
 
-pub needs_swapped : (n needs : List (Vec ℕ Global)) (l lists : List (Option (Vec ℕ Global))) (now swapped : List (Vec ℕ Global)) → n ≡ needs → l ≡ lists → swapped ≡ now
+pub needs_swapped : (n needs : List (SmallVec ℕ)) (l lists : List (Option (SmallVec ℕ))) (now swapped : List (SmallVec ℕ)) → n ≡ needs → l ≡ lists → swapped ≡ now
     → ((a : ℕ) → needs_at now a ≡ unwrap_or (list_for l a) (needs_at n a)) → (a : ℕ) → needs_at swapped a ≡ unwrap_or (list_for lists a) (needs_at needs a)
 needs_swapped n needs l lists now swapped same equal is given a =
     ap (λ x. needs_at x a) is ∙ (given a ∙ (ap (λ x. unwrap_or (list_for l a) (needs_at x a)) same ∙ ap (λ x. unwrap_or (list_for x a) (needs_at needs a)) equal))

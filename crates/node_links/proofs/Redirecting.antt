@@ -2,8 +2,7 @@
 use Rattle.std.proofs.Common.{◌≡◌, ◌∙◌, sym, ap, refl, subst, arith, ℕ, zero, suc, ◌+◌, ◌<◌, ◌≤◌, ◌⊎◌, inl, inr, ⊎_elim, true, List, [], ◌∷◌, ◌++◌, length, append_assoc, take, get_or, set, Option, Some, None, option_map, is_some, unwrap_or, IsTrue, IsSome, IfSome, ◌↔◌}
 use Rattle.std.specs.List.{All, cons_option, filter_map}
 use Rattle.std.specs.Option.{option_to_list}
-use Rattle.std.specs.declared.alloc.Global.{Global}
-use Rattle.std.specs.declared.vec.Vec.{Vec}
+use Rattle.smallvec.specs.SmallVec.{SmallVec}
 use Rattle.std.proofs.lemmas.Bool.{cases_eq, cases_lt, false≢true}
 use Rattle.std.proofs.lemmas.List.{get_or-set_other, get_or-set_same, take_all, take_more}
 use Rattle.std.proofs.lemmas.List.Elements.{filter_map-append}
@@ -76,7 +75,7 @@ module _ (f : ℕ → Option ℕ) where
 -- ---- lists for some nodes
 
 -- a node gets an empty list
-module _ (lists : List (Option (Vec ℕ Global))) (place : ℕ) (v : Vec ℕ Global) (inside : place < length lists) (empty : v.items ≡ []) where
+module _ (lists : List (Option (SmallVec ℕ))) (place : ℕ) (v : SmallVec ℕ) (inside : place < length lists) (empty : v.items ≡ []) where
   pub given : (a : ℕ) → a ≡ place → list_for (set lists place (Some v)) a ≡ Some []
   given a same = subst (λ p. list_for (set lists place (Some v)) p ≡ Some []) (sym same) (ap (option_map (λ l. l.items)) (get_or-set_same lists place (Some v) None inside) ∙ ap Some empty)
 
@@ -97,7 +96,7 @@ not_none o is some = false≢true (sym (ap is_some is) ∙ some)
 
 -- ---- the lists that a node and its target get
 
-module _ (f : ℕ → Option ℕ) (needs : ℕ → List ℕ) (i : ℕ) (old new : List (Option (Vec ℕ Global))) where
+module _ (f : ℕ → Option ℕ) (needs : ℕ → List ℕ) (i : ℕ) (old new : List (Option (SmallVec ℕ))) where
   pub empty_next : ((a : ℕ) → (list_for new a ≡ Some []) ⊎ (list_for new a ≡ list_for old a)) → AreEmpty old → AreEmpty new
   empty_next rest empty a = ⊎_elim
       (λ (is : list_for new a ≡ Some []). inr is)
@@ -137,7 +136,7 @@ some_map : (g : List ℕ → List ℕ) (o : Option (List ℕ)) → is_some (opti
 some_map g None = refl
 some_map g (Some l) = refl
 
-module _ (f : ℕ → Option ℕ) (needs : ℕ → List ℕ) (i : ℕ) (old new : List (Option (Vec ℕ Global))) (adds : (t : ℕ) → f i ≡ Some t → list_for new t ≡ option_map (λ list. list ++ filter_map f (needs i)) (list_for old t))
+module _ (f : ℕ → Option ℕ) (needs : ℕ → List ℕ) (i : ℕ) (old new : List (Option (SmallVec ℕ))) (adds : (t : ℕ) → f i ≡ Some t → list_for new t ≡ option_map (λ list. list ++ filter_map f (needs i)) (list_for old t))
     (rest : (a : ℕ) → (f i ≡ Some a → ⊥) → list_for new a ≡ list_for old a) where
   same_places : (a : ℕ) → is_some (list_for new a) ≡ is_some (list_for old a)
   same_places a = ⊎_elim
@@ -207,7 +206,7 @@ module _ (f : ℕ → Option ℕ) (needs : ℕ → List ℕ) (i : ℕ) (old new 
                     (split t u from.1)),
               )
 
-pub gathered_none : (f : ℕ → Option ℕ) (needs : ℕ → List ℕ) (lists : List (Option (Vec ℕ Global))) → AreEmpty lists → AreGathered f needs 0 lists
+pub gathered_none : (f : ℕ → Option ℕ) (needs : ℕ → List ℕ) (lists : List (Option (SmallVec ℕ))) → AreEmpty lists → AreGathered f needs 0 lists
 gathered_none f needs lists empty t u = (
   λ h. absurd (false≢true (subst (λ l. has u l ≡ true) (nothing (empty t)) h)),
   λ from. absurd (omega (arith, from.1.2)),
@@ -220,12 +219,12 @@ gathered_none f needs lists empty t u = (
 -- ---- the lists put in place of the needs
 
 -- a number with needs is that of a node
-pub needing_inside : (lists : List (Vec ℕ Global)) (a m : ℕ) → has m (needs_at lists a) ≡ true → a < length lists
+pub needing_inside : (lists : List (SmallVec ℕ)) (a m : ℕ) → has m (needs_at lists a) ≡ true → a < length lists
 needing_inside [] a m h = absurd (false≢true h)
 needing_inside (w ∷ lists) zero m h = omega arith
 needing_inside (w ∷ lists) (suc a) m h = omega (arith, needing_inside lists a m h)
 
-module _ (f : ℕ → Option ℕ) (needs : ℕ → List ℕ) (n : ℕ) (lists : List (Option (Vec ℕ Global))) (gathered : AreGathered f needs n lists) where
+module _ (f : ℕ → Option ℕ) (needs : ℕ → List ℕ) (n : ℕ) (lists : List (Option (SmallVec ℕ))) (gathered : AreGathered f needs n lists) where
   -- what is listed are nodes
   pub below : ((a t : ℕ) → f a ≡ Some t → t < n) → AreBelow n lists
   below inside a = by (list_for lists a) refl

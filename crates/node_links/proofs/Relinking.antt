@@ -1,8 +1,7 @@
 -- Lists of needs, one of them replaced, and the users beside them. Serves linking and unlinking.
 use Rattle.std.proofs.Common.{◌≡◌, ◌∙◌, sym, ap, refl, subst, arith, ℕ, zero, suc, ◌<◌, ⊎_elim, Bool, true, false, cond, not, ◌&&◌, ◌||◌, List, [], ◌∷◌, ◌++◌, length, get_or, set, eqb}
 use Rattle.std.specs.List.{All}
-use Rattle.std.specs.declared.alloc.Global.{Global}
-use Rattle.std.specs.declared.vec.Vec.{Vec}
+use Rattle.smallvec.specs.SmallVec.{SmallVec}
 use Rattle.std.proofs.lemmas.Bool.{eq-eqb, eqb-true, ne_eqb, true≢false}
 use Rattle.std.proofs.lemmas.List.{get_or_default}
 use Rattle.needs_order.specs.Needs.{has}
@@ -20,13 +19,13 @@ pub of_all : (n : ℕ) (l : List ℕ) → All (λ b. b < n) l → (b : ℕ) → 
 of_all n l all b h = let (k, inside, is) = at_has b l h in subst (λ x. x < n) is (all k 0 inside)
 
 -- the list that was read at a place
-pub needs_read : (lists : List (Vec ℕ Global)) (node : ℕ) (v : Vec ℕ Global) → node < length lists → v ≡ get_or lists node v → v.items ≡ needs_at lists node
+pub needs_read : (lists : List (SmallVec ℕ)) (node : ℕ) (v : SmallVec ℕ) → node < length lists → v ≡ get_or lists node v → v.items ≡ needs_at lists node
 needs_read [] node v inside is = absurd (omega (arith, inside))
 needs_read (w ∷ lists) zero v inside is = ap (λ x. x.items) is
 needs_read (w ∷ lists) (suc node) v inside is = needs_read lists node v (omega (arith, inside)) is
 
 -- one list is replaced
-pub needs-set : (lists : List (Vec ℕ Global)) (node : ℕ) (v : Vec ℕ Global) (a : ℕ) → node < length lists → needs_at (set lists node v) a ≡ cond (eqb a node) v.items (needs_at lists a)
+pub needs-set : (lists : List (SmallVec ℕ)) (node : ℕ) (v : SmallVec ℕ) (a : ℕ) → node < length lists → needs_at (set lists node v) a ≡ cond (eqb a node) v.items (needs_at lists a)
 needs-set [] node v a inside = absurd (omega (arith, inside))
 needs-set (w ∷ lists) zero v zero inside = sym (ap (λ t. cond t v.items w.items) (eq-eqb zero zero refl))
 needs-set (w ∷ lists) zero v (suc a) inside = sym (ap (λ t. cond t v.items (needs_at lists a)) (ne_eqb (suc a) zero (λ same. omega (arith, same))))
@@ -34,7 +33,7 @@ needs-set (w ∷ lists) (suc node) v zero inside = sym (ap (λ t. cond t v.items
 needs-set (w ∷ lists) (suc node) v (suc a) inside = needs-set lists node v a (omega (arith, inside)) ∙ ap (λ t. cond t v.items (needs_at lists a)) (sym (next_same a node))
 
 -- a list more is put behind the last
-pub needs-more : (lists : List (Vec ℕ Global)) (v : Vec ℕ Global) (a : ℕ) → v.items ≡ [] → needs_at (lists ++ v ∷ []) a ≡ needs_at lists a
+pub needs-more : (lists : List (SmallVec ℕ)) (v : SmallVec ℕ) (a : ℕ) → v.items ≡ [] → needs_at (lists ++ v ∷ []) a ≡ needs_at lists a
 needs-more [] v zero none = none
 needs-more [] v (suc a) none = refl
 needs-more (w ∷ lists) v zero none = refl
@@ -65,7 +64,7 @@ there false false true false = refl
 there false false false true = refl
 there false false false false = refl
 
-pub relinked : (old mid new : List NodeSet) (lists : List (Vec ℕ Global)) (node : ℕ) (before after : List ℕ) (kept : NodeSet)
+pub relinked : (old mid new : List NodeSet) (lists : List (SmallVec ℕ)) (node : ℕ) (before after : List ℕ) (kept : NodeSet)
     → ((a b : ℕ) → is_in old b a ≡ has b (needs_at lists a)) → before ≡ needs_at lists node → ((i : ℕ) → has i (nodes_in kept) ≡ has i after)
     → ((i x : ℕ) → is_in mid i x ≡ (is_in old i x || (has i after && eqb x node)))
     → ((i x : ℕ) → is_in new i x ≡ (is_in mid i x && not ((has i before && not (has i (nodes_in kept))) && eqb x node)))
@@ -81,7 +80,7 @@ relinked old mid new lists node before after kept exact was stays put taken a b 
     by false e = there (is_in old b a) (has b after) (has b before) (has b (nodes_in kept)) ∙ exact a b
 
 -- all needs are nodes after a node's needs were replaced
-pub known-set : (lists : List (Vec ℕ Global)) (node : ℕ) (after : List ℕ) (n : ℕ) → ((a b : ℕ) → has b (needs_at lists a) ≡ true → b < n) → ((b : ℕ) → has b after ≡ true → b < n)
+pub known-set : (lists : List (SmallVec ℕ)) (node : ℕ) (after : List ℕ) (n : ℕ) → ((a b : ℕ) → has b (needs_at lists a) ≡ true → b < n) → ((b : ℕ) → has b after ≡ true → b < n)
     → (a b : ℕ) → has b (cond (eqb a node) after (needs_at lists a)) ≡ true → b < n
 known-set lists node after n old new a b = by (eqb a node)
   where

@@ -18,8 +18,10 @@
 
 mod links;
 mod lists;
+mod node_list;
 mod node_set;
 mod redirect;
 mod users;
 
 pub use links::Links;
+pub use node_list::NodeList;

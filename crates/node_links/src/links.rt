@@ -6,6 +6,7 @@ ghost use Rattle.node_links.specs.Links.{AreBelow, list_for, needs_at};
 ghost use Rattle.node_links.specs.internal.Sets.{is_in};
 
 use crate::lists::{exchange, sets_of, sets_replaced};
+use crate::node_list::NodeList;
 use crate::node_set::NodeSet;
 use crate::users::{Users, set_of};
 use std::alloc::{AllocError, Global};
@@ -16,7 +17,7 @@ use std::mem;
 pub struct Links {
     pub(crate) alloc: Global,
     // What each node needs, as it was given.
-    needs: Vec<Vec<usize>>,
+    needs: Vec<NodeList>,
     // Which nodes need each node.
     users: Users,
     pub ghost counts: { length users.sets.items ≡ length needs.items },
@@ -57,7 +58,7 @@ impl Links {
         let number = self.len();
         self.needs.reserve(1)?;
         self.users.add()?;
-        self.needs.push_reserved(Vec::new(self.alloc));
+        self.needs.push_reserved(NodeList::new(self.alloc));
         Ok(number)
     }
 
@@ -66,7 +67,7 @@ impl Links {
         requires { node < node_count self.now }
         ensures { result.now ≡ needs_of self.now node }
     {
-        &self.needs[node]
+        self.needs[node].as_slice()
     }
 
     /// The nodes that need the node, in the order of their numbers. Errs for want of memory.
@@ -95,18 +96,18 @@ impl Links {
         ensures err { OnErr result ((a : ℕ) → needs_of self.new a ≡ needs_of self.old a) }
         ensures count { node_count self.new ≡ node_count self.old }
     {
-        let kept = Vec::from_slice(self.alloc, needs)?;
+        let kept = NodeList::from_slice(self.alloc, needs)?;
         let now = set_of(self.alloc, needs)?;
-        let was = set_of(self.alloc, &self.needs[node])?;
+        let was = set_of(self.alloc, self.needs[node].as_slice())?;
         self.users.put_all(needs, node, &was)?;
         let before = mem::replace(&mut self.needs[node], kept);
-        self.users.drop_each(&before, node, &now);
+        self.users.drop_each(before.as_slice(), node, &now);
         Ok(())
     }
 
     /// Replaces what each node needs for which there is a list; the others keep their needs. Where there is no memory all
     /// stays as it was. Costs about the number of lists and the number of old and new needs of the nodes that have one.
-    pub fn link_each(&mut self, mut lists: Vec<Option<Vec<usize>>>) -> Result<(), AllocError>
+    pub fn link_each(&mut self, mut lists: Vec<Option<NodeList>>) -> Result<(), AllocError>
         requires count { length lists.items ≤ node_count self.old }
         requires needs { AreBelow (node_count self.old) lists.items }
         ensures ok { OnOk result ((a : ℕ) → needs_of self.new a ≡ unwrap_or (list_for lists.items a) (needs_of self.old a)) }
@@ -127,7 +128,8 @@ impl Links {
         ensures needs { (a : ℕ) → needs_of self.new a ≡ (if a == node then [] else needs_of self.old a) }
         ensures count { node_count self.new ≡ node_count self.old }
     {
-        let before = mem::replace(&mut self.needs[node], Vec::new(self.alloc));
-        self.users.drop_each(&before, node, &NodeSet::Empty);
+        let before = mem::replace(&mut self.needs[node], NodeList::new(self.alloc));
+        self.users
+            .drop_each(before.as_slice(), node, &NodeSet::Empty);
     }
 }

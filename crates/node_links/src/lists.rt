@@ -5,23 +5,24 @@ ghost use Rattle.node_links.specs.Links.{list_for, needs_at};
 ghost use Rattle.node_links.specs.internal.Lists.{items_in, list_in, listed, replaced, replaced_at};
 ghost use Rattle.node_links.specs.internal.Sets.{is_in};
 
+use crate::node_list::NodeList;
 use crate::node_set::NodeSet;
 use crate::users::set_of;
 use std::alloc::{AllocError, Global};
 use std::mem;
 
 // The numbers in a list; none where there is no list.
-pub(crate) fn items_of(list: &Option<Vec<usize>>) -> &[usize]
+pub(crate) fn items_of(list: &Option<NodeList>) -> &[usize]
     ensures { result.now ≡ items_in list.now }
 {
     match list {
-        Some(list) => list,
+        Some(list) => list.as_slice(),
         None => &[],
     }
 }
 
 // The needs that a list replaces; none where there is no list.
-fn replaced_by<'a>(list: &Option<Vec<usize>>, needs: &'a [usize]) -> &'a [usize]
+fn replaced_by<'a>(list: &Option<NodeList>, needs: &'a [usize]) -> &'a [usize]
     ensures { result.now ≡ replaced list.now needs.now }
 {
     match list {
@@ -31,10 +32,7 @@ fn replaced_by<'a>(list: &Option<Vec<usize>>, needs: &'a [usize]) -> &'a [usize]
 }
 
 // For each list the set of its numbers.
-pub(crate) fn sets_of(
-    alloc: Global,
-    lists: &[Option<Vec<usize>>],
-) -> Result<Vec<NodeSet>, AllocError>
+pub(crate) fn sets_of(alloc: Global, lists: &[Option<NodeList>]) -> Result<Vec<NodeSet>, AllocError>
     ensures count { IfOk result (λ sets. length sets.items ≡ length lists.now) }
     ensures sets { IfOk result (λ sets. (i x : ℕ) → is_in sets.items i x ≡ has x (listed lists.now i)) }
 {
@@ -48,8 +46,8 @@ pub(crate) fn sets_of(
 // For each list the set of the needs that it replaces.
 pub(crate) fn sets_replaced(
     alloc: Global,
-    lists: &[Option<Vec<usize>>],
-    needs: &[Vec<usize>],
+    lists: &[Option<NodeList>],
+    needs: &[NodeList],
 ) -> Result<Vec<NodeSet>, AllocError>
     requires { length lists.now ≤ length needs.now }
     ensures count { IfOk result (λ sets. length sets.items ≡ length lists.now) }
@@ -57,13 +55,13 @@ pub(crate) fn sets_replaced(
 {
     let mut sets = Vec::new(alloc);
     'lists: for (node, list) in lists.iter().enumerate() {
-        sets.push(set_of(alloc, replaced_by(list, &needs[node]))?)?;
+        sets.push(set_of(alloc, replaced_by(list, needs[node].as_slice()))?)?;
     }
     Ok(sets)
 }
 
 // Exchanges the needs of each node for which there is a list with that list.
-pub(crate) fn exchange(needs: &mut [Vec<usize>], lists: &mut [Option<Vec<usize>>])
+pub(crate) fn exchange(needs: &mut [NodeList], lists: &mut [Option<NodeList>])
     requires { length lists.old ≤ length needs.old }
     ensures needs { (a : ℕ) → needs_at needs.new a ≡ unwrap_or (list_for lists.old a) (needs_at needs.old a) }
     ensures lists { (a : ℕ) → list_for lists.new a ≡ option_map (λ _. needs_at needs.old a) (list_for lists.old a) }
@@ -76,7 +74,7 @@ pub(crate) fn exchange(needs: &mut [Vec<usize>], lists: &mut [Option<Vec<usize>>
 }
 
 // Exchanges needs with a list, if there is one.
-fn exchange_one(needs: &mut Vec<usize>, list: &mut Option<Vec<usize>>)
+fn exchange_one(needs: &mut NodeList, list: &mut Option<NodeList>)
     ensures needs { needs.new.items ≡ unwrap_or (list_in list.old) needs.old.items }
     ensures list { list_in list.new ≡ option_map (λ _. needs.old.items) (list_in list.old) }
 {

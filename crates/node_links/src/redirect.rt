@@ -6,6 +6,7 @@ ghost use Rattle.node_links.specs.Redirect.{target_of, AreRedirected};
 ghost use Rattle.node_links.specs.internal.Redirected.{Stays, AreEmpty, AreMarked, AreGathered};
 
 use crate::links::Links;
+use crate::node_list::NodeList;
 use std::alloc::{AllocError, Global};
 
 impl Links {
@@ -30,7 +31,7 @@ impl Links {
     }
 
     // An empty list for each node whose links change, and for its target.
-    fn marked(&self, targets: &[Option<usize>]) -> Result<Vec<Option<Vec<usize>>>, AllocError>
+    fn marked(&self, targets: &[Option<usize>]) -> Result<Vec<Option<NodeList>>, AllocError>
         requires { (a t : ℕ) → target_of targets.now a ≡ Some t → t < node_count self.now }
         ensures count { IfOk result (λ lists. length lists.items ≡ node_count self.now) }
         ensures empty { IfOk result (λ lists. AreEmpty lists.items) }
@@ -48,7 +49,7 @@ impl Links {
     // Fills the lists with what the nodes are linked to afterwards.
     fn gather_all(
         &self,
-        lists: &mut Vec<Option<Vec<usize>>>,
+        lists: &mut Vec<Option<NodeList>>,
         targets: &[Option<usize>],
     ) -> Result<(), AllocError>
         requires inside { (a t : ℕ) → target_of targets.now a ≡ Some t → t < node_count self.now }
@@ -67,7 +68,7 @@ impl Links {
 }
 
 // No list for each of so many nodes.
-fn no_lists(alloc: Global, count: usize) -> Result<Vec<Option<Vec<usize>>>, AllocError>
+fn no_lists(alloc: Global, count: usize) -> Result<Vec<Option<NodeList>>, AllocError>
     ensures count { IfOk result (λ lists. length lists.items ≡ count) }
     ensures none { IfOk result (λ lists. (a : ℕ) → list_for lists.items a ≡ None) }
 {
@@ -119,22 +120,22 @@ fn stays(targets: &[Option<usize>], node: usize, needs: &[usize]) -> bool
 }
 
 // Gives the node and its target an empty list each.
-fn mark(lists: &mut Vec<Option<Vec<usize>>>, alloc: Global, targets: &[Option<usize>], node: usize)
+fn mark(lists: &mut Vec<Option<NodeList>>, alloc: Global, targets: &[Option<usize>], node: usize)
     requires node { node < length lists.old.items }
     requires inside { (t : ℕ) → target_of targets.now node ≡ Some t → t < length lists.old.items }
     ensures given { (a : ℕ) → (a ≡ node) ⊎ (target_of targets.now node ≡ Some a) → list_for lists.new.items a ≡ Some [] }
     ensures rest { (a : ℕ) → (list_for lists.new.items a ≡ Some []) ⊎ (list_for lists.new.items a ≡ list_for lists.old.items a) }
     ensures count { length lists.new.items ≡ length lists.old.items }
 {
-    lists[node] = Some(Vec::new(alloc));
+    lists[node] = Some(NodeList::new(alloc));
     if let Some(target) = target(targets, node) {
-        lists[target] = Some(Vec::new(alloc));
+        lists[target] = Some(NodeList::new(alloc));
     }
 }
 
 // Adds the targets of the node's needs to the list of its target, where that has one.
 fn gather(
-    lists: &mut Vec<Option<Vec<usize>>>,
+    lists: &mut Vec<Option<NodeList>>,
     targets: &[Option<usize>],
     node: usize,
     needs: &[usize],
@@ -155,7 +156,7 @@ fn gather(
 
 // Adds the targets of those nodes that have one.
 fn push_targets(
-    list: &mut Vec<usize>,
+    list: &mut NodeList,
     targets: &[Option<usize>],
     nodes: &[usize],
 ) -> Result<(), AllocError>
@@ -168,7 +169,7 @@ fn push_targets(
 }
 
 // Adds the number at the end where there is one.
-fn push_some(list: &mut Vec<usize>, number: Option<usize>) -> Result<(), AllocError>
+fn push_some(list: &mut NodeList, number: Option<usize>) -> Result<(), AllocError>
     ensures { OnOk result (list.new.items ≡ list.old.items ++ option_to_list number) }
 {
     if let Some(number) = number {

@@ -7,6 +7,7 @@ ghost use Rattle.node_links.specs.internal.Lists.{listed, ArePartlyPut};
 ghost use Rattle.node_links.specs.internal.Sets.{is_in, nodes_in, IsPartlyPut};
 
 use crate::lists::items_of;
+use crate::node_list::NodeList;
 use crate::node_set::NodeSet;
 use std::alloc::{AllocError, Global};
 
@@ -86,7 +87,7 @@ impl Users {
     }
 
     // Adds each node to those that need the ones in its list. Where there is no memory some are added.
-    fn put_lists(&mut self, lists: &[Option<Vec<usize>>]) -> Result<(), AllocError>
+    fn put_lists(&mut self, lists: &[Option<NodeList>]) -> Result<(), AllocError>
         requires { AreBelow (length self.old.sets.items) lists.now }
         ensures ok { OnOk result ((i x : ℕ) → is_in self.new.sets.items i x ≡ (is_in self.old.sets.items i x || has i (listed lists.now x))) }
         ensures err { OnErr result (ArePartlyPut self.old.sets.items lists.now self.new.sets.items) }
@@ -102,7 +103,7 @@ impl Users {
     // there is no memory all is as it was.
     pub(crate) fn put_all_lists(
         &mut self,
-        lists: &[Option<Vec<usize>>],
+        lists: &[Option<NodeList>],
         was: &[NodeSet],
     ) -> Result<(), AllocError>
         requires lists { AreBelow (length self.old.sets.items) lists.now }
@@ -122,7 +123,7 @@ impl Users {
     }
 
     // Takes each node from those that need the ones in its list, but for those that are kept for it.
-    pub(crate) fn drop_lists(&mut self, lists: &[Option<Vec<usize>>], kept: &[NodeSet])
+    pub(crate) fn drop_lists(&mut self, lists: &[Option<NodeList>], kept: &[NodeSet])
         requires lists { AreBelow (length self.old.sets.items) lists.now }
         requires count { length lists.now ≤ length kept.now }
         ensures rest { (i x : ℕ) → is_in self.new.sets.items i x ≡ (is_in self.old.sets.items i x && not (has i (listed lists.now x) && not (is_in kept.now x i))) }

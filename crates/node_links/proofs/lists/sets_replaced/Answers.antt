@@ -12,11 +12,11 @@ lists-init c = record { count = ap length c.new-sets.ensures.items; sets = no_se
 pub lists-preserved : goal.lists-preserved
 lists-preserved c = record {
   count = more_count c.lists.sets.items c.push.new.self.items c.in_ok-set_of.field-0 c.lists.node c.lists.invariant.count c.in_ok-push.ensures.items;
-  sets = more_sets c.lists.sets.items c.push.new.self.items c.in_ok-set_of.field-0 c.lists.node (replaced c.index-lists-node.result c.deref.result.now)
+  sets = more_sets c.lists.sets.items c.push.new.self.items c.in_ok-set_of.field-0 c.lists.node (replaced c.index-lists-node.result c.as_slice.result.now)
       (replaced_at (take c.lists.node c.args.lists.now) c.args.needs.now) (replaced_at (take (c.lists.node + 1) c.args.lists.now) c.args.needs.now)
       c.lists.invariant.count c.in_ok-push.ensures.items c.lists.invariant.sets (λ x. c.in_ok-set_of.ensures x ∙ ap (has x) c.replaced_by.ensures)
-      (replaced_more c.args.lists.now c.lists.node c.index-lists-node.result c.lists-test.true c.index-lists-node.is c.args.needs.now c.deref.result.now
-      (c.deref.ensures.value ∙ needs_read c.args.needs.now c.lists.node c.index-needs-node.result (omega (arith, c.lists-test.true, c.requires)) c.index-needs-node.is));
+      (replaced_more c.args.lists.now c.lists.node c.index-lists-node.result c.lists-test.true c.index-lists-node.is c.args.needs.now c.as_slice.result.now
+      (c.as_slice.ensures ∙ needs_read c.args.needs.now c.lists.node c.index-needs-node.result (omega (arith, c.lists-test.true, c.requires)) c.index-needs-node.is));
 }
 
 pub returns : goal.returns
