@@ -4,23 +4,25 @@
 
 A NAME is that of graphs, as "prefix sums" or "formulas in a chain"; without any, all are made. PROGRAM is
 crates/graph_cases/out/graph_cases where it isn't given (`rt run` there builds it). Each graph is made in a process of its own,
-so that none is timed in memory that another has left. The program's clock gives the times, and each is the least of some
-rounds, of which each makes all graphs, so that a machine that is slower at times is so for all of them. With --counted the
-program runs under valgrind's callgrind instead, which counts the instructions of each part: the same number in each run,
-whatever else the machine does, and without what caches add where a graph outgrows them. Where a graph comes in several
-sizes, each figure has its growth since the smaller size beside it, as a factor for each doubling; figures too small to tell
-anything have none. The status is 1 where a factor is over the wanted one.
+so that none is timed in memory that another has left. The program's clock gives the times, in rounds of which each makes all
+graphs, some times each: a figure of a round is the least time in it, and the figure of all rounds the least of these. With
+--counted the program runs once under valgrind's callgrind instead, which counts the instructions of each part: the same number
+in each run, whatever else the machine does, and without what caches add where a graph outgrows them. Where a graph comes in
+several sizes, each figure has its growth since the smaller size beside it, as a factor for each doubling: the median over the
+rounds, since a machine that is slower for a while is so for all of a round. Figures too small to tell anything have none. The
+status is 1 where a factor is over the wanted one.
 """
 import argparse
 import glob
 import math
 import os
 import re
+import statistics
 import subprocess
 import sys
 import tempfile
 
-ROUNDS = 9
+ROUNDS, REPEATS = 5, 3
 # The program begins a graph by a call of the one function, and prints the time of a part by a call of the other.
 BEGINNING, PRINTING = "dep_graph::net::Net::new", "graph_cases::bench::Case::print_time"
 # The part for which a graph is begun.
@@ -41,9 +43,9 @@ def lines_of(command):
     return subprocess.run(command, stdout=subprocess.PIPE, check=True).stdout.decode().split("\n")
 
 
-def timed(benches, rounds):
-    """The least time of each part over some rounds."""
-    runs = [dict(part for bench in benches for part in parts_of(lines_of(bench))) for _ in range(rounds)]
+def timed(bench):
+    """The milliseconds of each part: the least of some runs."""
+    runs = [dict(parts_of(lines_of(bench))) for _ in range(REPEATS)]
     return {part: min(times[part] for times in runs) for part in runs[0]}
 
 
@@ -67,12 +69,13 @@ def counted(bench):
     return dict(zip(parts, counts))
 
 
-def growth(smaller, larger, least):
-    """The factor for each doubling from one size and figure to another, or none."""
-    (size, figure), (next_size, next_figure) = smaller, larger
-    if min(figure, next_figure) < least:
+def growth(rounds, smaller, larger, least):
+    """The factor for each doubling from one size of a part to another, or none."""
+    doublings = math.log2(larger[2] / smaller[2])
+    pairs = [(figures[smaller], figures[larger]) for figures in rounds]
+    if min(min(pair) for pair in pairs) < least:
         return None
-    return (next_figure / figure) ** (1 / math.log2(next_size / size))
+    return statistics.median((after / before) ** (1 / doublings) for before, after in pairs)
 
 
 def main(words):
@@ -86,16 +89,15 @@ def main(words):
     titles = [title for title in lines_of([said.program, "graphs"]) if title]
     wanted = [title for title in titles if not said.names or title.split(" ", 1)[1] in said.names]
     benches = [[said.program, "bench", title] for title in wanted]
-    if said.counted:
-        figures, unit, least = {part: count for bench in benches for part, count in counted(bench).items()}, "instructions", LEAST_COUNT
-    else:
-        figures, unit, least = timed(benches, said.rounds), "ms", LEAST_TIME
+    measure, count, unit, least = (counted, 1, "instructions", LEAST_COUNT) if said.counted else (timed, said.rounds, "ms", LEAST_TIME)
+    rounds = [{part: figure for bench in benches for part, figure in measure(bench).items()} for _ in range(count)]
     before, greatest = {}, 0
-    for (graph, part, size), figure in figures.items():
-        factor = growth(before[graph, part], (size, figure), least) if (graph, part) in before else None
-        before[graph, part] = size, figure
+    for part in rounds[0]:
+        (graph, name, size), figure = part, min(figures[part] for figures in rounds)
+        factor = growth(rounds, before[graph, name], part, least) if (graph, name) in before else None
+        before[graph, name] = part
         greatest = max(greatest, factor or 0)
-        print(f"{size:7,} {graph}, {part}: {figure:13,} {unit}" + (f", {factor:.2f} for each doubling" if factor else ""))
+        print(f"{size:7,} {graph}, {name}: {figure:13,} {unit}" + (f", {factor:.2f} for each doubling" if factor else ""))
     print(f"the greatest growth for each doubling is {greatest:.2f}; at most {WANTED} is wanted")
     return 0 if greatest <= WANTED else 1
 
