@@ -3,8 +3,8 @@
 
     python3 docs/reading_list.py            the files, those that rest on no other first
     python3 docs/reading_list.py --names    and in each the names that the contract reaches
-    python3 docs/reading_list.py --check    status 1 where README.md names another list, or its example of
-                                            embedding isn't the crate `embedding`, word for word
+    python3 docs/reading_list.py --check    status 1 where docs/TRUST.md names another list or lacks a clause, or the
+                                            example of README.md isn't the crate `embedding`, word for word
 
 It follows the `use` lines of the definitions, name by name, from the clauses of `run` in
 crates/sheet_cli/src/program.rt. What stands in a specs/internal/ is for the proofs of bodies alone: a clause
@@ -17,6 +17,8 @@ from pathlib import Path
 ROOT = Path(__file__).resolve().parent.parent
 START = ROOT / "crates/sheet_cli/src/program.rt"
 EXAMPLE = ROOT / "crates/embedding/src/main.rt"
+TRUST = ROOT / "docs/TRUST.md"
+README = ROOT / "README.md"
 USE = re.compile(r"^\s*(?:pub )?(?:ghost )?use Rattle\.(\w+)\.specs\.([\w.]+?)(?:\.\{([^}]*)\})?(?: as (\w+))?;?\s*(?:--.*)?$")
 WORD = re.compile(r"[\w-]+(?:\.[\w-]+)*")
 
@@ -70,19 +72,25 @@ class File:
 
 
 def clauses():
-    """The names in the clauses of `run`, and what they stand for."""
+    """The clauses of `run`, a line each, and the whole file's lines."""
     lines = START.read_text().splitlines()
-    names, modules = uses([line for line in lines if line.startswith("ghost use")])
     start = next(i for i, line in enumerate(lines) if line.startswith("pub fn run"))
     end = next(i for i in range(start, len(lines)) if lines[i] == "{")
-    words = set(WORD.findall(" ".join(line for line in lines[start:end] if "ensures" in line or "requires" in line)))
+    return [line for line in lines[start:end] if "ensures" in line or "requires" in line], lines
+
+
+def cited():
+    """The names in the clauses of `run`, and what they stand for."""
+    found, lines = clauses()
+    names, modules = uses([line for line in lines if line.startswith("ghost use")])
+    words = set(WORD.findall(" ".join(found)))
     return [(names[word], word) for word in words if word in names]
 
 
 def reached():
     """The names that the contract reaches, by file, and which files each file rests on."""
     files, seen, rests = {}, {}, {}
-    todo = [(place, name, None) for place, name in clauses()]
+    todo = [(place, name, None) for place, name in cited()]
     while todo:
         (crate, module), name, above = todo.pop()
         path = file_of(crate, module)
@@ -124,6 +132,19 @@ def in_order(seen, rests):
     return order
 
 
+def differences(listed):
+    """What the pages say otherwise than the files."""
+    trust = TRUST.read_text()
+    told = set(re.findall(r"crates/\w+/specs/\w+\.antt", trust))
+    found = [f"docs/TRUST.md leaves out {name}" for name in sorted(listed - told)]
+    found += [f"docs/TRUST.md names without need {name}" for name in sorted(told - listed)]
+    names = [re.search(r"(?:ensures|requires) (\w*)", line).group(1) for line in clauses()[0]]
+    found += [f"docs/TRUST.md has no clause {name}" for name in names if f"- **{name}**: " not in trust]
+    if EXAMPLE.read_text().strip() not in README.read_text():
+        found.append(f"README.md's example isn't {EXAMPLE.relative_to(ROOT)}")
+    return found
+
+
 def main(words):
     seen, rests = reached()
     order = in_order(seen, rests)
@@ -132,16 +153,9 @@ def main(words):
     if hidden:
         sys.exit("the contract of run reaches " + ", ".join(hidden))
     if "--check" in words:
-        told = set(re.findall(r"crates/\w+/specs/\w+\.antt", (ROOT / "README.md").read_text()))
-        missing, extra = sorted(set(listed) - told), sorted(told - set(listed))
-        for name in missing:
-            print("README.md leaves out", name)
-        for name in extra:
-            print("README.md names without need", name)
-        other = EXAMPLE.read_text().strip() not in (ROOT / "README.md").read_text()
-        if other:
-            print("README.md's example isn't", EXAMPLE.relative_to(ROOT))
-        sys.exit(1 if missing or extra or other else 0)
+        found = differences(set(listed))
+        print("\n".join(found) or f"docs/TRUST.md has the clauses and all {len(order)} files, README.md the example")
+        sys.exit(1 if found else 0)
     for path, name in zip(order, listed):
         print(name + (": " + ", ".join(sorted(seen[path])) if "--names" in words else ""))
 
