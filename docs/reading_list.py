@@ -3,8 +3,9 @@
 
     python3 docs/reading_list.py            the files, those that rest on no other first
     python3 docs/reading_list.py --names    and in each the names that the contract reaches
-    python3 docs/reading_list.py --check    status 1 where docs/TRUST.md names another list or lacks a clause, or the
-                                            example of README.md isn't the crate `embedding`, word for word
+    python3 docs/reading_list.py --check    status 1 where docs/TRUST.md names another list or lacks a clause, the
+                                            example of README.md isn't the crate `embedding`, word for word, or a
+                                            block of docs/EMBEDDING.md stands in no crate
 
 It follows the `use` lines of the definitions, name by name, from the clauses of `run` in
 crates/sheet_cli/src/program.rt. What stands in a specs/internal/ is for the proofs of bodies alone: a clause
@@ -19,6 +20,7 @@ START = ROOT / "crates/sheet_cli/src/program.rt"
 EXAMPLE = ROOT / "crates/embedding/src/main.rt"
 TRUST = ROOT / "docs/TRUST.md"
 README = ROOT / "README.md"
+EMBEDDING = ROOT / "docs/EMBEDDING.md"
 USE = re.compile(r"^\s*(?:pub )?(?:ghost )?use Rattle\.(\w+)\.specs\.([\w.]+?)(?:\.\{([^}]*)\})?(?: as (\w+))?;?\s*(?:--.*)?$")
 WORD = re.compile(r"[\w-]+(?:\.[\w-]+)*")
 
@@ -142,6 +144,10 @@ def differences(listed):
     found += [f"docs/TRUST.md has no clause {name}" for name in names if f"- **{name}**: " not in trust]
     if EXAMPLE.read_text().strip() not in README.read_text():
         found.append(f"README.md's example isn't {EXAMPLE.relative_to(ROOT)}")
+    sources = [path.read_text() for path in ROOT.glob("crates/*/src/**/*.rt")]
+    for block in re.findall(r"^```rust\n(.*?)^```$", EMBEDDING.read_text(), re.M | re.S):
+        if not any(block in source for source in sources):
+            found.append(f"docs/EMBEDDING.md has code that no crate has: {block.splitlines()[0].strip()} ..")
     return found
 
 
@@ -154,7 +160,7 @@ def main(words):
         sys.exit("the contract of run reaches " + ", ".join(hidden))
     if "--check" in words:
         found = differences(set(listed))
-        print("\n".join(found) or f"docs/TRUST.md has the clauses and all {len(order)} files, README.md the example")
+        print("\n".join(found) or f"docs/TRUST.md has the clauses and all {len(order)} files; the examples are code of crates")
         sys.exit(1 if found else 0)
     for path, name in zip(order, listed):
         print(name + (": " + ", ".join(sorted(seen[path])) if "--names" in words else ""))
