@@ -45,7 +45,7 @@ def head(crate):
 def made(line):
     """A line of the page as it should be: a crate's row with what the crate is."""
     match = ROW.match(line)
-    if not match or match.group(1) not in crates():
+    if not match or match.group(1) not in crates() or not root_of(match.group(1)).is_file():
         return line
     cells = re.split(r"(?<!\\) \|(?: |$)", line.rstrip())
     contracts = f" {cells[2]} |" if len(cells) > 3 else ""
@@ -56,6 +56,8 @@ def faults(lines):
     """What is wrong with the rows of the page."""
     listed = [match.group(1) for match in map(ROW.match, lines) if match]
     for crate in crates():
+        if not root_of(crate).is_file():
+            yield f"crates.txt has {crate}, of which there is no root file"
         if listed.count(crate) != 1:
             yield f"{crate} stands {listed.count(crate)} times in docs/CRATES.md"
     for crate in listed:
