@@ -134,6 +134,12 @@ def in_order(seen, rests):
     return order
 
 
+def size(seen):
+    """How many names are reached, and how many lines their definitions have."""
+    texts = [{File(path).blocks[name] for name in names} for path, names in seen.items()]
+    return sum(map(len, seen.values())), sum(text.count("\n") for file in texts for text in file)
+
+
 def differences(listed):
     """What the pages say otherwise than the files."""
     trust = TRUST.read_text()
@@ -161,6 +167,7 @@ def main(words):
     if "--check" in words:
         found = differences(set(listed))
         print("\n".join(found) or f"docs/TRUST.md has the clauses and all {len(order)} files; the examples are code of crates")
+        print("{:,} names in {:,} lines of definitions, comments apart".format(*size(seen)))
         sys.exit(1 if found else 0)
     for path, name in zip(order, listed):
         print(name + (": " + ", ".join(sorted(seen[path])) if "--names" in words else ""))
