@@ -17,6 +17,7 @@ const FAILING: &[(u64, Read, Read)] = &[
 // How many bytes a source has, and how many two reads give, or how they fail.
 const LONG: &[(usize, Read, Read)] = &[
     (67_108_864, Ok(67_108_864), Ok(0)),
+    (67_108_865, Err(LoadError::TooLong), Ok(0)),
     (67_108_867, Err(LoadError::TooLong), Ok(2)),
 ];
 

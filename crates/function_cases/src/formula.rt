@@ -28,17 +28,17 @@ const NAMES: Home = Home::Name { sheet: 0 };
 
 /// A page, and what its formulas are read with.
 #[derive(Drop)]
-pub(crate) struct Sheet {
+pub(crate) struct FormulaPage {
     alloc: Global,
     page: Page,
     pool: Pool,
     sheets: OneSheet,
 }
 
-impl Sheet {
+impl FormulaPage {
     /// An empty page.
-    pub(crate) fn new(alloc: Global) -> Result<Sheet, AllocError> {
-        Ok(Sheet {
+    pub(crate) fn new(alloc: Global) -> Result<FormulaPage, AllocError> {
+        Ok(FormulaPage {
             alloc,
             page: Page {
                 cells: PageCells::new(alloc),
@@ -52,18 +52,18 @@ impl Sheet {
         })
     }
 
-    /// The value of the formula in the cell E5, as a person sees it; `None` where the text is no formula.
-    pub(crate) fn shown<L: Ledger>(
+    /// The value of the formula in the cell E5; `None` where the text is no formula.
+    pub(crate) fn value<L: Ledger>(
         &mut self,
         formula: &str,
         registry: &Registry,
         steps: &mut Steps<L>,
-    ) -> Result<Option<Text>, AllocError> {
+    ) -> Result<Option<Scalar>, AllocError> {
         let Some(tree) = self.tree(HOME, formula)? else {
             return Ok(None);
         };
         let value = eval(self.alloc, &tree, HOME, &mut self.page, registry, steps)?;
-        Ok(Some(value.shown(self.alloc)?))
+        Ok(Some(value))
     }
 
     /// Gives the page a cell's value or a name's formula; whether the row has that form.

@@ -3,7 +3,7 @@ ghost use Rattle.std.specs.Prelude.{◌≡◌, ◌+◌, ◌≤◌, IfOk, option_
 ghost use Rattle.cell_value.specs.Summary.{IsBounded, summary_of};
 ghost use Rattle.cell_value.specs.declared.scalar.Scalar.TheVariants.{Empty};
 ghost use Rattle.calc_eval.specs.Named.{named_by};
-ghost use Rattle.eval_cases.specs.Page.{named_in, shown_in};
+ghost use Rattle.function_cases.specs.Page.{named_in, shown_in};
 
 use calc_eval::{Cells, NameView, View, area_of, summary_of};
 use cell_addr::{Block, Place, Text, same_folded};

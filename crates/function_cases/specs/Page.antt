@@ -8,8 +8,8 @@ use Rattle.cell_value.specs.declared.scalar.Scalar.TheVariants.{Empty}
 use Rattle.formula_tree.specs.Relative.{relative}
 use Rattle.formula_tree.specs.StandsFor.{at_home}
 use Rattle.calc_terms.specs.World.{Named}
-use Rattle.eval_cases.specs.declared.page.Cell.{Cell}
-use Rattle.eval_cases.specs.declared.page.Name.{Name}
+use Rattle.function_cases.specs.declared.page.Cell.{Cell}
+use Rattle.function_cases.specs.declared.page.Name.{Name}
 
 abbrev pub shown_in : List Cell → Place → Scalar
 shown_in [] at = Empty
