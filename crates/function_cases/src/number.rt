@@ -31,12 +31,14 @@ fn number_of(word: &str, args: &[Arg]) -> Option<Result<Fixed, NumError>> {
     match args {
         [Arg::One(Scalar::Text(text))] => of_text(word, text.as_str()),
         [Arg::One(Scalar::Number(number))] => of_one(word, *number),
-        [Arg::One(Scalar::Number(left)), Arg::One(Scalar::Number(right))] => {
-            of_two(word, *left, *right)
-        }
-        [Arg::One(Scalar::Number(number)), Arg::One(Scalar::Text(text))] => {
-            rounded(word, *number, text.as_str())
-        }
+        [
+            Arg::One(Scalar::Number(left)),
+            Arg::One(Scalar::Number(right)),
+        ] => { of_two(word, *left, *right) }
+        [
+            Arg::One(Scalar::Number(number)),
+            Arg::One(Scalar::Text(text)),
+        ] => { rounded(word, *number, text.as_str()) }
         _ => None,
     }
 }
