@@ -1,7 +1,5 @@
-use book_model::{
-    BookCell, BookCells, ContentText, Refusal, is_name, is_sheet_name, read_content, text_given,
-};
-use cell_addr::Text;
+// Contents that texts give, and the form of names.
+use book_model::{ContentText, Refusal, is_name, is_sheet_name, read_content, text_given};
 use std::alloc::{AllocError, Global};
 
 // Texts given to a cell, and the kinds of their contents.
@@ -58,18 +56,4 @@ fn names_and_refusals(rt: HostRuntime) {
     assert!(rt; !is_name("b7") && !is_name("True") && !is_name("2a") && !is_name(""));
     assert!(rt; Refusal::SheetLimit.number() == 19);
     assert!(rt; Refusal::SheetLimit.name() == "SheetLimit");
-}
-
-// A list of cells keeps what is put into it.
-#[test]
-fn cells_are_listed(rt: HostRuntime) -> Result<(), AllocError> {
-    let mut cells = BookCells::new(rt.alloc())?;
-    let text = Text::from_str(rt.alloc(), "5")?;
-    cells.push(BookCell {
-        row: 1,
-        col: 0,
-        text,
-    })?;
-    assert!(rt; cells.items().len() == 1);
-    Ok(())
 }

@@ -6,8 +6,8 @@ ghost use Rattle.formula_tree.specs.declared.operator.Op.TheVariants as ops;
 
 use cell_addr::{COLS, NO_SHEET, Place, ROWS, Text};
 use formula_tree::{
-    Corner, Home, Link, NO_LINE, Node, Op, Part, Plain, Pool, Ref, SheetPart, Sign, Tree, TreeList,
-    depth, mentions_of, names_of, places_of, to_absolute,
+    Corner, Home, Link, NO_LINE, Node, Op, Part, Plain, PlainList, Pool, Ref, SheetPart, Sign, Tree,
+    TreeList, depth, mentions_of, names_of, places_of, to_absolute,
 };
 use std::alloc::{AllocError, Global};
 use std::rc::Rc;
@@ -116,11 +116,22 @@ fn is_third_sum(alloc: Global, tree: &Tree) -> Result<bool, AllocError> {
     Ok(is_sum(&plain, corner(2, 0), corner(2, 1)))
 }
 
-// Whether `=A1+B1` of C1 and `=A2+B2` of C2 are one tree, which is `=A3+B3` at C3.
+// Whether the tree's places in a formula of C1 are A1 and B1.
+fn has_first_places(alloc: Global, tree: &Tree) -> Result<bool, AllocError> {
+    match places_of(alloc, tree, Home::Cell(place(0, 2)))?.as_slice() {
+        [first, second] => {
+            Ok(first.same(&Link::Cell(place(0, 0))) && second.same(&Link::Cell(place(0, 1))))
+        }
+        _ => Ok(false),
+    }
+}
+
+// Whether `=A1+B1` of C1 and `=A2+B2` of C2 are one tree without names, which is `=A3+B3` at C3.
 fn sums_share(alloc: Global, pool: &mut Pool) -> Result<bool, AllocError> {
     let first = shared_sum(alloc, pool, 0)?;
     let second = shared_sum(alloc, pool, 1)?;
-    Ok(Tree::ptr_eq(&first, &second) && is_third_sum(alloc, &first)?)
+    let are_places = has_first_places(alloc, &first)? && names_of(alloc, &first)?.is_empty();
+    Ok(are_places && Tree::ptr_eq(&first, &second) && is_third_sum(alloc, &first)?)
 }
 
 #[test]
@@ -257,5 +268,25 @@ fn what_a_tree_names(rt: HostRuntime) -> Result<(), Fail> {
     assert!(rt; has_name(rt.alloc(), &tree)?);
     assert!(rt; has_cell(rt.alloc(), &tree, home)?);
     assert!(rt; mentions_both(rt.alloc(), &tree, home)?);
+    Ok(())
+}
+
+// Whether a list of shared arguments has the one that is put in.
+fn has_shared_argument(alloc: Global) -> Result<bool, AllocError> {
+    let mut list = TreeList::new(alloc)?;
+    list.push(Rc::new(alloc, Node::Truth(true))?)?;
+    Ok(matches!(list.items(), [tree] if matches!(tree.as_ref(), Node::Truth(true))))
+}
+
+// Whether a list of arguments has the one that is put in.
+fn has_argument(alloc: Global) -> Result<bool, AllocError> {
+    let mut list = PlainList::new(alloc)?;
+    list.push(Plain::Truth(true))?;
+    Ok(matches!(list.items(), [Plain::Truth(true)]))
+}
+
+#[test]
+fn lists_have_what_is_put_in(rt: HostRuntime) -> Result<(), Fail> {
+    assert!(rt; has_shared_argument(rt.alloc())? && has_argument(rt.alloc())?);
     Ok(())
 }
