@@ -3,9 +3,7 @@ ghost use Rattle.shift_core.specs.Sound.{IsSound};
 
 use crate::operation::numbers_of;
 use cell_addr::{Block, Place};
-use shift_core::{
-    Shift, back_block, back_place, is_bent, is_cut, moved_block, moved_place, sound,
-};
+use shift_core::{Shift, back_block, back_place, is_bent, is_cut, moved_block, moved_place, sound};
 use std::alloc::{AllocError, Global};
 
 /// Where the operation moves a place or a block, which one came there, and whether a block is bent or cut, in words; why

@@ -25,7 +25,9 @@ fn has_cell(alloc: Global) -> Result<bool, AllocError> {
 fn has_copy(alloc: Global) -> Result<bool, AllocError> {
     let mut list = CopyList::new(alloc)?;
     list.push(PLACE, CopyItem::Kept(Cell::Number(Fixed::ONE)))?;
-    Ok(matches!(list.items(), [(at, CopyItem::Kept(Cell::Number(one)))] if *at == PLACE && *one == Fixed::ONE))
+    Ok(
+        matches!(list.items(), [(at, CopyItem::Kept(Cell::Number(one)))] if *at == PLACE && *one == Fixed::ONE),
+    )
 }
 
 // Whether a list of names has the one pair that is put in.

@@ -65,7 +65,10 @@ fn others_are_found(registry: &Registry) -> bool {
 fn functions_are_added_under_new_names(rt: HostRuntime) -> Result<(), AllocError> {
     let mut registry = Registry::new(rt.alloc())?;
     for (name, refusal) in NAMES {
-        assert!(rt; is_added(rt.alloc(), &mut registry, name, refusal)?, "{name}");
+        assert!(rt;
+            is_added(rt.alloc(), &mut registry, name, refusal)?,
+            "{name}"
+        );
     }
     assert!(rt; levy_is_found(&registry) && others_are_found(&registry));
     Ok(())

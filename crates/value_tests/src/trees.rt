@@ -6,8 +6,8 @@ ghost use Rattle.formula_tree.specs.declared.operator.Op.TheVariants as ops;
 
 use cell_addr::{COLS, NO_SHEET, Place, ROWS, Text};
 use formula_tree::{
-    Corner, Home, Link, NO_LINE, Node, Op, Part, Plain, PlainList, Pool, Ref, SheetPart, Sign, Tree,
-    TreeList, depth, mentions_of, names_of, places_of, to_absolute,
+    Corner, Home, Link, NO_LINE, Node, Op, Part, Plain, PlainList, Pool, Ref, SheetPart, Sign,
+    Tree, TreeList, depth, mentions_of, names_of, places_of, to_absolute,
 };
 use std::alloc::{AllocError, Global};
 use std::rc::Rc;
