@@ -29,12 +29,25 @@
 //! at = { sheet = 1, row = 4, col = 4 }
 //! back = "1!R5C1"
 //! lost = false
+//!
+//! [[moves]]
+//! shift = "delete-rows 1 3 2"
+//! of = "1 3 3 5 5"
+//! after = "1 3 3 3 5"
+//! back = "1 5 3 7 5"
+//! is = "bent"
+//!
+//! [[sound]]
+//! shift = "insert-rows 1 0 0"
+//! sound = false
 //! ```
 //!
 //! The status is 0 where every table could be read, each has rows and none differs, 1 where not, and 2 where there is no
 //! memory or no output.
 #![tactic(auto)]
 
+mod moving;
+mod operation;
 mod outcome;
 mod reading;
 mod shifting;

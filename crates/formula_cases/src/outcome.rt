@@ -1,9 +1,12 @@
 // What rows show, and what is found of them.
 
+use crate::moving::moved;
+use crate::operation::shift_of;
 use crate::reading::{column_trees, levels_of, texts_of};
-use crate::shifting::{shift_of, shifted};
-use crate::table::{ColumnRow, Kind, NestedRow, Setting, ShiftRow, TextRow};
+use crate::shifting::shifted;
+use crate::table::{ColumnRow, Kind, MoveRow, NestedRow, Setting, ShiftRow, SoundRow, TextRow};
 use formula_tree::Home;
+use shift_core::sound;
 use std::alloc::{AllocError, Global};
 use toml::Value;
 
@@ -40,6 +43,14 @@ pub(crate) fn outcome_of(
         },
         Kind::Shift => match ShiftRow::of(table) {
             Some(row) => Ok(Some(of_shift(alloc, setting, &row)?)),
+            None => Ok(None),
+        },
+        Kind::Move => match MoveRow::of(table) {
+            Some(row) => Ok(Some(of_move(alloc, &row)?)),
+            None => Ok(None),
+        },
+        Kind::Sound => match SoundRow::of(table) {
+            Some(row) => Ok(Some(of_sound(alloc, &row)?)),
             None => Ok(None),
         },
     }
@@ -96,4 +107,39 @@ fn of_shift(alloc: Global, setting: &Setting, row: &ShiftRow) -> Result<Outcome,
         found,
         wanted,
     })
+}
+
+// A place or a block over an operation.
+fn of_move(alloc: Global, row: &MoveRow) -> Result<Outcome, AllocError> {
+    let shows = format!(in alloc; "{} of {}", row.shift, row.of)?;
+    let found = match shift_of(alloc, row.shift)? {
+        Some(shift) => moved(alloc, row.of, &shift)?,
+        None => String::from_str(alloc, "no operation")?,
+    };
+    let wanted = row.wanted(alloc)?;
+    Ok(Outcome {
+        shows,
+        found,
+        wanted,
+    })
+}
+
+// An operation that may fit its sheet.
+fn of_sound(alloc: Global, row: &SoundRow) -> Result<Outcome, AllocError> {
+    let shows = String::from_str(alloc, row.shift)?;
+    let found = match shift_of(alloc, row.shift)? {
+        Some(shift) => String::from_str(alloc, soundness(sound(&shift)))?,
+        None => String::from_str(alloc, "no operation")?,
+    };
+    let wanted = String::from_str(alloc, soundness(row.sound))?;
+    Ok(Outcome {
+        shows,
+        found,
+        wanted,
+    })
+}
+
+// Whether an operation is sound, in words.
+fn soundness(is_sound: bool) -> &'static str {
+    if is_sound { "sound" } else { "not sound" }
 }

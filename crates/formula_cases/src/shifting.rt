@@ -9,85 +9,11 @@ ghost use Rattle.tree_rewrite.specs.References.{FitsSheets};
 ghost use Rattle.tree_rewrite.specs.Rewritten.{home_after, home_before};
 
 use crate::reading::{Reading, shown};
-use cell_addr::{Block, Place};
+use cell_addr::Place;
 use formula_tree::{Home, Tree};
 use shift_core::{Shift, back_place, moved_place, sound};
 use std::alloc::{AllocError, Global};
 use tree_rewrite::{backward, forward, loses};
-
-/// The operation that a word and its numbers say, or `None` where they say none.
-pub(crate) fn shift_of(alloc: Global, text: &str) -> Result<Option<Shift>, AllocError> {
-    let mut numbers = Vec::new(alloc);
-    let mut words = text.split(' ');
-    let Some(word) = words.next() else {
-        return Ok(None);
-    };
-    'numbers: for number in words {
-        match number.parse::<u32>() {
-            Ok(number) => numbers.push(number)?,
-            Err(_) => return Ok(None),
-        }
-    }
-    Ok(of_lines(word, &numbers).or(of_cells(word, &numbers)))
-}
-
-// An operation on rows or columns.
-fn of_lines(word: &str, numbers: &[u32]) -> Option<Shift> {
-    match *numbers {
-        [sheet, at, count] => edit_of_lines(word, sheet, at, count),
-        [sheet, from, count, before] => move_of_lines(word, sheet, from, count, before),
-        _ => None,
-    }
-}
-
-// Lines that are inserted or deleted.
-fn edit_of_lines(word: &str, sheet: u32, at: u32, count: u32) -> Option<Shift> {
-    match word {
-        "insert-rows" => Some(Shift::InsertRows { sheet, at, count }),
-        "delete-rows" => Some(Shift::DeleteRows { sheet, at, count }),
-        "insert-cols" => Some(Shift::InsertCols { sheet, at, count }),
-        "delete-cols" => Some(Shift::DeleteCols { sheet, at, count }),
-        _ => None,
-    }
-}
-
-// Lines that are moved.
-fn move_of_lines(word: &str, sheet: u32, from: u32, count: u32, before: u32) -> Option<Shift> {
-    match word {
-        "move-rows" => Some(Shift::MoveRows {
-            sheet,
-            from,
-            count,
-            before,
-        }),
-        "move-cols" => Some(Shift::MoveCols {
-            sheet,
-            from,
-            count,
-            before,
-        }),
-        _ => None,
-    }
-}
-
-// An operation on cells or on a sheet: a block is its sheet, its first row and column and its last ones.
-fn of_cells(word: &str, numbers: &[u32]) -> Option<Shift> {
-    match *numbers {
-        [of, top, left, bottom, right, sheet, row, col] if word == "move-block" => {
-            let source = Block {
-                sheet: of,
-                top,
-                left,
-                bottom,
-                right,
-            };
-            let to = Place { sheet, row, col };
-            Some(Shift::MoveBlock { source, to })
-        }
-        [sheet] if word == "drop-sheet" => Some(Shift::DropSheet { sheet }),
-        _ => None,
-    }
-}
 
 /// What becomes of a formula of the cell over the operation and back, in words; why there is nothing to tell
 /// where the operation isn't sound, the cell is lost, or the text spells no tree.

@@ -18,14 +18,20 @@ const COLUMN_ROWS: &str = "columns";
 
 const SHIFT_ROWS: &str = "shifts";
 
+const MOVE_ROWS: &str = "moves";
+
+const SOUND_ROWS: &str = "sound";
+
 // The keys of a document's table, of a cell, and of a row of each kind: those that it has, and those that it may have.
 const SETTING: [Key; 2] = [(SHEET, Form::Text), ("cell", Form::Table)];
 
-const ROWS: [Key; 4] = [
+const ROWS: [Key; 6] = [
     (TEXT_ROWS, Form::Array),
     (NESTED_ROWS, Form::Array),
     (COLUMN_ROWS, Form::Array),
     (SHIFT_ROWS, Form::Array),
+    (MOVE_ROWS, Form::Array),
+    (SOUND_ROWS, Form::Array),
 ];
 
 const CELL: [Key; 3] = [
@@ -64,6 +70,17 @@ const SHIFT: [Key; 6] = [
     ("back", Form::Text),
     ("lost", Form::Truth),
 ];
+
+const MOVE: [Key; 4] = [
+    ("shift", Form::Text),
+    ("of", Form::Text),
+    ("after", Form::Text),
+    ("back", Form::Text),
+];
+
+const MOVE_MORE: [Key; 1] = [("is", Form::Text)];
+
+const SOUND: [Key; 2] = [("shift", Form::Text), ("sound", Form::Truth)];
 
 /// The row that a document's table is.
 pub(crate) fn document_row(table: &Table) -> Option<Row<'_>> {
@@ -112,15 +129,19 @@ pub(crate) enum Kind {
     Nested,
     Column,
     Shift,
+    Move,
+    Sound,
 }
 
 impl Kind {
     /// The kinds, each with the key under which its rows stand.
-    pub(crate) const ALL: [(Kind, &'static str); 4] = [
+    pub(crate) const ALL: [(Kind, &'static str); 6] = [
         (Kind::Text, TEXT_ROWS),
         (Kind::Nested, NESTED_ROWS),
         (Kind::Column, COLUMN_ROWS),
         (Kind::Shift, SHIFT_ROWS),
+        (Kind::Move, MOVE_ROWS),
+        (Kind::Sound, SOUND_ROWS),
     ];
 }
 
@@ -242,5 +263,59 @@ impl<'a> ShiftRow<'a> {
             "{} at {} {} {}, back {}, lost {}",
             self.after, at.sheet, at.row, at.col, self.back, self.lost
         )
+    }
+}
+
+/// A place or a block, and an operation: where the operation moves it, and which one came there.
+#[derive(Clone, Copy)]
+pub(crate) struct MoveRow<'a> {
+    /// The operation's word and its numbers.
+    pub(crate) shift: &'a str,
+    /// A place by its sheet, its row and its column, or a block by its sheet, its first row and column and its last ones.
+    pub(crate) of: &'a str,
+    pub(crate) after: &'a str,
+    pub(crate) back: &'a str,
+    /// Whether a block is bent or cut.
+    pub(crate) is: Option<&'a str>,
+}
+
+impl<'a> MoveRow<'a> {
+    /// The row of a table.
+    pub(crate) fn of(table: &'a Table) -> Option<MoveRow<'a>> {
+        let row = Row::new(table, &MOVE, &MOVE_MORE)?;
+        Some(MoveRow {
+            shift: row.text("shift")?,
+            of: row.text("of")?,
+            after: row.text("after")?,
+            back: row.text("back")?,
+            is: row.text("is"),
+        })
+    }
+
+    /// What is wanted, as [`crate::moving::moved`] writes what is found.
+    pub(crate) fn wanted(&self, alloc: Global) -> Result<String, AllocError> {
+        match self.is {
+            Some(is) => format!(in alloc; "{}, back {}, {is}", self.after, self.back),
+            None => format!(in alloc; "{}, back {}", self.after, self.back),
+        }
+    }
+}
+
+/// An operation, and whether it fits its sheet.
+#[derive(Clone, Copy)]
+pub(crate) struct SoundRow<'a> {
+    /// The operation's word and its numbers.
+    pub(crate) shift: &'a str,
+    pub(crate) sound: bool,
+}
+
+impl<'a> SoundRow<'a> {
+    /// The row of a table.
+    pub(crate) fn of(table: &'a Table) -> Option<SoundRow<'a>> {
+        let row = Row::new(table, &SOUND, &[])?;
+        Some(SoundRow {
+            shift: row.text("shift")?,
+            sound: row.truth("sound")?,
+        })
     }
 }

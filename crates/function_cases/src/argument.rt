@@ -7,12 +7,12 @@ use cell_value::{Arg, FaultKind, Scalar};
 use fix_num::Fixed;
 use std::alloc::{AllocError, Global};
 
-/// The arguments of a function that the text holds, parted by commas: where nothing stands between two, the
-/// argument is empty. `None` where one can't be read.
+/// The arguments that the text holds, parted by commas: where nothing stands between two, the argument is empty. Without a
+/// function a reference to one cell is its value. `None` where one can't be read.
 pub(crate) fn arguments_of(
     alloc: Global,
     text: &str,
-    function: Function,
+    function: Option<Function>,
 ) -> Result<Option<Vec<Arg>>, AllocError> {
     let mut args = Vec::new(alloc);
     if text.is_empty() {
@@ -25,13 +25,21 @@ pub(crate) fn arguments_of(
             open.push(',')?;
             continue;
         }
-        match argument_of(alloc, &open, function.takes_block(args.len()))? {
+        match argument_of(alloc, &open, takes_block(function, args.len()))? {
             Some(argument) => args.push(argument)?,
             None => return Ok(None),
         }
         open.clear();
     }
     Ok(if open.is_empty() { Some(args) } else { None })
+}
+
+// Whether the argument at this place, from 0, is a list or a block.
+fn takes_block(function: Option<Function>, at: usize) -> bool {
+    match function {
+        Some(function) => function.takes_block(at),
+        None => false,
+    }
 }
 
 // Whether each text and each block of it is closed.

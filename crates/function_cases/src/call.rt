@@ -34,6 +34,16 @@ impl Function {
         Some(Function::Date(DateFn::named(word)?))
     }
 
+    /// The function's word.
+    pub(crate) fn word(self) -> &'static str {
+        match self {
+            Function::Math(function) => function.word(),
+            Function::Look(function) => function.word(),
+            Function::Text(function) => function.word(),
+            Function::Date(function) => function.word(),
+        }
+    }
+
     /// Whether the argument at this place, from 0, is a list or a block.
     pub(crate) fn takes_block(self, at: usize) -> bool {
         match self {
@@ -63,7 +73,7 @@ pub(crate) fn value_of(alloc: Global, call: &str) -> Result<Option<Scalar>, Allo
     let Some(function) = Function::named(word) else {
         return Ok(None);
     };
-    match arguments_of(alloc, arguments, function)? {
+    match arguments_of(alloc, arguments, Some(function))? {
         Some(args) => Ok(Some(function.value(alloc, &args)?)),
         None => Ok(None),
     }

@@ -1,64 +1,140 @@
-//! Runs cases of functions that are data. The program takes the names of files, and in each every line that
-//! is a row of a table whose first cell is a call between backticks is a case: the second cell is what a
-//! person sees of its value, or between backticks the value itself, a text between double quotes. It prints
-//! each case that differs or can't be read, and how many cases a file has.
+//! Runs cases of calls and formulas that are data. The program takes the names of files, and in each every row of a table
+//! whose first cell stands between backticks says something: behind the word `calls` a call, behind the word `formulas` a
+//! whole formula, each with what a person sees of its value in the second cell, or between backticks with the value itself,
+//! a text between double quotes. It prints each case that differs or can't be read, and how many cases a file has.
 //!
 //! ```text
 //! | `=SUM(A1:C1,2)` | 17 |
 //! | `=LEFT(123)` | `"1"` |
 //! | `=BANDS({0,1.5;2,5.4},1)` | 1.5 |
+//! | `=round_to(2.5,"0")` | 3 |
 //! ```
 //!
-//! An argument is a number, a text between double quotes, TRUE, FALSE, a fault, a reference, a block of the
+//! An argument of a call is a number, a text between double quotes, TRUE, FALSE, a fault, a reference, a block of the
 //! sheet that `sheet` holds, or a block whose values are written out: `{1,2;3,4}` has two rows of two cells.
-//! BANDS and TIERS are rules of custom functions over such a block of pairs, and the number comes after it.
+//! BANDS and TIERS are rules of custom functions over such a block of pairs, and the number comes after it. A word in
+//! small letters is a call of numbers, addresses or values, as the crates beneath the functions have it.
 //! Before that it compares the words that no custom function may have with the functions that there are.
+//!
+//! Formulas are those of cell E5 on Sheet1, over the cells and names that rows give from there on, and the day is
+//! 29 February 2024:
+//!
+//! ```text
+//! | `B2` | 2.5 |
+//! | `PRICES` | =$B$2:$B$3 |
+//! | `=SUM(PRICES)` | 2.5 |
+//! ```
+//!
 //! The status is 0 where every file could be read, each has cases and none differs, 1 where not, and 2 where there is
 //! no memory or no output.
 #![tactic(auto)]
 
+ghost use Rattle.std.specs.Prelude.{◌≡◌, ◌<◌};
+ghost use Rattle.custom_fn.specs.Rule.{rule_value};
+ghost use Rattle.tariffs.specs.Tariffs as tariff;
+
+mod address;
 mod argument;
 mod block;
 mod call;
+mod formula;
+mod layer;
+mod number;
+mod page;
 mod rule;
 mod sheet;
+mod value;
 mod words;
 
 use argument::literal;
 use call::value_of;
 use case_files::{Tally, cells_of};
 use cell_value::Scalar;
+use custom_fn::Registry;
+use formula::FormulaPage;
+use layer::answer_of;
 use rule::value_by_rule;
 use std::alloc::{AllocError, Global};
+use std::marker::Brand;
 use std::process::ExitCode;
+use std::sync::ledger::{Blank, Ledger};
 use std::{env, fs, io};
+use steps::Steps;
+use tariffs::{customs, levy, postage};
 use words::run_words;
 
+// What the rows of a file are.
+#[derive(Clone, Copy, PartialEq, Eq)]
+enum Kind {
+    Calls,
+    Formulas,
+}
+
 fn main(rt: HostRuntime) -> ExitCode {
-    match run_files(&rt) {
+    match run_files::<Brand>(&rt, Blank::new(1)) {
         Ok(tally) if tally.is_clean() => ExitCode::SUCCESS,
         Ok(_) => ExitCode::from(1),
         Err(_) => ExitCode::from(2),
     }
 }
 
-// Runs the cases of the files that the words after the program's name name.
-fn run_files(rt: &HostRuntime) -> io::Result<Tally> {
+// Runs the cases of the files that the words after the program's name name, with the custom functions
+// POSTAGE and LEVY.
+fn run_files<L: Ledger>(rt: &HostRuntime, blank: Blank) -> io::Result<Tally>
+    requires name { blank.name ≡ L.name }
+    requires parts { blank.parts ≡ L.parts }
+    requires some { 0 < blank.parts }
+{
+    let alloc = rt.alloc();
+    let mut steps = Steps::<L>::new(blank);
+    let by_weight = Box::new(
+        alloc,
+        |x: &Scalar| -> Scalar
+            ensures { result ≡ rule_value tariff.postage x.now }
+        { postage(x) },
+    )?;
+    let on_amount = Box::new(
+        alloc,
+        |x: &Scalar| -> Scalar
+            ensures { result ≡ rule_value tariff.levy x.now }
+        { levy(x) },
+    )?;
+    let registry = customs(alloc, by_weight, on_amount)?;
+    run_all(rt, &registry, &mut steps)
+}
+
+// Compares the words of functions, and runs the cases of the files.
+fn run_all<L: Ledger>(
+    rt: &HostRuntime,
+    registry: &Registry,
+    steps: &mut Steps<L>,
+) -> io::Result<Tally> {
     let mut whole = run_words(rt)?;
     println!(rt; "words of functions: {whole}")?;
-    let mut names = env::args(rt)?;
-    let _program = names.next();
-    'files: for name in names {
-        whole = whole.with(run_file(rt, &name)?);
+    let mut kind = Kind::Calls;
+    let mut words = env::args(rt)?;
+    let _program = words.next();
+    'words: for word in words {
+        match word.as_str() {
+            "calls" => kind = Kind::Calls,
+            "formulas" => kind = Kind::Formulas,
+            name => whole = whole.with(run_file(rt, kind, name, registry, steps)?),
+        }
     }
     Ok(whole)
 }
 
 // Runs the cases of a file, and prints how many they are.
-fn run_file(rt: &HostRuntime, name: &str) -> io::Result<Tally> {
+fn run_file<L: Ledger>(
+    rt: &HostRuntime,
+    kind: Kind,
+    name: &str,
+    registry: &Registry,
+    steps: &mut Steps<L>,
+) -> io::Result<Tally> {
     match fs::read_to_string(rt, name) {
         Ok(text) => {
-            let tally = run_text(rt, &text)?;
+            let tally = run_text(rt, kind, &text, registry, steps)?;
             println!(rt; "{name}: {tally}")?;
             Ok(tally)
         }
@@ -70,36 +146,86 @@ fn run_file(rt: &HostRuntime, name: &str) -> io::Result<Tally> {
 }
 
 // Runs the cases of a text, and prints those that differ or can't be read.
-fn run_text(rt: &HostRuntime, text: &str) -> io::Result<Tally> {
+fn run_text<L: Ledger>(
+    rt: &HostRuntime,
+    kind: Kind,
+    text: &str,
+    registry: &Registry,
+    steps: &mut Steps<L>,
+) -> io::Result<Tally> {
+    let mut page = FormulaPage::new(rt.alloc())?;
     let mut tally = Tally::default();
     'lines: for line in text.lines() {
-        if is_case(line) {
-            tally.count(line_holds(rt, line)?);
+        if is_row(kind, line) {
+            run_row(rt, kind, &mut page, line, registry, steps, &mut tally)?;
         }
     }
     Ok(tally)
 }
 
-// Whether the line is meant as a case: a row of a table whose first cell begins as a formula.
-fn is_case(line: &str) -> bool {
-    line.starts_with("| `=")
-}
-
-// Whether the case of the line can be read, and holds.
-fn line_holds(rt: &HostRuntime, line: &str) -> io::Result<bool> {
-    match cells_of(line) {
-        Some((call, wanted)) => holds(rt, call, wanted),
-        None => {
-            println!(rt; "    NO CASE: {line}")?;
-            Ok(false)
-        }
+// Whether the line is meant as a row that says something: its first cell stands between backticks, and among calls it
+// begins as a formula.
+fn is_row(kind: Kind, line: &str) -> bool {
+    match kind {
+        Kind::Calls => line.starts_with("| `="),
+        Kind::Formulas => line.starts_with("| `"),
     }
 }
 
-// Whether the call has the value; where it hasn't, both are printed.
-fn holds(rt: &HostRuntime, call: &str, wanted: &str) -> io::Result<bool> {
-    let Some(value) = case_value(rt.alloc(), call)? else {
-        println!(rt; "    NO CALL: {call}")?;
+// Counts the case of a row. A row that gives the page a cell or a name is a case only where that can't be done.
+fn run_row<L: Ledger>(
+    rt: &HostRuntime,
+    kind: Kind,
+    page: &mut FormulaPage,
+    line: &str,
+    registry: &Registry,
+    steps: &mut Steps<L>,
+    tally: &mut Tally,
+) -> io::Result<()> {
+    let Some((head, second)) = cells_of(line) else {
+        tally.count(false);
+        return println!(rt; "    NO CASE: {line}");
+    };
+    if head.starts_with('=') {
+        let value = case_value(rt.alloc(), kind, page, head, registry, steps)?;
+        tally.count(holds(rt, head, value, second)?);
+    } else if !page.give(head, second, registry, steps)? {
+        tally.count(false);
+        println!(rt; "    NOT GIVEN: {head}")?;
+    }
+    Ok(())
+}
+
+// The value of a case; `None` where it can't be read.
+fn case_value<L: Ledger>(
+    alloc: Global,
+    kind: Kind,
+    page: &mut FormulaPage,
+    head: &str,
+    registry: &Registry,
+    steps: &mut Steps<L>,
+) -> Result<Option<Scalar>, AllocError> {
+    match kind {
+        Kind::Calls => call_value(alloc, head),
+        Kind::Formulas => page.value(head, registry, steps),
+    }
+}
+
+// The value of a call of a function, of a rule or of what lies beneath; `None` where it is neither.
+fn call_value(alloc: Global, call: &str) -> Result<Option<Scalar>, AllocError> {
+    if let Some(value) = value_of(alloc, call)? {
+        return Ok(Some(value));
+    }
+    match value_by_rule(alloc, call)? {
+        Some(value) => Ok(Some(value)),
+        None => answer_of(alloc, call),
+    }
+}
+
+// Whether the case has the value; where it hasn't, both are printed.
+fn holds(rt: &HostRuntime, head: &str, value: Option<Scalar>, wanted: &str) -> io::Result<bool> {
+    let Some(value) = value else {
+        println!(rt; "    NO CALL: {head}")?;
         return Ok(false);
     };
     if is_wanted(rt.alloc(), &value, wanted)? {
@@ -107,18 +233,10 @@ fn holds(rt: &HostRuntime, call: &str, wanted: &str) -> io::Result<bool> {
     }
     let shown = value.shown(rt.alloc())?;
     println!(rt;
-        "    DIFFERS: {call} is {}, wanted {wanted}",
+        "    DIFFERS: {head} is {}, wanted {wanted}",
         shown.as_str()
     )?;
     Ok(false)
-}
-
-// The value of a call of a function or of a rule; `None` where it is neither.
-fn case_value(alloc: Global, call: &str) -> Result<Option<Scalar>, AllocError> {
-    match value_of(alloc, call)? {
-        Some(value) => Ok(Some(value)),
-        None => value_by_rule(alloc, call),
-    }
 }
 
 // Whether the value is the wanted one: with its kind where that stands between backticks, and else as a

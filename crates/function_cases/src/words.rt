@@ -33,9 +33,12 @@ const OF_FORMULAS: [&str; 21] = [
     "COLUMNS",
 ];
 
-// Whether the word is that of one function here, or of one of formulas, and not of both.
+// Whether the word is that of one function here, which has it, or of one of formulas, and not of both.
 fn is_known(word: &str) -> bool {
-    OF_FORMULAS.contains(&word) != Function::named(word).is_some()
+    match Function::named(word) {
+        Some(function) => function.word() == word && !OF_FORMULAS.contains(&word),
+        None => OF_FORMULAS.contains(&word),
+    }
 }
 
 /// Counts each word that names no function, or two, and each function whose word isn't listed, and prints it.

@@ -1,11 +1,24 @@
-//! Tests of what a sheet stands on: operations on lines, their list, stable lines, the grid, names, the clipboard and
-//! kept steps.
+//! Tests of what a sheet stands on and of what stands around the program: operations on lines, their list, stable lines, the
+//! grid, names, the clipboard, kept steps, needs and their orders, the values of a book, lists, contents, commands and
+//! their records, files, books, streams and generated lists.
 //!
 //! They stand here since a crate with tests of its own is proved twice.
 #![tactic(auto)]
 
 #[cfg(test)]
+mod books;
+#[cfg(test)]
+mod calculation;
+#[cfg(test)]
 mod clipboard;
+#[cfg(test)]
+mod commands;
+#[cfg(test)]
+mod contents;
+#[cfg(test)]
+mod folders;
+#[cfg(test)]
+mod generated;
 #[cfg(test)]
 mod grids;
 #[cfg(test)]
@@ -13,8 +26,26 @@ mod kept_steps;
 #[cfg(test)]
 mod line_tables;
 #[cfg(test)]
+mod lists;
+#[cfg(test)]
 mod names;
+#[cfg(test)]
+mod needs;
+#[cfg(test)]
+mod networks;
+#[cfg(test)]
+mod orders;
+#[cfg(test)]
+mod reaches;
+#[cfg(test)]
+mod records;
 #[cfg(test)]
 mod shift_lists;
 #[cfg(test)]
 mod shifts;
+#[cfg(test)]
+mod slots;
+#[cfg(test)]
+mod streams;
+#[cfg(test)]
+mod undo_limit;

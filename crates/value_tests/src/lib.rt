@@ -1,5 +1,5 @@
-//! Tests of numbers, addresses, values and runs of digits: the worked rows of their rules, and each call that
-//! allocates once.
+//! Tests of numbers, addresses, values, runs of digits, custom functions and formulas: what the data of `function_cases`
+//! and `formula_cases` can't say, and each call that allocates once.
 //!
 //! They stand here since a crate with tests of its own is proved twice.
 #![tactic(auto)]
@@ -9,6 +9,18 @@ mod addresses;
 #[cfg(test)]
 mod digit_runs;
 #[cfg(test)]
+mod function_words;
+#[cfg(test)]
 mod numbers;
+#[cfg(test)]
+mod printing;
+#[cfg(test)]
+mod reading;
+#[cfg(test)]
+mod registry;
+#[cfg(test)]
+mod rewriting;
+#[cfg(test)]
+mod trees;
 #[cfg(test)]
 mod values;

@@ -1,0 +1,39 @@
+// What records say.
+use book_model::Command;
+use csv::ByteRecord;
+use script_lang::{ScriptError, command};
+use std::alloc::{AllocError, Global};
+
+// What the record of these fields says.
+fn said(alloc: Global, fields: &[&[u8]]) -> Result<Command, ScriptError> {
+    let record = ByteRecord::from_fields(alloc, fields)?;
+    command(alloc, &record)
+}
+
+// Fields that say no command, and why.
+type Cause = (&'static [&'static [u8]], ScriptError);
+
+const CAUSES: &[Cause] = &[
+    (&[], ScriptError::UnknownCommand),
+    (&[b"frob"], ScriptError::UnknownCommand),
+    (&[b"set", b"??"], ScriptError::FieldCount),
+    (&[b"set", b"??", b"1"], ScriptError::BadField(1)),
+];
+
+// Whether the fields say no command for this cause.
+fn is_cause(alloc: Global, fields: &[&[u8]], cause: &ScriptError) -> Result<bool, AllocError> {
+    match said(alloc, fields) {
+        Ok(_) => Ok(false),
+        Err(ScriptError::NoMemory) => Err(AllocError),
+        Err(found) => Ok(found == *cause),
+    }
+}
+
+#[test]
+fn records_say_commands(rt: HostRuntime) -> Result<(), AllocError> {
+    assert!(rt; matches!(said(rt.alloc(), &[b"undo"]), Ok(Command::Undo)));
+    for (fields, cause) in CAUSES {
+        assert!(rt; is_cause(rt.alloc(), fields, cause)?, "not: {cause}");
+    }
+    Ok(())
+}
