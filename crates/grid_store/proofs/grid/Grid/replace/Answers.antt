@@ -2,11 +2,10 @@
 use Rattle.std.proofs.Common.{◌∙◌, sym, ap, subst}
 use Rattle.std.specs.List.{AllByRecursion}
 use Rattle.cell_addr.specs.Place.{IsInside}
-use Rattle.grid_store.specs.Grid.{cells_of, items_of}
+use Rattle.grid_store.specs.Grid.{cells_of, items_of, with_entries}
 use Rattle.grid_store.specs.internal.Exchange.{AreFilled, HasAll, HasSame}
-use Rattle.grid_store.specs.internal.Lists.{with_entries}
 use Rattle.grid_store.proofs.Exchanges.{exchanged, inside-places, targets-filled}
-use Rattle.grid_store.proofs.grid.Grid.exchange.Goals as goal
+use Rattle.grid_store.proofs.grid.Grid.replace.Goals as goal
 
 pub hold-requires : goal.hold-requires
 hold-requires c = subst (AllByRecursion IsInside) (sym (c.deref-2.ensures.value ∙ c.in_ok-targets.ensures)) (inside-places (items_of c.args.placed) c.requires)
