@@ -4,7 +4,7 @@ use Rattle.std.proofs.lemmas.List.{length-map, length-reverse}
 use Rattle.kept_book.specs.Change.{Change}
 use Rattle.kept_book.specs.Frame.{Frame}
 use Rattle.kept_book.specs.Walk.{back_all, forth_all}
-use Rattle.kept_steps.specs.Session.{changes_in, steps_of}
+use Rattle.kept_steps.specs.Fits.{changes_in, steps_of}
 use Rattle.kept_steps.specs.Steps.{books_ahead, books_past}
 use Rattle.kept_steps.specs.Timeline.{Timeline}
 use Rattle.kept_steps.specs.declared.entry.Entry.{Entry}

@@ -1,26 +1,29 @@
 -- The names of a table, read one after the other with their words and trees. Serves the values of a workbook and its links.
-use Rattle.std.proofs.Common.{◌≡◌, ◌∙◌, sym, ap, subst, refl, arith, ℕ, zero, suc, ◌<◌, ◌&&◌, ◌||◌, Bool, true, false, true≢false, cond, List, [], ◌∷◌, length, get_or, map, Option, Some, None, option_map}
+use Rattle.std.proofs.Common.{◌≡◌, ◌∙◌, sym, ap, subst, refl, arith, ℕ, zero, suc, ◌<◌, ◌&&◌, ◌||◌, Bool, true, false, true≢false, cond, List, [], ◌∷◌, length, get_or, map, Option, Some, None, is_some, option_map}
+use Rattle.std.proofs.lemmas.Slice.Eq.{bytes_eq-Decides}
 use Rattle.std.proofs.lemmas.Option.{none-some, same_Some}
 use Rattle.std.specs.FinMap as fin
 use Rattle.std.specs.FinMap.{find, entries_sorted, get-entries, is_sorted}
 use Rattle.std.specs.FinMap.Entries.{below_all}
 use Rattle.std.specs.List.{cons_option, filter_map, list_any}
-use Rattle.std.specs.Ordering.{eq_by_cmp, is_eq, is_lt}
-use Rattle.std.specs.Prelude.{T, slice_get}
+use Rattle.std.specs.Ordering.{eq_by_cmp, is_eq, is_lt, ordering_reverse}
+use Rattle.std.specs.Prelude.{T, option_and_then, slice_get}
 use Rattle.std.specs.declared.cmp.Ordering.{Ordering}
 use Rattle.std.specs.declared.cmp.Ordering.TheVariants.{Less, Equal, Greater}
 use Rattle.formula_tree.specs.Term.{Term}
 use Rattle.formula_tree.specs.declared.reference.Corner.{Corner}
+use Rattle.cell_addr.specs.Text.{folded}
 use Rattle.name_table.proofs.KeyOrder as order
+use Rattle.name_table.proofs.WordNumbers.{folded-folded, number-folded, number-spelled, spelled-number}
 use Rattle.name_table.specs.Scopes as table
-use Rattle.name_table.specs.Words.{AreWords}
+use Rattle.name_table.specs.Words.{AreWords, number_in}
 use Rattle.name_table.specs.declared.key.NameKey.{NameKey}
 use Rattle.shift_line.specs.Track.{with_spare}
 use Rattle.book_values.proofs.Keys.{same_key-equal}
-use Rattle.book_values.specs.Names.{Key, same_key}
+use Rattle.book_values.specs.Names.{Key, key_of, same_key}
 use Rattle.book_model.specs.Names.{NameMap}
-use Rattle.kept_book.proofs.NamesSeen.{number_of, same_id_key, spelled-has}
-use Rattle.kept_book.specs.Frame.{Words, name_seen}
+use Rattle.kept_book.proofs.NamesSeen.{get-seen, number_of, same_id_key, spelled-has}
+use Rattle.kept_book.specs.Frame.{Words, name_seen, names_seen}
 use Rattle.kept_book.specs.Kept.{SameBook}
 use Rattle.kept_book.specs.declared.book.Book.{Book}
 use Rattle.book_engine.specs.internal.Slots.{AreApart, Slot, names_under, seen_slot}
@@ -44,6 +47,10 @@ as_slot e = (e.0, Some e.1)
 pub slots-under : (es : List (Key × Term Corner)) → names_under (map as_slot es) ≡ fin.from_entries es
 slots-under [] = refl
 slots-under (e ∷ es) = ap (λ m. fin.insert m e.0 e.1) (slots-under es)
+
+-- a known word is in small letters
+pub small-word : (words : Words) (w : List ℕ) (n : ℕ) → AreWords words → slice_get words n ≡ Some w → folded w ≡ w
+small-word words w n h e = same_Some (folded w) w (sym (number-spelled words w n h (spelled-number words w n h e)) ∙ e)
 
 -- ---- entries in order
 
@@ -110,7 +117,7 @@ found-later k [] i d h l = absurd (omega (arith, l))
 found-later k (e ∷ es) zero d h l = go (table.key_cmp k e.0) refl (first-of (is_lt (table.key_cmp k e.0)) (below_all table.key_cmp k es) h)
   where
     go : (o : Ordering) → table.key_cmp k e.0 ≡ o → T (is_lt o) → eq_by_cmp table.key_cmp e.0 k ≡ false
-    go Less is p = ap is_eq (order.key_cmp-IsTotalOrder.antisymm e.0 k ∙ ap Rattle.std.specs.Ordering.ordering_reverse is)
+    go Less is p = ap is_eq (order.key_cmp-IsTotalOrder.antisymm e.0 k ∙ ap ordering_reverse is)
     go Equal is p = absurd p
     go Greater is p = absurd p
 found-later k (e ∷ es) (suc i) d h l = found-later k es i d (second-of (is_lt (table.key_cmp k e.0)) (below_all table.key_cmp k es) h) (omega (arith, l))
@@ -125,3 +132,16 @@ find-index (e ∷ es) (suc i) d sorted l =
 pub get-index : (names : table.NameMap) (i : ℕ) (e : NameKey × ℕ) → i < length (fin.entries names) → e ≡ get_or (fin.entries names) i e → fin.get names e.0 ≡ Some e.1
 get-index names i e l is =
     get-entries names e.0 ∙ ap (λ x. find table.key_cmp x.0 (fin.entries names)) is ∙ find-index (fin.entries names) i e (entries_sorted names) l ∙ ap (λ x. Some x.1) (sym is)
+
+-- what the word of a text finds: its number in the list, and what the table has under that
+number-read : (words : Words) (text : List ℕ) → number_of words (folded text) ≡ number_in words text
+number-read words text = ap (λ b. cond b (number_in words (folded text)) None) ((bytes_eq-Decides (folded (folded text)) (folded text)).1 (folded-folded text)) ∙ number-folded words text
+
+pub get-read : (words : Words) (proper : AreWords words) (trees : ℕ → Term Corner) (names : table.NameMap) (scope : Option ℕ) (text : List ℕ)
+    → fin.get (names_seen words trees names) (key_of scope text) ≡ option_map trees (option_and_then (λ n. fin.get names (table.key_of scope n)) (number_in words text))
+get-read words proper trees names scope text =
+    get-seen words proper trees names (key_of scope text) ∙ ap (λ r. option_map trees (option_and_then (λ n. fin.get names (table.key_of scope n)) r)) (number-read words text)
+
+pub is_some-read : {X Y : Type 0} (f : X → Y) (o : Option X) → is_some (option_map f o) ≡ is_some o
+is_some-read f None = refl
+is_some-read f (Some x) = refl

@@ -1,8 +1,8 @@
 -- How many cells are filled after copied cells were pasted. Serves the limit on filled cells at a paste.
-use Rattle.std.proofs.Common.{◌≡◌, ◌∙◌, sym, ap, subst, refl, arith, ℕ, ◌+◌, ◌-◌, Bool, true, false, true≢false, ◌||◌, cond, not, List, [], ◌∷◌, length, filter, map, Option, Some, None, is_some}
+use Rattle.std.proofs.Common.{◌≡◌, ◌∙◌, sym, ap, subst, refl, arith, ℕ, ◌+◌, ◌-◌, Bool, true, false, true≢false, ◌||◌, cond, not, List, [], ◌∷◌, length, filter, map, Option, Some, None, is_some, option_map}
 use Rattle.std.specs.Cmp.{eq_by_cmp_equiv}
 use Rattle.std.specs.FinMap as fin
-use Rattle.std.specs.FinMap.{get-insert, len-entries, len-insert}
+use Rattle.std.specs.FinMap.{get-insert, len-entries, len-insert, same_map}
 use Rattle.std.specs.List.{cons_option, filter_map, list_any}
 use Rattle.std.specs.Ordering.{eq_by_cmp}
 use Rattle.cell_addr.specs.Order.{place_cmp}
@@ -20,10 +20,11 @@ use Rattle.shift_core.proofs.CarriedEntries.{eq_by_cmp-decides}
 use Rattle.shift_core.proofs.CellMoves.{Covers-from_covers, carried_covered, covers-from_Covers}
 use Rattle.book_model.specs.Changes.{pasted_content, with_copy}
 use Rattle.book_model.specs.Workbook.{Workbook}
+use Rattle.kept_book.proofs.Contents.{get-contents}
 use Rattle.kept_book.proofs.PastedBooks.{item_pasted, pasted_whole}
 use Rattle.kept_book.specs.Copied.{content_copied, contents_copied}
 use Rattle.kept_book.specs.Numbered.{Numbered}
-use Rattle.kept_book.specs.Stored.{contents_of}
+use Rattle.kept_book.specs.Stored.{content_of, contents_of}
 use Rattle.kept_book.specs.internal.Cells.{with_given}
 use Rattle.book_engine.specs.internal.Pasting.{count_apart, is_among, place_pasted}
 use Rattle.book_engine.proofs.FilledCells.{len-contents}
@@ -126,3 +127,16 @@ pasted-count area items at b inside =
     ∙ count-given es kept (λ q h. ap is_some (get-kept b.cells (λ p. not (covers (destination area at) p)) q ∙ ap (λ c. cond (not c) (fin.get b.cells q) None) (pasted-there area at items q (ap (λ ps. is_among ps q) (sym same) ∙ h))))
     ∙ ap (λ ps. count_apart ps + fin.len kept) same
     ∙ ap (λ n. count_apart (filter_map (place_pasted area at) items) + n) beside
+
+mapped-kept : (f : Cell → Content) (b : Bool) (r : Option Cell) → option_map f (cond b r None) ≡ cond b (option_map f r) None
+mapped-kept f true r = refl
+mapped-kept f false r = refl
+
+-- as many contents as cells pass a test of their places
+pub len-kept : (stands : Numbered) (cells : PlaceMap Cell) (p : Place → Bool) → fin.len (fin.retain_keys (contents_of stands cells) p) ≡ fin.len (fin.retain_keys cells p)
+len-kept stands cells p = ap fin.len (sym same) ∙ len-contents stands (fin.retain_keys cells p)
+  where
+    same : contents_of stands (fin.retain_keys cells p) ≡ fin.retain_keys (contents_of stands cells) p
+    same = same_map place_cmp-IsTotalOrder place_cmp-IsAntisymmetric _ _ (λ q.
+        get-contents stands (fin.retain_keys cells p) q ∙ ap (option_map (content_of stands)) (get-kept cells p q) ∙ mapped-kept (content_of stands) (p q) (fin.get cells q)
+        ∙ sym (get-kept (contents_of stands cells) p q ∙ ap (λ r. cond (p q) r None) (get-contents stands cells q)))

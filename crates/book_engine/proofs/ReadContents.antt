@@ -6,11 +6,17 @@ use Rattle.cell_addr.specs.declared.place.Place.{Place}
 use Rattle.formula_tree.specs.Proper.{IsProper}
 use Rattle.formula_tree.specs.Term.{Term}
 use Rattle.formula_tree.specs.declared.reference.Corner.{Corner}
+use Rattle.grid_store.specs.declared.cell.Cell.{Cell}
+use Rattle.grid_store.specs.declared.cell.Cell.TheVariants as cell
+use Rattle.shift_core.specs.Maps.{PlaceMap}
 use Rattle.book_cells.specs.Workbook.{Content, number, truth, text, formula, unreadable}
 use Rattle.book_values.specs.Workbook.{content_tree}
 use Rattle.book_model.specs.Content.{content_shown, formula_shown, tree_shown}
 use Rattle.book_model.specs.Sound.{IsSound}
 use Rattle.book_model.specs.Workbook.{State}
+use Rattle.kept_book.proofs.Contents.{get-contents}
+use Rattle.kept_book.specs.Numbered.{Numbered}
+use Rattle.kept_book.specs.Stored.{content_of, contents_of, tree_of}
 
 -- a content that has a tree is the formula of it
 pub is-formula : (o : Option Content) (t : Term Corner) → Some t ≡ content_tree o → o ≡ Some (formula t)
@@ -31,3 +37,7 @@ read-content sheets sheet o t e = ap (content_shown sheets sheet) (sym (is-formu
 -- and the tree is proper in a sound session
 pub read-proper : (d : State) (at : Place) (t : Term Corner) → IsSound d → Some t ≡ content_tree (fin.get d.book.cells at) → IsProper t
 read-proper d at t sound e = (sound.book.cells at (formula t) (is-formula (fin.get d.book.cells at) t e)).2.0
+
+-- where a content has no tree the cell holds no formula
+pub no-formula : (stands : Numbered) (cells : PlaceMap Cell) (at : Place) (n : ℕ) → content_tree (fin.get (contents_of stands cells) at) ≡ None → fin.get cells at ≡ Some (cell.Formula n) → ⊥
+no-formula stands cells at n none is = none-some (tree_of (stands n)) (sym none ∙ ap content_tree (get-contents stands cells at ∙ ap (option_map (content_of stands)) is))

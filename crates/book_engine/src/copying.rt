@@ -1,8 +1,8 @@
 // Cells that are copied, and pasted as a step.
-ghost use Rattle.std.specs.Prelude.{◌≡◌, ◌+◌, ◌∷◌, [], IfOk, not};
+ghost use Rattle.std.specs.Prelude.{◌≡◌, ◌∷◌, [], IfOk, List, OnOk, not};
 ghost use Rattle.std.specs.BTreeSet.{btree_set_len, contains};
 ghost use Rattle.std.specs.FinMap as map;
-ghost use Rattle.std.specs.List.{All, filter_map};
+ghost use Rattle.std.specs.List.{All, cons_option, filter_map};
 ghost use Rattle.cell_addr.specs.Order.{place_cmp};
 ghost use Rattle.cell_addr.specs.declared.place.Place.{Place as PlaceSeen};
 ghost use Rattle.cell_addr.specs.Place.{IsBlockInside, IsInside};
@@ -16,7 +16,7 @@ ghost use Rattle.book_model.specs.declared.refusal.Refusal.TheVariants as refusa
 ghost use Rattle.kept_book.specs.Copied.{IsCopied, contents_copied};
 ghost use Rattle.book_engine.specs.Engine.{NoAnswer};
 ghost use Rattle.book_engine.specs.Seen.{Fits, clip_of, state_of, with_clipboard};
-ghost use Rattle.book_engine.specs.internal.Pasting.{count_apart, is_among, place_pasted};
+ghost use Rattle.book_engine.specs.internal.Pasting.{ArePlaces, place_pasted};
 ghost use Rattle.book_engine.specs.internal.Turns.{IsCause, Reads, Turns};
 
 use crate::checks::ends_outside;
@@ -106,17 +106,29 @@ fn places_of(
     at: Place,
 ) -> Result<BTreeSet<Place>, AllocError>
     requires there { IsBlockInside (carrying.destination area at) }
-    ensures places { IfOk result (λ set. (q : PlaceSeen) → contains place_cmp set q ≡ is_among (filter_map (place_pasted area at) cells.now) q) }
-    ensures len { IfOk result (λ set. btree_set_len set ≡ count_apart (filter_map (place_pasted area at) cells.now)) }
+    ensures { IfOk result (λ set. ArePlaces (filter_map (place_pasted area at) cells.now) (contains place_cmp set) (btree_set_len set)) }
 {
     let mut places = BTreeSet::new(alloc);
     for index in (0..cells.len()).rev() {
-        let (from, _) = &cells[index];
-        if area.holds(*from) {
-            places.insert(carried(area, at, *from))?;
-        }
+        add_pasted(&mut places, area, &cells[index], at)?;
     }
     Ok(places)
+}
+
+// Adds the place that a copied cell comes to, if it is one of the block.
+fn add_pasted(
+    places: &mut BTreeSet<Place>,
+    area: Block,
+    cell: &(Place, CopyItem),
+    at: Place,
+) -> Result<(), AllocError>
+    requires there { IsBlockInside (carrying.destination area at) }
+    ensures { OnOk result ((ps : List PlaceSeen) → ArePlaces ps (contains place_cmp places.old) (btree_set_len places.old) → ArePlaces (cons_option (place_pasted area at cell.now) ps) (contains place_cmp places.new) (btree_set_len places.new)) }
+{
+    if area.holds(cell.0) {
+        places.insert(carried(area, at, cell.0))?;
+    }
+    Ok(())
 }
 
 // The place with the same offset from `to` as `p` has from the block's first place.

@@ -22,6 +22,7 @@ use book_model::{MAX_TEXT, Refusal};
 use formula_parse::{ParseError, parse};
 use formula_tree::{Home, Pool, Tree};
 use kept_book::home_in;
+use kept_steps::Session;
 use name_table::Names;
 use std::alloc::Global;
 
@@ -38,9 +39,8 @@ impl Parts {
         ensures fits { Fits self.new }
     {
         self.check_new_name(name, scope)?;
-        let session = &mut self.session;
-        let (alloc, names) = (session.book.alloc, &session.book.names);
-        let tree = read_name(alloc, &mut session.pool, names, scope, text)?;
+        let Session { pool, book, .. } = &mut self.session;
+        let tree = read_name(book.alloc, pool, &book.names, scope, text)?;
         self.session.name(scope, name, Some(tree))?;
         Ok(())
     }
@@ -57,9 +57,8 @@ impl Parts {
         ensures fits { Fits self.new }
     {
         self.check_known_name(name, scope)?;
-        let session = &mut self.session;
-        let (alloc, names) = (session.book.alloc, &session.book.names);
-        let tree = read_name(alloc, &mut session.pool, names, scope, text)?;
+        let Session { pool, book, .. } = &mut self.session;
+        let tree = read_name(book.alloc, pool, &book.names, scope, text)?;
         self.session.name(scope, name, Some(tree))?;
         Ok(())
     }

@@ -1,5 +1,5 @@
 // What cells show and hold.
-ghost use Rattle.std.specs.Prelude.{◌≡◌, ◌++◌, ◌∷◌, [], None, IfOk, MatchOption, OnOk, map, option_map};
+ghost use Rattle.std.specs.Prelude.{◌≡◌, ◌≢◌, ◌++◌, ◌∷◌, [], None, Some, IfOk, MatchOption, OnOk, map, option_copied, option_map};
 ghost use Rattle.std.specs.Option.{unwrap_or};
 ghost use Rattle.grid_store.specs.Grid.{items_of};
 ghost use Rattle.std.specs.FinMap as fin;
@@ -14,6 +14,12 @@ ghost use Rattle.book_calc.specs.Values.{shown as shown_in, workbook_in, world_i
 ghost use Rattle.book_cells.specs.Workbook as contents;
 ghost use Rattle.book_model.specs.Answers.{content_text, first_cell, formula_of, name_value_of, shown, tried_value, value_of, valued, world};
 ghost use Rattle.book_model.specs.Operation as op;
+ghost use Rattle.book_model.specs.Content.{content_shown, formula_shown};
+ghost use Rattle.name_table.specs.Listed.{listed};
+ghost use Rattle.grid_store.specs.declared.cell.Cell.TheVariants as CellSeen;
+ghost use Rattle.kept_book.specs.Frame.{numbered_at};
+ghost use Rattle.kept_book.specs.Kept.{at_of};
+ghost use Rattle.kept_book.specs.Stored.{content_of};
 ghost use Rattle.book_engine.specs.Seen.{Fits, state_of, with_rules};
 ghost use Rattle.book_engine.specs.internal.Names.{with_filled, with_slot};
 ghost use Rattle.book_engine.specs.internal.Slots.{AreApart, names_under, slot_of};
@@ -31,6 +37,7 @@ use cell_value::{FaultKind, Scalar};
 use formula_print::print;
 use formula_tree::Home;
 use grid_store::{Cell, CellList};
+use kept_steps::Session;
 use std::alloc::{AllocError, Global};
 use std::sync::ledger::Ledger;
 use steps::Steps;
@@ -88,9 +95,9 @@ impl Parts {
     {
         self.check_on_sheet(sheet)?;
         let home = Home::Cell(first_cell(sheet));
-        let session = &mut self.session;
-        let (alloc, names) = (session.book.alloc, &session.book.names);
-        let tree = read_tree(alloc, &mut session.pool, names, home, text)?;
+        let alloc = self.session.book.alloc;
+        let Session { pool, book, .. } = &mut self.session;
+        let tree = read_tree(alloc, pool, &book.names, home, text)?;
         let values = self.values(customs, day, steps)?;
         let scalar = values.tried(alloc, &tree, home, customs, steps)?;
         Ok(scalar)
@@ -137,10 +144,18 @@ impl Parts {
         requires { content_tree (fin.get (state_of self.now).book.cells at) ≡ None }
         ensures { IfOk result (λ text. text ≡ formula_of (state_of self.now) at) }
     {
-        let book = &self.session.book;
-        match book.grid.cell(at) {
-            Some(Cell::Broken(text)) => Ok(Some(text.copy(book.alloc)?)),
-            _ => Ok(None),
+        self.unreadable_in(at, self.session.book.grid.cell(at))
+    }
+
+    // The text of an unreadable formula, in a cell at the place that holds no formula with a tree.
+    fn unreadable_in(&self, at: Place, cell: Option<&Cell>) -> Result<Option<Text>, AllocError>
+        requires { (n : _) → option_copied cell ≢ Some (CellSeen.Formula n) }
+        ensures { IfOk result (λ text. text ≡ formula_shown (listed self.now.session.book.names) at.sheet (option_map (content_of (numbered_at (at_of self.now.session.book) self.now.session.book.lazy.line.cursor)) (option_copied cell.entry))) }
+    {
+        match cell {
+            Some(Cell::Broken(text)) => Ok(Some(text.copy(self.session.book.alloc)?)),
+            Some(Cell::Formula(_)) => unreachable!(),
+            Some(Cell::Number(_) | Cell::Truth(_) | Cell::Text(_)) | None => Ok(None),
         }
     }
 
@@ -162,14 +177,22 @@ impl Parts {
         requires { content_tree (fin.get (state_of self.now).book.cells at) ≡ None }
         ensures { IfOk result (λ text. text ≡ content_text (state_of self.now) at) }
     {
-        let book = &self.session.book;
-        match book.grid.cell(at) {
-            None => Text::from_str(book.alloc, ""),
-            Some(Cell::Number(number)) => Ok(Text::new(number.text(book.alloc)?)),
-            Some(Cell::Truth(truth)) => Scalar::Truth(*truth).shown(book.alloc),
-            Some(Cell::Text(text)) => text_given(book.alloc, text.as_str()),
+        self.plain_in(at, self.session.book.grid.cell(at))
+    }
+
+    // The text that gives a cell at the place its content, which is no formula with a tree.
+    fn plain_in(&self, at: Place, cell: Option<&Cell>) -> Result<Text, AllocError>
+        requires { (n : _) → option_copied cell ≢ Some (CellSeen.Formula n) }
+        ensures { IfOk result (λ text. text ≡ content_shown (listed self.now.session.book.names) at.sheet (option_map (content_of (numbered_at (at_of self.now.session.book) self.now.session.book.lazy.line.cursor)) (option_copied cell.entry))) }
+    {
+        let alloc = self.session.book.alloc;
+        match cell {
+            None => Text::from_str(alloc, ""),
+            Some(Cell::Number(number)) => Ok(Text::new(number.text(alloc)?)),
+            Some(Cell::Truth(truth)) => Scalar::Truth(*truth).shown(alloc),
+            Some(Cell::Text(text)) => text_given(alloc, text.as_str()),
             Some(Cell::Formula(_)) => unreachable!(),
-            Some(Cell::Broken(text)) => text.copy(book.alloc),
+            Some(Cell::Broken(text)) => text.copy(alloc),
         }
     }
 
@@ -233,14 +256,22 @@ impl Parts {
         requires { content_tree (fin.get (state_of self.now).book.cells at) ≡ None }
         ensures { IfOk result (λ c. option_map (contents.content_at at) c ≡ fin.get (state_of self.now).book.cells at) }
     {
-        let book = &self.session.book;
-        match book.grid.cell(at) {
+        self.filled_with(at, self.session.book.grid.cell(at))
+    }
+
+    // What a cell at the place holds, if it is filled, which is no formula with a tree.
+    fn filled_with(&self, at: Place, cell: Option<&Cell>) -> Result<Option<Content>, AllocError>
+        requires { (n : _) → option_copied cell ≢ Some (CellSeen.Formula n) }
+        ensures { IfOk result (λ c. option_map (contents.content_at at) c ≡ option_map (content_of (numbered_at (at_of self.now.session.book) self.now.session.book.lazy.line.cursor)) (option_copied cell.entry)) }
+    {
+        let alloc = self.session.book.alloc;
+        match cell {
             None => Ok(None),
             Some(Cell::Number(number)) => Ok(Some(Content::Number(*number))),
             Some(Cell::Truth(truth)) => Ok(Some(Content::Truth(*truth))),
-            Some(Cell::Text(text)) => Ok(Some(Content::Text(text.copy(book.alloc)?))),
+            Some(Cell::Text(text)) => Ok(Some(Content::Text(text.copy(alloc)?))),
             Some(Cell::Formula(_)) => unreachable!(),
-            Some(Cell::Broken(text)) => Ok(Some(Content::Broken(text.copy(book.alloc)?))),
+            Some(Cell::Broken(text)) => Ok(Some(Content::Broken(text.copy(alloc)?))),
         }
     }
 }

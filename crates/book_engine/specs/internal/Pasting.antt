@@ -1,5 +1,5 @@
 -- The places that copied cells come to.
-use Rattle.std.specs.Prelude.{ℕ, ◌+◌, Bool, List, [], ◌∷◌, Option, Some, None, if◌then◌else◌}
+use Rattle.std.specs.Prelude.{◌≡◌, ℕ, ◌+◌, Bool, List, [], ◌∷◌, Option, Some, None, if◌then◌else◌}
 use Rattle.std.specs.List.{list_any}
 use Rattle.std.specs.Ordering.{eq_by_cmp}
 use Rattle.cell_addr.specs.Order.{place_cmp}
@@ -21,3 +21,7 @@ is_among ps q = list_any (eq_by_cmp place_cmp q) ps
 abbrev pub count_apart : List Place → ℕ
 count_apart [] = 0
 count_apart (p ∷ ps) = if is_among ps p then count_apart ps else count_apart ps + 1
+
+-- a set that has these places, and no others
+abbrev pub ArePlaces : List Place → (Place → Bool) → ℕ → Type 0
+ArePlaces ps has count = ((q : Place) → has q ≡ is_among ps q) × (count ≡ count_apart ps)

@@ -9,4 +9,4 @@ use Rattle.book_engine.proofs.links.names_needing.Given as goal
 
 abbrev pub invariant-names : goal.invariant-names
 invariant-names l =
-    (q : ShownName) → (contains shown_cmp l.names q || list_any (is_shown l.at q) (map slot_of (drop l.name-index l.name-items))) ≡ list_any (is_shown l.at q) (map slot_of l.named)
+    (q : ShownName) → (contains shown_cmp l.names q || list_any (is_shown l.at q) (map slot_of (drop l.name-index l.named))) ≡ list_any (is_shown l.at q) (map slot_of l.named)

@@ -1,7 +1,7 @@
 use Rattle.std.proofs.Common.{◌∙◌, sym, ap, length}
 use Rattle.book_model.specs.Workbook.{State}
 use Rattle.kept_book.specs.Kept.{frame_of}
-use Rattle.kept_steps.specs.Session.{start_of}
+use Rattle.kept_steps.specs.Fits.{start_of}
 use Rattle.kept_steps.specs.Timeline.{timeline_of}
 use Rattle.book_engine.specs.Engine.{StandsFor}
 use Rattle.book_engine.proofs.Counted.{steps_ahead, steps_past}

@@ -5,7 +5,9 @@ use Rattle.std.specs.FinMap as fin
 use Rattle.std.specs.List.{list_any}
 use Rattle.std.proofs.lemmas.List.{append-nil}
 use Rattle.cell_addr.specs.Order.{place_cmp}
+use Rattle.cell_addr.specs.declared.place.Place.{Place}
 use Rattle.grid_store.specs.Grid.{cells_of, items_of}
+use Rattle.grid_store.specs.declared.cell.Cell.{Cell}
 use Rattle.kept_book.specs.Frame.{numbered_at}
 use Rattle.kept_book.specs.Kept.{at_of}
 use Rattle.book_engine.specs.Seen.{state_of}
@@ -25,7 +27,7 @@ loop-place-smaller c = shorter (items_of c.next_place.new.cells) (items_of c.loo
 pub loop-place-preserved : goal.loop-place-preserved
 loop-place-preserved c =
     let i = c.loop-place.invariant in
-    let e = (c.in-Some.place, c.in-Some.ensures.0) in
+    let e : Place × Cell = (c.in-Some.place, c.in-Some.ensures.0) in
     let left = items_of c.next_place.new.cells in
     record {
       needing = (

@@ -6,7 +6,7 @@ use Rattle.book_engine.proofs.Turning.{done_sound, next_done, sound_inside}
 use Rattle.book_engine.proofs.parts.Parts.clear.Goals as goal
 
 pub clear-requires : goal.clear-requires
-clear-requires c = sound_inside (state_of c.args.self.now) c.requires
+clear-requires c = record { inside = sound_inside (state_of c.args.self.now) c.requires }
 
 pub returns-in_err-clear-clause-fits : goal.returns-in_err-clear-clause-fits
 returns-in_err-clear-clause-fits c = subst IsSound (sym c.in_err-clear.ensures.err) c.requires

@@ -6,7 +6,7 @@ use Rattle.book_engine.proofs.Turning.{done_sound, next_done, sound_inside}
 use Rattle.book_engine.proofs.parts.Parts.clear_sheet.Goals as goal
 
 pub clear_sheet-requires : goal.clear_sheet-requires
-clear_sheet-requires c = sound_inside (state_of c.args.self.now) c.requires
+clear_sheet-requires c = record { inside = sound_inside (state_of c.args.self.now) c.requires }
 
 pub returns-in_err-clear_sheet-clause-fits : goal.returns-in_err-clear_sheet-clause-fits
 returns-in_err-clear_sheet-clause-fits c = subst IsSound (sym c.in_err-clear_sheet.ensures.err) c.requires

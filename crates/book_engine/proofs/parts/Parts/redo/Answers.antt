@@ -1,6 +1,31 @@
-use Rattle.std.proofs.Common.{◌∙◌, sym}
-use Rattle.book_engine.proofs.Counted.{none_open}
+use Rattle.std.proofs.Common.{◌≡◌, ◌∙◌, ◌==◌, sym, ap, cond, false, length, Some, None, is_some}
+use Rattle.book_model.specs.Operation as op
+use Rattle.book_model.specs.Refusals.{cause}
+use Rattle.book_model.specs.declared.refusal.Refusal.TheVariants.{BatchOpen, NothingToRedo}
+use Rattle.kept_book.specs.Kept.{frame_of}
+use Rattle.kept_steps.specs.Fits.{batch_of, start_of}
+use Rattle.kept_steps.specs.Timeline.{timeline_of}
+use Rattle.book_engine.specs.Seen.{state_of}
+use Rattle.book_engine.proofs.Counted.{none_open, steps_ahead}
+use Rattle.book_engine.proofs.NamedSlots.{is_some-map}
+use Rattle.book_engine.proofs.Turning.{done_sound, next_done}
 use Rattle.book_engine.proofs.parts.Parts.redo.Goals as goal
 
 pub redo-requires : goal.redo-requires
-redo-requires c = none_open c.args.self.now.session.batch (sym c.is_some.ensures ∙ c.if-is_some.false)
+redo-requires c = record { closed = none_open c.args.self.now.session.batch (sym c.is_some.ensures ∙ c.if-is_some.false) }
+
+accepted : (c : goal.After-redo) → cause op.redo (state_of c.args.self.now) ≡ None
+accepted c =
+    let s = c.args.self.now.session in
+    let t = timeline_of s.book in
+    let f = frame_of s.book in
+    let d = state_of c.args.self.now in
+    let open : is_some d.batch ≡ false = sym (is_some-map (batch_of t f) s.batch) ∙ sym c.is_some.ensures ∙ c.if-is_some.false in
+    let some : (length d.redo == 0) ≡ false = ap (λ k. k == 0) (steps_ahead t f s.steps.undone ∙ sym (ap length c.undone.ensures.result)) ∙ sym c.is_empty.ensures ∙ c.if-is_empty.false in
+    ap (λ x. cond x (Some BatchOpen) (cond (length d.redo == 0) (Some NothingToRedo) None)) open ∙ ap (λ x. cond x (Some NothingToRedo) None) some
+
+pub returns-clause-turns : goal.returns-clause-turns
+returns-clause-turns c = (accepted c, tt, c.in_ok-redo.ensures.ok ∙ sym (next_done op.redo (state_of c.args.self.now) (accepted c)))
+
+pub returns-clause-fits : goal.returns-clause-fits
+returns-clause-fits c = done_sound op.redo (state_of c.args.self.now) _ (accepted c) c.in_ok-redo.ensures.ok c.requires

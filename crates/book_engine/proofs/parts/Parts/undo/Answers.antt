@@ -1,6 +1,31 @@
-use Rattle.std.proofs.Common.{◌∙◌, sym}
-use Rattle.book_engine.proofs.Counted.{none_open}
+use Rattle.std.proofs.Common.{◌≡◌, ◌∙◌, ◌==◌, sym, ap, cond, false, length, Some, None, is_some}
+use Rattle.book_model.specs.Operation as op
+use Rattle.book_model.specs.Refusals.{cause}
+use Rattle.book_model.specs.declared.refusal.Refusal.TheVariants.{BatchOpen, NothingToUndo}
+use Rattle.kept_book.specs.Kept.{frame_of}
+use Rattle.kept_steps.specs.Fits.{batch_of, start_of}
+use Rattle.kept_steps.specs.Timeline.{timeline_of}
+use Rattle.book_engine.specs.Seen.{state_of}
+use Rattle.book_engine.proofs.Counted.{none_open, steps_past}
+use Rattle.book_engine.proofs.NamedSlots.{is_some-map}
+use Rattle.book_engine.proofs.Turning.{done_sound, next_done}
 use Rattle.book_engine.proofs.parts.Parts.undo.Goals as goal
 
 pub undo-requires : goal.undo-requires
-undo-requires c = none_open c.args.self.now.session.batch (sym c.is_some.ensures ∙ c.if-is_some.false)
+undo-requires c = record { closed = none_open c.args.self.now.session.batch (sym c.is_some.ensures ∙ c.if-is_some.false) }
+
+accepted : (c : goal.After-undo) → cause op.undo (state_of c.args.self.now) ≡ None
+accepted c =
+    let s = c.args.self.now.session in
+    let t = timeline_of s.book in
+    let f = frame_of s.book in
+    let d = state_of c.args.self.now in
+    let open : is_some d.batch ≡ false = sym (is_some-map (batch_of t f) s.batch) ∙ sym c.is_some.ensures ∙ c.if-is_some.false in
+    let some : (length d.undo == 0) ≡ false = ap (λ k. k == 0) (steps_past t (start_of t s.batch f) s.steps.done ∙ sym (ap length c.done.ensures.result) ∙ sym c.done.result.now.ok.0) ∙ sym c.is_empty.ensures ∙ c.if-is_empty.false in
+    ap (λ x. cond x (Some BatchOpen) (cond (length d.undo == 0) (Some NothingToUndo) None)) open ∙ ap (λ x. cond x (Some NothingToUndo) None) some
+
+pub returns-clause-turns : goal.returns-clause-turns
+returns-clause-turns c = (accepted c, tt, c.in_ok-undo.ensures.ok ∙ sym (next_done op.undo (state_of c.args.self.now) (accepted c)))
+
+pub returns-clause-fits : goal.returns-clause-fits
+returns-clause-fits c = done_sound op.undo (state_of c.args.self.now) _ (accepted c) c.in_ok-undo.ensures.ok c.requires
