@@ -18,9 +18,9 @@ use Rattle.book_model.specs.Content.{content_given, content_of as content_said, 
 use Rattle.book_model.specs.declared.content.ContentText.{ContentText}
 use Rattle.book_model.specs.declared.content.ContentText.TheVariants as said
 use Rattle.book_model.proofs.Counts.{len-part}
-use Rattle.book_engine.specs.Formulas.{Numbered}
-use Rattle.book_engine.specs.Stored.{content_of, contents_of}
-use Rattle.book_engine.proofs.Contents.{get-contents}
+use Rattle.kept_book.specs.Numbered.{Numbered}
+use Rattle.kept_book.specs.Stored.{content_of, contents_of}
+use Rattle.kept_book.proofs.Contents.{get-contents}
 
 none_mapped : {X Y : Type 0} (h : X → Y) (r : Option X) → option_map h r ≡ None → r ≡ None
 none_mapped h None e = refl

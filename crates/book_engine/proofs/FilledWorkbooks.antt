@@ -14,9 +14,9 @@ use Rattle.shift_core.proofs.MovedMaps.{find-behind}
 use Rattle.book_model.proofs.Contents.{is_at}
 use Rattle.std.proofs.lemmas.Bool.{cases_Bool}
 use Rattle.book_engine.specs.internal.Names.{with_filled}
-use Rattle.book_engine.specs.Formulas.{Numbered}
-use Rattle.book_engine.specs.Stored.{content_of, contents_of}
-use Rattle.book_engine.proofs.Contents.{get-contents}
+use Rattle.kept_book.specs.Numbered.{Numbered}
+use Rattle.kept_book.specs.Stored.{content_of, contents_of}
+use Rattle.kept_book.proofs.Contents.{get-contents}
 
 -- the book has the contents at each place that is not in the list, and elsewhere nothing else
 abbrev pub IsFilledBut : List (Place × Cell) → Contents → Contents → Type 0

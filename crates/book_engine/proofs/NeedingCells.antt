@@ -1,149 +1,77 @@
--- The cells whose formulas mention a place, as formulas are gone through by their numbers. Serves the dependents of a cell.
-use Rattle.std.proofs.Common.{◌≡◌, ◌∙◌, sym, ap, subst, refl, arith, ℕ, ◌+◌, ◌<◌, ◌≤◌, ◌==◌, ◌&&◌, ◌||◌, Bool, true, false, cond, nat_lt, List, [], ◌∷◌, ◌++◌, length, map, get_or, Option, Some, None, option_map}
+-- The cells whose formulas mention a place, as filled cells are gone through. Serves the dependents of a cell.
+use Rattle.std.proofs.Common.{◌≡◌, ◌∙◌, sym, ap, refl, ◌&&◌, ◌||◌, Bool, true, false, true≢false, cond, List, [], ◌∷◌, map, Option, Some, None, option_map}
 use Rattle.std.specs.BTreeMap.{is_at}
-use Rattle.std.specs.Cmp.{both_ways}
 use Rattle.std.specs.FinMap as fin
-use Rattle.std.specs.FinMap.{get}
+use Rattle.std.specs.Cmp.{eq_by_cmp_equiv}
+use Rattle.std.specs.FinMap.{find, get, get-from_entries}
 use Rattle.std.specs.List.{filter_map, list_any}
 use Rattle.std.specs.List.Sorted.{IsStrictlySortedBy}
 use Rattle.std.specs.Ordering.{eq_by_cmp}
-use Rattle.std.proofs.lemmas.Bool.{and_parts}
-use Rattle.std.proofs.lemmas.Bool.Decides.{nat_tests}
-use Rattle.std.proofs.lemmas.List.{get_or_past}
-use Rattle.std.proofs.lemmas.Option.{same_Some}
 use Rattle.cell_addr.specs.Order.{place_cmp}
 use Rattle.cell_addr.specs.declared.place.Place.{Place}
 use Rattle.cell_addr.proofs.Places.{place_cmp-IsTotalOrder, place_cmp-IsAntisymmetric}
 use Rattle.book_cells.specs.Workbook.{Book as Contents, Content, number, truth, text, formula, unreadable}
-use Rattle.formula_tree.specs.declared.link.Link.{Link}
 use Rattle.formula_tree.specs.declared.link.Link.TheVariants as links
 use Rattle.calc_terms.specs.Needs.{mentions}
 use Rattle.grid_store.specs.declared.cell.Cell.{Cell}
-use Rattle.grid_store.specs.declared.cell.Cell.TheVariants as cell
 use Rattle.shift_core.specs.Maps.{PlaceMap}
 use Rattle.shift_core.proofs.CarriedEntries.{eq_by_cmp-decides}
 use Rattle.book_model.specs.Answers.{cell_needing}
-use Rattle.book_engine.specs.Formulas.{Numbered, Stood}
-use Rattle.book_engine.specs.Stored.{AllStand, StandsAt, content_of, contents_of, tree_of}
-use Rattle.book_engine.specs.internal.Links.{content_mentions, is_number, passes, place_needing}
-use Rattle.book_engine.proofs.Contents.{get-contents, standing}
+use Rattle.kept_book.specs.Numbered.{Numbered}
+use Rattle.kept_book.specs.Stored.{content_of, contents_of}
+use Rattle.kept_book.proofs.Contents.{get-contents}
+use Rattle.book_engine.specs.internal.Links.{content_mentions, passes}
 use Rattle.book_engine.proofs.SortedKeys.{kept, kept_are}
 
--- the cell holds one of the first formulas, and it mentions the place
-abbrev pub mentions_before : ℕ → Numbered → Place → Option Cell → Bool
-mentions_before i stands at (Some (cell.Formula n)) = nat_lt n i && mentions (tree_of (stands n)) at
-mentions_before i stands at c = false
+-- the place is one of a list's
+abbrev pub stands_in : List (Place × Cell) → Place → Bool
+stands_in es q = list_any (λ e. eq_by_cmp place_cmp q e.0) es
 
--- the cell holds the formula of this number, and it mentions the place
-abbrev mentions_as : ℕ → Numbered → Place → Option Cell → Bool
-mentions_as i stands at (Some (cell.Formula n)) = (n == i) && mentions (tree_of (stands n)) at
-mentions_as i stands at c = false
+-- the formula at the place mentions another
+abbrev pub needs : Place → Contents → Place → Bool
+needs at contents q = passes (content_mentions at) (get contents q)
 
 same_place : (p q : Place) → eq_by_cmp place_cmp p q ≡ true → p ≡ q
 same_place p q h = (eq_by_cmp-decides place_cmp-IsTotalOrder place_cmp-IsAntisymmetric p q).0 h
 
-itself : (q : Place) → eq_by_cmp place_cmp q q ≡ true
-itself q = (eq_by_cmp-decides place_cmp-IsTotalOrder place_cmp-IsAntisymmetric q q).1 refl
+passes-one : (f : Place → Bool) (m : Bool) (p : Place) → passes f (cond m (Some p) None) ≡ cond m (f p) false
+passes-one f true p = refl
+passes-one f false p = refl
 
-pub before-none : (stands : Numbered) (at : Place) (c : Option Cell) → false ≡ mentions_before 0 stands at c
-before-none stands at None = refl
-before-none stands at (Some (cell.Number m)) = refl
-before-none stands at (Some (cell.Truth b)) = refl
-before-none stands at (Some (cell.Text w)) = refl
-before-none stands at (Some (cell.Formula n)) = let no : nat_lt n 0 ≡ false = grind (arith, nat_tests) in rw no refl
-before-none stands at (Some (cell.Broken w)) = refl
+either : (c m p s : Bool) → (c ≡ true → m ≡ p) → (cond m c false || (s && p)) ≡ ((c || s) && p)
+either true true true s h = refl
+either true true false s h = absurd (true≢false (h refl))
+either true false true s h = absurd (true≢false (sym (h refl)))
+either true false false true h = refl
+either true false false false h = refl
+either false true p s h = refl
+either false false p s h = refl
 
-one-more : (n i : ℕ) (m : Bool) → (((n == i) && m) || (nat_lt n i && m)) ≡ (nat_lt n (i + 1) && m)
-one-more n i true = grind (arith, nat_tests)
-one-more n i false = grind (arith, nat_tests)
+-- one cell more was gone through
+pub needs-more : (at : Place) (contents : Contents) (done : List (Place × Cell)) (e : Place × Cell) (q : Place) (found : Option Place) (old new : Bool) → found ≡ cond (needs at contents e.0) (Some e.0) None
+    → old ≡ (stands_in done q && needs at contents q) → new ≡ (passes (λ k. eq_by_cmp place_cmp k q) found || old) → new ≡ (stands_in (e ∷ done) q && needs at contents q)
+needs-more at contents done e q found old new is was got =
+    got ∙ (λ i. passes (λ k. eq_by_cmp place_cmp k q) (is i) || was i)
+    ∙ ap (λ b. b || (stands_in done q && needs at contents q)) (passes-one (λ k. eq_by_cmp place_cmp k q) (needs at contents e.0) e.0 ∙ ap (λ b. cond (needs at contents e.0) b false) ((eq_by_cmp_equiv place_cmp-IsTotalOrder).symm e.0 q))
+    ∙ either (eq_by_cmp place_cmp q e.0) (needs at contents e.0) (needs at contents q) (stands_in done q) (λ h. ap (needs at contents) (sym (same_place q e.0 h)))
 
-before-more : (i : ℕ) (stands : Numbered) (at : Place) (c : Option Cell) → (mentions_as i stands at c || mentions_before i stands at c) ≡ mentions_before (i + 1) stands at c
-before-more i stands at None = refl
-before-more i stands at (Some (cell.Number m)) = refl
-before-more i stands at (Some (cell.Truth b)) = refl
-before-more i stands at (Some (cell.Text w)) = refl
-before-more i stands at (Some (cell.Formula n)) = one-more n i (mentions (tree_of (stands n)) at)
-before-more i stands at (Some (cell.Broken w)) = refl
-
-module _ (at : Place) (cells : PlaceMap Cell) (stands : Numbered) (i : ℕ) (q : Place) where
-  abbrev is_this : Option Stood → Bool
-  is_this f = passes (λ k. eq_by_cmp place_cmp k q) (place_needing at cells i f)
-
-  -- the cell at the place of the formula of the number holds it
-  held-there : (f : Stood) (c : Option Cell) → stands i ≡ Some f → mentions f.1 at ≡ true → passes (is_number i) c ≡ true → mentions_as i stands at c ≡ true
-  held-there f None is m h = cc
-  held-there f (Some (cell.Number x)) is m h = cc
-  held-there f (Some (cell.Truth b)) is m h = cc
-  held-there f (Some (cell.Text w)) is m h = cc
-  held-there f (Some (cell.Formula n)) is m h =
-      let same : n ≡ i = grind (arith, nat_tests) in
-      let tree : mentions (tree_of (stands n)) at ≡ true = ap (λ k. mentions (tree_of (stands k)) at) same ∙ ap (λ r. mentions (tree_of r) at) is ∙ m in
-      rw (h, tree) refl
-  held-there f (Some (cell.Broken w)) is m h = cc
-
-  this-part : (f : Stood) (b c : Bool) → mentions f.1 at ≡ b → passes (is_number i) (get cells f.0) ≡ c → passes (λ k. eq_by_cmp place_cmp k q) (cond (b && c) (Some f.0) None) ≡ true
-      → (mentions f.1 at ≡ true) × (passes (is_number i) (get cells f.0) ≡ true) × (f.0 ≡ q)
-  this-part f true true m h e = (m, h, same_place f.0 q e)
-  this-part f true false m h e = cc
-  this-part f false c m h e = cc
-
-  there : (r : Option Stood) → stands i ≡ r → is_this r ≡ true → mentions_as i stands at (get cells q) ≡ true
-  there None is h = cc
-  there (Some f) is h =
-      let parts = this-part f (mentions f.1 at) (passes (is_number i) (get cells f.0)) refl refl h in
-      held-there f (get cells q) is parts.0 (ap (λ p. passes (is_number i) (get cells p)) (sym parts.2) ∙ parts.1)
-
-  back-at : AllStand stands cells → (c : Option Cell) → get cells q ≡ c → mentions_as i stands at c ≡ true → is_this (stands i) ≡ true
-  back-at all None here h = cc
-  back-at all (Some (cell.Number x)) here h = cc
-  back-at all (Some (cell.Truth b)) here h = cc
-  back-at all (Some (cell.Text w)) here h = cc
-  back-at all (Some (cell.Formula n)) here h =
-      let parts = and_parts (n == i) (mentions (tree_of (stands n)) at) h in
-      let same : n ≡ i = grind (arith, nat_tests) in
-      let stood = standing stands n q (all q n here) in
-      let is : stands i ≡ Some (q, stood.0) = ap stands (sym same) ∙ stood.1 in
-      let m : mentions stood.0 at ≡ true = ap (λ r. mentions (tree_of r) at) (sym stood.1) ∙ parts.1 in
-      let holds : passes (is_number i) (get cells q) ≡ true = ap (passes (is_number i)) here ∙ parts.0 in
-      ap is_this is ∙ ap (λ b. passes (λ k. eq_by_cmp place_cmp k q) (cond (b && passes (is_number i) (get cells q)) (Some q) None)) m
-      ∙ ap (λ b. passes (λ k. eq_by_cmp place_cmp k q) (cond b (Some q) None)) holds ∙ itself q
-  back-at all (Some (cell.Broken w)) here h = cc
-
-  -- one formula more has been gone through
-  pub before-next : AllStand stands cells → (old : Bool) → old ≡ mentions_before i stands at (get cells q) → (is_this (stands i) || old) ≡ mentions_before (i + 1) stands at (get cells q)
-  before-next all old h =
-      ap (λ b. is_this (stands i) || b) h
-      ∙ ap (λ b. b || mentions_before i stands at (get cells q)) (both_ways (is_this (stands i)) (mentions_as i stands at (get cells q)) (there (stands i) refl) (back-at all (get cells q) refl))
-      ∙ before-more i stands at (get cells q)
-
--- a number under which something stands is that of a slot
-below-slots : (slots : List (Option Stood)) (n i : ℕ) (f : Stood) → get_or slots n None ≡ Some f → length slots ≤ i → nat_lt n i ≡ true
-below-slots slots n i f is long = go (nat_lt n (length slots)) refl
+not-found : (q : Place) (es : List (Place × Cell)) → stands_in es q ≡ false → find place_cmp q es ≡ None
+not-found q [] h = refl
+not-found q (e ∷ es) h = go (eq_by_cmp place_cmp q e.0) h (not-found q es)
   where
-    go : (b : Bool) → nat_lt n (length slots) ≡ b → nat_lt n i ≡ true
-    go true h = grind (arith, nat_tests)
+    go : (b : Bool) → (b || stands_in es q) ≡ false → (stands_in es q ≡ false → find place_cmp q es ≡ None) → cond b (Some e.1) (find place_cmp q es) ≡ None
+    go true h rest = absurd (true≢false h)
+    go false h rest = rest h
+
+-- all cells were gone through
+pub needs-all : (at : Place) (stands : Numbered) (cells : PlaceMap Cell) (done : List (Place × Cell)) (q : Place) → fin.from_entries done ≡ cells
+    → (stands_in done q && needs at (contents_of stands cells) q) ≡ needs at (contents_of stands cells) q
+needs-all at stands cells done q all = go (stands_in done q) refl
+  where
+    go : (b : Bool) → stands_in done q ≡ b → (b && needs at (contents_of stands cells) q) ≡ needs at (contents_of stands cells) q
+    go true h = refl
     go false h =
-        let past : length slots ≤ n = grind (arith, nat_tests) in
-        let nothing : get_or slots n None ≡ None = get_or_past slots n None past in
-        absurd (cc)
-
--- all formulas have been gone through
-pub before-all : (slots : List (Option Stood)) (cells : PlaceMap Cell) (at q : Place) (i : ℕ) → AllStand (λ n. get_or slots n None) cells → length slots ≤ i
-    → mentions_before i (λ n. get_or slots n None) at (get cells q) ≡ passes (content_mentions at) (get (contents_of (λ n. get_or slots n None) cells) q)
-before-all slots cells at q i all long = go (get cells q) refl ∙ ap (passes (content_mentions at)) (sym (get-contents stands cells q))
-  where
-    stands : Numbered
-    stands n = get_or slots n None
-
-    go : (c : Option Cell) → get cells q ≡ c → mentions_before i stands at c ≡ passes (content_mentions at) (option_map (content_of stands) c)
-    go None here = refl
-    go (Some (cell.Number m)) here = refl
-    go (Some (cell.Truth b)) here = refl
-    go (Some (cell.Text w)) here = refl
-    go (Some (cell.Formula n)) here =
-        let stood = standing stands n q (all q n here) in
-        rw (below-slots slots n i (q, stood.0) stood.1 long) refl
-    go (Some (cell.Broken w)) here = refl
+        sym (ap (passes (content_mentions at)) (get-contents stands cells q ∙ ap (option_map (content_of stands)) (ap (λ m. get m q) (sym all) ∙ get-from_entries place_cmp-IsTotalOrder done q ∙ not-found q done h)))
 
 -- cells with formulas that mention a place as links
 needing-links : (at : Place) (es : List (Place × Content)) → filter_map (cell_needing at) es ≡ map links.Cell (kept (content_mentions at) es)

@@ -20,16 +20,16 @@ use Rattle.formula_tree.specs.declared.link.Link.TheVariants as links
 use Rattle.formula_tree.specs.declared.reference.Corner.{Corner}
 use Rattle.calc_terms.specs.Needs.{mentions}
 use Rattle.shift_core.proofs.CarriedEntries.{eq_by_cmp-decides}
+use Rattle.kept_book.specs.Formula.{tree_in_scope}
 use Rattle.book_values.specs.Names.{Key, key_of, same_key}
 use Rattle.book_model.specs.Answers.{by_capitals, name_link, name_needing}
 use Rattle.book_model.specs.Names.{NameMap, key_cmp}
 use Rattle.book_model.proofs.NameMaps.{changed_names, get-with}
-use Rattle.book_engine.specs.Expressions.{Slot, names_under, slot_of}
-use Rattle.book_engine.specs.Named.{AreApart, tree_in_scope}
-use Rattle.book_engine.specs.declared.expressions.Expression.{Expression}
+use Rattle.book_engine.specs.declared.named.Named.{Named}
 use Rattle.book_engine.specs.declared.shown_name.ShownName.{ShownName}
 use Rattle.book_engine.specs.internal.Links.{passes, shown_link, shown_name, shown_needing}
 use Rattle.book_engine.specs.internal.ShownNames.{shown_cmp, shown_cmp-IsTotalOrder}
+use Rattle.book_engine.specs.internal.Slots.{AreApart, Slot, names_under, slot_of}
 use Rattle.book_engine.proofs.NamedSlots.{get-apart, is-key, key-itself}
 use Rattle.book_engine.proofs.RaisedKeys.{all_found, entries-raised, find-raised, raised, tests-part}
 use Rattle.book_engine.proofs.SortedKeys.{kept, kept_are}
@@ -86,7 +86,7 @@ IsSmall k = key_shown (shown_name k) ≡ k
 key-small : (scope : Option ℕ) (word : List ℕ) → IsSmall (key_of scope word)
 key-small scope word = ap (λ w. record { scope = scope; word = w }) (ap folded (capitals-folded word) ∙ folded-capitals word)
 
-keys-small : (es : List Expression) → AllByRecursion (λ slot. IsSmall slot.0) (map slot_of es)
+keys-small : (es : List Named) → AllByRecursion (λ slot. IsSmall slot.0) (map slot_of es)
 keys-small [] = tt
 keys-small (e ∷ es) = (key-small e.scope e.word, keys-small es)
 
@@ -171,7 +171,7 @@ needing-links at (e ∷ es) = go (mentions e.1 at) (needing-links at es)
     go false h = h
 
 -- shown names in order that are those of the names whose formulas mention a place
-pub names-listed : (at : Place) (es : List Expression) (ns : List ShownName) → AreApart (map (λ s. s.0) (map slot_of es)) → IsStrictlySortedBy shown_cmp ns
+pub names-listed : (at : Place) (es : List Named) (ns : List ShownName) → AreApart (map (λ s. s.0) (map slot_of es)) → IsStrictlySortedBy shown_cmp ns
     → ((q : ShownName) → list_any (is_at (shown_cmp q)) ns ≡ list_any (is_shown at q) (map slot_of es))
     → map shown_link ns ≡ filter_map (name_needing at) (by_capitals (fin.entries (names_under (map slot_of es))))
 names-listed at es ns apart up h =
@@ -187,9 +187,6 @@ names-listed at es ns apart up h =
 pub found-link : (scope : Option ℕ) (word : List ℕ) (found : Option Key) → Some (key_of scope word) ≡ found → Some (links.Name scope (capitals word)) ≡ option_map name_link found
 found-link scope word found e = ap (λ w. Some (links.Name scope w)) (sym (capitals-folded word)) ∙ ap (option_map name_link) e
 
--- a name with a formula is shown where the formula mentions the place
-pub shown-one : (at : Place) (e : Expression) (t : Term Corner) (b : Bool) → option_map (tree_in_scope e.scope) e.tree ≡ Some t → mentions t at ≡ b
-    → cond b (Some (record { scope = e.scope; word = capitals e.word })) None ≡ shown_needing at (slot_of e)
-shown-one at e t b tree needed =
-    (λ i. cond (sym needed i) (Some (record { scope = e.scope; word = sym (capitals-folded e.word) i })) None)
-    ∙ ap (λ r. cond (passes (λ t. mentions t at) r) (Some (shown_name (slot_of e).0)) None) (sym tree)
+-- a name is shown where its formula mentions the place
+pub shown-one : (at : Place) (n : Named) (b : Bool) → mentions (tree_in_scope n.scope n.tree) at ≡ b → cond b (Some (record { scope = n.scope; word = capitals n.word })) None ≡ shown_needing at (slot_of n)
+shown-one at n b needed = λ i. cond (sym needed i) (Some (record { scope = n.scope; word = sym (capitals-folded n.word) i })) None

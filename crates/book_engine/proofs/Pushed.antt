@@ -16,9 +16,9 @@ use Rattle.shift_core.specs.Maps.{PlaceMap}
 use Rattle.shift_core.specs.Tables.{place_after, place_moved}
 use Rattle.shift_core.specs.declared.form.Form.{Form}
 use Rattle.shift_core.specs.declared.shift.Shift.{Shift}
-use Rattle.book_engine.specs.Formulas.{Numbered}
-use Rattle.book_engine.specs.Stored.{contents_of}
-use Rattle.book_engine.proofs.ShiftedContents.{filled_contents, filled_cell}
+use Rattle.kept_book.specs.Numbered.{Numbered}
+use Rattle.kept_book.specs.Stored.{contents_of}
+use Rattle.kept_book.proofs.ShiftedContents.{filled_contents, filled_cell}
 
 -- an entry whose place passes the test
 any_place : {X : Type 0} (test : Place → Bool) (es : List (Place × X)) (p : Place) → IsSome (find place_cmp p es) → test p ≡ true → list_any (λ e. test e.0) es ≡ true

@@ -1,10 +1,3 @@
-pub mod Formula
-pub mod Formulas
-pub mod Named
-pub mod Expressions
-pub mod Stored
-pub mod Copied
-pub mod Steps
 pub mod Seen
 pub mod Engine
 pub mod Calls

@@ -31,7 +31,7 @@ impl Parts {
     pub(crate) fn has_sheet(&self, sheet: u32) -> bool
         ensures { result ≡ has_sheet (state_of self.now).book sheet }
     {
-        self.book.names.name_of(sheet).is_some()
+        self.session.book.names.name_of(sheet).is_some()
     }
 
     // Where a sheet is asked for.
@@ -61,7 +61,7 @@ impl Parts {
     pub(crate) fn check_value(&self, at: Place) -> Result<(), Refusal>
         ensures { IsCause result (cause (op.value at) (state_of self.now)) }
     {
-        if self.suspended || self.batch.is_some() {
+        if self.session.suspended || self.session.batch.is_some() {
             return Err(Refusal::Suspended);
         }
         self.check_place(at)
@@ -71,7 +71,7 @@ impl Parts {
     pub(crate) fn check_on_sheet(&self, sheet: u32) -> Result<(), Refusal>
         ensures { IsCause result (first_cause ((is_suspended (state_of self.now), refusals.Suspended) ∷ on_sheet (state_of self.now) sheet)) }
     {
-        if self.suspended || self.batch.is_some() {
+        if self.session.suspended || self.session.batch.is_some() {
             return Err(Refusal::Suspended);
         }
         self.check_sheet(sheet)
@@ -151,7 +151,11 @@ impl Parts {
     fn has_name(&self, name: &str, scope: Option<u32>) -> bool
         ensures { result ≡ has_name (state_of self.now).book (key_of scope name.now) }
     {
-        self.book.expressions.has(scope, name)
+        let names = &self.session.book.names;
+        match names.known(name) {
+            Some(word) => names.holder(scope, word).is_some(),
+            None => false,
+        }
     }
 
     // Where a block is emptied.
@@ -202,7 +206,7 @@ impl Parts {
     fn is_full_without(&self, at: Place) -> bool
         ensures { result ≡ (is_none (map.get (state_of self.now).book.cells at) && nat_le MAX_CELLS (map.len (state_of self.now).book.cells)) }
     {
-        self.book.grid.cell(at).is_none() && self.book.grid.filled() >= MAX_CELLS
+        self.session.book.grid.cell(at).is_none() && self.session.book.grid.filled() >= MAX_CELLS
     }
 
     // Where a structural operation is asked for.
@@ -272,7 +276,7 @@ impl Parts {
         requires { form_of s.now ≡ Lines sheet axis (Insert at count) }
         ensures { result ≡ pushes_off (Lines sheet axis (Insert at count)) (state_of self.now).book }
     {
-        self.book.grid.pushed_off(s)
+        self.session.book.grid.pushed_off(s)
     }
 
     // Where a block of cells is moved.
@@ -301,7 +305,7 @@ impl Parts {
         if self.is_named(name) {
             return Err(Refusal::SheetNameTaken);
         }
-        if self.next_sheet >= MAX_SHEETS {
+        if self.session.next_sheet >= MAX_SHEETS {
             return Err(Refusal::SheetLimit);
         }
         Ok(())
@@ -328,7 +332,7 @@ impl Parts {
     fn is_named(&self, name: &str) -> bool
         ensures { result ≡ list_any (λ s. same_name s.1 name.now) (state_of self.now).book.sheets }
     {
-        self.book.names.id_of(name).is_some()
+        self.session.book.names.id_of(name).is_some()
     }
 
     // Whether another sheet has the name.
@@ -336,7 +340,7 @@ impl Parts {
         requires { AreSheets (state_of self.now).book.sheets }
         ensures { result ≡ is_taken (state_of self.now).book sheet name.now }
     {
-        match self.book.names.id_of(name) {
+        match self.session.book.names.id_of(name) {
             Some(other) => other != sheet,
             None => false,
         }

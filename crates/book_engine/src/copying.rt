@@ -1,44 +1,44 @@
 // Cells that are copied, and pasted as a step.
-ghost use Rattle.std.specs.Prelude.{◌≡◌, ◌∷◌, [], IfOk, IfSome, not, option_map};
+ghost use Rattle.std.specs.Prelude.{◌≡◌, ◌∷◌, [], IfOk, List, OnOk, not};
+ghost use Rattle.std.specs.BTreeSet.{btree_set_len, contains};
 ghost use Rattle.std.specs.FinMap as map;
-ghost use Rattle.std.specs.List.{All};
-ghost use Rattle.cell_addr.specs.Place.{IsBlockInside, IsInside, covers};
-ghost use Rattle.clip_board.specs.Clips.{items_of};
-ghost use Rattle.grid_store.specs.Grid.{cells_of};
-ghost use Rattle.shift_core.specs.Carried.{destination};
-ghost use Rattle.shift_core.specs.Maps.{AreInside};
+ghost use Rattle.std.specs.List.{All, cons_option, filter_map};
+ghost use Rattle.cell_addr.specs.Order.{place_cmp};
+ghost use Rattle.cell_addr.specs.declared.place.Place.{Place as PlaceSeen};
+ghost use Rattle.cell_addr.specs.Place.{IsBlockInside, IsInside};
+ghost use Rattle.shift_core.specs.Carried as carrying;
+ghost use Rattle.book_model.specs.Changes.{with_copy};
 ghost use Rattle.book_model.specs.Clipboard as clipboard;
 ghost use Rattle.book_model.specs.Operation as op;
 ghost use Rattle.book_model.specs.Refusals.{first_cause, is_block_outside};
 ghost use Rattle.book_model.specs.Workbook.{has_sheet};
 ghost use Rattle.book_model.specs.declared.refusal.Refusal.TheVariants as refusals;
-ghost use Rattle.book_engine.specs.Copied.{IsCopied, content_copied, contents_copied};
+ghost use Rattle.kept_book.specs.Copied.{IsCopied, contents_copied};
 ghost use Rattle.book_engine.specs.Engine.{NoAnswer};
-ghost use Rattle.book_engine.specs.Formulas.{numbered};
 ghost use Rattle.book_engine.specs.Seen.{Fits, clip_of, state_of, with_clipboard};
-ghost use Rattle.book_engine.specs.Stored.{Stand, book_of, content_of, stored};
+ghost use Rattle.book_engine.specs.internal.Pasting.{ArePlaces, place_pasted};
 ghost use Rattle.book_engine.specs.internal.Turns.{IsCause, Reads, Turns};
 
-use crate::book::Book;
 use crate::checks::ends_outside;
 use crate::parts::Parts;
 use crate::stop::Stop;
-use crate::undoing::{note, room};
 use crate::waiting::Waiting;
 use book_model::{MAX_CELLS, Refusal};
 use cell_addr::{Block, Place};
-use clip_board::{Clip, CopyItem, CopyList};
-use grid_store::Cell;
+use clip_board::{Clip, CopyItem};
 use std::alloc::{AllocError, Global};
+use std::collections::BTreeSet;
 
 impl Parts {
     // A copy of a block.
-    pub(crate) fn copied(&self, area: Block) -> Result<Waiting, Stop>
-        requires { Fits self.now }
-        ensures { Reads (op.copy area) (λ d w. clip_of w.clip ≡ clipboard.copy_of area d.book.cells) (state_of self.now) result }
+    pub(crate) fn copied(&mut self, area: Block) -> Result<Waiting, Stop>
+        requires { Fits self.old }
+        ensures reads { Reads (op.copy area) (λ d w. clip_of w.clip ≡ clipboard.copy_of area d.book.cells) (state_of self.old) result }
+        ensures state { state_of self.new ≡ state_of self.old }
+        ensures fits { Fits self.new }
     {
         self.check_clear(area)?;
-        let cells = self.book.copied_cells(self.alloc, area)?;
+        let cells = self.session.copied_cells(area)?;
         Ok(Waiting {
             clip: Clip::copy_of(area, cells),
         })
@@ -58,22 +58,17 @@ impl Parts {
         ensures fits { Fits self.new }
     {
         self.check_paste(area, at)?;
-        let room = room(self.alloc, &mut self.undo, &mut self.batch)?;
-        let (next, part) = self
-            .book
-            .with_pasted(self.alloc, &mut self.pool, area, cells, at)?;
-        if next.grid.filled() > MAX_CELLS {
+        if self.filled_after(area, cells, at)? > MAX_CELLS {
             return Err(Stop::Refused(Refusal::CellLimit));
         }
-        self.book = next;
-        note(&mut self.undo, &mut self.batch, room, part);
+        self.session.paste(area, cells, at)?;
         Ok(())
     }
 
     // Where a copied block is pasted, but for its number of cells.
     fn check_paste(&self, area: Block, at: Place) -> Result<(), Refusal>
         requires { IsBlockInside area }
-        ensures { IsCause result (first_cause ((not (has_sheet (state_of self.now).book at.sheet), refusals.NoSheet) ∷ (is_block_outside (destination area at), refusals.Outside) ∷ [])) }
+        ensures { IsCause result (first_cause ((not (has_sheet (state_of self.now).book at.sheet), refusals.NoSheet) ∷ (is_block_outside (carrying.destination area at), refusals.Outside) ∷ [])) }
     {
         if !self.has_sheet(at.sheet) {
             return Err(Refusal::NoSheet);
@@ -83,40 +78,81 @@ impl Parts {
         }
         Ok(())
     }
+
+    // How many cells are filled once the copied cells of the block are pasted: those beside the block there, and those that the
+    // copied ones come to.
+    fn filled_after(
+        &self,
+        area: Block,
+        cells: &[(Place, CopyItem)],
+        at: Place,
+    ) -> Result<u64, AllocError>
+        requires there { IsBlockInside (carrying.destination area at) }
+        ensures { IfOk result (λ count. count ≡ map.len (with_copy area (contents_copied cells.now) at (state_of self.now).book).cells) }
+    {
+        let book = &self.session.book;
+        let replaced = book.grid.listed(destination(area, at))?;
+        let places = places_of(book.alloc, area, cells, at)?;
+        let beside = book.grid.filled() - replaced.items().len() as u64;
+        Ok(beside + places.len() as u64)
+    }
 }
 
-impl Book {
-    // What the filled cells of a block hold.
-    fn copied_cells(&self, alloc: Global, area: Block) -> Result<CopyList, AllocError>
-        requires inside { AreInside (book_of (stored self.now)).cells }
-        requires stand { Stand (stored self.now) }
-        ensures contents { IfOk result (λ list. contents_copied (items_of list) ≡ map.retain_keys (book_of (stored self.now)).cells (covers area)) }
-        ensures copied { IfOk result (λ list. All IsCopied (items_of list)) }
-    {
-        let filled = self.grid.listed(area)?;
-        let mut list = CopyList::new(alloc)?;
-        'cells: for (at, _) in filled.items() {
-            if let Some(item) = self.copied_item(alloc, *at)? {
-                list.push(*at, item)?;
-            }
-        }
-        Ok(list)
+// The places that the copied cells of the block come to, from the last one to the first.
+fn places_of(
+    alloc: Global,
+    area: Block,
+    cells: &[(Place, CopyItem)],
+    at: Place,
+) -> Result<BTreeSet<Place>, AllocError>
+    requires there { IsBlockInside (carrying.destination area at) }
+    ensures { IfOk result (λ set. ArePlaces (filter_map (place_pasted area at) cells.now) (contains place_cmp set) (btree_set_len set)) }
+{
+    let mut places = BTreeSet::new(alloc);
+    for index in (0..cells.len()).rev() {
+        add_pasted(&mut places, area, &cells[index], at)?;
     }
+    Ok(places)
+}
 
-    // What a cell holds, if it is filled.
-    fn copied_item(&self, alloc: Global, at: Place) -> Result<Option<CopyItem>, AllocError>
-        requires inside { IsInside at }
-        requires stand { Stand (stored self.now) }
-        ensures content { IfOk result (λ item. option_map (content_copied at) item ≡ option_map (content_of (numbered self.now.formulas)) (map.get (cells_of self.now.grid) at)) }
-        ensures copied { IfOk result (λ item. IfSome item (λ i. IsCopied (at, i))) }
-    {
-        match self.grid.cell(at) {
-            None => Ok(None),
-            Some(Cell::Formula(number)) => match self.formulas.get(*number) {
-                Some(formula) => Ok(Some(CopyItem::Formula(formula.tree.clone()?))),
-                None => unreachable!(),
-            },
-            Some(cell) => Ok(Some(CopyItem::Kept(cell.copied(alloc)?))),
-        }
+// Adds the place that a copied cell comes to, if it is one of the block.
+fn add_pasted(
+    places: &mut BTreeSet<Place>,
+    area: Block,
+    cell: &(Place, CopyItem),
+    at: Place,
+) -> Result<(), AllocError>
+    requires there { IsBlockInside (carrying.destination area at) }
+    ensures { OnOk result ((ps : List PlaceSeen) → ArePlaces ps (contains place_cmp places.old) (btree_set_len places.old) → ArePlaces (cons_option (place_pasted area at cell.now) ps) (contains place_cmp places.new) (btree_set_len places.new)) }
+{
+    if area.holds(cell.0) {
+        places.insert(carried(area, at, cell.0))?;
+    }
+    Ok(())
+}
+
+// The place with the same offset from `to` as `p` has from the block's first place.
+fn carried(source: Block, to: Place, p: Place) -> Place
+    requires { IsInside (carrying.carried_place source to p) }
+    ensures { result ≡ carrying.carried_place source to p }
+{
+    Place {
+        sheet: to.sheet,
+        row: to.row + p.row.saturating_sub(source.top),
+        col: to.col + p.col.saturating_sub(source.left),
+    }
+}
+
+// The block of the size of `source` that begins at `to`.
+fn destination(source: Block, to: Place) -> Block
+    requires { IsBlockInside (carrying.destination source to) }
+    ensures { result ≡ carrying.destination source to }
+{
+    Block {
+        sheet: to.sheet,
+        top: to.row,
+        left: to.col,
+        bottom: to.row + source.bottom.saturating_sub(source.top),
+        right: to.col + source.right.saturating_sub(source.left),
     }
 }

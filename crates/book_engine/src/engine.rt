@@ -12,7 +12,6 @@ ghost use Rattle.book_model.specs.declared.limits.TheConstants.{MAX_UNDO};
 ghost use Rattle.book_engine.specs.Seen.{Fits};
 ghost use Rattle.book_engine.specs.internal.FitsProp.{fits-prop};
 
-use crate::history::Entry;
 use crate::parts::Parts;
 use crate::stop::Stop;
 use crate::waiting::Waiting;
@@ -22,6 +21,7 @@ use cell_addr::{Block, Place, SheetNames, Text};
 use cell_value::Scalar;
 use clip_board::Clip;
 use formula_tree::Link;
+use kept_steps::Entry;
 use shift_core::Shift;
 use std::alloc::{AllocError, Global};
 use std::sync::ledger::Ledger;
@@ -461,21 +461,21 @@ impl<C: Customs> Engine<C> {
     pub fn sheet_id(&self, name: &str) -> Option<u32>
         ensures { (d : State) → StandsFor C.customs self.now d → result ≡ id_in d.book.sheets name.now }
     {
-        self.parts.book.names.id_of(name)
+        self.parts.session.book.names.id_of(name)
     }
 
     /// The first sheet of the list.
     pub fn first_sheet(&self) -> Option<u32>
         ensures { (d : State) → StandsFor C.customs self.now d → result ≡ first_sheet d.book }
     {
-        self.parts.book.names.sheet_at(0)
+        self.parts.session.book.names.sheet_at(0)
     }
 
     /// The name of the sheet of this number.
     pub fn sheet_name(&self, id: u32) -> Option<&Text>
         ensures { (d : State) → StandsFor C.customs self.now d → option_map (λ name. name.now) result ≡ name_in d.book.sheets id }
     {
-        self.parts.book.names.name_of(id)
+        self.parts.session.book.names.name_of(id)
     }
 
     /// The steps that can be undone and redone.
@@ -484,6 +484,6 @@ impl<C: Customs> Engine<C> {
         ensures undone { (d : State) → StandsFor C.customs self.now d → length result.now.undone ≡ length d.redo }
         ensures limit { (d : State) → StandsFor C.customs self.now d → result.now.limit ≡ d.limit }
     {
-        &self.parts.undo
+        &self.parts.session.steps
     }
 }

@@ -13,31 +13,23 @@
 #![tactic(auto)]
 
 mod absolute;
-mod book;
-mod build;
-mod cells;
 mod checks;
 mod copying;
 mod engine;
-mod expressions;
-mod formulas;
-mod held;
-mod history;
 pub mod laws;
 mod links;
+mod named;
 mod naming;
 mod parts;
-mod pasting;
 mod reading;
 mod setting;
 mod sheets;
 mod shifting;
 mod shown_name;
-mod stepping;
 mod stop;
 mod undoing;
 mod waiting;
 
 pub use engine::Engine;
-pub use history::Entry;
+pub use kept_steps::Entry;
 pub use stop::Stop;

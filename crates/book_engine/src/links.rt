@@ -1,43 +1,40 @@
 // The links of formulas: what a cell's formula needs, and which formulas need a cell.
-ghost use Rattle.std.specs.Prelude.{◌≡◌, ◌++◌, ◌||◌, IfOk, OnOk, map, option_copied, option_map};
+ghost use Rattle.std.specs.Prelude.{◌≡◌, ◌++◌, ◌||◌, IfOk, None, OnOk, Some, if◌then◌else◌, map, option_map};
 ghost use Rattle.std.specs.BTreeSet.{IsOrdered, contains};
 ghost use Rattle.std.specs.FinMap as fin;
 ghost use Rattle.std.specs.List.{All, cons_option, filter_map, list_any};
 ghost use Rattle.std.specs.Ordering.{eq_by_cmp};
 ghost use Rattle.cell_addr.specs.Order.{place_cmp};
 ghost use Rattle.formula_tree.specs.declared.link.Link.TheVariants as links;
-ghost use Rattle.grid_store.specs.Grid.{cells_of};
-ghost use Rattle.grid_store.specs.declared.cell.Cell.TheVariants as CellSeen;
 ghost use Rattle.book_values.specs.Names.{found, key_of};
 ghost use Rattle.book_values.specs.Workbook as nodes;
 ghost use Rattle.book_model.specs.Answers.{dependents_of, link_of, name_link, precedents_of};
 ghost use Rattle.book_model.specs.Operation as op;
 ghost use Rattle.book_model.specs.Sound.{IsLinkInside};
-ghost use Rattle.book_engine.specs.Expressions.{slot_of, slots_of};
-ghost use Rattle.book_engine.specs.Formulas.{numbered, stood};
 ghost use Rattle.book_engine.specs.Seen.{Fits, state_of};
-ghost use Rattle.book_engine.specs.Stored.{StandsAt, content_of};
-ghost use Rattle.book_engine.specs.internal.Links.{content_mentions, is_number, mentioned, passes, place_needing, shown_link, shown_needing};
+ghost use Rattle.book_engine.specs.internal.Links.{content_mentions, mentioned, passes, shown_link, shown_needing};
 ghost use Rattle.book_engine.specs.internal.ShownNames.{shown_cmp};
+ghost use Rattle.book_engine.specs.internal.Slots.{slot_of};
 ghost use Rattle.book_engine.specs.internal.Turns.{Turns};
 
-use crate::expressions::{Expression, home_in};
-use crate::formulas::Formula;
+use crate::named::Named;
 use crate::parts::Parts;
+use crate::reading::next_place;
 use crate::shown_name::ShownName;
 use crate::stop::Stop;
 use calc_terms::mentions;
 use cell_addr::{Place, capitals};
 use formula_tree::{Home, Link, Mention, mentions_of};
-use grid_store::Cell;
+use kept_book::home_in;
 use std::alloc::{AllocError, Global};
 use std::collections::BTreeSet;
 
 impl Parts {
     // What a cell's formula needs, in the order of the formula.
-    pub(crate) fn precedents(&self, at: Place) -> Result<Vec<Link>, Stop>
-        requires { Fits self.now }
-        ensures turns { Turns (op.precedents at) (λ d links. links.items ≡ precedents_of d at) (state_of self.now) (state_of self.now) result }
+    pub(crate) fn precedents(&mut self, at: Place) -> Result<Vec<Link>, Stop>
+        requires { Fits self.old }
+        ensures turns { Turns (op.precedents at) (λ d links. links.items ≡ precedents_of d at) (state_of self.old) (state_of self.new) result }
+        ensures fits { Fits self.new }
         ensures inside { IfOk result (λ links. All IsLinkInside links.items) }
     {
         self.check_place(at)?;
@@ -46,9 +43,10 @@ impl Parts {
     }
 
     // The cells and then the names whose formulas need a cell themselves, each in order.
-    pub(crate) fn dependents(&self, at: Place) -> Result<Vec<Link>, Stop>
-        requires { Fits self.now }
-        ensures turns { Turns (op.dependents at) (λ d links. links.items ≡ dependents_of d at) (state_of self.now) (state_of self.now) result }
+    pub(crate) fn dependents(&mut self, at: Place) -> Result<Vec<Link>, Stop>
+        requires { Fits self.old }
+        ensures turns { Turns (op.dependents at) (λ d links. links.items ≡ dependents_of d at) (state_of self.old) (state_of self.new) result }
+        ensures fits { Fits self.new }
         ensures inside { IfOk result (λ links. All IsLinkInside links.items) }
     {
         self.check_place(at)?;
@@ -57,26 +55,24 @@ impl Parts {
     }
 
     // The links of a cell's formula, if it holds one.
-    fn links_from(&self, at: Place) -> Result<Vec<Link>, AllocError>
-        requires { Fits self.now }
-        ensures { IfOk result (λ links. links.items ≡ precedents_of (state_of self.now) at) }
+    fn links_from(&mut self, at: Place) -> Result<Vec<Link>, AllocError>
+        ensures links { IfOk result (λ links. links.items ≡ precedents_of (state_of self.old) at) }
+        ensures state { state_of self.new ≡ state_of self.old }
     {
-        let mentions = self.mentioned(at, self.book.grid.cell(at))?;
+        let mentions = self.mentioned(at)?;
         let links = self.links_of(at.sheet, mentions.as_slice())?;
         Ok(links)
     }
 
-    // What the formula of a cell at the place mentions, if it holds one.
-    fn mentioned(&self, at: Place, cell: Option<&Cell>) -> Result<Vec<Mention>, AllocError>
-        requires { (n : _) → option_copied cell ≡ Some (CellSeen.Formula n) → StandsAt (numbered self.now.book.formulas) n at }
-        ensures { IfOk result (λ list. list.items ≡ mentioned (nodes.content_tree (option_map (content_of (numbered self.now.book.formulas)) (option_copied cell.entry)))) }
+    // What the formula of a cell mentions, if it holds one.
+    fn mentioned(&mut self, at: Place) -> Result<Vec<Mention>, AllocError>
+        ensures mentions { IfOk result (λ list. list.items ≡ mentioned (nodes.content_tree (fin.get (state_of self.old).book.cells at))) }
+        ensures state { state_of self.new ≡ state_of self.old }
     {
-        match cell {
-            Some(Cell::Formula(number)) => {
-                let formula = self.standing(at, *number);
-                mentions_of(self.alloc, &formula.tree, Home::Cell(at))
-            }
-            _ => Ok(Vec::new(self.alloc)),
+        let alloc = self.session.book.alloc;
+        match self.session.formula(at)? {
+            Some(tree) => mentions_of(alloc, &tree, Home::Cell(at)),
+            None => Ok(Vec::new(alloc)),
         }
     }
 
@@ -84,7 +80,7 @@ impl Parts {
     fn links_of(&self, sheet: u32, mentions: &[Mention]) -> Result<Vec<Link>, AllocError>
         ensures { IfOk result (λ list. list.items ≡ filter_map (link_of (fin.entries (state_of self.now).book.names) sheet) mentions.now) }
     {
-        let mut list = Vec::new(self.alloc);
+        let mut list = Vec::new(self.session.book.alloc);
         'mentions: for mention in mentions {
             let link = self.link_of(sheet, mention)?;
             push_some(&mut list, link)?;
@@ -109,7 +105,7 @@ impl Parts {
     {
         match self.scope_finding(word, sheet) {
             Some(scope) => {
-                let word = capitals(self.alloc, word)?;
+                let word = capitals(self.session.book.alloc, word)?;
                 Ok(Some(Link::Name(scope, word)))
             }
             None => Ok(None),
@@ -117,86 +113,74 @@ impl Parts {
     }
 
     // The cells and then the names whose formulas mention a place.
-    fn links_to(&self, at: Place) -> Result<Vec<Link>, AllocError>
-        requires { Fits self.now }
-        ensures { IfOk result (λ links. links.items ≡ dependents_of (state_of self.now) at) }
+    fn links_to(&mut self, at: Place) -> Result<Vec<Link>, AllocError>
+        ensures links { IfOk result (λ links. links.items ≡ dependents_of (state_of self.old) at) }
+        ensures state { state_of self.new ≡ state_of self.old }
     {
+        let alloc = self.session.book.alloc;
         let cells = self.cells_needing(at)?;
-        let names = self.names_needing(at)?;
-        let mut links = Vec::new(self.alloc);
+        let named = self.named_trees()?;
+        let names = names_needing(alloc, &named, at)?;
+        let mut links = Vec::new(alloc);
         push_cells(&mut links, &cells)?;
-        push_names(self.alloc, &mut links, &names)?;
+        push_names(alloc, &mut links, &names)?;
         Ok(links)
     }
 
     // The cells whose formulas mention a place.
-    fn cells_needing(&self, at: Place) -> Result<BTreeSet<Place>, AllocError>
-        requires { Fits self.now }
-        ensures { IfOk result (λ set. (q : Place) → contains place_cmp set q ≡ passes (content_mentions at) (fin.get (state_of self.now).book.cells q)) }
+    fn cells_needing(&mut self, at: Place) -> Result<BTreeSet<Place>, AllocError>
+        ensures needing { IfOk result (λ set. (q : Place) → contains place_cmp set q ≡ passes (content_mentions at) (fin.get (state_of self.old).book.cells q)) }
+        ensures state { state_of self.new ≡ state_of self.old }
     {
-        let mut cells = BTreeSet::new(self.alloc);
-        'formulas: for (number, slot) in self.book.formulas.slots().iter().enumerate() {
-            let place = self.place_needing(at, number as u64, slot);
-            add(&mut cells, place)?;
+        let mut needing = BTreeSet::new(self.session.book.alloc);
+        let mut cells = self.session.book.grid.all()?;
+        while let Some(place) = next_place(&mut cells) {
+            let found = self.place_needing(at, place)?;
+            add(&mut needing, found)?;
         }
-        Ok(cells)
+        Ok(needing)
     }
 
-    // Where the formula in the slot of this number stands, if it mentions the place and the cell there holds it.
-    fn place_needing(&self, at: Place, number: u64, slot: &Option<Formula>) -> Option<Place>
-        ensures { result ≡ place_needing at (cells_of self.now.book.grid) number (option_map stood slot.now) }
+    // The second place, if the formula there mentions the first.
+    fn place_needing(&mut self, at: Place, place: Place) -> Result<Option<Place>, AllocError>
+        ensures needing { IfOk result (λ found. found ≡ (if passes (content_mentions at) (fin.get (state_of self.old).book.cells place) then Some place else None)) }
+        ensures state { state_of self.new ≡ state_of self.old }
     {
-        let formula = slot.as_ref()?;
-        if mentions(&formula.tree, Home::Cell(formula.at), at)
-            && self.holds_formula(formula.at, number)
-        {
-            Some(formula.at)
-        } else {
-            None
+        match self.session.formula(place)? {
+            Some(tree) if mentions(&tree, Home::Cell(place), at) => Ok(Some(place)),
+            _ => Ok(None),
         }
-    }
-
-    // Whether the cell at the place holds the formula of this number.
-    fn holds_formula(&self, at: Place, number: u64) -> bool
-        ensures { result ≡ passes (is_number number) (fin.get (cells_of self.now.book.grid) at) }
-    {
-        match self.book.grid.cell(at) {
-            Some(Cell::Formula(held)) => *held == number,
-            _ => false,
-        }
-    }
-
-    // The names whose formulas mention a place.
-    fn names_needing(&self, at: Place) -> Result<BTreeSet<ShownName>, AllocError>
-        ensures { IfOk result (λ set. (q : ShownName) → contains shown_cmp set q ≡ list_any (λ slot. passes (λ n. eq_by_cmp shown_cmp n q) (shown_needing at slot)) (slots_of self.now.book.expressions)) }
-    {
-        let mut names = BTreeSet::new(self.alloc);
-        'names: for expression in self.book.expressions.items() {
-            let name = shown_needing(self.alloc, expression, at)?;
-            add(&mut names, name)?;
-        }
-        Ok(names)
     }
 }
 
-// The name as links show it, if it has a formula that mentions the place.
-fn shown_needing(
+// The names whose formulas mention a place, as links show them.
+fn names_needing(
     alloc: Global,
-    expression: &Expression,
+    named: &[Named],
     at: Place,
-) -> Result<Option<ShownName>, AllocError>
-    ensures { IfOk result (λ name. name ≡ shown_needing at (slot_of expression.now)) }
+) -> Result<BTreeSet<ShownName>, AllocError>
+    ensures { IfOk result (λ set. (q : ShownName) → contains shown_cmp set q ≡ list_any (λ slot. passes (λ n. eq_by_cmp shown_cmp n q) (shown_needing at slot)) (map slot_of named.now)) }
 {
-    match &expression.tree {
-        Some(tree) if mentions(tree, home_in(expression.scope), at) => {
-            let word = capitals(alloc, expression.word.as_str())?;
-            Ok(Some(ShownName {
-                scope: expression.scope,
-                word,
-            }))
-        }
-        _ => Ok(None),
+    let mut names = BTreeSet::new(alloc);
+    'names: for name in named {
+        let shown = shown_needing(alloc, name, at)?;
+        add(&mut names, shown)?;
     }
+    Ok(names)
+}
+
+// The name as links show it, if its formula mentions the place.
+fn shown_needing(alloc: Global, named: &Named, at: Place) -> Result<Option<ShownName>, AllocError>
+    ensures { IfOk result (λ name. name ≡ shown_needing at (slot_of named.now)) }
+{
+    if !mentions(&named.tree, home_in(named.scope), at) {
+        return Ok(None);
+    }
+    let word = capitals(alloc, named.word.as_str())?;
+    Ok(Some(ShownName {
+        scope: named.scope,
+        word,
+    }))
 }
 
 // Puts a key into a set, if there is one.

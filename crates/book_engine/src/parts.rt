@@ -1,25 +1,29 @@
-// What an engine is made of.
-use crate::book::Book;
-use crate::history::{Entry, Part};
-use formula_tree::Pool;
-use std::alloc::Global;
-use undo_book::UndoBook;
+// What an engine keeps of its session.
+ghost use Rattle.std.specs.Prelude.{◌≡◌, ◌≤◌, [], IfOk, pos};
+ghost use Rattle.book_model.specs.Given.{CanBegin, given_sheets, session_given};
+ghost use Rattle.book_model.specs.declared.limits.TheConstants.{MAX_UNDO};
+ghost use Rattle.book_engine.specs.Seen.{Fits, state_of};
 
-/// The changes of an open batch, one after the other.
-#[derive(Drop)]
-pub struct Changes {
-    pub parts: Vec<Part>,
-}
+use book_model::BookSheet;
+use kept_steps::Session;
+use std::alloc::{AllocError, Global};
 
-/// What an engine is made of: the workbook, the trees that its formulas share, the steps that can be undone and redone,
-/// and the open batch, which becomes one of them.
+/// The session of an engine: the workbook along its line, with the steps that can be undone and redone.
 #[derive(Drop)]
 pub struct Parts {
-    pub alloc: Global,
-    pub pool: Pool,
-    pub book: Book,
-    pub undo: UndoBook<Entry>,
-    pub batch: Option<Changes>,
-    pub suspended: bool,
-    pub next_sheet: u32,
+    pub session: Session,
+}
+
+impl Parts {
+    // The session of a workbook with these sheets and texts, of which so many steps can be undone.
+    pub(crate) fn build(alloc: Global, books: &[BookSheet], limit: u16) -> Result<Parts, AllocError>
+        requires can { CanBegin (given_sheets books.now) }
+        requires limit { limit ≤ MAX_UNDO }
+        ensures state { IfOk result (λ parts. state_of parts ≡ session_given limit [] (pos 0) (given_sheets books.now)) }
+        ensures fits { IfOk result Fits }
+    {
+        Ok(Parts {
+            session: Session::build(alloc, books, limit)?,
+        })
+    }
 }

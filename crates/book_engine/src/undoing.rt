@@ -1,21 +1,13 @@
 // Steps that can be undone and redone, batches of changes, and suspension.
-ghost use Rattle.std.specs.Prelude.{true, false, ◌≡◌, ◌<◌, ◌++◌, ◌∷◌, [], length, vec_capacity, vec_len, IfOk, OnErr, IfSome, OnOk, option_map, Option, None, Some};
+ghost use Rattle.std.specs.Prelude.{◌≡◌, true, false};
 ghost use Rattle.book_model.specs.Operation as op;
 ghost use Rattle.book_engine.specs.Engine.{NoAnswer};
 ghost use Rattle.book_engine.specs.Seen.{Fits, state_of};
-ghost use Rattle.book_engine.specs.Steps.{over};
-ghost use Rattle.book_engine.specs.Stored.{stored};
-ghost use Rattle.book_engine.specs.internal.Noted.{Adds, Closes, HasRoom, Notes, SameBatch, SameSteps};
 ghost use Rattle.book_engine.specs.internal.Turns.{Turns};
 
-use crate::book::Book;
-use crate::history::{Entry, Part};
-use crate::parts::{Changes, Parts};
+use crate::parts::Parts;
 use crate::stop::Stop;
 use book_model::Refusal;
-use std::alloc::{AllocError, Global};
-use std::mem;
-use undo_book::UndoBook;
 
 impl Parts {
     // Opens a batch.
@@ -24,12 +16,10 @@ impl Parts {
         ensures turns { Turns op.begin NoAnswer (state_of self.old) (state_of self.new) result }
         ensures fits { Fits self.new }
     {
-        if self.batch.is_some() {
+        if self.session.batch.is_some() {
             return Err(Stop::Refused(Refusal::BatchOpen));
         }
-        self.batch = Some(Changes {
-            parts: Vec::new(self.alloc),
-        });
+        self.session.begin();
         Ok(())
     }
 
@@ -39,11 +29,10 @@ impl Parts {
         ensures turns { Turns op.commit NoAnswer (state_of self.old) (state_of self.new) result }
         ensures fits { Fits self.new }
     {
-        if self.batch.is_none() {
+        if self.session.batch.is_none() {
             return Err(Stop::Refused(Refusal::NoBatch));
         }
-        self.undo.reserve()?;
-        close(&mut self.undo, self.batch.take());
+        self.session.commit();
         Ok(())
     }
 
@@ -53,7 +42,7 @@ impl Parts {
         ensures turns { state_of self.new ≡ record (state_of self.old) { suspended = true } }
         ensures fits { Fits self.new }
     {
-        self.suspended = true;
+        self.session.suspend();
     }
 
     // Lets the computation of values go on.
@@ -62,7 +51,7 @@ impl Parts {
         ensures turns { state_of self.new ≡ record (state_of self.old) { suspended = false } }
         ensures fits { Fits self.new }
     {
-        self.suspended = false;
+        self.session.resume();
     }
 
     // Back to the workbook from before the last step.
@@ -71,16 +60,13 @@ impl Parts {
         ensures turns { Turns op.undo NoAnswer (state_of self.old) (state_of self.new) result }
         ensures fits { Fits self.new }
     {
-        if self.batch.is_some() {
+        if self.session.batch.is_some() {
             return Err(Stop::Refused(Refusal::BatchOpen));
         }
-        let Some(entry) = self.undo.done().last() else {
+        if self.session.steps.done().is_empty() {
             return Err(Stop::Refused(Refusal::NothingToUndo));
-        };
-        let book = reached(self.alloc, entry, &self.book)?;
-        let present = mem::replace(&mut self.book, book);
-        self.undo.take_done();
-        self.undo.put_undone(Entry::Whole(present));
+        }
+        self.session.undo()?;
         Ok(())
     }
 
@@ -90,110 +76,13 @@ impl Parts {
         ensures turns { Turns op.redo NoAnswer (state_of self.old) (state_of self.new) result }
         ensures fits { Fits self.new }
     {
-        if self.batch.is_some() {
+        if self.session.batch.is_some() {
             return Err(Stop::Refused(Refusal::BatchOpen));
         }
-        let Some(entry) = self.undo.undone().last() else {
+        if self.session.steps.undone().is_empty() {
             return Err(Stop::Refused(Refusal::NothingToRedo));
-        };
-        let book = reached(self.alloc, entry, &self.book)?;
-        let present = mem::replace(&mut self.book, book);
-        self.undo.take_undone();
-        self.undo.put_done(Entry::Whole(present));
+        }
+        self.session.redo()?;
         Ok(())
-    }
-}
-
-// The workbook that a step leads to, as a copy.
-fn reached(alloc: Global, entry: &Entry, book: &Book) -> Result<Book, AllocError>
-    ensures { IfOk result (λ copy. stored copy ≡ over entry.now (stored book.now)) }
-{
-    match entry {
-        Entry::Changes(parts) => {
-            let mut copy = book.copied()?;
-            copy.undo(alloc, parts)?;
-            Ok(copy)
-        }
-        Entry::Whole(whole) => whole.copied(),
-    }
-}
-
-// Makes room for what the next operation changes, and answers an empty list with room for it.
-pub(crate) fn room(
-    alloc: Global,
-    undo: &mut UndoBook<Entry>,
-    batch: &mut Option<Changes>,
-) -> Result<Vec<Part>, AllocError>
-    ensures list { IfOk result (λ room. (room.items ≡ []) × (vec_len room < vec_capacity room)) }
-    ensures room { OnOk result (HasRoom batch.new undo.new) }
-    ensures steps { SameSteps undo.old undo.new }
-    ensures batch { SameBatch batch.old batch.new }
-{
-    match batch {
-        Some(changes) => changes.parts.reserve(1)?,
-        None => undo.reserve()?,
-    }
-    Vec::with_capacity(alloc, 1)
-}
-
-// Notes what an operation changed: as a step, or in the open batch. Nothing can be redone afterwards.
-pub(crate) fn note(
-    undo: &mut UndoBook<Entry>,
-    batch: &mut Option<Changes>,
-    room: Vec<Part>,
-    part: Part,
-)
-    requires empty { room.items ≡ [] }
-    requires list { vec_len room < vec_capacity room }
-    requires room { HasRoom batch.old undo.old }
-    ensures { Notes part batch.old undo.old batch.new undo.new }
-{
-    match batch {
-        Some(changes) => {
-            changes.parts.push_reserved(part);
-            forget_undone(undo);
-        }
-        None => push_step(undo, room, part),
-    }
-}
-
-// Adds what an operation changed as a step.
-fn push_step(undo: &mut UndoBook<Entry>, mut parts: Vec<Part>, part: Part)
-    requires empty { parts.items ≡ [] }
-    requires list { vec_len parts < vec_capacity parts }
-    requires room { 0 < undo.old.spare }
-    ensures { Adds (part ∷ []) undo.old undo.new }
-{
-    parts.push_reserved(part);
-    push(undo, parts);
-}
-
-// Adds changes as a step, for which there is room.
-fn push(undo: &mut UndoBook<Entry>, parts: Vec<Part>)
-    requires { 0 < undo.old.spare }
-    ensures { Adds parts.items undo.old undo.new }
-{
-    match undo.push(Entry::Changes(parts)) {
-        Ok(_) => (),
-        Err(_) => unreachable!(),
-    }
-}
-
-// Forgets all steps that could be redone.
-fn forget_undone(undo: &mut UndoBook<Entry>)
-    ensures { (undo.new.done ≡ undo.old.done) × (undo.new.undone ≡ []) × (undo.new.limit ≡ undo.old.limit) }
-{
-    while undo.take_undone().is_some() {}
-}
-
-// Adds the changes of a batch as a step, where there are any.
-fn close(undo: &mut UndoBook<Entry>, batch: Option<Changes>)
-    requires { 0 < undo.old.spare }
-    ensures { Closes batch undo.old undo.new }
-{
-    if let Some(changes) = batch {
-        if !changes.parts.is_empty() {
-            push(undo, changes.parts);
-        }
     }
 }

@@ -1,6 +1,5 @@
 -- What the steps of finding links answer.
-use Rattle.std.specs.Prelude.{◌==◌, ◌&&◌, ℕ, Bool, false, if◌then◌else◌, List, [], Option, Some, None}
-use Rattle.std.specs.FinMap as fin
+use Rattle.std.specs.Prelude.{ℕ, Bool, false, if◌then◌else◌, List, [], Option, Some, None}
 use Rattle.cell_addr.specs.Text.{capitals}
 use Rattle.cell_addr.specs.declared.place.Place.{Place}
 use Rattle.book_cells.specs.Workbook.{Content, formula}
@@ -12,13 +11,9 @@ use Rattle.formula_tree.specs.declared.link.Link.TheVariants as links
 use Rattle.formula_tree.specs.declared.mention.Mention.{Mention}
 use Rattle.formula_tree.specs.declared.reference.Corner.{Corner}
 use Rattle.calc_terms.specs.Needs.{mentions}
-use Rattle.grid_store.specs.declared.cell.Cell.{Cell}
-use Rattle.grid_store.specs.declared.cell.Cell.TheVariants as cell
-use Rattle.shift_core.specs.Maps.{PlaceMap}
 use Rattle.book_values.specs.Names.{Key}
-use Rattle.book_engine.specs.Expressions.{Slot}
-use Rattle.book_engine.specs.Formulas.{Stood}
 use Rattle.book_engine.specs.declared.shown_name.ShownName.{ShownName}
+use Rattle.book_engine.specs.internal.Slots.{Slot}
 
 -- there is something, and it passes the test
 abbrev pub passes : {X : Type 0} → (X → Bool) → Option X → Bool
@@ -34,16 +29,6 @@ mentioned (Some t) = once same_mention (mentions_in t)
 abbrev pub content_mentions : Place → Content → Bool
 content_mentions at (formula t) = mentions t at
 content_mentions at c = false
-
--- the cell holds the formula of this number
-abbrev pub is_number : ℕ → Cell → Bool
-is_number n (cell.Formula m) = m == n
-is_number n c = false
-
--- where the formula of a number stands, if it mentions a place and the cell there holds it
-abbrev pub place_needing : Place → PlaceMap Cell → ℕ → Option Stood → Option Place
-place_needing at cells n None = None
-place_needing at cells n (Some f) = if mentions f.1 at && passes (is_number n) (fin.get cells f.0) then Some f.0 else None
 
 -- a name as links show it
 abbrev pub shown_name : Key → ShownName

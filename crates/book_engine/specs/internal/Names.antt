@@ -6,9 +6,9 @@ use Rattle.cell_addr.specs.declared.place.Place.{Place}
 use Rattle.book_values.specs.Names.{Names}
 use Rattle.book_calc.specs.Names.{with_name}
 use Rattle.book_model.specs.declared.refusal.Refusal.{Refusal}
-use Rattle.book_engine.specs.Expressions.{Slot}
 use Rattle.book_engine.specs.declared.stop.Stop.{Stop}
 use Rattle.book_engine.specs.declared.stop.Stop.TheVariants.{Refused, NoMemory}
+use Rattle.book_engine.specs.internal.Slots.{Slot}
 
 -- a reading answers what it is to answer where no cause holds, and else the cause
 abbrev pub Reads : {X : Type 0} → Option Refusal → (X → Type 0) → Result X Stop → Type 0

@@ -5,8 +5,8 @@ use Rattle.clip_board.specs.declared.clip.Clip.{Clip}
 use Rattle.clip_board.specs.declared.clip.Clip.TheVariants as clips
 use Rattle.clip_board.specs.declared.clip.CopyItem.{CopyItem}
 use Rattle.clip_board.specs.declared.clip.CopyItem.TheVariants as item
-use Rattle.book_engine.specs.Copied.{IsCopied}
-use Rattle.book_engine.specs.Formula.{tree_at}
+use Rattle.kept_book.specs.Copied.{IsCopied}
+use Rattle.kept_book.specs.Formula.{tree_at}
 use Rattle.book_engine.specs.Seen.{CanPaste}
 use Rattle.book_engine.specs.internal.FormulaProp.{is_formula-prop}
 

@@ -39,4 +39,4 @@ returns-clause-fits c =
     let causes = of_name_text c.args.text.now (name_tree c.args.scope c.args.text.now d.book) in
     let none = behind (first d c.args.name.now c.args.scope) causes c.in_ok-check_new_name.ensures ∙ c.in_ok-tree.ensures.0 in
     let same = c.in_ok-name.ensures.ok ∙ ap (λ o. changed (with_name (key_of c.args.scope c.args.name.now) o d.book) d) (sym c.in_ok-tree.ensures.1.0) in
-    (done_sound (op.add_name c.args.name.now c.args.scope c.args.text.now) d _ none same c.requires.0, c.in_ok-name.ensures.kept)
+    done_sound (op.add_name c.args.name.now c.args.scope c.args.text.now) d _ none same c.requires

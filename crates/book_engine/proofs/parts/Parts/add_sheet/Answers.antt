@@ -1,43 +1,21 @@
-use Rattle.std.proofs.Common.{◌∙◌, ◌+◌, sym, ap, subst, refl, rules}
+use Rattle.std.proofs.Common.{◌∙◌, sym, subst}
 use Rattle.book_model.specs.Operation as op
-use Rattle.book_model.specs.Session.{changed}
 use Rattle.book_model.specs.Sound.{IsSound}
-use Rattle.book_engine.specs.Seen.{IsKept, session_of, state_of}
-use Rattle.book_engine.specs.Stored.{stored}
-use Rattle.book_engine.proofs.Changing.{added, stays}
+use Rattle.book_engine.specs.Seen.{state_of}
+use Rattle.book_engine.proofs.Turning.{done_sound, next_done}
 use Rattle.book_engine.proofs.SheetNames.{can_join}
 use Rattle.book_engine.proofs.parts.Parts.add_sheet.Goals as goal
 
-pub returns-in_err-room-clause-turns : goal.returns-in_err-room-clause-turns
-returns-in_err-room-clause-turns c =
-    let same = (stays (stored c.args.self.now.book) c.args.self.now.undo c.room.new.undo c.args.self.now.batch c.room.new.batch c.args.self.now.suspended c.args.self.now.next_sheet c.in_err-room.ensures.steps c.in_err-room.ensures.batch c.requires.0 c.requires.1).0 in
-    rw same (search rules)
+pub add_sheet-requires-clause-joins : goal.add_sheet-requires-clause-joins
+add_sheet-requires-clause-joins c = can_join (state_of c.args.self.now) c.args.name.now c.requires c.in_ok-check_add.ensures
 
-pub join-requires : goal.join-requires
-join-requires c = can_join (state_of c.args.self.now) c.args.name.now c.requires.0 c.in_ok-check_add.ensures
-
-pub returns-in_err-part-clause-turns : goal.returns-in_err-part-clause-turns
-returns-in_err-part-clause-turns c =
-    let same =
-    ap (λ k. session_of k c.room.new.undo c.room.new.batch c.args.self.now.suspended c.args.self.now.next_sheet) c.in_err-part.ensures.err
-    ∙ (stays (stored c.args.self.now.book) c.args.self.now.undo c.room.new.undo c.args.self.now.batch c.room.new.batch c.args.self.now.suspended c.args.self.now.next_sheet c.in_ok-room.ensures.steps c.in_ok-room.ensures.batch c.requires.0 c.requires.1).0 in
-    rw same (search rules)
-
-pub returns-in_err-part-clause-fits : goal.returns-in_err-part-clause-fits
-returns-in_err-part-clause-fits c =
-    let kept = stays (stored c.args.self.now.book) c.args.self.now.undo c.room.new.undo c.args.self.now.batch c.room.new.batch c.args.self.now.suspended c.args.self.now.next_sheet c.in_ok-room.ensures.steps c.in_ok-room.ensures.batch c.requires.0 c.requires.1 in
-    subst (λ k. IsSound (session_of k c.room.new.undo c.room.new.batch c.args.self.now.suspended c.args.self.now.next_sheet) × IsKept k c.room.new.undo c.room.new.batch) (sym c.in_err-part.ensures.err) (kept.1, kept.2)
+pub returns-in_err-number-clause-fits : goal.returns-in_err-number-clause-fits
+returns-in_err-number-clause-fits c = subst IsSound (sym c.in_err-number.ensures.err) c.requires
 
 pub returns-clause-turns : goal.returns-clause-turns
 returns-clause-turns c =
-    let turned = added (stored c.args.self.now.book) c.args.self.now.undo c.room.new.undo c.args.self.now.batch c.room.new.batch c.args.self.now.suspended c.args.self.now.next_sheet c.in_ok-room.ensures.steps c.in_ok-room.ensures.batch c.requires.0 c.requires.1
-    (op.add_sheet c.args.name.now) (stored c.join.new.self) c.note.new.undo c.note.new.batch c.in_ok-part.part c.in_ok-check_add.ensures
-    (ap (λ b. record (changed b (state_of c.args.self.now)) { next_sheet = c.args.self.now.next_sheet + 1 }) (sym c.in_ok-part.ensures.ok)) c.in_ok-part.ensures.back c.note.ensures (c.in_ok-part.ensures.stand c.requires.1.stand) in
-    (c.in_ok-check_add.ensures, refl, turned.0)
+    let d = state_of c.args.self.now in
+    (c.in_ok-check_add.ensures, c.in_ok-number.ensures.number, c.in_ok-number.ensures.ok ∙ sym (next_done (op.add_sheet c.args.name.now) d c.in_ok-check_add.ensures))
 
 pub returns-clause-fits : goal.returns-clause-fits
-returns-clause-fits c =
-    let turned = added (stored c.args.self.now.book) c.args.self.now.undo c.room.new.undo c.args.self.now.batch c.room.new.batch c.args.self.now.suspended c.args.self.now.next_sheet c.in_ok-room.ensures.steps c.in_ok-room.ensures.batch c.requires.0 c.requires.1
-    (op.add_sheet c.args.name.now) (stored c.join.new.self) c.note.new.undo c.note.new.batch c.in_ok-part.part c.in_ok-check_add.ensures
-    (ap (λ b. record (changed b (state_of c.args.self.now)) { next_sheet = c.args.self.now.next_sheet + 1 }) (sym c.in_ok-part.ensures.ok)) c.in_ok-part.ensures.back c.note.ensures (c.in_ok-part.ensures.stand c.requires.1.stand) in
-    (turned.1, turned.2)
+returns-clause-fits c = done_sound (op.add_sheet c.args.name.now) (state_of c.args.self.now) _ c.in_ok-check_add.ensures c.in_ok-number.ensures.ok c.requires

@@ -1,35 +1,46 @@
-use Rattle.std.proofs.Common.{◌≡◌, ◌∙◌, sym, ap, arith, length, option_map, ◌||◌, get_or, None}
+use Rattle.std.proofs.Common.{◌≡◌, ◌∙◌, ◌++◌, ◌∷◌, [], sym, ap, refl, cond, Some, None, append_assoc}
 use Rattle.std.specs.BTreeMap.{is_at}
 use Rattle.std.specs.BTreeSet.{contains}
 use Rattle.std.specs.FinMap as fin
 use Rattle.std.specs.List.{list_any}
-use Rattle.std.specs.Ordering.{eq_by_cmp}
-use Rattle.std.proofs.lemmas.List.{get_or_read}
+use Rattle.std.proofs.lemmas.List.{append-nil}
 use Rattle.cell_addr.specs.Order.{place_cmp}
-use Rattle.grid_store.specs.Grid.{cells_of}
-use Rattle.book_model.proofs.Counts.{length-map}
-use Rattle.book_engine.specs.Formulas.{numbered, slots_of, stood}
-use Rattle.book_engine.specs.internal.Links.{passes, place_needing}
-use Rattle.book_engine.proofs.NeedingCells.{before-all, before-next, before-none}
-use Rattle.book_engine.proofs.Slots.{under-get}
+use Rattle.cell_addr.specs.declared.place.Place.{Place}
+use Rattle.grid_store.specs.Grid.{cells_of, items_of}
+use Rattle.grid_store.specs.declared.cell.Cell.{Cell}
+use Rattle.kept_book.specs.Frame.{numbered_at}
+use Rattle.kept_book.specs.Kept.{at_of}
+use Rattle.book_engine.specs.Seen.{state_of}
+use Rattle.book_engine.proofs.FilledWorkbooks.{shorter}
+use Rattle.book_engine.proofs.NeedingCells.{needs, needs-all, needs-more}
 use Rattle.book_engine.proofs.parts.Parts.cells_needing.Goals as goal
 
-pub formulas-init : goal.formulas-init
-formulas-init c = λ q.
-    ap (list_any (is_at (place_cmp q))) c.new-cells.ensures.empty ∙ before-none (numbered c.args.self.now.book.formulas) c.args.at (fin.get (cells_of c.args.self.now.book.grid) q)
+pub loop-place-init : goal.loop-place-init
+loop-place-init c = record {
+  needing = ([], ap fin.from_entries (append-nil (items_of c.in_ok-cells.cells)) ∙ c.in_ok-cells.ensures, λ q. ap (list_any (is_at (place_cmp q))) c.new-needing.ensures.empty);
+  state = refl;
+}
 
-pub formulas-preserved : goal.formulas-preserved
-formulas-preserved c = λ q.
-    let stands = numbered c.args.self.now.book.formulas in
-    let cells = cells_of c.args.self.now.book.grid in
-    let i = c.formulas.number in
-    let here : option_map stood c.slot-item.result ≡ stands i =
-    ap (option_map stood) (get_or_read c.slots-slot-items.result.now i c.slot-item.result c.formulas-test.true c.slot-item.is None ∙ ap (λ l. get_or l i None) c.slots-slot-items.ensures) ∙ sym (under-get c.args.self.now.book.formulas.slots.items i) in
-    c.in_ok-add.ensures q
-    ∙ ap (λ p. passes (λ k. eq_by_cmp place_cmp k q) p || contains place_cmp c.formulas.cells q) (c.place_needing-place.ensures ∙ ap (place_needing c.args.at cells i) here)
-    ∙ before-next c.args.at cells stands i q c.requires.1.stand (contains place_cmp c.formulas.cells q) (c.formulas.invariant q)
+pub loop-place-smaller : goal.loop-place-smaller
+loop-place-smaller c = shorter (items_of c.next_place.new.cells) (items_of c.loop-place.cells) (c.in-Some.place, c.in-Some.ensures.0) c.in-Some.ensures.1
 
-pub returns : goal.returns
-returns c = λ q.
-    let long : length (slots_of c.args.self.now.book.formulas) ≡ length c.slots-slot-items.result.now = length-map (option_map stood) c.args.self.now.book.formulas.slots.items ∙ ap length (sym c.slots-slot-items.ensures) in
-    c.formulas.invariant q ∙ before-all (slots_of c.args.self.now.book.formulas) (cells_of c.args.self.now.book.grid) c.args.at q c.formulas.number c.requires.1.stand (omega (arith, long, c.formulas-test.false))
+pub loop-place-preserved : goal.loop-place-preserved
+loop-place-preserved c =
+    let i = c.loop-place.invariant in
+    let e : Place × Cell = (c.in-Some.place, c.in-Some.ensures.0) in
+    let left = items_of c.next_place.new.cells in
+    record {
+      needing = (
+        e ∷ i.needing.0,
+        ap fin.from_entries (sym (append_assoc left (e ∷ []) i.needing.0) ∙ ap (λ l. l ++ i.needing.0) (sym c.in-Some.ensures.1)) ∙ i.needing.1,
+        λ q. needs-more c.args.at (state_of c.args.self.now).book.cells i.needing.0 e q c.in_ok-found.found (contains place_cmp c.loop-place.needing q) (contains place_cmp c.add.new.set q)
+            (c.in_ok-found.ensures.needing ∙ ap (λ d. cond (needs c.args.at d.book.cells c.in-Some.place) (Some c.in-Some.place) None) i.state) (i.needing.2 q) (c.in_ok-add.ensures q),
+      );
+      state = c.in_ok-found.ensures.state ∙ i.state;
+    }
+
+pub returns-clause-needing : goal.returns-clause-needing
+returns-clause-needing c = λ q.
+    let i = c.loop-place.invariant in
+    let b = c.args.self.now.session.book in
+    i.needing.2 q ∙ needs-all c.args.at (numbered_at (at_of b) b.lazy.line.cursor) (cells_of b.grid) i.needing.0 q (ap (λ l. fin.from_entries (l ++ i.needing.0)) (sym c.in_default.ensures) ∙ i.needing.1)

@@ -1,14 +1,9 @@
-use Rattle.std.proofs.Common.{◌≡◌, ◌∙◌, sym, ap, subst, option_map, IfOk}
-use Rattle.grid_store.specs.Grid.{cells_of}
-use Rattle.name_table.specs.Listed.{listed}
-use Rattle.book_model.specs.Content.{content_shown}
-use Rattle.book_engine.specs.Formulas.{numbered}
-use Rattle.book_engine.specs.Stored.{content_of}
-use Rattle.book_engine.proofs.Contents.{get-contents}
+use Rattle.std.proofs.Common.{◌∙◌, sym, ap, option_map}
+use Rattle.formula_tree.proofs.SameTexts.{proper-inside}
+use Rattle.kept_book.specs.Formula.{tree_at}
+use Rattle.book_engine.specs.Seen.{state_of}
+use Rattle.book_engine.proofs.ReadContents.{read-proper}
 use Rattle.book_engine.proofs.parts.Parts.content_text.Goals as goal
 
-pub returns : goal.returns
-returns c =
-    let stands = numbered c.args.self.now.book.formulas in
-    subst (λ z. IfOk c.content_in.result (λ x. x ≡ content_shown (listed c.args.self.now.book.names) c.args.at.sheet z))
-    (ap (option_map (content_of stands)) c.cell.ensures ∙ sym (get-contents stands (cells_of c.args.self.now.book.grid) c.args.at)) c.content_in.ensures
+pub print-requires : goal.print-requires
+print-requires c = proper-inside (tree_at c.args.at c.in-Some.tree) (read-proper (state_of c.args.self.now) c.args.at (tree_at c.args.at c.in-Some.tree) c.requires (sym (ap (option_map (tree_at c.args.at)) c.in-Some.is) ∙ c.in_ok-formula.ensures.tree))

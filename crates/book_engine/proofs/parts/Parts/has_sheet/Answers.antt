@@ -5,4 +5,4 @@ use Rattle.book_engine.proofs.SheetNames.{has-name, some_copied}
 use Rattle.book_engine.proofs.parts.Parts.has_sheet.Goals as goal
 
 pub returns : goal.returns
-returns c = c.is_some.ensures ∙ some_copied c.name_of.result ∙ ap is_some c.name_of.ensures ∙ has-name (listed c.args.self.now.book.names) c.args.sheet
+returns c = c.is_some.ensures ∙ some_copied c.name_of.result ∙ ap is_some c.name_of.ensures ∙ has-name (listed c.args.self.now.session.book.names) c.args.sheet

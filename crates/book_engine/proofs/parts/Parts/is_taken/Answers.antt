@@ -4,7 +4,7 @@ use Rattle.book_engine.proofs.SheetNames.{is-taken, is_other}
 use Rattle.book_engine.proofs.parts.Parts.is_taken.Goals as goal
 
 pub returns-in-Some : goal.returns-in-Some
-returns-in-Some c = ap (is_other c.args.sheet) (sym c.in-Some.is ∙ c.id_of.ensures) ∙ is-taken (listed c.args.self.now.book.names) c.args.sheet c.args.name.now c.requires.0
+returns-in-Some c = ap (is_other c.args.sheet) (sym c.in-Some.is ∙ c.id_of.ensures) ∙ is-taken (listed c.args.self.now.session.book.names) c.args.sheet c.args.name.now c.requires.0
 
 pub returns-in-None : goal.returns-in-None
-returns-in-None c = ap (is_other c.args.sheet) (sym c.in-None.is ∙ c.id_of.ensures) ∙ is-taken (listed c.args.self.now.book.names) c.args.sheet c.args.name.now c.requires.0
+returns-in-None c = ap (is_other c.args.sheet) (sym c.in-None.is ∙ c.id_of.ensures) ∙ is-taken (listed c.args.self.now.session.book.names) c.args.sheet c.args.name.now c.requires.0

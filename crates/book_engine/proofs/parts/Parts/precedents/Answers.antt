@@ -7,4 +7,4 @@ use Rattle.book_engine.specs.Seen.{state_of}
 use Rattle.book_engine.proofs.parts.Parts.precedents.Goals as goal
 
 pub returns-clause-inside : goal.returns-clause-inside
-returns-clause-inside c = subst (All IsLinkInside) (sym c.in_ok-links.ensures) (precedents_inside (state_of c.args.self.now) c.args.at c.requires.0)
+returns-clause-inside c = subst (All IsLinkInside) (sym c.in_ok-links.ensures.links) (precedents_inside (state_of c.args.self.now) c.args.at c.requires)

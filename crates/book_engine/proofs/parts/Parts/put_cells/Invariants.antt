@@ -7,8 +7,9 @@ use Rattle.book_engine.proofs.parts.Parts.put_cells.Given as goal
 
 abbrev pub invariant-loop-at : goal.invariant-loop-at
 invariant-loop-at l = record {
-  filled : IsFilledBut (items_of l.cells) (state_of l.self).book.cells (workbook_of l.workbook).cells;
+  filled : IsFilledBut (items_of l.cells) (state_of l.fn.self).book.cells (workbook_of l.workbook).cells;
   names : (workbook_of l.workbook).names ≡ (workbook_of l.fn.workbook).names;
+  state : state_of l.self ≡ state_of l.fn.self;
 }
 
 abbrev pub decreases-loop-at : goal.decreases-loop-at

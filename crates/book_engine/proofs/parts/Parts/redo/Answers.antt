@@ -1,27 +1,31 @@
-use Rattle.std.proofs.Common.{◌∙◌, sym, ap, length, ◌-◌}
-use Rattle.std.specs.Prelude.{slice_get}
-use Rattle.undo_book.specs.History.{with_done}
-use Rattle.book_engine.specs.Stored.{stored}
-use Rattle.book_engine.specs.declared.history.Entry.TheVariants as entry
-use Rattle.book_engine.proofs.Reached.{none_open, redone}
+use Rattle.std.proofs.Common.{◌≡◌, ◌∙◌, ◌==◌, sym, ap, cond, false, length, Some, None, is_some}
+use Rattle.book_model.specs.Operation as op
+use Rattle.book_model.specs.Refusals.{cause}
+use Rattle.book_model.specs.declared.refusal.Refusal.TheVariants.{BatchOpen, NothingToRedo}
+use Rattle.kept_book.specs.Kept.{frame_of}
+use Rattle.kept_steps.specs.Fits.{batch_of, start_of}
+use Rattle.kept_steps.specs.Timeline.{timeline_of}
+use Rattle.book_engine.specs.Seen.{state_of}
+use Rattle.book_engine.proofs.Counted.{none_open, steps_ahead}
+use Rattle.book_engine.proofs.NamedSlots.{is_some-map}
+use Rattle.book_engine.proofs.Turning.{done_sound, next_done}
 use Rattle.book_engine.proofs.parts.Parts.redo.Goals as goal
 
+pub redo-requires : goal.redo-requires
+redo-requires c = record { closed = none_open c.args.self.now.session.batch (sym c.is_some.ensures ∙ c.if-is_some.false) }
+
+accepted : (c : goal.After-redo) → cause op.redo (state_of c.args.self.now) ≡ None
+accepted c =
+    let s = c.args.self.now.session in
+    let t = timeline_of s.book in
+    let f = frame_of s.book in
+    let d = state_of c.args.self.now in
+    let open : is_some d.batch ≡ false = sym (is_some-map (batch_of t f) s.batch) ∙ sym c.is_some.ensures ∙ c.if-is_some.false in
+    let some : (length d.redo == 0) ≡ false = ap (λ k. k == 0) (steps_ahead t f s.steps.undone ∙ sym (ap length c.undone.ensures.result)) ∙ sym c.is_empty.ensures ∙ c.if-is_empty.false in
+    ap (λ x. cond x (Some BatchOpen) (cond (length d.redo == 0) (Some NothingToRedo) None)) open ∙ ap (λ x. cond x (Some NothingToRedo) None) some
+
 pub returns-clause-turns : goal.returns-clause-turns
-returns-clause-turns c =
-    let e = c.in-Some.entry.now in
-    let w = entry.Whole c.replace-present.result in
-    let none = none_open c.args.self.now.batch (sym c.is_some.ensures ∙ c.if-is_some.false) in
-    let reached = redone (stored c.args.self.now.book) (stored c.replace-present.new.dest) c.args.self.now.undo c.put_done.new.self c.args.self.now.batch c.args.self.now.suspended c.args.self.now.next_sheet e w
-    none (ap stored c.replace-present.ensures.after ∙ c.in_ok-book.ensures) (ap stored c.replace-present.ensures.value) c.requires.0 c.requires.1
-    (c.in-Some.ensures.value ∙ ap (λ l. slice_get l (length l - 1)) c.undone.ensures.result) (c.put_done.ensures ∙ ap (with_done w) c.take_undone.ensures.rest) in
-    (reached.0, tt, reached.1)
+returns-clause-turns c = (accepted c, tt, c.in_ok-redo.ensures.ok ∙ sym (next_done op.redo (state_of c.args.self.now) (accepted c)))
 
 pub returns-clause-fits : goal.returns-clause-fits
-returns-clause-fits c =
-    let e = c.in-Some.entry.now in
-    let w = entry.Whole c.replace-present.result in
-    let none = none_open c.args.self.now.batch (sym c.is_some.ensures ∙ c.if-is_some.false) in
-    let reached = redone (stored c.args.self.now.book) (stored c.replace-present.new.dest) c.args.self.now.undo c.put_done.new.self c.args.self.now.batch c.args.self.now.suspended c.args.self.now.next_sheet e w
-    none (ap stored c.replace-present.ensures.after ∙ c.in_ok-book.ensures) (ap stored c.replace-present.ensures.value) c.requires.0 c.requires.1
-    (c.in-Some.ensures.value ∙ ap (λ l. slice_get l (length l - 1)) c.undone.ensures.result) (c.put_done.ensures ∙ ap (with_done w) c.take_undone.ensures.rest) in
-    (reached.2, reached.3)
+returns-clause-fits c = done_sound op.redo (state_of c.args.self.now) _ (accepted c) c.in_ok-redo.ensures.ok c.requires

@@ -4,4 +4,4 @@ use Rattle.book_engine.proofs.Turning.{done_sound}
 use Rattle.book_engine.proofs.parts.Parts.remove_name.Goals as goal
 
 pub returns-clause-fits : goal.returns-clause-fits
-returns-clause-fits c = (done_sound (op.remove_name c.args.name.now c.args.scope) (state_of c.args.self.now) _ c.in_ok-check_known_name.ensures c.in_ok-name.ensures.ok c.requires.0, c.in_ok-name.ensures.kept)
+returns-clause-fits c = done_sound (op.remove_name c.args.name.now c.args.scope) (state_of c.args.self.now) _ c.in_ok-check_known_name.ensures c.in_ok-name.ensures.ok c.requires

@@ -1,0 +1,147 @@
+-- The names of a table, read one after the other with their words and trees. Serves the values of a workbook and its links.
+use Rattle.std.proofs.Common.{◌≡◌, ◌∙◌, sym, ap, subst, refl, arith, ℕ, zero, suc, ◌<◌, ◌&&◌, ◌||◌, Bool, true, false, true≢false, cond, List, [], ◌∷◌, length, get_or, map, Option, Some, None, is_some, option_map}
+use Rattle.std.proofs.lemmas.Slice.Eq.{bytes_eq-Decides}
+use Rattle.std.proofs.lemmas.Option.{none-some, same_Some}
+use Rattle.std.specs.FinMap as fin
+use Rattle.std.specs.FinMap.{find, entries_sorted, get-entries, is_sorted}
+use Rattle.std.specs.FinMap.Entries.{below_all}
+use Rattle.std.specs.List.{cons_option, filter_map, list_any}
+use Rattle.std.specs.Ordering.{eq_by_cmp, is_eq, is_lt, ordering_reverse}
+use Rattle.std.specs.Prelude.{T, option_and_then, slice_get}
+use Rattle.std.specs.declared.cmp.Ordering.{Ordering}
+use Rattle.std.specs.declared.cmp.Ordering.TheVariants.{Less, Equal, Greater}
+use Rattle.formula_tree.specs.Term.{Term}
+use Rattle.formula_tree.specs.declared.reference.Corner.{Corner}
+use Rattle.cell_addr.specs.Text.{folded}
+use Rattle.name_table.proofs.KeyOrder as order
+use Rattle.name_table.proofs.WordNumbers.{folded-folded, number-folded, number-spelled, spelled-number}
+use Rattle.name_table.specs.Scopes as table
+use Rattle.name_table.specs.Words.{AreWords, number_in}
+use Rattle.name_table.specs.declared.key.NameKey.{NameKey}
+use Rattle.shift_line.specs.Track.{with_spare}
+use Rattle.book_values.proofs.Keys.{same_key-equal}
+use Rattle.book_values.specs.Names.{Key, key_of, same_key}
+use Rattle.book_model.specs.Names.{NameMap}
+use Rattle.kept_book.proofs.NamesSeen.{get-seen, number_of, same_id_key, spelled-has}
+use Rattle.kept_book.specs.Frame.{Words, name_seen, names_seen}
+use Rattle.kept_book.specs.Kept.{SameBook}
+use Rattle.kept_book.specs.declared.book.Book.{Book}
+use Rattle.book_engine.specs.internal.Slots.{AreApart, Slot, names_under, seen_slot}
+
+-- a book that is the same as one that is the same
+pub same-book : (a b c : Book) → SameBook a b → SameBook b c → SameBook a c
+same-book a b c x y = record {
+  frame = y.frame ∙ x.frame;
+  line = y.line ∙ ap (with_spare c.lazy.line.spare) x.line;
+  standings = λ id k. y.standings id k ∙ x.standings id k;
+  known = λ i w is. y.known i w (x.known i w is);
+}
+
+pub same-itself : (a : Book) → SameBook a a
+same-itself a = record { frame = refl; line = refl; standings = λ id k. refl; known = λ i w is. is }
+
+-- names with their trees as slots
+abbrev pub as_slot : Key × Term Corner → Slot
+as_slot e = (e.0, Some e.1)
+
+pub slots-under : (es : List (Key × Term Corner)) → names_under (map as_slot es) ≡ fin.from_entries es
+slots-under [] = refl
+slots-under (e ∷ es) = ap (λ m. fin.insert m e.0 e.1) (slots-under es)
+
+-- a known word is in small letters
+pub small-word : (words : Words) (w : List ℕ) (n : ℕ) → AreWords words → slice_get words n ≡ Some w → folded w ≡ w
+small-word words w n h e = same_Some (folded w) w (sym (number-spelled words w n h (spelled-number words w n h e)) ∙ e)
+
+-- ---- entries in order
+
+first-of : (a b : Bool) → T (a && b) → T a
+first-of true b p = tt
+first-of false b p = absurd p
+
+second-of : (a b : Bool) → T (a && b) → T b
+second-of true b p = p
+second-of false b p = absurd p
+
+-- an entry before all others isn't found among them
+lacks-first : (k : NameKey) (es : List (NameKey × ℕ)) → T (below_all table.key_cmp k es) → find table.key_cmp k es ≡ None
+lacks-first k [] h = refl
+lacks-first k (e ∷ es) h = go (table.key_cmp k e.0) (first-of (is_lt (table.key_cmp k e.0)) (below_all table.key_cmp k es) h) (lacks-first k es (second-of (is_lt (table.key_cmp k e.0)) (below_all table.key_cmp k es) h))
+  where
+    go : (o : Ordering) → T (is_lt o) → find table.key_cmp k es ≡ None → cond (is_eq o) (Some e.1) (find table.key_cmp k es) ≡ None
+    go Less p rest = rest
+    go Equal p rest = absurd p
+    go Greater p rest = absurd p
+
+module _ (words : Words) (proper : AreWords words) (trees : ℕ → Term Corner) where
+  abbrev pub seen_in : List (NameKey × ℕ) → List (Key × Term Corner)
+  seen_in es = filter_map (name_seen words trees) es
+
+  -- a name that isn't found in a table isn't seen in it
+  unseen : (k : NameKey) (w : List ℕ) (es : List (NameKey × ℕ)) → slice_get words k.word ≡ Some w → find table.key_cmp k es ≡ None → list_any (same_key (record { scope = k.scope; word = w })) (map (λ s. s.0) (map as_slot (seen_in es))) ≡ false
+  unseen k w [] spelt none = refl
+  unseen k w (e ∷ es) spelt none = by (eq_by_cmp table.key_cmp k e.0) refl none
+    where
+      other : (v : List ℕ) (b : Bool) → slice_get words e.0.word ≡ Some v → same_key (record { scope = k.scope; word = w }) (record { scope = e.0.scope; word = v }) ≡ b → eq_by_cmp table.key_cmp k e.0 ≡ false → b ≡ false
+      other v true read same apart =
+          let keys = same_key-equal (record { scope = k.scope; word = w }) (record { scope = e.0.scope; word = v }) same in
+          let word : k.word ≡ e.0.word = same_Some k.word e.0.word (sym (spelled-has words w k.word proper spelt) ∙ ap (λ x. number_of words x.word) keys ∙ spelled-has words v e.0.word proper read) in
+          absurd (true≢false (sym (same_id_key k e.0 (λ i. record { scope = (keys i).scope; word = word i })) ∙ apart))
+      other v false read same apart = refl
+
+      go : (r : Option (List ℕ)) → slice_get words e.0.word ≡ r → eq_by_cmp table.key_cmp k e.0 ≡ false → list_any (same_key (record { scope = k.scope; word = w })) (map (λ s. s.0) (map as_slot (seen_in es))) ≡ false
+          → list_any (same_key (record { scope = k.scope; word = w })) (map (λ s. s.0) (map as_slot (cons_option (option_map (λ v. (record { scope = e.0.scope; word = v }, trees e.1)) r) (seen_in es)))) ≡ false
+      go None read apart rest = rest
+      go (Some v) read apart rest = ap (λ b. b || list_any (same_key (record { scope = k.scope; word = w })) (map (λ s. s.0) (map as_slot (seen_in es)))) (other v (same_key (record { scope = k.scope; word = w }) (record { scope = e.0.scope; word = v })) read refl apart) ∙ rest
+
+      by : (b : Bool) → eq_by_cmp table.key_cmp k e.0 ≡ b → cond b (Some e.1) (find table.key_cmp k es) ≡ None → list_any (same_key (record { scope = k.scope; word = w })) (map (λ s. s.0) (map as_slot (seen_in (e ∷ es)))) ≡ false
+      by true same f = absurd (none-some e.1 (sym f))
+      by false apart f = go (slice_get words e.0.word) refl apart (unseen k w es spelt f)
+
+  -- the names that are seen stand apart
+  seen-apart : (es : List (NameKey × ℕ)) → T (is_sorted table.key_cmp es) → AreApart (map (λ s. s.0) (map as_slot (seen_in es)))
+  seen-apart [] sorted = tt
+  seen-apart (e ∷ es) sorted =
+      go (slice_get words e.0.word) refl (lacks-first e.0 es (first-of (below_all table.key_cmp e.0 es) (is_sorted table.key_cmp es) sorted)) (seen-apart es (second-of (below_all table.key_cmp e.0 es) (is_sorted table.key_cmp es) sorted))
+    where
+      go : (r : Option (List ℕ)) → slice_get words e.0.word ≡ r → find table.key_cmp e.0 es ≡ None → AreApart (map (λ s. s.0) (map as_slot (seen_in es)))
+          → AreApart (map (λ s. s.0) (map as_slot (cons_option (option_map (λ v. (record { scope = e.0.scope; word = v }, trees e.1)) r) (seen_in es))))
+      go None read lacks rest = rest
+      go (Some w) read lacks rest = (unseen e.0 w es read lacks, rest)
+
+  pub names-apart : (names : table.NameMap) → AreApart (map (λ s. s.0) (map as_slot (seen_in (fin.entries names))))
+  names-apart names = seen-apart (fin.entries names) (entries_sorted names)
+
+-- an entry at an index is found
+found-later : (k : NameKey) (es : List (NameKey × ℕ)) (i : ℕ) (d : NameKey × ℕ) → T (below_all table.key_cmp k es) → i < length es → eq_by_cmp table.key_cmp (get_or es i d).0 k ≡ false
+found-later k [] i d h l = absurd (omega (arith, l))
+found-later k (e ∷ es) zero d h l = go (table.key_cmp k e.0) refl (first-of (is_lt (table.key_cmp k e.0)) (below_all table.key_cmp k es) h)
+  where
+    go : (o : Ordering) → table.key_cmp k e.0 ≡ o → T (is_lt o) → eq_by_cmp table.key_cmp e.0 k ≡ false
+    go Less is p = ap is_eq (order.key_cmp-IsTotalOrder.antisymm e.0 k ∙ ap ordering_reverse is)
+    go Equal is p = absurd p
+    go Greater is p = absurd p
+found-later k (e ∷ es) (suc i) d h l = found-later k es i d (second-of (is_lt (table.key_cmp k e.0)) (below_all table.key_cmp k es) h) (omega (arith, l))
+
+find-index : (es : List (NameKey × ℕ)) (i : ℕ) (d : NameKey × ℕ) → T (is_sorted table.key_cmp es) → i < length es → find table.key_cmp (get_or es i d).0 es ≡ Some (get_or es i d).1
+find-index [] i d sorted l = absurd (omega (arith, l))
+find-index (e ∷ es) zero d sorted l = ap (λ b. cond b (Some e.1) (find table.key_cmp e.0 es)) (same_id_key e.0 e.0 refl)
+find-index (e ∷ es) (suc i) d sorted l =
+    ap (λ b. cond b (Some e.1) (find table.key_cmp (get_or es i d).0 es)) (found-later e.0 es i d (first-of (below_all table.key_cmp e.0 es) (is_sorted table.key_cmp es) sorted) (omega (arith, l)))
+    ∙ find-index es i d (second-of (below_all table.key_cmp e.0 es) (is_sorted table.key_cmp es) sorted) (omega (arith, l))
+
+pub get-index : (names : table.NameMap) (i : ℕ) (e : NameKey × ℕ) → i < length (fin.entries names) → e ≡ get_or (fin.entries names) i e → fin.get names e.0 ≡ Some e.1
+get-index names i e l is =
+    get-entries names e.0 ∙ ap (λ x. find table.key_cmp x.0 (fin.entries names)) is ∙ find-index (fin.entries names) i e (entries_sorted names) l ∙ ap (λ x. Some x.1) (sym is)
+
+-- what the word of a text finds: its number in the list, and what the table has under that
+number-read : (words : Words) (text : List ℕ) → number_of words (folded text) ≡ number_in words text
+number-read words text = ap (λ b. cond b (number_in words (folded text)) None) ((bytes_eq-Decides (folded (folded text)) (folded text)).1 (folded-folded text)) ∙ number-folded words text
+
+pub get-read : (words : Words) (proper : AreWords words) (trees : ℕ → Term Corner) (names : table.NameMap) (scope : Option ℕ) (text : List ℕ)
+    → fin.get (names_seen words trees names) (key_of scope text) ≡ option_map trees (option_and_then (λ n. fin.get names (table.key_of scope n)) (number_in words text))
+get-read words proper trees names scope text =
+    get-seen words proper trees names (key_of scope text) ∙ ap (λ r. option_map trees (option_and_then (λ n. fin.get names (table.key_of scope n)) r)) (number-read words text)
+
+pub is_some-read : {X Y : Type 0} (f : X → Y) (o : Option X) → is_some (option_map f o) ≡ is_some o
+is_some-read f None = refl
+is_some-read f (Some x) = refl
