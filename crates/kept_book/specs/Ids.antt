@@ -1,0 +1,12 @@
+-- The ids under which a store keeps its formulas. Each id is given out once. Source: this project's own.
+use Rattle.std.specs.Prelude.{◌≡◌, ℕ, ◌<◌, ◌≤◌, false, is_some}
+use Rattle.lazy_store.specs.Store.{kept_in}
+use Rattle.lazy_store.specs.declared.lazy.Lazy.{Lazy}
+
+-- no formula has this id or a later one
+abbrev pub AreBelow : ℕ → Lazy → Type 0
+AreBelow n store = (id : ℕ) → n ≤ id → is_some (kept_in store id) ≡ false
+
+-- each formula that came before this id is kept as it was
+abbrev pub KeepsBelow : ℕ → Lazy → Lazy → Type 0
+KeepsBelow n old new = (id : ℕ) → id < n → kept_in new id ≡ kept_in old id

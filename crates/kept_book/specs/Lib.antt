@@ -1,0 +1,10 @@
+pub mod Formula
+pub mod Numbered
+pub mod Stored
+pub mod Frame
+pub mod Change
+pub mod Walk
+pub mod Ids
+pub mod Kept
+pub mod Copied
+pub mod internal

@@ -1,0 +1,6 @@
+-- What only the proofs of bodies need.
+pub mod Cells
+pub mod Dropped
+pub mod Props
+pub mod Stepping
+pub mod Writing

@@ -1,0 +1,162 @@
+// Cells that are given what a text says, or emptied.
+ghost use Rattle.std.specs.Prelude.{◌≡◌, ◌==◌, [], IfOk, OnOk, OnErr, IfSome, option_map};
+ghost use Rattle.std.specs.List.{All, cons_option};
+ghost use Rattle.std.specs.FinMap as map;
+ghost use Rattle.cell_addr.specs.Place.{IsInside, covers};
+ghost use Rattle.grid_store.specs.Grid.{cells_of, items_of, within};
+ghost use Rattle.name_table.specs.Listed.{listed};
+ghost use Rattle.shift_core.specs.Maps.{AreInside};
+ghost use Rattle.shift_line.specs.Track.{with_spare};
+ghost use Rattle.book_model.specs.Changes.{emptied, with_content};
+ghost use Rattle.book_model.specs.Content.{content_given, tree_given};
+ghost use Rattle.kept_book.specs.Copied.{IsCopied, entry_copied};
+ghost use Rattle.kept_book.specs.Ids.{KeepsBelow};
+ghost use Rattle.kept_book.specs.Kept.{IsStanding, Makes, SameBook, change_of, workbook};
+ghost use Rattle.kept_book.specs.internal.Cells.{listed_at};
+
+use crate::book::Book;
+use crate::part::Part;
+use book_model::{ContentText, read_content};
+use cell_addr::{Block, COLS, Place, ROWS};
+use clip_board::CopyItem;
+use formula_parse::{ParseError, parse};
+use formula_tree::{Home, Pool, Tree};
+use grid_store::{Cell, CellList};
+use name_table::Names;
+use std::alloc::{AllocError, Global};
+
+impl Book {
+    /// Gives a cell the content that a text says, and answers what that changed. Every other formula is kept as it was, but
+    /// the one that the cell held, which isn't touched either. For want of memory the workbook is as it was. Costs about
+    /// the length of the text, with the logarithm of the number of filled cells.
+    pub fn fill(&mut self, pool: &mut Pool, at: Place, text: &str) -> Result<Part, AllocError>
+        requires inside { IsInside at }
+        requires stand { IsStanding self.old }
+        ensures ok { OnOk result (workbook self.new ≡ with_content at text.now (workbook self.old)) }
+        ensures makes { IfOk result (λ part. Makes self.old self.new (change_of part)) }
+        ensures replaced { IfOk result (λ part. items_of part.replaced ≡ listed_at at (map.get (cells_of self.old.grid) at)) }
+        ensures written { IfOk result (λ part. All (λ e. e.0 ≡ at) (items_of part.written)) }
+        ensures err { OnErr result (SameBook self.old self.new) }
+        ensures line { self.new.lazy.line ≡ with_spare self.new.lazy.line.spare self.old.lazy.line }
+        ensures kept { KeepsBelow self.old.next_id self.old.lazy self.new.lazy }
+    {
+        let content = read_content(self.alloc, text)?;
+        let given = given(self.alloc, pool, &self.names, at, content)?;
+        let replaced = replaced_at(self.alloc, &self.grid, at)?;
+        self.write(replaced, given)
+    }
+
+    /// Empties the cells of a block, and answers what that changed. Every formula is kept as it was. For want of memory the
+    /// workbook is as it was. Costs the filled cells of the block, and its rows that hold any cell.
+    pub fn clear(&mut self, area: Block) -> Result<Part, AllocError>
+        requires inside { AreInside (workbook self.old).cells }
+        requires stand { IsStanding self.old }
+        ensures ok { OnOk result (workbook self.new ≡ emptied (covers area) (workbook self.old)) }
+        ensures makes { IfOk result (λ part. Makes self.old self.new (change_of part)) }
+        ensures replaced { IfOk result (λ part. items_of part.replaced ≡ map.entries (within area (cells_of self.old.grid))) }
+        ensures written { IfOk result (λ part. items_of part.written ≡ []) }
+        ensures err { OnErr result (SameBook self.old self.new) }
+        ensures line { self.new.lazy.line ≡ with_spare self.new.lazy.line.spare self.old.lazy.line }
+        ensures kept { KeepsBelow self.old.next_id self.old.lazy self.new.lazy }
+    {
+        let replaced = self.grid.listed(area)?;
+        self.write(replaced, Vec::new(self.alloc))
+    }
+
+    /// Empties the cells of a sheet, and answers what that changed, likewise.
+    pub fn clear_sheet(&mut self, sheet: u32) -> Result<Part, AllocError>
+        requires inside { AreInside (workbook self.old).cells }
+        requires stand { IsStanding self.old }
+        ensures ok { OnOk result (workbook self.new ≡ emptied (λ p. p.sheet == sheet) (workbook self.old)) }
+        ensures makes { IfOk result (λ part. Makes self.old self.new (change_of part)) }
+        ensures replaced { IfOk result (λ part. items_of part.replaced ≡ map.entries (map.retain_keys (cells_of self.old.grid) (λ p. p.sheet == sheet))) }
+        ensures written { IfOk result (λ part. items_of part.written ≡ []) }
+        ensures err { OnErr result (SameBook self.old self.new) }
+        ensures line { self.new.lazy.line ≡ with_spare self.new.lazy.line.spare self.old.lazy.line }
+        ensures kept { KeepsBelow self.old.next_id self.old.lazy self.new.lazy }
+    {
+        self.clear(Block {
+            sheet,
+            top: 0,
+            left: 0,
+            bottom: ROWS - 1,
+            right: COLS - 1,
+        })
+    }
+}
+
+// What a content gives to a cell: nothing, or one thing.
+fn given(
+    alloc: Global,
+    pool: &mut Pool,
+    sheets: &Names,
+    at: Place,
+    content: ContentText,
+) -> Result<Vec<(Place, CopyItem)>, AllocError>
+    requires { IsInside at }
+    ensures entries { IfOk result (λ r. std.map entry_copied r.items ≡ cons_option (option_map (λ x. (at, x)) (content_given (listed sheets.now) at.sheet content)) []) }
+    ensures copied { IfOk result (λ r. All IsCopied r.items) }
+    ensures there { IfOk result (λ r. All (λ e. e.0 ≡ at) r.items) }
+{
+    let mut list = Vec::with_capacity(alloc, 1)?;
+    if let Some(item) = item_given(alloc, pool, sheets, at, content)? {
+        list.push_reserved((at, item));
+    }
+    Ok(list)
+}
+
+// What a content gives to a cell, if anything.
+fn item_given(
+    alloc: Global,
+    pool: &mut Pool,
+    sheets: &Names,
+    at: Place,
+    content: ContentText,
+) -> Result<Option<CopyItem>, AllocError>
+    requires { IsInside at }
+    ensures content { IfOk result (λ r. option_map (content_copied at) r ≡ content_given (listed sheets.now) at.sheet content) }
+    ensures copied { IfOk result (λ r. IfSome r (λ item. IsCopied (at, item))) }
+{
+    match content {
+        ContentText::Clear => Ok(None),
+        ContentText::Number(number) => Ok(Some(CopyItem::Kept(Cell::Number(number)))),
+        ContentText::Truth(truth) => Ok(Some(CopyItem::Kept(Cell::Truth(truth)))),
+        ContentText::Text(text) => Ok(Some(CopyItem::Kept(Cell::Text(text)))),
+        ContentText::Formula(text) => {
+            match read_formula(alloc, pool, sheets, at, text.as_str())? {
+                Some(tree) => Ok(Some(CopyItem::Formula(tree))),
+                None => Ok(Some(CopyItem::Kept(Cell::Broken(text)))),
+            }
+        }
+    }
+}
+
+// The tree of a text in a cell; `None` where it has none.
+fn read_formula(
+    alloc: Global,
+    pool: &mut Pool,
+    sheets: &Names,
+    at: Place,
+    text: &str,
+) -> Result<Option<Tree>, AllocError>
+    requires { IsInside at }
+    ensures tree { IfOk result (λ r. option_map (tree_at at) r ≡ tree_given (listed sheets.now) at.sheet text.now) }
+    ensures proper { IfOk result (λ r. IfSome r (λ tree. IsFormula at (tree_at at tree))) }
+{
+    match parse(alloc, pool, text, Home::Cell(at), sheets) {
+        Ok(tree) => Ok(Some(tree)),
+        Err(ParseError::Bad) => Ok(None),
+        Err(ParseError::NoMemory) => Err(AllocError),
+    }
+}
+
+// What the cell at a place holds, as a list.
+fn replaced_at(alloc: Global, grid: &Grid, at: Place) -> Result<CellList, AllocError>
+    ensures { IfOk result (λ list. items_of list ≡ listed_at at (map.get (cells_of grid.now) at)) }
+{
+    let mut list = CellList::new(alloc)?;
+    if let Some(cell) = grid.cell(at) {
+        list.push(at, cell.copied(alloc)?)?;
+    }
+    Ok(list)
+}

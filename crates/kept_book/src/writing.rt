@@ -1,0 +1,125 @@
+// Cells that are emptied and given something else to hold.
+ghost use Rattle.std.specs.Prelude.{◌≡◌, ◌≤◌, ◌<◌, ◌+◌, [], map, length, IfOk, OnOk, OnErr};
+ghost use Rattle.std.specs.List.{All};
+ghost use Rattle.grid_store.specs.Grid.{AreListedInside, cells_of, items_of};
+ghost use Rattle.grid_store.specs.internal.Exchange.{without_places};
+ghost use Rattle.lazy_store.specs.Store.{spare_in};
+ghost use Rattle.lazy_store.specs.declared.lazy.Lazy.{Lazy as LazySeen};
+ghost use Rattle.shift_line.specs.Track.{with_spare};
+ghost use Rattle.kept_book.specs.Change.{places_of};
+ghost use Rattle.kept_book.specs.Copied.{IsCopied, entry_copied};
+ghost use Rattle.kept_book.specs.Ids.{AreBelow, KeepsBelow};
+ghost use Rattle.kept_book.specs.Kept.{IsStanding, Makes, SameBook, change_of, workbook};
+ghost use Rattle.kept_book.specs.internal.Cells.{cells_given, trees_given, with_cells, with_given};
+ghost use Rattle.kept_book.specs.internal.Writing.{AreReplaced, AreStanding, Inserts, IsGiven};
+
+use crate::book::Book;
+use crate::part::Part;
+use cell_addr::Place;
+use clip_board::CopyItem;
+use formula_tree::{Home, Tree};
+use grid_store::{Cell, CellList};
+use lazy_store::Lazy;
+use std::alloc::{AllocError, Global};
+
+// What is given to cells: the cells, formulas by their ids, and the trees of these with their places, in the order of ids.
+#[derive(Drop)]
+struct Given {
+    cells: CellList,
+    trees: Vec<(Place, Tree)>,
+}
+
+impl Book {
+    // Empties the cells that are listed as what is replaced, and gives cells what is given; of two at one place the first
+    // counts. What stood at a place that is given something is listed. For want of memory the workbook is as it was. Costs
+    // the cells of both lists, each with the logarithm of the number of filled cells.
+    pub(crate) fn write(
+        &mut self,
+        replaced: CellList,
+        given: Vec<(Place, CopyItem)>,
+    ) -> Result<Part, AllocError>
+        requires given { All IsCopied given.items }
+        requires inside { AreListedInside (items_of replaced) }
+        requires replaced { AreReplaced (cells_of self.old.grid) (items_of replaced) (map (λ e. e.0) given.items) }
+        requires stand { IsStanding self.old }
+        ensures ok { OnOk result (workbook self.new ≡ with_cells (with_given (map entry_copied given.items) (without_places (places_of (items_of replaced)) (workbook self.old).cells)) (workbook self.old)) }
+        ensures makes { IfOk result (λ part. Makes self.old self.new (change_of part)) }
+        ensures cells { IfOk result (λ part. WritesOnly (items_of replaced) (map (λ e. e.0) given.items) (change_of part)) }
+        ensures err { OnErr result (SameBook self.old self.new) }
+        ensures line { self.new.lazy.line ≡ with_spare self.new.lazy.line.spare self.old.lazy.line }
+        ensures kept { KeepsBelow self.old.next_id self.old.lazy self.new.lazy }
+        ensures next { self.old.next_id ≤ self.new.next_id }
+    {
+        let position = self.lazy.line().cursor();
+        let names = Vec::new(self.alloc);
+        let sheets = Vec::new(self.alloc);
+        let given = numbered(self.alloc, self.next_id, given)?;
+        let written = copied(self.alloc, &given.cells)?;
+        let emptied = replaced.places(self.alloc)?;
+        self.lazy.reserve(given.trees.len())?;
+        self.grid.exchange(&emptied, given.cells)?;
+        self.next_id = insert_all(&mut self.lazy, self.next_id, given.trees);
+        Ok(Part {
+            from: position,
+            to: position,
+            replaced,
+            written,
+            names,
+            sheets,
+        })
+    }
+}
+
+// What is given, formulas under ids from this one on.
+fn numbered(
+    alloc: Global,
+    first: u64,
+    given: Vec<(Place, CopyItem)>,
+) -> Result<Given, AllocError>
+    ensures cells { IfOk result (λ r. items_of r.cells ≡ cells_given first given.items) }
+    ensures trees { IfOk result (λ r. r.trees.items ≡ trees_given given.items) }
+    ensures room { IfOk result (λ r. first + length r.trees.items ≤ u64.MAX) }
+{
+    let mut id = first;
+    let mut cells = CellList::new(alloc)?;
+    let mut trees = Vec::new(alloc);
+    for (at, item) in given {
+        match item {
+            CopyItem::Kept(cell) => cells.push(at, cell)?,
+            CopyItem::Formula(tree) => {
+                cells.push(at, Cell::Formula(id))?;
+                trees.push((at, tree))?;
+                id = next(id)?;
+            }
+        }
+    }
+    Ok(Given { cells, trees })
+}
+
+// The next id; none is left behind the greatest.
+fn next(id: u64) -> Result<u64, AllocError>
+    ensures { IfOk result (λ n. n ≡ id + 1) }
+{
+    match id.checked_add(1) {
+        Some(next) => Ok(next),
+        None => Err(AllocError),
+    }
+}
+
+// Keeps formulas of cells, under ids from this one on, and answers the id behind the last. There is room for them.
+fn insert_all(lazy: &mut Lazy, first: u64, trees: Vec<(Place, Tree)>) -> u64
+    requires below { AreBelow first lazy.old }
+    requires stand { All AreStanding trees.items }
+    requires room { length trees.items ≤ spare_in lazy.old }
+    requires ids { first + length trees.items ≤ u64.MAX }
+    ensures next { result ≡ first + length trees.items }
+    ensures inserts { Inserts first trees.items lazy.old lazy.new }
+    ensures below { AreBelow result lazy.new }
+{
+    let mut id = first;
+    for (at, tree) in trees {
+        insert(lazy, id, Home::Cell(at), tree);
+        id += 1;
+    }
+    id
+}
