@@ -1,0 +1,14 @@
+pub mod Contents
+pub mod ShiftedContents
+pub mod Emptying
+pub mod PastedBooks
+pub mod CopiedCells
+pub mod GivenBooks
+pub mod NamesSeen
+pub mod NamesLeft
+pub mod SheetSlots
+pub mod Staying
+pub mod Written
+pub mod Inserted
+pub mod Joining
+pub mod Moving
