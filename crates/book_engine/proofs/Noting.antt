@@ -5,7 +5,7 @@ use Rattle.std.proofs.Math.Seq.{take-append_seam}
 use Rattle.std.proofs.lemmas.Bool.{cases_lt}
 use Rattle.std.proofs.lemmas.List.{length-drop, length-reverse, reverse-append, take-append-drop, take_all}
 use Rattle.undo_book.proofs.LastEntries.{all_but_last-end}
-use Rattle.undo_book.specs.History.{History, all_but_last, last_of, with_done, with_spare, with_undone, without_newest, without_next}
+use Rattle.undo_book.specs.History.{History, all_but_last, last_of, with_done, with_undone, without_newest, without_next}
 use Rattle.book_model.specs.Clipboard.{nothing}
 use Rattle.book_model.specs.Session.{changed, closed, kept, redone as session_redone, undone as session_undone}
 use Rattle.book_engine.specs.Seen.{IsKept, StandOver, batch_of, books_over, has_any, session_of, start_of}
@@ -299,12 +299,3 @@ module _ (k new : Stored) (h g : History Entry) (e w : Entry) (ys : List Entry) 
         back = subst (StandOver new) (sym done_more) (subst Stand (sym whole) kept.stand, subst (λ z. StandOver z (reverse h.done)) (sym whole) kept.back);
         forward = subst (λ d. StandOver new (reverse d)) (sym undone_left) (subst (λ z. StandOver z (reverse ys)) (sym is) forward.1);
       }
-
--- for a batch that is closed the room doesn't count
-parts_spare : (ps : List Part) (n : ℕ) (h g : History Entry) → ClosesParts ps (with_spare n h) g → ClosesParts ps h g
-parts_spare [] n h g closes = closes
-parts_spare (p ∷ ps) n h g closes = closes
-
-pub closes_spare : (b : Option Changes) (n : ℕ) (h g : History Entry) → Closes b (with_spare n h) g → Closes b h g
-closes_spare None n h g closes = closes
-closes_spare (Some b) n h g closes = parts_spare b.parts.items n h g closes

@@ -58,7 +58,7 @@ impl Parts {
         ensures fits { Fits self.new }
     {
         self.check_paste(area, at)?;
-        let room = room(self.alloc, &mut self.undo, &mut self.batch)?;
+        let room = room(self.alloc, &mut self.batch)?;
         let (next, part) = self
             .book
             .with_pasted(self.alloc, &mut self.pool, area, cells, at)?;

@@ -90,7 +90,7 @@ impl Parts {
         ensures kept { IsKept (stored self.new.book) self.new.undo self.new.batch }
     {
         let word = Text::from_str(self.alloc, name)?;
-        let room = room(self.alloc, &mut self.undo, &mut self.batch)?;
+        let room = room(self.alloc, &mut self.batch)?;
         let part = self.book.name(Expression { scope, word, tree })?;
         note(&mut self.undo, &mut self.batch, room, part);
         Ok(())

@@ -38,7 +38,7 @@ impl Parts {
         ensures fits { Fits self.new }
     {
         self.check_set(at, text)?;
-        let room = room(self.alloc, &mut self.undo, &mut self.batch)?;
+        let room = room(self.alloc, &mut self.batch)?;
         let part = self.book.fill(self.alloc, &mut self.pool, at, text)?;
         note(&mut self.undo, &mut self.batch, room, part);
         Ok(())
@@ -51,7 +51,7 @@ impl Parts {
         ensures fits { Fits self.new }
     {
         self.check_clear(area)?;
-        let room = room(self.alloc, &mut self.undo, &mut self.batch)?;
+        let room = room(self.alloc, &mut self.batch)?;
         let part = self.book.clear_block(self.alloc, area)?;
         note(&mut self.undo, &mut self.batch, room, part);
         Ok(())
@@ -64,7 +64,7 @@ impl Parts {
         ensures fits { Fits self.new }
     {
         self.check_sheet(sheet)?;
-        let room = room(self.alloc, &mut self.undo, &mut self.batch)?;
+        let room = room(self.alloc, &mut self.batch)?;
         let part = self.book.clear_whole(self.alloc, sheet)?;
         note(&mut self.undo, &mut self.batch, room, part);
         Ok(())

@@ -27,7 +27,7 @@ impl Parts {
         ensures fits { Fits self.new }
     {
         self.check_add(name)?;
-        let room = room(self.alloc, &mut self.undo, &mut self.batch)?;
+        let room = room(self.alloc, &mut self.batch)?;
         let number = self.next_sheet;
         let part = self.book.join(number, name)?;
         self.next_sheet = number + 1;
@@ -42,7 +42,7 @@ impl Parts {
         ensures fits { Fits self.new }
     {
         self.check_rename(sheet, name)?;
-        let room = room(self.alloc, &mut self.undo, &mut self.batch)?;
+        let room = room(self.alloc, &mut self.batch)?;
         let part = self.book.rename(sheet, name)?;
         note(&mut self.undo, &mut self.batch, room, part);
         Ok(())

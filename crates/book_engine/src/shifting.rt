@@ -31,7 +31,7 @@ impl Parts {
         ensures fits { Fits self.new }
     {
         self.check_structural(s)?;
-        let room = room(self.alloc, &mut self.undo, &mut self.batch)?;
+        let room = room(self.alloc, &mut self.batch)?;
         let part = self.book.shift(&mut self.pool, s)?;
         note(&mut self.undo, &mut self.batch, room, part);
         Ok(())

@@ -42,7 +42,6 @@ impl Parts {
         if self.batch.is_none() {
             return Err(Stop::Refused(Refusal::NoBatch));
         }
-        self.undo.reserve()?;
         close(&mut self.undo, self.batch.take());
         Ok(())
     }
@@ -74,7 +73,7 @@ impl Parts {
         if self.batch.is_some() {
             return Err(Stop::Refused(Refusal::BatchOpen));
         }
-        let Some(entry) = self.undo.done().last() else {
+        let Some(entry) = self.undo.done().back() else {
             return Err(Stop::Refused(Refusal::NothingToUndo));
         };
         let book = reached(self.alloc, entry, &self.book)?;
@@ -121,17 +120,14 @@ fn reached(alloc: Global, entry: &Entry, book: &Book) -> Result<Book, AllocError
 // Makes room for what the next operation changes, and answers an empty list with room for it.
 pub(crate) fn room(
     alloc: Global,
-    undo: &mut UndoBook<Entry>,
     batch: &mut Option<Changes>,
 ) -> Result<Vec<Part>, AllocError>
     ensures list { IfOk result (λ room. (room.items ≡ []) × (vec_len room < vec_capacity room)) }
-    ensures room { OnOk result (HasRoom batch.new undo.new) }
-    ensures steps { SameSteps undo.old undo.new }
+    ensures room { OnOk result (HasRoom batch.new) }
     ensures batch { SameBatch batch.old batch.new }
 {
-    match batch {
-        Some(changes) => changes.parts.reserve(1)?,
-        None => undo.reserve()?,
+    if let Some(changes) = batch {
+        changes.parts.reserve(1)?;
     }
     Vec::with_capacity(alloc, 1)
 }
@@ -145,13 +141,13 @@ pub(crate) fn note(
 )
     requires empty { room.items ≡ [] }
     requires list { vec_len room < vec_capacity room }
-    requires room { HasRoom batch.old undo.old }
+    requires room { HasRoom batch.old }
     ensures { Notes part batch.old undo.old batch.new undo.new }
 {
     match batch {
         Some(changes) => {
             changes.parts.push_reserved(part);
-            forget_undone(undo);
+            undo.forget_undone();
         }
         None => push_step(undo, room, part),
     }
@@ -161,34 +157,21 @@ pub(crate) fn note(
 fn push_step(undo: &mut UndoBook<Entry>, mut parts: Vec<Part>, part: Part)
     requires empty { parts.items ≡ [] }
     requires list { vec_len parts < vec_capacity parts }
-    requires room { 0 < undo.old.spare }
     ensures { Adds (part ∷ []) undo.old undo.new }
 {
     parts.push_reserved(part);
     push(undo, parts);
 }
 
-// Adds changes as a step, for which there is room.
+// Adds changes as a step.
 fn push(undo: &mut UndoBook<Entry>, parts: Vec<Part>)
-    requires { 0 < undo.old.spare }
     ensures { Adds parts.items undo.old undo.new }
 {
-    match undo.push(Entry::Changes(parts)) {
-        Ok(_) => (),
-        Err(_) => unreachable!(),
-    }
-}
-
-// Forgets all steps that could be redone.
-fn forget_undone(undo: &mut UndoBook<Entry>)
-    ensures { (undo.new.done ≡ undo.old.done) × (undo.new.undone ≡ []) × (undo.new.limit ≡ undo.old.limit) }
-{
-    while undo.take_undone().is_some() {}
+    undo.push(Entry::Changes(parts));
 }
 
 // Adds the changes of a batch as a step, where there are any.
 fn close(undo: &mut UndoBook<Entry>, batch: Option<Changes>)
-    requires { 0 < undo.old.spare }
     ensures { Closes batch undo.old undo.new }
 {
     if let Some(changes) = batch {

@@ -15,10 +15,10 @@ use Rattle.shift_core.specs.Sound.{IsSoundForm}
 use Rattle.shift_core.specs.declared.form.Form.TheVariants.{Cells, Sheet}
 use Rattle.shift_core.proofs.CarriedEntries.{find-carried, find-carried_nowhere}
 use Rattle.shift_core.proofs.MovedMaps.{each_place, find_place}
-use Rattle.grid_store.specs.Grid.{outside, within}
+use Rattle.grid_store.specs.Grid.{outside, with_entries, within}
 use Rattle.grid_store.specs.declared.way.Way.{Way}
 use Rattle.grid_store.specs.declared.way.Way.TheVariants.{Forth, Back}
-use Rattle.grid_store.specs.internal.Lists.{carried_entry, with_entries}
+use Rattle.grid_store.specs.internal.Lists.{carried_entry}
 use Rattle.grid_store.specs.internal.Ways.{carried_map, form_goes, from_block, lost_by, onto_block, turned, whole}
 use Rattle.grid_store.proofs.Carries.{get-carried, get-carried_outside, lost-kept, returned, returns, stays_inside}
 use Rattle.grid_store.proofs.Fills.{first_of_two, get-with}

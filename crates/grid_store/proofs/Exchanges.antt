@@ -16,9 +16,9 @@ use Rattle.cell_addr.proofs.Places.{place_cmp-IsTotalOrder, place_cmp-IsAntisymm
 use Rattle.shift_core.specs.Maps.{PlaceMap}
 use Rattle.shift_core.proofs.CarriedEntries.{eq_by_cmp-decides}
 use Rattle.shift_core.proofs.MovedMaps.{find_place}
-use Rattle.grid_store.specs.Grid.{outside, within}
-use Rattle.grid_store.specs.internal.Exchange.{AreFilled, HasAll, HasSame, is_among, without_places}
-use Rattle.grid_store.specs.internal.Lists.{AreEachInside, with_entries}
+use Rattle.grid_store.specs.Grid.{outside, with_entries, within, without_places}
+use Rattle.grid_store.specs.internal.Exchange.{AreFilled, HasAll, HasSame, is_among}
+use Rattle.grid_store.specs.internal.Lists.{AreEachInside}
 use Rattle.grid_store.proofs.Fills.{first_of_two, get-with}
 use Rattle.grid_store.proofs.PlaceMaps.{entries-kept, get-kept, same_places}
 

@@ -9,7 +9,7 @@ use Rattle.cell_addr.specs.declared.place.Place.{Place}
 use Rattle.cell_addr.proofs.Places.{place_cmp-IsTotalOrder}
 use Rattle.shift_core.specs.Maps.{PlaceMap}
 use Rattle.shift_core.proofs.MovedMaps.{find_place}
-use Rattle.grid_store.specs.internal.Lists.{with_entries}
+use Rattle.grid_store.specs.Grid.{with_entries}
 
 -- the last entry goes in first
 pub with_last : {X : Type 0} (es : List (Place × X)) (e : Place × X) (m : PlaceMap X) → with_entries (es ++ e ∷ []) m ≡ with_entries es (map.insert m e.0 e.1)

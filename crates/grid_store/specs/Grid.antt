@@ -1,5 +1,5 @@
 -- What a grid stands for: a finite map from places to cells. Source: this project's own.
-use Rattle.std.specs.Prelude.{◌≡◌, ⊤, true, List, Option, None, IsSome, option_map, filter_map, not}
+use Rattle.std.specs.Prelude.{◌≡◌, ⊤, true, List, [], ◌∷◌, Option, None, IsSome, option_map, filter_map, not}
 use Rattle.std.specs.FinMap as map
 use Rattle.std.specs.List.{All}
 use Rattle.cell_addr.specs.Place.{IsInside, covers}
@@ -38,6 +38,16 @@ within area m = map.retain_keys m (covers area)
 -- the entries that are in no place of a block
 abbrev pub outside : {X : Type 0} → Block → PlaceMap X → PlaceMap X
 outside area m = map.retain_keys m (λ p. not (covers area p))
+
+-- the map without the places of the list
+abbrev pub without_places : {X : Type 0} → List Place → PlaceMap X → PlaceMap X
+without_places [] m = m
+without_places (p ∷ ps) m = without_places ps (map.remove m p)
+
+-- the map with the entries of the list over its own; of those at one place the first counts
+abbrev pub with_entries : {X : Type 0} → List (Place × X) → PlaceMap X → PlaceMap X
+with_entries [] m = m
+with_entries (e ∷ es) m = map.insert (with_entries es m) e.0 e.1
 
 -- the lines of all sheets are as they were
 abbrev pub KeepsLines : Grid → Grid → Type 0

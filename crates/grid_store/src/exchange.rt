@@ -6,9 +6,9 @@ ghost use Rattle.std.specs.FinMap as map;
 ghost use Rattle.cell_addr.specs.Order.{place_cmp};
 ghost use Rattle.cell_addr.specs.Place.{IsInside};
 ghost use Rattle.cell_addr.specs.declared.place.Place.{Place};
-ghost use Rattle.grid_store.specs.Grid.{KeepsLines, cells_of, items_of};
-ghost use Rattle.grid_store.specs.internal.Lists.{AreEachInside, with_entries};
-ghost use Rattle.grid_store.specs.internal.Exchange.{AreFilled, HasAll, HasSame, is_among, without_places};
+ghost use Rattle.grid_store.specs.Grid.{AreListedInside, KeepsLines, cells_of, items_of, with_entries, without_places};
+ghost use Rattle.grid_store.specs.internal.Lists.{AreEachInside};
+ghost use Rattle.grid_store.specs.internal.Exchange.{AreFilled, HasAll, HasSame, is_among};
 
 use crate::cell::Cell;
 use crate::grid::Grid;
@@ -18,9 +18,19 @@ use std::alloc::{AllocError, Global};
 use std::collections::BTreeSet;
 
 impl Grid {
-    // Empties the places, and then fills those of the list; of two cells at one place the first counts. All memory is taken before
-    // a cell is lost. Costs the places and the cells, each with the logarithm of the number of filled cells.
-    pub(crate) fn exchange(&mut self, emptied: &[Place], placed: CellList) -> Result<(), AllocError>
+    /// Empties the places, and then fills those of the list; of two cells at one place the first counts. For want of memory the
+    /// grid is as it was. Costs the places and the cells, each with the logarithm of the number of filled cells.
+    pub fn exchange(&mut self, emptied: &[Place], placed: CellList) -> Result<(), AllocError>
+        requires { AreListedInside (items_of placed) }
+        ensures ok { OnOk result (cells_of self.new ≡ with_entries (items_of placed) (without_places emptied.now (cells_of self.old))) }
+        ensures err { OnErr result (cells_of self.new ≡ cells_of self.old) }
+        ensures lines { KeepsLines self.old self.new }
+    {
+        self.replace(emptied, placed)
+    }
+
+    // The same: all memory is taken before a cell is lost.
+    pub(crate) fn replace(&mut self, emptied: &[Place], placed: CellList) -> Result<(), AllocError>
         requires { AreEachInside (items_of placed) }
         ensures ok { OnOk result (cells_of self.new ≡ with_entries (items_of placed) (without_places emptied.now (cells_of self.old))) }
         ensures err { OnErr result (cells_of self.new ≡ cells_of self.old) }

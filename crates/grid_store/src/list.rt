@@ -46,8 +46,8 @@ impl CellList {
         self.list.pop()
     }
 
-    // The places of the cells, in order.
-    pub(crate) fn places(&self, alloc: Global) -> Result<Vec<Place>, AllocError>
+    /// The places of the cells, in order. Costs their number.
+    pub fn places(&self, alloc: Global) -> Result<Vec<Place>, AllocError>
         ensures { IfOk result (λ places. places.items ≡ map (λ e. e.0) (items_of self.now)) }
     {
         let mut places = Vec::new(alloc);

@@ -5,8 +5,8 @@ ghost use Rattle.shift_core.specs.Maps.{lost_entries, moved_map, restored_map};
 ghost use Rattle.shift_core.specs.Sound.{IsSound, IsSoundForm};
 ghost use Rattle.shift_core.specs.declared.form.Form.TheVariants.{Cells};
 ghost use Rattle.grid_store.specs.declared.way.Way.TheVariants.{Back};
-ghost use Rattle.grid_store.specs.Grid.{AreListedInside, cells_of, items_of};
-ghost use Rattle.grid_store.specs.internal.Lists.{AreEachInside, carried_entry, with_entries};
+ghost use Rattle.grid_store.specs.Grid.{AreListedInside, cells_of, items_of, with_entries};
+ghost use Rattle.grid_store.specs.internal.Lists.{AreEachInside, carried_entry};
 ghost use Rattle.grid_store.specs.internal.Ways.{carried_map, form_goes, goes, lost_by, onto_block, from_block};
 
 use crate::change::whole;
@@ -68,7 +68,7 @@ impl Grid {
             Form::Sheet { sheet } => {
                 let there = self.listed(whole(sheet))?;
                 let emptied = there.places(self.alloc)?;
-                self.exchange(&emptied, removed)
+                self.replace(&emptied, removed)
             }
         }
     }
@@ -93,7 +93,7 @@ impl Grid {
         let emptied = both_places(self.alloc, &moved, &there)?;
         let lost = beside(self.alloc, there, from)?;
         let placed = carried(way, source, to, moved, more)?;
-        self.exchange(&emptied, placed)?;
+        self.replace(&emptied, placed)?;
         Ok(lost)
     }
 }

@@ -6,11 +6,11 @@ ghost use Rattle.cell_addr.specs.Axis.{limit_of};
 ghost use Rattle.cell_addr.specs.declared.place.Place.{Place};
 ghost use Rattle.shift_core.specs.Lines.{IsSoundEdit};
 ghost use Rattle.shift_core.specs.declared.form.Form.TheVariants.{Lines};
-ghost use Rattle.grid_store.specs.Grid.{cells_of, items_of};
+ghost use Rattle.grid_store.specs.Grid.{cells_of, items_of, with_entries};
 ghost use Rattle.grid_store.specs.Keys.{key_cmp};
 ghost use Rattle.grid_store.specs.declared.key.CellKey.{CellKey};
 ghost use Rattle.grid_store.specs.declared.way.Way.TheVariants.{Back};
-ghost use Rattle.grid_store.specs.internal.Lists.{AreEachInside, with_entries};
+ghost use Rattle.grid_store.specs.internal.Lists.{AreEachInside};
 ghost use Rattle.grid_store.specs.internal.Ways.{carried_map, form_goes};
 
 use crate::grid::Grid;
@@ -45,7 +45,7 @@ impl Grid {
         }
         let mut next = self.copied()?;
         next.carry_lines(Way::Back, sheet, axis, edit)?;
-        next.exchange(&[], removed)?;
+        next.replace(&[], removed)?;
         *self = next;
         Ok(())
     }
@@ -104,6 +104,6 @@ impl Grid {
         self.reserve(axis, sheet)?;
         let table = self.renewed(Way::Back, sheet, axis, edit)?;
         self.renew(Way::Back, sheet, axis, edit, table);
-        self.exchange(&[], removed)
+        self.replace(&[], removed)
     }
 }

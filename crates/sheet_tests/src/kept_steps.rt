@@ -1,12 +1,12 @@
 use std::alloc::{AllocError, Global};
+use std::collections::VecDeque;
 use undo_book::UndoBook;
 
-/// What a book of this limit has after the entries 1, 2 and 3 and a step back, and what a fourth one then does.
+/// What a book of this limit has after the entries 1, 2 and 3 and a step back, and then after a fourth one.
 struct Row {
     limit: u16,
     done: &'static [u8],
     undone: &'static [u8],
-    left: &'static [u8],
     then: &'static [u8],
 }
 
@@ -15,36 +15,38 @@ const ROWS: [Row; 3] = [
         limit: 0,
         done: &[],
         undone: &[],
-        left: &[4],
         then: &[],
     },
     Row {
         limit: 1,
         done: &[],
         undone: &[3],
-        left: &[3],
         then: &[4],
     },
     Row {
         limit: 2,
         done: &[2],
         undone: &[3],
-        left: &[3],
         then: &[2, 4],
     },
 ];
 
 // Puts the entries 1, 2 and 3 into the book.
-fn push_three(book: &mut UndoBook<u8>) -> Result<(), AllocError> {
+fn push_three(book: &mut UndoBook<u8>) {
     for entry in 1u8..4 {
-        book.push(entry)?;
+        book.push(entry);
     }
-    Ok(())
+}
+
+// Whether these are the entries, in this order.
+fn are(entries: &VecDeque<u8>, expected: &[u8]) -> bool {
+    let pairs = entries.iter().zip(expected);
+    entries.len() == expected.len() && pairs.all(|(entry, other)| *entry == *other)
 }
 
 // Whether the book has these entries done, and these undone.
 fn has(book: &UndoBook<u8>, done: &[u8], undone: &[u8]) -> bool {
-    book.done() == done && book.undone() == undone
+    are(book.done(), done) && book.undone() == undone
 }
 
 // Takes a step back. Whether there was one, and what the book has then.
@@ -55,26 +57,25 @@ fn goes_back(book: &mut UndoBook<u8>, row: &Row) -> bool {
 
 // Whether the book has what a fourth entry leaves.
 fn has_fourth(book: &UndoBook<u8>, row: &Row) -> bool {
-    book.undone().is_empty() && book.limit() == row.limit && book.done() == row.then
+    has(book, row.then, &[]) && book.limit() == row.limit
 }
 
-// Puts the entry 4 into the book. Whether the right ones leave it and stay.
-fn takes_fourth(book: &mut UndoBook<u8>, row: &Row) -> Result<bool, AllocError> {
-    book.reserve()?;
-    let left = book.push(4)?;
-    Ok(left.items() == row.left && has_fourth(book, row))
+// Puts the entry 4 into the book. Whether the right ones stay.
+fn takes_fourth(book: &mut UndoBook<u8>, row: &Row) -> bool {
+    book.push(4);
+    has_fourth(book, row)
 }
 
 // Whether an empty book of the row's limit does as the row says.
-fn is_so(book: &mut UndoBook<u8>, row: &Row) -> Result<bool, AllocError> {
-    push_three(book)?;
-    Ok(goes_back(book, row) && takes_fourth(book, row)?)
+fn is_so(book: &mut UndoBook<u8>, row: &Row) -> bool {
+    push_three(book);
+    goes_back(book, row) && takes_fourth(book, row)
 }
 
 // The same of a new book.
 fn is_so_of_new(alloc: Global, row: &Row) -> Result<bool, AllocError> {
     let mut book = UndoBook::new(alloc, row.limit)?;
-    is_so(&mut book, row)
+    Ok(is_so(&mut book, row))
 }
 
 #[test]
@@ -83,12 +84,6 @@ fn the_newest_stay_up_to_the_limit(rt: HostRuntime) -> Result<(), AllocError> {
         assert!(rt; is_so_of_new(rt.alloc(), row)?);
     }
     Ok(())
-}
-
-// Puts an entry into the book. Whether these leave it.
-fn leave(book: &mut UndoBook<u8>, entry: u8, expected: &[u8]) -> Result<bool, AllocError> {
-    let left = book.push(entry)?;
-    Ok(left.items() == expected)
 }
 
 // Whether two steps and no more lead back.
@@ -105,7 +100,7 @@ fn steps_forward(book: &mut UndoBook<u8>) -> bool {
 // Whether the entry that is undone is taken out alone, and no step leads to it.
 fn undone_goes(book: &mut UndoBook<u8>) -> bool {
     let is_out = book.take_undone() == Some(3) && book.take_undone().is_none();
-    is_out && !book.step_forward() && book.done() == [2].as_slice()
+    is_out && !book.step_forward() && has(book, &[2], &[])
 }
 
 // Whether the entry that is done is taken out alone.
@@ -128,15 +123,21 @@ fn both_are_changed(book: &mut UndoBook<u8>) -> bool {
     are_out && has(book, &[5], &[4])
 }
 
+// Whether the entries that are undone are dropped, and those that are done stay.
+fn undone_are_dropped(book: &mut UndoBook<u8>) -> bool {
+    book.forget_undone();
+    has(book, &[5], &[])
+}
+
 // Whether an empty book of two entries takes steps back and forward.
-fn takes_steps(book: &mut UndoBook<u8>) -> Result<bool, AllocError> {
-    let are_right = leave(book, 1, &[])? && leave(book, 2, &[])? && leave(book, 3, &[1])?;
-    Ok(are_right && steps(book) && steps_forward(book) && both_are_changed(book))
+fn takes_steps(book: &mut UndoBook<u8>) -> bool {
+    push_three(book);
+    steps(book) && steps_forward(book) && both_are_changed(book) && undone_are_dropped(book)
 }
 
 #[test]
 fn steps_go_back_and_forward(rt: HostRuntime) -> Result<(), AllocError> {
     let mut book = UndoBook::new(rt.alloc(), 2)?;
-    assert!(rt; takes_steps(&mut book)?);
+    assert!(rt; takes_steps(&mut book));
     Ok(())
 }

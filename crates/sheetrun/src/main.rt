@@ -28,6 +28,9 @@ const SECONDS_A_DAY: u64 = 86_400;
 // A serial number of no date.
 const NO_DAY: i32 = -1;
 
+// A word that the command line refuses, for one that is no text.
+const REFUSED_WORD: &str = "-";
+
 fn main(rt: HostRuntime) -> ExitCode {
     match sheetrun::<Brand>(&rt, Blank::new(1)) {
         Ok(status) => ExitCode::from(status),
@@ -89,8 +92,8 @@ fn today(rt: &HostRuntime) -> i32 {
     }
 }
 
-// The words after the program's name. A word that isn't UTF-8 has no meaning, and neither has the
-// word that stands for it here.
+// The words after the program's name. Where one of them isn't UTF-8, a word stands here for all of them that is refused as
+// it would be, with the usage line.
 fn words(rt: &HostRuntime) -> io::Result<Vec<String>> {
     match env::args(rt) {
         Ok(words) => {
@@ -99,7 +102,7 @@ fn words(rt: &HostRuntime) -> io::Result<Vec<String>> {
             Ok(words.collect(rt.alloc())?)
         }
         Err(error) if error.kind() == io::ErrorKind::InvalidData => {
-            let unreadable = String::from_str(rt.alloc(), "\u{FFFD}")?;
+            let unreadable = String::from_str(rt.alloc(), REFUSED_WORD)?;
             Ok(vec![in rt.alloc(); unreadable]?)
         }
         Err(error) => Err(error),

@@ -3,20 +3,19 @@ use Rattle.std.specs.Prelude.{ℕ, ◌+◌, ◌-◌, ◌≤◌, List, [], ◌∷
 use Rattle.std.specs.Coded.{Coded, code_by, coded×, coded_list, coded_ℕ}
 
 -- the entries that are done, the newest last, and those that are undone, the next one to be done again last. `limit` is
--- how many there may be in both together, `spare` how many entries more are sure to be added without memory
+-- how many there may be in both together
 pub record History (E : Type 0) : Type 0 where
   pub done : List E
   pub undone : List E
   pub limit : ℕ
-  pub spare : ℕ
 
 module _ {E : Type 0} where
   -- a history is stored as the tuple of its fields
   abbrev pub history_code : Coded E → Coded (History E)
   history_code c =
-      code_by (List E × (List E × (ℕ × ℕ))) (coded× (coded_list c) (coded× (coded_list c) (coded× coded_ℕ coded_ℕ)))
-      (λ h. (h.done, (h.undone, (h.limit, h.spare))))
-      (λ t. record { done = t.0; undone = t.1.0; limit = t.1.1.0; spare = t.1.1.1 }) (λ _. refl)
+      code_by (List E × (List E × ℕ)) (coded× (coded_list c) (coded× (coded_list c) coded_ℕ))
+      (λ h. (h.done, (h.undone, h.limit)))
+      (λ t. record { done = t.0; undone = t.1.0; limit = t.1.1 }) (λ _. refl)
 
   -- both lists together are no longer than the limit
   abbrev pub IsWithinLimit : History E → Type 0
@@ -38,9 +37,9 @@ module _ {E : Type 0} where
   abbrev pub pushed : E → History E → History E
   pushed e h = record h { done = last_of h.limit (h.done ++ e ∷ []); undone = [] }
 
-  -- what leaves a history as the entry is added: all that was undone, then the oldest that is beyond the limit
-  abbrev pub left_by : E → History E → List E
-  left_by e h = h.undone ++ all_but_last h.limit (h.done ++ e ∷ [])
+  -- none is undone any more
+  abbrev pub without_undone : History E → History E
+  without_undone h = record h { undone = [] }
 
   -- the newest entry is undone
   abbrev pub stepped_back : History E → History E
@@ -64,7 +63,3 @@ module _ {E : Type 0} where
 
   abbrev pub with_undone : E → History E → History E
   with_undone e h = record h { undone = h.undone ++ e ∷ [] }
-
-  -- the same but for the room
-  abbrev pub with_spare : ℕ → History E → History E
-  with_spare n h = record h { spare = n }

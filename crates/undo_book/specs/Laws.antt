@@ -1,6 +1,6 @@
 -- What holds of every history. Source: this project's own.
 use Rattle.std.specs.Prelude.{◌≡◌, ◌<◌, [], ◌∷◌, ◌++◌, length, Some}
-use Rattle.undo_book.specs.History.{History, IsWithinLimit, last_one, pushed, left_by, stepped_back, stepped_forward}
+use Rattle.undo_book.specs.History.{History, IsWithinLimit, all_but_last, last_one, pushed, stepped_back, stepped_forward}
 
 -- no more entries are left than the limit allows
 abbrev pub PushKeepsLimit : (E : Type 0) → Type 0
@@ -10,9 +10,9 @@ PushKeepsLimit E = (h : History E) (e : E) → IsWithinLimit (pushed e h)
 abbrev pub PushedIsNewest : (E : Type 0) → Type 0
 PushedIsNewest E = (h : History E) (e : E) → 0 < h.limit → last_one (pushed e h).done ≡ Some e
 
--- every entry either stays or is among those that left, in the order from before
-abbrev pub PushLosesNone : (E : Type 0) → Type 0
-PushLosesNone E = (h : History E) (e : E) → left_by e h ++ (pushed e h).done ≡ h.undone ++ h.done ++ e ∷ []
+-- of those that were done only the oldest may leave, and only where there are as many as the limit allows
+abbrev pub PushLosesOldest : (E : Type 0) → Type 0
+PushLosesOldest E = (h : History E) (e : E) → all_but_last h.limit (h.done ++ e ∷ []) ++ (pushed e h).done ≡ h.done ++ e ∷ []
 
 -- where the limit allows one more, a step back from an added entry leaves what was done before it
 abbrev pub StepBackUndoesPush : (E : Type 0) → Type 0

@@ -1,6 +1,6 @@
 //! What holds of every history: laws, with nothing to run. `E` is the type of entries.
 
-ghost use Rattle.undo_book.specs.Laws.{PushKeepsLimit, PushedIsNewest, PushLosesNone, StepBackUndoesPush, ForwardUndoesBack, BackUndoesForward};
+ghost use Rattle.undo_book.specs.Laws.{PushKeepsLimit, PushedIsNewest, PushLosesOldest, StepBackUndoesPush, ForwardUndoesBack, BackUndoesForward};
 
 /// No more entries are left than the limit allows.
 pub fn pushes_keep_the_limit<E>()
@@ -12,9 +12,9 @@ pub fn a_pushed_entry_is_the_newest<E>()
     ensures { PushedIsNewest E }
 {}
 
-/// Every entry either stays or is among those that left, in the order from before.
-pub fn pushes_lose_none<E>()
-    ensures { PushLosesNone E }
+/// Of the entries that were done a push drops none but the oldest beyond the limit, and the others stay in their order.
+pub fn pushes_lose_the_oldest<E>()
+    ensures { PushLosesOldest E }
 {}
 
 /// Where the limit allows one more, a step back from an added entry leaves what was done before it.

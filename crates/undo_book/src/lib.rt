@@ -10,14 +10,14 @@
 //! step_back        a b         c
 //! step_back        a           c b
 //! step_forward     a b         c
-//! push d           a b d                   c left, and is handed out
+//! push d           a b d                   c is dropped
 //! ```
 //!
-//! Steps take no memory. Nor does a push after [`UndoBook::reserve`], so that an owner can make sure of it first, then
-//! change itself, and then note what it did.
+//! Neither steps nor pushes take memory: the room for as many entries as the limit allows is taken as the book is made. So
+//! an owner can change itself first, and then note what it did.
 #![tactic(auto)]
 
 pub mod laws;
 mod undo_book;
 
-pub use undo_book::{Dropped, UndoBook};
+pub use undo_book::UndoBook;

@@ -1,5 +1,5 @@
 -- What an operation leaves behind for undo.
-use Rattle.std.specs.Prelude.{◌≡◌, ◌++◌, ◌<◌, List, [], ◌∷◌, Option, Some, None, vec_len, vec_capacity}
+use Rattle.std.specs.Prelude.{⊤, ◌≡◌, ◌++◌, ◌<◌, List, [], ◌∷◌, Option, Some, None, vec_len, vec_capacity}
 use Rattle.undo_book.specs.History.{History, pushed}
 use Rattle.book_engine.specs.declared.history.Entry.{Entry}
 use Rattle.book_engine.specs.declared.history.Entry.TheVariants as entry
@@ -23,9 +23,9 @@ Notes p (Some batch) old grown new =
     × (new.done ≡ old.done) × (new.undone ≡ []) × (new.limit ≡ old.limit)
 
 -- there is room for what an operation changed
-abbrev pub HasRoom : Option Changes → History Entry → Type 0
-HasRoom None steps = 0 < steps.spare
-HasRoom (Some batch) steps = vec_len batch.parts < vec_capacity batch.parts
+abbrev pub HasRoom : Option Changes → Type 0
+HasRoom None = ⊤
+HasRoom (Some batch) = vec_len batch.parts < vec_capacity batch.parts
 
 -- the same steps, and the same open batch
 abbrev pub SameSteps : History Entry → History Entry → Type 0

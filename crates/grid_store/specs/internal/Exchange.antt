@@ -1,5 +1,5 @@
 -- Cells that are emptied and filled together: lists of places, and maps over them.
-use Rattle.std.specs.Prelude.{◌≡◌, Bool, true, false, List, [], ◌∷◌, IsSome}
+use Rattle.std.specs.Prelude.{◌≡◌, Bool, true, false, List, IsSome}
 use Rattle.std.specs.FinMap as map
 use Rattle.std.specs.List.{AllByRecursion, list_any}
 use Rattle.std.specs.Ordering.{eq_by_cmp}
@@ -10,11 +10,6 @@ use Rattle.shift_core.specs.Maps.{PlaceMap}
 -- the place is one of these
 abbrev pub is_among : List Place → Place → Bool
 is_among places q = list_any (eq_by_cmp place_cmp q) places
-
--- the map without the places
-abbrev pub without_places : {X : Type 0} → List Place → PlaceMap X → PlaceMap X
-without_places [] m = m
-without_places (p ∷ ps) m = without_places ps (map.remove m p)
 
 -- the maps have the same but at these places
 abbrev pub HasSame : {X : Type 0} → List Place → PlaceMap X → PlaceMap X → Type 0

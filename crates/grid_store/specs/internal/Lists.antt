@@ -1,4 +1,4 @@
--- Maps without the places of a list, and with the entries of a list.
+-- Maps without the places of a list, and lists of entries.
 use Rattle.std.specs.Prelude.{List, [], ◌∷◌, Option, option_map}
 use Rattle.std.specs.FinMap as map
 use Rattle.std.specs.List.{AllByRecursion}
@@ -10,11 +10,6 @@ use Rattle.shift_core.specs.Maps.{PlaceMap}
 abbrev pub without : {X : Type 0} → List (Place × X) → PlaceMap X → PlaceMap X
 without [] m = m
 without (e ∷ es) m = without es (map.remove m e.0)
-
--- the map with the entries of the list over its own; of those at one place the first counts
-abbrev pub with_entries : {X : Type 0} → List (Place × X) → PlaceMap X → PlaceMap X
-with_entries [] m = m
-with_entries (e ∷ es) m = map.insert (with_entries es m) e.0 e.1
 
 -- an entry where its place goes; none where it is lost
 abbrev pub carried_entry : {X : Type 0} → (Place → Option Place) → Place × X → Option (Place × X)

@@ -10,7 +10,7 @@ use Rattle.book_engine.proofs.parts.Parts.add_sheet.Goals as goal
 
 pub returns-in_err-room-clause-turns : goal.returns-in_err-room-clause-turns
 returns-in_err-room-clause-turns c =
-    let same = (stays (stored c.args.self.now.book) c.args.self.now.undo c.room.new.undo c.args.self.now.batch c.room.new.batch c.args.self.now.suspended c.args.self.now.next_sheet c.in_err-room.ensures.steps c.in_err-room.ensures.batch c.requires.0 c.requires.1).0 in
+    let same = (stays (stored c.args.self.now.book) c.args.self.now.undo c.args.self.now.undo c.args.self.now.batch c.room.new.batch c.args.self.now.suspended c.args.self.now.next_sheet (refl, refl, refl) c.in_err-room.ensures.batch c.requires.0 c.requires.1).0 in
     rw same (search rules)
 
 pub join-requires : goal.join-requires
@@ -19,25 +19,25 @@ join-requires c = can_join (state_of c.args.self.now) c.args.name.now c.requires
 pub returns-in_err-part-clause-turns : goal.returns-in_err-part-clause-turns
 returns-in_err-part-clause-turns c =
     let same =
-    ap (λ k. session_of k c.room.new.undo c.room.new.batch c.args.self.now.suspended c.args.self.now.next_sheet) c.in_err-part.ensures.err
-    ∙ (stays (stored c.args.self.now.book) c.args.self.now.undo c.room.new.undo c.args.self.now.batch c.room.new.batch c.args.self.now.suspended c.args.self.now.next_sheet c.in_ok-room.ensures.steps c.in_ok-room.ensures.batch c.requires.0 c.requires.1).0 in
+    ap (λ k. session_of k c.args.self.now.undo c.room.new.batch c.args.self.now.suspended c.args.self.now.next_sheet) c.in_err-part.ensures.err
+    ∙ (stays (stored c.args.self.now.book) c.args.self.now.undo c.args.self.now.undo c.args.self.now.batch c.room.new.batch c.args.self.now.suspended c.args.self.now.next_sheet (refl, refl, refl) c.in_ok-room.ensures.batch c.requires.0 c.requires.1).0 in
     rw same (search rules)
 
 pub returns-in_err-part-clause-fits : goal.returns-in_err-part-clause-fits
 returns-in_err-part-clause-fits c =
-    let kept = stays (stored c.args.self.now.book) c.args.self.now.undo c.room.new.undo c.args.self.now.batch c.room.new.batch c.args.self.now.suspended c.args.self.now.next_sheet c.in_ok-room.ensures.steps c.in_ok-room.ensures.batch c.requires.0 c.requires.1 in
-    subst (λ k. IsSound (session_of k c.room.new.undo c.room.new.batch c.args.self.now.suspended c.args.self.now.next_sheet) × IsKept k c.room.new.undo c.room.new.batch) (sym c.in_err-part.ensures.err) (kept.1, kept.2)
+    let kept = stays (stored c.args.self.now.book) c.args.self.now.undo c.args.self.now.undo c.args.self.now.batch c.room.new.batch c.args.self.now.suspended c.args.self.now.next_sheet (refl, refl, refl) c.in_ok-room.ensures.batch c.requires.0 c.requires.1 in
+    subst (λ k. IsSound (session_of k c.args.self.now.undo c.room.new.batch c.args.self.now.suspended c.args.self.now.next_sheet) × IsKept k c.args.self.now.undo c.room.new.batch) (sym c.in_err-part.ensures.err) (kept.1, kept.2)
 
 pub returns-clause-turns : goal.returns-clause-turns
 returns-clause-turns c =
-    let turned = added (stored c.args.self.now.book) c.args.self.now.undo c.room.new.undo c.args.self.now.batch c.room.new.batch c.args.self.now.suspended c.args.self.now.next_sheet c.in_ok-room.ensures.steps c.in_ok-room.ensures.batch c.requires.0 c.requires.1
+    let turned = added (stored c.args.self.now.book) c.args.self.now.undo c.args.self.now.undo c.args.self.now.batch c.room.new.batch c.args.self.now.suspended c.args.self.now.next_sheet (refl, refl, refl) c.in_ok-room.ensures.batch c.requires.0 c.requires.1
     (op.add_sheet c.args.name.now) (stored c.join.new.self) c.note.new.undo c.note.new.batch c.in_ok-part.part c.in_ok-check_add.ensures
     (ap (λ b. record (changed b (state_of c.args.self.now)) { next_sheet = c.args.self.now.next_sheet + 1 }) (sym c.in_ok-part.ensures.ok)) c.in_ok-part.ensures.back c.note.ensures (c.in_ok-part.ensures.stand c.requires.1.stand) in
     (c.in_ok-check_add.ensures, refl, turned.0)
 
 pub returns-clause-fits : goal.returns-clause-fits
 returns-clause-fits c =
-    let turned = added (stored c.args.self.now.book) c.args.self.now.undo c.room.new.undo c.args.self.now.batch c.room.new.batch c.args.self.now.suspended c.args.self.now.next_sheet c.in_ok-room.ensures.steps c.in_ok-room.ensures.batch c.requires.0 c.requires.1
+    let turned = added (stored c.args.self.now.book) c.args.self.now.undo c.args.self.now.undo c.args.self.now.batch c.room.new.batch c.args.self.now.suspended c.args.self.now.next_sheet (refl, refl, refl) c.in_ok-room.ensures.batch c.requires.0 c.requires.1
     (op.add_sheet c.args.name.now) (stored c.join.new.self) c.note.new.undo c.note.new.batch c.in_ok-part.part c.in_ok-check_add.ensures
     (ap (λ b. record (changed b (state_of c.args.self.now)) { next_sheet = c.args.self.now.next_sheet + 1 }) (sym c.in_ok-part.ensures.ok)) c.in_ok-part.ensures.back c.note.ensures (c.in_ok-part.ensures.stand c.requires.1.stand) in
     (turned.1, turned.2)

@@ -1,4 +1,4 @@
-use Rattle.std.proofs.Common.{◌∙◌, sym, ap, rules}
+use Rattle.std.proofs.Common.{◌∙◌, sym, ap, rules, refl}
 use Rattle.book_model.specs.Operation as op
 use Rattle.book_model.specs.Session.{changed}
 use Rattle.book_engine.specs.Seen.{session_of, state_of}
@@ -8,26 +8,26 @@ use Rattle.book_engine.proofs.parts.Parts.clear_sheet.Goals as goal
 
 pub returns-in_err-room-clause-turns : goal.returns-in_err-room-clause-turns
 returns-in_err-room-clause-turns c =
-    let same = (stays (stored c.args.self.now.book) c.args.self.now.undo c.room.new.undo c.args.self.now.batch c.room.new.batch c.args.self.now.suspended c.args.self.now.next_sheet c.in_err-room.ensures.steps c.in_err-room.ensures.batch c.requires.0 c.requires.1).0 in
+    let same = (stays (stored c.args.self.now.book) c.args.self.now.undo c.args.self.now.undo c.args.self.now.batch c.room.new.batch c.args.self.now.suspended c.args.self.now.next_sheet (refl, refl, refl) c.in_err-room.ensures.batch c.requires.0 c.requires.1).0 in
     rw same (search rules)
 
 pub returns-in_err-part-clause-turns : goal.returns-in_err-part-clause-turns
 returns-in_err-part-clause-turns c =
     let same =
-    ap (λ k. session_of k c.room.new.undo c.room.new.batch c.args.self.now.suspended c.args.self.now.next_sheet) c.in_err-part.ensures.err
-    ∙ (stays (stored c.args.self.now.book) c.args.self.now.undo c.room.new.undo c.args.self.now.batch c.room.new.batch c.args.self.now.suspended c.args.self.now.next_sheet c.in_ok-room.ensures.steps c.in_ok-room.ensures.batch c.requires.0 c.requires.1).0 in
+    ap (λ k. session_of k c.args.self.now.undo c.room.new.batch c.args.self.now.suspended c.args.self.now.next_sheet) c.in_err-part.ensures.err
+    ∙ (stays (stored c.args.self.now.book) c.args.self.now.undo c.args.self.now.undo c.args.self.now.batch c.room.new.batch c.args.self.now.suspended c.args.self.now.next_sheet (refl, refl, refl) c.in_ok-room.ensures.batch c.requires.0 c.requires.1).0 in
     rw same (search rules)
 
 pub returns-clause-turns : goal.returns-clause-turns
 returns-clause-turns c =
-    let turned = changes (stored c.args.self.now.book) c.args.self.now.undo c.room.new.undo c.args.self.now.batch c.room.new.batch c.args.self.now.suspended c.args.self.now.next_sheet c.in_ok-room.ensures.steps c.in_ok-room.ensures.batch c.requires.0 c.requires.1
+    let turned = changes (stored c.args.self.now.book) c.args.self.now.undo c.args.self.now.undo c.args.self.now.batch c.room.new.batch c.args.self.now.suspended c.args.self.now.next_sheet (refl, refl, refl) c.in_ok-room.ensures.batch c.requires.0 c.requires.1
     (op.clear_sheet c.args.sheet) (stored c.clear_whole.new.self) c.note.new.undo c.note.new.batch c.in_ok-part.part c.in_ok-check_sheet.ensures
     (ap (λ b. changed b (state_of c.args.self.now)) (sym c.in_ok-part.ensures.ok)) c.in_ok-part.ensures.back c.note.ensures c.in_ok-part.ensures.stand in
     (c.in_ok-check_sheet.ensures, tt, turned.0)
 
 pub returns-clause-fits : goal.returns-clause-fits
 returns-clause-fits c =
-    let turned = changes (stored c.args.self.now.book) c.args.self.now.undo c.room.new.undo c.args.self.now.batch c.room.new.batch c.args.self.now.suspended c.args.self.now.next_sheet c.in_ok-room.ensures.steps c.in_ok-room.ensures.batch c.requires.0 c.requires.1
+    let turned = changes (stored c.args.self.now.book) c.args.self.now.undo c.args.self.now.undo c.args.self.now.batch c.room.new.batch c.args.self.now.suspended c.args.self.now.next_sheet (refl, refl, refl) c.in_ok-room.ensures.batch c.requires.0 c.requires.1
     (op.clear_sheet c.args.sheet) (stored c.clear_whole.new.self) c.note.new.undo c.note.new.batch c.in_ok-part.part c.in_ok-check_sheet.ensures
     (ap (λ b. changed b (state_of c.args.self.now)) (sym c.in_ok-part.ensures.ok)) c.in_ok-part.ensures.back c.note.ensures c.in_ok-part.ensures.stand in
     (turned.1, turned.2)

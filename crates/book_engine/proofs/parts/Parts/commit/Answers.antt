@@ -8,7 +8,7 @@ use Rattle.book_model.specs.declared.refusal.Refusal.TheVariants.{NoBatch}
 use Rattle.book_engine.specs.Seen.{IsKept, batch_of, session_of, state_of}
 use Rattle.book_engine.specs.Stored.{stored}
 use Rattle.book_engine.specs.internal.Noted.{Closes}
-use Rattle.book_engine.proofs.Noting.{closed_kept, closed_session, closes_spare}
+use Rattle.book_engine.proofs.Noting.{closed_kept, closed_session}
 use Rattle.book_engine.proofs.Turning.{next_done}
 use Rattle.book_engine.proofs.parts.Parts.commit.Goals as goal
 
@@ -21,8 +21,7 @@ accepted c = ap (λ b. cond b (Some NoBatch) None) (some_is (batch_of (stored c.
 
 closes : (c : goal.After-close) → Closes c.args.self.now.batch c.args.self.now.undo c.close.new.undo
 closes c =
-    closes_spare c.args.self.now.batch 1 c.args.self.now.undo c.close.new.undo
-    (subst (λ h. Closes c.args.self.now.batch h c.close.new.undo) c.in_ok-reserve.ensures.ok (subst (λ b. Closes b c.reserve.new.self c.close.new.undo) c.take.ensures.value c.close.ensures))
+    subst (λ b. Closes b c.args.self.now.undo c.close.new.undo) c.take.ensures.value c.close.ensures
 
 turned : (c : goal.After-close) → session_of (stored c.args.self.now.book) c.close.new.undo c.take.new.self c.args.self.now.suspended c.args.self.now.next_sheet ≡ next op.commit (state_of c.args.self.now)
 turned c =

@@ -3,8 +3,7 @@ use Rattle.std.proofs.Common.{◌∙◌, sym, ap, subst, is_none}
 use Rattle.std.specs.FinMap as map
 use Rattle.std.specs.List.{AllByRecursion}
 use Rattle.cell_addr.specs.Place.{IsInside}
-use Rattle.grid_store.specs.Grid.{cells_of}
-use Rattle.grid_store.specs.internal.Exchange.{without_places}
+use Rattle.grid_store.specs.Grid.{cells_of, without_places}
 use Rattle.grid_store.proofs.Exchanges.{each-filtered, held-all, held-same, left-as-was}
 use Rattle.grid_store.proofs.grid.Grid.hold.Goals as goal
 

@@ -1,6 +1,5 @@
 use Rattle.std.proofs.Common.{◌≡◌, drop}
-use Rattle.grid_store.specs.Grid.{KeepsLines, cells_of}
-use Rattle.grid_store.specs.internal.Exchange.{without_places}
+use Rattle.grid_store.specs.Grid.{KeepsLines, cells_of, without_places}
 use Rattle.grid_store.proofs.grid.Grid.leave.Given as goal
 
 abbrev pub invariant-loop-at : goal.invariant-loop-at

@@ -1,9 +1,9 @@
 use Rattle.std.proofs.Common.{◌≡◌, ◌∙◌, sym, ap, subst, ◌++◌, ◌∷◌, [], IsSome}
 use Rattle.std.specs.FinMap as map
 use Rattle.cell_addr.specs.Place.{IsInside}
-use Rattle.grid_store.specs.Grid.{cells_of, items_of}
+use Rattle.grid_store.specs.Grid.{cells_of, items_of, with_entries}
 use Rattle.grid_store.specs.internal.Exchange.{AreFilled}
-use Rattle.grid_store.specs.internal.Lists.{AreEachInside, with_entries}
+use Rattle.grid_store.specs.internal.Lists.{AreEachInside}
 use Rattle.grid_store.proofs.Exchanges.{filled-insert}
 use Rattle.grid_store.proofs.Fills.{each_front, with_last}
 use Rattle.grid_store.proofs.grid.Grid.settle.Goals as goal

@@ -1,7 +1,7 @@
 use Rattle.std.proofs.Common.{◌≡◌, length}
-use Rattle.grid_store.specs.Grid.{KeepsLines, cells_of, items_of}
+use Rattle.grid_store.specs.Grid.{KeepsLines, cells_of, items_of, with_entries}
 use Rattle.grid_store.specs.internal.Exchange.{AreFilled}
-use Rattle.grid_store.specs.internal.Lists.{AreEachInside, with_entries}
+use Rattle.grid_store.specs.internal.Lists.{AreEachInside}
 use Rattle.grid_store.proofs.grid.Grid.settle.Given as goal
 
 abbrev pub invariant-loop-at : goal.invariant-loop-at

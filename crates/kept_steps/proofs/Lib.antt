@@ -1,0 +1,4 @@
+mod Frames
+mod Walks
+mod Agreeing
+mod Sessions

@@ -1,0 +1,4 @@
+pub mod Timeline
+pub mod Steps
+pub mod Session
+pub mod internal

@@ -1,0 +1,82 @@
+// Steps that are undone and done again, batches of changes, and suspension.
+ghost use Rattle.std.specs.Prelude.{◌≡◌, None, true, false, OnOk, OnErr};
+ghost use Rattle.lazy_store.specs.Store.{KeepsAll};
+ghost use Rattle.book_model.specs.Session.{closed, opened, redone, undone};
+
+use crate::entry::Entry;
+use crate::noting::close;
+use crate::session::Session;
+use std::alloc::AllocError;
+
+impl Session {
+    ghost use Rattle.kept_steps.specs.Session.{state_of};
+
+    /// Opens a batch: the changes until [`Session::commit`] are one step. None is open.
+    pub fn begin(&mut self)
+        requires { self.old.batch ≡ None }
+        ensures state { state_of self.new ≡ opened (state_of self.old) }
+        ensures book { self.new.book ≡ self.old.book }
+    {
+        self.batch = Some(Entry {
+            parts: Vec::new(self.book.alloc),
+        });
+    }
+
+    /// Closes the batch; where a change came in it, it is a step.
+    pub fn commit(&mut self)
+        ensures state { state_of self.new ≡ closed (state_of self.old).batch (state_of self.old) }
+        ensures book { self.new.book ≡ self.old.book }
+    {
+        close(&mut self.steps, self.batch.take());
+    }
+
+    /// Stops the computation of values.
+    pub fn suspend(&mut self)
+        ensures state { state_of self.new ≡ record (state_of self.old) { suspended = true } }
+        ensures book { self.new.book ≡ self.old.book }
+    {
+        self.suspended = true;
+    }
+
+    /// Lets the computation of values go on.
+    pub fn resume(&mut self)
+        ensures state { state_of self.new ≡ record (state_of self.old) { suspended = false } }
+        ensures book { self.new.book ≡ self.old.book }
+    {
+        self.suspended = false;
+    }
+
+    /// Takes the newest step back, if there is one; no batch is open. No formula is touched, and the line keeps its operations.
+    /// For want of memory the session is as it was.
+    ///
+    /// Costs the cells, names and sheets that the step lists, and what taking its operations back costs the grid; for a step of
+    /// several operations a copy of the grid.
+    pub fn undo(&mut self) -> Result<(), AllocError>
+        requires closed { self.old.batch ≡ None }
+        ensures ok { OnOk result (state_of self.new ≡ undone (state_of self.old).undo (state_of self.old)) }
+        ensures err { OnErr result (state_of self.new ≡ state_of self.old) }
+        ensures line { self.new.book.lazy.line ≡ record self.old.book.lazy.line { cursor = self.new.book.lazy.line.cursor } }
+        ensures kept { KeepsAll self.old.book.lazy self.new.book.lazy }
+    {
+        if let Some(entry) = self.steps.done().back() {
+            self.book.back(&entry.parts)?;
+            self.steps.step_back();
+        }
+        Ok(())
+    }
+
+    /// Does the step again that was undone last, if there is one; no batch is open. As [`Session::undo`] otherwise.
+    pub fn redo(&mut self) -> Result<(), AllocError>
+        requires closed { self.old.batch ≡ None }
+        ensures ok { OnOk result (state_of self.new ≡ redone (state_of self.old).redo (state_of self.old)) }
+        ensures err { OnErr result (state_of self.new ≡ state_of self.old) }
+        ensures line { self.new.book.lazy.line ≡ record self.old.book.lazy.line { cursor = self.new.book.lazy.line.cursor } }
+        ensures kept { KeepsAll self.old.book.lazy self.new.book.lazy }
+    {
+        if let Some(entry) = self.steps.undone().last() {
+            self.book.forth(&entry.parts)?;
+            self.steps.step_forward();
+        }
+        Ok(())
+    }
+}
