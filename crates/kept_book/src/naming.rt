@@ -1,16 +1,11 @@
 // Named expressions that are added, changed and removed.
-<<<<<<< HEAD
 ghost use Rattle.std.specs.Prelude.{◌≡◌, ◌<◌, length, [], IfOk, OnOk, OnErr, option_map};
-=======
-ghost use Rattle.std.specs.Prelude.{◌≡◌, ◌≤◌, [], IfOk, OnOk, OnErr, option_map};
->>>>>>> a8ac37e02149dc8975194afa60d055d8abeaad60
 ghost use Rattle.grid_store.specs.Grid.{items_of};
 ghost use Rattle.formula_tree.specs.declared.reference.Home.TheVariants as homes;
 ghost use Rattle.shift_line.specs.Track.{with_spare};
 ghost use Rattle.book_values.specs.Names.{key_of};
 ghost use Rattle.book_values.specs.Workbook.{scope_sheet};
 ghost use Rattle.book_model.specs.Changes.{with_name};
-<<<<<<< HEAD
 ghost use Rattle.lazy_store.specs.Store.{KeepsAll};
 ghost use Rattle.name_table.specs.Listed.{listed};
 ghost use Rattle.name_table.specs.Named.{names_of, words_of};
@@ -24,14 +19,6 @@ ghost use Rattle.kept_book.specs.internal.Naming.{Gives};
 use crate::book::Book;
 use crate::part::{NameChange, Part};
 use crate::writing::{insert, next};
-=======
-ghost use Rattle.kept_book.specs.Formula.{IsProperIn, tree_in_scope};
-ghost use Rattle.kept_book.specs.Ids.{KeepsBelow};
-ghost use Rattle.kept_book.specs.Kept.{IsStanding, Makes, SameBook, change_of, workbook};
-
-use crate::book::Book;
-use crate::part::{NameChange, Part};
->>>>>>> a8ac37e02149dc8975194afa60d055d8abeaad60
 use cell_addr::NO_SHEET;
 use formula_tree::{Home, Tree};
 use grid_store::CellList;
@@ -88,15 +75,9 @@ impl Book {
         tree: Option<Tree>,
     ) -> Result<Option<u64>, AllocError>
         requires known { word < length (words_of self.old.names) }
-<<<<<<< HEAD
         requires proper { IsProperIn scope tree }
         ensures names { IfOk result (λ id. names_of self.new.names ≡ with_id (table.key_of scope word) id (names_of self.old.names)) }
         ensures gives { IfOk result (λ id. Gives self.old.next_id scope tree id self.old.lazy self.new.lazy) }
-=======
-        requires fits { IsFitIn scope tree }
-        ensures names { IfOk result (λ id. names_of self.new.names ≡ with_id (table.key_of scope word) id (names_of self.old.names)) }
-        ensures ids { IfOk result (λ id. Names self.old.next_id scope tree id self.old.lazy self.new.lazy) }
->>>>>>> a8ac37e02149dc8975194afa60d055d8abeaad60
         ensures names_err { OnErr result (names_of self.new.names ≡ names_of self.old.names) }
         ensures lazy_err { OnErr result (KeepsAll self.old.lazy self.new.lazy) }
         ensures line { self.new.lazy.line ≡ with_spare self.new.lazy.line.spare self.old.lazy.line }

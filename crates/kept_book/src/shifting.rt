@@ -1,34 +1,18 @@
 // Structural operations: they go on the line, and the cells move.
-<<<<<<< HEAD
 ghost use Rattle.std.specs.Prelude.{◌≡◌, ◌<◌, ◌≤◌, [], ℕ, Some, None, IfOk, OnOk, OnErr, map, vec_capacity, vec_len};
 ghost use Rattle.formula_tree.specs.Pooled.{held};
 ghost use Rattle.lazy_store.specs.Holders.{IsFront};
 ghost use Rattle.lazy_store.specs.Store.{AreReturned, KeepsBehind, kept_in, spare_in};
 ghost use Rattle.name_table.specs.Listed.{listed};
 ghost use Rattle.name_table.specs.Named.{KeepsNames, names_of, words_of};
-=======
-ghost use Rattle.std.specs.Prelude.{◌≡◌, ◌+◌, ◌<◌, ◌∷◌, [], ℕ, Some, None, IfOk, OnOk, OnErr, IsOk, map};
-ghost use Rattle.formula_tree.specs.Pooled.{held};
-ghost use Rattle.lazy_store.specs.Holders.{IsFront};
-ghost use Rattle.lazy_store.specs.Kept.{Kept};
-ghost use Rattle.lazy_store.specs.Store.{KeepsBehind, kept_in, spare_in};
-ghost use Rattle.name_table.specs.Listed.{listed};
-ghost use Rattle.name_table.specs.Named.{names_of, words_of};
->>>>>>> a8ac37e02149dc8975194afa60d055d8abeaad60
 ghost use Rattle.shift_core.specs.Form.{form_of};
 ghost use Rattle.shift_core.specs.Maps.{AreInside};
 ghost use Rattle.shift_core.specs.Sound.{IsSound};
 ghost use Rattle.shift_line.specs.Track.{pushed, with_spare};
 ghost use Rattle.book_model.specs.Changes.{sheets_left, shifted};
-<<<<<<< HEAD
 ghost use Rattle.kept_book.specs.Change.{HaveSlots, names_with, sheets_with};
 ghost use Rattle.kept_book.specs.Kept.{IsStanding, Makes, SameBook, change_of, name_change, sheet_change, workbook};
 ghost use Rattle.kept_book.specs.internal.Dropped.{AreGone, PushesOn, ids_left};
-=======
-ghost use Rattle.kept_book.specs.Change.{names_after, sheets_before, HaveSlotsBefore};
-ghost use Rattle.kept_book.specs.Kept.{IsStanding, Makes, SameBook, change_of, name_change, sheet_change, workbook};
-ghost use Rattle.kept_book.specs.internal.Dropped.{LeavesNames, LeavesSheets, ids_left, names_left};
->>>>>>> a8ac37e02149dc8975194afa60d055d8abeaad60
 
 use crate::book::Book;
 use crate::part::{NameChange, Part, SheetChange};
@@ -86,17 +70,10 @@ impl Book {
 fn push(lazy: &mut Lazy, pool: &mut Pool, s: Shift)
     requires sound { IsSound s }
     requires cursor { lazy.old.line.cursor < u64.MAX }
-<<<<<<< HEAD
     requires returned { AreReturned lazy.old.line.cursor lazy.old }
     requires room { 0 < spare_in lazy.old }
     ensures line { lazy.new.line ≡ with_spare lazy.new.line.spare (pushed s lazy.old.line) }
     ensures standings { PushesOn s lazy.old.line.cursor lazy.old lazy.new }
-=======
-    requires behind { (id : ℕ) (h : Kept) → kept_in lazy.old id ≡ Some h → h.birth ≤ lazy.old.line.cursor → h.position ≤ lazy.old.line.cursor }
-    requires room { 0 < spare_in lazy.old }
-    ensures line { lazy.new.line ≡ with_spare lazy.new.line.spare (pushed s lazy.old.line) }
-    ensures standings { PushesOn s lazy.old lazy.new }
->>>>>>> a8ac37e02149dc8975194afa60d055d8abeaad60
     ensures kept { KeepsBehind lazy.old.line.cursor lazy.old lazy.new }
     ensures fewer { (id : ℕ) → kept_in lazy.old id ≡ None → kept_in lazy.new id ≡ None }
     ensures pool { IsFront (held pool.old) (held pool.new) }
@@ -129,13 +106,8 @@ fn names_left(alloc: Global, names: &Names, s: &Shift) -> Result<Vec<NameChange>
 
 // Takes names away.
 fn leave_names(names: &mut Names, left: &[NameChange])
-<<<<<<< HEAD
     requires { AreGone (map name_change left.now) }
     ensures names { names_of names.new ≡ names_with (λ x. x.1) (map name_change left.now) (names_of names.old) }
-=======
-    requires { All (λ c. c.after ≡ None) left.now }
-    ensures names { names_of names.new ≡ names_after (map name_change left.now) (names_of names.old) }
->>>>>>> a8ac37e02149dc8975194afa60d055d8abeaad60
     ensures words { words_of names.new ≡ words_of names.old }
     ensures sheets { listed names.new ≡ listed names.old }
 {
@@ -150,17 +122,10 @@ fn leave_sheet(names: &mut Names, s: &Shift, room: Vec<SheetChange>) -> Vec<Shee
     requires empty { room.items ≡ [] }
     requires room { vec_len room < vec_capacity room }
     ensures sheets { listed names.new ≡ sheets_left (form_of s.now) (listed names.old) }
-<<<<<<< HEAD
     ensures back { sheets_with (λ x. x.0) (map sheet_change result.items) (listed names.new) ≡ listed names.old }
     ensures forth { sheets_with (λ x. x.1) (map sheet_change result.items) (listed names.old) ≡ listed names.new }
     ensures returns { HaveSlots (λ x. x.0) (map sheet_change result.items) (listed names.new) }
     ensures repeats { HaveSlots (λ x. x.1) (map sheet_change result.items) (listed names.old) }
-=======
-    ensures back { sheets_before (map sheet_change result.items) (listed names.new) ≡ listed names.old }
-    ensures forth { sheets_after (map sheet_change result.items) (listed names.old) ≡ listed names.new }
-    ensures returns { HaveSlotsBefore (map sheet_change result.items) (listed names.new) }
-    ensures repeats { HaveSlotsAfter (map sheet_change result.items) (listed names.old) }
->>>>>>> a8ac37e02149dc8975194afa60d055d8abeaad60
     ensures names { KeepsNames names.old names.new }
 {
     let mut sheets = room;

@@ -1,9 +1,5 @@
 -- What goes with a dropped sheet, and how formulas stand once an operation is on the line.
-<<<<<<< HEAD
 use Rattle.std.specs.Prelude.{◌≡◌, ⊤, ℕ, ◌+◌, ◌≤◌, List, [], ◌∷◌, map, Option, Some, None, option_and_then}
-=======
-use Rattle.std.specs.Prelude.{◌≡◌, ℕ, ◌+◌, ◌≤◌, List, [], ◌∷◌, map, Option, Some, None, option_and_then}
->>>>>>> a8ac37e02149dc8975194afa60d055d8abeaad60
 use Rattle.lazy_store.specs.Standing.{after}
 use Rattle.lazy_store.specs.Store.{at_in}
 use Rattle.lazy_store.specs.declared.lazy.Lazy.{Lazy}
@@ -22,14 +18,11 @@ abbrev pub ids_left : Form → NameMap → List (NameKey × (Option ℕ × Optio
 ids_left (form.Sheet sheet) names = map (gone (Some sheet)) (in_scope (Some sheet) names)
 ids_left _ names = []
 
-<<<<<<< HEAD
 -- the names are without an id after the changes
 abbrev pub AreGone : List (NameKey × (Option ℕ × Option ℕ)) → Type 0
 AreGone [] = ⊤
 AreGone (c ∷ cs) = (c.1.1 ≡ None) × AreGone cs
 
-=======
->>>>>>> a8ac37e02149dc8975194afa60d055d8abeaad60
 -- an operation is on the line behind a position: each formula has the standings that it had up to the position, and the
 -- one behind the operation by that
 pub record PushesOn (s : Shift) (k : ℕ) (old new : Lazy) : Type 0 where
