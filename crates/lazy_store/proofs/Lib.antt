@@ -8,3 +8,4 @@ pub mod Stores
 pub mod Facts
 pub mod Changes
 pub mod Positions
+pub mod Born

@@ -47,18 +47,8 @@ module _ {S : Type 0} (line : Track) (m : HashMap ℕ Holder S) where
   all-within coherent id h is = let (x, found, same) = mapped-some kept_of (hash.get nat_eq m id) h is in subst (λ k. k.position ≤ last line) same (coherent id x found).within
 
   module _ (k : ℕ) where
-    -- what can come back, or go on, to a position has a standing there
-    pub can-come : ((id : ℕ) (h : Kept) → kept_under m id ≡ Some h → k < h.position → (h.live ≡ true) × (at line h k ≢ None)) → (id : ℕ) (h : Kept) → kept_under m id ≡ Some h → is_off Beyond k h.position ≡ true → at line h k ≢ None
-    can-come back id h is off = (back id h is (ltb-true k h.position off)).1
-
-    pub can-go : ((id : ℕ) (h : Kept) → kept_under m id ≡ Some h → h.position < k → at line h k ≢ None) → (id : ℕ) (h : Kept) → kept_under m id ≡ Some h → is_off Before k h.position ≡ true → at line h k ≢ None
-    can-go there id h is off = there id h is (ltb-true h.position k off)
-
-    pub none-beyond : ((id : ℕ) (h : Kept) → kept_under m id ≡ Some h → is_off Beyond k h.position ≡ false) → StandBehind k m
+    pub none-beyond : ((id : ℕ) (h : Kept) → kept_under m id ≡ Some h → is_off Beyond k h ≡ false) → StandBehind k m
     none-beyond on id h is = ltb-false k h.position (on id h is)
-
-    pub behind-on : StandBehind k m → (id : ℕ) (h : Kept) → kept_under m id ≡ Some h → is_off Beyond k h.position ≡ false
-    behind-on behind id h is = le-ltb k h.position (behind id h is)
 
     pub stays-behind : (new : HashMap ℕ Holder S) → Sweeps line Beyond k m new → (id : ℕ) (h : Kept) → kept_under m id ≡ Some h → h.position ≤ k → kept_under new id ≡ Some h
     stays-behind new swept id h is behind = swept.others id h is (le-ltb k h.position behind)
@@ -175,7 +165,7 @@ shown-as-before k (Some h) None both = absurd both
 shown-as-before k (Some h) (Some g) both = ap (λ j. placed_at j g.home g.tree) both.position ∙ ap (λ home. placed_at h.position home g.tree) both.home ∙ ap (placed_at h.position h.home) both.tree
 
 module _ {S : Type 0} (k : ℕ) (line new : Track) (old mid after : HashMap ℕ Holder S) (from : line.first ≤ k) (within : k ≤ last line) (sound : IsSoundLine line) (got : new ≡ with_spare new.spare (forgotten k line))
-    (swept : Sweeps line Before k old mid) (on : (id : ℕ) (h : Kept) → kept_under mid id ≡ Some h → is_off Before k h.position ≡ false) (cuts : CutsAll k mid after) where
+    (swept : Sweeps line Before k old mid) (on : (id : ℕ) (h : Kept) → kept_under mid id ≡ Some h → is_off Before k h ≡ false) (cuts : CutsAll k mid after) where
   forgets : IsForgotten k line new
   forgets = subst (IsForgotten k line) (sym got) (is-forgotten new.spare k line from within)
 

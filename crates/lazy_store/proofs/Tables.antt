@@ -1,6 +1,6 @@
 -- Tables of holders after one of them changed, and in the order of their keys. Serves the calls that take formulas
 -- along the line.
-use Rattle.std.proofs.Common.{◌≡◌, ◌≢◌, ◌∙◌, sym, ap, refl, subst, arith, ℕ, suc, ◌+◌, ◌<◌, ◌≤◌, ◌⊎◌, inl, inr, Bool, true, false, cond, nat_eq, eqb-true, ne_eqb, le-ltb, true≢false, List, [], ◌∷◌, length, slice_get, Option, Some, None, option_map, option_and_then}
+use Rattle.std.proofs.Common.{◌≡◌, ◌≢◌, ◌∙◌, sym, ap, refl, subst, arith, ℕ, suc, ◌+◌, ◌<◌, ◌≤◌, ◌⊎◌, inl, inr, Bool, true, false, ◌&&◌, cond, nat_eq, nat_le, eqb-true, ne_eqb, le-ltb, true≢false, List, [], ◌∷◌, length, slice_get, Option, Some, None, option_map, option_and_then}
 use Rattle.std.proofs.lemmas.Bool.{cases_eq, cases_lt}
 use Rattle.std.proofs.lemmas.Map.Entries.{length-keys_of}
 use Rattle.std.proofs.lemmas.Option.{none-some, same_Some}
@@ -12,7 +12,7 @@ use Rattle.lazy_store.specs.Holders.{AreCoherent, kept_of, kept_under}
 use Rattle.lazy_store.specs.Kept.{IsCoherent, Kept, at}
 use Rattle.lazy_store.specs.declared.holder.Holder.{Holder}
 use Rattle.lazy_store.specs.declared.holders.Side.{Side}
-use Rattle.lazy_store.specs.declared.holders.Side.TheVariants.{Before, Beyond}
+use Rattle.lazy_store.specs.declared.holders.Side.TheVariants.{Before, Beyond, Returning}
 use Rattle.lazy_store.specs.internal.Steps.{CutsOff, GoesAlong}
 use Rattle.lazy_store.specs.internal.Sweeps.{ArePlaced, Both, Brings, Cuts, StandAlong, Sweeps, is_off}
 
@@ -72,10 +72,11 @@ key-place (e ∷ es) id x found = by (nat_eq id e.0) refl found (key-place es id
 
 -- ---- all on one side
 
--- a position is on neither side of itself
-not-off : (side : Side) (k : ℕ) → is_off side k k ≡ false
-not-off Before k = le-ltb k k (omega arith)
-not-off Beyond k = le-ltb k k (omega arith)
+-- a formula that is kept as of the position is not to be taken to it
+not-off : (side : Side) (k : ℕ) (h : Kept) → h.position ≡ k → is_off side k h ≡ false
+not-off Before k h there = le-ltb h.position k (omega (arith, there))
+not-off Beyond k h there = le-ltb k h.position (omega (arith, there))
+not-off Returning k h there = ap (λ b. b && nat_le h.birth k) (le-ltb k h.position (omega (arith, there)))
 
 stand-trans : {S : Type 0} (line : Track) (old mid new : HashMap ℕ Holder S) → StandAlong line old mid → StandAlong line mid new → StandAlong line old new
 stand-trans line old mid new a b = record {
@@ -89,7 +90,7 @@ stand-trans line old mid new a b = record {
 module _ {S : Type 0} (line : Track) (side : Side) (to : ℕ) where
   -- of the formulas whose keys stand before the index none is off
   pub record IsDone (index : ℕ) (m : HashMap ℕ Holder S) : Type 0 where
-    pub done : (i id : ℕ) (h : Kept) → i < index → slice_get (hash.keys m) i ≡ Some id → kept_under m id ≡ Some h → is_off side to h.position ≡ false
+    pub done : (i id : ℕ) (h : Kept) → i < index → slice_get (hash.keys m) i ≡ Some id → kept_under m id ≡ Some h → is_off side to h ≡ false
 
   pub sweep-starts : (m : HashMap ℕ Holder S) → AreCoherent line m → Sweeps line side to m m
   sweep-starts m coherent = record {
@@ -100,13 +101,13 @@ module _ {S : Type 0} (line : Track) (side : Side) (to : ℕ) where
   pub none-done : (m : HashMap ℕ Holder S) → IsDone 0 m
   none-done m = record { done = λ i id h under. absurd (omega (arith, under)) }
 
-  pub sweep-more : (old mid new : HashMap ℕ Holder S) (id : ℕ) → Sweeps line side to old mid → Brings line id mid new → ((h : Kept) → kept_under mid id ≡ Some h → is_off side to h.position ≡ true) → Sweeps line side to old new
+  pub sweep-more : (old mid new : HashMap ℕ Holder S) (id : ℕ) → Sweeps line side to old mid → Brings line id mid new → ((h : Kept) → kept_under mid id ≡ Some h → is_off side to h ≡ true) → Sweeps line side to old new
   sweep-more old mid new id swept brought off = record {
     along = stand-trans line old mid new swept.along brought.along;
     others = λ other h there on. by other h (swept.others other h there on) on (cases_eq other id);
   }
     where
-      by : (other : ℕ) (h : Kept) → kept_under mid other ≡ Some h → is_off side to h.position ≡ false → (other ≡ id) ⊎ (other ≡ id → ⊥) → kept_under new other ≡ Some h
+      by : (other : ℕ) (h : Kept) → kept_under mid other ≡ Some h → is_off side to h ≡ false → (other ≡ id) ⊎ (other ≡ id → ⊥) → kept_under new other ≡ Some h
       by other h there on (inl e) = absurd (true≢false (sym (off h (ap (kept_under mid) (sym e) ∙ there)) ∙ on))
       by other h there on (inr ne) = brought.others other ne ∙ there
 
@@ -120,44 +121,44 @@ module _ {S : Type 0} (line : Track) (side : Side) (to : ℕ) where
   pub done-more : (mid new : HashMap ℕ Holder S) (id index : ℕ) → IsDone index mid → Brings line id mid new → slice_get (hash.keys mid) index ≡ Some id → ((h : Kept) → kept_under new id ≡ Some h → h.position ≡ to) → IsDone (index + 1) new
   done-more mid new id index done brought here there = record { done = λ i other h under key kept. by i other h under (ap (λ ks. slice_get ks i) (sym brought.along.keys) ∙ key) kept (cases_eq other id) (cases_lt i index) }
     where
-      by : (i other : ℕ) (h : Kept) → i < index + 1 → slice_get (hash.keys mid) i ≡ Some other → kept_under new other ≡ Some h → (other ≡ id) ⊎ (other ≡ id → ⊥) → (i < index) ⊎ (index ≤ i) → is_off side to h.position ≡ false
-      by i other h under key kept (inl e) place = ap (is_off side to) (there h (ap (kept_under new) (sym e) ∙ kept)) ∙ not-off side to
+      by : (i other : ℕ) (h : Kept) → i < index + 1 → slice_get (hash.keys mid) i ≡ Some other → kept_under new other ≡ Some h → (other ≡ id) ⊎ (other ≡ id → ⊥) → (i < index) ⊎ (index ≤ i) → is_off side to h ≡ false
+      by i other h under key kept (inl e) place = not-off side to h (there h (ap (kept_under new) (sym e) ∙ kept))
       by i other h under key kept (inr ne) (inl before) = done.done i other h before key (sym (brought.others other ne) ∙ kept)
       by i other h under key kept (inr ne) (inr at) =
           let same : index ≡ i = omega (arith, under, at) in
           let both : Some id ≡ Some other = sym here ∙ ap (slice_get (hash.keys mid)) same ∙ key in
           absurd (ne (sym (same_Some id other both)))
 
-  pub done-passes : (m : HashMap ℕ Holder S) (index : ℕ) → IsDone index m → ((id : ℕ) (h : Kept) → slice_get (hash.keys m) index ≡ Some id → kept_under m id ≡ Some h → is_off side to h.position ≡ false) → IsDone (index + 1) m
+  pub done-passes : (m : HashMap ℕ Holder S) (index : ℕ) → IsDone index m → ((id : ℕ) (h : Kept) → slice_get (hash.keys m) index ≡ Some id → kept_under m id ≡ Some h → is_off side to h ≡ false) → IsDone (index + 1) m
   done-passes m index done on = record { done = λ i id h under key kept. by i id h under key kept (cases_lt i index) }
     where
-      by : (i id : ℕ) (h : Kept) → i < index + 1 → slice_get (hash.keys m) i ≡ Some id → kept_under m id ≡ Some h → (i < index) ⊎ (index ≤ i) → is_off side to h.position ≡ false
+      by : (i id : ℕ) (h : Kept) → i < index + 1 → slice_get (hash.keys m) i ≡ Some id → kept_under m id ≡ Some h → (i < index) ⊎ (index ≤ i) → is_off side to h ≡ false
       by i id h under key kept (inl before) = done.done i id h before key kept
       by i id h under key kept (inr at) = let same : i ≡ index = omega (arith, under, at) in on id h (ap (slice_get (hash.keys m)) (sym same) ∙ key) kept
 
-  pub all-done : (m : HashMap ℕ Holder S) (index : ℕ) → IsDone index m → length m.entries ≤ index → (id : ℕ) (h : Kept) → kept_under m id ≡ Some h → is_off side to h.position ≡ false
+  pub all-done : (m : HashMap ℕ Holder S) (index : ℕ) → IsDone index m → length m.entries ≤ index → (id : ℕ) (h : Kept) → kept_under m id ≡ Some h → is_off side to h ≡ false
   all-done m index done whole id h kept =
       let (x, found, same) = mapped-some kept_of (hash.get nat_eq m id) h kept in
       let (i, under, key) = key-place m.entries id x found in
       done.done i id h (omega (arith, under, whole)) key kept
 
   -- a formula that is off was there before, and off
-  pub still-there : (old mid : HashMap ℕ Holder S) (id : ℕ) → Sweeps line side to old mid → ((id : ℕ) (h : Kept) → kept_under old id ≡ Some h → is_off side to h.position ≡ true → at line h to ≢ None)
-      → ((h : Kept) → kept_under mid id ≡ Some h → is_off side to h.position ≡ true) → (h : Kept) → kept_under mid id ≡ Some h → at line h to ≢ None
+  pub still-there : (old mid : HashMap ℕ Holder S) (id : ℕ) → Sweeps line side to old mid → ((id : ℕ) (h : Kept) → kept_under old id ≡ Some h → is_off side to h ≡ true → at line h to ≢ None)
+      → ((h : Kept) → kept_under mid id ≡ Some h → is_off side to h ≡ true) → (h : Kept) → kept_under mid id ≡ Some h → at line h to ≢ None
   still-there old mid id swept there off h f none = by (kept_under old id) refl
     where
-      on_side : (g : Kept) → kept_under old id ≡ Some g → (b : Bool) → is_off side to g.position ≡ b → ⊥
+      on_side : (g : Kept) → kept_under old id ≡ Some g → (b : Bool) → is_off side to g ≡ b → ⊥
       on_side g e true away =
           there id g e away (sym (ap (option_and_then (λ k. at line k to)) e) ∙ sym (swept.along.at id to) ∙ ap (option_and_then (λ k. at line k to)) f ∙ none)
-      on_side g e false on = true≢false (sym (off h f) ∙ ap (λ k. is_off side to k.position) (same_Some h g (sym f ∙ swept.others id g e on)) ∙ on)
+      on_side g e false on = true≢false (sym (off h f) ∙ ap (λ k. is_off side to k) (same_Some h g (sym f ∙ swept.others id g e on)) ∙ on)
 
       by : (o : Option Kept) → kept_under old id ≡ o → ⊥
       by None e = none-some h.live (sym (ap (option_map (λ k. k.live)) e) ∙ sym (swept.along.live id) ∙ ap (option_map (λ k. k.live)) f)
-      by (Some g) e = on_side g e (is_off side to g.position) refl
+      by (Some g) e = on_side g e (is_off side to g) refl
 
   -- where none was off before, none is
-  pub none-off : (old mid : HashMap ℕ Holder S) (id : ℕ) → Sweeps line side to old mid → ((id : ℕ) (h : Kept) → kept_under old id ≡ Some h → is_off side to h.position ≡ false)
-      → hash.get nat_eq mid id ≢ None → ((h : Kept) → kept_under mid id ≡ Some h → is_off side to h.position ≡ true) → ⊥
+  pub none-off : (old mid : HashMap ℕ Holder S) (id : ℕ) → Sweeps line side to old mid → ((id : ℕ) (h : Kept) → kept_under old id ≡ Some h → is_off side to h ≡ false)
+      → hash.get nat_eq mid id ≢ None → ((h : Kept) → kept_under mid id ≡ Some h → is_off side to h ≡ true) → ⊥
   none-off old mid id swept on some off = by (kept_under old id) refl (hash.get nat_eq mid id) refl
     where
       by : (o : Option Kept) → kept_under old id ≡ o → (p : Option Holder) → hash.get nat_eq mid id ≡ p → ⊥
@@ -165,7 +166,7 @@ module _ {S : Type 0} (line : Track) (side : Side) (to : ℕ) where
       by None e (Some x) f = none-some x.live (sym (ap (option_map (λ k. k.live)) e) ∙ sym (swept.along.live id) ∙ ap (λ p. option_map (λ k. k.live) (option_map kept_of p)) f)
       by (Some g) e (Some x) f =
           let there : kept_under mid id ≡ Some (kept_of x) = ap (option_map kept_of) f in
-          true≢false (sym (off (kept_of x) there) ∙ ap (λ k. is_off side to k.position) (same_Some (kept_of x) g (sym there ∙ swept.others id g e (on id g e))) ∙ on id g e)
+          true≢false (sym (off (kept_of x) there) ∙ ap (λ k. is_off side to k) (same_Some (kept_of x) g (sym there ∙ swept.others id g e (on id g e))) ∙ on id g e)
 
 -- tables with the same keys have as many entries
 pub same-count : {X Y : Type 0} (es : List (ℕ × X)) (fs : List (ℕ × Y)) → keys_of es ≡ keys_of fs → length es ≡ length fs

@@ -1,6 +1,6 @@
 -- What a store stands for: a line, which of its formulas are live, and the standing of each at each position of the
 -- line. Source: this project's own.
-use Rattle.std.specs.Prelude.{◌≡◌, ◌≢◌, ℕ, ◌+◌, ◌<◌, ◌≤◌, max, min, Bool, true, Option, Some, None, option_map, option_and_then}
+use Rattle.std.specs.Prelude.{◌≡◌, ◌≢◌, ℕ, ◌+◌, ◌<◌, ◌≤◌, max, min, nat_le, if◌then◌else◌, Bool, true, Option, Some, None, option_map, option_and_then}
 use Rattle.std.specs.HashMap as hash
 use Rattle.formula_tree.specs.Term.{Term}
 use Rattle.formula_tree.specs.declared.reference.Home.{Home}
@@ -76,6 +76,30 @@ position_in store id = option_map (λ h. h.position) (kept_in store id)
 -- each formula that is kept as of a position beyond this one comes back to it, and no other one moves
 abbrev pub ComeBackTo : ℕ → Lazy → Lazy → Type 0
 ComeBackTo k old new = (id : ℕ) → position_in new id ≡ option_map (min k) (position_in old id)
+
+-- the position as of which a formula is kept once those born up to this one are back at it
+abbrev pub back_at : ℕ → Kept → ℕ
+back_at k h = if nat_le h.birth k then min k h.position else h.position
+
+-- each formula that was born up to this position and is kept as of one beyond it comes back to it, and no other one moves
+abbrev pub ReturnTo : ℕ → Lazy → Lazy → Type 0
+ReturnTo k old new = (id : ℕ) → position_in new id ≡ option_map (back_at k) (kept_in old id)
+
+-- each formula that is kept as of a position beyond this one was born beyond it
+abbrev pub AreReturned : ℕ → Lazy → Type 0
+AreReturned k store = (id : ℕ) (h : Kept) → kept_in store id ≡ Some h → k < h.position → k < h.birth
+
+-- the formulas that were born beyond the position are kept as they were
+abbrev pub KeepsBornBeyond : ℕ → Lazy → Lazy → Type 0
+KeepsBornBeyond k old new = (id : ℕ) (h : Kept) → kept_in old id ≡ Some h → k < h.birth → kept_in new id ≡ Some h
+
+-- what is kept of a formula that was born up to the position; nothing of another one
+abbrev pub if_born_by : ℕ → Kept → Option Kept
+if_born_by k h = if nat_le h.birth k then Some h else None
+
+-- each formula has the standings that it had up to the position
+abbrev pub StandsUpTo : ℕ → Lazy → Lazy → Type 0
+StandsUpTo k old new = (id j : ℕ) → j ≤ k → at_in new id j ≡ at_in old id j
 
 -- each formula that is kept as of a position before this one goes on to it, and no other one moves
 abbrev pub GoOnTo : ℕ → Lazy → Lazy → Type 0

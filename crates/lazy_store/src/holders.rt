@@ -1,15 +1,16 @@
 // The formulas of a store, taken along the line one after the other.
-ghost use Rattle.std.specs.Prelude.{◌≡◌, ◌≢◌, ℕ, ◌≤◌, true, false, Some, None, IfSome, OnOk, IsOk, nat_eq, option_map, slice_get};
+ghost use Rattle.std.specs.Prelude.{◌≡◌, ◌≢◌, ℕ, ◌≤◌, true, false, Some, None, IfSome, OnOk, IsOk, if◌then◌else◌, nat_eq, option_and_then, option_map, slice_get};
 ghost use Rattle.std.specs.HashMap as hash;
+ghost use Rattle.std.specs.HashSet.{contains};
 ghost use Rattle.formula_tree.specs.Pooled.{held};
 ghost use Rattle.shift_line.specs.Track.{last};
-ghost use Rattle.lazy_store.specs.Holders.{AreCoherent, IsFront, kept_under};
+ghost use Rattle.lazy_store.specs.Holders.{AreCoherent, IsFront, kept_of, kept_under};
 ghost use Rattle.lazy_store.specs.Kept.{IsSoundLine, Kept, at};
-ghost use Rattle.lazy_store.specs.internal.Sweeps.{ArePlaced, Brings, Cuts, CutsAll, Sweeps, is_off};
+ghost use Rattle.lazy_store.specs.internal.Sweeps.{ArePlaced, Brings, Cuts, CutsAll, Sweeps, holder_born_by, is_off};
 
 use crate::holder::Holder;
 use formula_tree::Pool;
-use indexmap::IndexMap;
+use indexmap::{IndexMap, IndexSet};
 use shift_line::Line;
 use std::alloc::{AllocError, Global};
 
@@ -20,16 +21,19 @@ pub(crate) enum Side {
     Before,
     // Those that are kept as of one beyond it.
     Beyond,
+    // Those of these that were born up to it.
+    Returning,
 }
 
 impl Side {
-    // Whether a formula that is kept as of the second position is to be taken to the first.
-    fn is_off(self, position: u64, kept: u64) -> bool
-        ensures { result ≡ is_off self position kept }
+    // Whether the formula is to be taken to the position.
+    fn is_off(self, position: u64, holder: &Holder) -> bool
+        ensures { result ≡ is_off self position (kept_of holder.now) }
     {
         match self {
-            Side::Before => kept < position,
-            Side::Beyond => position < kept,
+            Side::Before => holder.position < position,
+            Side::Beyond => position < holder.position,
+            Side::Returning => position < holder.position && holder.birth <= position,
         }
     }
 }
@@ -61,11 +65,11 @@ pub(crate) fn bring(
 fn off_at(holders: &IndexMap<u64, Holder>, index: usize, side: Side, position: u64) -> Option<u64>
     ensures off { IfSome result (λ id. slice_get (hash.keys holders.now) index ≡ Some id) }
     ensures there { IfSome result (λ id. hash.get nat_eq holders.now id ≢ None) }
-    ensures kept { IfSome result (λ id. (h : Kept) → kept_under holders.now id ≡ Some h → is_off side position h.position ≡ true) }
-    ensures none { result ≡ None → (id : ℕ) (h : Kept) → slice_get (hash.keys holders.now) index ≡ Some id → kept_under holders.now id ≡ Some h → is_off side position h.position ≡ false }
+    ensures kept { IfSome result (λ id. (h : Kept) → kept_under holders.now id ≡ Some h → is_off side position h ≡ true) }
+    ensures none { result ≡ None → (id : ℕ) (h : Kept) → slice_get (hash.keys holders.now) index ≡ Some id → kept_under holders.now id ≡ Some h → is_off side position h ≡ false }
 {
     let (id, holder) = holders.get_index(index)?;
-    side.is_off(position, holder.position).then_some(*id)
+    side.is_off(position, holder).then_some(*id)
 }
 
 // Takes all formulas of a side to the position. For want of memory some may be there.
@@ -80,11 +84,11 @@ pub(crate) fn bring_all(
     requires sound { IsSoundLine line.now }
     requires coherent { AreCoherent line.now holders.old }
     requires within { position ≤ last line.now }
-    requires there { (id : ℕ) (h : Kept) → kept_under holders.old id ≡ Some h → is_off side position h.position ≡ true → at line.now h position ≢ None }
+    requires there { (id : ℕ) (h : Kept) → kept_under holders.old id ≡ Some h → is_off side position h ≡ true → at line.now h position ≢ None }
     ensures sweeps { Sweeps line.now side position holders.old holders.new }
-    ensures ok { OnOk result ((id : ℕ) (h : Kept) → kept_under holders.new id ≡ Some h → is_off side position h.position ≡ false) }
+    ensures ok { OnOk result ((id : ℕ) (h : Kept) → kept_under holders.new id ≡ Some h → is_off side position h ≡ false) }
     ensures placed { OnOk result (ArePlaced position holders.old holders.new) }
-    ensures free { ((id : ℕ) (h : Kept) → kept_under holders.old id ≡ Some h → is_off side position h.position ≡ false) → IsOk result }
+    ensures free { ((id : ℕ) (h : Kept) → kept_under holders.old id ≡ Some h → is_off side position h ≡ false) → IsOk result }
     ensures pool { IsFront (held pool.old) (held pool.new) }
 {
     'holders: for index in 0..holders.len() {
@@ -122,4 +126,21 @@ pub(crate) fn cut_all(holders: &mut IndexMap<u64, Holder>, position: u64)
             cut(holders, id, position);
         }
     }
+}
+
+// Drops the formulas that were born beyond the position.
+pub(crate) fn drop_born_beyond(holders: &mut IndexMap<u64, Holder>, position: u64)
+    ensures found { (id : ℕ) → hash.get nat_eq holders.new id ≡ option_and_then (holder_born_by position) (hash.get nat_eq holders.old id) }
+    ensures spare { hash.spare holders.old ≤ hash.spare holders.new }
+{
+    prove!(holders.len() <= holders.capacity());
+    holders.retain(|_, holder| holder.birth <= position);
+}
+
+// Drops the formulas whose ids aren't among these.
+pub(crate) fn keep_among(holders: &mut IndexMap<u64, Holder>, ids: &IndexSet<u64>)
+    ensures found { (id : ℕ) → hash.get nat_eq holders.new id ≡ (if contains nat_eq ids.now id then hash.get nat_eq holders.old id else None) }
+    ensures spare { hash.spare holders.old ≤ hash.spare holders.new }
+{
+    holders.retain(|id, _| ids.contains(id));
 }

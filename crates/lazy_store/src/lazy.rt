@@ -1,5 +1,6 @@
 // The line with its formulas.
-ghost use Rattle.std.specs.Prelude.{◌≡◌, ◌≢◌, [], ℕ, ◌+◌, ◌<◌, ◌≤◌, true, false, None, Some, IfOk, IfSome, OnOk, OnErr, IsOk, option_map, option_and_then};
+ghost use Rattle.std.specs.Prelude.{◌≡◌, ◌≢◌, [], ℕ, ◌+◌, ◌<◌, ◌≤◌, true, false, None, Some, IfOk, IfSome, OnOk, OnErr, IsOk, if◌then◌else◌, nat_eq, option_map, option_and_then};
+ghost use Rattle.std.specs.HashSet.{contains};
 ghost use Rattle.formula_tree.specs.Pooled.{held};
 ghost use Rattle.formula_tree.specs.Reference.{IsHomeInside};
 ghost use Rattle.formula_tree.specs.Relative.{relative};
@@ -12,10 +13,10 @@ ghost use Rattle.lazy_store.specs.Kept.{IsSoundLine, fresh, standing_at, with_li
 ghost use Rattle.lazy_store.specs.internal.Props.{are_coherent-prop, is_sound_line-prop};
 
 use crate::holder::Holder;
-use crate::holders::{Side, bring, bring_all, cut_all};
+use crate::holders::{Side, bring, bring_all, cut_all, drop_born_beyond, keep_among};
 use crate::stored::Stored;
 use formula_tree::{Home, Pool, Tree};
-use indexmap::IndexMap;
+use indexmap::{IndexMap, IndexSet};
 use shift_core::Shift;
 use shift_line::Line;
 use std::alloc::{AllocError, Global};
@@ -26,13 +27,14 @@ pub struct Lazy {
     alloc: Global,
     line: Line,
     holders: IndexMap<u64, Holder>,
-    ghost sound: { IsSoundLine line } by { is_sound_line-prop line },
+    // Each operation of the line can be done.
+    pub ghost sound: { IsSoundLine line } by { is_sound_line-prop line },
     // Each formula goes along the line with its standings, and what operations lost of it is saved.
     pub ghost coherent: { AreCoherent line holders } by { are_coherent-prop line holders },
 }
 
 impl Lazy {
-    ghost use Rattle.lazy_store.specs.Store.{AreBehind, CanComeBack, CanGoOn, ComeBackTo, GoOnTo, KeepsAll, KeepsBehind, KeepsFrom, KeepsOthers, StandsAsBefore, StandsFrom, StandsOneOn, at_in, kept_in, live_in, spare_in, stored_in};
+    ghost use Rattle.lazy_store.specs.Store.{AreBehind, AreReturned, CanComeBack, CanGoOn, ComeBackTo, GoOnTo, KeepsAll, KeepsBehind, KeepsBornBeyond, KeepsFrom, KeepsOthers, ReturnTo, StandsAsBefore, StandsFrom, StandsOneOn, StandsUpTo, at_in, if_born_by, kept_in, live_in, spare_in, stored_in};
 
     /// A store without operations and formulas, whose positions are all 0.
     pub fn new(alloc: Global) -> Result<Lazy, AllocError>
@@ -234,6 +236,58 @@ impl Lazy {
     {
         self.come_back(pool)?;
         self.line.push(s)
+    }
+
+    /// Takes each formula, live or removed, that was born up to the cursor and is kept as of a position beyond it back to the
+    /// cursor. Then only formulas that were born beyond it are kept as of a position beyond it, and `forget_beyond` drops
+    /// them. No formula's standings change, whatever the answer; for want of memory some formulas may be back, or have come
+    /// part of the way. Takes no memory where all are back. Costs the number of formulas, and for each the operations that
+    /// it is taken over; nothing for formulas where the cursor is at the line's last position.
+    pub fn return_born(&mut self, pool: &mut Pool) -> Result<(), AllocError>
+        ensures standings { StandsAsBefore self.old self.new }
+        ensures placed { OnOk result (ReturnTo self.old.line.cursor self.old self.new) }
+        ensures returned { OnOk result (AreReturned self.old.line.cursor self.new) }
+        ensures kept { KeepsBehind self.old.line.cursor self.old self.new }
+        ensures born { KeepsBornBeyond self.old.line.cursor self.old self.new }
+        ensures free { AreReturned self.old.line.cursor self.old → IsOk result }
+        ensures line { self.new.line ≡ self.old.line }
+        ensures spare { spare_in self.new ≡ spare_in self.old }
+        ensures pool { IsFront (held pool.old) (held pool.new) }
+    {
+        let cursor = self.line.cursor();
+        if self.line.last() <= cursor {
+            return Ok(());
+        }
+        let (alloc, side) = (self.alloc, Side::Returning);
+        bring_all(alloc, &mut self.holders, &self.line, pool, side, cursor)
+    }
+
+    /// Drops each formula, live or removed, that was born beyond the cursor; all others are kept as they were. Up to the
+    /// cursor no standing changes. Where `return_born` went before, no formula is kept as of a position beyond the cursor
+    /// then, so that `shift` can follow. Takes no memory. Costs the number of formulas; nothing where the cursor is at the
+    /// line's last position.
+    pub fn forget_beyond(&mut self)
+        ensures kept { (id : ℕ) → kept_in self.new id ≡ option_and_then (if_born_by self.old.line.cursor) (kept_in self.old id) }
+        ensures standings { StandsUpTo self.old.line.cursor self.old self.new }
+        ensures behind { AreReturned self.old.line.cursor self.old → AreBehind self.old.line.cursor self.new }
+        ensures line { self.new.line ≡ self.old.line }
+        ensures spare { spare_in self.old ≤ spare_in self.new }
+    {
+        let cursor = self.line.cursor();
+        if self.line.last() <= cursor {
+            return;
+        }
+        drop_born_beyond(&mut self.holders, cursor);
+    }
+
+    /// Drops each formula, live or removed, whose id isn't one of these; all others are kept as they were. Takes no memory.
+    /// Costs the number of formulas.
+    pub fn keep_only(&mut self, ids: &IndexSet<u64>)
+        ensures kept { (id : ℕ) → kept_in self.new id ≡ (if contains nat_eq ids.now id then kept_in self.old id else None) }
+        ensures line { self.new.line ≡ self.old.line }
+        ensures spare { spare_in self.old ≤ spare_in self.new }
+    {
+        keep_among(&mut self.holders, ids);
     }
 
     // Takes the formulas that are kept as of a position beyond the cursor back to it.

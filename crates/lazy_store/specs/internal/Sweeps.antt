@@ -1,5 +1,5 @@
 -- What goes along the line at once: one formula of a table of holders, or all on one side of a position.
-use Rattle.std.specs.Prelude.{◌≡◌, ◌≢◌, ℕ, ◌⊎◌, nat_lt, Bool, false, Option, Some, None, option_map, option_and_then}
+use Rattle.std.specs.Prelude.{◌≡◌, ◌≢◌, ℕ, ◌⊎◌, nat_le, nat_lt, Bool, false, ◌&&◌, if◌then◌else◌, Option, Some, None, option_map, option_and_then}
 use Rattle.std.specs.HashMap as hash
 use Rattle.std.specs.HashMap.{HashMap}
 use Rattle.shift_line.specs.Track.{Track}
@@ -8,13 +8,18 @@ use Rattle.lazy_store.specs.Kept.{Kept, at}
 use Rattle.lazy_store.specs.Standing.{Standing}
 use Rattle.lazy_store.specs.declared.holder.Holder.{Holder}
 use Rattle.lazy_store.specs.declared.holders.Side.{Side}
-use Rattle.lazy_store.specs.declared.holders.Side.TheVariants.{Before, Beyond}
+use Rattle.lazy_store.specs.declared.holders.Side.TheVariants.{Before, Beyond, Returning}
 use Rattle.lazy_store.specs.internal.Steps.{CutsOff}
 
--- the second position is on this side of the first
-abbrev pub is_off : Side → ℕ → ℕ → Bool
-is_off Before position k = nat_lt k position
-is_off Beyond position k = nat_lt position k
+-- the formula is to be taken to the position
+abbrev pub is_off : Side → ℕ → Kept → Bool
+is_off Before position h = nat_lt h.position position
+is_off Beyond position h = nat_lt position h.position
+is_off Returning position h = nat_lt position h.position && nat_le h.birth position
+
+-- a holder whose formula was born up to the position; else none
+abbrev pub holder_born_by : ℕ → Holder → Option Holder
+holder_born_by k h = if nat_le h.birth k then Some h else None
 
 -- two of a kind, or none of either
 abbrev pub Both : {A : Type 0} → (A → A → Type 0) → Option A → Option A → Type 0
@@ -47,7 +52,7 @@ module _ {S : Type 0} where
   -- formulas on one side of the position went along, and no others
   pub record Sweeps (line : Track) (side : Side) (position : ℕ) (old new : HashMap ℕ Holder S) : Type 0 where
     pub along : StandAlong line old new
-    pub others : (id : ℕ) (h : Kept) → kept_under old id ≡ Some h → is_off side position h.position ≡ false → kept_under new id ≡ Some h
+    pub others : (id : ℕ) (h : Kept) → kept_under old id ≡ Some h → is_off side position h ≡ false → kept_under new id ≡ Some h
 
   -- each formula is kept as it was, or as of the position
   abbrev pub ArePlaced : ℕ → HashMap ℕ Holder S → HashMap ℕ Holder S → Type 0

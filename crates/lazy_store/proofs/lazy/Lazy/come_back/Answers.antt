@@ -1,8 +1,9 @@
-use Rattle.std.proofs.Common.{◌≡◌, ℕ, min, subst, arith, option_map}
+use Rattle.std.proofs.Common.{◌≡◌, ◌∙◌, ℕ, min, subst, arith, option_map}
 use Rattle.std.proofs.lemmas.Result.{on_ok_weaker}
+use Rattle.lazy_store.specs.Holders.{kept_under}
 use Rattle.lazy_store.specs.declared.holders.Side.TheVariants.{Beyond}
 use Rattle.lazy_store.specs.internal.Sweeps.{Sweeps}
-use Rattle.lazy_store.proofs.Positions.{behind-positions, on_ok_both, position_under, swept-positions}
+use Rattle.lazy_store.proofs.Positions.{behind-positions, mapped-position, on_ok_both, position_under, swept-positions}
 use Rattle.lazy_store.proofs.Stores.{StandBehind, all-within, none-beyond, stays-behind}
 use Rattle.lazy_store.proofs.lazy.Lazy.come_back.Goals as goal
 
@@ -24,7 +25,7 @@ returns-clause-placed c =
     let store = c.args.self.now in
     let after = c.bring_all.new.holders in
     on_ok_both c.bring_all.result (λ on placed. subst (λ k. (id : ℕ) → position_under after id ≡ option_map (min k) (position_under store.holders id)) c.cursor-cursor.ensures.result
-    (swept-positions store.line Beyond c.cursor-cursor.result store.holders after c.bring_all.ensures.sweeps on placed)) c.bring_all.ensures.ok c.bring_all.ensures.placed
+    (λ id. swept-positions store.line Beyond c.cursor-cursor.result store.holders after c.bring_all.ensures.sweeps on placed id ∙ mapped-position (min c.cursor-cursor.result) (kept_under store.holders id))) c.bring_all.ensures.ok c.bring_all.ensures.placed
 
 pub returns-clause-behind : goal.returns-clause-behind
 returns-clause-behind c =

@@ -1,7 +1,8 @@
-use Rattle.std.proofs.Common.{◌≤◌, ◌∙◌, ap, sym, arith, le-ltb, option_map}
+use Rattle.std.proofs.Common.{◌≤◌, ◌∙◌, ap, sym, arith, le-ltb, max, option_map}
 use Rattle.shift_line.specs.Track.{last}
+use Rattle.lazy_store.specs.Holders.{kept_under}
 use Rattle.lazy_store.specs.declared.holders.Side.TheVariants.{Before}
-use Rattle.lazy_store.proofs.Positions.{cut-positions, swept-positions}
+use Rattle.lazy_store.proofs.Positions.{cut-positions, mapped-position, swept-positions}
 use Rattle.lazy_store.proofs.Stores.{settled-at, settled-coherent, settled-live, settled-shown, settled-sound}
 use Rattle.lazy_store.proofs.lazy.Lazy.settle.Goals as goal
 
@@ -39,6 +40,7 @@ returns-clause-placed c =
     let store = c.args.self.now in
     λ id. cut-positions c.args.position c.bring_all.new.holders c.cut_all.new.holders c.cut_all.ensures.cuts id
     ∙ swept-positions store.line Before c.args.position store.holders c.bring_all.new.holders c.bring_all.ensures.sweeps c.in_ok-bring_all.ensures.ok c.in_ok-bring_all.ensures.placed id
+    ∙ mapped-position (max c.args.position) (kept_under store.holders id)
 
 pub returns-clause-kept : goal.returns-clause-kept
 returns-clause-kept c =
