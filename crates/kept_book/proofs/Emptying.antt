@@ -20,7 +20,6 @@ use Rattle.shift_core.specs.Tables.{place_after}
 use Rattle.shift_core.specs.declared.shift.Shift.{Shift}
 use Rattle.kept_book.specs.Numbered.{Numbered}
 use Rattle.kept_book.specs.Stored.{content_of, contents_of}
-use Rattle.kept_book.specs.internal.Cells.{with_emptied}
 use Rattle.kept_book.proofs.Contents.{get-contents}
 
 pub found_within : (area : Block) (cells : PlaceMap Cell) (q : Place) → find place_cmp q (fin.entries (within area cells)) ≡ cond (covers area q) (fin.get cells q) None

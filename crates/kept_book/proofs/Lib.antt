@@ -11,4 +11,5 @@ pub mod Staying
 pub mod Written
 pub mod Inserted
 pub mod Joining
+pub mod ChangesInOrder
 pub mod Moving

@@ -107,7 +107,7 @@ module _ (s : Shift) (k : ℕ) (old new : At) (next : (id : ℕ) → new id (k +
 module _ (s : Shift) (f g : Frame) (old new : At) (words : Words) (h : AreWords words) (next : (id : ℕ) → new id (f.position + 1) ≡ option_and_then (after s) (old id f.position))
     (sound : IsSound s) (inside : AreInside (book_at old words f).cells) (stand : Stands old words f) (position : g.position ≡ f.position + 1) (cells : g.cells ≡ moved_map s f.cells)
     (sheets : g.sheets ≡ sheets_left (form_of s) f.sheets) (gone : (key : NameKey) → fin.get g.names key ≡ cond (id_stays (form_of s) key) (fin.get f.names key) None) where
-  moved : Frame
+  abbrev moved : Frame
   moved = record { position = f.position + 1; cells = moved_map s f.cells; sheets = sheets_left (form_of s) f.sheets; names = g.names }
 
   is-moved : moved ≡ g
