@@ -1,16 +1,18 @@
 -- Changes one after the other, as loops go over them. Serves the steps back and forth.
-use Rattle.std.proofs.Common.{◌≡◌, ◌∙◌, sym, ap, subst, refl, arith, ℕ, zero, suc, ◌+◌, ◌<◌, List, [], ◌∷◌, length, get_or, map, drop, Option}
+use Rattle.std.proofs.Common.{◌≡◌, ◌∙◌, sym, ap, subst, refl, arith, ℕ, zero, suc, ◌+◌, ◌<◌, ◌≤◌, List, [], ◌∷◌, ◌++◌, length, get_or, map, drop, Option, None}
 use Rattle.std.proofs.lemmas.List.{drop_more}
+use Rattle.std.specs.FinMap as fin
 use Rattle.grid_store.specs.declared.cell.Cell.{Cell}
-use Rattle.name_table.specs.Scopes.{NameMap}
+use Rattle.name_table.specs.Scopes.{NameMap, key_of}
 use Rattle.shift_core.specs.Maps.{PlaceMap}
-use Rattle.kept_book.specs.Change.{AreKnown, Change, HasSlot, HaveSlots, Joins, SheetSlot, back, cells_after, cells_before, forth, names_with, shift_of, sheets_with}
+use Rattle.kept_book.specs.Change.{AreKnown, Change, HasSlot, HaveSlots, Joins, SheetSlot, back, cells_after, cells_before, forth, names_with, shift_of, sheets_with, with_id}
 use Rattle.kept_book.specs.Frame.{Frame, Line, Words}
 use Rattle.kept_book.specs.Kept.{change_of, changes_of, name_change, sheet_change}
 use Rattle.kept_book.specs.Walk.{Leads, back_all, forth_all}
 use Rattle.kept_book.specs.declared.part.NameChange.{NameChange}
 use Rattle.kept_book.specs.declared.part.Part.{Part}
 use Rattle.kept_book.specs.declared.part.SheetChange.{SheetChange}
+use Rattle.kept_book.specs.internal.Dropped.{AreGone}
 use Rattle.kept_book.specs.internal.Stepping.{CanRepeat, CanReturn, ChangesNoNames, cells_back, cells_forth, names_back, names_forth, sheets_back, sheets_forth}
 
 -- one part, one change of a sheet, and one of a name, in front of those behind it
@@ -104,3 +106,42 @@ leads-repeat line words [] f g h = tt
 leads-repeat line words (c ∷ cs) f g h =
     let next : h.0.sheets ≡ sheets_with (λ x. x.1) c.sheets f.sheets = sym (ap (λ x. x.sheets) h.1.after) in
     (h.1.repeats, h.1.known, subst (CanRepeat words cs) next (leads-repeat line words cs h.0 g h.2))
+
+-- the positions of changes rise
+pub leads-order : (line : Line) (words : Words) (cs : List Change) (f g : Frame) → Leads line words cs f g → f.position ≤ g.position
+leads-order line words [] f g h = let same = ap (λ x. x.position) h in omega (arith, same)
+leads-order line words (c ∷ cs) f g h =
+    let from : c.from ≡ f.position = ap (λ x. x.position) h.1.before in
+    let to : c.to ≡ h.0.position = ap (λ x. x.position) h.1.after in
+    let order = h.1.order in
+    let more = leads-order line words cs h.0 g h.2 in
+    omega (arith, from, to, order, more)
+
+-- the last one leads to the position behind it
+pub last-to : (line : Line) (ps : List Part) (p : Part) (f : Frame) → (forth_all line (changes_of (ps ++ p ∷ [])) f).position ≡ p.to
+last-to line [] p f = refl
+last-to line (q ∷ ps) p f = last-to line ps p (forth line (change_of q) f)
+
+-- what a listed change asks
+pub known-at : (words : Words) (cs : List NameChange) (i : ℕ) (d : NameChange) → AreKnown words (map name_change cs) → i < length cs → (get_or cs i d).word < length words
+known-at words [] i d h l = absurd (omega arith)
+known-at words (c ∷ cs) zero d h l = h.0
+known-at words (c ∷ cs) (suc i) d h l = known-at words cs i d h.1 (omega arith)
+
+pub gone-at : (cs : List NameChange) (i : ℕ) (d : NameChange) → AreGone (map name_change cs) → i < length cs → (get_or cs i d).after ≡ None
+gone-at [] i d h l = absurd (omega arith)
+gone-at (c ∷ cs) zero d h l = h.0
+gone-at (c ∷ cs) (suc i) d h l = gone-at cs i d h.1 (omega arith)
+
+pub slot-at : (side : SheetSlot × SheetSlot → SheetSlot) (cs : List SheetChange) (i : ℕ) (c : SheetChange) (sheets : List (ℕ × List ℕ)) → HaveSlots side (map sheet_change cs) sheets → i < length cs → c ≡ get_or cs i c
+    → HasSlot c.id (side (c.before, c.after)) (sheets_with side (map sheet_change (drop (i + 1) cs)) sheets)
+slot-at side cs i c sheets h l is = (subst (λ es. HaveSlots side es sheets) (sheets-at cs i c l is) (slots-from side cs i sheets h)).0
+
+-- the names without one more of those that go
+pub left-step : (cs : List NameChange) (i : ℕ) (d : NameChange) (names now next : NameMap) → AreGone (map name_change cs) → i < length cs → now ≡ names_with (λ x. x.1) (map name_change (drop (i + 1) cs)) names
+    → next ≡ fin.remove now (key_of (get_or cs i d).scope (get_or cs i d).word) → next ≡ names_with (λ x. x.1) (map name_change (drop i cs)) names
+left-step cs i d names now next h l is new =
+    let e = get_or cs i d in
+    new ∙ ap (λ m. fin.remove m (key_of e.scope e.word)) is
+    ∙ sym (ap (λ o. with_id (key_of e.scope e.word) o (names_with (λ x. x.1) (map name_change (drop (i + 1) cs)) names)) (gone-at cs i d h l))
+    ∙ sym (ap (λ es. names_with (λ x. x.1) (map name_change es) names) (drop_more cs i d l))

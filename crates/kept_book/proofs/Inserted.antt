@@ -1,5 +1,7 @@
 -- Standings of formulas once some came under new ids. Serves the calls that set, paste and name formulas.
-use Rattle.std.proofs.Common.{◌≡◌, ◌∙◌, sym, ap, refl, arith, inl, inr, ℕ, ◌-◌, ◌<◌, ◌≤◌, Bool, false, List, Option, Some, None, option_map, is_some}
+use Rattle.std.proofs.Common.{◌≡◌, ◌≢◌, ◌⊎◌, ◌∙◌, sym, ap, refl, arith, inl, inr, ℕ, ◌+◌, ◌-◌, ◌<◌, ◌≤◌, Bool, false, List, [], ◌∷◌, length, Option, Some, None, option_map, is_some}
+use Rattle.std.proofs.lemmas.List.Elements.{All-tail}
+use Rattle.std.specs.List.{All}
 use Rattle.std.proofs.lemmas.Bool.{cases_lt}
 use Rattle.std.proofs.lemmas.Option.{none-some}
 use Rattle.std.specs.Prelude.{option_and_then}
@@ -15,13 +17,19 @@ use Rattle.formula_tree.specs.declared.reference.Ref.{Ref}
 use Rattle.lazy_store.proofs.Histories.{at-up}
 use Rattle.lazy_store.specs.Kept.{at, fresh, later, standing_at}
 use Rattle.lazy_store.specs.Standing.{Standing}
-use Rattle.lazy_store.specs.Store.{at_in, kept_in}
+use Rattle.lazy_store.specs.Store.{KeepsOthers, at_in, kept_in, spare_in}
 use Rattle.lazy_store.specs.declared.lazy.Lazy.{Lazy}
 use Rattle.shift_line.specs.Track.{Track}
 use Rattle.kept_book.specs.Frame.{numbered_at, stood_of}
 use Rattle.kept_book.specs.Ids.{AreBelow}
-use Rattle.kept_book.specs.internal.Writing.{Inserts, fresh_at, under_id}
-use Rattle.kept_book.proofs.Written.{stood_given}
+use Rattle.kept_book.specs.internal.Writing.{CanStand, Inserts, fresh_at, under_id}
+use Rattle.kept_book.proofs.Written.{stood_given, under-first, under-later}
+
+cases_less : (k n : ℕ) → k ≤ n → (k < n) ⊎ (k ≡ n)
+cases_less k n l = elim (cases_lt k n) [
+  | inl less ↦ inl less
+  | inr more ↦ inr (omega (arith, l, more))
+]
 
 -- a formula that comes at a position stands there as it comes
 pub at-fresh : (line : Track) (k : ℕ) (home : Home) (t : Term Ref) → at line (fresh k home t) k ≡ Some (standing_at home t)
@@ -52,3 +60,58 @@ module _ (n : ℕ) (formulas : List (Place × Rc Node Global)) (old new : Lazy) 
       go : (r : Option (Place × Rc Node Global)) → option_and_then stood_of (option_and_then (λ h. at new.line h old.line.cursor) (option_map (fresh_at old.line.cursor) r)) ≡ option_map stood_given r
       go None = refl
       go (Some f) = ap (option_and_then stood_of) (at-fresh new.line old.line.cursor (homes.Cell f.0) (relative f.1.value))
+
+-- formulas that come one after the other: those of the rest are still to come, under ids from this one on
+pub record Inserting (n : ℕ) (all : List (Place × Rc Node Global)) (old now : Lazy) (id : ℕ) (rest : List (Place × Rc Node Global)) : Type 0 where
+  pub line : now.line ≡ old.line
+  pub below : AreBelow id now
+  pub kept : (k : ℕ) → k < n → kept_in now k ≡ kept_in old k
+  pub come : (k : ℕ) → n ≤ k → k < id → kept_in now k ≡ option_map (fresh_at old.line.cursor) (under_id n all k)
+  pub ahead : (k : ℕ) → id ≤ k → under_id n all k ≡ under_id id rest k
+  pub stand : All CanStand rest
+  pub room : length rest ≤ spare_in now
+  pub number : id + length rest ≡ n + length all
+  pub least : n ≤ id
+
+pub inserting-first : (n : ℕ) (all : List (Place × Rc Node Global)) (old : Lazy) → AreBelow n old → All CanStand all → length all ≤ spare_in old → Inserting n all old old n all
+inserting-first n all old below stand room = record {
+  line = refl;
+  below = below;
+  kept = λ k l. refl;
+  come = λ k from l. absurd (omega (arith, from, l));
+  ahead = λ k from. refl;
+  stand = stand;
+  room = room;
+  number = refl;
+  least = omega arith;
+}
+
+module _ (n : ℕ) (all : List (Place × Rc Node Global)) (old now next : Lazy) (id : ℕ) (f : Place × Rc Node Global) (rest : List (Place × Rc Node Global)) (so : Inserting n all old now id (f ∷ rest))
+    (here : kept_in next id ≡ Some (fresh_at now.line.cursor f)) (others : KeepsOthers id now next) (line : next.line ≡ now.line) (spare : spare_in now ≤ spare_in next + 1) where
+  come-next : (k : ℕ) → n ≤ k → (k < id) ⊎ (k ≡ id) → kept_in next k ≡ option_map (fresh_at old.line.cursor) (under_id n all k)
+  come-next k from (inl l) = others k (λ same. absurd (omega (arith, l, same))) ∙ so.come k from l
+  come-next k from (inr same) =
+      ap (kept_in next) same ∙ here ∙ ap (λ t. Some (fresh_at t.cursor f)) so.line
+      ∙ sym (ap (option_map (fresh_at old.line.cursor)) (so.ahead k (omega (arith, same)) ∙ ap (under_id id (f ∷ rest)) same ∙ under-first id f rest))
+
+  pub inserting-next : Inserting n all old next (id + 1) rest
+  inserting-next = record {
+    line = line ∙ so.line;
+    below = λ k from. ap is_some (others k (λ same. absurd (omega (arith, from, same)))) ∙ so.below k (omega (arith, from));
+    kept = λ k l. let least = so.least in others k (λ same. absurd (omega (arith, l, same, least))) ∙ so.kept k l;
+    come = λ k from l. come-next k from (cases_less k id (omega (arith, l)));
+    ahead = λ k from. so.ahead k (omega (arith, from)) ∙ under-later id f rest k from;
+    stand = All-tail CanStand f rest so.stand;
+    room = let room = so.room in omega (arith, room, spare);
+    number = let number = so.number in omega (arith, number);
+    least = let least = so.least in omega (arith, least);
+  }
+
+inserted-all : (n : ℕ) (all : List (Place × Rc Node Global)) (old now : Lazy) (id : ℕ) → Inserting n all old now id [] → (k : ℕ) → n ≤ k → kept_in now k ≡ option_map (fresh_at old.line.cursor) (under_id n all k)
+inserted-all n all old now id so k from = elim (cases_lt k id) [
+  | inl l ↦ so.come k from l
+  | inr more ↦ none-is (kept_in now k) (so.below k more) ∙ sym (ap (option_map (fresh_at old.line.cursor)) (so.ahead k more))
+]
+
+pub inserting-last : (n : ℕ) (all : List (Place × Rc Node Global)) (old now : Lazy) (id : ℕ) → Inserting n all old now id [] → Inserts n all old now
+inserting-last n all old now id so = record { line = so.line; below = so.kept; from = inserted-all n all old now id so }

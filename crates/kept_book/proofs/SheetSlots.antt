@@ -143,3 +143,19 @@ numbered-inside x (e ∷ xs) (suc i) h = numbered-inside x xs i (All-tail (λ s.
 
 pub inserted-joins : (id i : ℕ) (name : List ℕ) (xs : List Sheet) → AreSheets (insert xs i (id, name)) → CanJoin id name xs
 inserted-joins id i name xs h = (numbered-inside (id, name) xs i h.1, joins-others (id, name) xs i h.0)
+
+-- a sheet that was taken out comes back to its place
+module _ (es new : List Sheet) (id i : ℕ) (name : List ℕ) (proper : AreSheets es) (is : new ≡ left_in id es) (at : index_in id es ≡ Some i) where
+  again : left_in id new ≡ left_in id es
+  again = ap (left_in id) is ∙ left-twice id es
+
+  pub slot-back : name_in es id ≡ Some name → insert (left_in id new) i (id, name) ≡ es
+  slot-back named = ap (λ n. insert n i (id, name)) again ∙ slot-renamed id i name es proper.0 at ∙ renamed-same id name es proper.0 named
+
+  pub slot-joins : name_in es id ≡ Some name → CanJoin id name (left_in id new) × (i ≤ length (left_in id new))
+  slot-joins named =
+      let back = slot-renamed id i name es proper.0 at ∙ renamed-same id name es proper.0 named in
+      (
+        subst (CanJoin id name) (sym again) (inserted-joins id i name (left_in id es) (subst AreSheets (sym back) proper)),
+        subst (λ l. i ≤ length l) (sym again) (index-left id i es proper.0 at),
+      )

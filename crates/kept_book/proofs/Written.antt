@@ -3,7 +3,7 @@
 use Rattle.std.proofs.Common.{◌≡◌, ◌≢◌, ◌∙◌, sym, ap, subst, refl, arith, inl, inr, ℕ, ◌+◌, ◌-◌, ◌<◌, ◌≤◌, ◌==◌, Bool, true, false, cond, List, [], ◌∷◌, map, Option, Some, None, option_map, is_some, IsSome}
 use Rattle.std.proofs.lemmas.Bool.{cases_lt}
 use Rattle.std.proofs.lemmas.Bool.Decides.{nat_tests}
-use Rattle.std.proofs.lemmas.List.Elements.{All-head, All-tail}
+use Rattle.std.proofs.lemmas.List.Elements.{All-cons, All-head, All-tail}
 use Rattle.std.proofs.lemmas.Option.{none-some, same_Some}
 use Rattle.std.specs.FinMap as fin
 use Rattle.std.specs.FinMap.{find}
@@ -13,6 +13,7 @@ use Rattle.std.specs.Prelude.{option_and_then}
 use Rattle.std.specs.declared.alloc.Global.{Global}
 use Rattle.std.specs.declared.rc.Rc.{Rc}
 use Rattle.cell_addr.specs.Order.{place_cmp}
+use Rattle.cell_addr.specs.Place.{IsInside}
 use Rattle.cell_addr.specs.declared.place.Place.{Place}
 use Rattle.book_cells.specs.Workbook.{Book as Contents, Content, formula}
 use Rattle.clip_board.specs.declared.clip.CopyItem.{CopyItem}
@@ -27,13 +28,14 @@ use Rattle.grid_store.specs.declared.cell.Cell.{Cell}
 use Rattle.grid_store.specs.declared.cell.Cell.TheVariants as cell
 use Rattle.grid_store.specs.internal.Exchange.{is_among}
 use Rattle.shift_core.specs.Maps.{PlaceMap}
+use Rattle.tree_rewrite.proofs.CallerLemmas.{proper-fit}
 use Rattle.kept_book.specs.Change.{places_of}
 use Rattle.kept_book.specs.Copied.{IsCopied, entry_copied}
 use Rattle.kept_book.specs.Formula.{tree_at}
 use Rattle.kept_book.specs.Numbered.{Numbered, Stood}
 use Rattle.kept_book.specs.Stored.{AllStand, StandsAt, content_of, contents_of, tree_of}
 use Rattle.kept_book.specs.internal.Cells.{cells_given, trees_given, with_given}
-use Rattle.kept_book.specs.internal.Writing.{AreReplaced, under_id}
+use Rattle.kept_book.specs.internal.Writing.{AreReplaced, CanStand, under_id}
 use Rattle.kept_book.proofs.Contents.{content_plain, contents-insert, contents-remove, same_number, stand-insert, stands_at, stands_too}
 use Rattle.kept_book.proofs.Staying.{cells-stay}
 
@@ -84,14 +86,14 @@ stood_given f = (f.0, tree_at f.0 f.1)
 abbrev pub StandFrom : ℕ → List (Place × CopyItem) → Numbered → Type 0
 StandFrom n items two = (id : ℕ) → n ≤ id → two id ≡ option_map stood_given (under_id n (trees_given items) id)
 
-under-first : (n : ℕ) (f : Place × Rc Node Global) (fs : List (Place × Rc Node Global)) → under_id n (f ∷ fs) n ≡ Some f
+pub under-first : (n : ℕ) (f : Place × Rc Node Global) (fs : List (Place × Rc Node Global)) → under_id n (f ∷ fs) n ≡ Some f
 under-first n f fs = go (n == n) refl
   where
     go : (b : Bool) → (n == n) ≡ b → cond b (Some f) (under_id (n + 1) fs n) ≡ Some f
     go true is = refl
     go false is = absurd (grind (arith, nat_tests))
 
-under-later : (n : ℕ) (f : Place × Rc Node Global) (fs : List (Place × Rc Node Global)) (id : ℕ) → n + 1 ≤ id → under_id n (f ∷ fs) id ≡ under_id (n + 1) fs id
+pub under-later : (n : ℕ) (f : Place × Rc Node Global) (fs : List (Place × Rc Node Global)) (id : ℕ) → n + 1 ≤ id → under_id n (f ∷ fs) id ≡ under_id (n + 1) fs id
 under-later n f fs id from = go (id == n) refl
   where
     go : (b : Bool) → (id == n) ≡ b → cond b (Some f) (under_id (n + 1) fs id) ≡ under_id (n + 1) fs id
@@ -145,3 +147,24 @@ pub given-places : (n : ℕ) (items : List (Place × CopyItem)) → map (λ e. e
 given-places n [] = refl
 given-places n ((at, item.Formula tree) ∷ items) = ap (λ l. at ∷ l) (given-places (n + 1) items)
 given-places n ((at, item.Kept c) ∷ items) = ap (λ l. at ∷ l) (given-places n items)
+
+-- all of what is given stands within the limits of a sheet
+pub given-inside : (n : ℕ) (items : List (Place × CopyItem)) → All IsCopied items → All (λ e. IsInside e.0) (cells_given n items)
+given-inside n [] all = λ k d l. absurd (omega arith)
+given-inside n ((at, item.Formula tree) ∷ items) all =
+    All-cons (λ e. IsInside e.0) (at, cell.Formula n) (cells_given (n + 1) items) (All-head IsCopied (at, item.Formula tree) items all).0
+    (given-inside (n + 1) items (All-tail IsCopied (at, item.Formula tree) items all))
+given-inside n ((at, item.Kept c) ∷ items) all =
+    All-cons (λ e. IsInside e.0) (at, c) (cells_given n items) (All-head IsCopied (at, item.Kept c) items all).0 (given-inside n items (All-tail IsCopied (at, item.Kept c) items all))
+
+pub given-can-stand : (items : List (Place × CopyItem)) → All IsCopied items → All CanStand (trees_given items)
+given-can-stand [] all = λ k d l. absurd (omega arith)
+given-can-stand ((at, item.Formula tree) ∷ items) all =
+    let formula = All-head IsCopied (at, item.Formula tree) items all in
+    All-cons CanStand (at, tree) (trees_given items) (formula.0, proper-fit (tree_at at tree) formula.1) (given-can-stand items (All-tail IsCopied (at, item.Formula tree) items all))
+given-can-stand ((at, item.Kept c) ∷ items) all = given-can-stand items (All-tail IsCopied (at, item.Kept c) items all)
+
+-- what is replaced at the places of what is given
+pub replaced-given : (m : PlaceMap Cell) (n : ℕ) (replaced : List (Place × Cell)) (items : List (Place × CopyItem)) (written : List (Place × Cell)) → written ≡ cells_given n items
+    → AreReplaced m replaced (map (λ e. e.0) items) → AreReplaced m replaced (places_of written)
+replaced-given m n replaced items written is fair = subst (AreReplaced m replaced) (sym (ap places_of is ∙ given-places n items)) fair

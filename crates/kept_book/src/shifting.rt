@@ -1,5 +1,6 @@
 // Structural operations: they go on the line, and the cells move.
 ghost use Rattle.std.specs.Prelude.{◌≡◌, ◌<◌, ◌≤◌, [], ℕ, Some, None, IfOk, OnOk, OnErr, map, vec_capacity, vec_len};
+ghost use Rattle.cell_addr.specs.Sheets.{AreSheets};
 ghost use Rattle.formula_tree.specs.Pooled.{held};
 ghost use Rattle.lazy_store.specs.Holders.{IsFront};
 ghost use Rattle.lazy_store.specs.Store.{AreReturned, KeepsBehind, kept_in, spare_in};
@@ -16,6 +17,7 @@ ghost use Rattle.kept_book.specs.internal.Dropped.{AreGone, PushesOn, ids_left};
 
 use crate::book::Book;
 use crate::part::{NameChange, Part, SheetChange};
+use cell_addr::SheetNames;
 use formula_tree::Pool;
 use grid_store::CellList;
 use lazy_store::Lazy;
@@ -129,6 +131,7 @@ fn leave_sheet(names: &mut Names, s: &Shift, room: Vec<SheetChange>) -> Vec<Shee
     ensures names { KeepsNames names.old names.new }
 {
     let mut sheets = room;
+    proper(&*names);
     if let Form::Sheet { sheet } = s.form() {
         if let Some(before) = names.remove_sheet(sheet) {
             sheets.push_reserved(SheetChange {
@@ -140,3 +143,8 @@ fn leave_sheet(names: &mut Names, s: &Shift, room: Vec<SheetChange>) -> Vec<Shee
     }
     sheets
 }
+
+// No sheet of a list stands twice.
+pub(crate) fn proper<S: SheetNames>(sheets: &S)
+    ensures { AreSheets (S.sheets sheets.now) }
+{}
