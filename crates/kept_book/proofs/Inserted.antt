@@ -15,7 +15,7 @@ use Rattle.formula_tree.specs.declared.reference.Home.{Home}
 use Rattle.formula_tree.specs.declared.reference.Home.TheVariants as homes
 use Rattle.formula_tree.specs.declared.reference.Ref.{Ref}
 use Rattle.lazy_store.proofs.Histories.{at-up}
-use Rattle.lazy_store.specs.Kept.{at, fresh, later, standing_at}
+use Rattle.lazy_store.specs.Kept.{Kept, at, fresh, later, standing_at}
 use Rattle.lazy_store.specs.Standing.{Standing}
 use Rattle.lazy_store.specs.Store.{KeepsOthers, at_in, kept_in, spare_in}
 use Rattle.lazy_store.specs.declared.lazy.Lazy.{Lazy}
@@ -115,3 +115,9 @@ inserted-all n all old now id so k from = elim (cases_lt k id) [
 
 pub inserting-last : (n : ℕ) (all : List (Place × Rc Node Global)) (old now : Lazy) (id : ℕ) → Inserting n all old now id [] → Inserts n all old now
 inserting-last n all old now id so = record { line = so.line; below = so.kept; from = inserted-all n all old now id so }
+
+-- where no formula was, none is, live or removed
+pub none-live : (r s : Option Kept) → option_map (λ h. h.live) r ≡ option_map (λ h. h.live) s → is_some s ≡ false → r ≡ None
+none-live None s e none = refl
+none-live (Some h) None e none = absurd (none-some h.live (sym e))
+none-live (Some h) (Some g) e none = cc

@@ -13,3 +13,4 @@ pub mod Inserted
 pub mod Joining
 pub mod ChangesInOrder
 pub mod Moving
+pub mod ShiftedBooks

@@ -45,9 +45,9 @@ impl Book {
         ensures pool { IsFront (held pool.old) (held pool.new) }
     {
         let from = self.lazy.line().cursor();
-        let Some(to) = from.checked_add(1) else {
+        if from == u64::MAX {
             return Err(AllocError);
-        };
+        }
         let written = CellList::new(self.alloc)?;
         let names = names_left(self.alloc, &self.names, s)?;
         let room = Vec::with_capacity(self.alloc, 1)?;
@@ -59,7 +59,7 @@ impl Book {
         let sheets = leave_sheet(&mut self.names, s, room);
         Ok(Part {
             from,
-            to,
+            to: from + 1,
             replaced,
             written,
             names,
