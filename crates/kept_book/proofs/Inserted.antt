@@ -1,5 +1,5 @@
 -- Standings of formulas once some came under new ids. Serves the calls that set, paste and name formulas.
-use Rattle.std.proofs.Common.{◌≡◌, ◌≢◌, ◌⊎◌, ◌∙◌, sym, ap, refl, arith, inl, inr, ℕ, ◌+◌, ◌-◌, ◌<◌, ◌≤◌, Bool, false, List, [], ◌∷◌, length, Option, Some, None, option_map, is_some}
+use Rattle.std.proofs.Common.{◌≡◌, ◌≢◌, ◌⊎◌, ◌∙◌, sym, ap, refl, arith, inl, inr, ℕ, ◌+◌, ◌-◌, ◌<◌, ◌≤◌, nat_le, Bool, true, false, cond, List, [], ◌∷◌, length, Option, Some, None, option_map, is_some}
 use Rattle.std.proofs.lemmas.List.Elements.{All-tail}
 use Rattle.std.specs.List.{All}
 use Rattle.std.proofs.lemmas.Bool.{cases_lt}
@@ -17,11 +17,11 @@ use Rattle.formula_tree.specs.declared.reference.Ref.{Ref}
 use Rattle.lazy_store.proofs.Histories.{at-up}
 use Rattle.lazy_store.specs.Kept.{Kept, at, fresh, later, standing_at}
 use Rattle.lazy_store.specs.Standing.{Standing}
-use Rattle.lazy_store.specs.Store.{KeepsOthers, at_in, kept_in, spare_in}
+use Rattle.lazy_store.specs.Store.{KeepsOthers, at_in, if_born_by, kept_in, live_in, spare_in}
 use Rattle.lazy_store.specs.declared.lazy.Lazy.{Lazy}
 use Rattle.shift_line.specs.Track.{Track}
 use Rattle.kept_book.specs.Frame.{numbered_at, stood_of}
-use Rattle.kept_book.specs.Ids.{AreBelow}
+use Rattle.kept_book.specs.Ids.{AreBelow, AreLive}
 use Rattle.kept_book.specs.internal.Writing.{CanStand, Inserts, fresh_at, under_id}
 use Rattle.kept_book.proofs.Written.{stood_given, under-first, under-later}
 
@@ -121,3 +121,35 @@ pub none-live : (r s : Option Kept) → option_map (λ h. h.live) r ≡ option_m
 none-live None s e none = refl
 none-live (Some h) None e none = absurd (none-some h.live (sym e))
 none-live (Some h) (Some g) e none = cc
+
+-- a formula that is dropped for its birth isn't a removed one
+pub born-live : (k : ℕ) (r : Option Kept) → option_map (λ h. h.live) (option_and_then (if_born_by k) r) ≡ Some false → option_map (λ h. h.live) r ≡ Some false
+born-live k None e = e
+born-live k (Some h) e = go (nat_le h.birth k) e
+  where
+    go : (b : Bool) → option_map (λ g. g.live) (cond b (Some h) None) ≡ Some false → Some h.live ≡ Some false
+    go true f = f
+    go false f = absurd (none-some false f)
+
+fresh-live : (k : ℕ) (r : Option (Place × Rc Node Global)) → option_map (λ h. h.live) (option_map (fresh_at k) r) ≢ Some false
+fresh-live k None e = none-some false e
+fresh-live k (Some f) e = cc
+
+-- formulas that come aren't removed ones
+pub inserts-live : (n : ℕ) (formulas : List (Place × Rc Node Global)) (old new : Lazy) → Inserts n formulas old new → AreLive old → AreLive new
+inserts-live n formulas old new comes live id e = elim (cases_lt id n) [
+  | inl l ↦ live id (ap (option_map (λ h. h.live)) (sym (comes.below id l)) ∙ e)
+  | inr from ↦ fresh-live old.line.cursor (under_id n formulas id) (ap (option_map (λ h. h.live)) (sym (comes.from id from)) ∙ e)
+]
+
+-- a formula that stands somewhere is live where none is a removed one
+pub live-there : (store : Lazy) (id : ℕ) → AreLive store → (k : ℕ) (x : Standing) → at_in store id k ≡ Some x → live_in store id ≡ Some true
+live-there store id live k x there = go (kept_in store id) refl there (live id)
+  where
+    by : (b : Bool) → Some b ≢ Some false → Some b ≡ Some true
+    by true not = refl
+    by false not = absurd (not refl)
+
+    go : (r : Option Kept) → kept_in store id ≡ r → option_and_then (λ h. at store.line h k) r ≡ Some x → option_map (λ h. h.live) r ≢ Some false → option_map (λ h. h.live) r ≡ Some true
+    go None is e not = absurd (none-some x e)
+    go (Some h) is e not = by h.live not

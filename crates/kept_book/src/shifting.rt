@@ -12,6 +12,7 @@ ghost use Rattle.shift_core.specs.Sound.{IsSound};
 ghost use Rattle.shift_line.specs.Track.{pushed, with_spare};
 ghost use Rattle.book_model.specs.Changes.{sheets_left, shifted};
 ghost use Rattle.kept_book.specs.Change.{HaveSlots, names_with, sheets_with};
+ghost use Rattle.kept_book.specs.Ids.{AreLive};
 ghost use Rattle.kept_book.specs.Kept.{IsStanding, Makes, SameBook, change_of, name_change, sheet_change, workbook};
 ghost use Rattle.kept_book.specs.internal.Dropped.{AreGone, PushesOn, ids_left};
 
@@ -78,6 +79,7 @@ fn push(lazy: &mut Lazy, pool: &mut Pool, s: Shift)
     ensures standings { PushesOn s lazy.old.line.cursor lazy.old lazy.new }
     ensures kept { KeepsBehind lazy.old.line.cursor lazy.old lazy.new }
     ensures fewer { (id : ℕ) → kept_in lazy.old id ≡ None → kept_in lazy.new id ≡ None }
+    ensures live { AreLive lazy.old → AreLive lazy.new }
     ensures pool { IsFront (held pool.old) (held pool.new) }
 {
     lazy.forget_beyond();

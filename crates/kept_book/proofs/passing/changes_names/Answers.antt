@@ -7,7 +7,7 @@ use Rattle.kept_book.proofs.passing.changes_names.Goals as goal
 
 pub loop-part-preserved : goal.loop-part-preserved
 loop-part-preserved c =
-    let here = parts-at c.args.parts.now c.loop-part.part-index c.loop-part-item.result (omega arith) c.loop-part-item.is in
+    let here = parts-at c.args.parts.now c.loop-part.part-index c.part-item.result (omega arith) c.part-item.is in
     λ rest. c.loop-part.invariant (subst ChangesNoNames (sym here) (c.is_plain.ensures (search rules), rest))
 
 pub returns : goal.returns

@@ -7,6 +7,6 @@ use Rattle.kept_book.proofs.passing.names_behind.Given as goal
 
 abbrev pub invariant-loop-index : goal.invariant-loop-index
 invariant-loop-index l =
-    (listed l.copy ≡ sheets_back (changes_of (drop l.index l.parts)) (listed l.fn.names.now))
-    × (names_of l.copy ≡ names_back (changes_of (drop l.index l.parts)) (names_of l.fn.names.now))
-    × (words_of l.copy ≡ words_of l.fn.names.now)
+    (listed l.copy ≡ sheets_back (changes_of (drop l.index l.parts)) (listed l.fn.names))
+    × (names_of l.copy ≡ names_back (changes_of (drop l.index l.parts)) (names_of l.fn.names))
+    × (words_of l.copy ≡ words_of l.fn.names)

@@ -9,6 +9,6 @@ loop-at-init c = ?
 
 pub loop-at-preserved : goal.loop-at-preserved
 loop-at-preserved c =
-    let so = subst (Inserting c.args.first c.args.trees.items c.args.lazy.now c.loop-at.lazy c.loop-at.id) c.in-Some.ensures.steps c.loop-at.invariant in
+    let so = subst (Inserting c.args.first c.args.trees.items c.args.lazy.now c.loop-at.lazy c.loop-at.id) c.in-Some.ensures.steps.0 c.loop-at.invariant in
     inserting-next c.args.first c.args.trees.items c.args.lazy.now c.loop-at.lazy c.insert.new.lazy c.loop-at.id (c.in-Some.at, c.in-Some.tree) c.next.new.self.rest.items so c.insert.ensures.kept
     c.insert.ensures.others c.insert.ensures.line c.insert.ensures.spare

@@ -32,6 +32,7 @@ invariant_of-self-2 c = record {
       (c.push.ensures.fewer id
       (c.reserve.ensures.kept id
       ∙ none-live (kept_in c.return_born.new.self id) (kept_in c.args.self.now.lazy id) (c.return_born.ensures.standings.live id) (c.args.self.now.fresh id from)));
+  live = c.push.ensures.live (λ id e. c.args.self.now.live id (sym (c.reserve.ensures.standings.live id ∙ c.return_born.ensures.standings.live id) ∙ e));
 }
 
 pub invariant_of-result : goal.invariant_of-result
