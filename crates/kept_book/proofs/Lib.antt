@@ -13,4 +13,6 @@ pub mod Inserted
 pub mod Joining
 pub mod ChangesInOrder
 pub mod Moving
+pub mod Looked
 pub mod ShiftedBooks
+pub mod WrittenBooks

@@ -79,7 +79,7 @@ module _ (f : Frame) (old new : At) (words more : Words) (h : AreWords words) (h
       go None is e = absurd (none-some q e)
       go (Some x) is e = (x, is)
 
-  same-number : (q : Place) (n : ℕ) → fin.get f.cells q ≡ Some (cell.Formula n) → numbered_at new f.position n ≡ numbered_at old f.position n
+  pub same-number : (q : Place) (n : ℕ) → fin.get f.cells q ≡ Some (cell.Formula n) → numbered_at new f.position n ≡ numbered_at old f.position n
   same-number q n is =
       let x = some-there n q (stand.cells q n is) in
       ap (option_and_then stood_of) (stays n x.0 x.1 ∙ sym x.1)
@@ -91,7 +91,7 @@ module _ (f : Frame) (old new : At) (words more : Words) (h : AreWords words) (h
       go None is e = absurd (none-some home e)
       go (Some x) is e = (x, is)
 
-  same-there : (key : NameKey) (id : ℕ) → fin.get f.names key ≡ Some id → new id f.position ≡ old id f.position
+  pub same-there : (key : NameKey) (id : ℕ) → fin.get f.names key ≡ Some id → new id f.position ≡ old id f.position
   same-there key id is =
       let x = name-there id (homes.Name (scope_sheet key.scope)) (stand.names key id is).home in
       stays id x.0 x.1 ∙ sym x.1
