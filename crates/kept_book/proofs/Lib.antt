@@ -13,6 +13,7 @@ pub mod Inserted
 pub mod Joining
 pub mod ChangesInOrder
 pub mod Moving
+pub mod NamesPut
 pub mod Looked
 pub mod ShiftedBooks
 pub mod WrittenBooks

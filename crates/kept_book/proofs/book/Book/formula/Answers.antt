@@ -11,14 +11,14 @@ pub read-requires-clause-live : goal.read-requires-clause-live
 read-requires-clause-live c =
     let lazy = c.args.self.now.lazy in
     let here = id-cell (fin.get (cells_of c.args.self.now.grid) c.args.at) c.in-Some.id (sym c.in-Some.ensures) in
-    let s = cell-standing (at_in lazy) lazy.line.cursor (cells_of c.args.self.now.grid) c.requires.cells c.args.at c.in-Some.id here in
+    let s = cell-standing (at_in lazy) lazy.line.cursor (cells_of c.args.self.now.grid) c.requires.stand.cells c.args.at c.in-Some.id here in
     live-there lazy c.in-Some.id c.args.self.now.live lazy.line.cursor s.0 s.1
 
 pub read-requires-clause-there : goal.read-requires-clause-there
 read-requires-clause-there c =
     let lazy = c.args.self.now.lazy in
     let here = id-cell (fin.get (cells_of c.args.self.now.grid) c.args.at) c.in-Some.id (sym c.in-Some.ensures) in
-    let s = cell-standing (at_in lazy) lazy.line.cursor (cells_of c.args.self.now.grid) c.requires.cells c.args.at c.in-Some.id here in
+    let s = cell-standing (at_in lazy) lazy.line.cursor (cells_of c.args.self.now.grid) c.requires.stand.cells c.args.at c.in-Some.id here in
     some-not (at_in lazy c.in-Some.id lazy.line.cursor) s.0 s.1
 
 pub returns-in_ok-read-in-Some-clause-tree : goal.returns-in_ok-read-in-Some-clause-tree
