@@ -3,8 +3,7 @@
 use Rattle.std.specs.Prelude.{◌≡◌, ⊤, ℕ, ◌<◌, ◌≤◌, nat_lt, if◌then◌else◌, List, [], ◌∷◌, length, insert, map, Option, Some, None, All}
 use Rattle.std.specs.FinMap as fin
 use Rattle.cell_addr.specs.declared.place.Place.{Place}
-use Rattle.grid_store.specs.internal.Exchange.{without_places}
-use Rattle.grid_store.specs.internal.Lists.{with_entries}
+use Rattle.grid_store.specs.Grid.{with_entries, without_places}
 use Rattle.grid_store.specs.declared.cell.Cell.{Cell}
 use Rattle.name_table.specs.Scopes as table
 use Rattle.name_table.specs.SheetLists.{CanJoin, left_in}

@@ -1,6 +1,6 @@
 // The workbook as it is kept, and what it holds.
-ghost use Rattle.kept_book.specs.Ids.{AreBelow};
-ghost use Rattle.kept_book.specs.internal.Props.{are_below-prop};
+ghost use Rattle.kept_book.specs.Ids.{AreBelow, AreLive};
+ghost use Rattle.kept_book.specs.internal.Props.{are_below-prop, are_live-prop};
 
 use grid_store::Grid;
 use lazy_store::Lazy;
@@ -17,6 +17,7 @@ pub struct Book {
     pub names: Names,
     pub next_id: u64,
     pub ghost fresh: { AreBelow next_id lazy } by { are_below-prop next_id lazy },
+    pub ghost live: { AreLive lazy } by { are_live-prop lazy },
 }
 
 impl Book {

@@ -3,6 +3,7 @@ ghost use Rattle.std.specs.Prelude.{◌≡◌, IfOk, OnOk, [], filter_map};
 ghost use Rattle.std.specs.FinMap as map;
 ghost use Rattle.std.specs.List.{All, cons_option};
 ghost use Rattle.book_model.specs.Given.{CanBegin, IsGivenCell, given_entries, given_entry, given_sheets, numbered, workbook_given};
+ghost use Rattle.shift_line.specs.Track.{with_spare};
 ghost use Rattle.kept_book.specs.Kept.{IsStanding, workbook};
 ghost use Rattle.kept_book.specs.internal.Cells.{with_cells, with_given};
 

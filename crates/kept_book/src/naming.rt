@@ -1,17 +1,24 @@
 // Named expressions that are added, changed and removed.
-ghost use Rattle.std.specs.Prelude.{◌≡◌, ◌≤◌, [], IfOk, OnOk, OnErr, option_map};
+ghost use Rattle.std.specs.Prelude.{◌≡◌, ◌<◌, length, [], IfOk, OnOk, OnErr, option_map};
 ghost use Rattle.grid_store.specs.Grid.{items_of};
 ghost use Rattle.formula_tree.specs.declared.reference.Home.TheVariants as homes;
 ghost use Rattle.shift_line.specs.Track.{with_spare};
 ghost use Rattle.book_values.specs.Names.{key_of};
 ghost use Rattle.book_values.specs.Workbook.{scope_sheet};
 ghost use Rattle.book_model.specs.Changes.{with_name};
+ghost use Rattle.lazy_store.specs.Store.{KeepsAll};
+ghost use Rattle.name_table.specs.Listed.{listed};
+ghost use Rattle.name_table.specs.Named.{names_of, words_of};
+ghost use Rattle.name_table.specs.Scopes as table;
+ghost use Rattle.kept_book.specs.Change.{with_id};
 ghost use Rattle.kept_book.specs.Formula.{IsProperIn, tree_in_scope};
 ghost use Rattle.kept_book.specs.Ids.{KeepsBelow};
 ghost use Rattle.kept_book.specs.Kept.{IsStanding, Makes, SameBook, change_of, workbook};
+ghost use Rattle.kept_book.specs.internal.Naming.{Gives};
 
 use crate::book::Book;
 use crate::part::{NameChange, Part};
+use crate::writing::{insert, next};
 use cell_addr::NO_SHEET;
 use formula_tree::{Home, Tree};
 use grid_store::CellList;
@@ -68,9 +75,9 @@ impl Book {
         tree: Option<Tree>,
     ) -> Result<Option<u64>, AllocError>
         requires known { word < length (words_of self.old.names) }
-        requires fits { IsFitIn scope tree }
+        requires proper { IsProperIn scope tree }
         ensures names { IfOk result (λ id. names_of self.new.names ≡ with_id (table.key_of scope word) id (names_of self.old.names)) }
-        ensures ids { IfOk result (λ id. Names self.old.next_id scope tree id self.old.lazy self.new.lazy) }
+        ensures gives { IfOk result (λ id. Gives self.old.next_id scope tree id self.old.lazy self.new.lazy) }
         ensures names_err { OnErr result (names_of self.new.names ≡ names_of self.old.names) }
         ensures lazy_err { OnErr result (KeepsAll self.old.lazy self.new.lazy) }
         ensures line { self.new.lazy.line ≡ with_spare self.new.lazy.line.spare self.old.lazy.line }

@@ -1,5 +1,5 @@
 // The grid and the table of names as changes are taken back or done again.
-ghost use Rattle.std.specs.Prelude.{◌≡◌, ◌<◌, false, length, map, IfOk, OnOk, OnErr, unwrap_or};
+ghost use Rattle.std.specs.Prelude.{◌≡◌, ◌<◌, [], false, length, map, IfOk, IsTrue, OnOk, OnErr, unwrap_or};
 ghost use Rattle.grid_store.specs.Grid.{cells_of, items_of};
 ghost use Rattle.name_table.specs.Listed.{listed};
 ghost use Rattle.name_table.specs.Named.{KeepsNames, KeepsSheets, names_of, words_of};
@@ -138,14 +138,21 @@ pub(crate) fn copied(alloc: Global, cells: &CellList) -> Result<CellList, AllocE
 
 // Whether some part changed a name or a sheet.
 fn changes_names(parts: &[Part]) -> bool
-    ensures same { result ≡ false → ChangesNoNames (changes_of parts.now) }
+    ensures { result ≡ false → ChangesNoNames (changes_of parts.now) }
 {
     for part in parts {
-        if !part.names.is_empty() || !part.sheets.is_empty() {
+        if !is_plain(part) {
             return true;
         }
     }
     false
+}
+
+// Whether a part changed no name and no sheet.
+fn is_plain(part: &Part) -> bool
+    ensures { IsTrue result → ((change_of part.now).names ≡ []) × ((change_of part.now).sheets ≡ []) }
+{
+    part.names.is_empty() && part.sheets.is_empty()
 }
 
 // The table of names before the parts, where one of them changed it.

@@ -1,5 +1,5 @@
 // Cells that are given what a text says, or emptied.
-ghost use Rattle.std.specs.Prelude.{◌≡◌, ◌==◌, [], IfOk, OnOk, OnErr, IfSome, option_map};
+ghost use Rattle.std.specs.Prelude.{◌≡◌, ◌==◌, [], IfOk, OnOk, OnErr, IfSome, map as each, option_map};
 ghost use Rattle.std.specs.List.{All, cons_option};
 ghost use Rattle.std.specs.FinMap as map;
 ghost use Rattle.cell_addr.specs.Place.{IsInside, covers};
@@ -9,7 +9,8 @@ ghost use Rattle.shift_core.specs.Maps.{AreInside};
 ghost use Rattle.shift_line.specs.Track.{with_spare};
 ghost use Rattle.book_model.specs.Changes.{emptied, with_content};
 ghost use Rattle.book_model.specs.Content.{content_given, tree_given};
-ghost use Rattle.kept_book.specs.Copied.{IsCopied, entry_copied};
+ghost use Rattle.kept_book.specs.Copied.{IsCopied, content_copied, entry_copied};
+ghost use Rattle.kept_book.specs.Formula.{IsFormula, tree_at};
 ghost use Rattle.kept_book.specs.Ids.{KeepsBelow};
 ghost use Rattle.kept_book.specs.Kept.{IsStanding, Makes, SameBook, change_of, workbook};
 ghost use Rattle.kept_book.specs.internal.Cells.{listed_at};
@@ -21,7 +22,7 @@ use cell_addr::{Block, COLS, Place, ROWS};
 use clip_board::CopyItem;
 use formula_parse::{ParseError, parse};
 use formula_tree::{Home, Pool, Tree};
-use grid_store::{Cell, CellList};
+use grid_store::{Cell, CellList, Grid};
 use name_table::Names;
 use std::alloc::{AllocError, Global};
 
@@ -94,7 +95,7 @@ fn given(
     content: ContentText,
 ) -> Result<Vec<(Place, CopyItem)>, AllocError>
     requires { IsInside at }
-    ensures entries { IfOk result (λ r. std.map entry_copied r.items ≡ cons_option (option_map (λ x. (at, x)) (content_given (listed sheets.now) at.sheet content)) []) }
+    ensures entries { IfOk result (λ r. each entry_copied r.items ≡ cons_option (option_map (λ x. (at, x)) (content_given (listed sheets.now) at.sheet content)) []) }
     ensures copied { IfOk result (λ r. All IsCopied r.items) }
     ensures there { IfOk result (λ r. All (λ e. e.0 ≡ at) r.items) }
 {

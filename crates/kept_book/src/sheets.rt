@@ -1,11 +1,12 @@
 // The list of sheets.
-ghost use Rattle.std.specs.Prelude.{◌≡◌, [], IfOk, OnOk, OnErr, IsSome};
+ghost use Rattle.std.specs.Prelude.{◌≡◌, [], Some, IfOk, OnOk, OnErr, IsSome};
 ghost use Rattle.cell_addr.specs.Sheets.{name_in};
 ghost use Rattle.grid_store.specs.Grid.{items_of};
 ghost use Rattle.name_table.specs.Listed.{listed};
-ghost use Rattle.name_table.specs.SheetLists.{CanJoin, IsFree};
+ghost use Rattle.name_table.specs.SheetLists.{CanJoin, IsFree, index_in};
 ghost use Rattle.book_model.specs.Changes.{renamed, with_sheet};
 ghost use Rattle.kept_book.specs.Kept.{IsStanding, Makes, SameBook, change_of, workbook};
+ghost use Rattle.kept_book.specs.internal.Naming.{sheet_changed};
 
 use crate::book::Book;
 use crate::part::{Part, SheetChange};

@@ -1,22 +1,24 @@
 // Structural operations: they go on the line, and the cells move.
-ghost use Rattle.std.specs.Prelude.{◌≡◌, ◌+◌, ◌<◌, ◌∷◌, [], ℕ, Some, None, IfOk, OnOk, OnErr, IsOk, map};
+ghost use Rattle.std.specs.Prelude.{◌≡◌, ◌<◌, ◌≤◌, [], ℕ, Some, None, IfOk, OnOk, OnErr, map, vec_capacity, vec_len};
+ghost use Rattle.cell_addr.specs.Sheets.{AreSheets};
 ghost use Rattle.formula_tree.specs.Pooled.{held};
 ghost use Rattle.lazy_store.specs.Holders.{IsFront};
-ghost use Rattle.lazy_store.specs.Kept.{Kept};
-ghost use Rattle.lazy_store.specs.Store.{KeepsBehind, kept_in, spare_in};
+ghost use Rattle.lazy_store.specs.Store.{AreReturned, KeepsBehind, kept_in, spare_in};
 ghost use Rattle.name_table.specs.Listed.{listed};
-ghost use Rattle.name_table.specs.Named.{names_of, words_of};
+ghost use Rattle.name_table.specs.Named.{KeepsNames, names_of, words_of};
 ghost use Rattle.shift_core.specs.Form.{form_of};
 ghost use Rattle.shift_core.specs.Maps.{AreInside};
 ghost use Rattle.shift_core.specs.Sound.{IsSound};
 ghost use Rattle.shift_line.specs.Track.{pushed, with_spare};
 ghost use Rattle.book_model.specs.Changes.{sheets_left, shifted};
-ghost use Rattle.kept_book.specs.Change.{names_after, sheets_before, HaveSlotsBefore};
+ghost use Rattle.kept_book.specs.Change.{HaveSlots, names_with, sheets_with};
+ghost use Rattle.kept_book.specs.Ids.{AreLive};
 ghost use Rattle.kept_book.specs.Kept.{IsStanding, Makes, SameBook, change_of, name_change, sheet_change, workbook};
-ghost use Rattle.kept_book.specs.internal.Dropped.{LeavesNames, LeavesSheets, ids_left, names_left};
+ghost use Rattle.kept_book.specs.internal.Dropped.{AreGone, PushesOn, ids_left};
 
 use crate::book::Book;
 use crate::part::{NameChange, Part, SheetChange};
+use cell_addr::SheetNames;
 use formula_tree::Pool;
 use grid_store::CellList;
 use lazy_store::Lazy;
@@ -44,9 +46,9 @@ impl Book {
         ensures pool { IsFront (held pool.old) (held pool.new) }
     {
         let from = self.lazy.line().cursor();
-        let Some(to) = from.checked_add(1) else {
+        if from == u64::MAX {
             return Err(AllocError);
-        };
+        }
         let written = CellList::new(self.alloc)?;
         let names = names_left(self.alloc, &self.names, s)?;
         let room = Vec::with_capacity(self.alloc, 1)?;
@@ -58,7 +60,7 @@ impl Book {
         let sheets = leave_sheet(&mut self.names, s, room);
         Ok(Part {
             from,
-            to,
+            to: from + 1,
             replaced,
             written,
             names,
@@ -71,12 +73,13 @@ impl Book {
 fn push(lazy: &mut Lazy, pool: &mut Pool, s: Shift)
     requires sound { IsSound s }
     requires cursor { lazy.old.line.cursor < u64.MAX }
-    requires behind { (id : ℕ) (h : Kept) → kept_in lazy.old id ≡ Some h → h.birth ≤ lazy.old.line.cursor → h.position ≤ lazy.old.line.cursor }
+    requires returned { AreReturned lazy.old.line.cursor lazy.old }
     requires room { 0 < spare_in lazy.old }
     ensures line { lazy.new.line ≡ with_spare lazy.new.line.spare (pushed s lazy.old.line) }
-    ensures standings { PushesOn s lazy.old lazy.new }
+    ensures standings { PushesOn s lazy.old.line.cursor lazy.old lazy.new }
     ensures kept { KeepsBehind lazy.old.line.cursor lazy.old lazy.new }
     ensures fewer { (id : ℕ) → kept_in lazy.old id ≡ None → kept_in lazy.new id ≡ None }
+    ensures live { AreLive lazy.old → AreLive lazy.new }
     ensures pool { IsFront (held pool.old) (held pool.new) }
 {
     lazy.forget_beyond();
@@ -107,8 +110,8 @@ fn names_left(alloc: Global, names: &Names, s: &Shift) -> Result<Vec<NameChange>
 
 // Takes names away.
 fn leave_names(names: &mut Names, left: &[NameChange])
-    requires { All (λ c. c.after ≡ None) left.now }
-    ensures names { names_of names.new ≡ names_after (map name_change left.now) (names_of names.old) }
+    requires { AreGone (map name_change left.now) }
+    ensures names { names_of names.new ≡ names_with (λ x. x.1) (map name_change left.now) (names_of names.old) }
     ensures words { words_of names.new ≡ words_of names.old }
     ensures sheets { listed names.new ≡ listed names.old }
 {
@@ -123,13 +126,14 @@ fn leave_sheet(names: &mut Names, s: &Shift, room: Vec<SheetChange>) -> Vec<Shee
     requires empty { room.items ≡ [] }
     requires room { vec_len room < vec_capacity room }
     ensures sheets { listed names.new ≡ sheets_left (form_of s.now) (listed names.old) }
-    ensures back { sheets_before (map sheet_change result.items) (listed names.new) ≡ listed names.old }
-    ensures forth { sheets_after (map sheet_change result.items) (listed names.old) ≡ listed names.new }
-    ensures returns { HaveSlotsBefore (map sheet_change result.items) (listed names.new) }
-    ensures repeats { HaveSlotsAfter (map sheet_change result.items) (listed names.old) }
+    ensures back { sheets_with (λ x. x.0) (map sheet_change result.items) (listed names.new) ≡ listed names.old }
+    ensures forth { sheets_with (λ x. x.1) (map sheet_change result.items) (listed names.old) ≡ listed names.new }
+    ensures returns { HaveSlots (λ x. x.0) (map sheet_change result.items) (listed names.new) }
+    ensures repeats { HaveSlots (λ x. x.1) (map sheet_change result.items) (listed names.old) }
     ensures names { KeepsNames names.old names.new }
 {
     let mut sheets = room;
+    proper(&*names);
     if let Form::Sheet { sheet } = s.form() {
         if let Some(before) = names.remove_sheet(sheet) {
             sheets.push_reserved(SheetChange {
@@ -141,3 +145,8 @@ fn leave_sheet(names: &mut Names, s: &Shift, room: Vec<SheetChange>) -> Vec<Shee
     }
     sheets
 }
+
+// No sheet of a list stands twice.
+pub(crate) fn proper<S: SheetNames>(sheets: &S)
+    ensures { AreSheets (S.sheets sheets.now) }
+{}

@@ -33,6 +33,7 @@ impl Book {
         let Some(first) = parts.first() else {
             return Ok(());
         };
+        prove!(self.lazy.line().cursor() <= self.lazy.line().last());
         let names = names_behind(&self.names, parts)?;
         step_back(self.alloc, self.lazy.line(), &mut self.grid, parts)?;
         self.reach(first.from, names);
@@ -58,6 +59,7 @@ impl Book {
         let Some(end) = parts.last() else {
             return Ok(());
         };
+        prove!(self.lazy.line().first() <= self.lazy.line().cursor());
         let names = names_ahead(&self.names, parts)?;
         step_forth(self.alloc, self.lazy.line(), &mut self.grid, parts)?;
         self.reach(end.to, names);

@@ -1,20 +1,24 @@
 // Cells that are emptied and given something else to hold.
-ghost use Rattle.std.specs.Prelude.{◌≡◌, ◌≤◌, ◌<◌, ◌+◌, [], map, length, IfOk, OnOk, OnErr};
+ghost use Rattle.std.specs.Prelude.{◌≡◌, ◌≤◌, ◌<◌, ◌+◌, None, Some, map, length, IfOk, OnOk, OnErr};
 ghost use Rattle.std.specs.List.{All};
-ghost use Rattle.grid_store.specs.Grid.{AreListedInside, cells_of, items_of};
-ghost use Rattle.grid_store.specs.internal.Exchange.{without_places};
-ghost use Rattle.lazy_store.specs.Store.{spare_in};
-ghost use Rattle.lazy_store.specs.declared.lazy.Lazy.{Lazy as LazySeen};
+ghost use Rattle.grid_store.specs.Grid.{AreListedInside, cells_of, items_of, without_places};
+ghost use Rattle.formula_tree.specs.Reference.{IsHomeInside};
+ghost use Rattle.formula_tree.specs.Relative.{relative};
+ghost use Rattle.formula_tree.specs.StandsFor.{at_home};
+ghost use Rattle.lazy_store.specs.Kept.{fresh};
+ghost use Rattle.lazy_store.specs.Store.{KeepsOthers, kept_in, spare_in};
+ghost use Rattle.tree_rewrite.specs.References.{FitsSheets};
 ghost use Rattle.shift_line.specs.Track.{with_spare};
 ghost use Rattle.kept_book.specs.Change.{places_of};
 ghost use Rattle.kept_book.specs.Copied.{IsCopied, entry_copied};
 ghost use Rattle.kept_book.specs.Ids.{AreBelow, KeepsBelow};
 ghost use Rattle.kept_book.specs.Kept.{IsStanding, Makes, SameBook, change_of, workbook};
 ghost use Rattle.kept_book.specs.internal.Cells.{cells_given, trees_given, with_cells, with_given};
-ghost use Rattle.kept_book.specs.internal.Writing.{AreReplaced, AreStanding, Inserts, IsGiven};
+ghost use Rattle.kept_book.specs.internal.Writing.{AreReplaced, CanStand, Inserts};
 
 use crate::book::Book;
 use crate::part::Part;
+use crate::passing::copied;
 use cell_addr::Place;
 use clip_board::CopyItem;
 use formula_tree::{Home, Tree};
@@ -44,7 +48,8 @@ impl Book {
         requires stand { IsStanding self.old }
         ensures ok { OnOk result (workbook self.new ≡ with_cells (with_given (map entry_copied given.items) (without_places (places_of (items_of replaced)) (workbook self.old).cells)) (workbook self.old)) }
         ensures makes { IfOk result (λ part. Makes self.old self.new (change_of part)) }
-        ensures cells { IfOk result (λ part. WritesOnly (items_of replaced) (map (λ e. e.0) given.items) (change_of part)) }
+        ensures replaced { IfOk result (λ part. items_of part.replaced ≡ items_of replaced) }
+        ensures written { IfOk result (λ part. places_of (items_of part.written) ≡ map (λ e. e.0) given.items) }
         ensures err { OnErr result (SameBook self.old self.new) }
         ensures line { self.new.lazy.line ≡ with_spare self.new.lazy.line.spare self.old.lazy.line }
         ensures kept { KeepsBelow self.old.next_id self.old.lazy self.new.lazy }
@@ -97,7 +102,7 @@ fn numbered(
 }
 
 // The next id; none is left behind the greatest.
-fn next(id: u64) -> Result<u64, AllocError>
+pub(crate) fn next(id: u64) -> Result<u64, AllocError>
     ensures { IfOk result (λ n. n ≡ id + 1) }
 {
     match id.checked_add(1) {
@@ -109,7 +114,7 @@ fn next(id: u64) -> Result<u64, AllocError>
 // Keeps formulas of cells, under ids from this one on, and answers the id behind the last. There is room for them.
 fn insert_all(lazy: &mut Lazy, first: u64, trees: Vec<(Place, Tree)>) -> u64
     requires below { AreBelow first lazy.old }
-    requires stand { All AreStanding trees.items }
+    requires stand { All CanStand trees.items }
     requires room { length trees.items ≤ spare_in lazy.old }
     requires ids { first + length trees.items ≤ u64.MAX }
     ensures next { result ≡ first + length trees.items }
@@ -122,4 +127,21 @@ fn insert_all(lazy: &mut Lazy, first: u64, trees: Vec<(Place, Tree)>) -> u64
         id += 1;
     }
     id
+}
+
+// Keeps a formula under an id, for which there is room.
+pub(crate) fn insert(lazy: &mut Lazy, id: u64, home: Home, tree: Tree)
+    requires new { kept_in lazy.old id ≡ None }
+    requires home { IsHomeInside home }
+    requires fits { FitsSheets (at_home home (relative tree.value)) }
+    requires room { 0 < spare_in lazy.old }
+    ensures kept { kept_in lazy.new id ≡ Some (fresh lazy.old.line.cursor home (relative tree.value)) }
+    ensures others { KeepsOthers id lazy.old lazy.new }
+    ensures line { lazy.new.line ≡ lazy.old.line }
+    ensures spare { spare_in lazy.old ≤ spare_in lazy.new + 1 }
+{
+    match lazy.insert(id, home, tree) {
+        Ok(()) => (),
+        Err(_) => unreachable!(),
+    }
 }

@@ -1,5 +1,5 @@
 -- What goes with a dropped sheet, and how formulas stand once an operation is on the line.
-use Rattle.std.specs.Prelude.{◌≡◌, ℕ, ◌+◌, ◌≤◌, List, [], ◌∷◌, map, Option, Some, None, option_and_then}
+use Rattle.std.specs.Prelude.{◌≡◌, ⊤, ℕ, ◌+◌, ◌≤◌, List, [], ◌∷◌, map, Option, Some, None, option_and_then}
 use Rattle.lazy_store.specs.Standing.{after}
 use Rattle.lazy_store.specs.Store.{at_in}
 use Rattle.lazy_store.specs.declared.lazy.Lazy.{Lazy}
@@ -17,6 +17,11 @@ gone scope e = (key_of scope e.0, (Some e.1, None))
 abbrev pub ids_left : Form → NameMap → List (NameKey × (Option ℕ × Option ℕ))
 ids_left (form.Sheet sheet) names = map (gone (Some sheet)) (in_scope (Some sheet) names)
 ids_left _ names = []
+
+-- the names are without an id after the changes
+abbrev pub AreGone : List (NameKey × (Option ℕ × Option ℕ)) → Type 0
+AreGone [] = ⊤
+AreGone (c ∷ cs) = (c.1.1 ≡ None) × AreGone cs
 
 -- an operation is on the line behind a position: each formula has the standings that it had up to the position, and the
 -- one behind the operation by that

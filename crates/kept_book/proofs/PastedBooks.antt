@@ -1,0 +1,91 @@
+-- Copied cells that are pasted one after the other, from the last to the first. Serves the paste of a copy.
+use Rattle.std.proofs.Common.{◌≡◌, ◌∙◌, sym, ap, refl, arith, ℕ, ◌+◌, ◌<◌, Bool, true, false, cond, not, List, [], ◌∷◌, length, get_or, drop, map, Option, Some, None, option_map}
+use Rattle.std.specs.List.{cons_option, filter_map}
+use Rattle.std.specs.FinMap as fin
+use Rattle.std.specs.FinMap.{find, get-from_entries, get-insert, same_map}
+use Rattle.std.specs.Ordering.{eq_by_cmp}
+use Rattle.std.proofs.lemmas.List.{drop_more, drop_all}
+use Rattle.cell_addr.proofs.Places.{place_cmp-IsTotalOrder, place_cmp-IsAntisymmetric}
+use Rattle.cell_addr.specs.Order.{place_cmp}
+use Rattle.cell_addr.specs.Place.{Covers, IsBlockInside, IsInside, covers}
+use Rattle.cell_addr.specs.declared.place.Block.{Block}
+use Rattle.cell_addr.specs.declared.place.Place.{Place}
+use Rattle.book_cells.specs.Workbook.{Book as Contents, Content}
+use Rattle.clip_board.specs.declared.clip.CopyItem.{CopyItem}
+use Rattle.shift_core.proofs.CellMoves.{Covers-from_covers, carried_covered}
+use Rattle.shift_core.specs.Carried.{carried_place, destination}
+use Rattle.book_model.proofs.PastedCells.{either, get-pasted, over-kept, source_of}
+use Rattle.book_model.specs.Changes.{emptied, entry_pasted, pasted_content, with_copy}
+use Rattle.book_model.specs.Workbook.{Workbook}
+use Rattle.kept_book.specs.Copied.{content_copied, contents_copied, entry_copied}
+use Rattle.kept_book.specs.internal.Cells.{with_cells, with_content_at, with_given}
+
+-- where a copied cell comes to, with what it held
+abbrev pub item_pasted : List (ℕ × List ℕ) → Block → Place → Place × CopyItem → Option (Place × Content)
+item_pasted sheets area at e = entry_pasted sheets area at (entry_copied e)
+
+-- the workbook after the copied cells from a number on were pasted
+abbrev pub pasted_from : Block → List (Place × CopyItem) → Place → ℕ → Workbook → Workbook
+pasted_from area items at i d = with_cells (with_given (filter_map (item_pasted d.sheets area at) (drop i items)) d.cells) d
+
+-- from the end on nothing is pasted
+pub pasted_none : (area : Block) (items : List (Place × CopyItem)) (at : Place) (d : Workbook) → d ≡ pasted_from area items at (length items) d
+pasted_none area items at d = ap (λ es. with_cells (with_given (filter_map (item_pasted d.sheets area at) es) d.cells) d) (sym (drop_all (length items) items (omega arith)))
+
+one-pasted : (sheets : List (ℕ × List ℕ)) (area : Block) (at : Place) (e : Place × CopyItem) (rest : List (Place × CopyItem)) → covers area e.0 ≡ true
+    → filter_map (item_pasted sheets area at) (e ∷ rest) ≡ (carried_place area at e.0, pasted_content sheets e.0 (carried_place area at e.0) (content_copied e.0 e.1)) ∷ filter_map (item_pasted sheets area at) rest
+one-pasted sheets area at e rest h = rw h refl
+
+none-pasted : (sheets : List (ℕ × List ℕ)) (area : Block) (at : Place) (e : Place × CopyItem) (rest : List (Place × CopyItem)) → covers area e.0 ≡ false
+    → filter_map (item_pasted sheets area at) (e ∷ rest) ≡ filter_map (item_pasted sheets area at) rest
+none-pasted sheets area at e rest h = rw h refl
+
+-- and then one cell more
+pub pasted_one : (area : Block) (items : List (Place × CopyItem)) (at : Place) (i : ℕ) (e : Place × CopyItem) (to : Place) (d now next : Workbook) → i < length items → e ≡ get_or items i e
+    → covers area e.0 ≡ true → to ≡ carried_place area at e.0 → now ≡ pasted_from area items at (i + 1) d
+    → next ≡ with_content_at to (Some (pasted_content now.sheets e.0 to (content_copied e.0 e.1))) now → next ≡ pasted_from area items at i d
+pasted_one area items at i e to d now next inside is here goes same new =
+    let put : Place → Workbook → Workbook = λ q x. with_content_at q (Some (pasted_content x.sheets e.0 q (content_copied e.0 e.1))) x in
+    new ∙ ap (put to) same ∙ ap (λ q. put q (pasted_from area items at (i + 1) d)) goes
+    ∙ ap (λ es. with_cells (with_given es d.cells) d) (sym (one-pasted d.sheets area at e (drop (i + 1) items) here))
+    ∙ ap (λ es. with_cells (with_given (filter_map (item_pasted d.sheets area at) es) d.cells) d) (sym (drop_more items i e inside ∙ ap (λ x. x ∷ drop (i + 1) items) (sym is)))
+
+-- or one that isn't of the block
+pub pasted_skip : (area : Block) (items : List (Place × CopyItem)) (at : Place) (i : ℕ) (e : Place × CopyItem) (d now : Workbook) → i < length items → e ≡ get_or items i e
+    → covers area e.0 ≡ false → now ≡ pasted_from area items at (i + 1) d → now ≡ pasted_from area items at i d
+pasted_skip area items at i e d now inside is here same =
+    same ∙ ap (λ es. with_cells (with_given es d.cells) d) (sym (none-pasted d.sheets area at e (drop (i + 1) items) here))
+    ∙ ap (λ es. with_cells (with_given (filter_map (item_pasted d.sheets area at) es) d.cells) d) (sym (drop_more items i e inside ∙ ap (λ x. x ∷ drop (i + 1) items) (sym is)))
+
+-- what stands at a place after entries came over others
+get-given : (es : List (Place × Content)) (m : Contents) (q : Place) → fin.get (with_given es m) q ≡ either (find place_cmp q es) (fin.get m q)
+get-given [] m q = refl
+get-given (e ∷ es) m q = get-insert place_cmp-IsTotalOrder (with_given es m) e.0 e.1 q ∙ go (eq_by_cmp place_cmp q e.0) (get-given es m q)
+  where
+    go : (b : Bool) → fin.get (with_given es m) q ≡ either (find place_cmp q es) (fin.get m q)
+        → cond b (Some e.1) (fin.get (with_given es m) q) ≡ either (cond b (Some e.1) (find place_cmp q es)) (fin.get m q)
+    go true h = refl
+    go false h = h
+
+both-maps : {X Y Z : Type 0} (f : Y → Option Z) (g : X → Y) (xs : List X) → filter_map (λ x. f (g x)) xs ≡ filter_map f (map g xs)
+both-maps f g [] = refl
+both-maps f g (x ∷ xs) = ap (λ r. cons_option (f (g x)) r) (both-maps f g xs)
+
+-- to paste all of them where the destination was emptied is to paste the copy
+pub pasted_whole : (area : Block) (items : List (Place × CopyItem)) (at : Place) (b : Workbook) → IsBlockInside area
+    → pasted_from area items at 0 (emptied (covers (destination area at)) b) ≡ with_copy area (contents_copied items) at b
+pasted_whole area items at b inside = ap (λ m. with_cells m b) (same_map place_cmp-IsTotalOrder place_cmp-IsAntisymmetric _ _ (λ q.
+    get-given (filter_map (item_pasted b.sheets area at) items) kept q
+    ∙ ap (λ es. either (find place_cmp q es) (fin.get kept q)) (both-maps (entry_pasted b.sheets area at) entry_copied items)
+    ∙ over-kept area at b (map entry_copied items) q inside
+    ∙ ap (λ r. cond (covers (destination area at) q) (option_map (pasted_content b.sheets (source_of area at q) q) r) (fin.get b.cells q)) (sym (get-from_entries place_cmp-IsTotalOrder (map entry_copied items) (source_of area at q)))
+    ∙ sym (get-pasted area (contents_copied items) at b q inside)))
+  where
+    kept : Contents
+    kept = fin.retain_keys b.cells (λ p. not (covers (destination area at) p))
+
+-- where a cell of the block comes to lies within the limits of a sheet
+pub carried-inside : (area : Block) (at p : Place) → IsBlockInside (destination area at) → covers area p ≡ true → IsInside (carried_place area at p)
+carried-inside area at p there h =
+    let c = carried_covered area at p (Covers-from_covers area p h) in
+    (omega (arith, there.1, c.2), omega (arith, there.3, c.4))

@@ -1,0 +1,9 @@
+use Rattle.std.proofs.Common.{◌≡◌, drop}
+use Rattle.grid_store.specs.Grid.{cells_of}
+use Rattle.shift_line.specs.Track.{shift_at}
+use Rattle.kept_book.specs.Kept.{changes_of}
+use Rattle.kept_book.specs.internal.Stepping.{cells_back}
+use Rattle.kept_book.proofs.passing.step_back.Given as goal
+
+abbrev pub invariant-loop-index : goal.invariant-loop-index
+invariant-loop-index l = cells_of l.copy ≡ cells_back (shift_at l.line) (changes_of (drop l.index l.parts)) (cells_of l.fn.grid)
