@@ -6,7 +6,7 @@ use Rattle.kept_book.specs.Change.{AreKnown, Change, HasSlot, HaveSlots, SheetSl
 use Rattle.kept_book.specs.Frame.{Frame, Words}
 use Rattle.kept_book.specs.Walk.{back_all, forth_all}
 use Rattle.kept_book.specs.declared.book.Book.{Book}
-use Rattle.kept_steps.specs.Session.{AreSteps, Fits}
+use Rattle.kept_steps.specs.Fits.{AreSteps, Fits}
 use Rattle.kept_steps.specs.Steps.{AllLeadOn, AllLedHere, AreAhead, ArePast, LeadsOn, LedHere}
 use Rattle.kept_steps.specs.Timeline.{StandIn, Timeline}
 use Rattle.kept_steps.specs.declared.entry.Entry.{Entry}
