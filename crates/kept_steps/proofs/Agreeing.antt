@@ -4,18 +4,13 @@ use Rattle.std.proofs.Common.{◌≡◌, ◌∙◌, sym, ap, subst, refl, arith,
 use Rattle.std.specs.Prelude.{slice_get, option_and_then}
 use Rattle.std.specs.FinMap as fin
 use Rattle.std.specs.FinMap.{same_map}
-use Rattle.std.specs.List.{filter_map}
 use Rattle.std.proofs.lemmas.Bool.Decides.{nat_tests}
-use Rattle.std.proofs.lemmas.Option.{same_Some}
 use Rattle.cell_addr.proofs.Places.{place_cmp-IsTotalOrder, place_cmp-IsAntisymmetric}
 use Rattle.cell_addr.specs.declared.place.Place.{Place}
 use Rattle.formula_tree.specs.declared.reference.Home.{Home}
-use Rattle.grid_store.specs.declared.cell.Cell.{Cell}
-use Rattle.grid_store.specs.declared.cell.Cell.TheVariants as cell
 use Rattle.lazy_store.specs.Standing.{Standing}
 use Rattle.name_table.proofs.KeyOrder.{key_cmp-IsTotalOrder}
 use Rattle.name_table.specs.declared.key.NameKey.{NameKey}
-use Rattle.shift_core.specs.declared.shift.Shift.{Shift}
 use Rattle.kept_book.proofs.Contents.{content_same, get-contents}
 use Rattle.kept_book.specs.Change.{AreKnown, Change, HaveSlots, back, cells_after, cells_before, forth, names_with, shift_of, sheets_with}
 use Rattle.kept_book.specs.Frame.{Frame, IsNamed, Words, home_at, name_seen, named_at, names_seen, numbered_at, stood_of, tree_named}

@@ -1,5 +1,5 @@
 -- Frames that are the same place by place and name by name are one. Serves the steps of a session.
-use Rattle.std.proofs.Common.{◌≡◌, ap, refl}
+use Rattle.std.proofs.Common.{◌≡◌, ap}
 use Rattle.std.specs.FinMap as fin
 use Rattle.std.specs.FinMap.{same_map}
 use Rattle.cell_addr.proofs.Places.{place_cmp-IsTotalOrder, place_cmp-IsAntisymmetric}

@@ -1,23 +1,23 @@
 -- The session after a call: where a change was noted, where nothing changed, after a step back or forth, and where a batch
 -- begins or is closed. Serves all calls of sessions.
-use Rattle.std.proofs.Common.{pos, ◌≡◌, ◌∙◌, sym, ap, subst, refl, arith, inl, inr, ℕ, ◌<◌, ◌≤◌, ◌-◌, Bool, true, false, if◌then◌else◌, List, [], ◌∷◌, ◌++◌, length, map, reverse, take, Option, Some, None, option_map}
-use Rattle.undo_book.specs.History.{History, last_of, pushed, stepped_back, stepped_forward}
-use Rattle.undo_book.proofs.LastEntries.{all_but_last-end, ends_in, last_of-end}
+use Rattle.std.proofs.Common.{pos, ◌≡◌, ◌∙◌, sym, ap, subst, refl, arith, ℕ, ◌≤◌, ◌-◌, Bool, true, false, if◌then◌else◌, List, [], ◌∷◌, ◌++◌, length, take, Option, Some, None, option_map}
+use Rattle.undo_book.specs.History.{History, last_of, stepped_back, stepped_forward}
+use Rattle.undo_book.proofs.LastEntries.{all_but_last-end, last_of-end}
 use Rattle.book_model.specs.Clipboard.{nothing}
 use Rattle.book_model.specs.Session.{changed, closed, kept, opened, redone, undone}
-use Rattle.book_model.specs.Workbook.{State, Workbook}
+use Rattle.book_model.specs.Workbook.{State}
 use Rattle.kept_book.specs.Change.{Change, Joins}
 use Rattle.kept_book.specs.Frame.{Frame}
 use Rattle.kept_book.specs.Kept.{changes_of}
 use Rattle.kept_book.specs.Walk.{back_all, forth_all}
 use Rattle.kept_steps.specs.Fits.{AreSteps, batch_of, changes_in, has_any, open_changes, session_of, start_of, steps_of}
-use Rattle.kept_steps.specs.Steps.{AllLeadOn, AllLedHere, AreAhead, ArePast, books_ahead, books_past, furthest, oldest}
+use Rattle.kept_steps.specs.Steps.{AllLedHere, AreAhead, ArePast, books_ahead, books_past, furthest, oldest}
 use Rattle.kept_steps.specs.Timeline.{Agree, StandIn, Timeline, book_in}
 use Rattle.kept_steps.specs.declared.entry.Entry.{Entry}
 use Rattle.kept_steps.specs.internal.Noted.{Adds, Closes, ClosesWith, Notes, SameBatch, SameSteps}
-use Rattle.kept_steps.proofs.Agreeing.{ahead_same, all_lead_same, all_led_same, book_same, furthest_last, oldest_first, past_same, stand_same}
+use Rattle.kept_steps.proofs.Agreeing.{ahead_same, all_led_same, book_same, furthest_last, past_same, stand_same}
 use Rattle.kept_steps.proofs.Lists.{books_taken, oldest_taken, past_taken, steps_end, steps_pushed}
-use Rattle.kept_steps.proofs.Walks.{all_lead, all_led, earlier, further, led, led_more, leads_here, leads_on}
+use Rattle.kept_steps.proofs.Walks.{all_lead, all_led, earlier, led, led_more, leads_here, leads_on}
 
 -- the session after a call, with steps that fit it
 abbrev pub Becomes : Timeline → ℕ → ℕ → Frame → History Entry → Option Entry → Bool → ℕ → State → Type 0

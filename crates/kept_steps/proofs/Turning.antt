@@ -6,8 +6,6 @@ use Rattle.shift_line.specs.Track.{last, shift_at}
 use Rattle.undo_book.specs.History.{History, stepped_back, stepped_forward}
 use Rattle.undo_book.proofs.LastEntries.{ends_in, last_one-end}
 use Rattle.book_model.specs.Session.{redone, undone}
-use Rattle.book_model.specs.Workbook.{State}
-use Rattle.kept_book.specs.Change.{Change}
 use Rattle.kept_book.specs.Frame.{Frame}
 use Rattle.kept_book.specs.Kept.{at_of, frame_of, line_of}
 use Rattle.kept_book.specs.Walk.{Leads, back_all, forth_all}
@@ -15,7 +13,7 @@ use Rattle.kept_book.specs.declared.book.Book.{Book}
 use Rattle.name_table.specs.Named.{words_of}
 use Rattle.kept_steps.specs.Fits.{AreSteps, Fits, changes_in, session_of, steps_of}
 use Rattle.kept_steps.specs.Steps.{AreAhead, ArePast, furthest, oldest}
-use Rattle.kept_steps.specs.Timeline.{Agree, Timeline, timeline_of}
+use Rattle.kept_steps.specs.Timeline.{Agree, timeline_of}
 use Rattle.kept_steps.specs.declared.entry.Entry.{Entry}
 use Rattle.kept_steps.proofs.Agreeing.{furthest_last, oldest_first}
 use Rattle.kept_steps.proofs.Lists.{steps_end}

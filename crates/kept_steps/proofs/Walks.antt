@@ -1,6 +1,6 @@
 -- Changes that led to a frame lead on from the frame before them, and the other way round. Serves undo and redo.
-use Rattle.std.proofs.Common.{◌≡◌, ◌∙◌, sym, ap, subst, refl, arith, ℕ, ◌≤◌, List, [], ◌∷◌, ◌++◌}
-use Rattle.kept_book.specs.Change.{AreKnown, Change, HaveSlots, Joins, back, forth}
+use Rattle.std.proofs.Common.{◌≡◌, ◌∙◌, sym, ap, subst, refl, arith, ◌≤◌, List, [], ◌∷◌, ◌++◌}
+use Rattle.kept_book.specs.Change.{Change, HaveSlots, Joins, back, forth}
 use Rattle.kept_book.specs.Frame.{Frame}
 use Rattle.kept_book.specs.Walk.{Leads, back_all, forth_all}
 use Rattle.kept_steps.specs.Steps.{AllLeadOn, AllLedHere, LeadsOn, LedHere}

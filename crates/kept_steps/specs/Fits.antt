@@ -1,5 +1,5 @@
 -- The session that a frame of a workbook and its steps stand for, and which steps are a frame's. Source: this project's own.
-use Rattle.std.specs.Prelude.{◌≤◌, ⊤, ℕ, pos, Bool, true, false, ◌≡◌, List, [], ◌∷◌, length, map, reverse, Option, Some, None, option_map}
+use Rattle.std.specs.Prelude.{◌≤◌, ℕ, pos, Bool, true, false, ◌≡◌, List, [], ◌∷◌, length, map, reverse, Option, Some, None, option_map}
 use Rattle.shift_line.specs.Track.{last}
 use Rattle.undo_book.specs.History.{History}
 use Rattle.book_model.specs.Clipboard.{nothing}

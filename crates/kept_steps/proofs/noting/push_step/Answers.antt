@@ -1,4 +1,4 @@
-use Rattle.std.proofs.Common.{◌∙◌, ap, map, ◌++◌, ◌∷◌, []}
+use Rattle.std.proofs.Common.{◌∙◌, ap, ◌++◌, ◌∷◌, []}
 use Rattle.kept_book.specs.Kept.{changes_of}
 use Rattle.kept_steps.proofs.noting.push_step.Goals as goal
 

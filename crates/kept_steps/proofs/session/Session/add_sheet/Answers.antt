@@ -1,10 +1,9 @@
-use Rattle.std.proofs.Common.{◌∙◌, ap, subst, ◌≤◌, ◌+◌}
-use Rattle.shift_line.specs.Track.{last}
+use Rattle.std.proofs.Common.{◌∙◌, ap, ◌+◌}
 use Rattle.book_model.specs.Session.{changed}
 use Rattle.book_model.specs.Workbook.{State}
 use Rattle.kept_book.specs.Kept.{change_of}
 use Rattle.kept_steps.specs.Session.{state_of}
-use Rattle.kept_steps.proofs.Outcomes.{itself, made, on_err, on_pushed, on_same, unchanged}
+use Rattle.kept_steps.proofs.Outcomes.{itself, made, on_err, on_same, unchanged}
 use Rattle.kept_steps.proofs.session.Session.add_sheet.Goals as goal
 
 pub returns-in_err-room-clause-err : goal.returns-in_err-room-clause-err

@@ -1,4 +1,4 @@
-use Rattle.std.proofs.Common.{◌∙◌, sym, ap, subst, None, Some}
+use Rattle.std.proofs.Common.{◌∙◌, sym, ap, subst}
 use Rattle.shift_line.specs.Track.{last}
 use Rattle.book_model.specs.Session.{opened}
 use Rattle.kept_book.specs.Kept.{changes_of, frame_of}

@@ -1,4 +1,4 @@
-use Rattle.std.proofs.Common.{◌∙◌, sym, ap, subst, None}
+use Rattle.std.proofs.Common.{◌∙◌, sym, ap, subst}
 use Rattle.shift_line.specs.Track.{last}
 use Rattle.kept_book.specs.Kept.{frame_of}
 use Rattle.kept_steps.specs.Fits.{AreSteps, session_of}

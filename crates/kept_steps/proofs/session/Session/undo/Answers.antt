@@ -1,7 +1,6 @@
-use Rattle.std.proofs.Common.{◌∙◌, ◌≤◌, ◌-◌, ap, length, refl, subst, sym}
+use Rattle.std.proofs.Common.{◌∙◌, ◌≤◌, ◌-◌, ap, length, subst, sym}
 use Rattle.std.specs.VecDeque.{deque_len}
 use Rattle.std.specs.Prelude.{slice_get}
-use Rattle.shift_line.specs.Track.{last}
 use Rattle.name_table.specs.Named.{words_of}
 use Rattle.kept_book.specs.Frame.{Frame}
 use Rattle.kept_book.specs.Kept.{changes_of, frame_of, line_of}
