@@ -1,4 +1,5 @@
 pub mod Timeline
 pub mod Steps
+pub mod Fits
 pub mod Session
 pub mod internal

@@ -1,5 +1,5 @@
 // Changes of a session: each is a step, or part of the open batch, and ends what could be done again.
-ghost use Rattle.std.specs.Prelude.{◌≡◌, ◌==◌, ◌+◌, OnOk, OnErr, IfOk, IsSome, option_map};
+ghost use Rattle.std.specs.Prelude.{◌≡◌, ◌==◌, ◌+◌, ◌<◌, OnOk, OnErr, IfOk, IsSome, option_map};
 ghost use Rattle.std.specs.List.{All};
 ghost use Rattle.cell_addr.specs.Place.{IsBlockInside, IsInside, covers};
 ghost use Rattle.cell_addr.specs.Sheets.{name_in};

@@ -35,7 +35,7 @@ pub(crate) fn note(
     match batch {
         Some(entry) => {
             entry.parts.push_reserved(part);
-            forget_undone(steps);
+            steps.forget_undone();
         }
         None => push_step(steps, room, part),
     }
@@ -49,13 +49,6 @@ fn push_step(steps: &mut UndoBook<Entry>, mut parts: Vec<Part>, part: Part)
 {
     parts.push_reserved(part);
     steps.push(Entry { parts });
-}
-
-// Forgets all steps that could be done again.
-fn forget_undone(steps: &mut UndoBook<Entry>)
-    ensures { (steps.new.done ≡ steps.old.done) × (steps.new.undone ≡ []) × (steps.new.limit ≡ steps.old.limit) }
-{
-    while steps.take_undone().is_some() {}
 }
 
 // Adds what a batch changed as a step, where it changed anything.

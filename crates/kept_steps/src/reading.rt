@@ -10,11 +10,10 @@ ghost use Rattle.name_table.specs.Named.{names_of};
 ghost use Rattle.name_table.specs.Scopes.{key_of};
 ghost use Rattle.book_cells.specs.Workbook.{Content};
 ghost use Rattle.book_values.specs.Workbook.{content_tree};
-ghost use Rattle.kept_book.specs.Copied.{IsCopied, contents_copied};
+ghost use Rattle.kept_book.specs.Copied.{IsCopied, IsHeld, contents_copied};
 ghost use Rattle.kept_book.specs.Formula.{tree_at, tree_in_scope};
 ghost use Rattle.kept_book.specs.Frame.{named_at};
 ghost use Rattle.kept_book.specs.Kept.{KeepsElsewhere, KeepsOtherNames, SameBook, at_of, id_of, stored_at_place};
-ghost use Rattle.kept_book.specs.internal.Copying.{IsHeld};
 
 use crate::session::Session;
 use cell_addr::{Block, Place};

@@ -1,5 +1,5 @@
 // A session: a kept workbook with its steps.
-ghost use Rattle.kept_steps.specs.Session.{Fits};
+ghost use Rattle.kept_steps.specs.Fits.{Fits};
 ghost use Rattle.kept_steps.specs.internal.FitsProp.{fits-prop};
 
 use crate::entry::Entry;

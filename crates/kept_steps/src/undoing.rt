@@ -55,7 +55,7 @@ impl Session {
         requires closed { self.old.batch ≡ None }
         ensures ok { OnOk result (state_of self.new ≡ undone (state_of self.old).undo (state_of self.old)) }
         ensures err { OnErr result (state_of self.new ≡ state_of self.old) }
-        ensures line { self.new.book.lazy.line ≡ record self.old.book.lazy.line { cursor = self.new.book.lazy.line.cursor } }
+        ensures line { OnOk result (self.new.book.lazy.line ≡ record self.old.book.lazy.line { cursor = self.new.book.lazy.line.cursor }) }
         ensures kept { KeepsAll self.old.book.lazy self.new.book.lazy }
     {
         if let Some(entry) = self.steps.done().back() {
@@ -70,7 +70,7 @@ impl Session {
         requires closed { self.old.batch ≡ None }
         ensures ok { OnOk result (state_of self.new ≡ redone (state_of self.old).redo (state_of self.old)) }
         ensures err { OnErr result (state_of self.new ≡ state_of self.old) }
-        ensures line { self.new.book.lazy.line ≡ record self.old.book.lazy.line { cursor = self.new.book.lazy.line.cursor } }
+        ensures line { OnOk result (self.new.book.lazy.line ≡ record self.old.book.lazy.line { cursor = self.new.book.lazy.line.cursor }) }
         ensures kept { KeepsAll self.old.book.lazy self.new.book.lazy }
     {
         if let Some(entry) = self.steps.undone().last() {

@@ -2,11 +2,11 @@
 use denote.Struct.Props as logic
 use Rattle.std.specs.Prelude.{ℕ, Option, Some, None, List, [], ◌∷◌}
 use Rattle.undo_book.specs.History.{History}
-use Rattle.kept_book.specs.Change.{AreKnown, Change, HasSlot, HaveSlots, SheetSlot, back, forth, sheets_with}
+use Rattle.kept_book.specs.Change.{AreKnown, Change, HasSlot, HaveSlots, SheetSlot, forth, sheets_with}
 use Rattle.kept_book.specs.Frame.{Frame, Words}
 use Rattle.kept_book.specs.Walk.{back_all, forth_all}
 use Rattle.kept_book.specs.declared.book.Book.{Book}
-use Rattle.kept_steps.specs.Session.{AreSteps, Fits}
+use Rattle.kept_steps.specs.Fits.{AreSteps, Fits}
 use Rattle.kept_steps.specs.Steps.{AllLeadOn, AllLedHere, AreAhead, ArePast, LeadsOn, LedHere}
 use Rattle.kept_steps.specs.Timeline.{StandIn, Timeline}
 use Rattle.kept_steps.specs.declared.entry.Entry.{Entry}

@@ -1,8 +1,8 @@
 -- What an operation leaves behind for undo.
-use Rattle.std.specs.Prelude.{◌≡◌, ◌++◌, ◌<◌, ℕ, List, [], ◌∷◌, Option, Some, None, vec_len, vec_capacity}
+use Rattle.std.specs.Prelude.{◌≡◌, ◌++◌, ◌<◌, ⊤, List, [], ◌∷◌, Option, Some, None, vec_len, vec_capacity}
 use Rattle.undo_book.specs.History.{History, pushed}
 use Rattle.kept_book.specs.Change.{Change}
-use Rattle.kept_steps.specs.Session.{changes_in}
+use Rattle.kept_steps.specs.Fits.{changes_in}
 use Rattle.kept_steps.specs.declared.entry.Entry.{Entry}
 
 -- the steps as one of these changes is added
