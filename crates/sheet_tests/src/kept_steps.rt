@@ -40,7 +40,7 @@ fn push_three(book: &mut UndoBook<u8>) {
 
 // Whether these are the entries, in this order.
 fn are(entries: &VecDeque<u8>, expected: &[u8]) -> bool {
-    let pairs = entries.iter().zip(expected);
+    let mut pairs = entries.iter().zip(expected);
     entries.len() == expected.len() && pairs.all(|(entry, other)| *entry == *other)
 }
 
