@@ -149,7 +149,7 @@ impl Parts {
 
     // The text of an unreadable formula, in a cell at the place that holds no formula with a tree.
     fn unreadable_in(&self, at: Place, cell: Option<&Cell>) -> Result<Option<Text>, AllocError>
-        requires { holds_formula (option_copied cell.entry) ≡ false }
+        requires { holds_formula (option_copied cell) ≡ false }
         ensures { IfOk result (λ text. text ≡ formula_shown (listed self.now.session.book.names) at.sheet (option_map (content_of (numbered_at (at_of self.now.session.book) self.now.session.book.lazy.line.cursor)) (option_copied cell.entry))) }
     {
         match cell {
@@ -182,7 +182,7 @@ impl Parts {
 
     // The text that gives a cell at the place its content, which is no formula with a tree.
     fn plain_in(&self, at: Place, cell: Option<&Cell>) -> Result<Text, AllocError>
-        requires { holds_formula (option_copied cell.entry) ≡ false }
+        requires { holds_formula (option_copied cell) ≡ false }
         ensures { IfOk result (λ text. text ≡ content_shown (listed self.now.session.book.names) at.sheet (option_map (content_of (numbered_at (at_of self.now.session.book) self.now.session.book.lazy.line.cursor)) (option_copied cell.entry))) }
     {
         let alloc = self.session.book.alloc;
@@ -261,7 +261,7 @@ impl Parts {
 
     // What a cell at the place holds, if it is filled, which is no formula with a tree.
     fn filled_with(&self, at: Place, cell: Option<&Cell>) -> Result<Option<Content>, AllocError>
-        requires { holds_formula (option_copied cell.entry) ≡ false }
+        requires { holds_formula (option_copied cell) ≡ false }
         ensures { IfOk result (λ c. option_map (contents.content_at at) c ≡ option_map (content_of (numbered_at (at_of self.now.session.book) self.now.session.book.lazy.line.cursor)) (option_copied cell.entry)) }
     {
         let alloc = self.session.book.alloc;
