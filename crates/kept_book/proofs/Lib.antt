@@ -17,3 +17,4 @@ pub mod NamesPut
 pub mod Looked
 pub mod ShiftedBooks
 pub mod WrittenBooks
+pub mod ChangedSheets
