@@ -1,5 +1,7 @@
 -- Changes one after the other, as loops go over them. Serves the steps back and forth.
-use Rattle.std.proofs.Common.{◌≡◌, ◌∙◌, sym, ap, subst, refl, arith, ℕ, zero, suc, ◌+◌, ◌<◌, ◌≤◌, List, [], ◌∷◌, ◌++◌, length, get_or, map, drop, Option, None}
+use Rattle.std.proofs.Common.{◌≡◌, ◌∙◌, sym, ap, subst, refl, arith, ℕ, zero, suc, ◌+◌, ◌-◌, ◌<◌, ◌≤◌, List, [], ◌∷◌, ◌++◌, length, get_or, map, drop, Option, Some, None}
+use Rattle.std.proofs.lemmas.Option.{none-some, same_Some}
+use Rattle.std.specs.Prelude.{slice_get}
 use Rattle.std.proofs.lemmas.List.{drop_more}
 use Rattle.std.specs.FinMap as fin
 use Rattle.grid_store.specs.declared.cell.Cell.{Cell}
@@ -145,3 +147,15 @@ left-step cs i d names now next h l is new =
     new ∙ ap (λ m. fin.remove m (key_of e.scope e.word)) is
     ∙ sym (ap (λ o. with_id (key_of e.scope e.word) o (names_with (λ x. x.1) (map name_change (drop (i + 1) cs)) names)) (gone-at cs i d h l))
     ∙ sym (ap (λ es. names_with (λ x. x.1) (map name_change es) names) (drop_more cs i d l))
+
+-- the position before changes is that of the first
+pub first-position : (line : Line) (ps : List Part) (p : Part) (f : Frame) → slice_get ps 0 ≡ Some p → p.from ≡ (back_all line (changes_of ps) f).position
+first-position line [] p f e = absurd (none-some p e)
+first-position line (q ∷ ps) p f e = sym (ap (λ x. x.from) (same_Some q p e))
+
+-- and that behind them the one of the last
+pub last-position : (line : Line) (ps : List Part) (p : Part) (f : Frame) → slice_get ps (length ps - 1) ≡ Some p → p.to ≡ (forth_all line (changes_of ps) f).position
+last-position line [] p f e = absurd (none-some p e)
+last-position line (q ∷ []) p f e = sym (ap (λ x. x.to) (same_Some q p e))
+last-position line (q ∷ r ∷ ps) p f e =
+    last-position line (r ∷ ps) p (forth line (change_of q) f) e

@@ -13,6 +13,7 @@ pub mod Inserted
 pub mod Joining
 pub mod ChangesInOrder
 pub mod Moving
+pub mod SetCells
 pub mod NamesPut
 pub mod Looked
 pub mod ShiftedBooks
