@@ -19,3 +19,5 @@ pub mod Looked
 pub mod ShiftedBooks
 pub mod WrittenBooks
 pub mod ChangedSheets
+pub mod NewBooks
+pub mod SameBooks
