@@ -1,16 +1,18 @@
 -- The kept workbook after its list of sheets changed alone. Serves the calls that add and rename a sheet.
-use Rattle.std.proofs.Common.{◌≡◌, ◌≢◌, ◌∙◌, sym, ap, subst, refl, arith, ℕ, zero, suc, ◌<◌, ◌==◌, cond, List, [], ◌∷◌, ◌++◌, length, map, insert, Option, Some, None, option_map, IsSome}
+use Rattle.std.proofs.Common.{◌≡◌, ◌≢◌, ◌∙◌, sym, ap, subst, refl, arith, ℕ, zero, suc, ◌<◌, ◌≤◌, ◌==◌, cond, List, [], ◌∷◌, ◌++◌, length, map, Option, Some, None, option_map, IsSome}
 use Rattle.std.proofs.lemmas.Bool.{eq-eqb, ne_eqb}
+use Rattle.std.proofs.lemmas.List.Elements.{All-head, All-tail}
 use Rattle.std.proofs.lemmas.Option.{same_Some}
-use Rattle.std.specs.Prelude.{slice_get}
-use Rattle.cell_addr.specs.Sheets.{name_in}
+use Rattle.std.specs.Prelude.{insert, slice_get}
+use Rattle.cell_addr.specs.Sheets.{AreSheets, name_in}
 use Rattle.grid_store.specs.declared.grid.Grid.{Grid}
 use Rattle.lazy_store.specs.Store.{at_in}
 use Rattle.lazy_store.specs.declared.lazy.Lazy.{Lazy}
 use Rattle.name_table.proofs.WordNumbers.{position-cons}
 use Rattle.name_table.specs.Listed.{listed}
 use Rattle.name_table.specs.Named.{KeepsNames, names_of, words_of}
-use Rattle.name_table.specs.SheetLists.{index_in}
+use Rattle.name_table.proofs.SheetEntries.{Lacks, Sheet}
+use Rattle.name_table.specs.SheetLists.{CanJoin, index_in, left_in, renamed_in}
 use Rattle.name_table.specs.declared.names.Names.{Names}
 use Rattle.shift_line.specs.Track.{shift_at}
 use Rattle.book_model.specs.Workbook.{Workbook}
@@ -20,6 +22,7 @@ use Rattle.kept_book.specs.Kept.{KeepsUpTo}
 use Rattle.kept_book.specs.declared.part.SheetChange.{SheetChange}
 use Rattle.kept_book.specs.internal.Naming.{sheet_changed}
 use Rattle.kept_book.proofs.Joining.{plain-joins}
+use Rattle.kept_book.proofs.SheetSlots.{index-left, inserted-joins, left-renamed, left-twice, renamed-same, same-left, slot-joins, slot-renamed}
 use Rattle.kept_book.proofs.ShiftedBooks.{frame_with}
 
 module _ (lazy : Lazy) (grid : Grid) (names names2 : Names) (same : KeepsNames names names2) where
@@ -84,3 +87,49 @@ stands-here id (suc i) [] h is = absurd h
 stands-here id (suc i) (e ∷ es) h is =
     sym (position-cons (λ k. id == k) e.0 (map (λ s. s.0) es) ∙ ap (λ b. cond b (Some 0) (option_map suc (index_in id es))) (ne_eqb id e.0 (λ same. h.0 (sym same)))
     ∙ ap (option_map suc) (sym (stands-here id i es h.1 is)))
+
+-- nothing but the last sheet is taken out
+left-pushed : (id : ℕ) (name : List ℕ) (es : List Sheet) → Lacks id es → left_in id (es ++ (id, name) ∷ []) ≡ es
+left-pushed id name [] h = rw (eq-eqb id id refl) refl
+left-pushed id name (e ∷ es) h = rw (ne_eqb e.0 id (All-head (λ s. s.0 ≢ id) e es h)) (ap (λ r. e ∷ r) (left-pushed id name es (All-tail (λ s. s.0 ≢ id) e es h)))
+
+-- a sheet that comes to the end of the list
+module _ (id index : ℕ) (name after : List ℕ) (es two : List Sheet) (joins : CanJoin id name es) (last : index ≡ length es) (so : after ≡ name) (is : two ≡ insert es index (id, name)) where
+  without : left_in id es ≡ es
+  without = same-left id es (λ k d l. (joins.1 k d l).0)
+
+  pub added-list : two ≡ es ++ (id, name) ∷ []
+  added-list = is ∙ ap (λ n. insert es n (id, name)) last ∙ insert-end es (id, name)
+
+  pub added-put : with_slot id (Some (index, after)) es ≡ two
+  added-put = ap (λ l. insert l index (id, after)) without ∙ ap (λ w. insert es index (id, w)) so ∙ sym is
+
+  pub added-back : with_slot id None two ≡ es
+  added-back = ap (left_in id) added-list ∙ left-pushed id name es (λ k d l. (joins.1 k d l).0)
+
+  pub added-slot : HasSlot id (Some (index, after)) es
+  added-slot = subst (λ l. CanJoin id after l × (index ≤ length l)) (sym without) (subst (λ w. CanJoin id w es) (sym so) joins, omega (arith, last))
+
+-- a listed sheet that gets another name
+module _ (id index : ℕ) (name before after : List ℕ) (es two : List Sheet) (proper : AreSheets es) (proper2 : AreSheets two) (at : Some index ≡ index_in id es) (named : Some before ≡ name_in es id)
+    (so : after ≡ name) (is : two ≡ renamed_in id name es) where
+  there : insert (left_in id es) index (id, name) ≡ two
+  there = slot-renamed id index name es proper.0 (sym at) ∙ sym is
+
+  left : left_in id two ≡ left_in id es
+  left = ap (left_in id) is ∙ left-renamed id name es
+
+  pub renamed-put : with_slot id (Some (index, after)) es ≡ two
+  renamed-put = ap (λ w. insert (left_in id es) index (id, w)) so ∙ there
+
+  pub renamed-back : with_slot id (Some (index, before)) two ≡ es
+  renamed-back = ap (λ l. insert l index (id, before)) left ∙ slot-renamed id index before es proper.0 (sym at) ∙ renamed-same id before es proper.0 (sym named)
+
+  pub renamed-returns : HasSlot id (Some (index, before)) two
+  renamed-returns = subst (λ l. CanJoin id before l × (index ≤ length l)) (left-twice id es ∙ sym left) (slot-joins es (left_in id es) id index before proper refl (sym at) (sym named))
+
+  pub renamed-repeats : HasSlot id (Some (index, after)) es
+  renamed-repeats = (
+    subst (λ w. CanJoin id w (left_in id es)) (sym so) (inserted-joins id index name (left_in id es) (subst AreSheets (sym there) proper2)),
+    index-left id index es proper.0 (sym at),
+  )

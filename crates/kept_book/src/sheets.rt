@@ -88,7 +88,7 @@ impl Book {
         ensures { Some result ≡ index_in sheet (listed self.now.names) }
     {
         let mut index = 0;
-        'finding: while self.names.sheet_at(index) != Some(sheet) {
+        while self.names.sheet_at(index) != Some(sheet) {
             index += 1;
         }
         index

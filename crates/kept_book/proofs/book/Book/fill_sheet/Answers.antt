@@ -33,5 +33,5 @@ returns-clause-stand c = c.loop-index.invariant.stand
 pub returns-clause-line : goal.returns-clause-line
 returns-clause-line c = c.loop-index.invariant.line
 
-pub in_err-fill_given-clause-line : goal.in_err-fill_given-clause-line
-in_err-fill_given-clause-line c = c.fill_given.ensures.line ∙ ap (with_spare c.fill_given.new.self.lazy.line.spare) c.loop-index.invariant.line
+pub returns-in_err-fill_given-clause-line : goal.returns-in_err-fill_given-clause-line
+returns-in_err-fill_given-clause-line c = c.fill_given.ensures.line ∙ ap (with_spare c.fill_given.new.self.lazy.line.spare) c.loop-index.invariant.line

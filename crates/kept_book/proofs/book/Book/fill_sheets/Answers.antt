@@ -42,5 +42,5 @@ returns-clause-stand c = c.loop-number.invariant.stand
 pub returns-clause-line : goal.returns-clause-line
 returns-clause-line c = c.loop-number.invariant.line
 
-pub in_err-fill_sheet-clause-line : goal.in_err-fill_sheet-clause-line
-in_err-fill_sheet-clause-line c = c.fill_sheet.ensures.line ∙ ap (with_spare c.fill_sheet.new.self.lazy.line.spare) c.loop-number.invariant.line
+pub returns-in_err-fill_sheet-clause-line : goal.returns-in_err-fill_sheet-clause-line
+returns-in_err-fill_sheet-clause-line c = c.fill_sheet.ensures.line ∙ ap (with_spare c.fill_sheet.new.self.lazy.line.spare) c.loop-number.invariant.line

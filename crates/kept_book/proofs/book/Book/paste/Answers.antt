@@ -16,8 +16,20 @@ use Rattle.kept_book.proofs.SetCells.{block-emptied, block-replaced}
 use Rattle.kept_book.proofs.ShiftedContents.{cells_inside}
 use Rattle.kept_book.proofs.book.Book.paste.Goals as goal
 
-pub write-requires : goal.write-requires
-write-requires c = ?
+pub write-requires-clause-inside : goal.write-requires-clause-inside
+write-requires-clause-inside c =
+    let d = carrying.destination c.args.area c.args.at in
+    let cells = cells_of c.args.self.now.grid in
+    let inside = cells_inside (numbered_at (at_of c.args.self.now) c.args.self.now.lazy.line.cursor) cells c.requires.inside in
+    subst (All (λ e. IsInside e.0)) (sym (c.in_ok-replaced.ensures ∙ ap (λ e. fin.entries (within e cells)) c.destination.ensures)) (entries_inside (within d cells) (within_inside d cells inside))
+
+pub write-requires-clause-replaced : goal.write-requires-clause-replaced
+write-requires-clause-replaced c =
+    let d = carrying.destination c.args.area c.args.at in
+    let cells = cells_of c.args.self.now.grid in
+    let given = c.in_ok-given.given.items in
+    subst (λ l. AreReplaced cells l (map (λ e. e.0) given)) (sym (c.in_ok-replaced.ensures ∙ ap (λ e. fin.entries (within e cells)) c.destination.ensures))
+    (block-replaced cells d (map (λ e. e.0) given) (λ q among. among-covered d given q c.in_ok-given.ensures.there among))
 
 pub returns-clause-ok : goal.returns-clause-ok
 returns-clause-ok c =
@@ -32,8 +44,6 @@ returns-clause-ok c =
     ∙ ap (λ m. with_cells (with_given (filter_map (item_pasted b.sheets c.args.area c.args.at) c.args.cells.now) m) b) left
     ∙ pasted_whole c.args.area c.args.cells.now c.args.at b c.requires.block
 
-pub returns-clause-replaced : goal.returns-clause-replaced
-returns-clause-replaced c = c.in_ok-write.ensures.replaced ∙ c.in_ok-replaced.ensures ∙ ap (λ e. fin.entries (within e (cells_of c.args.self.now.grid))) c.destination.ensures
-
 pub returns-clause-written : goal.returns-clause-written
-returns-clause-written c = ?
+returns-clause-written c =
+    places-covered (carrying.destination c.args.area c.args.at) (items_of c.in_ok-write.field-0.written) c.in_ok-given.given.items c.in_ok-write.ensures.written c.in_ok-given.ensures.there
