@@ -1,0 +1,10 @@
+use Rattle.kept_book.proofs.book.Book.fill.Goals as goal
+
+pub write-requires : goal.write-requires
+write-requires c = ?
+
+pub returns-clause-ok : goal.returns-clause-ok
+returns-clause-ok c = ?
+
+pub returns-clause-written : goal.returns-clause-written
+returns-clause-written c = ?
