@@ -21,3 +21,4 @@ pub mod WrittenBooks
 pub mod ChangedSheets
 pub mod NewBooks
 pub mod SameBooks
+pub mod NamedBooks
