@@ -1,8 +1,9 @@
 -- The kept workbook after its list of sheets changed alone. Serves the calls that add and rename a sheet.
-use Rattle.std.proofs.Common.{◌≡◌, ◌≢◌, ◌∙◌, sym, ap, subst, refl, arith, ℕ, zero, suc, ◌<◌, ◌≤◌, ◌==◌, cond, List, [], ◌∷◌, ◌++◌, length, map, Option, Some, None, option_map, IsSome}
-use Rattle.std.proofs.lemmas.Bool.{eq-eqb, ne_eqb}
+use Rattle.std.proofs.Common.{◌≡◌, ◌≢◌, ◌∙◌, sym, ap, subst, refl, arith, ℕ, zero, suc, ◌<◌, ◌≤◌, ◌==◌, Bool, true, false, eqb, cond, List, [], ◌∷◌, ◌++◌, length, map, Option, Some, None, option_map, IsSome}
+use Rattle.std.proofs.lemmas.Bool.{eq-eqb, eqb-true, ne_eqb}
 use Rattle.std.proofs.lemmas.List.Elements.{All-head, All-tail}
 use Rattle.std.proofs.lemmas.Option.{same_Some}
+use Rattle.std.specs.Option.{option_eq}
 use Rattle.std.specs.Prelude.{insert, slice_get}
 use Rattle.cell_addr.specs.Sheets.{AreSheets, name_in}
 use Rattle.grid_store.specs.declared.grid.Grid.{Grid}
@@ -87,6 +88,13 @@ stands-here id (suc i) [] h is = cc
 stands-here id (suc i) (e ∷ es) h is =
     sym (position-cons (λ k. id == k) e.0 (map (λ s. s.0) es) ∙ ap (λ b. cond b (Some 0) (option_map suc (index_in id es))) (ne_eqb id e.0 (λ same. h.0 (sym same)))
     ∙ ap (option_map suc) (sym (stands-here id i es h.1 is)))
+
+pub same-number : (r : Option ℕ) (s : ℕ) → true ≡ option_eq eqb r (Some s) → r ≡ Some s
+same-number None s e = cc
+same-number (Some t) s e = ap Some (eqb-true t s (sym e))
+
+pub other-number : (r : Option ℕ) (s : ℕ) → false ≡ option_eq eqb r (Some s) → r ≢ Some s
+other-number r s e same = let both : false ≡ true = e ∙ ap (λ t. option_eq eqb t (Some s)) same ∙ eq-eqb s s refl in cc
 
 -- nothing but the last sheet is taken out
 left-pushed : (id : ℕ) (name : List ℕ) (es : List Sheet) → Lacks id es → left_in id (es ++ (id, name) ∷ []) ≡ es

@@ -1,4 +1,4 @@
--- Copied cells that are pasted one after the other, from the last to the first. Serves the paste of a copy.
+-- Copied cells that are pasted one after the other. Serves the paste of a copy.
 use Rattle.std.proofs.Common.{◌≡◌, ◌∙◌, sym, ap, refl, arith, ℕ, ◌+◌, ◌<◌, Bool, true, false, cond, not, List, [], ◌∷◌, length, get_or, drop, take, map, ◌++◌, ◌||◌, Option, Some, None, option_map}
 use Rattle.std.specs.List.{All, cons_option, filter_map}
 use Rattle.std.proofs.lemmas.List.{map-append, take_more}
@@ -17,7 +17,7 @@ use Rattle.clip_board.specs.declared.clip.CopyItem.{CopyItem}
 use Rattle.grid_store.specs.declared.cell.Cell.{Cell}
 use Rattle.grid_store.specs.internal.Exchange.{is_among}
 use Rattle.book_model.proofs.Contents.{is_at}
-use Rattle.shift_core.proofs.CellMoves.{Covers-from_covers, carried_covered}
+use Rattle.shift_core.proofs.CellMoves.{Covers-from_covers, carried_covered, covers-from_Covers}
 use Rattle.shift_core.specs.Carried.{carried_place, destination}
 use Rattle.book_model.proofs.PastedCells.{either, get-pasted, over-kept, source_of}
 use Rattle.book_model.specs.Changes.{emptied, entry_pasted, pasted_content, with_copy}
@@ -33,10 +33,6 @@ item_pasted sheets area at e = entry_pasted sheets area at (entry_copied e)
 abbrev pub pasted_from : Block → List (Place × CopyItem) → Place → ℕ → Workbook → Workbook
 pasted_from area items at i d = with_cells (with_given (filter_map (item_pasted d.sheets area at) (drop i items)) d.cells) d
 
--- from the end on nothing is pasted
-pub pasted_none : (area : Block) (items : List (Place × CopyItem)) (at : Place) (d : Workbook) → d ≡ pasted_from area items at (length items) d
-pasted_none area items at d = ap (λ es. with_cells (with_given (filter_map (item_pasted d.sheets area at) es) d.cells) d) (sym (drop_all (length items) items (omega arith)))
-
 one-pasted : (sheets : List (ℕ × List ℕ)) (area : Block) (at : Place) (e : Place × CopyItem) (rest : List (Place × CopyItem)) → covers area e.0 ≡ true
     → filter_map (item_pasted sheets area at) (e ∷ rest) ≡ (carried_place area at e.0, pasted_content sheets e.0 (carried_place area at e.0) (content_copied e.0 e.1)) ∷ filter_map (item_pasted sheets area at) rest
 one-pasted sheets area at e rest h = rw h refl
@@ -44,23 +40,6 @@ one-pasted sheets area at e rest h = rw h refl
 none-pasted : (sheets : List (ℕ × List ℕ)) (area : Block) (at : Place) (e : Place × CopyItem) (rest : List (Place × CopyItem)) → covers area e.0 ≡ false
     → filter_map (item_pasted sheets area at) (e ∷ rest) ≡ filter_map (item_pasted sheets area at) rest
 none-pasted sheets area at e rest h = rw h refl
-
--- and then one cell more
-pub pasted_one : (area : Block) (items : List (Place × CopyItem)) (at : Place) (i : ℕ) (e : Place × CopyItem) (to : Place) (d now next : Workbook) → i < length items → e ≡ get_or items i e
-    → covers area e.0 ≡ true → to ≡ carried_place area at e.0 → now ≡ pasted_from area items at (i + 1) d
-    → next ≡ with_content_at to (Some (pasted_content now.sheets e.0 to (content_copied e.0 e.1))) now → next ≡ pasted_from area items at i d
-pasted_one area items at i e to d now next inside is here goes same new =
-    let put : Place → Workbook → Workbook = λ q x. with_content_at q (Some (pasted_content x.sheets e.0 q (content_copied e.0 e.1))) x in
-    new ∙ ap (put to) same ∙ ap (λ q. put q (pasted_from area items at (i + 1) d)) goes
-    ∙ ap (λ es. with_cells (with_given es d.cells) d) (sym (one-pasted d.sheets area at e (drop (i + 1) items) here))
-    ∙ ap (λ es. with_cells (with_given (filter_map (item_pasted d.sheets area at) es) d.cells) d) (sym (drop_more items i e inside ∙ ap (λ x. x ∷ drop (i + 1) items) (sym is)))
-
--- or one that isn't of the block
-pub pasted_skip : (area : Block) (items : List (Place × CopyItem)) (at : Place) (i : ℕ) (e : Place × CopyItem) (d now : Workbook) → i < length items → e ≡ get_or items i e
-    → covers area e.0 ≡ false → now ≡ pasted_from area items at (i + 1) d → now ≡ pasted_from area items at i d
-pasted_skip area items at i e d now inside is here same =
-    same ∙ ap (λ es. with_cells (with_given es d.cells) d) (sym (none-pasted d.sheets area at e (drop (i + 1) items) here))
-    ∙ ap (λ es. with_cells (with_given (filter_map (item_pasted d.sheets area at) es) d.cells) d) (sym (drop_more items i e inside ∙ ap (λ x. x ∷ drop (i + 1) items) (sym is)))
 
 -- what stands at a place after entries came over others
 get-given : (es : List (Place × Content)) (m : Contents) (q : Place) → fin.get (with_given es m) q ≡ either (find place_cmp q es) (fin.get m q)
@@ -89,12 +68,7 @@ pasted_whole area items at b inside = ap (λ m. with_cells m b) (same_map place_
     kept : Contents
     kept = fin.retain_keys b.cells (λ p. not (covers (destination area at) p))
 
--- where a cell of the block comes to lies within the limits of a sheet
-pub carried-inside : (area : Block) (at p : Place) → IsBlockInside (destination area at) → covers area p ≡ true → IsInside (carried_place area at p)
-carried-inside area at p there h =
-    let c = carried_covered area at p (Covers-from_covers area p h) in
-    (omega (arith, there.1, c.2), omega (arith, there.3, c.4))
-
+-- a cell of the block comes to the destination
 pub carried-there : (area : Block) (at p : Place) → covers area p ≡ true → covers (destination area at) (carried_place area at p) ≡ true
 carried-there area at p h = covers-from_Covers (destination area at) (carried_place area at p) (carried_covered area at p (Covers-from_covers area p h))
 

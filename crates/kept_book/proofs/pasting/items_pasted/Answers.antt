@@ -2,6 +2,8 @@ use Rattle.std.proofs.Common.{◌≡◌, ◌∙◌, ◌++◌, sym, ap, subst, tr
 use Rattle.std.specs.List.{All}
 use Rattle.std.proofs.lemmas.List.Elements.{All-push}
 use Rattle.cell_addr.specs.Place.{covers}
+use Rattle.cell_addr.specs.declared.place.Place.{Place}
+use Rattle.clip_board.specs.declared.clip.CopyItem.{CopyItem}
 use Rattle.name_table.specs.Listed.{listed}
 use Rattle.shift_core.specs.Carried.{destination}
 use Rattle.kept_book.specs.Copied.{IsCopied, entry_copied}
@@ -18,7 +20,7 @@ loop-from-preserved c =
     let i = c.loop-from.from-index in
     let e = c.loop-from-item.result in
     let old = c.loop-from.list.items in
-    let there = λ p. covers (destination area at) p.0 ≡ true in
+    let there : Place × CopyItem → Type 0 = λ p. covers (destination area at) p.0 ≡ true in
     elim c.if-holds.branch [
       | then-holds+in_ok-pasted+in_ok-push w ↦
           let here : covers area e.0 ≡ true = sym c.holds.ensures.test ∙ w.if-holds.true in
