@@ -6,10 +6,9 @@ use Rattle.std.proofs.lemmas.List.Elements.{All-cons, All-head, All-tail, filter
 use Rattle.std.specs.FinMap as fin
 use Rattle.std.specs.FinMap.{find, get-from_entries, get-insert, same_map}
 use Rattle.std.specs.Ordering.{eq_by_cmp}
-use Rattle.std.proofs.lemmas.List.{drop_more, drop_all}
 use Rattle.cell_addr.proofs.Places.{place_cmp-IsTotalOrder, place_cmp-IsAntisymmetric}
 use Rattle.cell_addr.specs.Order.{place_cmp}
-use Rattle.cell_addr.specs.Place.{Covers, IsBlockInside, IsInside, covers}
+use Rattle.cell_addr.specs.Place.{IsBlockInside, covers}
 use Rattle.cell_addr.specs.declared.place.Block.{Block}
 use Rattle.cell_addr.specs.declared.place.Place.{Place}
 use Rattle.book_cells.specs.Workbook.{Book as Contents, Content}
@@ -23,7 +22,7 @@ use Rattle.book_model.proofs.PastedCells.{either, get-pasted, over-kept, source_
 use Rattle.book_model.specs.Changes.{emptied, entry_pasted, pasted_content, with_copy}
 use Rattle.book_model.specs.Workbook.{Workbook}
 use Rattle.kept_book.specs.Copied.{content_copied, contents_copied, entry_copied}
-use Rattle.kept_book.specs.internal.Cells.{with_cells, with_content_at, with_given}
+use Rattle.kept_book.specs.internal.Cells.{with_cells, with_given}
 
 -- where a copied cell comes to, with what it held
 abbrev pub item_pasted : List (ℕ × List ℕ) → Block → Place → Place × CopyItem → Option (Place × Content)
