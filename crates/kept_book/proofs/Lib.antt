@@ -19,3 +19,6 @@ pub mod Looked
 pub mod ShiftedBooks
 pub mod WrittenBooks
 pub mod NamedBooks
+pub mod ChangedSheets
+pub mod NewBooks
+pub mod SameBooks
