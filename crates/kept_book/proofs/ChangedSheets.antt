@@ -51,7 +51,7 @@ module _ (lazy : Lazy) (grid : Grid) (names names2 : Names) (same : KeepsNames n
       → Joins (shift_at lazy.line) (words_of names2) (sheet_changed lazy.line.cursor c) (frame_with lazy grid names) (frame_with lazy grid names2)
   sheets-join c put back returns repeats =
       plain-joins (shift_at lazy.line) (words_of names2) (sheet_changed lazy.line.cursor c) (frame_with lazy grid names) (frame_with lazy grid names2) refl refl refl
-      (record { listed = λ q some. absurd some; there = λ q among. cc }) refl (sym put) back same.1 same.1 (returns, tt) (repeats, tt) tt
+      (record { listed = λ q some. cc; there = λ q among. cc }) refl (sym put) back same.1 same.1 (returns, tt) (repeats, tt) tt
 
 -- a sheet that is put in at the end
 pub insert-end : {X : Type 0} (xs : List X) (x : X) → insert xs (length xs) x ≡ xs ++ x ∷ []
@@ -61,29 +61,29 @@ insert-end (y ∷ xs) x = ap (λ l. y ∷ l) (insert-end xs x)
 -- the sheet of a number stands at this place of the list, or behind it
 abbrev pub StandsFrom : ℕ → ℕ → List (ℕ × List ℕ) → Type 0
 StandsFrom id zero es = IsSome (name_in es id)
-StandsFrom id (suc i) [] = IsSome {X = ℕ} None
+StandsFrom id (suc i) [] = IsSome {T = ℕ} None
 StandsFrom id (suc i) (e ∷ es) = (e.0 ≢ id) × StandsFrom id i es
 
 pub stands-within : (id i : ℕ) (es : List (ℕ × List ℕ)) → StandsFrom id i es → i < length es
-stands-within id zero [] h = absurd h
+stands-within id zero [] h = cc
 stands-within id zero (e ∷ es) h = omega arith
-stands-within id (suc i) [] h = absurd h
+stands-within id (suc i) [] h = cc
 stands-within id (suc i) (e ∷ es) h = let less = stands-within id i es h.1 in omega (arith, less)
 
 pub stands-behind : (id i : ℕ) (es : List (ℕ × List ℕ)) → StandsFrom id i es → option_map (λ s. s.0) (slice_get es i) ≢ Some id → StandsFrom id (suc i) es
-stands-behind id zero [] h other = absurd h
+stands-behind id zero [] h other = cc
 stands-behind id zero (e ∷ es) h other =
     let differs : e.0 ≢ id = λ same. other (ap Some same) in
     (differs, subst (λ b. IsSome (cond b (Some e.1) (name_in es id))) (ne_eqb e.0 id differs) h)
-stands-behind id (suc i) [] h other = absurd h
+stands-behind id (suc i) [] h other = cc
 stands-behind id (suc i) (e ∷ es) h other = (h.0, stands-behind id i es h.1 other)
 
 pub stands-here : (id i : ℕ) (es : List (ℕ × List ℕ)) → StandsFrom id i es → option_map (λ s. s.0) (slice_get es i) ≡ Some id → Some i ≡ index_in id es
-stands-here id zero [] h is = absurd h
+stands-here id zero [] h is = cc
 stands-here id zero (e ∷ es) h is =
     let same = same_Some e.0 id is in
     sym (position-cons (λ k. id == k) e.0 (map (λ s. s.0) es) ∙ ap (λ b. cond b (Some 0) (option_map suc (index_in id es))) (eq-eqb id e.0 (sym same)))
-stands-here id (suc i) [] h is = absurd h
+stands-here id (suc i) [] h is = cc
 stands-here id (suc i) (e ∷ es) h is =
     sym (position-cons (λ k. id == k) e.0 (map (λ s. s.0) es) ∙ ap (λ b. cond b (Some 0) (option_map suc (index_in id es))) (ne_eqb id e.0 (λ same. h.0 (sym same)))
     ∙ ap (option_map suc) (sym (stands-here id i es h.1 is)))

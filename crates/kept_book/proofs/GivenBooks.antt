@@ -147,22 +147,22 @@ sheets_given_one books i b cells d now next inside at items same new =
 
 -- a text that isn't empty says something
 says-word : (sheets : List (ℕ × List ℕ)) (sheet : ℕ) (r : Result Bool FaultKind) (text : List ℕ) → IsSome (content_given sheets sheet (word_content r text))
-says-word sheets sheet (Ok b) text = tt
-says-word sheets sheet (Err f) text = tt
+says-word sheets sheet (Ok b) text = refl
+says-word sheets sheet (Err f) text = refl
 
 says-plain : (sheets : List (ℕ × List ℕ)) (sheet : ℕ) (r : Result ℤ NumError) (text : List ℕ) → IsSome (content_given sheets sheet (plain_content r text))
-says-plain sheets sheet (Ok m) text = tt
+says-plain sheets sheet (Ok m) text = refl
 says-plain sheets sheet (Err e) text = says-word sheets sheet (read_truth text) text
 
 says-some : (sheets : List (ℕ × List ℕ)) (sheet x : ℕ) (xs : List ℕ) → IsSome (content_given sheets sheet (content_of (x ∷ xs)))
 says-some sheets sheet x xs = go (x == 61)
   where
     go : (b : Bool) → IsSome (content_given sheets sheet (cond b (said.Formula (x ∷ xs)) (plain_content (number_of (x ∷ xs)) (x ∷ xs))))
-    go true = tt
+    go true = refl
     go false = says-plain sheets sheet (number_of (x ∷ xs)) (x ∷ xs)
 
 placed-some : (at : Place) (r : Option Content) (m : Contents) → IsSome r → placed at r m ≡ with_given (cons_option (option_map (λ y. (at, y)) r) []) m
-placed-some at None m some = absurd some
+placed-some at None m some = cc
 placed-some at (Some y) m some = refl
 
 -- it gives its cell that

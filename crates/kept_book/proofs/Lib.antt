@@ -22,3 +22,7 @@ pub mod NamedBooks
 pub mod ChangedSheets
 pub mod NewBooks
 pub mod SameBooks
+pub mod ChangedSheets
+pub mod NewBooks
+pub mod SameBooks
+pub mod NamedBooks

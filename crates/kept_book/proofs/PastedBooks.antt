@@ -95,6 +95,9 @@ carried-inside area at p there h =
     let c = carried_covered area at p (Covers-from_covers area p h) in
     (omega (arith, there.1, c.2), omega (arith, there.3, c.4))
 
+pub carried-there : (area : Block) (at p : Place) → covers area p ≡ true → covers (destination area at) (carried_place area at p) ≡ true
+carried-there area at p h = covers-from_Covers (destination area at) (carried_place area at p) (carried_covered area at p (Covers-from_covers area p h))
+
 -- what is listed by its places lies in a block where each place does
 pub among-covered : (block : Block) (items : List (Place × CopyItem)) (q : Place) → All (λ e. covers block e.0 ≡ true) items → is_among (map (λ e. e.0) items) q ≡ true → covers block q ≡ true
 among-covered block [] q all e = cc

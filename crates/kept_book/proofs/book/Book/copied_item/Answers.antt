@@ -20,7 +20,14 @@ returns-in-Some-clause-copied c =
     c.requires.held c.args.at (formula t) held
 
 pub returns-in_ok-copied-in-Some-cell-clause-content : goal.returns-in_ok-copied-in-Some-cell-clause-content
-returns-in_ok-copied-in-Some-cell-clause-content c = ?
+returns-in_ok-copied-in-Some-cell-clause-content c =
+    let one = numbered_at (at_of c.args.self.now) c.args.self.now.lazy.line.cursor in
+    let cells = cells_of c.args.self.now.grid in
+    let x = c.in-Some-cell.cell.now in
+    let here : fin.get cells c.args.at ≡ Some x = sym (ap (λ f. fin.get f.cells c.args.at) c.formula.ensures.same.frame) ∙ sym c.cell.ensures ∙ ap option_copied c.in-Some-cell.is in
+    let content = get-contents one cells c.args.at ∙ ap (option_map (content_of one)) here in
+    let none = sym (ap (option_map (tree_at c.args.at)) c.in_default.is) ∙ c.in_ok-tree.ensures.tree ∙ ap content_tree content in
+    ap (λ v. Some (content_of (λ n. None) v)) c.in_ok-copied-in-Some-cell.ensures ∙ ap Some (plain-content (λ n. None) one x (plain-cell one x none)) ∙ sym content
 
 pub returns-in_ok-copied-in-Some-cell-clause-copied : goal.returns-in_ok-copied-in-Some-cell-clause-copied
 returns-in_ok-copied-in-Some-cell-clause-copied c =

@@ -9,10 +9,10 @@ use Rattle.name_table.specs.Named.{names_of, words_of}
 use Rattle.name_table.specs.Scopes as table
 use Rattle.name_table.specs.Words.{number_in, with_word}
 use Rattle.shift_line.specs.Track.{shift_at}
-use Rattle.kept_book.specs.Change.{Joins, with_id}
+use Rattle.kept_book.specs.Change.{Change, Joins, with_id}
 use Rattle.kept_book.specs.Frame.{Stands, book_at}
 use Rattle.kept_book.specs.Kept.{IsMore, name_change, sheet_change}
-use Rattle.kept_book.proofs.NamedBooks.{named-book, named-joins, named-keeps, named-stands}
+use Rattle.kept_book.proofs.NamedBooks.{named-book, named-joins, named-keeps, named-stands, on_err}
 use Rattle.kept_book.proofs.NamesPut.{more-word}
 use Rattle.kept_book.proofs.ShiftedBooks.{frame_with}
 use Rattle.kept_book.proofs.book.Book.name.Goals as goal
@@ -27,6 +27,16 @@ module _ (c : goal.After-result-1) where
 
   sheets : listed c.give.new.self.names ≡ listed c.args.self.now.names
   sheets = c.give.ensures.sheets ∙ c.in_ok-word.ensures.sheets
+
+  abbrev change : Change
+  change = record {
+    from = c.cursor-position.result;
+    to = c.cursor-position.result;
+    replaced = items_of c.in_ok-replaced.replaced;
+    written = items_of c.in_ok-written.written;
+    names = map name_change c.push_reserved.new.self.items;
+    sheets = map sheet_change c.new-3.result.items;
+  }
 
   put : names_of c.give.new.self.names ≡ with_id (table.key_of c.args.scope c.in_ok-word.word) c.in_ok-after.after (names_of c.args.self.now.names)
   put = c.in_ok-after.ensures.names ∙ ap (with_id (table.key_of c.args.scope c.in_ok-word.word) c.in_ok-after.after) c.in_ok-word.ensures.names
@@ -49,19 +59,12 @@ returns-clause-makes c =
     let key = table.key_of c.args.scope c.in_ok-word.word in
     let joins = named-joins lazy lazy2 grid names names2 c.args.self.now.next_id c.args.scope c.args.tree c.in_ok-word.word c.args.word.now c.in_ok-after.after c.requires.stand c.args.self.now.fresh (number c)
     (words c) (sheets c) (put c) c.in_ok-after.ensures.gives c.give.ensures.line
-    (record {
-      from = c.cursor-position.result;
-      to = c.cursor-position.result;
-      replaced = items_of c.in_ok-replaced.replaced;
-      written = items_of c.in_ok-written.written;
-      names = map name_change c.push_reserved.new.self.items;
-      sheets = map sheet_change c.new-3.result.items;
-    })
+    (change c)
     c.holder-before.result (c.cursor-position.ensures.result ∙ ap (λ t. t.cursor) c.line.ensures) refl c.in_ok-replaced.ensures c.in_ok-written.ensures
     (ap (map name_change) (c.push_reserved.ensures.items ∙ ap (λ l. l ++ record { scope = c.args.scope; word = c.in_ok-word.word; before = c.holder-before.result; after = c.in_ok-after.after } ∷ []) c.in_ok-names.ensures.items))
     (ap (map sheet_change) c.new-3.ensures.items) (c.holder-before.ensures ∙ ap (λ m. fin.get m key) c.in_ok-word.ensures.names) in
     record {
-      joins = subst (λ g. Joins (shift_at lazy2.line) (words_of names2) _ (frame_with lazy grid names) (frame_with lazy2 g names2)) (sym c.give.ensures.grid) joins;
+      joins = subst (λ g. Joins (shift_at lazy2.line) (words_of names2) (change c) (frame_with lazy grid names) (frame_with lazy2 g names2)) (sym c.give.ensures.grid) joins;
       keeps = named-keeps lazy lazy2 grid names names2 c.args.self.now.next_id c.args.scope c.args.tree c.in_ok-word.word c.args.word.now c.in_ok-after.after c.requires.stand c.args.self.now.fresh (number c)
           (words c) (sheets c) (put c) c.in_ok-after.ensures.gives c.give.ensures.line;
       stand = subst (λ g. Stands (at_in lazy2) (words_of names2) (frame_with lazy2 g names2)) (sym c.give.ensures.grid)
@@ -75,9 +78,9 @@ returns-in_err-after-clause-err c =
     let cells = ap cells_of c.give.ensures.grid in
     let sheets = c.give.ensures.sheets ∙ c.in_ok-word.ensures.sheets in
     let names = c.in_err-after.ensures.names_err ∙ c.in_ok-word.ensures.names in
-    record {
+    on_err c.from_residual-in_err-after.result (record {
       frame = λ i. record { position = cursor i; cells = cells i; sheets = sheets i; names = names i };
       line = c.give.ensures.line;
       standings = λ id k i. option_and_then (λ h. at (c.give.ensures.line i) h k) (c.in_err-after.ensures.lazy_err id i);
       known = subst (IsMore (words_of c.args.self.now.names)) (sym (c.give.ensures.words ∙ c.in_ok-word.ensures.ok)) (more-word c.args.word.now (words_of c.args.self.now.names));
-    }
+    })

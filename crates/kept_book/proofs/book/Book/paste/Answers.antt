@@ -1,6 +1,7 @@
 use Rattle.std.proofs.Common.{◌≡◌, ◌∙◌, sym, ap, subst, true, map}
 use Rattle.std.specs.List.{All, filter_map}
 use Rattle.std.specs.FinMap as fin
+use Rattle.std.proofs.lemmas.Result.{IfOk-weaker, on_ok_weaker}
 use Rattle.cell_addr.specs.Place.{IsInside, covers}
 use Rattle.grid_store.specs.Grid.{cells_of, items_of, within, without_places}
 use Rattle.name_table.specs.Listed.{listed}
@@ -39,11 +40,12 @@ returns-clause-ok c =
     let one = numbered_at (at_of c.args.self.now) c.args.self.now.lazy.line.cursor in
     let listed_there = c.in_ok-replaced.ensures ∙ ap (λ e. fin.entries (within e cells)) c.destination.ensures in
     let left = ap (λ l. without_places (places_of l) b.cells) listed_there ∙ block-emptied one cells d in
-    c.in_ok-write.ensures.ok
-    ∙ ap (λ es. with_cells (with_given es (without_places (places_of (items_of c.in_ok-replaced.replaced)) b.cells)) b) c.in_ok-given.ensures.entries
+    on_ok_weaker c.write.result (λ e. e ∙ ap (λ es. with_cells (with_given es (without_places (places_of (items_of c.in_ok-replaced.replaced)) b.cells)) b) c.in_ok-given.ensures.entries
     ∙ ap (λ m. with_cells (with_given (filter_map (item_pasted b.sheets c.args.area c.args.at) c.args.cells.now) m) b) left
-    ∙ pasted_whole c.args.area c.args.cells.now c.args.at b c.requires.block
+    ∙ pasted_whole c.args.area c.args.cells.now c.args.at b c.requires.block) c.write.ensures.ok
 
 pub returns-clause-written : goal.returns-clause-written
 returns-clause-written c =
-    places-covered (carrying.destination c.args.area c.args.at) (items_of c.in_ok-write.field-0.written) c.in_ok-given.given.items c.in_ok-write.ensures.written c.in_ok-given.ensures.there
+    let d = carrying.destination c.args.area c.args.at in
+    IfOk-weaker c.write.result (λ part. places_of (items_of part.written) ≡ map (λ e. e.0) c.in_ok-given.given.items) (λ part. All (λ e. covers d e.0 ≡ true) (items_of part.written))
+    (λ part same. places-covered d (items_of part.written) c.in_ok-given.given.items same c.in_ok-given.ensures.there) c.write.ensures.written
