@@ -22,7 +22,3 @@ pub mod NamedBooks
 pub mod ChangedSheets
 pub mod NewBooks
 pub mod SameBooks
-pub mod ChangedSheets
-pub mod NewBooks
-pub mod SameBooks
-pub mod NamedBooks
