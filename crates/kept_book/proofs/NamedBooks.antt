@@ -3,7 +3,7 @@ use Rattle.std.proofs.Common.{◌≡◌, ◌∙◌, sym, ap, subst, refl, arith,
 use Rattle.std.proofs.lemmas.Option.{none-some, same_Some}
 use Rattle.std.specs.FinMap as fin
 use Rattle.std.specs.Ordering.{eq_by_cmp}
-use Rattle.std.specs.Prelude.{option_and_then, slice_get}
+use Rattle.std.specs.Prelude.{OnErr, Result, Ok, Err, option_and_then, slice_get}
 use Rattle.std.specs.declared.alloc.Global.{Global}
 use Rattle.std.specs.declared.rc.Rc.{Rc}
 use Rattle.cell_addr.specs.Text.{folded}
@@ -143,3 +143,8 @@ module _ (lazy lazy2 : Lazy) (grid : Grid) (names names2 : Names) (n : ℕ) (sco
       (ap (λ l. names_with (λ x. x.0) l (names_of names2)) listed_names ∙ ap (with_id (table.key_of scope word) before) put ∙ back-at before was)
       (subst (λ l. HaveSlots (λ x. x.0) l (listed names2)) (sym no_sheets) tt) (subst (λ l. HaveSlots (λ x. x.1) l (listed names)) (sym no_sheets) tt)
       (subst (AreKnown (words_of names2)) (sym listed_names) (there-within (words_of names2) word (folded text) spelt, tt))
+
+-- what holds anyway holds on an error
+pub on_err : {T E P : Type 0} (r : Result T E) → P → OnErr r P
+on_err (Ok x) p = tt
+on_err (Err e) p = p
