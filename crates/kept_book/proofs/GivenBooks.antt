@@ -1,6 +1,6 @@
 -- Sheets that an engine begins with, and the texts that are given to their cells from the last to the first. Serves
 -- the making of an engine.
-use Rattle.std.proofs.Common.{◌≡◌, ◌≢◌, ◌∙◌, sym, ap, subst, refl, arith, ℕ, zero, suc, ◌<◌, ◌+◌, List, [], ◌∷◌, ◌++◌, length, map, get_or, take, drop, Option, Some, None}
+use Rattle.std.proofs.Common.{◌≡◌, ◌≢◌, ◌∙◌, sym, ap, subst, refl, arith, ℕ, zero, suc, ◌<◌, ◌+◌, List, [], ◌∷◌, ◌++◌, length, map, get_or, take, drop, Option, Some, None, option_map, IsSome, Bool, true, false, cond, ◌==◌, Result, Ok, Err}
 use Rattle.std.specs.List.{All, AllPairs, filter_map, cons_option}
 use Rattle.std.specs.FinMap as fin
 use Rattle.std.proofs.lemmas.List.{drop_more, get_or-take, length-map, length-take-le, length-append, drop_all}
@@ -10,6 +10,14 @@ use Rattle.cell_addr.specs.Text.{folded}
 use Rattle.cell_addr.specs.declared.place.Place.{Place}
 use Rattle.book_cells.specs.Workbook.{Book as Contents, Content}
 use Rattle.name_table.specs.SheetLists.{CanJoin}
+use Rattle.std.specs.Prelude.{ℤ}
+use Rattle.cell_value.specs.Scalar.{read_truth}
+use Rattle.cell_value.specs.declared.fault.FaultKind.{FaultKind}
+use Rattle.fix_num.specs.Text.{number_of}
+use Rattle.fix_num.specs.declared.error.NumError.{NumError}
+use Rattle.book_model.specs.Changes.{placed}
+use Rattle.book_model.specs.Content.{content_given, content_of, plain_content, word_content}
+use Rattle.book_model.specs.declared.content.ContentText.TheVariants as said
 use Rattle.book_model.specs.Given.{CanBegin, IsGivenCell, IsGivenSheet, given_entries, given_entry, given_sheet, given_sheets, numbered}
 use Rattle.book_model.specs.Workbook.{Workbook}
 use Rattle.book_model.specs.declared.given.BookCell.{BookCell}
@@ -136,3 +144,29 @@ sheets_given_one books i b cells d now next inside at items same new =
     ∙ ap (λ es. with_cells (with_given (filter_map f es) (with_given (given_entries d.sheets (i + 1) (given_sheets (drop (i + 1) books))) d.cells)) d) items
     ∙ ap (λ m. with_cells m d) (sym (append-given (filter_map f b.cells.list.items) (given_entries d.sheets (i + 1) (given_sheets (drop (i + 1) books))) d.cells))
     ∙ ap (λ es. with_cells (with_given (given_entries d.sheets i (given_sheets es)) d.cells) d) (sym (drop_more books i b inside ∙ ap (λ x. x ∷ drop (i + 1) books) (sym at)))
+
+-- a text that isn't empty says something
+says-word : (sheets : List (ℕ × List ℕ)) (sheet : ℕ) (r : Result Bool FaultKind) (text : List ℕ) → IsSome (content_given sheets sheet (word_content r text))
+says-word sheets sheet (Ok b) text = refl
+says-word sheets sheet (Err f) text = refl
+
+says-plain : (sheets : List (ℕ × List ℕ)) (sheet : ℕ) (r : Result ℤ NumError) (text : List ℕ) → IsSome (content_given sheets sheet (plain_content r text))
+says-plain sheets sheet (Ok m) text = refl
+says-plain sheets sheet (Err e) text = says-word sheets sheet (read_truth text) text
+
+says-some : (sheets : List (ℕ × List ℕ)) (sheet x : ℕ) (xs : List ℕ) → IsSome (content_given sheets sheet (content_of (x ∷ xs)))
+says-some sheets sheet x xs = go (x == 61)
+  where
+    go : (b : Bool) → IsSome (content_given sheets sheet (cond b (said.Formula (x ∷ xs)) (plain_content (number_of (x ∷ xs)) (x ∷ xs))))
+    go true = refl
+    go false = says-plain sheets sheet (number_of (x ∷ xs)) (x ∷ xs)
+
+placed-some : (at : Place) (r : Option Content) (m : Contents) → IsSome r → placed at r m ≡ with_given (cons_option (option_map (λ y. (at, y)) r) []) m
+placed-some at None m some = cc
+placed-some at (Some y) m some = refl
+
+-- it gives its cell that
+pub given-text : (sheets : List (ℕ × List ℕ)) (at : Place) (text : List ℕ) (m : Contents) → text ≢ []
+    → placed at (content_given sheets at.sheet (content_of text)) m ≡ with_given (cons_option (option_map (λ y. (at, y)) (content_given sheets at.sheet (content_of text))) []) m
+given-text sheets at [] m filled = absurd (filled refl)
+given-text sheets at (x ∷ xs) m filled = placed-some at (content_given sheets at.sheet (content_of (x ∷ xs))) m (says-some sheets at.sheet x xs)

@@ -18,3 +18,7 @@ pub mod NamesPut
 pub mod Looked
 pub mod ShiftedBooks
 pub mod WrittenBooks
+pub mod NamedBooks
+pub mod ChangedSheets
+pub mod NewBooks
+pub mod SameBooks

@@ -1,24 +1,28 @@
--- Copied cells that are pasted one after the other, from the last to the first. Serves the paste of a copy.
-use Rattle.std.proofs.Common.{◌≡◌, ◌∙◌, sym, ap, refl, arith, ℕ, ◌+◌, ◌<◌, Bool, true, false, cond, not, List, [], ◌∷◌, length, get_or, drop, map, Option, Some, None, option_map}
-use Rattle.std.specs.List.{cons_option, filter_map}
+-- Copied cells that are pasted one after the other. Serves the paste of a copy.
+use Rattle.std.proofs.Common.{◌≡◌, ◌∙◌, sym, ap, refl, arith, ℕ, ◌+◌, ◌<◌, Bool, true, false, cond, not, List, [], ◌∷◌, length, get_or, drop, take, map, ◌++◌, ◌||◌, Option, Some, None, option_map}
+use Rattle.std.specs.List.{All, cons_option, filter_map}
+use Rattle.std.proofs.lemmas.List.{map-append, take_more}
+use Rattle.std.proofs.lemmas.List.Elements.{All-cons, All-head, All-tail, filter_map-append}
 use Rattle.std.specs.FinMap as fin
 use Rattle.std.specs.FinMap.{find, get-from_entries, get-insert, same_map}
 use Rattle.std.specs.Ordering.{eq_by_cmp}
-use Rattle.std.proofs.lemmas.List.{drop_more, drop_all}
 use Rattle.cell_addr.proofs.Places.{place_cmp-IsTotalOrder, place_cmp-IsAntisymmetric}
 use Rattle.cell_addr.specs.Order.{place_cmp}
-use Rattle.cell_addr.specs.Place.{Covers, IsBlockInside, IsInside, covers}
+use Rattle.cell_addr.specs.Place.{IsBlockInside, covers}
 use Rattle.cell_addr.specs.declared.place.Block.{Block}
 use Rattle.cell_addr.specs.declared.place.Place.{Place}
 use Rattle.book_cells.specs.Workbook.{Book as Contents, Content}
 use Rattle.clip_board.specs.declared.clip.CopyItem.{CopyItem}
-use Rattle.shift_core.proofs.CellMoves.{Covers-from_covers, carried_covered}
+use Rattle.grid_store.specs.declared.cell.Cell.{Cell}
+use Rattle.grid_store.specs.internal.Exchange.{is_among}
+use Rattle.book_model.proofs.Contents.{is_at}
+use Rattle.shift_core.proofs.CellMoves.{Covers-from_covers, carried_covered, covers-from_Covers}
 use Rattle.shift_core.specs.Carried.{carried_place, destination}
 use Rattle.book_model.proofs.PastedCells.{either, get-pasted, over-kept, source_of}
 use Rattle.book_model.specs.Changes.{emptied, entry_pasted, pasted_content, with_copy}
 use Rattle.book_model.specs.Workbook.{Workbook}
 use Rattle.kept_book.specs.Copied.{content_copied, contents_copied, entry_copied}
-use Rattle.kept_book.specs.internal.Cells.{with_cells, with_content_at, with_given}
+use Rattle.kept_book.specs.internal.Cells.{with_cells, with_given}
 
 -- where a copied cell comes to, with what it held
 abbrev pub item_pasted : List (ℕ × List ℕ) → Block → Place → Place × CopyItem → Option (Place × Content)
@@ -28,10 +32,6 @@ item_pasted sheets area at e = entry_pasted sheets area at (entry_copied e)
 abbrev pub pasted_from : Block → List (Place × CopyItem) → Place → ℕ → Workbook → Workbook
 pasted_from area items at i d = with_cells (with_given (filter_map (item_pasted d.sheets area at) (drop i items)) d.cells) d
 
--- from the end on nothing is pasted
-pub pasted_none : (area : Block) (items : List (Place × CopyItem)) (at : Place) (d : Workbook) → d ≡ pasted_from area items at (length items) d
-pasted_none area items at d = ap (λ es. with_cells (with_given (filter_map (item_pasted d.sheets area at) es) d.cells) d) (sym (drop_all (length items) items (omega arith)))
-
 one-pasted : (sheets : List (ℕ × List ℕ)) (area : Block) (at : Place) (e : Place × CopyItem) (rest : List (Place × CopyItem)) → covers area e.0 ≡ true
     → filter_map (item_pasted sheets area at) (e ∷ rest) ≡ (carried_place area at e.0, pasted_content sheets e.0 (carried_place area at e.0) (content_copied e.0 e.1)) ∷ filter_map (item_pasted sheets area at) rest
 one-pasted sheets area at e rest h = rw h refl
@@ -39,23 +39,6 @@ one-pasted sheets area at e rest h = rw h refl
 none-pasted : (sheets : List (ℕ × List ℕ)) (area : Block) (at : Place) (e : Place × CopyItem) (rest : List (Place × CopyItem)) → covers area e.0 ≡ false
     → filter_map (item_pasted sheets area at) (e ∷ rest) ≡ filter_map (item_pasted sheets area at) rest
 none-pasted sheets area at e rest h = rw h refl
-
--- and then one cell more
-pub pasted_one : (area : Block) (items : List (Place × CopyItem)) (at : Place) (i : ℕ) (e : Place × CopyItem) (to : Place) (d now next : Workbook) → i < length items → e ≡ get_or items i e
-    → covers area e.0 ≡ true → to ≡ carried_place area at e.0 → now ≡ pasted_from area items at (i + 1) d
-    → next ≡ with_content_at to (Some (pasted_content now.sheets e.0 to (content_copied e.0 e.1))) now → next ≡ pasted_from area items at i d
-pasted_one area items at i e to d now next inside is here goes same new =
-    let put : Place → Workbook → Workbook = λ q x. with_content_at q (Some (pasted_content x.sheets e.0 q (content_copied e.0 e.1))) x in
-    new ∙ ap (put to) same ∙ ap (λ q. put q (pasted_from area items at (i + 1) d)) goes
-    ∙ ap (λ es. with_cells (with_given es d.cells) d) (sym (one-pasted d.sheets area at e (drop (i + 1) items) here))
-    ∙ ap (λ es. with_cells (with_given (filter_map (item_pasted d.sheets area at) es) d.cells) d) (sym (drop_more items i e inside ∙ ap (λ x. x ∷ drop (i + 1) items) (sym is)))
-
--- or one that isn't of the block
-pub pasted_skip : (area : Block) (items : List (Place × CopyItem)) (at : Place) (i : ℕ) (e : Place × CopyItem) (d now : Workbook) → i < length items → e ≡ get_or items i e
-    → covers area e.0 ≡ false → now ≡ pasted_from area items at (i + 1) d → now ≡ pasted_from area items at i d
-pasted_skip area items at i e d now inside is here same =
-    same ∙ ap (λ es. with_cells (with_given es d.cells) d) (sym (none-pasted d.sheets area at e (drop (i + 1) items) here))
-    ∙ ap (λ es. with_cells (with_given (filter_map (item_pasted d.sheets area at) es) d.cells) d) (sym (drop_more items i e inside ∙ ap (λ x. x ∷ drop (i + 1) items) (sym is)))
 
 -- what stands at a place after entries came over others
 get-given : (es : List (Place × Content)) (m : Contents) (q : Place) → fin.get (with_given es m) q ≡ either (find place_cmp q es) (fin.get m q)
@@ -84,8 +67,54 @@ pasted_whole area items at b inside = ap (λ m. with_cells m b) (same_map place_
     kept : Contents
     kept = fin.retain_keys b.cells (λ p. not (covers (destination area at) p))
 
--- where a cell of the block comes to lies within the limits of a sheet
-pub carried-inside : (area : Block) (at p : Place) → IsBlockInside (destination area at) → covers area p ≡ true → IsInside (carried_place area at p)
-carried-inside area at p there h =
-    let c = carried_covered area at p (Covers-from_covers area p h) in
-    (omega (arith, there.1, c.2), omega (arith, there.3, c.4))
+-- a cell of the block comes to the destination
+pub carried-there : (area : Block) (at p : Place) → covers area p ≡ true → covers (destination area at) (carried_place area at p) ≡ true
+carried-there area at p h = covers-from_Covers (destination area at) (carried_place area at p) (carried_covered area at p (Covers-from_covers area p h))
+
+-- what is listed by its places lies in a block where each place does
+pub among-covered : (block : Block) (items : List (Place × CopyItem)) (q : Place) → All (λ e. covers block e.0 ≡ true) items → is_among (map (λ e. e.0) items) q ≡ true → covers block q ≡ true
+among-covered block [] q all e = cc
+among-covered block (x ∷ items) q all e = go (eq_by_cmp place_cmp q x.0) refl (among-covered block items q (All-tail (λ f. covers block f.0 ≡ true) x items all)) e
+  where
+    go : (b : Bool) → eq_by_cmp place_cmp q x.0 ≡ b → (is_among (map (λ f. f.0) items) q ≡ true → covers block q ≡ true) → (b || is_among (map (λ f. f.0) items) q) ≡ true → covers block q ≡ true
+    go true t more f = ap (covers block) (sym (is_at x.0 q t)) ∙ All-head (λ f. covers block f.0 ≡ true) x items all
+    go false t more f = more f
+
+-- so do cells that are written at these places
+pub places-covered : (block : Block) (written : List (Place × Cell)) (items : List (Place × CopyItem)) → map (λ e. e.0) written ≡ map (λ e. e.0) items → All (λ e. covers block e.0 ≡ true) items
+    → All (λ e. covers block e.0 ≡ true) written
+places-covered block [] items same all = λ k d l. absurd (omega arith)
+places-covered block (w ∷ written) [] same all = cc
+places-covered block (w ∷ written) (x ∷ items) same all =
+    All-cons (λ e. covers block e.0 ≡ true) w written (ap (covers block) (first same) ∙ All-head (λ f. covers block f.0 ≡ true) x items all)
+    (places-covered block written items (rest same) (All-tail (λ f. covers block f.0 ≡ true) x items all))
+  where
+    first : w.0 ∷ map (λ e. e.0) written ≡ x.0 ∷ map (λ e. e.0) items → w.0 ≡ x.0
+    first e = cc
+
+    rest : w.0 ∷ map (λ e. e.0) written ≡ x.0 ∷ map (λ e. e.0) items → map (λ e. e.0) written ≡ map (λ e. e.0) items
+    rest e = cc
+
+-- one copied cell more, taken from the first on
+pub pasted-next : (sheets : List (ℕ × List ℕ)) (area : Block) (at : Place) (items : List (Place × CopyItem)) (i : ℕ) (e : Place × CopyItem) (to : Place) (x : CopyItem) (old new : List (Place × CopyItem)) → i < length items → e ≡ get_or items i e
+    → covers area e.0 ≡ true → to ≡ carried_place area at e.0 → content_copied to x ≡ pasted_content sheets e.0 to (content_copied e.0 e.1)
+    → map entry_copied old ≡ filter_map (item_pasted sheets area at) (take i items) → new ≡ old ++ (to, x) ∷ [] → map entry_copied new ≡ filter_map (item_pasted sheets area at) (take (i + 1) items)
+pasted-next sheets area at items i e to x old new inside is here goes holds so push =
+    let f = item_pasted sheets area at in
+    ap (map entry_copied) push ∙ map-append entry_copied old ((to, x) ∷ []) ∙ ap (λ l. l ++ (to, content_copied to x) ∷ []) so
+    ∙ ap (λ y. filter_map f (take i items) ++ (to, y) ∷ []) holds
+    ∙ ap (λ q. filter_map f (take i items) ++ (q, pasted_content sheets e.0 q (content_copied e.0 e.1)) ∷ []) goes
+    ∙ ap (λ es. filter_map f (take i items) ++ es) (sym (one-pasted sheets area at e [] here)) ∙ sym (filter_map-append f (take i items) (e ∷ []))
+    ∙ ap (filter_map f) (sym (take_more items i e inside ∙ ap (λ y. take i items ++ y ∷ []) (sym is)))
+
+-- or one that isn't of the block
+pub pasted-over : (sheets : List (ℕ × List ℕ)) (area : Block) (at : Place) (items : List (Place × CopyItem)) (i : ℕ) (e : Place × CopyItem) (old : List (Place × CopyItem)) → i < length items → e ≡ get_or items i e
+    → covers area e.0 ≡ false → map entry_copied old ≡ filter_map (item_pasted sheets area at) (take i items) → map entry_copied old ≡ filter_map (item_pasted sheets area at) (take (i + 1) items)
+pasted-over sheets area at items i e old inside is other so =
+    let f = item_pasted sheets area at in
+    so ∙ end (filter_map f (take i items)) ∙ ap (λ es. filter_map f (take i items) ++ es) (sym (none-pasted sheets area at e [] other)) ∙ sym (filter_map-append f (take i items) (e ∷ []))
+    ∙ ap (filter_map f) (sym (take_more items i e inside ∙ ap (λ y. take i items ++ y ∷ []) (sym is)))
+  where
+    end : (l : List (Place × Content)) → l ≡ l ++ []
+    end [] = refl
+    end (y ∷ l) = ap (λ t. y ∷ t) (end l)

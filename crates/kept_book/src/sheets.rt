@@ -87,11 +87,12 @@ impl Book {
         requires { IsSome (name_in (listed self.now.names) sheet) }
         ensures { Some result ≡ index_in sheet (listed self.now.names) }
     {
-        let mut index = 0;
-        while self.names.sheet_at(index) != Some(sheet) {
-            index += 1;
+        for index in 0..self.names.len() {
+            if self.names.sheet_at(index) == Some(sheet) {
+                return index;
+            }
         }
-        index
+        unreachable!()
     }
 
     // A copy of the name of a listed sheet.
