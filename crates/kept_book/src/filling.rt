@@ -75,12 +75,7 @@ impl Book {
     }
 
     // Gives a cell its text, where it has one.
-    fn fill_given(
-        &mut self,
-        pool: &mut Pool,
-        sheet: u32,
-        cell: &BookCell,
-    ) -> Result<(), AllocError>
+    fn fill_given(&mut self, pool: &mut Pool, sheet: u32, cell: &BookCell) -> Result<(), AllocError>
         requires cell { IsGivenCell cell.now }
         requires stand { IsStanding self.old }
         ensures ok { OnOk result (workbook self.new ≡ with_cells (with_given (cons_option (given_entry (workbook self.old).sheets sheet cell.now) []) (workbook self.old).cells) (workbook self.old)) }
