@@ -154,8 +154,7 @@ module _ (es new : List Sheet) (id i : ℕ) (name : List ℕ) (proper : AreSheet
 
   pub slot-joins : name_in es id ≡ Some name → CanJoin id name (left_in id new) × (i ≤ length (left_in id new))
   slot-joins named =
-      let back = slot-renamed id i name es proper.0 at ∙ renamed-same id name es proper.0 named in
-      (
+      let back = slot-renamed id i name es proper.0 at ∙ renamed-same id name es proper.0 named in (
         subst (CanJoin id name) (sym again) (inserted-joins id i name (left_in id es) (subst AreSheets (sym back) proper)),
         subst (λ l. i ≤ length l) (sym again) (index-left id i es proper.0 at),
       )

@@ -76,11 +76,7 @@ impl Book {
 }
 
 // What is given, formulas under ids from this one on.
-fn numbered(
-    alloc: Global,
-    first: u64,
-    given: Vec<(Place, CopyItem)>,
-) -> Result<Given, AllocError>
+fn numbered(alloc: Global, first: u64, given: Vec<(Place, CopyItem)>) -> Result<Given, AllocError>
     ensures cells { IfOk result (λ r. items_of r.cells ≡ cells_given first given.items) }
     ensures trees { IfOk result (λ r. r.trees.items ≡ trees_given given.items) }
     ensures room { IfOk result (λ r. first + length r.trees.items ≤ u64.MAX) }

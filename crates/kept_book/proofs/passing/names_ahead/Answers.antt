@@ -22,8 +22,7 @@ pub loop-part-preserved : goal.loop-part-preserved
 loop-part-preserved c =
     let rest = changes_of (drop (c.loop-part.part-index + 1) c.args.parts.now) in
     let here = parts-at c.args.parts.now c.loop-part.part-index c.part-item.result (omega arith) c.part-item.is in
-    let can = subst (λ cs. CanRepeat (words_of c.args.names.now) cs (listed c.loop-part.copy)) here c.loop-part.invariant.3 in
-    (
+    let can = subst (λ cs. CanRepeat (words_of c.args.names.now) cs (listed c.loop-part.copy)) here c.loop-part.invariant.3 in (
       ap (sheets_forth rest) c.in_ok-put.ensures.sheets ∙ sym (ap (λ cs. sheets_forth cs (listed c.loop-part.copy)) here) ∙ c.loop-part.invariant.0,
       ap (names_forth rest) c.in_ok-put.ensures.names ∙ sym (ap (λ cs. names_forth cs (names_of c.loop-part.copy)) here) ∙ c.loop-part.invariant.1,
       c.in_ok-put.ensures.words ∙ c.loop-part.invariant.2,

@@ -46,11 +46,10 @@ loop-index-preserved c =
     let names = names_of c.args.names.now in
     let last : c.loop-index.index ≡ i + 1 = omega (arith, c.loop-index-test.true) in
     let below : i < length ps = omega (arith, c.loop-index-test.true, c.loop-index.auto.index) in
-    let here = parts-at ps i e below c.index-parts-index.is in
-    (
+    let here = parts-at ps i e below c.index-parts-index.is in (
       c.in_ok-put.ensures.sheets ∙ ap (sheets_with (λ x. x.0) (map sheet_change e.sheets.items)) (c.loop-index.invariant.0 ∙ ap (λ n. sheets_back (changes_of (drop n ps)) sheets) last)
-      ∙ sym (ap (λ cs. sheets_back cs sheets) here),
+          ∙ sym (ap (λ cs. sheets_back cs sheets) here),
       c.in_ok-put.ensures.names ∙ ap (names_with (λ x. x.0) (map name_change e.names.items)) (c.loop-index.invariant.1 ∙ ap (λ n. names_back (changes_of (drop n ps)) names) last)
-      ∙ sym (ap (λ cs. names_back cs names) here),
+          ∙ sym (ap (λ cs. names_back cs names) here),
       c.in_ok-put.ensures.words ∙ c.loop-index.invariant.2,
     )

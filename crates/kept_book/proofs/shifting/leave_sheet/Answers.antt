@@ -18,7 +18,7 @@ pub returns-in-Some-clause-returns : goal.returns-in-Some-clause-returns
 returns-in-Some-clause-returns c =
     subst (λ l. HaveSlots (λ x. x.0) (map sheet_change l) (listed c.remove_sheet.new.self)) (sym (listed-so c)) (
       slot-joins (listed c.args.names.now) (listed c.remove_sheet.new.self) c.in-Sheet.sheet c.in-Some.before.0 c.in-Some.before.1 c.proper.ensures c.remove_sheet.ensures.rest (sym c.in-Some.ensures.index)
-      (sym c.in-Some.ensures.name),
+          (sym c.in-Some.ensures.name),
       tt,
     )
 
