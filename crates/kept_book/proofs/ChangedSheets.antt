@@ -1,5 +1,5 @@
 -- The kept workbook after its list of sheets changed alone. Serves the calls that add and rename a sheet.
-use Rattle.std.proofs.Common.{◌≡◌, ◌≢◌, ◌∙◌, sym, ap, subst, refl, arith, ℕ, zero, suc, ◌<◌, ◌≤◌, ◌==◌, Bool, true, false, eqb, cond, List, [], ◌∷◌, ◌++◌, length, map, Option, Some, None, option_map, IsSome}
+use Rattle.std.proofs.Common.{◌≡◌, ◌≢◌, ◌∙◌, sym, ap, subst, refl, arith, ℕ, zero, suc, ◌<◌, ◌≤◌, ◌==◌, true, false, eqb, cond, List, [], ◌∷◌, ◌++◌, length, map, Option, Some, None, option_map, IsSome}
 use Rattle.std.proofs.lemmas.Bool.{eq-eqb, eqb-true, ne_eqb}
 use Rattle.std.proofs.lemmas.List.Elements.{All-head, All-tail}
 use Rattle.std.proofs.lemmas.Option.{same_Some}
@@ -17,8 +17,8 @@ use Rattle.name_table.specs.SheetLists.{CanJoin, index_in, left_in, renamed_in}
 use Rattle.name_table.specs.declared.names.Names.{Names}
 use Rattle.shift_line.specs.Track.{shift_at}
 use Rattle.book_model.specs.Workbook.{Workbook}
-use Rattle.kept_book.specs.Change.{Change, HasSlot, Joins, with_slot}
-use Rattle.kept_book.specs.Frame.{Stands, book_at}
+use Rattle.kept_book.specs.Change.{HasSlot, Joins, with_slot}
+use Rattle.kept_book.specs.Frame.{Stands}
 use Rattle.kept_book.specs.Kept.{KeepsUpTo}
 use Rattle.kept_book.specs.declared.part.SheetChange.{SheetChange}
 use Rattle.kept_book.specs.internal.Naming.{sheet_changed}
@@ -27,13 +27,6 @@ use Rattle.kept_book.proofs.SheetSlots.{index-left, inserted-joins, left-renamed
 use Rattle.kept_book.proofs.ShiftedBooks.{frame_with}
 
 module _ (lazy : Lazy) (grid : Grid) (names names2 : Names) (same : KeepsNames names names2) where
-  abbrev with_list : List (ℕ × List ℕ) → Workbook → Workbook
-  with_list sheets b = record b { sheets = sheets }
-
-  -- only the sheets are others
-  pub sheets-book : book_at (at_in lazy) (words_of names2) (frame_with lazy grid names2) ≡ with_list (listed names2) (book_at (at_in lazy) (words_of names) (frame_with lazy grid names))
-  sheets-book i = book_at (at_in lazy) (same.0 i) (record (frame_with lazy grid names2) { names = same.1 i })
-
   pub sheets-stand : Stands (at_in lazy) (words_of names) (frame_with lazy grid names) → Stands (at_in lazy) (words_of names2) (frame_with lazy grid names2)
   sheets-stand stand =
       let named = subst (λ ns. Stands (at_in lazy) (words_of names) (record (frame_with lazy grid names) { names = ns })) (sym same.1) stand in

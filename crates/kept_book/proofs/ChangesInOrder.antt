@@ -1,13 +1,11 @@
 -- Changes one after the other, as loops go over them. Serves the steps back and forth.
-use Rattle.std.proofs.Common.{◌≡◌, ◌∙◌, sym, ap, subst, refl, arith, ℕ, zero, suc, ◌+◌, ◌-◌, ◌<◌, ◌≤◌, List, [], ◌∷◌, ◌++◌, length, get_or, map, drop, Option, Some, None}
+use Rattle.std.proofs.Common.{◌≡◌, ◌∙◌, sym, ap, subst, refl, arith, ℕ, zero, suc, ◌+◌, ◌-◌, ◌<◌, ◌≤◌, List, [], ◌∷◌, ◌++◌, length, get_or, map, drop, Some, None}
 use Rattle.std.proofs.lemmas.Option.{none-some, same_Some}
 use Rattle.std.specs.Prelude.{slice_get}
 use Rattle.std.proofs.lemmas.List.{drop_more}
 use Rattle.std.specs.FinMap as fin
-use Rattle.grid_store.specs.declared.cell.Cell.{Cell}
 use Rattle.name_table.specs.Scopes.{NameMap, key_of}
-use Rattle.shift_core.specs.Maps.{PlaceMap}
-use Rattle.kept_book.specs.Change.{AreKnown, Change, HasSlot, HaveSlots, Joins, SheetSlot, back, cells_after, cells_before, forth, names_with, shift_of, sheets_with, with_id}
+use Rattle.kept_book.specs.Change.{AreKnown, Change, HasSlot, HaveSlots, SheetSlot, back, cells_before, forth, names_with, shift_of, sheets_with, with_id}
 use Rattle.kept_book.specs.Frame.{Frame, Line, Words}
 use Rattle.kept_book.specs.Kept.{change_of, changes_of, name_change, sheet_change}
 use Rattle.kept_book.specs.Walk.{Leads, back_all, forth_all}
@@ -23,9 +21,6 @@ parts-at ps i p l is = ap changes_of (drop_more ps i p l ∙ ap (λ x. x ∷ dro
 
 pub sheets-at : (cs : List SheetChange) (i : ℕ) (c : SheetChange) → i < length cs → c ≡ get_or cs i c → map sheet_change (drop i cs) ≡ sheet_change c ∷ map sheet_change (drop (i + 1) cs)
 sheets-at cs i c l is = ap (map sheet_change) (drop_more cs i c l ∙ ap (λ x. x ∷ drop (i + 1) cs) (sym is))
-
-pub names-at : (cs : List NameChange) (i : ℕ) (c : NameChange) → i < length cs → c ≡ get_or cs i c → map name_change (drop i cs) ≡ name_change c ∷ map name_change (drop (i + 1) cs)
-names-at cs i c l is = ap (map name_change) (drop_more cs i c l ∙ ap (λ x. x ∷ drop (i + 1) cs) (sym is))
 
 -- what holds of all holds of those from one on
 pub known-from : (words : Words) (cs : List NameChange) (i : ℕ) → AreKnown words (map name_change cs) → AreKnown words (map name_change (drop i cs))

@@ -1,10 +1,9 @@
 -- What the contents of kept cells are at a place, and what they are after one cell or some change. Serves the calls
--- of the engine.
-use Rattle.std.proofs.Common.{◌≡◌, ◌∙◌, sym, ap, subst, refl, ℕ, Bool, true, false, cond, not, List, [], ◌∷◌, map, Option, Some, None, option_map, arith, ◌==◌}
-use Rattle.std.proofs.lemmas.Bool.Decides.{nat_tests}
+-- of a kept workbook.
+use Rattle.std.proofs.Common.{◌≡◌, ◌∙◌, sym, ap, subst, refl, ℕ, Bool, true, false, cond, List, [], ◌∷◌, map, Option, Some, None, option_map}
 use Rattle.std.proofs.lemmas.Option.{same_Some}
 use Rattle.std.specs.FinMap as fin
-use Rattle.std.specs.FinMap.{find, get-empty, get-entries, get-from_entries, get-insert, get-remove, get-retain_keys, same_map}
+use Rattle.std.specs.FinMap.{find, get-empty, get-entries, get-from_entries, get-insert, get-remove, same_map}
 use Rattle.std.specs.Ordering.{eq_by_cmp}
 use Rattle.cell_addr.specs.Order.{place_cmp}
 use Rattle.cell_addr.specs.declared.place.Place.{Place}
@@ -15,7 +14,6 @@ use Rattle.formula_tree.specs.declared.reference.Corner.{Corner}
 use Rattle.grid_store.specs.declared.cell.Cell.{Cell}
 use Rattle.grid_store.specs.declared.cell.Cell.TheVariants as cell
 use Rattle.shift_core.specs.Maps.{PlaceMap}
-use Rattle.shift_core.proofs.CarriedEntries.{eq_by_cmp-decides}
 use Rattle.book_model.proofs.Contents.{is_at}
 use Rattle.kept_book.specs.Numbered.{Numbered, Stood}
 use Rattle.kept_book.specs.Stored.{AllStand, StandsAt, content_of, contents_of, tree_of}
@@ -61,19 +59,6 @@ content_same one two (Some (cell.Text w)) h = refl
 content_same one two (Some (cell.Formula n)) h = ap (λ r. Some (formula (tree_of r))) (h n refl)
 content_same one two (Some (cell.Broken w)) h = refl
 
--- contents are the same where all numbers stand for the same
-pub contents_same : (one two : Numbered) (cells : PlaceMap Cell) → ((n : ℕ) → two n ≡ one n) → contents_of two cells ≡ contents_of one cells
-contents_same one two cells h = same_map place_cmp-IsTotalOrder place_cmp-IsAntisymmetric _ _ (λ p.
-    get-contents two cells p ∙ content_same one two (fin.get cells p) (λ n e. h n) ∙ sym (get-contents one cells p))
-
-pub stand_same : (one two : Numbered) (cells : PlaceMap Cell) → ((n : ℕ) → two n ≡ one n) → AllStand one cells → AllStand two cells
-stand_same one two cells h all p n e = stands_too one two n p (h n) (all p n e)
-
--- a number stands at one place
-pub one_place : (stands : Numbered) (cells : PlaceMap Cell) (p q : Place) (n : ℕ) → AllStand stands cells → fin.get cells p ≡ Some (cell.Formula n) → fin.get cells q ≡ Some (cell.Formula n) → p ≡ q
-one_place stands cells p q n all a b =
-    same_Some p q (sym (all p n a) ∙ all q n b)
-
 -- numbers of other cells stand for the same
 abbrev pub Agree : Place → PlaceMap Cell → Numbered → Numbered → Type 0
 Agree at cells one two = (q : Place) (n : ℕ) → eq_by_cmp place_cmp q at ≡ false → fin.get cells q ≡ Some (cell.Formula n) → two n ≡ one n
@@ -110,46 +95,6 @@ contents-remove one two cells at same = same_map place_cmp-IsTotalOrder place_cm
     go : (q : Place) (b : Bool) → eq_by_cmp place_cmp q at ≡ b → option_map (content_of two) (cond b None (fin.get cells q)) ≡ cond b None (option_map (content_of one) (fin.get cells q))
     go q true e = refl
     go q false e = content_same one two (fin.get cells q) (λ n h. same q n e h)
-
-pub stand-remove : (one two : Numbered) (cells : PlaceMap Cell) (at : Place) → AllStand one cells → Agree at cells one two → AllStand two (fin.remove cells at)
-stand-remove one two cells at all same p n e = go (eq_by_cmp place_cmp p at) refl (sym (get-remove place_cmp-IsTotalOrder cells at p) ∙ e)
-  where
-    go : (b : Bool) → eq_by_cmp place_cmp p at ≡ b → cond b None (fin.get cells p) ≡ Some (cell.Formula n) → StandsAt two n p
-    go true is f = cc
-    go false is f = stands_too one two n p (same p n is f) (all p n f)
-
--- numbers of cells that pass no test stand for the same
-abbrev pub AgreeBut : (Place → Bool) → PlaceMap Cell → Numbered → Numbered → Type 0
-AgreeBut gone cells one two = (q : Place) (n : ℕ) → gone q ≡ false → fin.get cells q ≡ Some (cell.Formula n) → two n ≡ one n
-
-get-left : {X : Type 0} (gone : Place → Bool) (m : PlaceMap X) (q : Place) → fin.get (fin.retain_keys m (λ p. not (gone p))) q ≡ cond (not (gone q)) (fin.get m q) None
-get-left gone m q = get-retain_keys m (λ p. not (gone p)) q (λ x t. ap (λ r. not (gone r)) (sym (place_cmp-IsAntisymmetric q x t)))
-
-pub contents-retain : (gone : Place → Bool) (one two : Numbered) (cells : PlaceMap Cell) → AgreeBut gone cells one two
-    → contents_of two (fin.retain_keys cells (λ p. not (gone p))) ≡ fin.retain_keys (contents_of one cells) (λ p. not (gone p))
-contents-retain gone one two cells same = same_map place_cmp-IsTotalOrder place_cmp-IsAntisymmetric _ _ (λ q.
-    get-contents two (fin.retain_keys cells (λ p. not (gone p))) q
-    ∙ ap (option_map (content_of two)) (get-left gone cells q)
-    ∙ go q (gone q) refl
-    ∙ ap (λ r. cond (not (gone q)) r None) (sym (get-contents one cells q))
-    ∙ sym (get-left gone (contents_of one cells) q))
-  where
-    go : (q : Place) (b : Bool) → gone q ≡ b → option_map (content_of two) (cond (not b) (fin.get cells q) None) ≡ cond (not b) (option_map (content_of one) (fin.get cells q)) None
-    go q true e = refl
-    go q false e = content_same one two (fin.get cells q) (λ n h. same q n e h)
-
-pub stand-retain : (gone : Place → Bool) (one two : Numbered) (cells : PlaceMap Cell) → AllStand one cells → AgreeBut gone cells one two → AllStand two (fin.retain_keys cells (λ p. not (gone p)))
-stand-retain gone one two cells all same p n e = go (gone p) refl (sym (get-left gone cells p) ∙ e)
-  where
-    go : (b : Bool) → gone p ≡ b → cond (not b) (fin.get cells p) None ≡ Some (cell.Formula n) → StandsAt two n p
-    go true is f = cc
-    go false is f = stands_too one two n p (same p n is f) (all p n f)
-
-itself : (q : Place) → eq_by_cmp place_cmp q q ≡ true
-itself q = (eq_by_cmp-decides place_cmp-IsTotalOrder place_cmp-IsAntisymmetric q q).1 refl
-
-apart : (q at : Place) → eq_by_cmp place_cmp q at ≡ false → q ≡ at → ⊥
-apart q at e same = let t : eq_by_cmp place_cmp q at ≡ true = (eq_by_cmp-decides place_cmp-IsTotalOrder place_cmp-IsAntisymmetric q at).1 same in absurd (cc)
 
 -- a cell without a formula holds the same whatever stands under numbers
 pub content_plain : (one two : Numbered) (c : Cell) → IsPlain c → content_of two c ≡ content_of one c

@@ -1,26 +1,21 @@
 -- Cells of a block that are emptied one after the other, and places of listed cells. Serves blocks that are emptied and
 -- structural operations.
-use Rattle.std.proofs.Common.{◌≡◌, ◌∙◌, sym, ap, subst, refl, Bool, true, false, cond, not, List, [], ◌∷◌, Option, Some, None, IsSome, is_some, is_none, option_map}
+use Rattle.std.proofs.Common.{◌≡◌, ◌∙◌, sym, ap, subst, Bool, true, false, cond, None, IsSome, is_none}
 use Rattle.std.specs.List.{All}
 use Rattle.std.specs.FinMap as fin
-use Rattle.std.specs.FinMap.{find, get-entries, get-remove, get-retain_keys, same_map}
-use Rattle.std.specs.Ordering.{eq_by_cmp}
+use Rattle.std.specs.FinMap.{find, get-entries, get-retain_keys}
 use Rattle.std.proofs.lemmas.List.Elements.{All-from_recursion, All-filter}
 use Rattle.cell_addr.specs.Order.{place_cmp}
 use Rattle.cell_addr.specs.Place.{IsInside, covers}
 use Rattle.cell_addr.specs.declared.place.Block.{Block}
 use Rattle.cell_addr.specs.declared.place.Place.{Place}
-use Rattle.cell_addr.proofs.Places.{place_cmp-IsTotalOrder, place_cmp-IsAntisymmetric}
-use Rattle.book_cells.specs.Workbook.{Book as Contents, Content}
+use Rattle.cell_addr.proofs.Places.{place_cmp-IsAntisymmetric}
 use Rattle.grid_store.specs.Grid.{within}
 use Rattle.grid_store.specs.declared.cell.Cell.{Cell}
 use Rattle.shift_core.proofs.MovedMaps.{each_place}
 use Rattle.shift_core.specs.Maps.{AreInside, PlaceMap, lost_entries}
 use Rattle.shift_core.specs.Tables.{place_after}
 use Rattle.shift_core.specs.declared.shift.Shift.{Shift}
-use Rattle.kept_book.specs.Numbered.{Numbered}
-use Rattle.kept_book.specs.Stored.{content_of, contents_of}
-use Rattle.kept_book.proofs.Contents.{get-contents}
 
 pub found_within : (area : Block) (cells : PlaceMap Cell) (q : Place) → find place_cmp q (fin.entries (within area cells)) ≡ cond (covers area q) (fin.get cells q) None
 found_within area cells q =

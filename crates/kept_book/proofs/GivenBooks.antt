@@ -1,9 +1,9 @@
 -- Sheets that an engine begins with, and the texts that are given to their cells from the last to the first. Serves
--- the making of an engine.
-use Rattle.std.proofs.Common.{◌≡◌, ◌≢◌, ◌∙◌, sym, ap, subst, refl, arith, ℕ, zero, suc, ◌<◌, ◌+◌, List, [], ◌∷◌, ◌++◌, length, map, get_or, take, drop, Option, Some, None, option_map, IsSome, Bool, true, false, cond, ◌==◌, Result, Ok, Err}
+-- the making of a workbook.
+use Rattle.std.proofs.Common.{◌≡◌, ◌≢◌, ◌∙◌, sym, ap, subst, refl, arith, ℕ, zero, suc, ◌<◌, ◌+◌, List, [], ◌∷◌, ◌++◌, length, get_or, take, drop, Option, Some, None, option_map, IsSome, Bool, true, false, cond, ◌==◌, Result, Ok, Err}
 use Rattle.std.specs.List.{All, AllPairs, filter_map, cons_option}
 use Rattle.std.specs.FinMap as fin
-use Rattle.std.proofs.lemmas.List.{drop_more, get_or-take, length-map, length-take-le, length-append, drop_all}
+use Rattle.std.proofs.lemmas.List.{drop_more, get_or-take, length-map, length-take-le, drop_all}
 use Rattle.std.proofs.Math.ListN.{get_or-map}
 use Rattle.std.proofs.lemmas.Grind.{take_at_read}
 use Rattle.cell_addr.specs.Text.{folded}

@@ -1,5 +1,5 @@
 -- Standings of formulas once some came under new ids. Serves the calls that set, paste and name formulas.
-use Rattle.std.proofs.Common.{◌≡◌, ◌≢◌, ◌⊎◌, ◌∙◌, sym, ap, refl, arith, inl, inr, ℕ, ◌+◌, ◌-◌, ◌<◌, ◌≤◌, nat_le, Bool, true, false, cond, List, [], ◌∷◌, length, Option, Some, None, option_map, is_some}
+use Rattle.std.proofs.Common.{◌≡◌, ◌≢◌, ◌⊎◌, ◌∙◌, sym, ap, refl, arith, inl, inr, ℕ, ◌+◌, ◌-◌, ◌<◌, ◌≤◌, nat_le, Bool, true, false, cond, List, ◌∷◌, length, Option, Some, None, option_map, is_some}
 use Rattle.std.proofs.lemmas.List.Elements.{All-tail}
 use Rattle.std.specs.List.{All}
 use Rattle.std.proofs.lemmas.Bool.{cases_lt}
@@ -107,15 +107,6 @@ module _ (n : ℕ) (all : List (Place × Rc Node Global)) (old now next : Lazy) 
     least = let least = so.least in omega (arith, least);
   }
 
-inserted-all : (n : ℕ) (all : List (Place × Rc Node Global)) (old now : Lazy) (id : ℕ) → Inserting n all old now id [] → (k : ℕ) → n ≤ k → kept_in now k ≡ option_map (fresh_at old.line.cursor) (under_id n all k)
-inserted-all n all old now id so k from = elim (cases_lt k id) [
-  | inl l ↦ so.come k from l
-  | inr more ↦ none-is (kept_in now k) (so.below k more) ∙ sym (ap (option_map (fresh_at old.line.cursor)) (so.ahead k more))
-]
-
-pub inserting-last : (n : ℕ) (all : List (Place × Rc Node Global)) (old now : Lazy) (id : ℕ) → Inserting n all old now id [] → Inserts n all old now
-inserting-last n all old now id so = record { line = so.line; below = so.kept; from = inserted-all n all old now id so }
-
 -- where no formula was, none is, live or removed
 pub none-live : (r s : Option Kept) → option_map (λ h. h.live) r ≡ option_map (λ h. h.live) s → is_some s ≡ false → r ≡ None
 none-live None s e none = refl
@@ -130,17 +121,6 @@ born-live k (Some h) e = go (nat_le h.birth k) e
     go : (b : Bool) → option_map (λ g. g.live) (cond b (Some h) None) ≡ Some false → Some h.live ≡ Some false
     go true f = f
     go false f = absurd (none-some false f)
-
-fresh-live : (k : ℕ) (r : Option (Place × Rc Node Global)) → option_map (λ h. h.live) (option_map (fresh_at k) r) ≢ Some false
-fresh-live k None e = none-some false e
-fresh-live k (Some f) e = cc
-
--- formulas that come aren't removed ones
-pub inserts-live : (n : ℕ) (formulas : List (Place × Rc Node Global)) (old new : Lazy) → Inserts n formulas old new → AreLive old → AreLive new
-inserts-live n formulas old new comes live id e = elim (cases_lt id n) [
-  | inl l ↦ live id (ap (option_map (λ h. h.live)) (sym (comes.below id l)) ∙ e)
-  | inr from ↦ fresh-live old.line.cursor (under_id n formulas id) (ap (option_map (λ h. h.live)) (sym (comes.from id from)) ∙ e)
-]
 
 -- a formula that stands somewhere is live where none is a removed one
 pub live-there : (store : Lazy) (id : ℕ) → AreLive store → (k : ℕ) (x : Standing) → at_in store id k ≡ Some x → live_in store id ≡ Some true

@@ -1,16 +1,12 @@
 -- Changes that join the frames before and after a call. Serves all calls that change a workbook.
-use Rattle.std.proofs.Common.{◌≡◌, ◌∙◌, sym, ap, subst, refl, arith, ℕ, ◌+◌, ◌<◌, ◌≤◌, ◌==◌, nat_lt, Bool, true, false, cond, List, [], ◌∷◌, Option, Some, None}
+use Rattle.std.proofs.Common.{◌≡◌, ◌∙◌, sym, ap, arith, ℕ, ◌+◌, nat_lt, true, false, cond, Some, None}
 use Rattle.std.proofs.lemmas.Bool.Decides.{nat_tests}
-use Rattle.cell_addr.specs.declared.place.Place.{Place}
 use Rattle.grid_store.specs.Grid.{with_entries, without_places}
-use Rattle.grid_store.specs.declared.cell.Cell.{Cell}
-use Rattle.name_table.specs.Scopes as table
-use Rattle.name_table.specs.declared.key.NameKey.{NameKey}
 use Rattle.shift_core.proofs.MovedMaps.{restored_moved}
-use Rattle.shift_core.specs.Maps.{AreInside, PlaceMap, lost_entries, moved_map, restored_map}
+use Rattle.shift_core.specs.Maps.{AreInside, lost_entries, moved_map, restored_map}
 use Rattle.shift_core.specs.Sound.{IsSound}
 use Rattle.shift_core.specs.declared.shift.Shift.{Shift}
-use Rattle.kept_book.specs.Change.{AreKnown, Change, HaveSlots, Joins, SheetSlot, cells_after, cells_before, names_with, places_of, sheets_with, shift_of}
+use Rattle.kept_book.specs.Change.{AreKnown, Change, HaveSlots, Joins, cells_after, cells_before, names_with, places_of, sheets_with, shift_of}
 use Rattle.kept_book.specs.Frame.{Frame, Line, Words}
 use Rattle.kept_book.specs.internal.Writing.{AreReplaced}
 use Rattle.kept_book.proofs.Written.{written-back}

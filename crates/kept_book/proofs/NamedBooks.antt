@@ -1,5 +1,5 @@
 -- The kept workbook after a name got a tree, or lost it. Serves the call that names a formula.
-use Rattle.std.proofs.Common.{◌≡◌, ◌∙◌, sym, ap, subst, refl, arith, inl, inr, ℕ, ◌<◌, ◌≤◌, Bool, true, false, cond, List, [], ◌∷◌, length, Option, Some, None, option_map}
+use Rattle.std.proofs.Common.{◌≡◌, ◌∙◌, sym, ap, subst, refl, ℕ, Bool, true, false, cond, List, [], ◌∷◌, Option, Some, None, option_map}
 use Rattle.std.proofs.lemmas.Option.{none-some, same_Some}
 use Rattle.std.specs.FinMap as fin
 use Rattle.std.specs.Ordering.{eq_by_cmp}
@@ -12,7 +12,6 @@ use Rattle.formula_tree.specs.Relative.{relative}
 use Rattle.formula_tree.specs.declared.node.Node.{Node}
 use Rattle.formula_tree.specs.declared.reference.Home.TheVariants as homes
 use Rattle.grid_store.specs.Grid.{cells_of, with_entries, without_places}
-use Rattle.grid_store.specs.declared.cell.Cell.{Cell}
 use Rattle.grid_store.specs.declared.cell.Cell.TheVariants as cell
 use Rattle.grid_store.specs.declared.grid.Grid.{Grid}
 use Rattle.lazy_store.specs.Kept.{at, standing_at}
@@ -42,7 +41,7 @@ use Rattle.kept_book.proofs.Inserted.{at-fresh, none-stands}
 use Rattle.kept_book.proofs.Joining.{plain-joins}
 use Rattle.kept_book.proofs.NamesLeft.{get-with_id, same_ids}
 use Rattle.kept_book.proofs.NamesPut.{more-word, names-put}
-use Rattle.kept_book.proofs.NamesSeen.{is_id_key, seen_key}
+use Rattle.kept_book.proofs.NamesSeen.{is_id_key}
 use Rattle.kept_book.proofs.ShiftedBooks.{frame_with}
 use Rattle.kept_book.proofs.Staying.{cells-stay, names-stay, same-number, same-there, stays-stand, there-within}
 

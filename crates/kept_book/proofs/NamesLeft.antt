@@ -1,9 +1,8 @@
 -- The names that go with a dropped sheet, and names as changes list them. Serves structural operations and the steps over
 -- changes.
-use Rattle.std.proofs.Common.{◌≡◌, ◌∙◌, sym, ap, subst, refl, ℕ, ◌<◌, ◌==◌, Bool, true, false, cond, not, List, [], ◌∷◌, filter, length, map, Option, Some, None, option_map}
+use Rattle.std.proofs.Common.{◌≡◌, ◌∙◌, sym, ap, refl, ℕ, ◌<◌, Bool, true, false, cond, not, List, [], ◌∷◌, filter, length, map, Option, Some, None, option_map}
 use Rattle.std.proofs.lemmas.Bool.{eqb-true, eq-eqb}
-use Rattle.std.proofs.lemmas.Option.{none-some, same_Some}
-use Rattle.std.specs.Cmp.{both_ways}
+use Rattle.std.proofs.lemmas.Option.{same_Some}
 use Rattle.std.specs.FinMap as fin
 use Rattle.std.specs.FinMap.{find, get-entries, get-insert, get-remove, same_map}
 use Rattle.std.specs.List.{AllByRecursion}

@@ -1,5 +1,5 @@
 -- A workbook that stays as it was, though formulas of it were taken to the cursor. Serves the copy of cells.
-use Rattle.std.proofs.Common.{◌≡◌, ◌∙◌, sym, ap, subst, refl, ℕ, Option, Some, None, option_map}
+use Rattle.std.proofs.Common.{◌≡◌, ◌∙◌, sym, ap, subst, refl, Option, Some, None}
 use Rattle.std.proofs.lemmas.Option.{none-some, same_Some}
 use Rattle.std.specs.FinMap as fin
 use Rattle.cell_addr.specs.declared.place.Place.{Place}
@@ -32,9 +32,6 @@ module _ (old new : Book) (same : SameBook old new) (stand : IsStanding old) whe
 
   pub same-held : ((p : Place) (x : Content) → fin.get (workbook old).cells p ≡ Some x → IsHeld p x) → (p : Place) (x : Content) → fin.get (workbook new).cells p ≡ Some x → IsHeld p x
   same-held held p x is = held p x (sym (ap (λ b. fin.get b.cells p) same-workbook) ∙ is)
-
-pub same-self : (b : Book) → SameBook b b
-same-self b = record { frame = refl; line = refl; standings = λ id k. refl; known = λ i w is. is }
 
 pub same-then : (a b c : Book) → SameBook a b → SameBook b c → SameBook a c
 same-then a b c h g = record {

@@ -3,7 +3,6 @@
 use Rattle.std.proofs.Common.{◌≡◌, ◌∙◌, sym, ap, subst, refl, arith, ℕ, ◌-◌, ◌==◌, ◌||◌, Bool, true, false, cond, not, List, [], ◌∷◌, map, Option, Some, None, option_map, is_some, IsSome}
 use Rattle.std.proofs.lemmas.Bool.Decides.{nat_tests}
 use Rattle.std.proofs.lemmas.List.Elements.{All-cons, All-head, All-tail}
-use Rattle.std.proofs.lemmas.Option.{none-some}
 use Rattle.std.specs.FinMap as fin
 use Rattle.std.specs.FinMap.{find, get-insert, get-remove, get-retain_keys, same_map}
 use Rattle.std.specs.FinMap.Entries.{is_some-find}
@@ -15,7 +14,7 @@ use Rattle.cell_addr.specs.Place.{IsInside, covers}
 use Rattle.cell_addr.specs.declared.place.Block.{Block}
 use Rattle.cell_addr.specs.declared.place.Place.{Place}
 use Rattle.cell_addr.specs.declared.place.TheConstants.{COLS, ROWS}
-use Rattle.book_cells.specs.Workbook.{Book as Contents, Content}
+use Rattle.book_cells.specs.Workbook.{Content}
 use Rattle.clip_board.specs.declared.clip.CopyItem.{CopyItem}
 use Rattle.grid_store.proofs.Exchanges.{get-without_places}
 use Rattle.grid_store.specs.Grid.{within, without_places}

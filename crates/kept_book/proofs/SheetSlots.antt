@@ -1,12 +1,11 @@
 -- Sheets by their places in the list, as changes list them. Serves the calls that change the list of sheets.
-use Rattle.std.proofs.Common.{◌≡◌, ◌≢◌, ◌∙◌, sym, ap, subst, refl, arith, ℕ, zero, suc, ◌<◌, ◌≤◌, ◌==◌, Bool, true, false, cond, eqb, not, List, [], ◌∷◌, length, map, Option, Some, None, option_map, IsSome}
+use Rattle.std.proofs.Common.{◌≡◌, ◌≢◌, ◌∙◌, sym, ap, subst, refl, arith, ℕ, zero, suc, ◌≤◌, ◌==◌, Bool, true, false, cond, eqb, not, List, [], ◌∷◌, length, map, Option, Some, None, option_map}
 use Rattle.std.proofs.lemmas.Bool.{eqb-true, eq-eqb, ne_eqb}
 use Rattle.std.proofs.lemmas.List.Elements.{All-cons, All-head, All-tail}
 use Rattle.std.proofs.lemmas.Option.{none-some, same_Some}
-use Rattle.std.specs.Prelude.{insert, position}
+use Rattle.std.specs.Prelude.{insert}
 use Rattle.std.specs.List.{All}
 use Rattle.cell_addr.specs.Sheets.{AreApart, AreSheets, name_in}
-use Rattle.cell_addr.specs.Text.{folded}
 use Rattle.cell_addr.specs.declared.place.TheConstants.{NO_SHEET}
 use Rattle.name_table.proofs.SheetEntries.{Differ, Lacks, Sheet}
 use Rattle.name_table.proofs.WordNumbers.{position-cons}

@@ -1,11 +1,10 @@
 -- The kept workbook after a structural operation. Serves structural operations.
-use Rattle.std.proofs.Common.{◌≡◌, ◌∙◌, sym, ap, subst, refl, ℕ, ◌+◌, ◌<◌, ◌≤◌, cond, List, Option, Some, None}
+use Rattle.std.proofs.Common.{◌≡◌, ◌∙◌, sym, ap, subst, ◌+◌, ◌≤◌, cond, None}
 use Rattle.std.specs.FinMap as fin
 use Rattle.std.specs.Prelude.{slice_get}
 use Rattle.grid_store.specs.Grid.{cells_of}
 use Rattle.grid_store.specs.declared.grid.Grid.{Grid}
 use Rattle.lazy_store.proofs.Lines.{IsPushed, is-pushed}
-use Rattle.lazy_store.specs.Standing.{Standing}
 use Rattle.lazy_store.specs.Store.{at_in}
 use Rattle.lazy_store.specs.declared.lazy.Lazy.{Lazy}
 use Rattle.name_table.specs.Listed.{listed}

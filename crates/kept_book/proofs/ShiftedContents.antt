@@ -1,4 +1,4 @@
--- Contents and their formulas after a structural operation. Serves the calls of the engine.
+-- Contents and their formulas after a structural operation. Serves the calls of a kept workbook.
 use Rattle.std.proofs.Common.{◌≡◌, ◌∙◌, sym, ap, subst, refl, arith, ℕ, Bool, true, false, Option, Some, None, option_map, IsSome}
 use Rattle.std.proofs.lemmas.Bool.Decides.{nat_tests}
 use Rattle.std.specs.Prelude.{option_and_then}

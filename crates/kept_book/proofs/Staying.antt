@@ -1,5 +1,5 @@
 -- What a frame shows stays where standings, words and the line up to it do. Serves all calls that change a workbook, and reads.
-use Rattle.std.proofs.Common.{◌≡◌, ◌∙◌, sym, ap, subst, refl, arith, ℕ, zero, suc, ◌<◌, ◌≤◌, List, [], ◌∷◌, length, get_or, Option, Some, None, option_map}
+use Rattle.std.proofs.Common.{◌≡◌, ◌∙◌, sym, ap, refl, arith, ℕ, zero, suc, ◌<◌, List, [], ◌∷◌, length, Option, Some, None, option_map}
 use Rattle.std.proofs.lemmas.Option.{none-some, same_Some}
 use Rattle.std.specs.FinMap as fin
 use Rattle.std.specs.Prelude.{option_and_then, slice_get}
@@ -17,10 +17,10 @@ use Rattle.name_table.specs.declared.key.NameKey.{NameKey}
 use Rattle.shift_core.specs.Maps.{PlaceMap}
 use Rattle.book_values.specs.Names.{Key}
 use Rattle.book_values.specs.Workbook.{scope_sheet}
-use Rattle.kept_book.specs.Frame.{At, Frame, IsNamed, Stands, Words, book_at, home_at, named_at, names_seen, numbered_at, stood_of, tree_named}
+use Rattle.kept_book.specs.Frame.{At, Frame, Stands, Words, book_at, home_at, named_at, names_seen, numbered_at, stood_of, tree_named}
 use Rattle.kept_book.specs.Kept.{IsMore}
-use Rattle.kept_book.specs.Numbered.{Numbered, Stood}
-use Rattle.kept_book.specs.Stored.{AllStand, StandsAt, content_of, contents_of}
+use Rattle.kept_book.specs.Numbered.{Numbered}
+use Rattle.kept_book.specs.Stored.{StandsAt, contents_of}
 use Rattle.kept_book.proofs.Contents.{content_same, get-contents, same_contents, stands_too}
 use Rattle.kept_book.proofs.NamesSeen.{get-seen, number-spells, number_of, same_names, spelled-has}
 

@@ -1,25 +1,22 @@
 -- Cells that are emptied and given something else, and formulas that come under new ids. Serves the calls that set, clear and
 -- paste cells.
-use Rattle.std.proofs.Common.{◌≡◌, ◌≢◌, ◌∙◌, sym, ap, subst, refl, arith, inl, inr, ℕ, ◌+◌, ◌-◌, ◌<◌, ◌≤◌, ◌==◌, Bool, true, false, cond, List, [], ◌∷◌, map, Option, Some, None, option_map, is_some, IsSome}
-use Rattle.std.proofs.lemmas.Bool.{cases_lt}
+use Rattle.std.proofs.Common.{◌≡◌, ◌∙◌, sym, ap, subst, refl, arith, ℕ, ◌+◌, ◌≤◌, ◌==◌, Bool, true, false, cond, List, [], ◌∷◌, map, Option, Some, None, option_map, is_some, IsSome}
 use Rattle.std.proofs.lemmas.Bool.Decides.{nat_tests}
 use Rattle.std.proofs.lemmas.List.Elements.{All-cons, All-head, All-tail}
-use Rattle.std.proofs.lemmas.Option.{none-some, same_Some}
+use Rattle.std.proofs.lemmas.Option.{none-some}
 use Rattle.std.specs.FinMap as fin
 use Rattle.std.specs.FinMap.{find}
 use Rattle.std.specs.FinMap.Entries.{is_some-find}
 use Rattle.std.specs.List.{All}
-use Rattle.std.specs.Prelude.{option_and_then}
 use Rattle.std.specs.declared.alloc.Global.{Global}
 use Rattle.std.specs.declared.rc.Rc.{Rc}
 use Rattle.cell_addr.specs.Order.{place_cmp}
 use Rattle.cell_addr.specs.Place.{IsInside}
 use Rattle.cell_addr.specs.declared.place.Place.{Place}
-use Rattle.book_cells.specs.Workbook.{Book as Contents, Content, formula}
+use Rattle.book_cells.specs.Workbook.{formula}
 use Rattle.clip_board.specs.declared.clip.CopyItem.{CopyItem}
 use Rattle.clip_board.specs.declared.clip.CopyItem.TheVariants as item
 use Rattle.formula_tree.specs.declared.node.Node.{Node}
-use Rattle.formula_tree.specs.declared.reference.Home.TheVariants as homes
 use Rattle.grid_store.proofs.Exchanges.{get-without_places}
 use Rattle.grid_store.proofs.Fills.{first_of_two, get-with}
 use Rattle.grid_store.proofs.PlaceMaps.{same_places}

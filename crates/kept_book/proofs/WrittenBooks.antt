@@ -1,5 +1,5 @@
 -- The kept workbook after cells were emptied and given something else. Serves the calls that set, clear and paste cells.
-use Rattle.std.proofs.Common.{◌≡◌, ◌∙◌, sym, ap, subst, refl, ℕ, ◌≤◌, List, [], map, Option, Some, option_map}
+use Rattle.std.proofs.Common.{◌≡◌, ◌∙◌, sym, ap, subst, ℕ, ◌≤◌, List, [], map, Some, option_map}
 use Rattle.std.specs.FinMap as fin
 use Rattle.std.specs.List.{All}
 use Rattle.cell_addr.specs.declared.place.Place.{Place}
@@ -13,13 +13,11 @@ use Rattle.lazy_store.specs.Store.{at_in}
 use Rattle.lazy_store.specs.declared.lazy.Lazy.{Lazy}
 use Rattle.name_table.specs.Listed.{listed}
 use Rattle.name_table.specs.Named.{names_of, words_of}
-use Rattle.name_table.specs.declared.key.NameKey.{NameKey}
 use Rattle.name_table.specs.declared.names.Names.{Names}
 use Rattle.shift_line.specs.Track.{shift_at}
-use Rattle.book_model.specs.Workbook.{Workbook}
 use Rattle.kept_book.specs.Change.{AreKnown, Change, HaveSlots, Joins, names_with, places_of, sheets_with}
 use Rattle.kept_book.specs.Copied.{IsCopied, entry_copied}
-use Rattle.kept_book.specs.Frame.{At, Frame, IsNamed, Stands, book_at, named_at, names_seen, numbered_at, tree_named}
+use Rattle.kept_book.specs.Frame.{Frame, Stands, book_at, named_at, names_seen, numbered_at, tree_named}
 use Rattle.kept_book.specs.Ids.{AreBelow}
 use Rattle.kept_book.specs.Kept.{KeepsUpTo}
 use Rattle.kept_book.specs.internal.Cells.{cells_given, trees_given, with_cells, with_given}

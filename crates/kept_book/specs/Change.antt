@@ -1,6 +1,6 @@
 -- What one operation changed: the part of a step by which it is taken back and done again.
 -- Source: this project's own.
-use Rattle.std.specs.Prelude.{◌≡◌, ⊤, ℕ, ◌<◌, ◌≤◌, nat_lt, if◌then◌else◌, List, [], ◌∷◌, length, insert, map, Option, Some, None, All}
+use Rattle.std.specs.Prelude.{◌≡◌, ⊤, ℕ, ◌<◌, ◌≤◌, nat_lt, if◌then◌else◌, List, [], ◌∷◌, length, insert, map, Option, Some, None}
 use Rattle.std.specs.FinMap as fin
 use Rattle.cell_addr.specs.declared.place.Place.{Place}
 use Rattle.grid_store.specs.Grid.{with_entries, without_places}

@@ -1,6 +1,5 @@
 -- Cells that were copied, and cells that are given something to hold. Source: this project's own.
 use Rattle.std.specs.Prelude.{◌≢◌, ℕ, List, None, map}
-use Rattle.std.specs.List.{All}
 use Rattle.std.specs.FinMap as fin
 use Rattle.cell_addr.specs.Place.{IsInside}
 use Rattle.cell_addr.specs.declared.place.Place.{Place}

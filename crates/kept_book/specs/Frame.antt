@@ -3,7 +3,6 @@
 use Rattle.std.specs.Prelude.{◌≡◌, ℕ, ◌<◌, List, length, Option, Some, None, option_map, option_and_then, slice_get}
 use Rattle.std.specs.List.{filter_map}
 use Rattle.std.specs.FinMap as fin
-use Rattle.cell_addr.specs.declared.place.Place.{Place}
 use Rattle.cell_value.specs.declared.fault.FaultKind.TheVariants as faults
 use Rattle.formula_tree.specs.Term.{Term, fault}
 use Rattle.formula_tree.specs.declared.reference.Corner.{Corner}

@@ -1,4 +1,4 @@
-use Rattle.std.proofs.Common.{sym, ap, subst, arith, length, drop, rules}
+use Rattle.std.proofs.Common.{sym, subst, arith, rules}
 use Rattle.std.proofs.lemmas.List.{drop_all}
 use Rattle.kept_book.specs.Kept.{changes_of}
 use Rattle.kept_book.specs.internal.Stepping.{ChangesNoNames}

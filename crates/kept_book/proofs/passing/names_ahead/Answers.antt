@@ -1,7 +1,7 @@
-use Rattle.std.proofs.Common.{◌≡◌, ◌∙◌, ◌+◌, sym, ap, subst, arith, length, drop, map, rules}
+use Rattle.std.proofs.Common.{◌∙◌, ◌+◌, sym, ap, subst, arith, drop, rules}
 use Rattle.name_table.specs.Listed.{listed}
 use Rattle.name_table.specs.Named.{names_of, words_of}
-use Rattle.kept_book.specs.Kept.{changes_of, name_change, sheet_change}
+use Rattle.kept_book.specs.Kept.{changes_of}
 use Rattle.kept_book.specs.internal.Stepping.{CanRepeat, names_forth, sheets_forth}
 use Rattle.kept_book.proofs.ChangesInOrder.{parts-at, plain-names-forth, plain-sheets-forth}
 use Rattle.kept_book.proofs.passing.names_ahead.Goals as goal

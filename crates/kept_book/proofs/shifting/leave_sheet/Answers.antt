@@ -1,4 +1,4 @@
-use Rattle.std.proofs.Common.{◌≡◌, ◌∙◌, ◌++◌, ◌∷◌, [], None, Some, List, ℕ, map, sym, ap, subst}
+use Rattle.std.proofs.Common.{◌≡◌, ◌∙◌, ◌++◌, ◌∷◌, [], None, Some, map, sym, ap, subst}
 use Rattle.name_table.specs.Listed.{listed}
 use Rattle.kept_book.specs.Change.{HaveSlots, sheets_with}
 use Rattle.kept_book.specs.Kept.{sheet_change}

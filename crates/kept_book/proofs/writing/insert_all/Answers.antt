@@ -1,4 +1,4 @@
-use Rattle.std.proofs.Common.{◌≡◌, ◌∷◌, sym, subst, rules}
+use Rattle.std.proofs.Common.{◌≡◌, sym, subst, rules}
 use Rattle.kept_book.proofs.Inserted.{Inserting, inserting-first, inserting-next}
 use Rattle.kept_book.proofs.writing.insert_all.Goals as goal
 

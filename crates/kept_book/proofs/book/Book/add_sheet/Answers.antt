@@ -1,4 +1,4 @@
-use Rattle.std.proofs.Common.{sym, ap, subst, length}
+use Rattle.std.proofs.Common.{sym, subst}
 use Rattle.name_table.specs.Listed.{listed}
 use Rattle.name_table.specs.Named.{words_of}
 use Rattle.kept_book.specs.Change.{Joins}

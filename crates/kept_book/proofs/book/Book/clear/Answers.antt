@@ -1,4 +1,4 @@
-use Rattle.std.proofs.Common.{◌≡◌, ◌∙◌, sym, ap, subst, arith, map, []}
+use Rattle.std.proofs.Common.{◌∙◌, sym, ap, subst, arith, map, []}
 use Rattle.std.specs.List.{All}
 use Rattle.cell_addr.specs.Place.{IsInside}
 use Rattle.cell_addr.specs.declared.place.Place.{Place}

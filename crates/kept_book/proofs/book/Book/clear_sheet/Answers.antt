@@ -1,4 +1,4 @@
-use Rattle.std.proofs.Common.{◌≡◌, ◌∙◌, ap}
+use Rattle.std.proofs.Common.{◌∙◌, ap}
 use Rattle.std.specs.FinMap as fin
 use Rattle.grid_store.specs.Grid.{cells_of}
 use Rattle.lazy_store.specs.Store.{at_in}

@@ -1,4 +1,4 @@
-use Rattle.std.proofs.Common.{◌≡◌, ◌∙◌, sym, ap, subst, length, map, take, Some, None, option_map}
+use Rattle.std.proofs.Common.{◌∙◌, sym, ap, subst, map, option_map}
 use Rattle.std.specs.Prelude.{IfSome}
 use Rattle.std.specs.List.{All, filter_map}
 use Rattle.std.specs.FinMap as fin

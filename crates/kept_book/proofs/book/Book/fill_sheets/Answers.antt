@@ -1,4 +1,4 @@
-use Rattle.std.proofs.Common.{◌≡◌, ◌∙◌, ◌-◌, ◌+◌, ◌<◌, sym, ap, refl, subst, arith, length}
+use Rattle.std.proofs.Common.{◌≡◌, ◌∙◌, ◌-◌, ◌+◌, sym, ap, refl, subst, arith}
 use Rattle.std.specs.List.{All}
 use Rattle.book_model.specs.Given.{IsGivenCell}
 use Rattle.shift_line.specs.Track.{with_spare}

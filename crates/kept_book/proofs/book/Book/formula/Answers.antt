@@ -1,7 +1,6 @@
-use Rattle.std.proofs.Common.{◌≡◌, ◌∙◌, sym, ap, Some}
+use Rattle.std.proofs.Common.{sym}
 use Rattle.std.specs.FinMap as fin
 use Rattle.grid_store.specs.Grid.{cells_of}
-use Rattle.grid_store.specs.declared.cell.Cell.TheVariants as cell
 use Rattle.lazy_store.specs.Store.{at_in}
 use Rattle.kept_book.proofs.Inserted.{live-there}
 use Rattle.kept_book.proofs.Looked.{cell-standing, formula-read, id-cell, no-formula, some-not}

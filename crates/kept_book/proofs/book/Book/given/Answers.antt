@@ -1,5 +1,4 @@
-use Rattle.std.proofs.Common.{◌≡◌, ◌∙◌, ap}
-use Rattle.shift_line.specs.Track.{with_spare}
+use Rattle.std.proofs.Common.{◌∙◌, ap}
 use Rattle.book_model.specs.Given.{given_entries, given_sheets, numbered}
 use Rattle.kept_book.specs.internal.Cells.{with_cells, with_given}
 use Rattle.kept_book.proofs.GivenBooks.{empty_workbook, given-empty}

@@ -1,4 +1,4 @@
-use Rattle.std.proofs.Common.{◌≡◌, ◌∙◌, ◌++◌, ◌∷◌, [], Some, sym, ap, subst, refl, map, ℕ}
+use Rattle.std.proofs.Common.{◌≡◌, ◌∙◌, ◌++◌, ◌∷◌, [], Some, sym, ap, subst, refl, map}
 use Rattle.std.specs.FinMap as fin
 use Rattle.std.specs.Prelude.{option_and_then}
 use Rattle.grid_store.specs.Grid.{cells_of, items_of}

@@ -1,4 +1,4 @@
-use Rattle.std.proofs.Common.{◌≡◌, ◌∙◌, sym, ap, Some, option_map}
+use Rattle.std.proofs.Common.{◌∙◌, sym, ap, Some, option_map}
 use Rattle.formula_tree.specs.declared.reference.Home.TheVariants as homes
 use Rattle.lazy_store.specs.Store.{at_in}
 use Rattle.name_table.specs.Scopes.{key_of}

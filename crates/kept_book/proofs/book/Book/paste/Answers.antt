@@ -4,7 +4,6 @@ use Rattle.std.specs.FinMap as fin
 use Rattle.std.proofs.lemmas.Result.{IfOk-weaker, on_ok_weaker}
 use Rattle.cell_addr.specs.Place.{IsInside, covers}
 use Rattle.grid_store.specs.Grid.{cells_of, items_of, within, without_places}
-use Rattle.name_table.specs.Listed.{listed}
 use Rattle.shift_core.specs.Carried as carrying
 use Rattle.kept_book.specs.Change.{places_of}
 use Rattle.kept_book.specs.Frame.{numbered_at}

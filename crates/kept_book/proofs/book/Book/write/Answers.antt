@@ -1,4 +1,4 @@
-use Rattle.std.proofs.Common.{◌≡◌, ◌∙◌, ◌≤◌, ℕ, sym, ap, subst, refl, map, is_some}
+use Rattle.std.proofs.Common.{◌≡◌, ◌∙◌, ℕ, sym, ap, subst, refl, map, is_some}
 use Rattle.std.specs.List.{All}
 use Rattle.cell_addr.specs.Place.{IsInside}
 use Rattle.grid_store.specs.Grid.{cells_of, items_of, with_entries, without_places}
