@@ -79,7 +79,7 @@ module _ (words : Words) (proper : AreWords words) (trees : ℕ → Term Corner)
   -- a name that isn't found in a table isn't seen in it
   unseen : (k : NameKey) (w : List ℕ) (es : List (NameKey × ℕ)) → slice_get words k.word ≡ Some w → find table.key_cmp k es ≡ None → list_any (same_key (record { scope = k.scope; word = w })) (map (λ s. s.0) (map as_slot (seen_in es))) ≡ false
   unseen k w [] spelt none = refl
-  unseen k w (e ∷ es) spelt none = by (eq_by_cmp table.key_cmp k e.0) refl none
+  unseen k w (e ∷ es) spelt none = by (eq_by_cmp table.key_cmp k e.0) refl none (unseen k w es spelt)
     where
       other : (v : List ℕ) (b : Bool) → slice_get words e.0.word ≡ Some v → same_key (record { scope = k.scope; word = w }) (record { scope = e.0.scope; word = v }) ≡ b → eq_by_cmp table.key_cmp k e.0 ≡ false → b ≡ false
       other v true read same apart =
@@ -93,9 +93,10 @@ module _ (words : Words) (proper : AreWords words) (trees : ℕ → Term Corner)
       go None read apart rest = rest
       go (Some v) read apart rest = ap (λ b. b || list_any (same_key (record { scope = k.scope; word = w })) (map (λ s. s.0) (map as_slot (seen_in es)))) (other v (same_key (record { scope = k.scope; word = w }) (record { scope = e.0.scope; word = v })) read refl apart) ∙ rest
 
-      by : (b : Bool) → eq_by_cmp table.key_cmp k e.0 ≡ b → cond b (Some e.1) (find table.key_cmp k es) ≡ None → list_any (same_key (record { scope = k.scope; word = w })) (map (λ s. s.0) (map as_slot (seen_in (e ∷ es)))) ≡ false
-      by true same f = absurd (none-some e.1 (sym f))
-      by false apart f = go (slice_get words e.0.word) refl apart (unseen k w es spelt f)
+      by : (b : Bool) → eq_by_cmp table.key_cmp k e.0 ≡ b → cond b (Some e.1) (find table.key_cmp k es) ≡ None
+          → (find table.key_cmp k es ≡ None → list_any (same_key (record { scope = k.scope; word = w })) (map (λ s. s.0) (map as_slot (seen_in es))) ≡ false) → list_any (same_key (record { scope = k.scope; word = w })) (map (λ s. s.0) (map as_slot (seen_in (e ∷ es)))) ≡ false
+      by true same f rest = absurd (none-some e.1 (sym f))
+      by false apart f rest = go (slice_get words e.0.word) refl apart (rest f)
 
   -- the names that are seen stand apart
   seen-apart : (es : List (NameKey × ℕ)) → T (is_sorted table.key_cmp es) → AreApart (map (λ s. s.0) (map as_slot (seen_in es)))

@@ -29,7 +29,8 @@ use Rattle.kept_book.specs.internal.Cells.{with_given}
 use Rattle.book_engine.specs.internal.Pasting.{count_apart, is_among, place_pasted}
 use Rattle.book_engine.proofs.FilledCells.{len-contents}
 
-places : List (Place × Content) → List Place
+-- where entries come to
+abbrev pub places : List (Place × Content) → List Place
 places es = map (λ e. e.0) es
 
 -- a place is filled where an entry comes to it, or it was before
@@ -43,7 +44,7 @@ filled-given (e ∷ es) m q = ap is_some (get-insert place_cmp-IsTotalOrder (wit
 
 -- entries at empty places are as many more as their places
 pub count-given : (es : List (Place × Content)) (m : Contents) → ((q : Place) → is_among (places es) q ≡ true → is_some (fin.get m q) ≡ false) → fin.len (with_given es m) ≡ count_apart (places es) + fin.len m
-count-given [] m empty = refl
+count-given [] m empty = let same : fin.len m ≡ 0 + fin.len m = omega arith in same
 count-given (e ∷ es) m empty =
     len-insert place_cmp-IsTotalOrder (with_given es m) e.0 e.1
     ∙ ap (λ b. cond b (fin.len (with_given es m)) (fin.len (with_given es m) + 1)) (filled-given es m e.0 ∙ ap (λ b. is_among (places es) e.0 || b) (empty e.0 here) ∙ or-false (is_among (places es) e.0))

@@ -1,5 +1,5 @@
 -- What a cell holds by the tree of its formula, and without one. Serves the reads of formulas, contents and links.
-use Rattle.std.proofs.Common.{◌≡◌, ◌∙◌, sym, ap, refl, Option, Some, None, option_map, List, ℕ}
+use Rattle.std.proofs.Common.{◌≡◌, ◌∙◌, sym, ap, refl, false, Option, Some, None, option_map, List, ℕ}
 use Rattle.std.proofs.lemmas.Option.{none-some, same_Some}
 use Rattle.std.specs.FinMap as fin
 use Rattle.cell_addr.specs.declared.place.Place.{Place}
@@ -17,6 +17,7 @@ use Rattle.book_model.specs.Workbook.{State}
 use Rattle.kept_book.proofs.Contents.{get-contents}
 use Rattle.kept_book.specs.Numbered.{Numbered}
 use Rattle.kept_book.specs.Stored.{content_of, contents_of, tree_of}
+use Rattle.book_engine.specs.internal.Links.{holds_formula}
 
 -- a content that has a tree is the formula of it
 pub is-formula : (o : Option Content) (t : Term Corner) → Some t ≡ content_tree o → o ≡ Some (formula t)
@@ -39,5 +40,13 @@ pub read-proper : (d : State) (at : Place) (t : Term Corner) → IsSound d → S
 read-proper d at t sound e = (sound.book.cells at (formula t) (is-formula (fin.get d.book.cells at) t e)).2.0
 
 -- where a content has no tree the cell holds no formula
-pub no-formula : (stands : Numbered) (cells : PlaceMap Cell) (at : Place) (n : ℕ) → content_tree (fin.get (contents_of stands cells) at) ≡ None → fin.get cells at ≡ Some (cell.Formula n) → ⊥
-no-formula stands cells at n none is = none-some (tree_of (stands n)) (sym none ∙ ap content_tree (get-contents stands cells at ∙ ap (option_map (content_of stands)) is))
+pub no-formula : (stands : Numbered) (cells : PlaceMap Cell) (at : Place) → content_tree (fin.get (contents_of stands cells) at) ≡ None → holds_formula (fin.get cells at) ≡ false
+no-formula stands cells at none = by (fin.get cells at) (sym (ap content_tree (get-contents stands cells at)) ∙ none)
+  where
+    by : (r : Option Cell) → content_tree (option_map (content_of stands) r) ≡ None → holds_formula r ≡ false
+    by None e = refl
+    by (Some (cell.Number m)) e = refl
+    by (Some (cell.Truth b)) e = refl
+    by (Some (cell.Text w)) e = refl
+    by (Some (cell.Formula n)) e = absurd (none-some (tree_of (stands n)) (sym e))
+    by (Some (cell.Broken w)) e = refl

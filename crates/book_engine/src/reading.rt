@@ -1,5 +1,5 @@
 // What cells show and hold.
-ghost use Rattle.std.specs.Prelude.{◌≡◌, ◌≢◌, ◌++◌, ◌∷◌, [], None, Some, IfOk, MatchOption, OnOk, map, option_copied, option_map};
+ghost use Rattle.std.specs.Prelude.{◌≡◌, ◌++◌, ◌∷◌, [], None, false, IfOk, MatchOption, OnOk, map, option_copied, option_map};
 ghost use Rattle.std.specs.Option.{unwrap_or};
 ghost use Rattle.grid_store.specs.Grid.{items_of};
 ghost use Rattle.std.specs.FinMap as fin;
@@ -16,11 +16,11 @@ ghost use Rattle.book_model.specs.Answers.{content_text, first_cell, formula_of,
 ghost use Rattle.book_model.specs.Operation as op;
 ghost use Rattle.book_model.specs.Content.{content_shown, formula_shown};
 ghost use Rattle.name_table.specs.Listed.{listed};
-ghost use Rattle.grid_store.specs.declared.cell.Cell.TheVariants as CellSeen;
 ghost use Rattle.kept_book.specs.Frame.{numbered_at};
 ghost use Rattle.kept_book.specs.Kept.{at_of};
 ghost use Rattle.kept_book.specs.Stored.{content_of};
 ghost use Rattle.book_engine.specs.Seen.{Fits, state_of, with_rules};
+ghost use Rattle.book_engine.specs.internal.Links.{holds_formula};
 ghost use Rattle.book_engine.specs.internal.Names.{with_filled, with_slot};
 ghost use Rattle.book_engine.specs.internal.Slots.{AreApart, names_under, slot_of};
 ghost use Rattle.book_engine.specs.internal.Turns.{Turns};
@@ -149,7 +149,7 @@ impl Parts {
 
     // The text of an unreadable formula, in a cell at the place that holds no formula with a tree.
     fn unreadable_in(&self, at: Place, cell: Option<&Cell>) -> Result<Option<Text>, AllocError>
-        requires { (n : _) → option_copied cell ≢ Some (CellSeen.Formula n) }
+        requires { holds_formula (option_copied cell) ≡ false }
         ensures { IfOk result (λ text. text ≡ formula_shown (listed self.now.session.book.names) at.sheet (option_map (content_of (numbered_at (at_of self.now.session.book) self.now.session.book.lazy.line.cursor)) (option_copied cell.entry))) }
     {
         match cell {
@@ -182,7 +182,7 @@ impl Parts {
 
     // The text that gives a cell at the place its content, which is no formula with a tree.
     fn plain_in(&self, at: Place, cell: Option<&Cell>) -> Result<Text, AllocError>
-        requires { (n : _) → option_copied cell ≢ Some (CellSeen.Formula n) }
+        requires { holds_formula (option_copied cell) ≡ false }
         ensures { IfOk result (λ text. text ≡ content_shown (listed self.now.session.book.names) at.sheet (option_map (content_of (numbered_at (at_of self.now.session.book) self.now.session.book.lazy.line.cursor)) (option_copied cell.entry))) }
     {
         let alloc = self.session.book.alloc;
@@ -261,7 +261,7 @@ impl Parts {
 
     // What a cell at the place holds, if it is filled, which is no formula with a tree.
     fn filled_with(&self, at: Place, cell: Option<&Cell>) -> Result<Option<Content>, AllocError>
-        requires { (n : _) → option_copied cell ≢ Some (CellSeen.Formula n) }
+        requires { holds_formula (option_copied cell) ≡ false }
         ensures { IfOk result (λ c. option_map (contents.content_at at) c ≡ option_map (content_of (numbered_at (at_of self.now.session.book) self.now.session.book.lazy.line.cursor)) (option_copied cell.entry)) }
     {
         let alloc = self.session.book.alloc;

@@ -1,5 +1,5 @@
 -- What the steps of finding links answer.
-use Rattle.std.specs.Prelude.{ℕ, Bool, false, if◌then◌else◌, List, [], Option, Some, None}
+use Rattle.std.specs.Prelude.{ℕ, Bool, true, false, if◌then◌else◌, List, [], Option, Some, None}
 use Rattle.cell_addr.specs.Text.{capitals}
 use Rattle.cell_addr.specs.declared.place.Place.{Place}
 use Rattle.book_cells.specs.Workbook.{Content, formula}
@@ -11,6 +11,8 @@ use Rattle.formula_tree.specs.declared.link.Link.TheVariants as links
 use Rattle.formula_tree.specs.declared.mention.Mention.{Mention}
 use Rattle.formula_tree.specs.declared.reference.Corner.{Corner}
 use Rattle.calc_terms.specs.Needs.{mentions}
+use Rattle.grid_store.specs.declared.cell.Cell.{Cell}
+use Rattle.grid_store.specs.declared.cell.Cell.TheVariants as cell
 use Rattle.book_values.specs.Names.{Key}
 use Rattle.book_engine.specs.declared.shown_name.ShownName.{ShownName}
 use Rattle.book_engine.specs.internal.Slots.{Slot}
@@ -40,3 +42,8 @@ shown_link n = links.Name n.scope n.word
 -- the name, if it has a formula that mentions a place
 abbrev pub shown_needing : Place → Slot → Option ShownName
 shown_needing at slot = if passes (λ t. mentions t at) slot.1 then Some (shown_name slot.0) else None
+
+-- the cell holds a formula with a tree
+abbrev pub holds_formula : Option Cell → Bool
+holds_formula (Some (cell.Formula n)) = true
+holds_formula c = false

@@ -20,8 +20,8 @@ of_name : (d : State) (s : Node → Scalar) (o : Option Key) → ((a : Node) →
 of_name d s None h = refl
 of_name d s (Some key) h = h (name key)
 
-pub returns : goal.returns
-returns g c =
+pub returns-clause-turns : goal.returns-clause-turns
+returns-clause-turns g c =
     let d = state_of c.args.self.now in
     let customs = g.C.Customs.customs c.args.customs.now in
     let v = c.in_ok-values.values in (
@@ -30,5 +30,5 @@ returns g c =
           ∙ ap (λ o. unwrap_or (option_map (λ key. calc.shown v (name key)) o) (scalar.Fault fault.Name)) (c.in_ok-values.ensures.found c.args.name.now c.args.sheet)
           ∙ of_name (with_rules customs c.args.day d) (calc.shown v) (found (map.entries d.book.names) c.args.name.now c.args.sheet)
           (λ a. c.in_ok-values.ensures.shown a ∙ ap (λ n. shown (with_rules customs n d) a) (to_z-of_z _ _ c.ranges.day)),
-      sym (next_done (op.name_value c.args.name.now c.args.sheet) (with_rules customs c.args.day d) c.in_ok-check_name_value.ensures),
+      ap (with_rules customs c.args.day) c.in_ok-values.ensures.state ∙ sym (next_done (op.name_value c.args.name.now c.args.sheet) (with_rules customs c.args.day d) c.in_ok-check_name_value.ensures),
     )

@@ -20,6 +20,3 @@ paste-requires-clause-inside c = sound_inside (state_of c.args.self.now) c.requi
 
 pub returns-in_err-paste-clause-fits : goal.returns-in_err-paste-clause-fits
 returns-in_err-paste-clause-fits c = subst IsSound (sym c.in_err-paste.ensures.err) c.requires.fits
-
-pub returns-in_err-paste-clause-turns : goal.returns-in_err-paste-clause-turns
-returns-in_err-paste-clause-turns c = ap (with_clipboard (copied c.args.area (contents_copied c.args.cells.now))) c.in_err-paste.ensures.err

@@ -5,13 +5,14 @@ use Rattle.kept_book.proofs.Contents.{get-contents}
 use Rattle.kept_book.specs.Frame.{numbered_at}
 use Rattle.kept_book.specs.Kept.{at_of}
 use Rattle.kept_book.specs.Stored.{content_of}
+use Rattle.book_engine.specs.internal.Links.{holds_formula}
 use Rattle.book_engine.proofs.ReadContents.{no-formula}
 use Rattle.book_engine.proofs.parts.Parts.plain_content.Goals as goal
 
 pub filled_with-requires : goal.filled_with-requires
-filled_with-requires c = λ n is.
+filled_with-requires c =
     let b = c.args.self.now.session.book in
-    no-formula (numbered_at (at_of b) b.lazy.line.cursor) (cells_of b.grid) c.args.at n c.requires (sym c.cell.ensures ∙ is)
+    ap holds_formula c.cell.ensures ∙ no-formula (numbered_at (at_of b) b.lazy.line.cursor) (cells_of b.grid) c.args.at c.requires
 
 pub returns : goal.returns
 returns c =

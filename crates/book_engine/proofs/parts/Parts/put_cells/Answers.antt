@@ -12,7 +12,7 @@ pub loop-at-init : goal.loop-at-init
 loop-at-init c =
     let b = c.args.self.now.session.book in
     record {
-      filled = filled_first (numbered_at (at_of b) b.lazy.line.cursor) (cells_of b.grid) (items_of c.in_ok-cells.cells) (workbook_of c.args.workbook.now).cells c.in_ok-cells.ensures c.requires;
+      filled = filled_first (numbered_at (at_of b) b.lazy.line.cursor) (cells_of b.grid) (items_of c.in_ok-cells.cells) (workbook_of c.args.workbook.now).cells c.in_ok-cells.ensures c.requires.empty;
       names = refl;
       state = refl;
     }

@@ -20,9 +20,9 @@ accepted c =
     let t = timeline_of s.book in
     let f = frame_of s.book in
     let d = state_of c.args.self.now in
-    let open : is_some d.batch ≡ false = sym (is_some-map (batch_of t f) s.batch) ∙ sym c.is_some.ensures ∙ c.if-is_some.false in
+    let shut : is_some d.batch ≡ false = sym (is_some-map (batch_of t f) s.batch) ∙ sym c.is_some.ensures ∙ c.if-is_some.false in
     let some : (length d.undo == 0) ≡ false = ap (λ k. k == 0) (steps_past t (start_of t s.batch f) s.steps.done ∙ sym (ap length c.done.ensures.result) ∙ sym c.done.result.now.ok.0) ∙ sym c.is_empty.ensures ∙ c.if-is_empty.false in
-    ap (λ x. cond x (Some BatchOpen) (cond (length d.undo == 0) (Some NothingToUndo) None)) open ∙ ap (λ x. cond x (Some NothingToUndo) None) some
+    ap (λ x. cond x (Some BatchOpen) (cond (length d.undo == 0) (Some NothingToUndo) None)) shut ∙ ap (λ x. cond x (Some NothingToUndo) None) some
 
 pub returns-clause-turns : goal.returns-clause-turns
 returns-clause-turns c = (accepted c, tt, c.in_ok-undo.ensures.ok ∙ sym (next_done op.undo (state_of c.args.self.now) (accepted c)))

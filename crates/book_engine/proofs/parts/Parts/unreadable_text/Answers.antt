@@ -6,13 +6,14 @@ use Rattle.kept_book.proofs.Contents.{get-contents}
 use Rattle.kept_book.specs.Frame.{numbered_at}
 use Rattle.kept_book.specs.Kept.{at_of}
 use Rattle.kept_book.specs.Stored.{content_of}
+use Rattle.book_engine.specs.internal.Links.{holds_formula}
 use Rattle.book_engine.proofs.ReadContents.{no-formula}
 use Rattle.book_engine.proofs.parts.Parts.unreadable_text.Goals as goal
 
 pub unreadable_in-requires : goal.unreadable_in-requires
-unreadable_in-requires c = λ n is.
+unreadable_in-requires c =
     let b = c.args.self.now.session.book in
-    no-formula (numbered_at (at_of b) b.lazy.line.cursor) (cells_of b.grid) c.args.at n c.requires (sym c.cell.ensures ∙ is)
+    ap holds_formula c.cell.ensures ∙ no-formula (numbered_at (at_of b) b.lazy.line.cursor) (cells_of b.grid) c.args.at c.requires
 
 pub returns : goal.returns
 returns c =

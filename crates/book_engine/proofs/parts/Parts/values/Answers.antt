@@ -12,7 +12,7 @@ use Rattle.book_engine.proofs.parts.Parts.values.Goals as goal
 
 pub returns-clause-shown : goal.returns-clause-shown
 returns-clause-shown g c = λ a.
-    c.in_ok-values.ensures.shown a ∙ ap (λ n. value_of (workbook_of c.in_ok-workbook.workbook) (g.C.Customs.customs c.args.customs.now) n a) (to_z-of_z _ _ c.ranges.day) ∙ (values_alike (workbook_of c.in_ok-workbook.workbook) (valued (state_of c.args.self.now).book) c.in_ok-workbook.ensures).0 (g.C.Customs.customs c.args.customs.now) c.args.day a
+    c.in_ok-values.ensures.shown a ∙ ap (λ n. value_of (workbook_of c.in_ok-workbook.workbook) (g.C.Customs.customs c.args.customs.now) n a) (to_z-of_z _ _ c.ranges.day) ∙ (values_alike (workbook_of c.in_ok-workbook.workbook) (valued (state_of c.args.self.now).book) c.in_ok-workbook.ensures.alike).0 (g.C.Customs.customs c.args.customs.now) c.args.day a
 
 pub returns-clause-world : goal.returns-clause-world
 returns-clause-world g c =
@@ -27,4 +27,4 @@ returns-clause-world g c =
 pub returns-clause-found : goal.returns-clause-found
 returns-clause-found g c = λ word sheet.
     ap (λ b. found b.names word sheet) c.in_ok-values.ensures.book
-    ∙ found_same (workbook_of c.in_ok-workbook.workbook) (valued (state_of c.args.self.now).book) c.in_ok-workbook.ensures word sheet
+    ∙ found_same (workbook_of c.in_ok-workbook.workbook) (valued (state_of c.args.self.now).book) c.in_ok-workbook.ensures.alike word sheet
