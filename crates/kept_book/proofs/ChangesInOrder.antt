@@ -153,9 +153,14 @@ pub first-position : (line : Line) (ps : List Part) (p : Part) (f : Frame) → s
 first-position line [] p f e = absurd (none-some p e)
 first-position line (q ∷ ps) p f e = sym (ap (λ x. x.from) (same_Some q p e))
 
+last-at : (line : Line) (ps : List Part) (p : Part) (f : Frame) (n : ℕ) → suc n ≡ length ps → slice_get ps n ≡ Some p → p.to ≡ (forth_all line (changes_of ps) f).position
+last-at line [] p f n l e = absurd (none-some p e)
+last-at line (q ∷ []) p f zero l e = sym (ap (λ x. x.to) (same_Some q p e))
+last-at line (q ∷ []) p f (suc n) l e = absurd (none-some p e)
+last-at line (q ∷ r ∷ ps) p f zero l e = absurd (omega (arith, l))
+last-at line (q ∷ r ∷ ps) p f (suc n) l e = last-at line (r ∷ ps) p (forth line (change_of q) f) n (omega (arith, l)) e
+
 -- and that behind them the one of the last
 pub last-position : (line : Line) (ps : List Part) (p : Part) (f : Frame) → slice_get ps (length ps - 1) ≡ Some p → p.to ≡ (forth_all line (changes_of ps) f).position
 last-position line [] p f e = absurd (none-some p e)
-last-position line (q ∷ []) p f e = sym (ap (λ x. x.to) (same_Some q p e))
-last-position line (q ∷ r ∷ ps) p f e =
-    last-position line (r ∷ ps) p (forth line (change_of q) f) e
+last-position line (q ∷ ps) p f e = last-at line (q ∷ ps) p f (length (q ∷ ps) - 1) (omega arith) e

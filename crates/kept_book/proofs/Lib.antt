@@ -18,3 +18,4 @@ pub mod NamesPut
 pub mod Looked
 pub mod ShiftedBooks
 pub mod WrittenBooks
+pub mod NamedBooks

@@ -1,11 +1,11 @@
 -- Cells that are set, and blocks that are emptied: what is replaced, and the contents then. Serves the calls that set and clear
 -- cells.
-use Rattle.std.proofs.Common.{◌≡◌, ◌∙◌, sym, ap, subst, refl, arith, ℕ, ◌||◌, Bool, true, false, cond, not, List, [], ◌∷◌, map, Option, Some, None, option_map, is_some, IsSome}
-use Rattle.std.proofs.lemmas.Bool.{both_ways}
+use Rattle.std.proofs.Common.{◌≡◌, ◌∙◌, sym, ap, subst, refl, arith, ℕ, ◌-◌, ◌==◌, ◌||◌, Bool, true, false, cond, not, List, [], ◌∷◌, map, Option, Some, None, option_map, is_some, IsSome}
+use Rattle.std.proofs.lemmas.Bool.Decides.{nat_tests}
 use Rattle.std.proofs.lemmas.List.Elements.{All-cons, All-head, All-tail}
 use Rattle.std.proofs.lemmas.Option.{none-some}
 use Rattle.std.specs.FinMap as fin
-use Rattle.std.specs.FinMap.{find, get-insert, get-remove, get-retain_keys}
+use Rattle.std.specs.FinMap.{find, get-insert, get-remove, get-retain_keys, same_map}
 use Rattle.std.specs.FinMap.Entries.{is_some-find}
 use Rattle.std.specs.List.{All, cons_option}
 use Rattle.std.specs.Ordering.{eq_by_cmp}
@@ -14,6 +14,7 @@ use Rattle.cell_addr.specs.Order.{place_cmp}
 use Rattle.cell_addr.specs.Place.{IsInside, covers}
 use Rattle.cell_addr.specs.declared.place.Block.{Block}
 use Rattle.cell_addr.specs.declared.place.Place.{Place}
+use Rattle.cell_addr.specs.declared.place.TheConstants.{COLS, ROWS}
 use Rattle.book_cells.specs.Workbook.{Book as Contents, Content}
 use Rattle.clip_board.specs.declared.clip.CopyItem.{CopyItem}
 use Rattle.grid_store.proofs.Exchanges.{get-without_places}
@@ -21,7 +22,7 @@ use Rattle.grid_store.specs.Grid.{within, without_places}
 use Rattle.grid_store.specs.declared.cell.Cell.{Cell}
 use Rattle.grid_store.specs.internal.Exchange.{is_among}
 use Rattle.shift_core.proofs.CarriedEntries.{eq_by_cmp-decides}
-use Rattle.shift_core.specs.Maps.{PlaceMap}
+use Rattle.shift_core.specs.Maps.{AreInside, PlaceMap}
 use Rattle.book_model.specs.Changes.{placed}
 use Rattle.kept_book.specs.Change.{places_of}
 use Rattle.kept_book.specs.Numbered.{Numbered}
@@ -129,3 +130,52 @@ block-emptied one m area = same_contents _ _ (λ q.
     go q true None e = e
     go q true (Some c) e = refl
     go q false r e = refl
+
+-- all places of a sheet
+abbrev pub whole : ℕ → Block
+whole sheet = record { sheet = sheet; top = 0; left = 0; bottom = ROWS - 1; right = COLS - 1 }
+
+covers-same : (sheet : ℕ) (p : Place) → IsInside p → covers (whole sheet) p ≡ (p.sheet == sheet)
+covers-same sheet p i = grind (arith, nat_tests)
+
+module _ {X : Type 0} (m : PlaceMap X) (sheet : ℕ) (inside : AreInside m) where
+  none-either : (b c : Bool) → cond {A = Option X} b None None ≡ cond c None None
+  none-either true true = refl
+  none-either true false = refl
+  none-either false true = refl
+  none-either false false = refl
+
+  -- the cells of a sheet are those of all its places
+  pub sheet-kept : fin.retain_keys m (covers (whole sheet)) ≡ fin.retain_keys m (λ p. p.sheet == sheet)
+  sheet-kept = same_map place_cmp-IsTotalOrder place_cmp-IsAntisymmetric _ _ (λ q.
+      get-retain_keys m (covers (whole sheet)) q (λ x t. ap (covers (whole sheet)) (sym (place_cmp-IsAntisymmetric q x t)))
+      ∙ go q (fin.get m q) refl
+      ∙ sym (get-retain_keys m (λ p. p.sheet == sheet) q (λ x t. ap (λ r. r.sheet == sheet) (sym (place_cmp-IsAntisymmetric q x t)))))
+    where
+      go : (q : Place) (r : Option X) → fin.get m q ≡ r → cond (covers (whole sheet) q) r None ≡ cond (q.sheet == sheet) r None
+      go q None e = none-either (covers (whole sheet) q) (q.sheet == sheet)
+      go q (Some x) e = ap (λ b. cond b (Some x) None) (covers-same sheet q (inside q (ap is_some e)))
+
+  -- to empty them is to empty the sheet
+  pub sheet-emptied : fin.retain_keys m (λ p. not (covers (whole sheet) p)) ≡ fin.retain_keys m (λ p. not (p.sheet == sheet))
+  sheet-emptied = same_map place_cmp-IsTotalOrder place_cmp-IsAntisymmetric _ _ (λ q.
+      get-retain_keys m (λ p. not (covers (whole sheet) p)) q (λ x t. ap (λ r. not (covers (whole sheet) r)) (sym (place_cmp-IsAntisymmetric q x t)))
+      ∙ go q (fin.get m q) refl
+      ∙ sym (get-retain_keys m (λ p. not (p.sheet == sheet)) q (λ x t. ap (λ r. not (r.sheet == sheet)) (sym (place_cmp-IsAntisymmetric q x t)))))
+    where
+      go : (q : Place) (r : Option X) → fin.get m q ≡ r → cond (not (covers (whole sheet) q)) r None ≡ cond (not (q.sheet == sheet)) r None
+      go q None e = none-either (not (covers (whole sheet) q)) (not (q.sheet == sheet))
+      go q (Some x) e = ap (λ b. cond (not b) (Some x) None) (covers-same sheet q (inside q (ap is_some e)))
+
+-- what holds of the places of what is given holds of those of what is written
+pub places-all : (P : Place → Type 0) (es : List (Place × Cell)) (items : List (Place × CopyItem)) → places_of es ≡ map (λ e. e.0) items → All (λ e. P e.0) items → All (λ e. P e.0) es
+places-all P [] items same all = λ k d l. absurd (omega arith)
+places-all P (e ∷ es) [] same all = cc
+places-all P (e ∷ es) (x ∷ items) same all =
+    let head : e.0 ≡ x.0 = cc in
+    let tail : places_of es ≡ map (λ e. e.0) items = cc in
+    All-cons (λ e. P e.0) e es (subst P (sym head) (All-head (λ e. P e.0) x items all)) (places-all P es items tail (All-tail (λ e. P e.0) x items all))
+
+pub no-places : (es : List (Place × Cell)) → places_of es ≡ [] → es ≡ []
+no-places [] same = refl
+no-places (e ∷ es) same = cc

@@ -44,7 +44,8 @@ impl Book {
         let content = read_content(self.alloc, text)?;
         let given = given(self.alloc, pool, &self.names, at, content)?;
         let replaced = replaced_at(self.alloc, &self.grid, at)?;
-        self.write(replaced, given)
+        let part = self.write(replaced, given)?;
+        Ok(part)
     }
 
     /// Empties the cells of a block, and answers what that changed. Every formula is kept as it was. For want of memory the
@@ -61,7 +62,8 @@ impl Book {
         ensures kept { KeepsBelow self.old.next_id self.old.lazy self.new.lazy }
     {
         let replaced = self.grid.listed(area)?;
-        self.write(replaced, Vec::new(self.alloc))
+        let part = self.write(replaced, Vec::new(self.alloc))?;
+        Ok(part)
     }
 
     /// Empties the cells of a sheet, and answers what that changed, likewise.
@@ -76,13 +78,14 @@ impl Book {
         ensures line { self.new.lazy.line ≡ with_spare self.new.lazy.line.spare self.old.lazy.line }
         ensures kept { KeepsBelow self.old.next_id self.old.lazy self.new.lazy }
     {
-        self.clear(Block {
+        let part = self.clear(Block {
             sheet,
             top: 0,
             left: 0,
             bottom: ROWS - 1,
             right: COLS - 1,
-        })
+        })?;
+        Ok(part)
     }
 }
 

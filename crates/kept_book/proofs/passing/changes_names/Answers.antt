@@ -8,7 +8,8 @@ use Rattle.kept_book.proofs.passing.changes_names.Goals as goal
 pub loop-part-preserved : goal.loop-part-preserved
 loop-part-preserved c =
     let here = parts-at c.args.parts.now c.loop-part.part-index c.part-item.result (omega arith) c.part-item.is in
-    λ rest. c.loop-part.invariant (subst ChangesNoNames (sym here) (c.is_plain.ensures (search rules), rest))
+    let plain = c.is_plain.ensures (search rules) in
+    λ rest. c.loop-part.invariant (subst ChangesNoNames (sym here) (plain.0, plain.1, rest))
 
 pub returns : goal.returns
 returns c = λ e. c.loop-part.invariant (subst (λ ps. ChangesNoNames (changes_of ps)) (sym (drop_all c.loop-part.part-index c.args.parts.now (omega arith))) tt)

@@ -1,11 +1,12 @@
-use Rattle.std.proofs.Common.{◌∷◌, subst, arith}
-use Rattle.std.proofs.lemmas.List.Elements.{All-head}
-use Rattle.kept_book.specs.internal.Writing.{CanStand}
-use Rattle.kept_book.proofs.Inserted.{Inserting, inserting-first, inserting-last, inserting-next, none-is}
+use Rattle.std.proofs.Common.{◌≡◌, ◌∷◌, sym, subst, rules}
+use Rattle.kept_book.proofs.Inserted.{Inserting, inserting-first, inserting-next}
 use Rattle.kept_book.proofs.writing.insert_all.Goals as goal
 
 pub loop-at-init : goal.loop-at-init
-loop-at-init c = ?
+loop-at-init c =
+    let same : c.into_iter-at-iterator.result.rest.items ≡ c.args.trees.items = search rules in
+    subst (Inserting c.args.first c.args.trees.items c.args.lazy.now c.args.lazy.now c.args.first) (sym same)
+    (inserting-first c.args.first c.args.trees.items c.args.lazy.now c.requires.below c.requires.stand c.requires.room)
 
 pub loop-at-preserved : goal.loop-at-preserved
 loop-at-preserved c =

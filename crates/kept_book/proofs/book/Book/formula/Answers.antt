@@ -22,7 +22,10 @@ read-requires-clause-there c =
     some-not (at_in lazy c.in-Some.id lazy.line.cursor) s.0 s.1
 
 pub returns-in_ok-read-in-Some-clause-tree : goal.returns-in_ok-read-in-Some-clause-tree
-returns-in_ok-read-in-Some-clause-tree c = ?
+returns-in_ok-read-in-Some-clause-tree c =
+    let lazy = c.args.self.now.lazy in
+    let here = id-cell (fin.get (cells_of c.args.self.now.grid) c.args.at) c.in-Some.id (sym c.in-Some.ensures) in
+    formula-read (at_in lazy) lazy.line.cursor (cells_of c.args.self.now.grid) c.requires.stand.cells c.args.at c.in-Some.id here c.in_ok-read-in-Some.field-0 c.in_ok-read-in-Some.ensures.tree
 
 pub returns-in-None-clause-tree : goal.returns-in-None-clause-tree
 returns-in-None-clause-tree c =
