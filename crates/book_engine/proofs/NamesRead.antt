@@ -1,7 +1,9 @@
 -- The names of a table, read one after the other with their words and trees. Serves the values of a workbook and its links.
-use Rattle.std.proofs.Common.{◌≡◌, ◌∙◌, sym, ap, subst, refl, arith, ℕ, zero, suc, ◌<◌, ◌&&◌, ◌||◌, Bool, true, false, true≢false, cond, List, [], ◌∷◌, length, get_or, map, Option, Some, None, is_some, option_map}
+use Rattle.std.proofs.Common.{◌≡◌, ◌∙◌, sym, ap, subst, refl, arith, ℕ, zero, suc, ◌<◌, ◌+◌, ◌&&◌, ◌||◌, Bool, true, false, true≢false, cond, List, [], ◌∷◌, ◌++◌, length, get_or, map, take, Option, Some, None, is_some, IsSome, option_map}
 use Rattle.std.proofs.lemmas.Slice.Eq.{bytes_eq-Decides}
 use Rattle.std.proofs.lemmas.Option.{none-some, same_Some}
+use Rattle.std.proofs.lemmas.List.{map-append, take_more}
+use Rattle.std.proofs.lemmas.List.Elements.{filter_map-append}
 use Rattle.std.specs.FinMap as fin
 use Rattle.std.specs.FinMap.{find, entries_sorted, get-entries, is_sorted}
 use Rattle.std.specs.FinMap.Entries.{below_all}
@@ -15,6 +17,7 @@ use Rattle.formula_tree.specs.declared.reference.Corner.{Corner}
 use Rattle.cell_addr.specs.Text.{folded}
 use Rattle.name_table.proofs.KeyOrder as order
 use Rattle.name_table.proofs.WordNumbers.{folded-folded, number-folded, number-spelled, spelled-number}
+use Rattle.name_table.specs.Named.{names_of, words_of}
 use Rattle.name_table.specs.Scopes as table
 use Rattle.name_table.specs.Words.{AreWords, number_in}
 use Rattle.name_table.specs.declared.key.NameKey.{NameKey}
@@ -23,10 +26,11 @@ use Rattle.book_values.proofs.Keys.{same_key-equal}
 use Rattle.book_values.specs.Names.{Key, key_of, same_key}
 use Rattle.book_model.specs.Names.{NameMap}
 use Rattle.kept_book.proofs.NamesSeen.{get-seen, number_of, same_id_key, spelled-has}
-use Rattle.kept_book.specs.Frame.{Words, name_seen, names_seen}
-use Rattle.kept_book.specs.Kept.{SameBook}
+use Rattle.kept_book.specs.Frame.{Frame, Words, name_seen, named_at, names_seen, tree_named}
+use Rattle.kept_book.specs.Kept.{IsStanding, SameBook, at_of}
 use Rattle.kept_book.specs.declared.book.Book.{Book}
-use Rattle.book_engine.specs.internal.Slots.{AreApart, Slot, names_under, seen_slot}
+use Rattle.book_engine.specs.declared.named.Named.{Named}
+use Rattle.book_engine.specs.internal.Slots.{AreApart, Slot, names_under, seen_slot, slot_of}
 
 -- a book that is the same as one that is the same
 pub same-book : (a b c : Book) → SameBook a b → SameBook b c → SameBook a c
@@ -146,3 +150,53 @@ get-read words proper trees names scope text =
 pub is_some-read : {X Y : Type 0} (f : X → Y) (o : Option X) → is_some (option_map f o) ≡ is_some o
 is_some-read f None = refl
 is_some-read f (Some x) = refl
+
+-- what there is of a number, where there is something
+pub some-id : (o : Option ℕ) → IsSome o → (id : ℕ) × (o ≡ Some id)
+some-id None h = cc
+some-id (Some id) h = (id, refl)
+
+-- a known word has its text
+pub unspelt : (words : Words) (n : ℕ) → n < length words → slice_get words n ≡ None → ⊥
+unspelt [] n l e = omega (arith, l)
+unspelt (w ∷ words) zero l e = none-some w (sym e)
+unspelt (w ∷ words) (suc n) l e = unspelt words n (omega (arith, l)) e
+
+spelled : (words : Words) (n : ℕ) → n < length words → (w : List ℕ) × (slice_get words n ≡ Some w)
+spelled [] n l = absurd (omega (arith, l))
+spelled (w ∷ words) zero l = (w, refl)
+spelled (w ∷ words) (suc n) l = spelled words n (omega (arith, l))
+
+-- which one stands in for an entry that isn't there doesn't count where it is
+pub in-list : (es : List (NameKey × ℕ)) (i : ℕ) (d e : NameKey × ℕ) → i < length es → get_or es i d ≡ get_or es i e
+in-list [] i d e l = absurd (omega (arith, l))
+in-list (x ∷ es) zero d e l = refl
+in-list (x ∷ es) (suc i) d e l = in-list es i d e (omega (arith, l))
+
+-- the names of a book, read up to an index, in a book that is the same
+module _ (b now next : Book) (stand : IsStanding b) (same : SameBook b now) (i : ℕ) (e : NameKey × ℕ) (inside : i < length (fin.entries (names_of b.names))) (is : e ≡ get_or (fin.entries (names_of b.names)) i e) where
+  pub here : fin.get (names_of now.names) e.0 ≡ Some e.1
+  here = ap (λ (f : Frame). fin.get f.names e.0) same.frame ∙ get-index (names_of b.names) i e inside is
+
+  -- one name more
+  pub one-more : (old new : List Named) (n : Named) → new ≡ old ++ n ∷ []
+      → map slot_of old ≡ map as_slot (seen_in (words_of b.names) b.names.words.proper (named_at (at_of b) b.lazy.line.cursor) (take i (fin.entries (names_of b.names))))
+      → ((id : ℕ) (word : List ℕ) → fin.get (names_of now.names) e.0 ≡ Some id → slice_get (words_of now.names) e.0.word ≡ Some word → slot_of n ≡ seen_slot e.0 word (named_at (at_of now) now.lazy.line.cursor id))
+      → map slot_of new ≡ map as_slot (seen_in (words_of b.names) b.names.words.proper (named_at (at_of b) b.lazy.line.cursor) (take (i + 1) (fin.entries (names_of b.names))))
+  one-more old new n push read reads =
+      let words = words_of b.names in
+      let trees = named_at (at_of b) b.lazy.line.cursor in
+      let es = fin.entries (names_of b.names) in
+      let known = (stand.names e.0 e.1 (get-index (names_of b.names) i e inside is)).known in
+      let w = spelled words e.0.word known in
+      let seen : name_seen words trees e ≡ Some (record { scope = e.0.scope; word = w.0 }, trees e.1) = ap (option_map (λ v. (record { scope = e.0.scope; word = v }, trees e.1))) w.1 in
+      let position : now.lazy.line.cursor ≡ b.lazy.line.cursor = ap (λ (f : Frame). f.position) same.frame in
+      let tree : named_at (at_of now) now.lazy.line.cursor e.1 ≡ trees e.1 = ap tree_named (same.standings e.1 now.lazy.line.cursor ∙ ap (at_of b e.1) position) in
+      let slot : slot_of n ≡ as_slot (record { scope = e.0.scope; word = w.0 }, trees e.1) = reads e.1 w.0 here (same.known e.0.word w.0 w.1) ∙ ap (seen_slot e.0 w.0) tree in
+      let more : take (i + 1) es ≡ take i es ++ e ∷ [] = take_more es i e inside ∙ ap (λ x. take i es ++ x ∷ []) (sym is) in
+      let front = filter_map (name_seen words trees) (take i es) in
+      ap (map slot_of) push ∙ map-append slot_of old (n ∷ [])
+      ∙ (λ j. read j ++ slot j ∷ [])
+      ∙ sym (map-append as_slot front ((record { scope = e.0.scope; word = w.0 }, trees e.1) ∷ []))
+      ∙ ap (λ r. map as_slot (front ++ cons_option r [])) (sym seen)
+      ∙ sym (ap (λ l. map as_slot (filter_map (name_seen words trees) l)) more ∙ ap (map as_slot) (filter_map-append (name_seen words trees) (take i es) (e ∷ [])))

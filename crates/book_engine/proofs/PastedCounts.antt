@@ -1,5 +1,5 @@
 -- How many cells are filled after copied cells were pasted. Serves the limit on filled cells at a paste.
-use Rattle.std.proofs.Common.{◌≡◌, ◌∙◌, sym, ap, subst, refl, arith, ℕ, ◌+◌, ◌-◌, Bool, true, false, true≢false, ◌||◌, cond, not, List, [], ◌∷◌, length, filter, map, Option, Some, None, is_some, option_map}
+use Rattle.std.proofs.Common.{◌≡◌, ◌∙◌, sym, ap, subst, refl, arith, ℕ, ◌+◌, ◌-◌, ◌≤◌, Bool, true, false, true≢false, ◌||◌, cond, not, List, [], ◌∷◌, length, filter, map, Option, Some, None, is_some, option_map}
 use Rattle.std.specs.Cmp.{eq_by_cmp_equiv}
 use Rattle.std.specs.FinMap as fin
 use Rattle.std.specs.FinMap.{get-insert, len-entries, len-insert, same_map}
@@ -141,3 +141,10 @@ len-kept stands cells p = ap fin.len (sym same) ∙ len-contents stands (fin.ret
     same = same_map place_cmp-IsTotalOrder place_cmp-IsAntisymmetric _ _ (λ q.
         get-contents stands (fin.retain_keys cells p) q ∙ ap (option_map (content_of stands)) (get-kept cells p q) ∙ mapped-kept (content_of stands) (p q) (fin.get cells q)
         ∙ sym (get-kept (contents_of stands cells) p q ∙ ap (λ r. cond (p q) r None) (get-contents stands cells q)))
+
+-- a block has no more cells than there are
+pub listed-few : (cells : PlaceMap Cell) (p : Place → Bool) → length (fin.entries (fin.retain_keys cells p)) ≤ fin.len cells
+listed-few cells p =
+    let rest = len-parts cells p in
+    let listed = len-entries (fin.retain_keys cells p) in
+    omega (arith, rest, listed)

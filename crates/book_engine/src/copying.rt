@@ -1,5 +1,5 @@
 // Cells that are copied, and pasted as a step.
-ghost use Rattle.std.specs.Prelude.{◌≡◌, ◌∷◌, [], IfOk, List, OnOk, not};
+ghost use Rattle.std.specs.Prelude.{◌≡◌, ◌≤◌, ◌∷◌, [], IfOk, List, OnOk, not};
 ghost use Rattle.std.specs.BTreeSet.{btree_set_len, contains};
 ghost use Rattle.std.specs.FinMap as map;
 ghost use Rattle.std.specs.List.{All, cons_option, filter_map};
@@ -12,6 +12,7 @@ ghost use Rattle.book_model.specs.Clipboard as clipboard;
 ghost use Rattle.book_model.specs.Operation as op;
 ghost use Rattle.book_model.specs.Refusals.{first_cause, is_block_outside};
 ghost use Rattle.book_model.specs.Workbook.{has_sheet};
+ghost use Rattle.book_model.specs.declared.limits.TheConstants.{MAX_CELLS};
 ghost use Rattle.book_model.specs.declared.refusal.Refusal.TheVariants as refusals;
 ghost use Rattle.kept_book.specs.Copied.{IsCopied, contents_copied};
 ghost use Rattle.book_engine.specs.Engine.{NoAnswer};
@@ -87,7 +88,9 @@ impl Parts {
         cells: &[(Place, CopyItem)],
         at: Place,
     ) -> Result<u64, AllocError>
+        requires block { IsBlockInside area }
         requires there { IsBlockInside (carrying.destination area at) }
+        requires few { map.len (state_of self.now).book.cells ≤ MAX_CELLS }
         ensures { IfOk result (λ count. count ≡ map.len (with_copy area (contents_copied cells.now) at (state_of self.now).book).cells) }
     {
         let book = &self.session.book;

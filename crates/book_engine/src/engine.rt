@@ -290,7 +290,8 @@ impl<C: Customs> Engine<C> {
 
     /// Pastes what waits, its first cell at a place. After a copy each cell of the block there holds what the copied one
     /// held, or nothing, and formulas are as far from what they name as before; after a cut the block is moved, and nothing
-    /// waits then. Costs about the whole workbook.
+    /// waits then. Costs the copied cells and the filled ones of the block there, each with the logarithm of the number of filled
+    /// cells.
     ///
     /// # Errors
     /// `NothingToPaste`; then after a copy `NoSheet`, `Outside` where the block there isn't within the limits of a sheet,
@@ -342,8 +343,9 @@ impl<C: Customs> Engine<C> {
         self.parts.resume();
     }
 
-    /// Goes back to the whole workbook from before the last step. Costs about the workbook's cells and what the step
-    /// changed.
+    /// Goes back to the whole workbook from before the last step. No formula is touched. Costs the cells, names and sheets that
+    /// the step changed and the lines that its operations edited; a step that changed names or sheets copies their table once,
+    /// and one of several operations the cells.
     ///
     /// # Errors
     /// `BatchOpen`, `NothingToUndo`.

@@ -5,6 +5,7 @@ use Rattle.book_model.specs.declared.refusal.Refusal.TheVariants.{BatchOpen, Not
 use Rattle.kept_book.specs.Kept.{frame_of}
 use Rattle.kept_steps.specs.Fits.{batch_of, start_of}
 use Rattle.kept_steps.specs.Timeline.{timeline_of}
+use Rattle.book_model.specs.Workbook.{State}
 use Rattle.book_engine.specs.Seen.{state_of}
 use Rattle.book_engine.proofs.Counted.{none_open, steps_ahead}
 use Rattle.book_engine.proofs.NamedSlots.{is_some-map}
@@ -14,18 +15,27 @@ use Rattle.book_engine.proofs.parts.Parts.redo.Goals as goal
 pub redo-requires : goal.redo-requires
 redo-requires c = record { closed = none_open c.args.self.now.session.batch (sym c.is_some.ensures ∙ c.if-is_some.false) }
 
-accepted : (c : goal.After-redo) → cause op.redo (state_of c.args.self.now) ≡ None
-accepted c =
+-- where no batch is open and there is a step, it is accepted
+accepted : (d : State) → is_some d.batch ≡ false → (length d.redo == 0) ≡ false → cause op.redo d ≡ None
+accepted d shut some = ap (λ x. cond x (Some BatchOpen) (cond (length d.redo == 0) (Some NothingToRedo) None)) shut ∙ ap (λ x. cond x (Some NothingToRedo) None) some
+
+pub returns-clause-turns : goal.returns-clause-turns
+returns-clause-turns c =
     let s = c.args.self.now.session in
     let t = timeline_of s.book in
     let f = frame_of s.book in
     let d = state_of c.args.self.now in
     let shut : is_some d.batch ≡ false = sym (is_some-map (batch_of t f) s.batch) ∙ sym c.is_some.ensures ∙ c.if-is_some.false in
     let some : (length d.redo == 0) ≡ false = ap (λ k. k == 0) (steps_ahead t f s.steps.undone ∙ sym (ap length c.undone.ensures.result)) ∙ sym c.is_empty.ensures ∙ c.if-is_empty.false in
-    ap (λ x. cond x (Some BatchOpen) (cond (length d.redo == 0) (Some NothingToRedo) None)) shut ∙ ap (λ x. cond x (Some NothingToRedo) None) some
-
-pub returns-clause-turns : goal.returns-clause-turns
-returns-clause-turns c = (accepted c, tt, c.in_ok-redo.ensures.ok ∙ sym (next_done op.redo (state_of c.args.self.now) (accepted c)))
+    let none = accepted d shut some in
+    (none, tt, c.in_ok-redo.ensures.ok ∙ sym (next_done op.redo d none))
 
 pub returns-clause-fits : goal.returns-clause-fits
-returns-clause-fits c = done_sound op.redo (state_of c.args.self.now) _ (accepted c) c.in_ok-redo.ensures.ok c.requires
+returns-clause-fits c =
+    let s = c.args.self.now.session in
+    let t = timeline_of s.book in
+    let f = frame_of s.book in
+    let d = state_of c.args.self.now in
+    let shut : is_some d.batch ≡ false = sym (is_some-map (batch_of t f) s.batch) ∙ sym c.is_some.ensures ∙ c.if-is_some.false in
+    let some : (length d.redo == 0) ≡ false = ap (λ k. k == 0) (steps_ahead t f s.steps.undone ∙ sym (ap length c.undone.ensures.result)) ∙ sym c.is_empty.ensures ∙ c.if-is_empty.false in
+    done_sound op.redo d _ (accepted d shut some) c.in_ok-redo.ensures.ok c.requires

@@ -18,7 +18,7 @@ pub returns-clause-world : goal.returns-clause-world
 returns-clause-world g c =
     let v = c.in_ok-values.values in
     let b = (state_of c.args.self.now).book in
-    let alike = values_alike (workbook_of c.in_ok-workbook.workbook) (valued b) c.in_ok-workbook.ensures in
+    let alike = values_alike (workbook_of c.in_ok-workbook.workbook) (valued b) c.in_ok-workbook.ensures.alike in
     let day = to_z-of_z _ _ c.ranges.day in
     (λ i. world_of (c.in_ok-values.ensures.book i).names ((c.in_ok-values.ensures.day ∙ day) i) (shown v))
     ∙ alike.1 c.args.day (shown v)
