@@ -1,4 +1,5 @@
 pub mod Seen
 pub mod Engine
+pub mod Kept
 pub mod Calls
 pub mod internal

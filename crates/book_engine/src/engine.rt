@@ -2,6 +2,7 @@
 ghost use Rattle.std.specs.Prelude.{◌≡◌, ◌≤◌, All, IfOk, length, option_map};
 ghost use Rattle.cell_addr.specs.Sheets.{id_in, name_in};
 ghost use Rattle.shift_core.specs.declared.shift.Shift.TheVariants as shifts;
+ghost use Rattle.formula_tree.specs.Relative.{relative};
 ghost use Rattle.book_model.specs.Answers.{content_text, dependents_of, formula_of, name_value_of, precedents_of, tried_value, value_of};
 ghost use Rattle.book_model.specs.Given.{CanBegin, given_sheets, session_given};
 ghost use Rattle.book_model.specs.Operation as op;
@@ -22,7 +23,9 @@ use cell_value::Scalar;
 use clip_board::Clip;
 use formula_tree::Link;
 use kept_steps::Entry;
+use lazy_store::Stored;
 use shift_core::Shift;
+use shift_line::Line;
 use std::alloc::{AllocError, Global};
 use std::sync::ledger::Ledger;
 use steps::Steps;
@@ -43,6 +46,7 @@ pub struct Engine<C> {
 #[tactic(auto, unfolding(crate::specs::Engine::StandsFor))]
 impl<C: Customs> Engine<C> {
     ghost use Rattle.book_engine.specs.Engine.{Does, DoesAlways, NoAnswer, StandsFor};
+    ghost use Rattle.book_engine.specs.Kept.{KeepsAll, KeepsEarlier, KeepsElsewhere, KeepsUpToCursor, book_kept, stored_by};
 
     /// The engine of a workbook with these sheets, numbered from 0 in their order, and these texts in their cells. All
     /// formulas are read when all sheets are there. At most `limit` steps can be undone, which is at most 1,000. Formulas
@@ -74,7 +78,8 @@ impl<C: Customs> Engine<C> {
     /// `NoSheet`, `Outside` where the place isn't within the limits of a sheet, `TextLimit` past 8,192 bytes, `CellLimit`
     /// where more than 1,000,000 cells would be filled; the first that holds.
     pub fn set(&mut self, at: Place, text: &str) -> Result<(), Stop>
-        ensures { Does C.customs (op.set at text.now) NoAnswer self.old self.new result }
+        ensures does { Does C.customs (op.set at text.now) NoAnswer self.old self.new result }
+        ensures kept { KeepsEarlier self.old self.new }
     {
         self.parts.set(at, text)?;
         self.waiting.clear_cut();
@@ -86,7 +91,8 @@ impl<C: Customs> Engine<C> {
     /// # Errors
     /// `NoSheet`, `Outside` where the block isn't within the limits of a sheet.
     pub fn clear(&mut self, area: Block) -> Result<(), Stop>
-        ensures { Does C.customs (op.clear area) NoAnswer self.old self.new result }
+        ensures does { Does C.customs (op.clear area) NoAnswer self.old self.new result }
+        ensures kept { KeepsEarlier self.old self.new }
     {
         self.parts.clear(area)?;
         self.waiting.clear_cut();
@@ -95,7 +101,8 @@ impl<C: Customs> Engine<C> {
 
     // Does a structural operation, after which no block is cut.
     fn structural(&mut self, s: Shift) -> Result<(), Stop>
-        ensures { Does C.customs (op.structural s) NoAnswer self.old self.new result }
+        ensures does { Does C.customs (op.structural s) NoAnswer self.old self.new result }
+        ensures kept { KeepsUpToCursor self.old self.new }
     {
         self.parts.structural(&s)?;
         self.waiting.clear_cut();
@@ -108,7 +115,8 @@ impl<C: Customs> Engine<C> {
     /// `NoSheet`, `BadSpan` for no rows, `Outside` where the row isn't on the sheet, `SizeLimit` where a filled cell would
     /// be pushed off the sheet.
     pub fn insert_rows(&mut self, sheet: u32, at: u32, count: u32) -> Result<(), Stop>
-        ensures { Does C.customs (op.structural (shifts.InsertRows sheet at count)) NoAnswer self.old self.new result }
+        ensures does { Does C.customs (op.structural (shifts.InsertRows sheet at count)) NoAnswer self.old self.new result }
+        ensures kept { KeepsUpToCursor self.old self.new }
     {
         self.structural(Shift::InsertRows { sheet, at, count })
     }
@@ -118,21 +126,24 @@ impl<C: Customs> Engine<C> {
     /// # Errors
     /// `NoSheet`, `BadSpan` for no rows, `Outside` where the rows end behind the sheet.
     pub fn delete_rows(&mut self, sheet: u32, at: u32, count: u32) -> Result<(), Stop>
-        ensures { Does C.customs (op.structural (shifts.DeleteRows sheet at count)) NoAnswer self.old self.new result }
+        ensures does { Does C.customs (op.structural (shifts.DeleteRows sheet at count)) NoAnswer self.old self.new result }
+        ensures kept { KeepsUpToCursor self.old self.new }
     {
         self.structural(Shift::DeleteRows { sheet, at, count })
     }
 
     /// Puts so many columns before a column of the sheet. Its errors are those of [`Engine::insert_rows`].
     pub fn insert_cols(&mut self, sheet: u32, at: u32, count: u32) -> Result<(), Stop>
-        ensures { Does C.customs (op.structural (shifts.InsertCols sheet at count)) NoAnswer self.old self.new result }
+        ensures does { Does C.customs (op.structural (shifts.InsertCols sheet at count)) NoAnswer self.old self.new result }
+        ensures kept { KeepsUpToCursor self.old self.new }
     {
         self.structural(Shift::InsertCols { sheet, at, count })
     }
 
     /// Deletes so many columns of the sheet from a column on. Its errors are those of [`Engine::delete_rows`].
     pub fn delete_cols(&mut self, sheet: u32, at: u32, count: u32) -> Result<(), Stop>
-        ensures { Does C.customs (op.structural (shifts.DeleteCols sheet at count)) NoAnswer self.old self.new result }
+        ensures does { Does C.customs (op.structural (shifts.DeleteCols sheet at count)) NoAnswer self.old self.new result }
+        ensures kept { KeepsUpToCursor self.old self.new }
     {
         self.structural(Shift::DeleteCols { sheet, at, count })
     }
@@ -143,7 +154,8 @@ impl<C: Customs> Engine<C> {
     /// `NoSheet`, `BadSpan` for no rows, `Outside` where the rows or the row before which they come lie behind the sheet,
     /// `BadSpan` where they would stay.
     pub fn move_rows(&mut self, sheet: u32, from: u32, count: u32, before: u32) -> Result<(), Stop>
-        ensures { Does C.customs (op.structural (shifts.MoveRows sheet from count before)) NoAnswer self.old self.new result }
+        ensures does { Does C.customs (op.structural (shifts.MoveRows sheet from count before)) NoAnswer self.old self.new result }
+        ensures kept { KeepsUpToCursor self.old self.new }
     {
         self.structural(Shift::MoveRows {
             sheet,
@@ -156,7 +168,8 @@ impl<C: Customs> Engine<C> {
     /// Moves so many columns of the sheet from a column on to before another one. Its errors are those of
     /// [`Engine::move_rows`].
     pub fn move_cols(&mut self, sheet: u32, from: u32, count: u32, before: u32) -> Result<(), Stop>
-        ensures { Does C.customs (op.structural (shifts.MoveCols sheet from count before)) NoAnswer self.old self.new result }
+        ensures does { Does C.customs (op.structural (shifts.MoveCols sheet from count before)) NoAnswer self.old self.new result }
+        ensures kept { KeepsUpToCursor self.old self.new }
     {
         self.structural(Shift::MoveCols {
             sheet,
@@ -173,7 +186,8 @@ impl<C: Customs> Engine<C> {
     /// `NoSheet` where one of the two sheets doesn't exist, `Outside` where one of the two blocks isn't within the limits of
     /// a sheet, `BadSpan` where they are the same.
     pub fn move_block(&mut self, source: Block, to: Place) -> Result<(), Stop>
-        ensures { Does C.customs (op.structural (shifts.MoveBlock source to)) NoAnswer self.old self.new result }
+        ensures does { Does C.customs (op.structural (shifts.MoveBlock source to)) NoAnswer self.old self.new result }
+        ensures kept { KeepsUpToCursor self.old self.new }
     {
         self.structural(Shift::MoveBlock { source, to })
     }
@@ -184,7 +198,8 @@ impl<C: Customs> Engine<C> {
     /// `SheetNameInvalid` unless the name has 1 to 100 bytes and no control character, `SheetNameTaken` where a sheet has
     /// it, in some case of its ASCII letters, `SheetLimit` where all 1,024 numbers are used.
     pub fn add_sheet(&mut self, name: &str) -> Result<u32, Stop>
-        ensures { Does C.customs (op.add_sheet name.now) (λ d number. number ≡ d.next_sheet) self.old self.new result }
+        ensures does { Does C.customs (op.add_sheet name.now) (λ d number. number ≡ d.next_sheet) self.old self.new result }
+        ensures kept { KeepsAll self.old self.new }
     {
         let number = self.parts.add_sheet(name)?;
         self.waiting.clear_cut();
@@ -196,7 +211,8 @@ impl<C: Customs> Engine<C> {
     /// # Errors
     /// `NoSheet`.
     pub fn drop_sheet(&mut self, sheet: u32) -> Result<(), Stop>
-        ensures { Does C.customs (op.structural (shifts.DropSheet sheet)) NoAnswer self.old self.new result }
+        ensures does { Does C.customs (op.structural (shifts.DropSheet sheet)) NoAnswer self.old self.new result }
+        ensures kept { KeepsUpToCursor self.old self.new }
     {
         self.structural(Shift::DropSheet { sheet })
     }
@@ -206,7 +222,8 @@ impl<C: Customs> Engine<C> {
     /// # Errors
     /// `NoSheet`, `SheetNameInvalid`, `SheetNameTaken` where another sheet has it, as for [`Engine::add_sheet`].
     pub fn rename_sheet(&mut self, sheet: u32, name: &str) -> Result<(), Stop>
-        ensures { Does C.customs (op.rename_sheet sheet name.now) NoAnswer self.old self.new result }
+        ensures does { Does C.customs (op.rename_sheet sheet name.now) NoAnswer self.old self.new result }
+        ensures kept { KeepsAll self.old self.new }
     {
         self.parts.rename_sheet(sheet, name)?;
         self.waiting.clear_cut();
@@ -218,7 +235,8 @@ impl<C: Customs> Engine<C> {
     /// # Errors
     /// `NoSheet`.
     pub fn clear_sheet(&mut self, sheet: u32) -> Result<(), Stop>
-        ensures { Does C.customs (op.clear_sheet sheet) NoAnswer self.old self.new result }
+        ensures does { Does C.customs (op.clear_sheet sheet) NoAnswer self.old self.new result }
+        ensures kept { KeepsEarlier self.old self.new }
     {
         self.parts.clear_sheet(sheet)?;
         self.waiting.clear_cut();
@@ -234,7 +252,8 @@ impl<C: Customs> Engine<C> {
     /// past 8,192 bytes, `BadFormula` where the text is no formula, `RelativeAddress` where a reference lacks a `$` or its
     /// sheet; the first that holds.
     pub fn add_name(&mut self, name: &str, scope: Option<u32>, text: &str) -> Result<(), Stop>
-        ensures { Does C.customs (op.add_name name.now scope text.now) NoAnswer self.old self.new result }
+        ensures does { Does C.customs (op.add_name name.now scope text.now) NoAnswer self.old self.new result }
+        ensures kept { KeepsEarlier self.old self.new }
     {
         self.parts.add_name(name, scope, text)?;
         self.waiting.clear_cut();
@@ -247,7 +266,8 @@ impl<C: Customs> Engine<C> {
     /// `NoSheet`, `NoSuchName` where the scope hasn't the name, and `TextLimit`, `BadFormula` and `RelativeAddress` as for
     /// [`Engine::add_name`].
     pub fn change_name(&mut self, name: &str, scope: Option<u32>, text: &str) -> Result<(), Stop>
-        ensures { Does C.customs (op.change_name name.now scope text.now) NoAnswer self.old self.new result }
+        ensures does { Does C.customs (op.change_name name.now scope text.now) NoAnswer self.old self.new result }
+        ensures kept { KeepsEarlier self.old self.new }
     {
         self.parts.change_name(name, scope, text)?;
         self.waiting.clear_cut();
@@ -259,7 +279,8 @@ impl<C: Customs> Engine<C> {
     /// # Errors
     /// `NoSheet`, `NoSuchName`.
     pub fn remove_name(&mut self, name: &str, scope: Option<u32>) -> Result<(), Stop>
-        ensures { Does C.customs (op.remove_name name.now scope) NoAnswer self.old self.new result }
+        ensures does { Does C.customs (op.remove_name name.now scope) NoAnswer self.old self.new result }
+        ensures kept { KeepsEarlier self.old self.new }
     {
         self.parts.remove_name(name, scope)?;
         self.waiting.clear_cut();
@@ -281,7 +302,8 @@ impl<C: Customs> Engine<C> {
     /// Cuts a block, which is moved where it is pasted; the next change ends that. It is no step. Its errors are those of
     /// [`Engine::copy`].
     pub fn cut(&mut self, area: Block) -> Result<(), Stop>
-        ensures { Does C.customs (op.cut area) NoAnswer self.old self.new result }
+        ensures does { Does C.customs (op.cut area) NoAnswer self.old self.new result }
+        ensures kept { KeepsAll self.old self.new }
     {
         self.parts.check_clear(area)?;
         self.waiting = Waiting::cut(area);
@@ -314,7 +336,8 @@ impl<C: Customs> Engine<C> {
     /// # Errors
     /// `BatchOpen`.
     pub fn begin(&mut self) -> Result<(), Stop>
-        ensures { Does C.customs op.begin NoAnswer self.old self.new result }
+        ensures does { Does C.customs op.begin NoAnswer self.old self.new result }
+        ensures kept { KeepsAll self.old self.new }
     {
         self.parts.begin()
     }
@@ -324,21 +347,24 @@ impl<C: Customs> Engine<C> {
     /// # Errors
     /// `NoBatch`.
     pub fn commit(&mut self) -> Result<(), Stop>
-        ensures { Does C.customs op.commit NoAnswer self.old self.new result }
+        ensures does { Does C.customs op.commit NoAnswer self.old self.new result }
+        ensures kept { KeepsAll self.old self.new }
     {
         self.parts.commit()
     }
 
     /// Stops the computation of values, until [`Engine::resume`]. Once more changes nothing.
     pub fn suspend(&mut self)
-        ensures { DoesAlways C.customs op.suspend self.old self.new }
+        ensures does { DoesAlways C.customs op.suspend self.old self.new }
+        ensures kept { KeepsAll self.old self.new }
     {
         self.parts.suspend();
     }
 
     /// Lets the computation of values go on. Once more changes nothing.
     pub fn resume(&mut self)
-        ensures { DoesAlways C.customs op.resume self.old self.new }
+        ensures does { DoesAlways C.customs op.resume self.old self.new }
+        ensures kept { KeepsAll self.old self.new }
     {
         self.parts.resume();
     }
@@ -350,7 +376,8 @@ impl<C: Customs> Engine<C> {
     /// # Errors
     /// `BatchOpen`, `NothingToUndo`.
     pub fn undo(&mut self) -> Result<(), Stop>
-        ensures { Does C.customs op.undo NoAnswer self.old self.new result }
+        ensures does { Does C.customs op.undo NoAnswer self.old self.new result }
+        ensures kept { KeepsAll self.old self.new }
     {
         self.parts.undo()?;
         self.waiting.clear_cut();
@@ -363,7 +390,8 @@ impl<C: Customs> Engine<C> {
     /// # Errors
     /// `BatchOpen`, `NothingToRedo`.
     pub fn redo(&mut self) -> Result<(), Stop>
-        ensures { Does C.customs op.redo NoAnswer self.old self.new result }
+        ensures does { Does C.customs op.redo NoAnswer self.old self.new result }
+        ensures kept { KeepsAll self.old self.new }
     {
         self.parts.redo()?;
         self.waiting.clear_cut();
@@ -418,7 +446,8 @@ impl<C: Customs> Engine<C> {
     /// # Errors
     /// `NoSheet`, `Outside`.
     pub fn formula(&mut self, at: Place) -> Result<Option<Text>, Stop>
-        ensures { Does C.customs (op.formula at) (λ d text. text ≡ formula_of d at) self.old self.new result }
+        ensures does { Does C.customs (op.formula at) (λ d text. text ≡ formula_of d at) self.old self.new result }
+        ensures kept { KeepsElsewhere at self.old self.new }
     {
         self.parts.formula(at)
     }
@@ -428,7 +457,8 @@ impl<C: Customs> Engine<C> {
     /// # Errors
     /// `NoSheet`, `Outside`.
     pub fn content(&mut self, at: Place) -> Result<Text, Stop>
-        ensures { Does C.customs (op.content at) (λ d text. text ≡ content_text d at) self.old self.new result }
+        ensures does { Does C.customs (op.content at) (λ d text. text ≡ content_text d at) self.old self.new result }
+        ensures kept { KeepsElsewhere at self.old self.new }
     {
         self.parts.content(at)
     }
@@ -442,6 +472,7 @@ impl<C: Customs> Engine<C> {
     pub fn precedents(&mut self, at: Place) -> Result<Vec<Link>, Stop>
         ensures does { Does C.customs (op.precedents at) (λ d links. links.items ≡ precedents_of d at) self.old self.new result }
         ensures inside { IfOk result (λ links. All IsLinkInside links.items) }
+        ensures kept { KeepsElsewhere at self.old self.new }
     {
         self.parts.precedents(at)
     }
@@ -487,5 +518,20 @@ impl<C: Customs> Engine<C> {
         ensures limit { (d : State) → StandsFor C.customs self.now d → result.now.limit ≡ d.limit }
     {
         &self.parts.session.steps
+    }
+
+    /// The formula of a cell as it is kept, without taking it along: the position of the line as of which it is, and its home
+    /// and tree there. `None` where the cell holds no formula that has a tree.
+    pub fn stored(&self, at: Place) -> Option<Stored<'_>>
+        ensures { option_map (λ s. (s.position, (s.home, relative s.tree.now.value))) result ≡ stored_by self.now at }
+    {
+        self.parts.session.book.stored(at)
+    }
+
+    /// The line of structural operations that formulas follow when they are read, with the position of the cursor.
+    pub fn line(&self) -> &Line
+        ensures { result.now ≡ (book_kept self.now).lazy.line }
+    {
+        self.parts.session.book.lazy.line()
     }
 }

@@ -11,6 +11,7 @@ ghost use Rattle.book_values.specs.Workbook as nodes;
 ghost use Rattle.book_model.specs.Answers.{dependents_of, link_of, name_link, precedents_of};
 ghost use Rattle.book_model.specs.Operation as op;
 ghost use Rattle.book_model.specs.Sound.{IsLinkInside};
+ghost use Rattle.kept_book.specs.Kept.{KeepsElsewhere};
 ghost use Rattle.book_engine.specs.Seen.{Fits, state_of};
 ghost use Rattle.book_engine.specs.internal.Links.{content_mentions, mentioned, passes, shown_link, shown_needing};
 ghost use Rattle.book_engine.specs.internal.ShownNames.{shown_cmp};
@@ -36,6 +37,7 @@ impl Parts {
         ensures turns { Turns (op.precedents at) (λ d links. links.items ≡ precedents_of d at) (state_of self.old) (state_of self.new) result }
         ensures fits { Fits self.new }
         ensures inside { IfOk result (λ links. All IsLinkInside links.items) }
+        ensures kept { KeepsElsewhere at self.old.session.book self.new.session.book }
     {
         self.check_place(at)?;
         let links = self.links_from(at)?;
@@ -58,6 +60,7 @@ impl Parts {
     fn links_from(&mut self, at: Place) -> Result<Vec<Link>, AllocError>
         ensures links { IfOk result (λ links. links.items ≡ precedents_of (state_of self.old) at) }
         ensures state { state_of self.new ≡ state_of self.old }
+        ensures kept { KeepsElsewhere at self.old.session.book self.new.session.book }
     {
         let mentions = self.mentioned(at)?;
         let links = self.links_of(at.sheet, mentions.as_slice())?;
@@ -68,6 +71,7 @@ impl Parts {
     fn mentioned(&mut self, at: Place) -> Result<Vec<Mention>, AllocError>
         ensures mentions { IfOk result (λ list. list.items ≡ mentioned (nodes.content_tree (fin.get (state_of self.old).book.cells at))) }
         ensures state { state_of self.new ≡ state_of self.old }
+        ensures kept { KeepsElsewhere at self.old.session.book self.new.session.book }
     {
         let alloc = self.session.book.alloc;
         match self.session.formula(at)? {

@@ -17,7 +17,7 @@ ghost use Rattle.book_model.specs.Operation as op;
 ghost use Rattle.book_model.specs.Content.{content_shown, formula_shown};
 ghost use Rattle.name_table.specs.Listed.{listed};
 ghost use Rattle.kept_book.specs.Frame.{numbered_at};
-ghost use Rattle.kept_book.specs.Kept.{at_of};
+ghost use Rattle.kept_book.specs.Kept.{KeepsElsewhere, at_of};
 ghost use Rattle.kept_book.specs.Stored.{content_of};
 ghost use Rattle.book_engine.specs.Seen.{Fits, state_of, with_rules};
 ghost use Rattle.book_engine.specs.internal.Links.{holds_formula};
@@ -108,6 +108,7 @@ impl Parts {
         requires { Fits self.old }
         ensures turns { Turns (op.formula at) (λ d text. text ≡ formula_of d at) (state_of self.old) (state_of self.new) result }
         ensures fits { Fits self.new }
+        ensures kept { KeepsElsewhere at self.old.session.book self.new.session.book }
     {
         self.check_place(at)?;
         let text = self.formula_text(at)?;
@@ -119,6 +120,7 @@ impl Parts {
         requires { Fits self.old }
         ensures turns { Turns (op.content at) (λ d text. text ≡ content_text d at) (state_of self.old) (state_of self.new) result }
         ensures fits { Fits self.new }
+        ensures kept { KeepsElsewhere at self.old.session.book self.new.session.book }
     {
         self.check_place(at)?;
         let text = self.content_text(at)?;
@@ -130,6 +132,7 @@ impl Parts {
         requires { Fits self.old }
         ensures text { IfOk result (λ text. text ≡ formula_of (state_of self.old) at) }
         ensures state { state_of self.new ≡ state_of self.old }
+        ensures kept { KeepsElsewhere at self.old.session.book self.new.session.book }
     {
         let Some(tree) = self.session.formula(at)? else {
             return self.unreadable_text(at);
@@ -164,6 +167,7 @@ impl Parts {
         requires { Fits self.old }
         ensures text { IfOk result (λ text. text ≡ content_text (state_of self.old) at) }
         ensures state { state_of self.new ≡ state_of self.old }
+        ensures kept { KeepsElsewhere at self.old.session.book self.new.session.book }
     {
         let Some(tree) = self.session.formula(at)? else {
             return self.plain_text(at);

@@ -1,5 +1,6 @@
 // Cells that are filled and emptied.
 ghost use Rattle.book_model.specs.Operation as op;
+ghost use Rattle.kept_book.specs.Ids.{KeepsBelow};
 ghost use Rattle.book_engine.specs.Engine.{NoAnswer};
 ghost use Rattle.book_engine.specs.Seen.{Fits, state_of};
 ghost use Rattle.book_engine.specs.internal.Turns.{Turns};
@@ -14,6 +15,7 @@ impl Parts {
         requires { Fits self.old }
         ensures turns { Turns (op.set at text.now) NoAnswer (state_of self.old) (state_of self.new) result }
         ensures fits { Fits self.new }
+        ensures kept { KeepsBelow self.old.session.book.next_id self.old.session.book.lazy self.new.session.book.lazy }
     {
         self.check_set(at, text)?;
         self.session.fill(at, text)?;
@@ -25,6 +27,7 @@ impl Parts {
         requires { Fits self.old }
         ensures turns { Turns (op.clear area) NoAnswer (state_of self.old) (state_of self.new) result }
         ensures fits { Fits self.new }
+        ensures kept { KeepsBelow self.old.session.book.next_id self.old.session.book.lazy self.new.session.book.lazy }
     {
         self.check_clear(area)?;
         self.session.clear(area)?;
@@ -36,6 +39,7 @@ impl Parts {
         requires { Fits self.old }
         ensures turns { Turns (op.clear_sheet sheet) NoAnswer (state_of self.old) (state_of self.new) result }
         ensures fits { Fits self.new }
+        ensures kept { KeepsBelow self.old.session.book.next_id self.old.session.book.lazy self.new.session.book.lazy }
     {
         self.check_sheet(sheet)?;
         self.session.clear_sheet(sheet)?;

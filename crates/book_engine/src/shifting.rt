@@ -1,5 +1,6 @@
 // Structural operations.
 ghost use Rattle.book_model.specs.Operation as op;
+ghost use Rattle.lazy_store.specs.Store.{KeepsBehind};
 ghost use Rattle.book_engine.specs.Engine.{NoAnswer};
 ghost use Rattle.book_engine.specs.Seen.{Fits, state_of};
 ghost use Rattle.book_engine.specs.internal.Turns.{Turns};
@@ -14,6 +15,7 @@ impl Parts {
         requires { Fits self.old }
         ensures turns { Turns (op.structural s.now) NoAnswer (state_of self.old) (state_of self.new) result }
         ensures fits { Fits self.new }
+        ensures kept { KeepsBehind self.old.session.book.lazy.line.cursor self.old.session.book.lazy self.new.session.book.lazy }
     {
         self.check_structural(s)?;
         self.session.structural(s)?;

@@ -1,6 +1,7 @@
 // Steps that can be undone and redone, batches of changes, and suspension.
 ghost use Rattle.std.specs.Prelude.{◌≡◌, true, false};
 ghost use Rattle.book_model.specs.Operation as op;
+ghost use Rattle.lazy_store.specs.Store.{KeepsAll};
 ghost use Rattle.book_engine.specs.Engine.{NoAnswer};
 ghost use Rattle.book_engine.specs.Seen.{Fits, state_of};
 ghost use Rattle.book_engine.specs.internal.Turns.{Turns};
@@ -15,6 +16,7 @@ impl Parts {
         requires { Fits self.old }
         ensures turns { Turns op.begin NoAnswer (state_of self.old) (state_of self.new) result }
         ensures fits { Fits self.new }
+        ensures kept { KeepsAll self.old.session.book.lazy self.new.session.book.lazy }
     {
         if self.session.batch.is_some() {
             return Err(Stop::Refused(Refusal::BatchOpen));
@@ -28,6 +30,7 @@ impl Parts {
         requires { Fits self.old }
         ensures turns { Turns op.commit NoAnswer (state_of self.old) (state_of self.new) result }
         ensures fits { Fits self.new }
+        ensures kept { KeepsAll self.old.session.book.lazy self.new.session.book.lazy }
     {
         if self.session.batch.is_none() {
             return Err(Stop::Refused(Refusal::NoBatch));
@@ -41,6 +44,7 @@ impl Parts {
         requires { Fits self.old }
         ensures turns { state_of self.new ≡ record (state_of self.old) { suspended = true } }
         ensures fits { Fits self.new }
+        ensures kept { KeepsAll self.old.session.book.lazy self.new.session.book.lazy }
     {
         self.session.suspend();
     }
@@ -50,6 +54,7 @@ impl Parts {
         requires { Fits self.old }
         ensures turns { state_of self.new ≡ record (state_of self.old) { suspended = false } }
         ensures fits { Fits self.new }
+        ensures kept { KeepsAll self.old.session.book.lazy self.new.session.book.lazy }
     {
         self.session.resume();
     }
@@ -59,6 +64,7 @@ impl Parts {
         requires { Fits self.old }
         ensures turns { Turns op.undo NoAnswer (state_of self.old) (state_of self.new) result }
         ensures fits { Fits self.new }
+        ensures kept { KeepsAll self.old.session.book.lazy self.new.session.book.lazy }
     {
         if self.session.batch.is_some() {
             return Err(Stop::Refused(Refusal::BatchOpen));
@@ -75,6 +81,7 @@ impl Parts {
         requires { Fits self.old }
         ensures turns { Turns op.redo NoAnswer (state_of self.old) (state_of self.new) result }
         ensures fits { Fits self.new }
+        ensures kept { KeepsAll self.old.session.book.lazy self.new.session.book.lazy }
     {
         if self.session.batch.is_some() {
             return Err(Stop::Refused(Refusal::BatchOpen));

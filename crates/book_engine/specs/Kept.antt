@@ -1,0 +1,36 @@
+-- What an engine keeps of its formulas. Source: this project's own.
+use Rattle.std.specs.Prelude.{ℕ, Option}
+use Rattle.cell_addr.specs.declared.place.Place.{Place}
+use Rattle.formula_tree.specs.Term.{Term}
+use Rattle.formula_tree.specs.declared.reference.Home.{Home}
+use Rattle.formula_tree.specs.declared.reference.Ref.{Ref}
+use Rattle.kept_book.specs.Ids.{KeepsBelow}
+use Rattle.kept_book.specs.Kept as book
+use Rattle.kept_book.specs.declared.book.Book.{Book}
+use Rattle.lazy_store.specs.Store as store
+use Rattle.book_engine.specs.declared.engine.Engine.{Engine}
+use Rattle.book_engine.specs.declared.parts.Parts.{Parts}
+
+-- the workbook as an engine keeps it
+abbrev pub book_kept : {C : Type 0} → Engine C → Book
+book_kept e = e.parts.session.book
+
+-- the formula of a cell as it is kept: as of which position of the line, with home and tree as of that
+abbrev pub stored_by : {C : Type 0} → Engine C → Place → Option (ℕ × (Home × Term Ref))
+stored_by e p = book.stored_at_place (book_kept e) p
+
+-- each formula is kept as it was
+abbrev pub KeepsAll : {C : Type 0} → Engine C → Engine C → Type 0
+KeepsAll old new = store.KeepsAll (book_kept old).lazy (book_kept new).lazy
+
+-- each formula from before is kept as it was; another one may have come
+abbrev pub KeepsEarlier : {C : Type 0} → Engine C → Engine C → Type 0
+KeepsEarlier old new = KeepsBelow (book_kept old).next_id (book_kept old).lazy (book_kept new).lazy
+
+-- each formula that is kept as of a position up to the cursor is kept as it was
+abbrev pub KeepsUpToCursor : {C : Type 0} → Engine C → Engine C → Type 0
+KeepsUpToCursor old new = store.KeepsBehind (book_kept old).lazy.line.cursor (book_kept old).lazy (book_kept new).lazy
+
+-- each formula but that of a cell is kept as it was
+abbrev pub KeepsElsewhere : {C : Type 0} → Place → Engine C → Engine C → Type 0
+KeepsElsewhere p old new = book.KeepsElsewhere p (book_kept old) (book_kept new)
