@@ -1,6 +1,8 @@
 -- What an engine keeps of its formulas. Source: this project's own.
 use Rattle.std.specs.Prelude.{ℕ, Option}
 use Rattle.cell_addr.specs.declared.place.Place.{Place}
+use Rattle.clip_board.specs.declared.clip.Clip.{Clip}
+use Rattle.clip_board.specs.declared.clip.Clip.TheVariants as clips
 use Rattle.formula_tree.specs.Term.{Term}
 use Rattle.formula_tree.specs.declared.reference.Home.{Home}
 use Rattle.formula_tree.specs.declared.reference.Ref.{Ref}
@@ -34,3 +36,8 @@ KeepsUpToCursor old new = store.KeepsBehind (book_kept old).lazy.line.cursor (bo
 -- each formula but that of a cell is kept as it was
 abbrev pub KeepsElsewhere : {C : Type 0} → Place → Engine C → Engine C → Type 0
 KeepsElsewhere p old new = book.KeepsElsewhere p (book_kept old) (book_kept new)
+
+-- a paste of what waits: after a cut it moves a block, and otherwise it writes cells
+abbrev pub KeepsAtPaste : {C : Type 0} → Clip → Engine C → Engine C → Type 0
+KeepsAtPaste (clips.Cut area) old new = KeepsUpToCursor old new
+KeepsAtPaste clip old new = KeepsEarlier old new

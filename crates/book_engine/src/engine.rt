@@ -46,7 +46,7 @@ pub struct Engine<C> {
 #[tactic(auto, unfolding(crate::specs::Engine::StandsFor))]
 impl<C: Customs> Engine<C> {
     ghost use Rattle.book_engine.specs.Engine.{Does, DoesAlways, NoAnswer, StandsFor};
-    ghost use Rattle.book_engine.specs.Kept.{KeepsAll, KeepsEarlier, KeepsElsewhere, KeepsUpToCursor, book_kept, stored_by};
+    ghost use Rattle.book_engine.specs.Kept.{KeepsAll, KeepsAtPaste, KeepsEarlier, KeepsElsewhere, KeepsUpToCursor, book_kept, stored_by};
 
     /// The engine of a workbook with these sheets, numbered from 0 in their order, and these texts in their cells. All
     /// formulas are read when all sheets are there. At most `limit` steps can be undone, which is at most 1,000. Formulas
@@ -319,7 +319,8 @@ impl<C: Customs> Engine<C> {
     /// `NothingToPaste`; then after a copy `NoSheet`, `Outside` where the block there isn't within the limits of a sheet,
     /// `CellLimit` where more than 1,000,000 cells would be filled, and after a cut those of [`Engine::move_block`].
     pub fn paste(&mut self, at: Place) -> Result<(), Stop>
-        ensures { Does C.customs (op.paste at) NoAnswer self.old self.new result }
+        ensures does { Does C.customs (op.paste at) NoAnswer self.old self.new result }
+        ensures kept { KeepsAtPaste self.old.waiting.clip self.old self.new }
     {
         if let Some(source) = self.waiting.cut_area() {
             return self.move_block(source, at);
