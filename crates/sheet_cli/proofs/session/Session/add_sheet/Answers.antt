@@ -6,4 +6,4 @@ use Rattle.sheet_cli.proofs.session.Session.add_sheet.Goals as goal
 
 pub returns-in-Err-clause-err : goal.returns-in-Err-clause-err
 returns-in-Err-clause-err g c =
-    on_err _ _ (stop_keeps {X = ℕ} g.C.Customs.customs (op.add_sheet c.as_str.result.now) (λ d number. number ≡ d.next_sheet) c.args.self.now.engine c.add_sheet.new.self c.in-Err.stop c.in-Err.ensures)
+    on_err _ _ (stop_keeps {X = ℕ} g.C.Customs.customs (op.add_sheet c.as_str.result.now) (λ d number. number ≡ d.next_sheet) c.args.self.now.engine c.add_sheet.new.self c.in-Err.stop c.in-Err.ensures.does)
