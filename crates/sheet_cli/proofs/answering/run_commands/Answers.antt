@@ -39,6 +39,12 @@ returns-then-is_last-clause-printed g c = λ d stands.
     next c.in_ok-answer.ensures.ok (sym c.is_last.ensures ∙ c.if-is_last.true) (c.commands.invariant.leads d stands) in
     rw (last, sym c.deref.ensures.value, sym c.commands.invariant.taken) c.print_last.ensures.printed
 
+pub returns-in_err-answer-clause-printed : goal.returns-in_err-answer-clause-printed
+returns-in_err-answer-clause-printed g c = λ d stands.
+    let o = summary_outcome c.args.strict (answers_from d c.args.commands.now) in
+    let old = g.O.Sink.taken c.args.out.now in
+    rw c.commands.invariant.taken (no_memory o old old c.from_residual.result c.from_residual.ensures.1 (part-none old o.0))
+
 pub returns-in_err-tally-clause-printed : goal.returns-in_err-tally-clause-printed
 returns-in_err-tally-clause-printed g c = λ d stands.
     let o = summary_outcome c.args.strict (answers_from d c.args.commands.now) in
