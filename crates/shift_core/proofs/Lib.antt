@@ -5,5 +5,6 @@ pub mod CellMoves
 pub mod PlaceLaws
 pub mod BlockLaws
 pub mod UnbentBlocks
+pub mod Opposites
 pub mod CarriedEntries
 pub mod MovedMaps

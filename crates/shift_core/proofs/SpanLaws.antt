@@ -123,10 +123,10 @@ before_insert_inside limit start count s t o l h = grind (arith, nat_tests)
 pub before_delete_inside : (limit start count : ℕ) (s t : Span) → s.first ≤ s.last → s.last < limit → both_ends (line_after_insert limit start count) s ≡ Some t → (t.first ≤ t.last) × (t.last < limit)
 before_delete_inside limit start count s t o l h = grind (arith, nat_tests)
 
-opposite_down : (limit start count before : ℕ) → IsSoundMove limit start count before → start + count < before → IsSoundMove limit (before - count) count start
+pub opposite_down : (limit start count before : ℕ) → IsSoundMove limit start count before → start + count < before → IsSoundMove limit (before - count) count start
 opposite_down limit start count before sound d = (sound.0, omega arith, omega arith, inl (omega arith))
 
-opposite_up : (limit start count before : ℕ) → IsSoundMove limit start count before → before ≤ start + count → IsSoundMove limit before count (start + count)
+pub opposite_up : (limit start count before : ℕ) → IsSoundMove limit start count before → before ≤ start + count → IsSoundMove limit before count (start + count)
 opposite_up limit start count before sound u = elim sound.3 [
   | inl b ↦ (sound.0, omega arith, sound.1, inr (omega arith))
   | inr b ↦ absurd (omega arith)
@@ -216,7 +216,7 @@ pub record IsCarried (limit : ℕ) (e : Edit) (s t : Span) : Type 0 where
   pub still : Displaces e s → ⊥
   pub whole : PushesOff limit e s → ⊥
 
-undisplaced_line : (start count before : ℕ) (s : Span) → (Displaces (Move start count before) s → ⊥) → (line : ℕ) → IsWithin s line → line_after_move start count before line ≡ line
+pub undisplaced_line : (start count before : ℕ) (s : Span) → (Displaces (Move start count before) s → ⊥) → (line : ℕ) → IsWithin s line → line_after_move start count before line ≡ line
 undisplaced_line start count before s still line w =
     elim (cases_eq (line_after_move start count before line) line) [ inl e ↦ e | inr n ↦ absurd (still (line, w, n)) ]
 
@@ -242,14 +242,14 @@ same_span : (s t : Span) → s.first ≡ t.first → s.last ≡ t.last → s ≡
 same_span s t e f = λ i. record { first = e i; last = f i }
 
 -- a block whose outermost lines stay is where it was
-move_keeps : (limit start count before : ℕ) (s : Span) → IsSoundMove limit start count before → s.first ≤ s.last
+pub move_keeps : (limit start count before : ℕ) (s : Span) → IsSoundMove limit start count before → s.first ≤ s.last
     → line_after_move start count before s.first ≡ s.first → line_after_move start count before s.last ≡ s.last → span_after_move start count before s ≡ Some s
 move_keeps limit start count before s sound o first last =
     move_ends limit start count before s sound o
     ∙ ap (λ x. Some x) (same_span _ _ (undisplaced limit start count before s sound o first last) (undisplaced_last limit start count before s sound o first last))
 
 -- a line that a move leaves, the opposite move leaves
-still_back : (limit start count before r : ℕ) → IsSoundMove limit start count before → line_after_move start count before r ≡ r → line_before_move start count before r ≡ r
+pub still_back : (limit start count before r : ℕ) → IsSoundMove limit start count before → line_after_move start count before r ≡ r → line_before_move start count before r ≡ r
 still_back limit start count before r sound e = ap (line_before_move start count before) (sym e) ∙ move_returns limit start count before r sound
 
 move_keeps_back : (limit start count before : ℕ) (s : Span) → IsSoundMove limit start count before → s.first ≤ s.last

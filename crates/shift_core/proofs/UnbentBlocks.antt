@@ -23,12 +23,12 @@ use Rattle.shift_core.proofs.CellMoves.{cases_chosen, Covers-from_covers, covers
 use Rattle.shift_core.proofs.SpanLaws.{IsCarried, edit_carries, edit_comes_back}
 
 -- what an operation that doesn't bend a block leaves of it has the same size, and no line in it is displaced
-straight : (f : Form) (b after : Block) → ¬ BendsBlock f b → block_moved f b ≡ Some after → ¬ (HaveOtherSizes b after ⊎ MeetsDisplaced f b)
+pub straight : (f : Form) (b after : Block) → ¬ BendsBlock f b → block_moved f b ≡ Some after → ¬ (HaveOtherSizes b after ⊎ MeetsDisplaced f b)
 straight f b after still h bent =
     let P : Option Block → Type 0 = λ o. MatchOption o ⊤ (λ x. HaveOtherSizes b x ⊎ MeetsDisplaced f b) in still (subst P (sym h) bent)
 
 -- so an edit carries its lines along
-carried_along : (sheet : ℕ) (axis : Axis) (edit : Edit) (b after : Block) → IsBlockInside b → ¬ BendsBlock (Lines sheet axis edit) b → ¬ CutsBlock (Lines sheet axis edit) b
+pub carried_along : (sheet : ℕ) (axis : Axis) (edit : Edit) (b after : Block) → IsBlockInside b → ¬ BendsBlock (Lines sheet axis edit) b → ¬ CutsBlock (Lines sheet axis edit) b
     → block_moved (Lines sheet axis edit) b ≡ Some after → b.sheet ≡ sheet → span_after (limit_of axis) edit (span_of axis b) ≡ Some (span_of axis after)
     → IsCarried (limit_of axis) edit (span_of axis b) (span_of axis after)
 carried_along sheet axis edit b after i still whole h on e =
@@ -63,14 +63,14 @@ both true true h k = refl
 both true false h k = k
 both false b h k = h
 
-carried_contained : (source : Block) (to : Place) (b : Block) → contains source b ≡ true → contains (destination source to) (carried_block source to b) ≡ true
+pub carried_contained : (source : Block) (to : Place) (b : Block) → contains source b ≡ true → contains (destination source to) (carried_block source to b) ≡ true
 carried_contained source to b h =
     let w = and_parts (covers source (first_place b)) (covers source (last_place b)) h in
     both (covers (destination source to) (carried_place source to (first_place b))) (covers (destination source to) (carried_place source to (last_place b)))
     (covers-from_Covers (destination source to) (carried_place source to (first_place b)) (carried_covered source to (first_place b) (Covers-from_covers source (first_place b) w.0)))
     (covers-from_Covers (destination source to) (carried_place source to (last_place b)) (carried_covered source to (last_place b) (Covers-from_covers source (last_place b) w.1)))
 
-carried_back : (source : Block) (to : Place) (b : Block) → contains source b ≡ true → carried_block (destination source to) (first_place source) (carried_block source to b) ≡ b
+pub carried_back : (source : Block) (to : Place) (b : Block) → contains source b ≡ true → carried_block (destination source to) (first_place source) (carried_block source to b) ≡ b
 carried_back source to b h =
     let w = and_parts (covers source (first_place b)) (covers source (last_place b)) h in
     let first = Covers-from_covers source (first_place b) w.0 in
@@ -83,7 +83,7 @@ chosen_first a x b t = rw t refl
 chosen_else : (a : Bool) (x b : Block) → a ≡ false → cond a (Some x) (Some b) ≡ Some b
 chosen_else a x b f = rw f refl
 
-cells_come_back : (source : Block) (to : Place) (b after : Block) → block_moved (Cells source to) b ≡ Some after → block_returned (Cells source to) after ≡ Some b
+pub cells_come_back : (source : Block) (to : Place) (b after : Block) → block_moved (Cells source to) b ≡ Some after → block_returned (Cells source to) after ≡ Some b
 cells_come_back source to b after h =
     elim (cases_chosen (contains source b) (contains (destination source to) b) (carried_block source to b) b after h) [
       | inl w ↦

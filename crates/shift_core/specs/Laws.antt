@@ -15,6 +15,7 @@ use Rattle.shift_core.specs.Bent.{IsBent, IsCut}
 use Rattle.shift_core.specs.Carried.{carried_place, first_place}
 use Rattle.shift_core.specs.Form.{form_of, opposite, across, IsWithin}
 use Rattle.shift_core.specs.Lines.{IsSoundEdit, is_among, line_after_move}
+use Rattle.shift_core.specs.Opposite.{opposite_of}
 use Rattle.shift_core.specs.Sound.{IsSound}
 use Rattle.shift_core.specs.Tables.{place_after, block_after, place_before, block_before, place_moved, place_returned, by_span}
 
@@ -148,3 +149,18 @@ abbrev pub OppositesGoBack : Type 0
 OppositesGoBack =
     (sheet : ℕ) (axis : Axis) (edit : Edit) (p : Place) → IsSoundEdit (limit_of axis) edit →
     (place_returned (Lines sheet axis edit) p ≡ place_moved (Lines sheet axis (opposite edit)) p) × (opposite (opposite edit) ≡ edit)
+
+-- the operation that takes a sound one back is sound
+abbrev pub OppositesAreSound : Type 0
+OppositesAreSound = (s back : Shift) → IsSound s → opposite_of s ≡ Some back → IsSound back
+
+-- by it places of the sheet go as they go back
+abbrev pub PlacesGoByOpposites : Type 0
+PlacesGoByOpposites =
+    (s back : Shift) (p : Place) → IsSound s → opposite_of s ≡ Some back → IsInside p → place_after back p ≡ place_before s p
+
+-- by it a block that was neither bent nor cut goes to where it was, and is neither bent nor cut
+abbrev pub UnbentBlocksGoByOpposites : Type 0
+UnbentBlocksGoByOpposites =
+    (s back : Shift) (b after : Block) → IsSound s → opposite_of s ≡ Some back → IsBlockInside b → ¬ IsBent s b → ¬ IsCut s b →
+    block_after s b ≡ Some after → (block_after back after ≡ Some b) × (¬ IsBent back after) × (¬ IsCut back after)

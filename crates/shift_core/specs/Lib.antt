@@ -6,5 +6,6 @@ pub mod Sound
 pub mod Tables
 pub mod Maps
 pub mod Bent
+pub mod Opposite
 pub mod Laws
 pub mod internal

@@ -19,6 +19,14 @@ pub(crate) fn is_sound(source: Block, to: Place) -> bool
         && (source.sheet != to.sheet || source.top != to.row || source.left != to.col)
 }
 
+// The block of cells where they are then, and the place where they were: what moves them back.
+pub(crate) fn turned(source: Block, to: Place) -> (Block, Place)
+    requires { IsSoundForm (Cells source to) }
+    ensures { result ≡ (destination source to, first_place source) }
+{
+    (destination_of(source, to), first(source))
+}
+
 // Where the move of a block of cells to `to` moves a place; None where the cells are put over it.
 pub(crate) fn moved_place(source: Block, to: Place, p: Place) -> Option<Place>
     requires { IsSoundForm (Cells source to) }

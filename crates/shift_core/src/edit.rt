@@ -21,6 +21,7 @@ pub enum Edit {
 impl Edit {
     ghost use Rattle.shift_core.specs.Form.{opposite};
     ghost use Rattle.shift_core.specs.Lines.{IsSoundEdit, line_after, line_before};
+    ghost use Rattle.shift_core.specs.Opposite.{edit_back};
     ghost use Rattle.shift_core.specs.Spans.{PushesOff, span_after, span_before};
     ghost use Rattle.shift_core.specs.internal.Edits.{MovesSoundly, EndFits};
 
@@ -70,6 +71,20 @@ impl Edit {
                     }
                 }
             }
+        }
+    }
+
+    // The edit of `limit` lines that takes this one back: of inserted lines it deletes those that there are.
+    pub(crate) fn back(self, limit: u32) -> Edit
+        requires { IsSoundEdit limit self }
+        ensures { result ≡ edit_back limit self }
+    {
+        match self {
+            Edit::Insert { at, count } => Edit::Delete {
+                at,
+                count: count.min(limit - at),
+            },
+            _ => self.opposite(),
         }
     }
 

@@ -1,10 +1,13 @@
 // The three forms of structural operations, and what each does to places and blocks.
 ghost use Rattle.std.specs.Prelude.{◌≡◌, ◌↔◌, IsTrue};
 ghost use Rattle.shift_core.specs.Bent.{HaveOtherSizes};
+ghost use Rattle.shift_core.specs.Opposite.{shift_of};
+ghost use Rattle.shift_core.specs.declared.form.Form.TheVariants.{Lines};
 ghost use Rattle.shift_core.specs.Tables.{by_line, by_span};
 
 use crate::cells;
 use crate::edit::Edit;
+use crate::shift::Shift;
 use cell_addr::{Axis, Block, Place, Span};
 
 /// What a structural operation works on: the lines of a sheet along one axis, a block of cells, or a sheet.
@@ -20,6 +23,7 @@ pub enum Form {
 
 impl Form {
     ghost use Rattle.shift_core.specs.Bent.{BendsBlock, CutsBlock, MeetsDisplaced};
+    ghost use Rattle.shift_core.specs.Opposite.{form_back, shift_of};
     ghost use Rattle.shift_core.specs.Sound.{IsSoundForm};
     ghost use Rattle.shift_core.specs.Tables.{place_moved, block_moved, place_returned, block_returned};
 
@@ -31,6 +35,36 @@ impl Form {
             Form::Lines { axis, edit, .. } => edit.is_sound(axis.limit()),
             Form::Cells { source, to } => cells::is_sound(source, to),
             Form::Sheet { .. } => true,
+        }
+    }
+
+    // The form of the operation that takes this one back; None where a sheet is dropped.
+    pub(crate) fn opposite(self) -> Option<Form>
+        requires { IsSoundForm self }
+        ensures { result ≡ form_back self }
+    {
+        match self {
+            Form::Lines { sheet, axis, edit } => Some(Form::Lines {
+                sheet,
+                axis,
+                edit: edit.back(axis.limit()),
+            }),
+            Form::Cells { source, to } => {
+                let (source, to) = cells::turned(source, to);
+                Some(Form::Cells { source, to })
+            }
+            Form::Sheet { .. } => None,
+        }
+    }
+
+    // The operation of the form.
+    pub(crate) fn shift(self) -> Shift
+        ensures { result ≡ shift_of self }
+    {
+        match self {
+            Form::Lines { sheet, axis, edit } => on_axis(sheet, axis, edit),
+            Form::Cells { source, to } => Shift::MoveBlock { source, to },
+            Form::Sheet { sheet } => Shift::DropSheet { sheet },
         }
     }
 
@@ -154,5 +188,29 @@ fn on_span(sheet: u32, axis: Axis, b: Block, span: Option<Span>) -> Option<Block
         Some(b.with_span(axis, span?))
     } else {
         Some(b)
+    }
+}
+
+// The edit of a sheet's lines as an operation.
+fn on_axis(sheet: u32, axis: Axis, edit: Edit) -> Shift
+    ensures { result ≡ shift_of (Lines sheet axis edit) }
+{
+    match (axis, edit) {
+        (Axis::Rows, Edit::Insert { at, count }) => Shift::InsertRows { sheet, at, count },
+        (Axis::Rows, Edit::Delete { at, count }) => Shift::DeleteRows { sheet, at, count },
+        (Axis::Rows, Edit::Move { from, count, before }) => Shift::MoveRows {
+            sheet,
+            from,
+            count,
+            before,
+        },
+        (Axis::Cols, Edit::Insert { at, count }) => Shift::InsertCols { sheet, at, count },
+        (Axis::Cols, Edit::Delete { at, count }) => Shift::DeleteCols { sheet, at, count },
+        (Axis::Cols, Edit::Move { from, count, before }) => Shift::MoveCols {
+            sheet,
+            from,
+            count,
+            before,
+        },
     }
 }

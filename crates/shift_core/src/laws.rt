@@ -1,5 +1,5 @@
 // What the tables of moved places and blocks have in common, as laws over every operation.
-ghost use Rattle.shift_core.specs.Laws.{PlacesComeBack, PlacesGoForth, NoTwoMeet, PlacesStayInside, BlocksStayInside, BlocksCoverWhatMoves, BlocksAreLostWithTheirPlaces, MovedBlocksEndAtTheirLines, OneCellsMoveAlike, OppositesGoBack, UnbentBlocksComeBack, UnbentBlocksKeepOffsets};
+ghost use Rattle.shift_core.specs.Laws.{PlacesComeBack, PlacesGoForth, NoTwoMeet, PlacesStayInside, BlocksStayInside, BlocksCoverWhatMoves, BlocksAreLostWithTheirPlaces, MovedBlocksEndAtTheirLines, OneCellsMoveAlike, OppositesAreSound, OppositesGoBack, PlacesGoByOpposites, UnbentBlocksComeBack, UnbentBlocksGoByOpposites, UnbentBlocksKeepOffsets};
 ghost use Rattle.shift_core.specs.Maps.{MovedEntriesAreFound, MovedEntriesStayInside, LostEntriesRestore};
 
 /// A place of the sheet that isn't lost comes back to where it was.
@@ -63,6 +63,21 @@ pub fn unbent_blocks_come_back()
 /// Over an edit of lines, places go back by the opposite edit.
 pub fn opposites_go_back()
     ensures { OppositesGoBack }
+{}
+
+/// The operation that takes a sound one back is sound.
+pub fn opposites_are_sound()
+    ensures { OppositesAreSound }
+{}
+
+/// By the opposite of a sound operation, places of the sheet go as they go back by the operation.
+pub fn places_go_by_opposites()
+    ensures { PlacesGoByOpposites }
+{}
+
+/// By the opposite of a sound operation, a block that was neither bent nor cut goes to where it was, neither bent nor cut.
+pub fn unbent_blocks_go_by_opposites()
+    ensures { UnbentBlocksGoByOpposites }
 {}
 
 /// In a moved map, a place of the sheet has the entry of the place that it came from. `X` is the type of what the places have.

@@ -25,8 +25,9 @@ pub use form::Form;
 pub use laws::{
     blocks_are_lost_with_their_places, blocks_cover_what_moves, blocks_stay_inside,
     lost_entries_restore, moved_blocks_end_at_their_lines, moved_entries_are_found,
-    moved_entries_stay_inside, no_two_meet, one_cells_move_alike, opposites_go_back,
-    places_come_back, places_go_forth, places_stay_inside, unbent_blocks_come_back,
+    moved_entries_stay_inside, no_two_meet, one_cells_move_alike, opposites_are_sound,
+    opposites_go_back, places_come_back, places_go_by_opposites, places_go_forth,
+    places_stay_inside, unbent_blocks_come_back, unbent_blocks_go_by_opposites,
     unbent_blocks_keep_offsets,
 };
 pub use shift::{Shift, back_block, back_place, is_bent, is_cut, moved_block, moved_place, sound};

@@ -104,6 +104,22 @@ impl Shift {
     }
 }
 
+impl Shift {
+    ghost use Rattle.shift_core.specs.Opposite.{opposite_of};
+    ghost use Rattle.shift_core.specs.Sound.{IsSound};
+
+    /// The operation that takes this one back; None where a sheet is dropped, since no operation brings one back.
+    ///
+    /// Inserted lines are deleted, as far as the sheet has them; for deleted ones as many are inserted; moved lines and
+    /// cells are moved back. By it places of the sheet go as [`back_place`] says; what the operation lost doesn't come back.
+    pub fn opposite(&self) -> Option<Shift>
+        requires { IsSound self.now }
+        ensures { result ≡ opposite_of self.now }
+    {
+        Some(self.form().opposite()?.shift())
+    }
+}
+
 /// Whether the operation fits a sheet and isn't without effect.
 ///
 /// A count is positive. An insert begins inside the sheet, and its count has no other limit. The
