@@ -1,5 +1,5 @@
 -- What a list of entries has at a key once each entry is carried to another key, or dropped. Serves the laws on moved maps.
-use Rattle.std.proofs.Common.{◌≡◌, ◌≢◌, ◌∙◌, sym, ap, refl, ◌↔◌, Bool, true, false, cond, List, [], ◌∷◌, ◌++◌, Option, Some, None, option_map, subst, IsSome, option_and_then}
+use Rattle.std.proofs.Common.{◌≡◌, ◌∙◌, sym, ap, refl, ◌↔◌, Bool, true, false, cond, List, [], ◌∷◌, Option, Some, None, option_map, subst, IsSome}
 use Rattle.std.specs.List.{cons_option}
 use Rattle.std.specs.List.{filter_map, AllByRecursion}
 use Rattle.std.specs.declared.cmp.Ordering.{Ordering}

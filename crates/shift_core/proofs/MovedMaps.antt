@@ -1,11 +1,9 @@
 -- The laws on moved maps: what they have at a place, that they stay on the sheet, and that the lost entries restore them.
-use Rattle.std.proofs.Common.{◌≡◌, ◌≢◌, ◌∙◌, sym, ap, refl, subst, ◌↔◌, Bool, true, false, cond, List, [], ◌∷◌, ◌++◌, Option, Some, None, option_and_then, IsSome, is_some, is_none, filter, filter_map}
-use Rattle.std.specs.List.{cons_option, AllByRecursion}
-use Rattle.std.specs.Option.{option_map}
+use Rattle.std.proofs.Common.{◌≡◌, ◌∙◌, sym, ap, refl, subst, ◌↔◌, Bool, true, false, cond, List, [], ◌∷◌, ◌++◌, Option, Some, None, option_and_then, IsSome, is_none, filter_map}
+use Rattle.std.specs.List.{AllByRecursion}
 use Rattle.std.specs.Ordering.{eq_by_cmp}
-use Rattle.std.specs.FinMap as map
 use Rattle.std.specs.FinMap.{find, entries, get, get-entries, get-from_entries, same_map}
-use Rattle.std.specs.FinMap.Entries.{where_key, find-where_key}
+use Rattle.std.specs.FinMap.Entries.{find-where_key}
 use Rattle.std.proofs.lemmas.Option.{same_Some}
 use Rattle.cell_addr.specs.Order.{place_cmp}
 use Rattle.cell_addr.specs.Place.{IsInside}
@@ -16,7 +14,7 @@ use Rattle.shift_core.specs.Form.{form_of}
 use Rattle.shift_core.specs.Maps.{PlaceMap, AreInside, entry_after, entry_before, moved_map, lost_entries, restored_map}
 use Rattle.shift_core.specs.Sound.{IsSound}
 use Rattle.shift_core.specs.Tables.{place_after, place_before}
-use Rattle.shift_core.proofs.CarriedEntries.{carried_entry, eq_by_cmp-decides, find-carried, find-carried_nowhere, find-carried_somewhere}
+use Rattle.shift_core.proofs.CarriedEntries.{eq_by_cmp-decides, find-carried, find-carried_nowhere, find-carried_somewhere}
 use Rattle.shift_core.proofs.PlaceLaws.{place_moved_returns, place_returned_goes, place_moved_inside}
 
 -- what a list of entries has at a place

@@ -24,7 +24,7 @@ use Rattle.shift_core.specs.Lines.{IsSoundDelete, IsSoundEdit, IsSoundInsert, li
 use Rattle.shift_core.specs.Opposite.{edit_back, form_back, opposite_of, shift_of}
 use Rattle.shift_core.specs.Sound.{IsSoundForm}
 use Rattle.shift_core.specs.Spans.{Displaces, PushesOff, pushed_line, span_after, span_after_delete, span_after_insert}
-use Rattle.shift_core.specs.Tables.{block_moved, by_line, place_moved, place_returned}
+use Rattle.shift_core.specs.Tables.{block_moved, place_moved, place_returned}
 use Rattle.shift_core.proofs.Axes.{by_span_returns, cases_by_span, line_inside, span_of-with_span}
 use Rattle.shift_core.proofs.CellMoves.{cases_chosen, chosen_first, chosen_second}
 use Rattle.shift_core.proofs.LinesReturn.{line_before_move}

@@ -198,7 +198,14 @@ fn on_axis(sheet: u32, axis: Axis, edit: Edit) -> Shift
     match (axis, edit) {
         (Axis::Rows, Edit::Insert { at, count }) => Shift::InsertRows { sheet, at, count },
         (Axis::Rows, Edit::Delete { at, count }) => Shift::DeleteRows { sheet, at, count },
-        (Axis::Rows, Edit::Move { from, count, before }) => Shift::MoveRows {
+        (
+            Axis::Rows,
+            Edit::Move {
+                from,
+                count,
+                before,
+            },
+        ) => Shift::MoveRows {
             sheet,
             from,
             count,
@@ -206,7 +213,14 @@ fn on_axis(sheet: u32, axis: Axis, edit: Edit) -> Shift
         },
         (Axis::Cols, Edit::Insert { at, count }) => Shift::InsertCols { sheet, at, count },
         (Axis::Cols, Edit::Delete { at, count }) => Shift::DeleteCols { sheet, at, count },
-        (Axis::Cols, Edit::Move { from, count, before }) => Shift::MoveCols {
+        (
+            Axis::Cols,
+            Edit::Move {
+                from,
+                count,
+                before,
+            },
+        ) => Shift::MoveCols {
             sheet,
             from,
             count,
