@@ -5,7 +5,7 @@ ghost use Rattle.std.specs.FinMap as map;
 ghost use Rattle.std.specs.List.{All, cons_option, filter_map};
 ghost use Rattle.cell_addr.specs.Order.{place_cmp};
 ghost use Rattle.cell_addr.specs.declared.place.Place.{Place as PlaceSeen};
-ghost use Rattle.cell_addr.specs.Place.{IsBlockInside, IsInside};
+ghost use Rattle.cell_addr.specs.Place.{IsBlockInside};
 ghost use Rattle.shift_core.specs.Carried as carrying;
 ghost use Rattle.book_model.specs.Changes.{with_copy};
 ghost use Rattle.book_model.specs.Clipboard as clipboard;
@@ -28,6 +28,7 @@ use crate::waiting::Waiting;
 use book_model::{MAX_CELLS, Refusal};
 use cell_addr::{Block, Place};
 use clip_board::{Clip, CopyItem};
+use shift_core::{carried_place, destination};
 use std::alloc::{AllocError, Global};
 use std::collections::BTreeSet;
 
@@ -131,33 +132,7 @@ fn add_pasted(
     ensures { OnOk result ((ps : List PlaceSeen) → ArePlaces ps (contains place_cmp places.old) (btree_set_len places.old) → ArePlaces (cons_option (place_pasted area at cell.now) ps) (contains place_cmp places.new) (btree_set_len places.new)) }
 {
     if area.holds(cell.0) {
-        places.insert(carried(area, at, cell.0))?;
+        places.insert(carried_place(area, at, cell.0))?;
     }
     Ok(())
-}
-
-// The place with the same offset from `to` as `p` has from the block's first place.
-fn carried(source: Block, to: Place, p: Place) -> Place
-    requires { IsInside (carrying.carried_place source to p) }
-    ensures { result ≡ carrying.carried_place source to p }
-{
-    Place {
-        sheet: to.sheet,
-        row: to.row + p.row.saturating_sub(source.top),
-        col: to.col + p.col.saturating_sub(source.left),
-    }
-}
-
-// The block of the size of `source` that begins at `to`.
-fn destination(source: Block, to: Place) -> Block
-    requires { IsBlockInside (carrying.destination source to) }
-    ensures { result ≡ carrying.destination source to }
-{
-    Block {
-        sheet: to.sheet,
-        top: to.row,
-        left: to.col,
-        bottom: to.row + source.bottom.saturating_sub(source.top),
-        right: to.col + source.right.saturating_sub(source.left),
-    }
 }

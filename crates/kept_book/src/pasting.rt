@@ -19,6 +19,7 @@ use cell_addr::{Block, Place};
 use clip_board::{CopyItem, pasted};
 use formula_tree::{Home, Pool};
 use name_table::Names;
+use shift_core::{carried_place, destination};
 use std::alloc::{AllocError, Global};
 
 impl Book {
@@ -70,7 +71,7 @@ fn items_pasted(
     let mut list = Vec::new(alloc);
     for (from, item) in cells {
         if area.holds(*from) {
-            let to = carried(area, at, *from);
+            let to = carried_place(area, at, *from);
             let pasted = item_pasted(alloc, pool, sheets, *from, item, to)?;
             list.push((to, pasted))?;
         }
@@ -99,31 +100,5 @@ fn item_pasted(
             let tree = pasted(alloc, pool, tree, home, there, sheets)?;
             Ok(CopyItem::Formula(tree))
         }
-    }
-}
-
-// The place with the same offset from `to` as `p` has from the block's first place.
-fn carried(source: Block, to: Place, p: Place) -> Place
-    requires { IsInside (carrying.carried_place source to p) }
-    ensures { result ≡ carrying.carried_place source to p }
-{
-    Place {
-        sheet: to.sheet,
-        row: to.row + p.row.saturating_sub(source.top),
-        col: to.col + p.col.saturating_sub(source.left),
-    }
-}
-
-// The block of the size of `source` that begins at `to`.
-fn destination(source: Block, to: Place) -> Block
-    requires { IsBlockInside (carrying.destination source to) }
-    ensures { result ≡ carrying.destination source to }
-{
-    Block {
-        sheet: to.sheet,
-        top: to.row,
-        left: to.col,
-        bottom: to.row + source.bottom.saturating_sub(source.top),
-        right: to.col + source.right.saturating_sub(source.left),
     }
 }

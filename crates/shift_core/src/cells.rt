@@ -1,6 +1,6 @@
 // What the move of a block of cells does to places and blocks.
 ghost use Rattle.std.specs.Prelude.{◌≡◌, ◌↔◌, IsTrue};
-ghost use Rattle.cell_addr.specs.Place.{IsBlockInside, Covers};
+ghost use Rattle.cell_addr.specs.Place.{IsBlockInside, IsInside};
 ghost use Rattle.shift_core.specs.declared.form.Form.TheVariants.{Cells};
 ghost use Rattle.shift_core.specs.Carried.{contains, first_place, last_place, carried_place, carried_block, destination};
 ghost use Rattle.shift_core.specs.Sound.{IsSoundForm};
@@ -24,7 +24,7 @@ pub(crate) fn turned(source: Block, to: Place) -> (Block, Place)
     requires { IsSoundForm (Cells source to) }
     ensures { result ≡ (destination source to, first_place source) }
 {
-    (destination_of(source, to), first(source))
+    (destination(source, to), first(source))
 }
 
 // Where the move of a block of cells to `to` moves a place; None where the cells are put over it.
@@ -33,8 +33,8 @@ pub(crate) fn moved_place(source: Block, to: Place, p: Place) -> Option<Place>
     ensures { result ≡ place_moved (Cells source to) p }
 {
     if source.holds(p) {
-        Some(carry(source, to, p))
-    } else if destination_of(source, to).holds(p) {
+        Some(carried_place(source, to, p))
+    } else if destination(source, to).holds(p) {
         None
     } else {
         Some(p)
@@ -48,7 +48,7 @@ pub(crate) fn moved_block(source: Block, to: Place, b: Block) -> Option<Block>
 {
     if contained(source, b) {
         Some(carry_block(source, to, b))
-    } else if contained(destination_of(source, to), b) {
+    } else if contained(destination(source, to), b) {
         None
     } else {
         Some(b)
@@ -60,8 +60,8 @@ pub(crate) fn back_place(source: Block, to: Place, p: Place) -> Option<Place>
     requires { IsSoundForm (Cells source to) }
     ensures { result ≡ place_returned (Cells source to) p }
 {
-    if destination_of(source, to).holds(p) {
-        Some(carry(destination_of(source, to), first(source), p))
+    if destination(source, to).holds(p) {
+        Some(carried_place(destination(source, to), first(source), p))
     } else if source.holds(p) {
         None
     } else {
@@ -74,38 +74,36 @@ pub(crate) fn back_block(source: Block, to: Place, b: Block) -> Option<Block>
     requires { IsSoundForm (Cells source to) }
     ensures { result ≡ block_returned (Cells source to) b }
 {
-    if contained(destination_of(source, to), b) {
-        Some(carry_block(destination_of(source, to), first(source), b))
+    if contained(destination(source, to), b) {
+        Some(carry_block(destination(source, to), first(source), b))
     } else {
         Some(b)
     }
 }
 
-// The place with the same offset from `to` as `p` has from the first place of `source`.
-fn carry(source: Block, to: Place, p: Place) -> Place
-    requires covered { Covers source p }
-    requires inside { IsBlockInside (destination source to) }
+/// The place with the same offset from `to` as `p` has from the first place of `source`.
+pub fn carried_place(source: Block, to: Place, p: Place) -> Place
+    requires { IsInside (carried_place source to p) }
     ensures { result ≡ carried_place source to p }
 {
     Place {
         sheet: to.sheet,
-        row: to.row + (p.row - source.top),
-        col: to.col + (p.col - source.left),
+        row: to.row + p.row.saturating_sub(source.top),
+        col: to.col + p.col.saturating_sub(source.left),
     }
 }
 
-// The block of the size of `source` that begins at `to`.
-fn destination_of(source: Block, to: Place) -> Block
-    requires source_inside { IsBlockInside source }
-    requires inside { IsBlockInside (destination source to) }
+/// The block of the size of `source` that begins at `to`.
+pub fn destination(source: Block, to: Place) -> Block
+    requires { IsBlockInside (destination source to) }
     ensures { result ≡ destination source to }
 {
     Block {
         sheet: to.sheet,
         top: to.row,
         left: to.col,
-        bottom: to.row + (source.bottom - source.top),
-        right: to.col + (source.right - source.left),
+        bottom: to.row + source.bottom.saturating_sub(source.top),
+        right: to.col + source.right.saturating_sub(source.left),
     }
 }
 

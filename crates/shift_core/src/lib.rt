@@ -20,6 +20,7 @@ mod form;
 mod laws;
 mod shift;
 
+pub use cells::{carried_place, destination};
 pub use edit::Edit;
 pub use form::Form;
 pub use laws::{

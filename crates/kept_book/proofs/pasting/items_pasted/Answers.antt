@@ -24,13 +24,13 @@ loop-from-preserved c =
     elim c.if-holds.branch [
       | then-holds+in_ok-pasted+in_ok-push w ↦
           let here : covers area e.0 ≡ true = sym c.holds.ensures.test ∙ w.if-holds.true in
-          let push : c.if-holds.list.items ≡ old ++ (w.carried-to.result, w.in_ok-pasted.pasted) ∷ [] = ap (λ l. l.items) w.list-is ∙ w.in_ok-push.ensures.items in
+          let push : c.if-holds.list.items ≡ old ++ (w.carried_place-to.result, w.in_ok-pasted.pasted) ∷ [] = ap (λ l. l.items) w.list-is ∙ w.in_ok-push.ensures.items in
           record {
-            entries = pasted-next sheets area at items i e w.carried-to.result w.in_ok-pasted.pasted old c.if-holds.list.items c.loop-from-test.true c.loop-from-item.is here w.carried-to.ensures
+            entries = pasted-next sheets area at items i e w.carried_place-to.result w.in_ok-pasted.pasted old c.if-holds.list.items c.loop-from-test.true c.loop-from-item.is here w.carried_place-to.ensures
                 w.in_ok-pasted.ensures.content c.loop-from.invariant.entries push;
-            copied = subst (All IsCopied) (sym push) (All-push IsCopied old (w.carried-to.result, w.in_ok-pasted.pasted) c.loop-from.invariant.copied w.in_ok-pasted.ensures.copied);
+            copied = subst (All IsCopied) (sym push) (All-push IsCopied old (w.carried_place-to.result, w.in_ok-pasted.pasted) c.loop-from.invariant.copied w.in_ok-pasted.ensures.copied);
             there = subst (All there) (sym push)
-                (All-push there old (w.carried-to.result, w.in_ok-pasted.pasted) c.loop-from.invariant.there (ap (covers (destination area at)) w.carried-to.ensures ∙ carried-there area at e.0 here));
+                (All-push there old (w.carried_place-to.result, w.in_ok-pasted.pasted) c.loop-from.invariant.there (ap (covers (destination area at)) w.carried_place-to.ensures ∙ carried-there area at e.0 here));
           }
       | else-holds w ↦
           let same = ap (λ l. l.items) w.list-is in
