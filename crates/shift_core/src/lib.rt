@@ -3,9 +3,9 @@
 //! A [`Shift`] inserts, deletes or moves rows or columns, moves a block of cells, or drops a sheet.
 //! [`moved_place`] and [`moved_block`] say where a reference points afterwards; [`back_place`] and
 //! [`back_block`] say what it pointed at before. Inside, a shift has one of three [`Form`]s, and what it does to
-//! rows and to columns is one [`Edit`] of the lines along an axis. The laws say what these have in common, such as that
-//! a place that isn't lost comes back. Two rows put before row 5 (counted from 0) move a
-//! place in row 7 to row 9, and back again:
+//! rows and to columns is one [`Edit`] of the lines along an axis. [`Shift::opposite`] is the operation that takes
+//! a shift back. The laws say what these have in common, such as that a place that isn't lost comes back. Two rows
+//! put before row 5 (counted from 0) move a place in row 7 to row 9, and back again:
 //!
 //! ```text
 //! let two_rows = Shift::InsertRows { sheet: 0, at: 5, count: 2 };
