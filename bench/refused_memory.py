@@ -2,15 +2,17 @@
 
     python3 bench/refused_memory.py [PROGRAM]
 
-PROGRAM is crates/sheetrun/out/sheetrun where no word is given. Each script is run once with all memory; then once for each
-of its allocations, with that one refused, and once more with all from that one on refused. A run may end with status 7
-after a front of what the whole run prints, and may also print all and end as it did. Each other end is printed. The last line
-of a script counts the runs.
+PROGRAM is crates/sheetrun/out/sheetrun where no word is given. The scripts are those below, and the cases of
+crates/sheet_cases/data whose titles stand in CASES. Each script is run once with all memory; then once for each of its
+allocations, with that one refused, and once more with all from that one on refused; of a script with more than MANY
+allocations so many are tried, at even distances. A run may end with status 7 after a front of what the whole run
+prints, and may also print all and end as it did. Each other end is printed. The last line of a script counts the runs.
 """
 import os
 import subprocess
 import sys
 import tempfile
+import tomllib
 
 BOOK = b"2,10.5,=A1*B1\n3,120,=A2*B2\n,,=SUM(C1:C2)\n"
 SCRIPTS = (
@@ -28,6 +30,33 @@ SCRIPTS = (
     ("a generated list", ["--generate", "3"], b""),
     ("words without a meaning", ["--strict", "--strict"], b""),
 )
+# Cases of crates/sheet_cases/data: the file, and the titles.
+CASES = (
+    ("undo", ("undo restores a lost reference that was never read", "lost, restored, lost and restored again",
+              "a clipped range is whole again after undo", "a clipped range through two undos and a new insert",
+              "a change after undo clears the redo list", "the edge of the sheet, and back from it", "undo keeps twenty steps")),
+    ("structure", ("the edge of the sheet",)),
+    ("clipboard", ("a moved block, references into what it overwrote, undone", "a pasted reference off the sheet; a fixed one stays",
+                   "a change ends a cut, a copy pastes twice, a cut pastes once")),
+    ("names", ("a dropped sheet returns with its names and values",)),
+    ("batches", ("refusals inside a batch leave it open", "a batch of several kinds is undone and redone at once")),
+    ("long", ("a batch of 4,097 inserts undone at once",)),
+)
+# The most allocations of a script that are refused.
+MANY = 1_000
+
+
+def scripts(here):
+    """Each script: title, words, text, files."""
+    for title, words, text in SCRIPTS:
+        yield title, words, text, {"invoice.csv": BOOK}
+    for name, titles in CASES:
+        with open(os.path.join(here, "..", "crates", "sheet_cases", "data", f"{name}.toml"), "rb") as file:
+            cases = {case["shows"]: case for case in tomllib.load(file)["case"]}
+        for title in titles:
+            case = cases[title]
+            files = {it: text.lstrip("\n").encode() for it, text in case.get("files", {}).items()}
+            yield title, case.get("words", []), case["script"].encode(), files
 
 
 def built_library(folder, here):
@@ -51,7 +80,8 @@ def tried(program, title, words, script, folder, library):
     with open(os.path.join(folder, "count"), encoding="ascii") as file:
         count = int(file.read())
     wanting = passed = wrong = 0
-    for number in range(1, count + 1):
+    step = -(-count // MANY)
+    for number in range(1, count + 1, step):
         for last in (number, sys.maxsize):
             printed, end = ended(program, words, script, folder, library, number, last)
             if end == 7 and whole.startswith(printed):
@@ -61,7 +91,7 @@ def tried(program, title, words, script, folder, library):
             else:
                 wrong += 1
                 print(f"{title}: allocation {number} to {last}: status {end}, printed {printed!r}")
-    print(f"{title:32}: status {status}, {count} allocations, {wanting} runs ended for want of memory, "
+    print(f"{title}: status {status}, {count} allocations, {-(-count // step)} refused, {wanting} runs ended for want of memory, "
           f"{passed} as with all memory, {wrong} otherwise")
     return wrong == 0
 
@@ -71,9 +101,12 @@ def main(words):
     program = os.path.abspath(words[0] if words else os.path.join(here, "..", "crates", "sheetrun", "out", "sheetrun"))
     with tempfile.TemporaryDirectory() as folder:
         library = built_library(folder, here)
-        with open(os.path.join(folder, "invoice.csv"), "wb") as file:
-            file.write(BOOK)
-        ends = [tried(program, title, line, script, folder, library) for title, line, script in SCRIPTS]
+        ends = []
+        for title, words, script, files in scripts(here):
+            for name, text in files.items():
+                with open(os.path.join(folder, name), "wb") as file:
+                    file.write(text)
+            ends.append(tried(program, title, words, script, folder, library))
     return 0 if all(ends) else 1
 
 
