@@ -2,11 +2,14 @@
 use Rattle.std.specs.Prelude.{◌≡◌, ⊤, ℕ, Bool, true, false, ◌&&◌, ◌||◌, List, codes, bytes_eq, Option, Some, None}
 use Rattle.cell_addr.specs.declared.place.Block.{Block}
 use Rattle.cell_addr.specs.declared.place.Place.{Place}
+use Rattle.cell_addr.specs.Place.{Covers}
+use Rattle.cell_value.specs.declared.scalar.Scalar.{Scalar}
 use Rattle.formula_tree.specs.Links.{is_place_word}
 use Rattle.formula_tree.specs.Reference.{block_of, sheet_of}
 use Rattle.formula_tree.specs.Term.{Term, cell, area, name, prefix, percent, binary, call, paren, Terms, no_terms, term, is_reference}
 use Rattle.formula_tree.specs.declared.reference.Corner.{Corner}
 use Rattle.formula_tree.specs.declared.reference.Home.{Home}
+use Rattle.shift_core.specs.Carried.{carried_place, first_place}
 use Rattle.tree_rewrite.specs.Rewritten.{placed_by}
 use Rattle.calc_terms.specs.Cells.{cells_in, fits, height, width}
 use Rattle.calc_terms.specs.References.{own_reference}
@@ -93,3 +96,7 @@ abbrev mutual
   AllGoAlong x sized (term t ts) =
       ((sized && is_reference t) ≡ true → SizeGoes x t) × ((sized && is_reference t) ≡ false → GoesAlong x t)
       × AllGoAlong x sized ts
+
+-- each place of the first block shows what the place with the same offset in the second one does
+abbrev pub ShowsAlong : (Place → Scalar) → (Place → Scalar) → Block → Block → Type 0
+ShowsAlong v w b c = (p : Place) → Covers b p → v p ≡ w (carried_place b (first_place c) p)
