@@ -1,2 +1,3 @@
 pub mod Meaning
 pub mod Cells
+pub mod Needs

@@ -1,13 +1,17 @@
 -- What holds of formulas of which all goes along. Source: this project's own.
-use Rattle.std.specs.Prelude.{◌≡◌, ℕ, List}
+use Rattle.std.specs.Prelude.{◌≡◌, ℕ, true, List, Option, Some}
 use Rattle.cell_addr.specs.declared.place.Block.{Block}
 use Rattle.cell_addr.specs.declared.place.Place.{Place}
 use Rattle.cell_value.specs.declared.scalar.Scalar.{Scalar}
 use Rattle.custom_fn.specs.declared.rule.Rule.{Rule}
+use Rattle.formula_tree.specs.Links.{names_in}
 use Rattle.formula_tree.specs.Term.{Term}
 use Rattle.formula_tree.specs.declared.reference.Corner.{Corner}
 use Rattle.calc_terms.specs.Cells.{cells_in, height, width}
 use Rattle.calc_terms.specs.Meaning.{meaning}
+use Rattle.calc_terms.specs.Needs.{mentions}
+use Rattle.tree_rewrite.specs.Rewritten.{placed_by}
+use Rattle.carried_terms.specs.Following.{Follows}
 use Rattle.carried_terms.specs.Carried.{GoesAlong, Passage, ShowsAlong, passed}
 
 -- a formula of which all goes along means the same afterwards
@@ -20,3 +24,13 @@ CarriedMeansSame =
 abbrev pub CellsGoAlong : Type 0
 CellsGoAlong =
     (v w : Place → Scalar) (b c : Block) → height b ≡ height c → width b ≡ width c → ShowsAlong v w b c → cells_in v b ≡ cells_in w c
+
+-- the tree mentions then exactly the places to which those that it mentioned went, and the same names
+pub record NeedsGo (place : Place → Option Place) (t u : Term Corner) : Type 0 where
+  pub forth : (p : Place) → mentions t p ≡ true → (q : Place) × (place p ≡ Some q) × (mentions u q ≡ true)
+  pub back : (q : Place) → mentions u q ≡ true → (p : Place) × (place p ≡ Some q) × (mentions t p ≡ true)
+  pub names : names_in u ≡ names_in t
+
+-- it does where its references follow
+abbrev pub NeedsFollow : Type 0
+NeedsFollow = (place : Place → Option Place) (block : Block → Option Block) (t : Term Corner) → Follows place block t → NeedsGo place t (placed_by place block t)

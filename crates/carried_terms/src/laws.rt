@@ -1,5 +1,5 @@
 // What goes along with formulas, as laws.
-ghost use Rattle.carried_terms.specs.Laws.{CarriedMeansSame, CellsGoAlong};
+ghost use Rattle.carried_terms.specs.Laws.{CarriedMeansSame, CellsGoAlong, NeedsFollow};
 
 /// A formula of which all goes along means the same afterwards.
 pub fn carried_means_same()
@@ -9,4 +9,10 @@ pub fn carried_means_same()
 /// A block of the same size whose places show the same, offset by offset, has the same cells.
 pub fn cells_go_along()
     ensures { CellsGoAlong }
+{}
+
+/// A formula whose references follow mentions then exactly the places to which those that it mentioned went, and the same
+/// names.
+pub fn needs_follow()
+    ensures { NeedsFollow }
 {}

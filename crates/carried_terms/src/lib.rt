@@ -7,4 +7,4 @@
 
 mod laws;
 
-pub use laws::{carried_means_same, cells_go_along};
+pub use laws::{carried_means_same, cells_go_along, needs_follow};
