@@ -1,5 +1,5 @@
 // What goes along with formulas, as laws.
-ghost use Rattle.carried_terms.specs.Laws.{CarriedMeansSame, CellsGoAlong, NeedsFollow};
+ghost use Rattle.carried_terms.specs.Laws.{CarriedMeansSame, CellsGoAlong, KeptBlocksFollow, NeedsFollow};
 
 /// A formula of which all goes along means the same afterwards.
 pub fn carried_means_same()
@@ -15,4 +15,9 @@ pub fn cells_go_along()
 /// names.
 pub fn needs_follow()
     ensures { NeedsFollow }
+{}
+
+/// A block that a sound operation neither bends nor cuts nor tears keeps its size, and its places their offsets in it.
+pub fn kept_blocks_follow()
+    ensures { KeptBlocksFollow }
 {}

@@ -7,4 +7,4 @@
 
 mod laws;
 
-pub use laws::{carried_means_same, cells_go_along, needs_follow};
+pub use laws::{carried_means_same, cells_go_along, kept_blocks_follow, needs_follow};
