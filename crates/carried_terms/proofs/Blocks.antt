@@ -1,5 +1,5 @@
 -- A block that an operation neither bends nor cuts nor tears keeps its size and its offsets. Serves the law.
-use Rattle.std.proofs.Common.{◌≡◌, ◌≢◌, ◌∙◌, sym, ap, refl, subst, arith, ◌⊎◌, inl, inr, ℕ, suc, ◌+◌, ◌-◌, ◌≤◌, Bool, true, false, cond, ◌&&◌, Option, Some, None, MatchOption}
+use Rattle.std.proofs.Common.{◌≡◌, ◌∙◌, sym, ap, refl, subst, arith, ◌⊎◌, inl, inr, ◌-◌, true, Option, Some, MatchOption}
 use Rattle.std.specs.Prelude.{⊤}
 use Rattle.std.proofs.lemmas.Bool.{and_left, and_parts}
 use Rattle.std.proofs.lemmas.Bool.{cases_eq}
@@ -17,8 +17,7 @@ use Rattle.shift_core.specs.declared.form.Form.TheVariants.{Cells, Lines, Sheet}
 use Rattle.shift_core.proofs.BlockLaws.{block_moved_inside}
 use Rattle.shift_core.proofs.CellMoves.{Covers-from_covers, chosen_first, chosen_second, covers-from_Covers}
 use Rattle.shift_core.proofs.UnbentBlocks.{unbent_keeps}
-use Rattle.calc_terms.specs.Cells.{height, width}
-use Rattle.carried_terms.specs.Following.{IsWholeIn, KeepsOffsets, PlacesGo}
+use Rattle.carried_terms.specs.Following.{IsWholeIn}
 use Rattle.carried_terms.specs.Laws.{KeptBlocksFollow}
 
 -- what isn't bent has the same size

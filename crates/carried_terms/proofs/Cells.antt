@@ -1,7 +1,6 @@
 -- A block of the same size whose cells show the same, offset by offset, has the same cells. Serves the law.
-use Rattle.std.proofs.Common.{◌≡◌, ◌∙◌, sym, ap, ap₂, refl, arith, ℕ, zero, suc, ◌+◌, ◌-◌, ◌<◌, ◌≤◌, List, ◌∷◌, ◌++◌, map}
+use Rattle.std.proofs.Common.{◌≡◌, ◌∙◌, sym, ap, ap₂, refl, arith, ℕ, zero, suc, ◌+◌, ◌<◌, List, ◌∷◌, ◌++◌, map}
 use Rattle.std.specs.List.{flat_map, range_with_len}
-use Rattle.std.proofs.lemmas.Bool.Decides.{nat_tests}
 use Rattle.cell_addr.specs.Place.{Covers}
 use Rattle.cell_addr.specs.declared.place.Block.{Block}
 use Rattle.cell_addr.specs.declared.place.Place.{Place}
@@ -58,7 +57,7 @@ module _ (v w : Place → Scalar) (b c : Block) (heights : height b ≡ height c
         rows = heights k;
         cols = widths k;
         values = (flat_ranges (row_values v b) (row_values w c) b.top c.top (height b) rows_along
-        ∙ ap (λ n. flat_map (row_values w c) (range_with_len c.top n)) heights) k;
+            ∙ ap (λ n. flat_map (row_values w c) (range_with_len c.top n)) heights) k;
       }
 
 pub cells_go_along : CellsGoAlong

@@ -1,11 +1,10 @@
 -- A formula of which all goes along means the same afterwards. Serves the law.
-use Rattle.std.proofs.Common.{◌≡◌, ◌∙◌, sym, ap, ap₂, refl, subst, ℕ, suc, ◌+◌, ◌-◌, map, Bool, true, false, cond, ◌&&◌, ◌||◌, List, [], ◌∷◌, Option, Some, None, Ok, Err, Result, ⊎_elim, arith}
+use Rattle.std.proofs.Common.{◌≡◌, ◌∙◌, sym, ap, ap₂, refl, subst, ℕ, suc, ◌+◌, ◌-◌, map, Bool, true, false, cond, ◌||◌, List, [], ◌∷◌, Option, Some, None, Ok, Result, ⊎_elim, arith}
 use Rattle.std.specs.Prelude.{⊤, codes, bytes_eq}
 use Rattle.std.specs.List.{find}
 use Rattle.std.specs.Cmp.Lexicographic.{bytes_decides}
 use Rattle.std.specs.Option.{option_map, option_or}
-use Rattle.std.proofs.lemmas.Bool.{cases_Bool, false≢true, or_cases, or_left, or_right}
-use Rattle.cell_addr.specs.declared.place.Place.{Place}
+use Rattle.std.proofs.lemmas.Bool.{cases_Bool, false≢true, or_cases}
 use Rattle.cell_addr.specs.declared.place.Block.{Block}
 use Rattle.cell_value.specs.declared.argument.Arg.TheVariants.{One, Many}
 use Rattle.cell_value.specs.declared.fault.FaultKind.{FaultKind}
@@ -17,18 +16,16 @@ use Rattle.formula_tree.specs.Links.{is_place_word}
 use Rattle.formula_tree.specs.Reference.{base_of, sheet_of, block_of}
 use Rattle.formula_tree.specs.Term.{Term, number, text, truth, fault, cell, area, name, prefix, percent, binary, call, paren, Terms, no_terms, term, is_reference, mapped_all}
 use Rattle.formula_tree.specs.declared.reference.Corner.{Corner}
-use Rattle.formula_tree.specs.declared.reference.Home.{Home}
 use Rattle.operators.specs.Operators.{combined, hundredth, signed_value}
-use Rattle.shift_core.specs.Carried.{first_place, last_place}
-use Rattle.tree_rewrite.specs.Rewritten.{area_at, cell_at, placed_by}
+use Rattle.tree_rewrite.specs.Rewritten.{area_at, cell_at}
 use Rattle.calc_terms.specs.Calls.{call_value, custom_value, data_value}
-use Rattle.calc_terms.specs.Cells.{cells_in, fits, height, width}
+use Rattle.calc_terms.specs.Cells.{cells_in, fits}
 use Rattle.calc_terms.specs.Choices.{choice_value}
 use Rattle.calc_terms.specs.Meaning.{evaluated, meaning, value_named}
-use Rattle.calc_terms.specs.Places.{count_in, count_of, place_count, place_value}
-use Rattle.calc_terms.specs.References.{area_reference, argument_block, argument_cells, argument_of, argument_value, data_arguments, own_reference, reference_block, reference_named, reference_of}
+use Rattle.calc_terms.specs.Places.{count_in, count_of, place_value}
+use Rattle.calc_terms.specs.References.{area_reference, argument_block, argument_cells, argument_of, argument_value, data_arguments, reference_named, reference_of}
 use Rattle.calc_terms.specs.Words.{choice_named, data_named, function_named, place_named, place_word, takes_block}
-use Rattle.calc_terms.specs.World.{Named, World}
+use Rattle.calc_terms.specs.World.{Named}
 use Rattle.calc_terms.specs.declared.argument.Argument.{Argument}
 use Rattle.calc_terms.specs.declared.argument.Argument.TheVariants as argument
 use Rattle.calc_terms.specs.declared.function.ChoiceFn.{ChoiceFn}
@@ -39,7 +36,7 @@ use Rattle.calc_terms.specs.declared.function.PlaceFn.{PlaceFn}
 use Rattle.calc_terms.specs.declared.function.PlaceFn.TheVariants.{Row, Column, Rows, Columns}
 use Rattle.calc_terms.specs.declared.reference.Reference.{Reference}
 use Rattle.calc_terms.specs.declared.reference.Reference.TheVariants as reference
-use Rattle.carried_terms.specs.Carried.{AllGoAlong, AreaGoes, CellGoes, CellsAgree, GoesAlong, NamesAgree, Passage, ReferencesAgree, SizeGoes, SizesAgree, asks_where, passed}
+use Rattle.carried_terms.specs.Carried.{AllGoAlong, CellsAgree, GoesAlong, NamesAgree, Passage, ReferencesAgree, SizeGoes, SizesAgree, asks_where, passed}
 use Rattle.carried_terms.specs.Laws.{CarriedMeansSame}
 
 -- a function that asks for sizes
@@ -311,9 +308,9 @@ module _ (x : Passage) (customs : List (List ℕ × Rule)) (today : x.old.today 
     all_sized no_terms h = tt
     all_sized (term t ts) h = (
       ⊎_elim
-      (λ (is : is_reference t ≡ true). sized_agrees t is (h.0 is))
-      (λ (isnt : is_reference t ≡ false). only_sizes _ _ (argument_agrees _ _ _ _ (references_agree t (h.1 isnt)) (means t (h.1 isnt))))
-      (cases_Bool (is_reference t)),
+          (λ (is : is_reference t ≡ true). sized_agrees t is (h.0 is))
+          (λ (isnt : is_reference t ≡ false). only_sizes _ _ (argument_agrees _ _ _ _ (references_agree t (h.1 isnt)) (means t (h.1 isnt))))
+          (cases_Bool (is_reference t)),
       all_sized ts h.2,
     )
 

@@ -1,9 +1,8 @@
 -- A formula whose references follow mentions the places to which they went. Serves the law.
-use Rattle.std.proofs.Common.{◌≡◌, ◌∙◌, sym, ap, ap₂, refl, subst, ℕ, Bool, true, false, not, ◌&&◌, ◌||◌, List, [], ◌++◌, Option, Some, None, ⊎_elim}
-use Rattle.std.proofs.lemmas.Bool.{and_from, and_parts, cases_Bool, false≢true, or_cases, or_left, or_right}
+use Rattle.std.proofs.Common.{◌≡◌, ◌∙◌, sym, ap, ap₂, refl, Bool, true, false, not, ◌&&◌, [], ◌++◌, Option, Some, None, ⊎_elim}
+use Rattle.std.proofs.lemmas.Bool.{and_from, and_parts, false≢true, or_cases, or_left, or_right}
 use Rattle.cell_addr.specs.declared.place.Block.{Block}
 use Rattle.cell_addr.specs.declared.place.Place.{Place}
-use Rattle.cell_addr.specs.Place.{covers, same_place}
 use Rattle.cell_addr.proofs.SamePlaces.{same_place-equal, same_place-self}
 use Rattle.formula_tree.specs.Links.{is_place_word, names_in, names_in_all}
 use Rattle.formula_tree.specs.Reference.{block_of}
