@@ -1,0 +1,4 @@
+pub mod Meaning
+pub mod Cells
+pub mod Needs
+pub mod Blocks

@@ -1,0 +1,46 @@
+-- What holds of formulas of which all goes along. Source: this project's own.
+use Rattle.std.specs.Prelude.{◌≡◌, ℕ, true, List, Option, Some}
+use Rattle.cell_addr.specs.Place.{IsBlockInside}
+use Rattle.cell_addr.specs.declared.place.Block.{Block}
+use Rattle.cell_addr.specs.declared.place.Place.{Place}
+use Rattle.cell_value.specs.declared.scalar.Scalar.{Scalar}
+use Rattle.custom_fn.specs.declared.rule.Rule.{Rule}
+use Rattle.formula_tree.specs.Links.{names_in}
+use Rattle.formula_tree.specs.Term.{Term}
+use Rattle.formula_tree.specs.declared.reference.Corner.{Corner}
+use Rattle.calc_terms.specs.Cells.{cells_in, height, width}
+use Rattle.calc_terms.specs.Meaning.{meaning}
+use Rattle.calc_terms.specs.Needs.{mentions}
+use Rattle.shift_core.specs.Bent.{IsBent, IsCut}
+use Rattle.shift_core.specs.Sound.{IsSound}
+use Rattle.shift_core.specs.Tables.{block_after}
+use Rattle.shift_core.specs.declared.shift.Shift.{Shift}
+use Rattle.tree_rewrite.specs.Rewritten.{placed_by}
+use Rattle.carried_terms.specs.Following.{Follows, IsWhole, KeepsOffsets}
+use Rattle.carried_terms.specs.Carried.{GoesAlong, Passage, ShowsAlong, passed}
+
+-- a formula of which all goes along means the same afterwards
+abbrev pub CarriedMeansSame : Type 0
+CarriedMeansSame =
+    (x : Passage) (customs : List (List ℕ × Rule)) (t : Term Corner) → x.old.today ≡ x.new.today → GoesAlong x t →
+    meaning x.old customs x.from t ≡ meaning x.new customs x.to (passed x t)
+
+-- a block of the same size whose places show the same, offset by offset, has the same cells
+abbrev pub CellsGoAlong : Type 0
+CellsGoAlong =
+    (v w : Place → Scalar) (b c : Block) → height b ≡ height c → width b ≡ width c → ShowsAlong v w b c → cells_in v b ≡ cells_in w c
+
+-- the tree mentions then exactly the places to which those that it mentioned went, and the same names
+pub record NeedsGo (place : Place → Option Place) (t u : Term Corner) : Type 0 where
+  pub forth : (p : Place) → mentions t p ≡ true → (q : Place) × (place p ≡ Some q) × (mentions u q ≡ true)
+  pub back : (q : Place) → mentions u q ≡ true → (p : Place) × (place p ≡ Some q) × (mentions t p ≡ true)
+  pub names : names_in u ≡ names_in t
+
+-- it does where its references follow
+abbrev pub NeedsFollow : Type 0
+NeedsFollow = (place : Place → Option Place) (block : Block → Option Block) (t : Term Corner) → Follows place block t → NeedsGo place t (placed_by place block t)
+
+-- a block that an operation neither bends nor cuts nor tears keeps its size, and its places their offsets in it
+abbrev pub KeptBlocksFollow : Type 0
+KeptBlocksFollow =
+    (s : Shift) (b c : Block) → IsSound s → IsBlockInside b → ¬ IsBent s b → ¬ IsCut s b → IsWhole s b → block_after s b ≡ Some c → KeepsOffsets s b c

@@ -1,0 +1,3 @@
+pub mod Carried
+pub mod Following
+pub mod Laws
