@@ -14,21 +14,20 @@ use Rattle.shift_core.specs.declared.form.Form.TheVariants.{Lines}
 use Rattle.shift_core.specs.declared.shift.Shift.{Shift}
 use Rattle.stable_lines.specs.declared.sheets.SheetLines.{SheetLines}
 use Rattle.grid_store.specs.Keys.{place_at}
-use Rattle.grid_store.specs.declared.cell.Cell.{Cell}
 use Rattle.grid_store.specs.declared.grid.Grid.{Grid}
 use Rattle.grid_store.specs.declared.key.CellKey.{CellKey}
 use Rattle.grid_store.specs.declared.list.CellList.{CellList}
 
 -- a kept cell at the place of its key
-abbrev pub placed : SheetLines → SheetLines → CellKey × Cell → Option (Place × Cell)
+abbrev pub placed : {X : Type 0} → SheetLines → SheetLines → CellKey × X → Option (Place × X)
 placed rows cols e = option_map (λ p. (p, e.1)) (place_at rows cols e.0)
 
 -- the map that a grid stands for
-abbrev pub cells_of : Grid → PlaceMap Cell
+abbrev pub cells_of : {X : Type 0} → Grid X → PlaceMap X
 cells_of g = map.from_entries (filter_map (placed g.rows g.cols) g.cells.entries)
 
 -- the cells of a list with their places
-abbrev pub items_of : CellList → List (Place × Cell)
+abbrev pub items_of : {X : Type 0} → CellList X → List (Place × X)
 items_of l = l.list.items
 
 -- the entries of a block
@@ -50,7 +49,7 @@ with_entries [] m = m
 with_entries (e ∷ es) m = map.insert (with_entries es m) e.0 e.1
 
 -- the lines of all sheets are as they were
-abbrev pub KeepsLines : Grid → Grid → Type 0
+abbrev pub KeepsLines : {X : Type 0} → Grid X → Grid X → Type 0
 KeepsLines old new = (new.rows ≡ old.rows) × (new.cols ≡ old.cols)
 
 -- the places of a list are all on the sheet

@@ -7,7 +7,7 @@ ghost use Rattle.stable_lines.specs.Sheets.{table_of};
 ghost use Rattle.grid_store.specs.Grid.{cells_of, items_of, within};
 ghost use Rattle.grid_store.specs.internal.Listing.{AreCellsOf, AreLinesAt, HasCols, HasLines, HasRows, IsAdded, KeepsNone, StillHas};
 
-use crate::cell::Cell;
+use crate::duplicate::Duplicate;
 use crate::grid::Grid;
 use crate::key::CellKey;
 use crate::list::CellList;
@@ -16,10 +16,10 @@ use stable_lines::Run;
 use std::alloc::{AllocError, Global};
 use std::collections::BTreeMap;
 
-impl Grid {
+impl<V: Duplicate> Grid<V> {
     /// Copies of the filled cells of the block, row by row. Costs about their number and that of its rows that hold any cell, these
     /// as often as the lines of its columns stand in runs; not the number of its rows, nor of the cells beside it.
-    pub fn listed(&self, area: Block) -> Result<CellList, AllocError>
+    pub fn listed(&self, area: Block) -> Result<CellList<V>, AllocError>
         ensures { IfOk result (λ list. items_of list ≡ map.entries (within area (cells_of self.now))) }
     {
         let mut found = BTreeMap::new(self.alloc);
@@ -28,13 +28,13 @@ impl Grid {
     }
 
     /// Copies of all filled cells with their places, in no order that is told. Costs the number of filled cells.
-    pub fn all(&self) -> Result<CellList, AllocError>
+    pub fn all(&self) -> Result<CellList<V>, AllocError>
         ensures { IfOk result (λ list. map.from_entries (items_of list) ≡ cells_of self.now) }
     {
         let mut list = CellList::new(self.alloc)?;
         for (key, cell) in &self.cells {
             if let Some(at) = self.place(*key) {
-                let cell = cell.copied(self.alloc)?;
+                let cell = cell.duplicate(self.alloc)?;
                 list.push(at, cell)?;
             }
         }
@@ -42,7 +42,7 @@ impl Grid {
     }
 
     // Finds the filled cells of the block, by its runs of rows whose lines follow one another.
-    fn find(&self, area: Block, found: &mut BTreeMap<Place, Cell>) -> Result<(), AllocError>
+    fn find(&self, area: Block, found: &mut BTreeMap<Place, V>) -> Result<(), AllocError>
         requires { IsEmpty found.old }
         ensures cells { OnOk result (AreCellsOf area (cells_of self.now) found.new) }
         ensures rows { OnOk result (HasRows area (cells_of self.now) 0 (area.bottom + 1) found.new) }
@@ -65,7 +65,7 @@ impl Grid {
         &self,
         area: Block,
         lines: Run,
-        found: &mut BTreeMap<Place, Cell>,
+        found: &mut BTreeMap<Place, V>,
     ) -> Result<(), AllocError>
         requires cells { AreCellsOf area (cells_of self.now) found.old }
         requires lines { AreLinesAt (table_of self.now.rows area.sheet) lines }
@@ -83,31 +83,12 @@ impl Grid {
         Ok(())
     }
 
-    // The first of the sheet's lines of rows, from `row` to before `end`, that holds a cell.
-    pub(crate) fn filled_line(&self, sheet: u32, row: u64, end: u64) -> Option<u64>
-        requires { row ≤ end }
-        ensures within { IfSome result (λ line. (row ≤ line) × (line < end)) }
-        ensures before { IfSome result (KeepsNone self.now sheet row) }
-        ensures none { IfNone result (KeepsNone self.now sheet row end) }
-    {
-        let first = CellKey { sheet, row, col: 0 };
-        let end = CellKey {
-            sheet,
-            row: end,
-            col: 0,
-        };
-        match self.cells.range(first..end).next() {
-            Some((key, _cell)) => Some(key.row),
-            None => None,
-        }
-    }
-
     // Finds the filled cells of the block that are on one line of rows, by its runs of columns whose lines follow one another.
     fn find_in_row(
         &self,
         area: Block,
         row: u64,
-        found: &mut BTreeMap<Place, Cell>,
+        found: &mut BTreeMap<Place, V>,
     ) -> Result<(), AllocError>
         requires { AreCellsOf area (cells_of self.now) found.old }
         ensures cells { OnOk result (AreCellsOf area (cells_of self.now) found.new) }
@@ -133,7 +114,7 @@ impl Grid {
         area: Block,
         row: u64,
         lines: Run,
-        found: &mut BTreeMap<Place, Cell>,
+        found: &mut BTreeMap<Place, V>,
     ) -> Result<(), AllocError>
         requires cells { AreCellsOf area (cells_of self.now) found.old }
         requires lines { AreLinesAt (table_of self.now.cols area.sheet) lines }
@@ -164,22 +145,43 @@ impl Grid {
     }
 }
 
+impl<V: Drop> Grid<V> {
+    // The first of the sheet's lines of rows, from `row` to before `end`, that holds a cell.
+    pub(crate) fn filled_line(&self, sheet: u32, row: u64, end: u64) -> Option<u64>
+        requires { row ≤ end }
+        ensures within { IfSome result (λ line. (row ≤ line) × (line < end)) }
+        ensures before { IfSome result (KeepsNone self.now sheet row) }
+        ensures none { IfNone result (KeepsNone self.now sheet row end) }
+    {
+        let first = CellKey { sheet, row, col: 0 };
+        let end = CellKey {
+            sheet,
+            row: end,
+            col: 0,
+        };
+        match self.cells.range(first..end).next() {
+            Some((key, _cell)) => Some(key.row),
+            None => None,
+        }
+    }
+}
+
 // Adds a copy of the cell.
-fn add(
+fn add<V: Duplicate>(
     alloc: Global,
-    found: &mut BTreeMap<Place, Cell>,
+    found: &mut BTreeMap<Place, V>,
     at: Place,
-    cell: &Cell,
+    cell: &V,
 ) -> Result<(), AllocError>
     ensures { OnOk result (IsAdded found.old at cell.now found.new) }
 {
-    let copy = cell.copied(alloc)?;
+    let copy = cell.duplicate(alloc)?;
     found.insert(at, copy)?;
     Ok(())
 }
 
 // The found cells, in the order of their places.
-fn in_order(alloc: Global, found: BTreeMap<Place, Cell>) -> Result<CellList, AllocError>
+fn in_order<V: Drop>(alloc: Global, found: BTreeMap<Place, V>) -> Result<CellList<V>, AllocError>
     ensures { IfOk result (λ list. (items_of list ≡ found.entries) × IsOrdered place_cmp found) }
 {
     let _many = found.len();

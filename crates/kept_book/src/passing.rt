@@ -12,7 +12,7 @@ ghost use Rattle.kept_book.specs.internal.Stepping.{CanRepeat, CanReturn, Change
 
 use crate::part::{NameChange, Part, SheetChange};
 use cell_addr::Text;
-use grid_store::{CellList, Grid};
+use grid_store::{Cell, CellList, Grid};
 use name_table::Names;
 use shift_core::Shift;
 use shift_line::Line;
@@ -29,7 +29,7 @@ pub(crate) enum Side {
 pub(crate) fn step_back(
     alloc: Global,
     line: &Line,
-    grid: &mut Grid,
+    grid: &mut Grid<Cell>,
     parts: &[Part],
 ) -> Result<(), AllocError>
     requires sound { IsSoundLine line.now }
@@ -51,7 +51,7 @@ pub(crate) fn step_back(
 pub(crate) fn step_forth(
     alloc: Global,
     line: &Line,
-    grid: &mut Grid,
+    grid: &mut Grid<Cell>,
     parts: &[Part],
 ) -> Result<(), AllocError>
     requires sound { IsSoundLine line.now }
@@ -81,7 +81,7 @@ fn shift_of(line: &Line, part: &Part) -> Option<Shift>
 }
 
 // Takes the cells back over one part.
-fn cells_behind(alloc: Global, line: &Line, grid: &mut Grid, part: &Part) -> Result<(), AllocError>
+fn cells_behind(alloc: Global, line: &Line, grid: &mut Grid<Cell>, part: &Part) -> Result<(), AllocError>
     requires sound { IsSoundLine line.now }
     ensures ok { OnOk result (cells_of grid.new ≡ cells_before (shift_of (shift_at line.now) (change_of part.now)) (change_of part.now) (cells_of grid.old)) }
     ensures err { OnErr result (cells_of grid.new ≡ cells_of grid.old) }
@@ -97,7 +97,7 @@ fn cells_behind(alloc: Global, line: &Line, grid: &mut Grid, part: &Part) -> Res
 }
 
 // Takes the cells forth over one part.
-fn cells_ahead(alloc: Global, line: &Line, grid: &mut Grid, part: &Part) -> Result<(), AllocError>
+fn cells_ahead(alloc: Global, line: &Line, grid: &mut Grid<Cell>, part: &Part) -> Result<(), AllocError>
     requires sound { IsSoundLine line.now }
     ensures ok { OnOk result (cells_of grid.new ≡ cells_after (shift_of (shift_at line.now) (change_of part.now)) (change_of part.now) (cells_of grid.old)) }
     ensures err { OnErr result (cells_of grid.new ≡ cells_of grid.old) }
@@ -116,7 +116,7 @@ fn cells_ahead(alloc: Global, line: &Line, grid: &mut Grid, part: &Part) -> Resu
 }
 
 // An equal list of cells.
-pub(crate) fn copied(alloc: Global, cells: &CellList) -> Result<CellList, AllocError>
+pub(crate) fn copied(alloc: Global, cells: &CellList<Cell>) -> Result<CellList<Cell>, AllocError>
     ensures { IfOk result (λ copy. items_of copy ≡ items_of cells.now) }
 {
     let mut copy = CellList::new(alloc)?;

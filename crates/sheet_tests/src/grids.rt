@@ -19,7 +19,7 @@ fn place(at: Spot) -> Place {
 }
 
 // Puts a cell at each place, which holds the number of its place in the list.
-fn fill(grid: &mut Grid, places: &[Spot]) -> Result<(), AllocError> {
+fn fill(grid: &mut Grid<Cell>, places: &[Spot]) -> Result<(), AllocError> {
     for (number, at) in places.iter().enumerate() {
         let at = place(*at);
         if at.inside() {
@@ -30,13 +30,13 @@ fn fill(grid: &mut Grid, places: &[Spot]) -> Result<(), AllocError> {
 }
 
 // Whether the grid has these cells, each with this number, and no others.
-fn has(grid: &Grid, cells: &[(Spot, u64)]) -> bool {
+fn has(grid: &Grid<Cell>, cells: &[(Spot, u64)]) -> bool {
     let all = cells.iter().all(|cell| stands(grid, cell.0, cell.1));
     all && grid.filled() == cells.len() as u64
 }
 
 // Whether the cell with the number is at the place.
-fn stands(grid: &Grid, at: Spot, number: u64) -> bool {
+fn stands(grid: &Grid<Cell>, at: Spot, number: u64) -> bool {
     match grid.cell(place(at)) {
         Some(Cell::Formula(held)) => *held == number,
         _ => false,
@@ -44,7 +44,7 @@ fn stands(grid: &Grid, at: Spot, number: u64) -> bool {
 }
 
 // Whether the list has these places, in order.
-fn lists(list: &CellList, places: &[Spot]) -> bool {
+fn lists(list: &CellList<Cell>, places: &[Spot]) -> bool {
     let mut rest = places;
     for (at, _) in list.items() {
         match rest {
@@ -215,7 +215,7 @@ const OPERATIONS: &[Operation] = &[
 ];
 
 // Takes the operation back. Whether the grid has its cells again.
-fn goes_back(grid: &mut Grid, shift: &Shift, removed: CellList) -> Result<bool, AllocError>
+fn goes_back(grid: &mut Grid<Cell>, shift: &Shift, removed: CellList<Cell>) -> Result<bool, AllocError>
     requires { IsSound shift.now }
 {
     if !removed.inside() {
@@ -226,7 +226,7 @@ fn goes_back(grid: &mut Grid, shift: &Shift, removed: CellList) -> Result<bool, 
 }
 
 // Does the operation and takes it back. Whether the right cells move, and the right ones are removed.
-fn is_done(grid: &mut Grid, operation: &Operation) -> Result<bool, AllocError>
+fn is_done(grid: &mut Grid<Cell>, operation: &Operation) -> Result<bool, AllocError>
     requires { IsSound operation.now.0 }
 {
     let (shift, cells, places) = operation;
@@ -236,7 +236,7 @@ fn is_done(grid: &mut Grid, operation: &Operation) -> Result<bool, AllocError>
 }
 
 // The same, and whether a copy of the grid stays as it is.
-fn is_done_beside_copy(grid: &mut Grid, operation: &Operation) -> Result<bool, AllocError>
+fn is_done_beside_copy(grid: &mut Grid<Cell>, operation: &Operation) -> Result<bool, AllocError>
     requires { IsSound operation.now.0 }
 {
     let copy = grid.copied()?;
@@ -281,25 +281,25 @@ const LOWER_ROWS: Block = Block {
 const IN_LOWER_ROWS: [Spot; 4] = [(0, 3, 1), (0, 3, 2), (0, 4, 0), (0, 9, 5)];
 
 // Whether the cells of the lower rows are listed.
-fn are_listed(grid: &Grid) -> Result<bool, AllocError> {
+fn are_listed(grid: &Grid<Cell>) -> Result<bool, AllocError> {
     let list = grid.listed(LOWER_ROWS)?;
     Ok(lists(&list, &IN_LOWER_ROWS))
 }
 
 // Takes the cells of the lower rows out. Whether they are listed, and the others stay.
-fn are_cleared(grid: &mut Grid) -> Result<bool, AllocError> {
+fn are_cleared(grid: &mut Grid<Cell>) -> Result<bool, AllocError> {
     let list = grid.clear(LOWER_ROWS)?;
     Ok(lists(&list, &IN_LOWER_ROWS) && grid.filled() == 3)
 }
 
 // Takes the first cell out, and none off the sheet. Whether the others stay.
-fn is_taken(grid: &mut Grid) -> bool {
+fn is_taken(grid: &mut Grid<Cell>) -> bool {
     let is_out = grid.take(place((0, 0, 0))).is_some();
     is_out && grid.take(place((0, 40_000, 0))).is_none() && grid.filled() == 2
 }
 
 // Whether the grid lists its cells and is emptied of them.
-fn is_emptied(grid: &mut Grid) -> Result<bool, AllocError> {
+fn is_emptied(grid: &mut Grid<Cell>) -> Result<bool, AllocError> {
     let is_pushed = grid.pushed_off(&ROW_IN_FIRST) && !grid.pushed_off(&ROW_IN_SECOND);
     Ok(is_pushed && are_listed(grid)? && are_cleared(grid)? && is_taken(grid))
 }
@@ -321,7 +321,7 @@ fn copy_has(alloc: Global, cell: &Cell, expected: &str) -> Result<bool, AllocErr
 }
 
 // Whether the list's one cell has a copy with the text.
-fn one_has(alloc: Global, list: &CellList, expected: &str) -> Result<bool, AllocError> {
+fn one_has(alloc: Global, list: &CellList<Cell>, expected: &str) -> Result<bool, AllocError> {
     match list.items() {
         [(_, cell)] => copy_has(alloc, cell, expected),
         _ => Ok(false),
