@@ -81,7 +81,12 @@ fn shift_of(line: &Line, part: &Part) -> Option<Shift>
 }
 
 // Takes the cells back over one part.
-fn cells_behind(alloc: Global, line: &Line, grid: &mut Grid<Cell>, part: &Part) -> Result<(), AllocError>
+fn cells_behind(
+    alloc: Global,
+    line: &Line,
+    grid: &mut Grid<Cell>,
+    part: &Part,
+) -> Result<(), AllocError>
     requires sound { IsSoundLine line.now }
     ensures ok { OnOk result (cells_of grid.new ≡ cells_before (shift_of (shift_at line.now) (change_of part.now)) (change_of part.now) (cells_of grid.old)) }
     ensures err { OnErr result (cells_of grid.new ≡ cells_of grid.old) }
@@ -97,7 +102,12 @@ fn cells_behind(alloc: Global, line: &Line, grid: &mut Grid<Cell>, part: &Part) 
 }
 
 // Takes the cells forth over one part.
-fn cells_ahead(alloc: Global, line: &Line, grid: &mut Grid<Cell>, part: &Part) -> Result<(), AllocError>
+fn cells_ahead(
+    alloc: Global,
+    line: &Line,
+    grid: &mut Grid<Cell>,
+    part: &Part,
+) -> Result<(), AllocError>
     requires sound { IsSoundLine line.now }
     ensures ok { OnOk result (cells_of grid.new ≡ cells_after (shift_of (shift_at line.now) (change_of part.now)) (change_of part.now) (cells_of grid.old)) }
     ensures err { OnErr result (cells_of grid.new ≡ cells_of grid.old) }
