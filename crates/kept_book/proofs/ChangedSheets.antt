@@ -17,7 +17,6 @@ use Rattle.name_table.proofs.SheetEntries.{Lacks, Sheet}
 use Rattle.name_table.specs.SheetLists.{CanJoin, index_in, left_in, renamed_in}
 use Rattle.name_table.specs.declared.names.Names.{Names}
 use Rattle.shift_line.specs.Track.{shift_at}
-use Rattle.book_model.specs.Workbook.{Workbook}
 use Rattle.kept_book.specs.Change.{HasSlot, Joins, with_slot}
 use Rattle.kept_book.specs.Frame.{Stands}
 use Rattle.kept_book.specs.Kept.{KeepsUpTo}
