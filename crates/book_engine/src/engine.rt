@@ -372,7 +372,7 @@ impl<C: Customs> Engine<C> {
 
     /// Goes back to the whole workbook from before the last step. No formula is touched. Costs the cells, names and sheets that
     /// the step changed and the lines that its operations edited; a step that changed names or sheets copies their table once,
-    /// and one of several operations the cells.
+    /// and one of several operations of which one is structural the cells.
     ///
     /// # Errors
     /// `BatchOpen`, `NothingToUndo`.

@@ -281,7 +281,7 @@ impl Parts {
 }
 
 // Takes the last cell off the list, and answers its place.
-pub(crate) fn next_place(cells: &mut CellList) -> Option<Place>
+pub(crate) fn next_place(cells: &mut CellList<Cell>) -> Option<Place>
     ensures { MatchOption result (items_of cells.old ≡ []) (λ at. (cell : _) × (items_of cells.old ≡ items_of cells.new ++ (at, cell) ∷ [])) }
 {
     let (at, _) = cells.pop()?;

@@ -8,8 +8,9 @@ use Rattle.std.specs.List.{AllByRecursion}
 use Rattle.std.specs.Ordering.{eq_by_cmp}
 use Rattle.std.proofs.lemmas.Bool.{both_ways}
 use Rattle.std.proofs.lemmas.List.Folds.{list_any-append}
+use Rattle.std.proofs.lemmas.Map.Entries.{lookup-filter-keys}
 use Rattle.cell_addr.specs.Order.{place_cmp}
-use Rattle.cell_addr.specs.Place.{IsInside, covers}
+use Rattle.cell_addr.specs.Place.{covers}
 use Rattle.cell_addr.specs.declared.place.Block.{Block}
 use Rattle.cell_addr.specs.declared.place.Place.{Place}
 use Rattle.cell_addr.proofs.Places.{place_cmp-IsTotalOrder, place_cmp-IsAntisymmetric}
@@ -17,8 +18,7 @@ use Rattle.shift_core.specs.Maps.{PlaceMap}
 use Rattle.shift_core.proofs.CarriedEntries.{eq_by_cmp-decides}
 use Rattle.shift_core.proofs.MovedMaps.{find_place}
 use Rattle.grid_store.specs.Grid.{outside, with_entries, within, without_places}
-use Rattle.grid_store.specs.internal.Exchange.{AreFilled, HasAll, HasSame, is_among}
-use Rattle.grid_store.specs.internal.Lists.{AreEachInside}
+use Rattle.grid_store.specs.internal.Exchange.{AreFilled, HasSame, LacksAll, is_among, places_of}
 use Rattle.grid_store.proofs.Fills.{first_of_two, get-with}
 use Rattle.grid_store.proofs.PlaceMaps.{entries-kept, get-kept, same_places}
 
@@ -47,19 +47,7 @@ some-or true x r h = refl
 some-or false x r h = h
 
 module _ {X : Type 0} (x : X) where
-  -- a place that is filled is gone by
-  pub filled-on : (m n : PlaceMap X) (p q : Place) (rest : List Place) → n ≡ fin.insert m p x → (is_among (p ∷ rest) q ≡ true) ⊎ IsSome (get m q) → (is_among rest q ≡ true) ⊎ IsSome (get n q)
-  filled-on m n p q rest new h =
-      let there : get n q ≡ cond (eq_by_cmp place_cmp q p) (Some x) (get m q) = ap (λ z. get z q) new ∙ get-insert place_cmp-IsTotalOrder m p x q in
-      elim h [
-        | inl a ↦ elim (or-parts (eq_by_cmp place_cmp q p) (is_among rest q) a) [
-          | inl here ↦ inr (ap is_some (there ∙ ap (λ b. cond b (Some x) (get m q)) here))
-          | inr later ↦ inl later
-        ]
-        | inr some ↦ inr (subst IsSome (sym there) (some-or (eq_by_cmp place_cmp q p) x (get m q) some))
-      ]
-
-  pub same-on : (m n : PlaceMap X) (p q : Place) → n ≡ fin.insert m p x → eq_by_cmp place_cmp q p ≡ false → get n q ≡ get m q
+  same-on : (m n : PlaceMap X) (p q : Place) → n ≡ fin.insert m p x → eq_by_cmp place_cmp q p ≡ false → get n q ≡ get m q
   same-on m n p q new other = ap (λ z. get z q) new ∙ get-insert place_cmp-IsTotalOrder m p x q ∙ ap (λ b. cond b (Some x) (get m q)) other
 
   pub filled-insert : (es : List (Place × X)) (m n : PlaceMap X) (p : Place) → n ≡ fin.insert m p x → AreFilled es m → AreFilled es n
@@ -118,39 +106,6 @@ get-without_places [] m q = refl
 get-without_places (p ∷ ps) m q =
     get-without_places ps (fin.remove m p) q ∙ ap (cond (is_among ps q) None) (get-remove place_cmp-IsTotalOrder m p q) ∙ gone-or (is_among ps q) (eq_by_cmp place_cmp q p) (get m q)
 
--- places of which the empty ones were filled
-module _ {X : Type 0} (places fresh : List Place) (m n : PlaceMap X) (are : fresh ≡ filter (λ p. is_none (get m p)) places) (same : HasSame fresh m n) where
-  fresh-is : (q : Place) → is_among fresh q ≡ (is_among places q && is_none (get m q))
-  fresh-is q = ap (λ ps. is_among ps q) are ∙ among-filter (λ p. is_none (get m p)) places q
-
-  all-or : (q : Place) (b : Bool) (r : Option X) → is_among fresh q ≡ b → get m q ≡ r → is_among places q ≡ true → HasAll fresh n → IsSome (get n q)
-  all-or q true r e f there all = all q e
-  all-or q false (Some x) e f there all = ap is_some (same q e ∙ f)
-  all-or q false None e f there all = absurd (both_ways (is_among fresh q) e (fresh-is q ∙ ap (λ a. a && is_none (get m q)) there ∙ ap is_none f))
-
-  pub held-all : HasAll fresh n → HasAll places n
-  held-all all q there = all-or q (is_among fresh q) (get m q) refl refl there all
-
-  pub held-same : HasSame places m n
-  held-same q out = same q (fresh-is q ∙ ap (λ a. a && is_none (get m q)) out)
-
-  as-was : (q : Place) (b : Bool) (r : Option X) → is_among fresh q ≡ b → get m q ≡ r → cond b None (get n q) ≡ r
-  as-was q true None e f = refl
-  as-was q true (Some x) e f = absurd (both_ways (is_among fresh q) (fresh-is q ∙ ap (λ a. is_among places q && is_none a) f ∙ none (is_among places q)) e)
-    where
-      none : (s : Bool) → (s && false) ≡ false
-      none true = refl
-      none false = refl
-  as-was q false r e f = same q e ∙ f
-
-  -- and emptied again
-  pub left-as-was : without_places fresh n ≡ m
-  left-as-was = same_places _ _ (λ q. get-without_places fresh n q ∙ as-was q (is_among fresh q) (get m q) refl refl)
-
-pub inside-places : {X : Type 0} (es : List (Place × X)) → AreEachInside es → AllByRecursion IsInside (map (λ e. e.0) es)
-inside-places [] h = tt
-inside-places (e ∷ es) h = (h.0, inside-places es h.1)
-
 self-among : (p : Place) → eq_by_cmp place_cmp p p ≡ true
 self-among p = (eq_by_cmp-decides place_cmp-IsTotalOrder place_cmp-IsAntisymmetric p p).1 refl
 
@@ -165,35 +120,106 @@ each-among P (e ∷ es) h = (
   each-among P es (λ q there. h q (later-among (eq_by_cmp place_cmp q e.0) (is_among (map (λ e. e.0) es) q) there)),
 )
 
--- an exchange: `targets` are the places of what is placed, and `left` those that are emptied for good
-module _ {X : Type 0} (emptied targets left : List Place) (es : List (Place × X)) (m n : PlaceMap X)
-    (are : targets ≡ map (λ e. e.0) es) (rest : left ≡ filter (λ p. not (is_among targets p)) emptied) (all : HasAll targets n) (same : HasSame targets m n) where
-  left-is : (q : Place) → is_among left q ≡ (is_among emptied q && not (is_among targets q))
-  left-is q = ap (λ ps. is_among ps q) rest ∙ among-filter (λ p. not (is_among targets p)) emptied q
+find-filtered : {X : Type 0} (p : Place → Bool) (es : List (Place × X)) (q : Place) → find_place q (filter (λ e. p e.0) es) ≡ cond (p q) (find_place q es) None
+find-filtered p es q = lookup-filter-keys (eq_by_cmp place_cmp q) p (p q) (λ k same. ap p (sym (same-place q k same))) es
 
-  none-left : (q : Place) (b : Bool) → is_among emptied q ≡ b → is_among targets q ≡ true → is_among left q ≡ false
-  none-left q true e there = left-is q ∙ (λ i. e i && not (there i))
-  none-left q false e there = left-is q ∙ ap (λ a. a && not (is_among targets q)) e
+among-places : {X : Type 0} (es : List (Place × X)) (q : Place) → is_among (places_of es) q ≡ is_some (find_place q es)
+among-places es q = sym (is_some-find place_cmp q es)
 
-  pub targets-filled : AreFilled es (without_places left n)
-  targets-filled = each-among (λ p. IsSome (get (without_places left n) p)) es (λ q there.
-      let on : is_among targets q ≡ true = ap (λ ps. is_among ps q) are ∙ there in
-      subst IsSome (sym (get-without_places left n q ∙ ap (λ b. cond b None (get n q)) (none-left q (is_among emptied q) refl on))) (all q on))
+last-among : {X : Type 0} (es : List (Place × X)) (e : Place × X) (q : Place) → eq_by_cmp place_cmp q e.0 ≡ true → is_among (places_of (es ++ e ∷ [])) q ≡ true
+last-among [] e q h = ap (λ b. b || false) h
+last-among (f ∷ es) e q h = later-among (eq_by_cmp place_cmp q f.0) (is_among (places_of (es ++ e ∷ [])) q) (last-among es e q h)
 
-  not-false : (b : Bool) → (b && not false) ≡ b
-  not-false true = refl
-  not-false false = refl
+or-carried : (a b c : Bool) → (a || b) ≡ true → (b ≡ true → c ≡ true) → (a || c) ≡ true
+or-carried true b c h k = refl
+or-carried false b c h k = k h
 
-  exchanged-at : (q : Place) (r : Option X) → find_place q es ≡ r → first_of_two r (get (without_places left n) q) ≡ first_of_two r (get (without_places emptied m) q)
-  exchanged-at q (Some x) e = refl
-  exchanged-at q None e =
-      let out : is_among targets q ≡ false = ap (λ ps. is_among ps q) are ∙ sym (is_some-find place_cmp q es) ∙ ap is_some e in
-      get-without_places left n q
-      ∙ (λ i. cond ((left-is q ∙ ap (λ a. is_among emptied q && not a) out ∙ not-false (is_among emptied q)) i) None (same q out i))
-      ∙ sym (get-without_places emptied m q)
+-- a place of a list without its last entry is one of the list
+pub front-among : {X : Type 0} (es : List (Place × X)) (e : Place × X) (q : Place) → is_among (places_of es) q ≡ true → is_among (places_of (es ++ e ∷ [])) q ≡ true
+front-among [] e q h = absurd (both_ways false refl h)
+front-among (f ∷ es) e q h = or-carried (eq_by_cmp place_cmp q f.0) (is_among (places_of es) q) (is_among (places_of (es ++ e ∷ [])) q) h (front-among es e q)
 
-  pub exchanged : with_entries es (without_places left n) ≡ with_entries es (without_places emptied m)
-  exchanged = same_places _ _ (λ q. get-with es (without_places left n) q ∙ exchanged-at q (find_place q es) refl ∙ sym (get-with es (without_places emptied m) q))
+-- the last entry of a list, put in, leaves what is at no place of the list
+pub put-beside : {X : Type 0} (es : List (Place × X)) (p : Place) (x : X) (m n : PlaceMap X) (q : Place) → n ≡ fin.insert m p x → is_among (places_of (es ++ (p, x) ∷ [])) q ≡ false → get n q ≡ get m q
+put-beside es p x m n q new out = beside (eq_by_cmp place_cmp q p) refl
+  where
+    beside : (b : Bool) → eq_by_cmp place_cmp q p ≡ b → get n q ≡ get m q
+    beside true e = absurd (both_ways (is_among (places_of (es ++ (p, x) ∷ [])) q) out (last-among es (p, x) q e))
+    beside false e = same-on x m n p q new e
+
+not-true : (a b : Bool) → (a ≡ true → b ≡ true) → b ≡ false → a ≡ false
+not-true true b h out = absurd (both_ways b out (h refl))
+not-true false b h out = refl
+
+-- what is among no places is among no part of them
+pub out-of-part : (part places : List Place) (q : Place) → (is_among part q ≡ true → is_among places q ≡ true) → is_among places q ≡ false → is_among part q ≡ false
+out-of-part part places q h out = not-true (is_among part q) (is_among places q) h out
+
+-- some places that were empty and may have been filled, emptied again
+pub left-as-was : {X : Type 0} (places : List Place) (m n : PlaceMap X) → LacksAll places m → HasSame places m n → without_places places n ≡ m
+left-as-was places m n none same = same_places _ _ (λ q. get-without_places places n q ∙ at q (is_among places q) refl)
+  where
+    at : (q : Place) (b : Bool) → is_among places q ≡ b → cond b None (get n q) ≡ get m q
+    at q true e = sym (none q e)
+    at q false e = same q e
+
+-- the places of the entries that stand at empty ones
+pub fresh-lacking : {X : Type 0} (es fresh : List (Place × X)) (m : PlaceMap X) → fresh ≡ filter (λ e. is_none (get m e.0)) es → LacksAll (places_of fresh) m
+fresh-lacking es fresh m empty = λ q there. none q (get m q) refl (sym (among-places fresh q) ∙ there)
+  where
+    none : (q : Place) (r : Option _) → get m q ≡ r → is_some (find_place q fresh) ≡ true → get m q ≡ None
+    none q None e h = e
+    none q (Some x) e h =
+        absurd (both_ways (is_some (find_place q fresh)) (ap is_some (ap (find_place q) empty ∙ find-filtered (λ p. is_none (get m p)) es q ∙ ap (λ r. cond (is_none r) (find_place q es) None) e)) h)
+
+-- an exchange: `targets` are the places of what is placed, `left` those that are emptied for good, `over` what is placed at filled places
+-- and `fresh` what is placed at empty ones
+module _ {X : Type 0} (emptied targets left : List Place) (es over fresh : List (Place × X)) (m : PlaceMap X)
+    (are : targets ≡ map (λ e. e.0) es) (rest : left ≡ filter (λ p. not (is_among targets p)) emptied)
+    (filled : over ≡ filter (λ e. is_some (get m e.0)) es) (empty : fresh ≡ filter (λ e. is_none (get m e.0)) es) where
+  over-is : (q : Place) → find_place q over ≡ cond (is_some (get m q)) (find_place q es) None
+  over-is q = ap (find_place q) filled ∙ find-filtered (λ p. is_some (get m p)) es q
+
+  fresh-is : (q : Place) → find_place q fresh ≡ cond (is_none (get m q)) (find_place q es) None
+  fresh-is q = ap (find_place q) empty ∙ find-filtered (λ p. is_none (get m p)) es q
+
+  left-is : (q : Place) → is_among left q ≡ (is_among emptied q && not (is_some (find_place q es)))
+  left-is q =
+      ap (λ ps. is_among ps q) rest ∙ among-filter (λ p. not (is_among targets p)) emptied q
+      ∙ ap (λ b. is_among emptied q && not b) (ap (λ ps. is_among ps q) are ∙ among-places es q)
+
+  now-is : (q : Place)
+      → get (without_places left (with_entries fresh m)) q ≡ cond (is_among emptied q && not (is_some (find_place q es))) None (first_of_two (cond (is_none (get m q)) (find_place q es) None) (get m q))
+  now-is q =
+      get-without_places left (with_entries fresh m) q
+      ∙ (λ i. cond (left-is q i) None ((get-with fresh m q ∙ ap (λ r. first_of_two r (get m q)) (fresh-is q)) i))
+
+  stays : (a : Bool) (r f : Option X) → is_some (cond (is_some r) f None) ≡ true → IsSome (cond (a && not (is_some f)) None (first_of_two (cond (is_none r) f None) r))
+  stays a None f h = cc
+  stays a (Some x) None h = cc
+  stays true (Some x) (Some y) h = refl
+  stays false (Some x) (Some y) h = refl
+
+  -- the places of the others are filled still
+  pub over-filled : AreFilled over (without_places left (with_entries fresh m))
+  over-filled = each-among (λ p. IsSome (get (without_places left (with_entries fresh m)) p)) over (λ q there.
+      subst IsSome (sym (now-is q)) (stays (is_among emptied q) (get m q) (find_place q es) (ap is_some (sym (over-is q)) ∙ sym (among-places over q) ∙ there)))
+
+  put-in : (a : Bool) (r f : Option X)
+      → first_of_two (cond (is_some r) f None) (cond (a && not (is_some f)) None (first_of_two (cond (is_none r) f None) r)) ≡ first_of_two f (cond a None r)
+  put-in true None None = refl
+  put-in true None (Some y) = refl
+  put-in true (Some x) None = refl
+  put-in true (Some x) (Some y) = refl
+  put-in false None None = refl
+  put-in false None (Some y) = refl
+  put-in false (Some x) None = refl
+  put-in false (Some x) (Some y) = refl
+
+  pub exchanged : with_entries over (without_places left (with_entries fresh m)) ≡ with_entries es (without_places emptied m)
+  exchanged = same_places _ _ (λ q.
+      get-with over (without_places left (with_entries fresh m)) q ∙ (λ i. first_of_two (over-is q i) (now-is q i)) ∙ put-in (is_among emptied q) (get m q) (find_place q es)
+      ∙ ap (first_of_two (find_place q es)) (sym (get-without_places emptied m q)) ∙ sym (get-with es (without_places emptied m) q))
 
 -- what stands in two blocks, emptied
 among-entries : {X : Type 0} (m : PlaceMap X) (q : Place) → is_among (map (λ e. e.0) (fin.entries m)) q ≡ is_some (get m q)

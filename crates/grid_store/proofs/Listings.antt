@@ -1,5 +1,6 @@
 -- How far a block's cells are found, key by key of its rows. Serves the lists of cells.
 use Rattle.std.proofs.Common.{◌≡◌, ◌∙◌, sym, ap, refl, subst, ℕ, ◌+◌, ◌-◌, ◌<◌, ◌≤◌, ◌⊎◌, inl, inr, Bool, true, false, cond, List, [], ◌∷◌, Option, Some, None, IsSome, is_some, not, ◌&&◌, arith}
+use Rattle.std.specs.Borrow.{Bor}
 use Rattle.std.specs.BTreeMap.Range.{IsEntryInRange, IsRangeOf, entries_between, range_contains}
 use Rattle.std.specs.Ordering.{is_gt, is_le, nat_cmp, ordering_then}
 use Rattle.std.specs.declared.cmp.Ordering.TheVariants.{Less}
@@ -8,6 +9,8 @@ use Rattle.std.specs.declared.ops.Bound.{Bound}
 use Rattle.std.specs.declared.ops.Bound.TheVariants.{Included, Excluded}
 use Rattle.std.proofs.lemmas.Bool.Decides.{nat_tests}
 use Rattle.std.proofs.lemmas.Map.Entries.{lookup-filter-keys}
+use Rattle.std.proofs.lemmas.Map.Made.{keys_of-map_values, lookup-map_values}
+use Rattle.std.specs.List.Sorted.{IsStrictlySortedBy}
 use Rattle.std.specs.BTreeMap as tree
 use Rattle.std.specs.BTreeMap.{BTreeMap, is_at}
 use Rattle.std.specs.FinMap as map
@@ -29,11 +32,10 @@ use Rattle.stable_lines.specs.Lines.{line_at}
 use Rattle.stable_lines.specs.Sheets.{table_of}
 use Rattle.stable_lines.specs.declared.run.Run.{Run}
 use Rattle.stable_lines.specs.declared.sheets.SheetLines.{SheetLines}
-use Rattle.grid_store.specs.Grid.{HasAny}
+use Rattle.grid_store.specs.Grid.{HasAny, seen_items}
 use Rattle.grid_store.specs.Keys.{key_at, key_cmp, place_at}
-use Rattle.grid_store.specs.declared.cell.Cell.{Cell}
 use Rattle.grid_store.specs.declared.key.CellKey.{CellKey}
-use Rattle.grid_store.specs.internal.Listing.{AreCellsOf, AreLinesAt, HasNone, HasRows, IsAdded, StillHas}
+use Rattle.grid_store.specs.internal.Listing.{AreCellsOf, AreLinesAt, HasNone, HasRows, IsAdded, StillHas, look}
 use Rattle.grid_store.proofs.KeyOrder.{key_cmp-IsTotalOrder, key_cmp-IsAntisymmetric}
 use Rattle.grid_store.proofs.KeyPlaces.{inside_key, key_col, key_line, key_of_place, key_sheet, place_of_key}
 use Rattle.grid_store.proofs.Views.{get-seen_at, kept, key_of_seen, seen}
@@ -50,11 +52,11 @@ abbrev pub IsIn : ℕ → ℕ → Run → CellKey → Type 0
 IsIn sheet row lines k = (k.sheet ≡ sheet) × (k.row ≡ row) × (lines.to ≤ k.col) × (k.col < lines.to + lines.count)
 
 -- the block's cells on one line of rows and some lines of columns, as far as their keys have been gone through
-pub record Progress (rows cols : SheetLines) (es : List (CellKey × Cell)) (area : Block) (row : ℕ) (lines : Run) (before found : BTreeMap Place Cell) (rest : List (CellKey × Cell)) : Type 0 where
+pub record Progress {X : Type 0} (rows cols : SheetLines) (es : List (CellKey × X)) (area : Block) (row : ℕ) (lines : Run) (before found : BTreeMap Place (Bor X)) (rest : List (CellKey × X)) : Type 0 where
   pub cells : AreCellsOf area (seen rows cols es) found
   pub still : StillHas before found
   pub entries : AllByRecursion (λ e. kept es e.0 ≡ Some e.1) rest
-  pub pending : (k : CellKey) (q : Place) → IsSome (kept es k) → IsIn area.sheet row lines k → place_at rows cols k ≡ Some q → covers area q ≡ true → IsSome (tree.get place_cmp found q) ⊎ IsSome (kept rest k)
+  pub pending : (k : CellKey) (q : Place) → IsSome (kept es k) → IsIn area.sheet row lines k → place_at rows cols k ≡ Some q → covers area q ≡ true → IsSome (look found q) ⊎ IsSome (kept rest k)
 
 -- the key of a place in the block is on the lines of its row
 on_lines : (rows cols : SheetLines) (area : Block) (lines : Run) (q : Place) (k : CellKey) → AreLinesAt (table_of rows area.sheet) lines → Covers area q → key_at rows cols q ≡ Some k → lines.from ≤ q.row → q.row < lines.from + lines.count
@@ -82,14 +84,14 @@ same_place_test p q h = (eq_by_cmp-decides place_cmp-IsTotalOrder place_cmp-IsAn
 same_key_test : (k l : CellKey) → (is_at (key_cmp k) l ≡ true) → k ≡ l
 same_key_test k l h = (eq_by_cmp-decides key_cmp-IsTotalOrder key_cmp-IsAntisymmetric k l).0 h
 
-module _ (rows cols : SheetLines) (es : List (CellKey × Cell)) (area : Block) (row : ℕ) (lines : Run) (before : BTreeMap Place Cell) where
+module _ {X : Type 0} (rows cols : SheetLines) (es : List (CellKey × X)) (area : Block) (row : ℕ) (lines : Run) (before : BTreeMap Place (Bor X)) where
   -- the first of what is left is not in the block
-  passed_on : (e : CellKey × Cell) (rest : List (CellKey × Cell)) (k : CellKey) (q : Place) (b : Bool) (P : Type 0) → is_at (key_cmp k) e.0 ≡ b → (place_at rows cols e.0 ≡ Some q → covers area q ≡ true → ⊥)
+  passed_on : (e : CellKey × X) (rest : List (CellKey × X)) (k : CellKey) (q : Place) (b : Bool) (P : Type 0) → is_at (key_cmp k) e.0 ≡ b → (place_at rows cols e.0 ≡ Some q → covers area q ≡ true → ⊥)
       → place_at rows cols k ≡ Some q → covers area q ≡ true → IsSome (cond b (Some e.1) (kept rest k)) → P ⊎ IsSome (kept rest k)
   passed_on e rest k q true P same out at there some = absurd (out (ap (place_at rows cols) (sym (same_key_test k e.0 same)) ∙ at) there)
   passed_on e rest k q false P same out at there some = inr some
 
-  pub pass : (found : BTreeMap Place Cell) (e : CellKey × Cell) (rest : List (CellKey × Cell)) → Progress rows cols es area row lines before found (e ∷ rest)
+  pub pass : (found : BTreeMap Place (Bor X)) (e : CellKey × X) (rest : List (CellKey × X)) → Progress rows cols es area row lines before found (e ∷ rest)
       → ((q : Place) → place_at rows cols e.0 ≡ Some q → covers area q ≡ true → ⊥) → Progress rows cols es area row lines before found rest
   pass found e rest p out = record {
     cells = p.cells;
@@ -97,46 +99,46 @@ module _ (rows cols : SheetLines) (es : List (CellKey × Cell)) (area : Block) (
     entries = p.entries.1;
     pending = λ k q some on at there. elim (p.pending k q some on at there) [
       | inl h ↦ inl h
-      | inr h ↦ passed_on e rest k q (is_at (key_cmp k) e.0) (IsSome (tree.get place_cmp found q)) refl (out q) at there h
+      | inr h ↦ passed_on e rest k q (is_at (key_cmp k) e.0) (IsSome (look found q)) refl (out q) at there h
     ];
   }
 
   -- the first of what is left is added
-  added_cell : (found : BTreeMap Place Cell) (at q : Place) (cell c : Cell) (b : Bool) → is_at (place_cmp at) q ≡ b → covers area at ≡ true → map.get (seen rows cols es) at ≡ Some cell
-      → (tree.get place_cmp found q ≡ Some c → (covers area q ≡ true) × (map.get (seen rows cols es) q ≡ Some c)) → cond b (Some cell) (tree.get place_cmp found q) ≡ Some c
+  added_cell : (found : BTreeMap Place (Bor X)) (at q : Place) (cell c : X) (b : Bool) → is_at (place_cmp at) q ≡ b → covers area at ≡ true → map.get (seen rows cols es) at ≡ Some cell
+      → (look found q ≡ Some c → (covers area q ≡ true) × (map.get (seen rows cols es) q ≡ Some c)) → cond b (Some cell) (look found q) ≡ Some c
       → (covers area q ≡ true) × (map.get (seen rows cols es) q ≡ Some c)
   added_cell found at q cell c true same there here others h =
       let e = same_place_test at q same in
       (ap (covers area) (sym e) ∙ there, ap (map.get (seen rows cols es)) (sym e) ∙ here ∙ h)
   added_cell found at q cell c false same there here others h = others h
 
-  still_or : (b : Bool) (c : Cell) (r : Option Cell) → IsSome r → IsSome (cond b (Some c) r)
+  still_or : (b : Bool) (c : X) (r : Option X) → IsSome r → IsSome (cond b (Some c) r)
   still_or true c r h = refl
   still_or false c r h = h
 
-  added_pending : (found new : BTreeMap Place Cell) (e : CellKey × Cell) (rest : List (CellKey × Cell)) (at : Place) (k : CellKey) (q : Place) (b : Bool) → is_at (key_cmp k) e.0 ≡ b → place_at rows cols e.0 ≡ Some at
-      → IsAdded found at e.1 new → place_at rows cols k ≡ Some q → IsSome (cond b (Some e.1) (kept rest k)) → IsSome (tree.get place_cmp new q) ⊎ IsSome (kept rest k)
+  added_pending : (found new : BTreeMap Place (Bor X)) (e : CellKey × X) (rest : List (CellKey × X)) (at : Place) (k : CellKey) (q : Place) (b : Bool) → is_at (key_cmp k) e.0 ≡ b → place_at rows cols e.0 ≡ Some at
+      → IsAdded found at e.1 new → place_at rows cols k ≡ Some q → IsSome (cond b (Some e.1) (kept rest k)) → IsSome (look new q) ⊎ IsSome (kept rest k)
   added_pending found new e rest at k q true same here added there some =
       let one : at ≡ q = same_Some at q (sym here ∙ ap (place_at rows cols) (sym (same_key_test k e.0 same)) ∙ there) in
       let hit : is_at (place_cmp at) q ≡ true = (eq_by_cmp-decides place_cmp-IsTotalOrder place_cmp-IsAntisymmetric at q).1 one in
-      inl (ap is_some (added q ∙ ap (λ b. cond b (Some e.1) (tree.get place_cmp found q)) hit))
+      inl (ap is_some (added q ∙ ap (λ b. cond b (Some e.1) (look found q)) hit))
   added_pending found new e rest at k q false same here added there some = inr some
 
-  pub take_up : (found new : BTreeMap Place Cell) (e : CellKey × Cell) (rest : List (CellKey × Cell)) (at : Place) → Progress rows cols es area row lines before found (e ∷ rest)
+  pub take_up : (found new : BTreeMap Place (Bor X)) (e : CellKey × X) (rest : List (CellKey × X)) (at : Place) → Progress rows cols es area row lines before found (e ∷ rest)
       → place_at rows cols e.0 ≡ Some at → covers area at ≡ true → IsAdded found at e.1 new → Progress rows cols es area row lines before new rest
   take_up found new e rest at p here there added = record {
     cells = λ q c h. added_cell found at q e.1 c (is_at (place_cmp at) q) refl there (get-seen_at rows cols es at e.0 (key_of_place rows cols e.0 at here) ∙ p.entries.0) (p.cells q c) (sym (added q) ∙ h);
-    still = λ q some. subst IsSome (sym (added q)) (still_or (is_at (place_cmp at) q) e.1 (tree.get place_cmp found q) (p.still q some));
+    still = λ q some. subst IsSome (sym (added q)) (still_or (is_at (place_cmp at) q) e.1 (look found q) (p.still q some));
     entries = p.entries.1;
     pending = λ k q some on at' in_area. elim (p.pending k q some on at' in_area) [
-      | inl h ↦ inl (subst IsSome (sym (added q)) (still_or (is_at (place_cmp at) q) e.1 (tree.get place_cmp found q) h))
+      | inl h ↦ inl (subst IsSome (sym (added q)) (still_or (is_at (place_cmp at) q) e.1 (look found q) h))
       | inr h ↦ added_pending found new e rest at k q (is_at (key_cmp k) e.0) refl here added at' h
     ];
   }
 
   -- where no key is left, all cells on the lines are found
-  pub gone_through : (found : BTreeMap Place Cell) → Progress rows cols es area row lines before found [] → AreLinesAt (table_of cols area.sheet) lines
-      → (k : CellKey) (q : Place) → IsSome (kept es k) → k.row ≡ row → place_at rows cols k ≡ Some q → covers area q ≡ true → lines.from ≤ q.col → q.col < lines.from + lines.count → IsSome (tree.get place_cmp found q)
+  pub gone_through : (found : BTreeMap Place (Bor X)) → Progress rows cols es area row lines before found [] → AreLinesAt (table_of cols area.sheet) lines
+      → (k : CellKey) (q : Place) → IsSome (kept es k) → k.row ≡ row → place_at rows cols k ≡ Some q → covers area q ≡ true → lines.from ≤ q.col → q.col < lines.from + lines.count → IsSome (look found q)
   gone_through found p lines_at k q some on at there low high =
       elim (p.pending k q some (in_lines rows cols area row lines q k lines_at (Covers-from_covers area q there) (key_of_place rows cols k q at) on low high) at there) [
         | inl h ↦ h
@@ -148,7 +150,7 @@ both true false e f = refl
 both true true e f = cc
 both false b e f = cc
 
-values_only : (lo hi : Bound CellKey) (m : BTreeMap CellKey Cell) (rest : List (CellKey × Cell)) → AllByRecursion (IsEntryInRange key_cmp lo hi m) rest → AllByRecursion (λ e. kept m.entries e.0 ≡ Some e.1) rest
+values_only : {X : Type 0} (lo hi : Bound CellKey) (m : BTreeMap CellKey X) (rest : List (CellKey × X)) → AllByRecursion (IsEntryInRange key_cmp lo hi m) rest → AllByRecursion (λ e. kept m.entries e.0 ≡ Some e.1) rest
 values_only lo hi m [] h = tt
 values_only lo hi m (e ∷ rest) h = (h.0.1, values_only lo hi m rest h.1)
 
@@ -170,14 +172,14 @@ in_range sheet row lines k on =
     both _ _ (from_first_in sheet lines.to row k.col k.row k.sheet on.0 on.1 on.2) (before_end_in sheet (lines.to + lines.count) row k.col k.row k.sheet on.0 on.1 on.3)
 
 -- the keys on them are those of their range
-kept_in : (sheet row : ℕ) (lines : Run) (es : List (CellKey × Cell)) (k : CellKey) → IsIn sheet row lines k
+kept_in : {X : Type 0} (sheet row : ℕ) (lines : Run) (es : List (CellKey × X)) (k : CellKey) → IsIn sheet row lines k
     → kept (entries_between key_cmp (Included (first_in sheet row lines)) (Excluded (end_in sheet row lines)) es) k ≡ kept es k
 kept_in sheet row lines es k on =
     lookup-filter-keys (is_at (key_cmp k)) (range_contains key_cmp (Included (first_in sheet row lines)) (Excluded (end_in sheet row lines))) true
     (λ l same. ap (range_contains key_cmp (Included (first_in sheet row lines)) (Excluded (end_in sheet row lines))) (sym (same_key_test k l same)) ∙ in_range sheet row lines k on) es
 
 -- before the first key
-pub begun : (rows cols : SheetLines) (m : BTreeMap CellKey Cell) (area : Block) (row : ℕ) (lines : Run) (found : BTreeMap Place Cell) (range rest : List (CellKey × Cell)) → AreCellsOf area (seen rows cols m.entries) found
+pub begun : {X : Type 0} (rows cols : SheetLines) (m : BTreeMap CellKey X) (area : Block) (row : ℕ) (lines : Run) (found : BTreeMap Place (Bor X)) (range rest : List (CellKey × X)) → AreCellsOf area (seen rows cols m.entries) found
     → rest ≡ range → range ≡ entries_between key_cmp (Included (first_in area.sheet row lines)) (Excluded (end_in area.sheet row lines)) m.entries
     → All (IsEntryInRange key_cmp (Included (first_in area.sheet row lines)) (Excluded (end_in area.sheet row lines)) m) range → Progress rows cols m.entries area row lines found found rest
 begun rows cols m area row lines found range rest cells same between all =
@@ -200,26 +202,26 @@ in_rows sheet low high s r c e f g = (grind (arith, nat_tests), grind (arith, na
 row_order : (sheet s t a b c d : ℕ) → s ≡ sheet → t ≡ sheet → is_gt (ordering_then (nat_cmp s t) (ordering_then (nat_cmp a b) (nat_cmp c d))) ≡ false → a ≤ b
 row_order sheet s t a b c d e f g = grind (arith, nat_tests)
 
-abbrev pub RowsRange : BTreeMap CellKey Cell → ℕ → ℕ → ℕ → List (CellKey × Cell) → Type 0
+abbrev pub RowsRange : {X : Type 0} → BTreeMap CellKey X → ℕ → ℕ → ℕ → List (CellKey × X) → Type 0
 RowsRange m sheet low high range = IsRangeOf key_cmp (Included (record { sheet = sheet; row = low; col = 0 })) (Excluded (record { sheet = sheet; row = high; col = 0 })) m range
 
 -- the first key of some rows' range is of those rows, and none of the rows before it has a key
-pub first_row : (m : BTreeMap CellKey Cell) (sheet low high : ℕ) (e : CellKey × Cell) (rest range : List (CellKey × Cell)) → range ≡ e ∷ rest → RowsRange m sheet low high range
+pub first_row : {X : Type 0} (m : BTreeMap CellKey X) (sheet low high : ℕ) (e : CellKey × X) (rest range : List (CellKey × X)) → range ≡ e ∷ rest → RowsRange m sheet low high range
     → (low ≤ e.0.row) × (e.0.row < high) × ((k : CellKey) → IsSome (kept m.entries k) → k.sheet ≡ sheet → low ≤ k.row → k.row < e.0.row → ⊥)
-first_row m sheet low high e rest range is parts =
+first_row {X = X} m sheet low high e rest range is parts =
     let one : IsEntryInRange key_cmp (Included (record { sheet = sheet; row = low; col = 0 })) (Excluded (record { sheet = sheet; row = high; col = 0 })) m e =
-    subst (λ (r : List (CellKey × Cell)). IfSome (slice_get r 0) (IsEntryInRange key_cmp (Included (record { sheet = sheet; row = low; col = 0 })) (Excluded (record { sheet = sheet; row = high; col = 0 })) m)) is parts.1 in
+    subst (λ (r : List (CellKey × X)). IfSome (slice_get r 0) (IsEntryInRange key_cmp (Included (record { sheet = sheet; row = low; col = 0 })) (Excluded (record { sheet = sheet; row = high; col = 0 })) m)) is parts.1 in
     let own = in_sheet sheet low high e.0.sheet e.0.row e.0.col one.0.0 one.0.1 in (
       own.1,
       own.2,
       λ k some on from under.
           let ahead : IfSome (slice_get (e ∷ rest) 0) (λ f. is_gt (key_cmp f.0 k) ≡ false) =
-          subst (λ (r : List (CellKey × Cell)). IfSome (slice_get r 0) (λ f. is_gt (key_cmp f.0 k) ≡ false)) is (parts.2 k (in_rows sheet low high k.sheet k.row k.col on from (omega (arith, under, own.2))) some) in
+          subst (λ (r : List (CellKey × X)). IfSome (slice_get r 0) (λ f. is_gt (key_cmp f.0 k) ≡ false)) is (parts.2 k (in_rows sheet low high k.sheet k.row k.col on from (omega (arith, under, own.2))) some) in
           let order = row_order sheet e.0.sheet k.sheet e.0.row k.row e.0.col k.col own.0 on ahead in absurd (omega (arith, order, under)),
     )
 
 -- where the range is empty, none of the rows has a key
-pub no_row : (m : BTreeMap CellKey Cell) (sheet low high : ℕ) (range : List (CellKey × Cell)) → range ≡ [] → RowsRange m sheet low high range
+pub no_row : {X : Type 0} (m : BTreeMap CellKey X) (sheet low high : ℕ) (range : List (CellKey × X)) → range ≡ [] → RowsRange m sheet low high range
     → (k : CellKey) → IsSome (kept m.entries k) → k.sheet ≡ sheet → low ≤ k.row → k.row < high → ⊥
 no_row m sheet low high range is parts k some on from under =
     both_ways _ (ap is_some (parts.5 is k (in_rows sheet low high k.sheet k.row k.col on from under))) some
@@ -246,8 +248,8 @@ stands_before rows cols rl cl sheet col past k q at =
     ]
 
 -- where the cells on the lines of some rows are found, those of the rows are
-pub rows_found : (rows cols : SheetLines) (es : List (CellKey × Cell)) (area : Block) (lines : Run) (found : BTreeMap Place Cell) → AreLinesAt (table_of rows area.sheet) lines
-    → ((k : CellKey) (q : Place) → IsSome (kept es k) → place_at rows cols k ≡ Some q → covers area q ≡ true → lines.to ≤ k.row → k.row < lines.to + lines.count → IsSome (tree.get place_cmp found q))
+pub rows_found : {X : Type 0} (rows cols : SheetLines) (es : List (CellKey × X)) (area : Block) (lines : Run) (found : BTreeMap Place (Bor X)) → AreLinesAt (table_of rows area.sheet) lines
+    → ((k : CellKey) (q : Place) → IsSome (kept es k) → place_at rows cols k ≡ Some q → covers area q ≡ true → lines.to ≤ k.row → k.row < lines.to + lines.count → IsSome (look found q))
     → HasRows area (seen rows cols es) lines.from (lines.from + lines.count) found
 rows_found rows cols es area lines found lines_at h q there some low high =
     let w = key_of_seen rows cols es q some in
@@ -255,8 +257,8 @@ rows_found rows cols es area lines found lines_at h q there some low high =
     h w.0 q w.2 (place_of_key rows cols q w.0 w.1) there on.1 on.2
 
 -- what is found at a place, where all of the block is
-module _ (area : Block) (m : PlaceMap Cell) (found : BTreeMap Place Cell) (cells : AreCellsOf area m found) (rows : HasRows area m 0 (area.bottom + 1) found) where
-  all_found : (q : Place) (b : Bool) (r s : Option Cell) → covers area q ≡ b → tree.get place_cmp found q ≡ r → map.get m q ≡ s → r ≡ cond b s None
+module _ {X : Type 0} (area : Block) (m : PlaceMap X) (found : BTreeMap Place (Bor X)) (cells : AreCellsOf area m found) (rows : HasRows area m 0 (area.bottom + 1) found) where
+  all_found : (q : Place) (b : Bool) (r s : Option X) → covers area q ≡ b → look found q ≡ r → map.get m q ≡ s → r ≡ cond b s None
   all_found q true None None e f g = refl
   all_found q true None (Some c) e f g =
       let w = Covers-from_covers area q e in
@@ -265,16 +267,17 @@ module _ (area : Block) (m : PlaceMap Cell) (found : BTreeMap Place Cell) (cells
   all_found q true (Some c) s e f g = sym ((cells q c f).1) ∙ g
   all_found q false (Some c) s e f g = absurd (both_ways _ e (cells q c f).0)
 
-  pub found_entries : tree.IsOrdered place_cmp found → found.entries ≡ map.entries (map.retain_keys m (covers area))
+  pub found_entries : tree.IsOrdered place_cmp found → seen_items found.entries ≡ map.entries (map.retain_keys m (covers area))
   found_entries ordered =
-      sym (entries-from_entries place_cmp-IsTotalOrder found.entries ordered)
-      ∙ ap map.entries (map.same_map place_cmp-IsTotalOrder place_cmp-IsAntisymmetric (map.from_entries found.entries) (map.retain_keys m (covers area)) (λ q.
-      sym (lookup-from_entries place_cmp-IsTotalOrder found.entries q)
-      ∙ all_found q (covers area q) (tree.get place_cmp found q) (map.get m q) refl refl refl
+      let es = seen_items found.entries in
+      sym (entries-from_entries place_cmp-IsTotalOrder es (subst (IsStrictlySortedBy place_cmp) (sym (keys_of-map_values (λ b. b.now) found.entries)) ordered))
+      ∙ ap map.entries (map.same_map place_cmp-IsTotalOrder place_cmp-IsAntisymmetric (map.from_entries es) (map.retain_keys m (covers area)) (λ q.
+      sym (lookup-from_entries place_cmp-IsTotalOrder es q) ∙ lookup-map_values (λ b. b.now) (is_at (place_cmp q)) found.entries
+      ∙ all_found q (covers area q) (look found q) (map.get m q) refl refl refl
       ∙ sym (map.get-retain_keys m (covers area) q (λ x t. ap (covers area) (sym (place_cmp-IsAntisymmetric q x t))))))
 
 -- past the sheet's last row no cell is seen
-pub seen_below : (rows cols : SheetLines) (es : List (CellKey × Cell)) → rows.plain.limit ≡ ROWS → cols.plain.limit ≡ COLS → (sheet row : ℕ) → (row < (table_of rows sheet).limit → ⊥)
+pub seen_below : {X : Type 0} (rows cols : SheetLines) (es : List (CellKey × X)) → rows.plain.limit ≡ ROWS → cols.plain.limit ≡ COLS → (sheet row : ℕ) → (row < (table_of rows sheet).limit → ⊥)
     → (q : Place) → IsSome (map.get (seen rows cols es) q) → q.row < row
 seen_below rows cols es rl cl sheet row past q some =
     let w = key_of_seen rows cols es q some in
@@ -286,11 +289,11 @@ seen_below rows cols es rl cl sheet row past q some =
     ]
 
 -- keys on some lines gone through, none of which is in the block
-pub record Search (rows cols : SheetLines) (es : List (CellKey × Cell)) (area : Block) (row : ℕ) (lines : Run) (rest : List (CellKey × Cell)) : Type 0 where
+pub record Search {X : Type 0} (rows cols : SheetLines) (es : List (CellKey × X)) (area : Block) (row : ℕ) (lines : Run) (rest : List (CellKey × X)) : Type 0 where
   pub entries : AllByRecursion (λ e. kept es e.0 ≡ Some e.1) rest
   pub pending : (k : CellKey) (q : Place) → IsSome (kept es k) → IsIn area.sheet row lines k → place_at rows cols k ≡ Some q → covers area q ≡ true → IsSome (kept rest k)
 
-pub search_begun : (rows cols : SheetLines) (m : BTreeMap CellKey Cell) (area : Block) (row : ℕ) (lines : Run) (range rest : List (CellKey × Cell))
+pub search_begun : {X : Type 0} (rows cols : SheetLines) (m : BTreeMap CellKey X) (area : Block) (row : ℕ) (lines : Run) (range rest : List (CellKey × X))
     → rest ≡ range → range ≡ entries_between key_cmp (Included (first_in area.sheet row lines)) (Excluded (end_in area.sheet row lines)) m.entries
     → All (IsEntryInRange key_cmp (Included (first_in area.sheet row lines)) (Excluded (end_in area.sheet row lines)) m) range → Search rows cols m.entries area row lines rest
 search_begun rows cols m area row lines range rest same between all = record {
@@ -298,29 +301,29 @@ search_begun rows cols m area row lines range rest same between all = record {
   pending = λ k q some on at there. subst IsSome (sym (ap (λ r. kept r k) (same ∙ between) ∙ kept_in area.sheet row lines m.entries k on)) some;
 }
 
-next_pending : (rows cols : SheetLines) (area : Block) (e : CellKey × Cell) (rest : List (CellKey × Cell)) (k : CellKey) (q : Place) (b : Bool) → is_at (key_cmp k) e.0 ≡ b → (place_at rows cols e.0 ≡ Some q → covers area q ≡ true → ⊥)
+next_pending : {X : Type 0} (rows cols : SheetLines) (area : Block) (e : CellKey × X) (rest : List (CellKey × X)) (k : CellKey) (q : Place) (b : Bool) → is_at (key_cmp k) e.0 ≡ b → (place_at rows cols e.0 ≡ Some q → covers area q ≡ true → ⊥)
     → place_at rows cols k ≡ Some q → covers area q ≡ true → IsSome (cond b (Some e.1) (kept rest k)) → IsSome (kept rest k)
 next_pending rows cols area e rest k q true same out at there some = absurd (out (ap (place_at rows cols) (sym (same_key_test k e.0 same)) ∙ at) there)
 next_pending rows cols area e rest k q false same out at there some = some
 
-pub search_on : (rows cols : SheetLines) (es : List (CellKey × Cell)) (area : Block) (row : ℕ) (lines : Run) (e : CellKey × Cell) (rest : List (CellKey × Cell)) → Search rows cols es area row lines (e ∷ rest)
+pub search_on : {X : Type 0} (rows cols : SheetLines) (es : List (CellKey × X)) (area : Block) (row : ℕ) (lines : Run) (e : CellKey × X) (rest : List (CellKey × X)) → Search rows cols es area row lines (e ∷ rest)
     → ((q : Place) → place_at rows cols e.0 ≡ Some q → covers area q ≡ true → ⊥) → Search rows cols es area row lines rest
 search_on rows cols es area row lines e rest s out = record {
   entries = s.entries.1;
   pending = λ k q some on at there. next_pending rows cols area e rest k q (is_at (key_cmp k) e.0) refl (out q) at there (s.pending k q some on at there);
 }
 
-pub search_hit : (rows cols : SheetLines) (es : List (CellKey × Cell)) (area : Block) (row : ℕ) (lines : Run) (e : CellKey × Cell) (rest : List (CellKey × Cell)) (at : Place) → Search rows cols es area row lines (e ∷ rest)
+pub search_hit : {X : Type 0} (rows cols : SheetLines) (es : List (CellKey × X)) (area : Block) (row : ℕ) (lines : Run) (e : CellKey × X) (rest : List (CellKey × X)) (at : Place) → Search rows cols es area row lines (e ∷ rest)
     → place_at rows cols e.0 ≡ Some at → covers area at ≡ true → HasAny area (seen rows cols es)
 search_hit rows cols es area row lines e rest at s here there = (at, there, ap is_some (get-seen_at rows cols es at e.0 (key_of_place rows cols e.0 at here) ∙ s.entries.0))
 
-pub search_over : (rows cols : SheetLines) (es : List (CellKey × Cell)) (area : Block) (row : ℕ) (lines : Run) → Search rows cols es area row lines [] → AreLinesAt (table_of cols area.sheet) lines
+pub search_over : {X : Type 0} (rows cols : SheetLines) (es : List (CellKey × X)) (area : Block) (row : ℕ) (lines : Run) → Search rows cols es area row lines [] → AreLinesAt (table_of cols area.sheet) lines
     → (k : CellKey) (q : Place) → IsSome (kept es k) → k.row ≡ row → place_at rows cols k ≡ Some q → covers area q ≡ true → lines.from ≤ q.col → q.col < lines.from + lines.count → ⊥
 search_over rows cols es area row lines s lines_at k q some on at there low high =
     let left = s.pending k q some (in_lines rows cols area row lines q k lines_at (Covers-from_covers area q there) (key_of_place rows cols k q at) on low high) at there in cc
 
 -- where no cell on the lines of some rows is in the block, none of the rows' is
-pub rows_none : (rows cols : SheetLines) (es : List (CellKey × Cell)) (area : Block) (lines : Run) → AreLinesAt (table_of rows area.sheet) lines
+pub rows_none : {X : Type 0} (rows cols : SheetLines) (es : List (CellKey × X)) (area : Block) (lines : Run) → AreLinesAt (table_of rows area.sheet) lines
     → ((k : CellKey) (q : Place) → IsSome (kept es k) → place_at rows cols k ≡ Some q → covers area q ≡ true → lines.to ≤ k.row → k.row < lines.to + lines.count → ⊥)
     → HasNone area (seen rows cols es) lines.from (lines.from + lines.count)
 rows_none rows cols es area lines lines_at h q there some low high =

@@ -15,7 +15,6 @@ use Rattle.stable_lines.specs.Sheets.{table_of}
 use Rattle.stable_lines.specs.declared.sheets.SheetLines.{SheetLines}
 use Rattle.stable_lines.specs.declared.table.LineTable.{LineTable}
 use Rattle.grid_store.specs.Keys.{key_at, place_at}
-use Rattle.grid_store.specs.declared.cell.Cell.{Cell}
 use Rattle.grid_store.specs.declared.key.CellKey.{CellKey}
 use Rattle.grid_store.specs.internal.Renewal.{IsRenewal, along}
 use Rattle.grid_store.proofs.KeyPlaces.{key_col, key_line, key_of_place, key_sheet}
@@ -92,7 +91,7 @@ module _ (axis : Axis) (sheet : ℕ) (rule : ℕ → Option ℕ) (rows cols rows
       let short = old.below (line_of axis p) (key_along axis k) here in omega arith
 
   -- where nothing comes, no key is kept
-  pub key_fresh : (es : List (CellKey × Cell)) → ((k : CellKey) → IsSome (kept es k) → IsSome (place_at rows cols k)) → (q : Place) (k : CellKey) → IsInside q → by_line sheet axis rule q ≡ None
+  pub key_fresh : {X : Type 0} (es : List (CellKey × X)) → ((k : CellKey) → IsSome (kept es k) → IsSome (place_at rows cols k)) → (q : Place) (k : CellKey) → IsInside q → by_line sheet axis rule q ≡ None
       → key_at rows' cols' q ≡ Some k → IsSome (kept es k) → ⊥
   key_fresh es standing q k i h at some =
       let w = lost_line sheet axis rule q h in

@@ -15,7 +15,6 @@ use Rattle.shift_core.specs.declared.edit.Edit.{Edit}
 use Rattle.shift_core.specs.declared.form.Form.TheVariants.{Lines}
 use Rattle.stable_lines.specs.declared.sheets.SheetLines.{SheetLines}
 use Rattle.grid_store.specs.Keys.{key_at, place_at}
-use Rattle.grid_store.specs.declared.cell.Cell.{Cell}
 use Rattle.grid_store.specs.declared.key.CellKey.{CellKey}
 use Rattle.grid_store.specs.declared.way.Way.{Way}
 use Rattle.grid_store.specs.internal.Renewal.{IsRenewal, along}
@@ -27,16 +26,16 @@ use Rattle.grid_store.proofs.Renewals.{key_comes, key_fresh}
 use Rattle.grid_store.proofs.Views.{get-seen, get-seen_at, kept, key_of_seen, seen}
 
 -- only places of the sheet are seen
-pub seen_inside : (rows cols : SheetLines) (es : List (CellKey × Cell)) → rows.plain.limit ≡ ROWS → cols.plain.limit ≡ COLS → AreInside (seen rows cols es)
+pub seen_inside : {X : Type 0} (rows cols : SheetLines) (es : List (CellKey × X)) → rows.plain.limit ≡ ROWS → cols.plain.limit ≡ COLS → AreInside (seen rows cols es)
 seen_inside rows cols es rl cl p some = let w = key_of_seen rows cols es p some in inside_key rows cols rl cl p w.0 w.1
 
 limit_along : (axis : Axis) (rows cols : SheetLines) → rows.plain.limit ≡ ROWS → cols.plain.limit ≡ COLS → (along axis rows cols).plain.limit ≡ limit_of axis
 limit_along Rows rows cols rl cl = rl
 limit_along Cols rows cols rl cl = cl
 
-module _ (way : Way) (sheet : ℕ) (axis : Axis) (edit : Edit) (sound : IsSoundEdit (limit_of axis) edit) (rows cols rows' cols' : SheetLines)
+module _ {X : Type 0} (way : Way) (sheet : ℕ) (axis : Axis) (edit : Edit) (sound : IsSoundEdit (limit_of axis) edit) (rows cols rows' cols' : SheetLines)
     (renewal : IsRenewal axis sheet (line_goes (turned way) (limit_of axis) edit) rows cols rows' cols') (rl : rows.plain.limit ≡ ROWS) (cl : cols.plain.limit ≡ COLS)
-    (es : List (CellKey × Cell)) (standing : (k : CellKey) → IsSome (kept es k) → IsSome (place_at rows cols k)) where
+    (es : List (CellKey × X)) (standing : (k : CellKey) → IsSome (kept es k) → IsSome (place_at rows cols k)) where
   abbrev rule : ℕ → Option ℕ
   rule = line_goes (turned way) (limit_of axis) edit
 
@@ -64,7 +63,7 @@ module _ (way : Way) (sheet : ℕ) (axis : Axis) (edit : Edit) (sound : IsSoundE
   pub renewed_standing : ((p : Place) → IsSome (get (seen rows cols es) p) → IsSome (form_goes way (Lines sheet axis edit) p)) → (k : CellKey) → IsSome (kept es k) → IsSome (place_at rows' cols' k)
   renewed_standing kept_there k some = stands kept_there k some (place_at rows cols k) refl (standing k some)
 
-  absent : (q : Place) (k : CellKey) (r : Option Cell) → kept es k ≡ r → (IsSome (kept es k) → ⊥) → r ≡ None
+  absent : (q : Place) (k : CellKey) (r : Option X) → kept es k ≡ r → (IsSome (kept es k) → ⊥) → r ≡ None
   absent q k None e never = refl
   absent q k (Some c) e never = absurd (never (ap is_some e))
 

@@ -17,29 +17,28 @@ use Rattle.shift_core.proofs.CarriedEntries.{eq_by_cmp-decides, find-carried, fi
 use Rattle.stable_lines.specs.declared.sheets.SheetLines.{SheetLines}
 use Rattle.grid_store.specs.Grid.{placed}
 use Rattle.grid_store.specs.Keys.{key_at, key_cmp, place_at}
-use Rattle.grid_store.specs.declared.cell.Cell.{Cell}
 use Rattle.grid_store.specs.declared.key.CellKey.{CellKey}
 use Rattle.grid_store.proofs.KeyOrder.{key_cmp-IsTotalOrder, key_cmp-IsAntisymmetric}
 use Rattle.grid_store.proofs.KeyPlaces.{place_of_key, key_of_place}
 
 -- what is kept under a key
-abbrev pub kept : List (CellKey × Cell) → CellKey → Option Cell
+abbrev pub kept : {X : Type 0} → List (CellKey × X) → CellKey → Option X
 kept es k = lookup (is_at (key_cmp k)) es
 
 -- what is kept at a place, by its key
-abbrev pub kept_at : SheetLines → SheetLines → List (CellKey × Cell) → Place → Option Cell
+abbrev pub kept_at : {X : Type 0} → SheetLines → SheetLines → List (CellKey × X) → Place → Option X
 kept_at rows cols es p = option_and_then (kept es) (key_at rows cols p)
 
 -- the map that kept cells stand for
-abbrev pub seen : SheetLines → SheetLines → List (CellKey × Cell) → PlaceMap Cell
+abbrev pub seen : {X : Type 0} → SheetLines → SheetLines → List (CellKey × X) → PlaceMap X
 seen rows cols es = from_entries (filter_map (placed rows cols) es)
 
-each_key : (P : CellKey → Type 0) (es : List (CellKey × Cell)) → ((k : CellKey) → P k) → AllByRecursion (λ e. P e.0) es
+each_key : {X : Type 0} (P : CellKey → Type 0) (es : List (CellKey × X)) → ((k : CellKey) → P k) → AllByRecursion (λ e. P e.0) es
 each_key P [] h = tt
 each_key P (e ∷ es) h = (h e.0, each_key P es h)
 
 module _ (rows cols : SheetLines) where
-  found : (es : List (CellKey × Cell)) (p : Place) (r : Option CellKey) → key_at rows cols p ≡ r → find place_cmp p (filter_map (placed rows cols) es) ≡ option_and_then (kept es) r
+  found : {X : Type 0} (es : List (CellKey × X)) (p : Place) (r : Option CellKey) → key_at rows cols p ≡ r → find place_cmp p (filter_map (placed rows cols) es) ≡ option_and_then (kept es) r
   found es p None e =
       find-carried_nowhere place_cmp-IsTotalOrder place_cmp-IsAntisymmetric (place_at rows cols) p es
       (each_key (λ k. place_at rows cols k ≡ Some p → ⊥) es (λ k h. let there = key_of_place rows cols k p h in cc))
@@ -51,18 +50,18 @@ module _ (rows cols : SheetLines) where
       )))
       ∙ sym (lookup-find key_cmp k es)
 
-  pub get-seen : (es : List (CellKey × Cell)) (p : Place) → get (seen rows cols es) p ≡ kept_at rows cols es p
+  pub get-seen : {X : Type 0} (es : List (CellKey × X)) (p : Place) → get (seen rows cols es) p ≡ kept_at rows cols es p
   get-seen es p = get-from_entries place_cmp-IsTotalOrder (filter_map (placed rows cols) es) p ∙ found es p (key_at rows cols p) refl
 
-  pub get-seen_at : (es : List (CellKey × Cell)) (p : Place) (k : CellKey) → key_at rows cols p ≡ Some k → get (seen rows cols es) p ≡ kept es k
+  pub get-seen_at : {X : Type 0} (es : List (CellKey × X)) (p : Place) (k : CellKey) → key_at rows cols p ≡ Some k → get (seen rows cols es) p ≡ kept es k
   get-seen_at es p k e = get-seen es p ∙ ap (option_and_then (kept es)) e
 
-  some_kept : (es : List (CellKey × Cell)) (p : Place) (r : Option CellKey) → key_at rows cols p ≡ r → IsSome (option_and_then (kept es) r) → (k : CellKey) × (key_at rows cols p ≡ Some k) × IsSome (kept es k)
+  some_kept : {X : Type 0} (es : List (CellKey × X)) (p : Place) (r : Option CellKey) → key_at rows cols p ≡ r → IsSome (option_and_then (kept es) r) → (k : CellKey) × (key_at rows cols p ≡ Some k) × IsSome (kept es k)
   some_kept es p None e some = cc
   some_kept es p (Some k) e some = (k, e, some)
 
   -- the key of a filled place
-  pub key_of_seen : (es : List (CellKey × Cell)) (p : Place) → IsSome (get (seen rows cols es) p) → (k : CellKey) × (key_at rows cols p ≡ Some k) × IsSome (kept es k)
+  pub key_of_seen : {X : Type 0} (es : List (CellKey × X)) (p : Place) → IsSome (get (seen rows cols es) p) → (k : CellKey) × (key_at rows cols p ≡ Some k) × IsSome (kept es k)
   key_of_seen es p some = some_kept es p (key_at rows cols p) refl (subst IsSome (get-seen es p) some)
 
   -- the key of another place is another key
@@ -73,7 +72,7 @@ module _ (rows cols : SheetLines) where
         λ same. same_Some key k (sym f ∙ ap (key_at rows cols) (sym same) ∙ e),
       )
 
-  changed_by : (es fs : List (CellKey × Cell)) (at : Place) (key : CellKey) (change : Option Cell) → key_at rows cols at ≡ Some key
+  changed_by : {X : Type 0} (es fs : List (CellKey × X)) (at : Place) (key : CellKey) (change : Option X) → key_at rows cols at ≡ Some key
       → ((k : CellKey) → kept fs k ≡ cond (is_at (key_cmp key) k) change (kept es k))
       → (p : Place) (r : Option CellKey) → key_at rows cols p ≡ r → option_and_then (kept fs) r ≡ cond (eq_by_cmp place_cmp p at) change (option_and_then (kept es) r)
   changed_by es fs at key change f h p None e =
@@ -83,42 +82,42 @@ module _ (rows cols : SheetLines) where
       rw apart refl
   changed_by es fs at key change f h p (Some k) e = h k ∙ ap (λ b. cond b change (kept es k)) (same_keys p at k key e f)
 
-  pub seen-insert : (es fs : List (CellKey × Cell)) (at : Place) (key : CellKey) (cell : Cell) → key_at rows cols at ≡ Some key
+  pub seen-insert : {X : Type 0} (es fs : List (CellKey × X)) (at : Place) (key : CellKey) (cell : X) → key_at rows cols at ≡ Some key
       → ((k : CellKey) → kept fs k ≡ cond (is_at (key_cmp key) k) (Some cell) (kept es k)) → seen rows cols fs ≡ insert (seen rows cols es) at cell
   seen-insert es fs at key cell f h = same_map place_cmp-IsTotalOrder place_cmp-IsAntisymmetric _ _ (λ p.
       get-seen fs p ∙ changed_by es fs at key (Some cell) f h p (key_at rows cols p) refl
       ∙ ap (λ r. cond (eq_by_cmp place_cmp p at) (Some cell) r) (sym (get-seen es p)) ∙ sym (get-insert place_cmp-IsTotalOrder (seen rows cols es) at cell p))
 
-  pub seen-remove : (es fs : List (CellKey × Cell)) (at : Place) (key : CellKey) → key_at rows cols at ≡ Some key
+  pub seen-remove : {X : Type 0} (es fs : List (CellKey × X)) (at : Place) (key : CellKey) → key_at rows cols at ≡ Some key
       → ((k : CellKey) → kept fs k ≡ cond (is_at (key_cmp key) k) None (kept es k)) → seen rows cols fs ≡ remove (seen rows cols es) at
   seen-remove es fs at key f h = same_map place_cmp-IsTotalOrder place_cmp-IsAntisymmetric _ _ (λ p.
       get-seen fs p ∙ changed_by es fs at key None f h p (key_at rows cols p) refl
       ∙ ap (λ r. cond (eq_by_cmp place_cmp p at) None r) (sym (get-seen es p)) ∙ sym (get-remove place_cmp-IsTotalOrder (seen rows cols es) at p))
 
-  absent_or : (b : Bool) (r : Option Cell) → (b ≡ true → r ≡ None) → r ≡ cond b None r
+  absent_or : {X : Type 0} (b : Bool) (r : Option X) → (b ≡ true → r ≡ None) → r ≡ cond b None r
   absent_or true r h = h refl
   absent_or false r h = refl
 
   -- to take out what isn't there changes nothing
-  pub remove-absent : (es : List (CellKey × Cell)) (at : Place) → key_at rows cols at ≡ None → seen rows cols es ≡ remove (seen rows cols es) at
+  pub remove-absent : {X : Type 0} (es : List (CellKey × X)) (at : Place) → key_at rows cols at ≡ None → seen rows cols es ≡ remove (seen rows cols es) at
   remove-absent es at none = same_map place_cmp-IsTotalOrder place_cmp-IsAntisymmetric _ _ (λ p.
       absent_or (eq_by_cmp place_cmp p at) (get (seen rows cols es) p) (λ here.
       ap (get (seen rows cols es)) ((eq_by_cmp-decides place_cmp-IsTotalOrder place_cmp-IsAntisymmetric p at).0 here) ∙ get-seen es at ∙ ap (option_and_then (kept es)) none)
       ∙ sym (get-remove place_cmp-IsTotalOrder (seen rows cols es) at p))
 
-  stands_or : (key k : CellKey) (b : Bool) (change old : Option Cell) → is_at (key_cmp key) k ≡ b → (IsSome change → IsSome (place_at rows cols key)) → (IsSome old → IsSome (place_at rows cols k))
+  stands_or : {X : Type 0} (key k : CellKey) (b : Bool) (change old : Option X) → is_at (key_cmp key) k ≡ b → (IsSome change → IsSome (place_at rows cols key)) → (IsSome old → IsSome (place_at rows cols k))
       → IsSome (cond b change old) → IsSome (place_at rows cols k)
   stands_or key k true change old e here stands some =
       subst (λ z. IsSome (place_at rows cols z)) ((eq_by_cmp-decides key_cmp-IsTotalOrder key_cmp-IsAntisymmetric key k).0 e) (here some)
   stands_or key k false change old e here stands some = stands some
 
   -- each key stands at a place after a change at one that does
-  pub standing_after : (es fs : List (CellKey × Cell)) (key : CellKey) (change : Option Cell) → ((k : CellKey) → kept fs k ≡ cond (is_at (key_cmp key) k) change (kept es k))
+  pub standing_after : {X : Type 0} (es fs : List (CellKey × X)) (key : CellKey) (change : Option X) → ((k : CellKey) → kept fs k ≡ cond (is_at (key_cmp key) k) change (kept es k))
       → (IsSome change → IsSome (place_at rows cols key)) → ((k : CellKey) → IsSome (kept es k) → IsSome (place_at rows cols k)) → (k : CellKey) → IsSome (kept fs k) → IsSome (place_at rows cols k)
   standing_after es fs key change h here stands k some = stands_or key k (is_at (key_cmp key) k) change (kept es k) refl here (stands k) (subst IsSome (h k) some)
 
   -- each key stands where an insertion went well, and where it didn't
-  pub standing_inserted : {A B : Type 0} (r : Result A B) (es fs : List (CellKey × Cell)) (at : Place) (key : CellKey) (cell : Cell) → key_at rows cols at ≡ Some key
+  pub standing_inserted : {X : Type 0} {A B : Type 0} (r : Result A B) (es fs : List (CellKey × X)) (at : Place) (key : CellKey) (cell : X) → key_at rows cols at ≡ Some key
       → OnOk r ((k : CellKey) → kept fs k ≡ cond (is_at (key_cmp key) k) (Some cell) (kept es k)) → OnErr r (fs ≡ es)
       → ((k : CellKey) → IsSome (kept es k) → IsSome (place_at rows cols k)) → (k : CellKey) → IsSome (kept fs k) → IsSome (place_at rows cols k)
   standing_inserted (Ok x) es fs at key cell f ok err stands =
@@ -126,18 +125,18 @@ module _ (rows cols : SheetLines) where
   standing_inserted (Err y) es fs at key cell f ok err stands = λ k some. stands k (subst (λ z. IsSome (kept z k)) err some)
 
   -- no key that rises from a key is that key
-  above_none : (k : CellKey) (es : List (CellKey × Cell)) → AllByRecursion (λ x. key_cmp k x ≡ Less) (keys_of es) → kept es k ≡ None
+  above_none : {X : Type 0} (k : CellKey) (es : List (CellKey × X)) → AllByRecursion (λ x. key_cmp k x ≡ Less) (keys_of es) → kept es k ≡ None
   above_none k [] h = refl
   above_none k (e ∷ es) h = ap (λ o. cond (is_eq o) (Some e.1) (kept es k)) h.0 ∙ above_none k es h.1
 
-  found_later : (k : CellKey) (e : CellKey × Cell) (b : Bool) (r : Option Cell) → IsSome r → IsSome (cond b (Some e.1) r)
+  found_later : {X : Type 0} (k : CellKey) (e : CellKey × X) (b : Bool) (r : Option X) → IsSome r → IsSome (cond b (Some e.1) r)
   found_later k e true r h = refl
   found_later k e false r h = h
 
-  here : (e : CellKey × Cell) (es : List (CellKey × Cell)) → IsSome (kept (e ∷ es) e.0)
+  here : {X : Type 0} (e : CellKey × X) (es : List (CellKey × X)) → IsSome (kept (e ∷ es) e.0)
   here e es = ap (λ b. is_some (cond b (Some e.1) (kept es e.0))) ((eq_by_cmp-decides key_cmp-IsTotalOrder key_cmp-IsAntisymmetric e.0 e.0).1 refl)
 
-  one_more : (e : CellKey × Cell) (es : List (CellKey × Cell)) (r : Option Place) → place_at rows cols e.0 ≡ r → IsSome r → kept es e.0 ≡ None → len (seen rows cols es) ≡ length es
+  one_more : {X : Type 0} (e : CellKey × X) (es : List (CellKey × X)) (r : Option Place) → place_at rows cols e.0 ≡ r → IsSome r → kept es e.0 ≡ None → len (seen rows cols es) ≡ length es
       → len (from_entries {R = place_cmp} (cons_option (option_map (λ p. (p, e.1)) r) (filter_map (placed rows cols) es))) ≡ suc (length es)
   one_more e es None f some none h = cc
   one_more e es (Some p) f some none h =
@@ -145,9 +144,9 @@ module _ (rows cols : SheetLines) where
       len-insert place_cmp-IsTotalOrder (seen rows cols es) p e.1 ∙ ap (λ b. cond b (len (seen rows cols es)) (len (seen rows cols es) + 1)) new ∙ omega (arith, h)
 
   -- as many cells are seen as are kept
-  pub len-seen : (es : List (CellKey × Cell)) → IsStrictlySortedBy key_cmp (keys_of es) → ((k : CellKey) → IsSome (kept es k) → IsSome (place_at rows cols k)) → len (seen rows cols es) ≡ length es
+  pub len-seen : {X : Type 0} (es : List (CellKey × X)) → IsStrictlySortedBy key_cmp (keys_of es) → ((k : CellKey) → IsSome (kept es k) → IsSome (place_at rows cols k)) → len (seen rows cols es) ≡ length es
   unfolding IsStrictlySortedBy
-  len-seen [] h stands = len-empty place_cmp Cell
+  len-seen [] h stands = len-empty place_cmp _
   len-seen (e ∷ es) h stands =
       one_more e es (place_at rows cols e.0) refl (stands e.0 (here e es)) (above_none e.0 es h.0)
       (len-seen es h.1 (λ k some. stands k (found_later k e (is_at (key_cmp k) e.0) (kept es k) some)))

@@ -1,6 +1,7 @@
 // What a filled cell holds.
 ghost use Rattle.std.specs.Prelude.{◌≡◌, IfOk};
 
+use crate::duplicate::Duplicate;
 use cell_addr::Text;
 use fix_num::Fixed;
 use std::alloc::{AllocError, Global};
@@ -32,5 +33,11 @@ impl Cell {
             Cell::Formula(holder) => Ok(Cell::Formula(*holder)),
             Cell::Broken(text) => Ok(Cell::Broken(text.copy(alloc)?)),
         }
+    }
+}
+
+impl Duplicate for Cell {
+    fn duplicate(&self, alloc: Global) -> Result<Cell, AllocError> {
+        self.copied(alloc)
     }
 }

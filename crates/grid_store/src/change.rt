@@ -11,6 +11,7 @@ ghost use Rattle.grid_store.specs.internal.Ways.{carried_map, form_goes, line_go
 ghost use Rattle.std.specs.FinMap as map;
 ghost use Rattle.cell_addr.specs.declared.place.Place.{Place};
 
+use crate::duplicate::Duplicate;
 use crate::grid::Grid;
 use crate::list::CellList;
 use crate::way::{Way, lost_lines};
@@ -19,7 +20,7 @@ use shift_core::Edit;
 use stable_lines::LineTable;
 use std::alloc::AllocError;
 
-impl Grid {
+impl<V: Duplicate> Grid<V> {
     // Edits the lines of a sheet: each cell stays under its key, and those of lost lines are handed out.
     pub(crate) fn carry_lines(
         &mut self,
@@ -27,7 +28,7 @@ impl Grid {
         sheet: u32,
         axis: Axis,
         edit: Edit,
-    ) -> Result<CellList, AllocError>
+    ) -> Result<CellList<V>, AllocError>
         requires { IsSoundEdit (limit_of axis) edit }
         ensures carried { OnOk result (cells_of self.new ≡ carried_map (form_goes way (Lines sheet axis edit)) (cells_of self.old)) }
         ensures lost { IfOk result (λ list. items_of list ≡ lost_by (form_goes way (Lines sheet axis edit)) (cells_of self.old)) }
@@ -80,7 +81,7 @@ impl Grid {
         sheet: u32,
         axis: Axis,
         edit: Edit,
-    ) -> Result<CellList, AllocError>
+    ) -> Result<CellList<V>, AllocError>
         ensures lost { IfOk result (λ list. items_of list ≡ lost_by (form_goes way (Lines sheet axis edit)) (cells_of self.old)) }
         ensures kept { OnOk result (cells_of self.new ≡ map.retain_keys (cells_of self.old) (λ p. is_some (form_goes way (Lines sheet axis edit) p))) }
         ensures err { OnErr result (cells_of self.new ≡ cells_of self.old) }

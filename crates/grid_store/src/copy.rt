@@ -4,15 +4,15 @@ ghost use Rattle.std.specs.BTreeMap.{insert_entry};
 ghost use Rattle.grid_store.specs.Keys.{key_cmp};
 ghost use Rattle.grid_store.specs.Grid.{cells_of};
 
-use crate::cell::Cell;
+use crate::duplicate::Duplicate;
 use crate::grid::Grid;
 use crate::key::CellKey;
 use std::alloc::{AllocError, Global};
 use std::collections::BTreeMap;
 
-impl Grid {
+impl<V: Duplicate> Grid<V> {
     /// An equal grid. Costs the number of filled cells.
-    pub fn copied(&self) -> Result<Grid, AllocError>
+    pub fn copied(&self) -> Result<Grid<V>, AllocError>
         ensures { IfOk result (λ copy. cells_of copy ≡ cells_of self.now) }
     {
         Ok(Grid {
@@ -25,22 +25,22 @@ impl Grid {
 }
 
 // Copies of the cells under the same keys.
-fn copied_cells(
+fn copied_cells<V: Duplicate>(
     alloc: Global,
-    cells: &BTreeMap<CellKey, Cell>,
-) -> Result<BTreeMap<CellKey, Cell>, AllocError>
+    cells: &BTreeMap<CellKey, V>,
+) -> Result<BTreeMap<CellKey, V>, AllocError>
     ensures { IfOk result (λ copy. copy.entries ≡ cells.now.entries) }
 {
     let mut copy = BTreeMap::new(alloc);
     for (key, cell) in cells {
-        let cell = cell.copied(alloc)?;
+        let cell = cell.duplicate(alloc)?;
         keep(&mut copy, *key, cell)?;
     }
     Ok(copy)
 }
 
 // Keeps a cell under a key.
-fn keep(cells: &mut BTreeMap<CellKey, Cell>, key: CellKey, cell: Cell) -> Result<(), AllocError>
+fn keep<V: Drop>(cells: &mut BTreeMap<CellKey, V>, key: CellKey, cell: V) -> Result<(), AllocError>
     ensures { OnOk result (cells.new.entries ≡ insert_entry key_cmp cells.old.entries key cell) }
 {
     cells.insert(key, cell)?;

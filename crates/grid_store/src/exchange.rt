@@ -1,6 +1,5 @@
 // Cells that are emptied and filled together, so that want of memory leaves the grid as it was.
-ghost use Rattle.std.specs.Prelude.{◌≡◌, ◌++◌, ◌∷◌, [], true, if◌then◌else◌, IfOk, OnOk, OnErr, IsSome, filter, is_none, not};
-ghost use Rattle.std.specs.List.{AllByRecursion};
+ghost use Rattle.std.specs.Prelude.{◌≡◌, ◌++◌, ◌∷◌, [], if◌then◌else◌, IfOk, OnOk, OnErr, IsSome, filter, is_none, is_some, not};
 ghost use Rattle.std.specs.BTreeSet.{contains};
 ghost use Rattle.std.specs.FinMap as map;
 ghost use Rattle.cell_addr.specs.Order.{place_cmp};
@@ -8,19 +7,18 @@ ghost use Rattle.cell_addr.specs.Place.{IsInside};
 ghost use Rattle.cell_addr.specs.declared.place.Place.{Place};
 ghost use Rattle.grid_store.specs.Grid.{AreListedInside, KeepsLines, cells_of, items_of, with_entries, without_places};
 ghost use Rattle.grid_store.specs.internal.Lists.{AreEachInside};
-ghost use Rattle.grid_store.specs.internal.Exchange.{AreFilled, HasAll, HasSame, is_among};
+ghost use Rattle.grid_store.specs.internal.Exchange.{AreFilled, HasSame, LacksAll, is_among, places_of};
 
-use crate::cell::Cell;
 use crate::grid::Grid;
 use crate::list::CellList;
 use cell_addr::Place;
 use std::alloc::{AllocError, Global};
 use std::collections::BTreeSet;
 
-impl Grid {
+impl<V: Drop> Grid<V> {
     /// Empties the places, and then fills those of the list; of two cells at one place the first counts. For want of memory the
     /// grid is as it was. Costs the places and the cells, each with the logarithm of the number of filled cells.
-    pub fn exchange(&mut self, emptied: &[Place], placed: CellList) -> Result<(), AllocError>
+    pub fn exchange(&mut self, emptied: &[Place], placed: CellList<V>) -> Result<(), AllocError>
         requires { AreListedInside (items_of placed) }
         ensures ok { OnOk result (cells_of self.new ≡ with_entries (items_of placed) (without_places emptied.now (cells_of self.old))) }
         ensures err { OnErr result (cells_of self.new ≡ cells_of self.old) }
@@ -30,7 +28,11 @@ impl Grid {
     }
 
     // The same: all memory is taken before a cell is lost.
-    pub(crate) fn replace(&mut self, emptied: &[Place], placed: CellList) -> Result<(), AllocError>
+    pub(crate) fn replace(
+        &mut self,
+        emptied: &[Place],
+        placed: CellList<V>,
+    ) -> Result<(), AllocError>
         requires { AreEachInside (items_of placed) }
         ensures ok { OnOk result (cells_of self.new ≡ with_entries (items_of placed) (without_places emptied.now (cells_of self.old))) }
         ensures err { OnErr result (cells_of self.new ≡ cells_of self.old) }
@@ -38,51 +40,70 @@ impl Grid {
     {
         let targets = placed.places(self.alloc)?;
         let left = left_over(self.alloc, emptied, &targets)?;
-        self.hold(&targets)?;
+        let (over, fresh) = self.parted(placed)?;
+        self.fill(fresh)?;
         self.leave(&left);
-        self.settle(placed);
+        self.settle(over);
         Ok(())
     }
 
-    // Fills each of the places that is empty with some cell, so that another can be put there without memory.
-    fn hold(&mut self, places: &[Place]) -> Result<(), AllocError>
-        requires { AllByRecursion IsInside places.now }
-        ensures filled { OnOk result (HasAll places.now (cells_of self.new)) }
-        ensures others { OnOk result (HasSame places.now (cells_of self.old) (cells_of self.new)) }
+    // The cells of the list whose places are filled, and those whose places are empty.
+    fn parted(&self, list: CellList<V>) -> Result<(CellList<V>, CellList<V>), AllocError>
+        ensures over { IfOk result (λ parts. items_of parts.0 ≡ filter (λ e. is_some (map.get (cells_of self.now) e.0)) (items_of list)) }
+        ensures fresh { IfOk result (λ parts. items_of parts.1 ≡ filter (λ e. is_none (map.get (cells_of self.now) e.0)) (items_of list)) }
+    {
+        let mut over = CellList::new(self.alloc)?;
+        let mut fresh = CellList::new(self.alloc)?;
+        for (at, cell) in list.into_items() {
+            if self.cell(at).is_some() {
+                over.push(at, cell)?;
+            } else {
+                fresh.push(at, cell)?;
+            }
+        }
+        Ok((over, fresh))
+    }
+
+    // Fills the places of the list, all of which are empty; of two cells at one place the first counts.
+    fn fill(&mut self, list: CellList<V>) -> Result<(), AllocError>
+        requires inside { AreEachInside (items_of list) }
+        requires empty { LacksAll (places_of (items_of list)) (cells_of self.old) }
+        ensures ok { OnOk result (cells_of self.new ≡ with_entries (items_of list) (cells_of self.old)) }
         ensures err { OnErr result (cells_of self.new ≡ cells_of self.old) }
         ensures lines { KeepsLines self.old self.new }
     {
-        let fresh = self.fresh(places)?;
-        match self.fill_with_some(&fresh) {
+        let places = list.places(self.alloc)?;
+        match self.put_all(list) {
             Ok(()) => Ok(()),
             Err(error) => {
-                self.leave(&fresh);
+                self.leave(&places);
                 Err(error)
             }
         }
     }
 
-    // Those of the places that are empty.
-    fn fresh(&self, places: &[Place]) -> Result<Vec<Place>, AllocError>
-        ensures { IfOk result (λ fresh. fresh.items ≡ filter (λ p. is_none (map.get (cells_of self.now) p)) places.now) }
-    {
-        let mut fresh = Vec::new(self.alloc);
-        for at in places {
-            push_if(&mut fresh, self.cell(*at).is_none(), *at)?;
-        }
-        Ok(fresh)
-    }
-
-    // Fills the places with some cell.
-    fn fill_with_some(&mut self, places: &[Place]) -> Result<(), AllocError>
-        requires { AllByRecursion IsInside places.now }
-        ensures filled { OnOk result (HasAll places.now (cells_of self.new)) }
-        ensures others { HasSame places.now (cells_of self.old) (cells_of self.new) }
+    // Fills the places of the list; of two cells at one place the first counts. For want of memory some of them may be filled.
+    fn put_all(&mut self, list: CellList<V>) -> Result<(), AllocError>
+        requires { AreEachInside (items_of list) }
+        ensures ok { OnOk result (cells_of self.new ≡ with_entries (items_of list) (cells_of self.old)) }
+        ensures others { HasSame (places_of (items_of list)) (cells_of self.old) (cells_of self.new) }
         ensures lines { KeepsLines self.old self.new }
     {
-        for at in places {
-            self.put(*at, Cell::Truth(false))?;
+        let mut list = list;
+        while let Some((at, cell)) = list.pop() {
+            self.set(at, cell)?;
         }
+        Ok(())
+    }
+
+    // Fills the cell at the place, and drops what it held.
+    fn set(&mut self, at: Place, cell: V) -> Result<(), AllocError>
+        requires { IsInside at }
+        ensures ok { OnOk result (cells_of self.new ≡ map.insert (cells_of self.old) at cell) }
+        ensures err { OnErr result (cells_of self.new ≡ cells_of self.old) }
+        ensures lines { KeepsLines self.old self.new }
+    {
+        self.put(at, cell)?;
         Ok(())
     }
 
@@ -97,7 +118,7 @@ impl Grid {
     }
 
     // Fills the places of the list, each of which is filled already; of two cells at one place the first counts.
-    fn settle(&mut self, list: CellList)
+    fn settle(&mut self, list: CellList<V>)
         requires inside { AreEachInside (items_of list) }
         requires filled { AreFilled (items_of list) (cells_of self.old) }
         ensures cells { cells_of self.new ≡ with_entries (items_of list) (cells_of self.old) }
@@ -110,7 +131,7 @@ impl Grid {
     }
 
     // Puts another cell at a filled place, which takes no memory.
-    fn overwrite(&mut self, at: Place, cell: Cell)
+    fn overwrite(&mut self, at: Place, cell: V)
         requires inside { IsInside at }
         requires filled { IsSome (map.get (cells_of self.old) at) }
         ensures cells { cells_of self.new ≡ map.insert (cells_of self.old) at cell }

@@ -5,18 +5,17 @@ ghost use Rattle.cell_addr.specs.declared.place.TheConstants.{COLS, ROWS};
 ghost use Rattle.grid_store.specs.Keys.{key_cmp, place_at};
 ghost use Rattle.grid_store.specs.declared.key.CellKey.{CellKey};
 
-use crate::cell::Cell;
 use crate::key::CellKey;
 use cell_addr::{Axis, COLS, Place, ROWS};
 use stable_lines::SheetLines;
 use std::alloc::{AllocError, Global};
 use std::collections::BTreeMap;
 
-/// The filled cells of a workbook: a finite map from places to cells.
+/// The filled cells of a workbook: a finite map from places to what they hold.
 #[derive(Drop)]
-pub struct Grid {
+pub struct Grid<V> {
     pub(crate) alloc: Global,
-    pub(crate) cells: BTreeMap<CellKey, Cell>,
+    pub(crate) cells: BTreeMap<CellKey, V>,
     pub(crate) rows: SheetLines,
     pub(crate) cols: SheetLines,
     pub ghost rows_limit: { rows.plain.limit ≡ ROWS },
@@ -24,7 +23,7 @@ pub struct Grid {
     pub ghost standing: { (k : CellKey) → IsSome (tree.get key_cmp cells k) → IsSome (place_at rows cols k) },
 }
 
-impl Grid {
+impl<V: Drop> Grid<V> {
     ghost use Rattle.std.specs.Prelude.{IfOk, OnOk, OnErr, IsOk, option_copied};
     ghost use Rattle.std.specs.FinMap as map;
     ghost use Rattle.cell_addr.specs.Place.{IsInside};
@@ -32,7 +31,7 @@ impl Grid {
     ghost use Rattle.grid_store.specs.Keys.{key_at};
 
     /// A grid without cells.
-    pub fn new(alloc: Global) -> Result<Grid, AllocError>
+    pub fn new(alloc: Global) -> Result<Grid<V>, AllocError>
         ensures { IfOk result (λ grid. cells_of grid ≡ map.empty) }
     {
         Ok(Grid {
@@ -70,7 +69,7 @@ impl Grid {
     }
 
     /// What the cell at the place holds; `None` where it is empty. Costs the logarithm of the number of filled cells.
-    pub fn cell(&self, at: Place) -> Option<&Cell>
+    pub fn cell(&self, at: Place) -> Option<&V>
         ensures { option_copied result ≡ map.get (cells_of self.now) at }
     {
         let key = self.key(at)?;
@@ -86,7 +85,7 @@ impl Grid {
 
     /// Fills the cell at the place, and answers what it held. At a filled place this takes no memory. For want of memory the
     /// grid is as it was.
-    pub fn put(&mut self, at: Place, cell: Cell) -> Result<Option<Cell>, AllocError>
+    pub fn put(&mut self, at: Place, cell: V) -> Result<Option<V>, AllocError>
         requires { IsInside at }
         ensures before { IfOk result (λ before. before ≡ map.get (cells_of self.old) at) }
         ensures ok { OnOk result (cells_of self.new ≡ map.insert (cells_of self.old) at cell) }
@@ -101,7 +100,7 @@ impl Grid {
     }
 
     /// Empties the cell at the place, and answers what it held. Takes no memory.
-    pub fn take(&mut self, at: Place) -> Option<Cell>
+    pub fn take(&mut self, at: Place) -> Option<V>
         ensures before { result ≡ map.get (cells_of self.old) at }
         ensures taken { cells_of self.new ≡ map.remove (cells_of self.old) at }
         ensures lines { KeepsLines self.old self.new }

@@ -1,8 +1,9 @@
 //! The filled cells of a workbook, over structural operations.
 //!
-//! A [`Grid`] stands for a finite map from places to [`Cell`]s. It keeps each cell under the lines of its row and
-//! its column, which stay as other rows and columns are inserted, deleted or moved. So such an operation costs the number of
-//! cells that it loses, and not that of all cells, and a block is listed by what is filled in its rows.
+//! A [`Grid`] stands for a finite map from places to what cells hold: [`Cell`]s, or any values of which equal ones can be made
+//! ([`Duplicate`]). It keeps each cell under the lines of its row and its column, which stay as other rows and columns are
+//! inserted, deleted or moved. So such an operation costs the number of cells that it loses, and not that of all cells, and a
+//! block is listed by what is filled in its rows.
 //!
 //! ```text
 //! grid.put(at, Cell::Number(n))?;
@@ -15,6 +16,7 @@ mod cell;
 mod change;
 mod clearing;
 mod copy;
+mod duplicate;
 mod exchange;
 mod grid;
 mod key;
@@ -26,5 +28,6 @@ mod restoring;
 mod way;
 
 pub use cell::Cell;
+pub use duplicate::Duplicate;
 pub use grid::Grid;
 pub use list::CellList;

@@ -1,21 +1,20 @@
 // Lists of cells with their places.
 ghost use Rattle.std.specs.Prelude.{◌≡◌, ◌++◌, ◌∷◌, [], IfOk, OnOk, OnErr, MatchOption, IsTrue, map, ◌↔◌};
 
-use crate::cell::Cell;
 use cell_addr::Place;
 use std::alloc::{AllocError, Global};
 
 /// A list of cells with their places.
 #[derive(Drop)]
-pub struct CellList {
-    list: Vec<(Place, Cell)>,
+pub struct CellList<V> {
+    list: Vec<(Place, V)>,
 }
 
-impl CellList {
+impl<V: Drop> CellList<V> {
     ghost use Rattle.grid_store.specs.Grid.{AreListedInside, items_of};
 
     /// A list without cells.
-    pub fn new(alloc: Global) -> Result<CellList, AllocError>
+    pub fn new(alloc: Global) -> Result<CellList<V>, AllocError>
         ensures { IfOk result (λ list. items_of list ≡ []) }
     {
         Ok(CellList {
@@ -24,7 +23,7 @@ impl CellList {
     }
 
     /// Adds a cell at the end. For want of memory the list is as it was.
-    pub fn push(&mut self, at: Place, cell: Cell) -> Result<(), AllocError>
+    pub fn push(&mut self, at: Place, cell: V) -> Result<(), AllocError>
         ensures ok { OnOk result (items_of self.new ≡ items_of self.old ++ (at, cell) ∷ []) }
         ensures err { OnErr result (items_of self.new ≡ items_of self.old) }
     {
@@ -40,7 +39,7 @@ impl CellList {
     }
 
     /// Takes the last cell off. `None` where the list has none.
-    pub fn pop(&mut self) -> Option<(Place, Cell)>
+    pub fn pop(&mut self) -> Option<(Place, V)>
         ensures { MatchOption result (items_of self.old ≡ []) (λ last. items_of self.old ≡ items_of self.new ++ last ∷ []) }
     {
         self.list.pop()
@@ -58,14 +57,14 @@ impl CellList {
     }
 
     // The list of the cells with their places.
-    pub(crate) fn into_items(self) -> Vec<(Place, Cell)>
+    pub(crate) fn into_items(self) -> Vec<(Place, V)>
         ensures { result.items ≡ items_of self }
     {
         self.list
     }
 
     /// The cells with their places, in order.
-    pub fn items(&self) -> &[(Place, Cell)]
+    pub fn items(&self) -> &[(Place, V)]
         ensures { result.now ≡ items_of self.now }
     {
         &self.list

@@ -4,10 +4,10 @@ ghost use Rattle.std.specs.BTreeMap.{IsEmpty, IsOrdered};
 ghost use Rattle.cell_addr.specs.Order.{place_cmp};
 ghost use Rattle.std.specs.FinMap as map;
 ghost use Rattle.stable_lines.specs.Sheets.{table_of};
-ghost use Rattle.grid_store.specs.Grid.{cells_of, items_of, within};
+ghost use Rattle.grid_store.specs.Grid.{cells_of, items_of, seen_items, within};
 ghost use Rattle.grid_store.specs.internal.Listing.{AreCellsOf, AreLinesAt, HasCols, HasLines, HasRows, IsAdded, KeepsNone, StillHas};
 
-use crate::cell::Cell;
+use crate::duplicate::Duplicate;
 use crate::grid::Grid;
 use crate::key::CellKey;
 use crate::list::CellList;
@@ -16,33 +16,43 @@ use stable_lines::Run;
 use std::alloc::{AllocError, Global};
 use std::collections::BTreeMap;
 
-impl Grid {
-    /// Copies of the filled cells of the block, row by row. Costs about their number and that of its rows that hold any cell, these
-    /// as often as the lines of its columns stand in runs; not the number of its rows, nor of the cells beside it.
-    pub fn listed(&self, area: Block) -> Result<CellList, AllocError>
+impl<V: Duplicate> Grid<V> {
+    /// Copies of the filled cells of the block, row by row. Costs about what [`Grid::listed_refs`] does, and the copies.
+    pub fn listed(&self, area: Block) -> Result<CellList<V>, AllocError>
         ensures { IfOk result (λ list. items_of list ≡ map.entries (within area (cells_of self.now))) }
+    {
+        let found = self.listed_refs(area)?;
+        copies(self.alloc, &found)
+    }
+
+    /// Copies of all filled cells with their places, in no order that is told. Costs the number of filled cells.
+    pub fn all(&self) -> Result<CellList<V>, AllocError>
+        ensures { IfOk result (λ list. map.from_entries (items_of list) ≡ cells_of self.now) }
+    {
+        let mut list = CellList::new(self.alloc)?;
+        for (key, cell) in &self.cells {
+            if let Some(at) = self.place(*key) {
+                let cell = cell.duplicate(self.alloc)?;
+                list.push(at, cell)?;
+            }
+        }
+        Ok(list)
+    }
+}
+
+impl<V: Drop> Grid<V> {
+    /// The filled cells of the block, row by row. Costs about their number and that of its rows that hold any cell, these as often
+    /// as the lines of its columns stand in runs; not the number of its rows, nor of the cells beside it.
+    pub fn listed_refs(&self, area: Block) -> Result<Vec<(Place, &V)>, AllocError>
+        ensures { IfOk result (λ list. seen_items list.items ≡ map.entries (within area (cells_of self.now))) }
     {
         let mut found = BTreeMap::new(self.alloc);
         self.find(area, &mut found)?;
         in_order(self.alloc, found)
     }
 
-    /// Copies of all filled cells with their places, in no order that is told. Costs the number of filled cells.
-    pub fn all(&self) -> Result<CellList, AllocError>
-        ensures { IfOk result (λ list. map.from_entries (items_of list) ≡ cells_of self.now) }
-    {
-        let mut list = CellList::new(self.alloc)?;
-        for (key, cell) in &self.cells {
-            if let Some(at) = self.place(*key) {
-                let cell = cell.copied(self.alloc)?;
-                list.push(at, cell)?;
-            }
-        }
-        Ok(list)
-    }
-
     // Finds the filled cells of the block, by its runs of rows whose lines follow one another.
-    fn find(&self, area: Block, found: &mut BTreeMap<Place, Cell>) -> Result<(), AllocError>
+    fn find<'a>(&'a self, area: Block, found: &mut BTreeMap<Place, &'a V>) -> Result<(), AllocError>
         requires { IsEmpty found.old }
         ensures cells { OnOk result (AreCellsOf area (cells_of self.now) found.new) }
         ensures rows { OnOk result (HasRows area (cells_of self.now) 0 (area.bottom + 1) found.new) }
@@ -61,11 +71,11 @@ impl Grid {
     }
 
     // Finds the filled cells of the block that are on these lines of rows, one after the other of those that hold any.
-    fn find_on(
-        &self,
+    fn find_on<'a>(
+        &'a self,
         area: Block,
         lines: Run,
-        found: &mut BTreeMap<Place, Cell>,
+        found: &mut BTreeMap<Place, &'a V>,
     ) -> Result<(), AllocError>
         requires cells { AreCellsOf area (cells_of self.now) found.old }
         requires lines { AreLinesAt (table_of self.now.rows area.sheet) lines }
@@ -83,31 +93,12 @@ impl Grid {
         Ok(())
     }
 
-    // The first of the sheet's lines of rows, from `row` to before `end`, that holds a cell.
-    pub(crate) fn filled_line(&self, sheet: u32, row: u64, end: u64) -> Option<u64>
-        requires { row ≤ end }
-        ensures within { IfSome result (λ line. (row ≤ line) × (line < end)) }
-        ensures before { IfSome result (KeepsNone self.now sheet row) }
-        ensures none { IfNone result (KeepsNone self.now sheet row end) }
-    {
-        let first = CellKey { sheet, row, col: 0 };
-        let end = CellKey {
-            sheet,
-            row: end,
-            col: 0,
-        };
-        match self.cells.range(first..end).next() {
-            Some((key, _cell)) => Some(key.row),
-            None => None,
-        }
-    }
-
     // Finds the filled cells of the block that are on one line of rows, by its runs of columns whose lines follow one another.
-    fn find_in_row(
-        &self,
+    fn find_in_row<'a>(
+        &'a self,
         area: Block,
         row: u64,
-        found: &mut BTreeMap<Place, Cell>,
+        found: &mut BTreeMap<Place, &'a V>,
     ) -> Result<(), AllocError>
         requires { AreCellsOf area (cells_of self.now) found.old }
         ensures cells { OnOk result (AreCellsOf area (cells_of self.now) found.new) }
@@ -128,12 +119,12 @@ impl Grid {
     }
 
     // Finds the filled cells of the block that are on one line of rows and these lines of columns.
-    fn find_between(
-        &self,
+    fn find_between<'a>(
+        &'a self,
         area: Block,
         row: u64,
         lines: Run,
-        found: &mut BTreeMap<Place, Cell>,
+        found: &mut BTreeMap<Place, &'a V>,
     ) -> Result<(), AllocError>
         requires cells { AreCellsOf area (cells_of self.now) found.old }
         requires lines { AreLinesAt (table_of self.now.cols area.sheet) lines }
@@ -156,36 +147,63 @@ impl Grid {
         for (key, cell) in self.cells.range(first..end) {
             if let Some(at) = self.place(*key) {
                 if area.holds(at) {
-                    add(self.alloc, found, at, cell)?;
+                    add(found, at, cell)?;
                 }
             }
         }
         Ok(())
     }
+    // The first of the sheet's lines of rows, from `row` to before `end`, that holds a cell.
+    pub(crate) fn filled_line(&self, sheet: u32, row: u64, end: u64) -> Option<u64>
+        requires { row ≤ end }
+        ensures within { IfSome result (λ line. (row ≤ line) × (line < end)) }
+        ensures before { IfSome result (KeepsNone self.now sheet row) }
+        ensures none { IfNone result (KeepsNone self.now sheet row end) }
+    {
+        let first = CellKey { sheet, row, col: 0 };
+        let end = CellKey {
+            sheet,
+            row: end,
+            col: 0,
+        };
+        match self.cells.range(first..end).next() {
+            Some((key, _cell)) => Some(key.row),
+            None => None,
+        }
+    }
 }
 
-// Adds a copy of the cell.
-fn add(
-    alloc: Global,
-    found: &mut BTreeMap<Place, Cell>,
-    at: Place,
-    cell: &Cell,
-) -> Result<(), AllocError>
+// Adds the cell.
+fn add<'a, V>(found: &mut BTreeMap<Place, &'a V>, at: Place, cell: &'a V) -> Result<(), AllocError>
     ensures { OnOk result (IsAdded found.old at cell.now found.new) }
 {
-    let copy = cell.copied(alloc)?;
-    found.insert(at, copy)?;
+    found.insert(at, cell)?;
     Ok(())
 }
 
 // The found cells, in the order of their places.
-fn in_order(alloc: Global, found: BTreeMap<Place, Cell>) -> Result<CellList, AllocError>
-    ensures { IfOk result (λ list. (items_of list ≡ found.entries) × IsOrdered place_cmp found) }
+fn in_order<'a, V>(
+    alloc: Global,
+    found: BTreeMap<Place, &'a V>,
+) -> Result<Vec<(Place, &'a V)>, AllocError>
+    ensures { IfOk result (λ list. (list.items ≡ found.entry.entries) × IsOrdered place_cmp found.entry) }
 {
     let _many = found.len();
-    let mut list = CellList::new(alloc)?;
+    let mut list = Vec::new(alloc);
     for (at, cell) in found {
-        list.push(at, cell)?;
+        list.push((at, cell))?;
+    }
+    Ok(list)
+}
+
+// Copies of the cells.
+fn copies<V: Duplicate>(alloc: Global, cells: &[(Place, &V)]) -> Result<CellList<V>, AllocError>
+    ensures { IfOk result (λ list. items_of list ≡ seen_items cells.now) }
+{
+    let mut list = CellList::new(alloc)?;
+    for (at, cell) in cells {
+        let copy = cell.duplicate(alloc)?;
+        list.push(*at, copy)?;
     }
     Ok(list)
 }

@@ -10,6 +10,7 @@ ghost use Rattle.grid_store.specs.internal.Lists.{AreEachInside, carried_entry};
 ghost use Rattle.grid_store.specs.internal.Ways.{carried_map, form_goes, goes, lost_by, onto_block, from_block};
 
 use crate::change::whole;
+use crate::duplicate::Duplicate;
 use crate::grid::Grid;
 use crate::list::CellList;
 use crate::way::Way;
@@ -17,12 +18,12 @@ use cell_addr::{Block, Place};
 use shift_core::{Form, Shift, back_place, moved_place};
 use std::alloc::{AllocError, Global};
 
-impl Grid {
+impl<V: Duplicate> Grid<V> {
     /// Does the operation: each cell goes where its place goes. The cells whose places are lost are handed out with those places, row by row.
     ///
     /// An insert, a deletion or a move of rows or columns costs the number of runs of rows that follow one another and what it
     /// loses; a dropped sheet costs its cells; a move of a block those of its two blocks. For want of memory the grid is as it was.
-    pub fn apply(&mut self, s: &Shift) -> Result<CellList, AllocError>
+    pub fn apply(&mut self, s: &Shift) -> Result<CellList<V>, AllocError>
         requires { IsSound s.now }
         ensures moved { OnOk result (cells_of self.new ≡ moved_map s.now (cells_of self.old)) }
         ensures removed { IfOk result (λ list. items_of list ≡ lost_entries s.now (cells_of self.old)) }
@@ -43,7 +44,7 @@ impl Grid {
     /// Costs what the operation does, the cells that are put back, and where there are some the runs of lines of all sheets. Where cells
     /// stand that an edit of lines loses as it is taken back, of which an operation leaves none, it costs the number of filled cells.
     /// For want of memory the grid is as it was.
-    pub fn put_back(&mut self, s: &Shift, removed: CellList) -> Result<(), AllocError>
+    pub fn put_back(&mut self, s: &Shift, removed: CellList<V>) -> Result<(), AllocError>
         requires sound { IsSound s.now }
         requires inside { AreListedInside (items_of removed) }
         ensures restored { OnOk result (cells_of self.new ≡ restored_map s.now (items_of removed) (cells_of self.old)) }
@@ -53,7 +54,7 @@ impl Grid {
     }
 
     // Takes the operation back, and puts the removed cells over what stands then.
-    fn restore(&mut self, s: &Shift, removed: CellList) -> Result<(), AllocError>
+    fn restore(&mut self, s: &Shift, removed: CellList<V>) -> Result<(), AllocError>
         requires sound { IsSound s.now }
         requires inside { AreEachInside (items_of removed) }
         ensures restored { OnOk result (cells_of self.new ≡ with_entries (items_of removed) (carried_map (goes Back s.now) (cells_of self.old))) }
@@ -79,8 +80,8 @@ impl Grid {
         way: Way,
         source: Block,
         to: Place,
-        more: CellList,
-    ) -> Result<CellList, AllocError>
+        more: CellList<V>,
+    ) -> Result<CellList<V>, AllocError>
         requires sound { IsSoundForm (Cells source to) }
         requires inside { AreEachInside (items_of more) }
         ensures carried { OnOk result (cells_of self.new ≡ with_entries (items_of more) (carried_map (form_goes way (Cells source to)) (cells_of self.old))) }
@@ -118,7 +119,11 @@ fn blocks(way: Way, source: Block, to: Place) -> (Block, Block)
 }
 
 // The places of the cells of both lists.
-fn both_places(alloc: Global, first: &CellList, second: &CellList) -> Result<Vec<Place>, AllocError>
+fn both_places<V: Drop>(
+    alloc: Global,
+    first: &CellList<V>,
+    second: &CellList<V>,
+) -> Result<Vec<Place>, AllocError>
     ensures { IfOk result (λ places. places.items ≡ map (λ e. e.0) (items_of first.now) ++ map (λ e. e.0) (items_of second.now)) }
 {
     let mut places = first.places(alloc)?;
@@ -129,7 +134,7 @@ fn both_places(alloc: Global, first: &CellList, second: &CellList) -> Result<Vec
 }
 
 // The cells of the list that are in no place of the block.
-fn beside(alloc: Global, list: CellList, area: Block) -> Result<CellList, AllocError>
+fn beside<V: Drop>(alloc: Global, list: CellList<V>, area: Block) -> Result<CellList<V>, AllocError>
     ensures { IfOk result (λ kept. items_of kept ≡ filter (λ e. not (covers area e.0)) (items_of list)) }
 {
     let mut kept = CellList::new(alloc)?;
@@ -142,13 +147,13 @@ fn beside(alloc: Global, list: CellList, area: Block) -> Result<CellList, AllocE
 }
 
 // More cells, and behind them those of the list where their places go, those of lost places gone.
-fn carried(
+fn carried<V: Drop>(
     way: Way,
     source: Block,
     to: Place,
-    list: CellList,
-    more: CellList,
-) -> Result<CellList, AllocError>
+    list: CellList<V>,
+    more: CellList<V>,
+) -> Result<CellList<V>, AllocError>
     requires { IsSoundForm (Cells source to) }
     ensures { IfOk result (λ all. items_of all ≡ items_of more ++ filter_map (carried_entry (form_goes way (Cells source to))) (items_of list)) }
 {

@@ -16,7 +16,7 @@ use cell_addr::{Axis, Block};
 use shift_core::{Edit, Form, Shift};
 use stable_lines::Run;
 
-impl Grid {
+impl<V: Drop> Grid<V> {
     /// Whether the operation is an insert of rows or columns that pushes a filled cell off the sheet. Takes no memory; costs about
     /// the number of rows that hold any cell among those that are looked through.
     pub fn pushed_off(&self, s: &Shift) -> bool

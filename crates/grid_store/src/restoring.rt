@@ -13,6 +13,7 @@ ghost use Rattle.grid_store.specs.declared.way.Way.TheVariants.{Back};
 ghost use Rattle.grid_store.specs.internal.Lists.{AreEachInside};
 ghost use Rattle.grid_store.specs.internal.Ways.{carried_map, form_goes};
 
+use crate::duplicate::Duplicate;
 use crate::grid::Grid;
 use crate::list::CellList;
 use crate::way::Way;
@@ -22,14 +23,14 @@ use std::alloc::AllocError;
 use std::collections::BTreeMap;
 use std::mem;
 
-impl Grid {
+impl<V: Duplicate> Grid<V> {
     // Takes an edit of lines back, and puts the removed cells over what stands then.
     pub(crate) fn restore_lines(
         &mut self,
         sheet: u32,
         axis: Axis,
         edit: Edit,
-        removed: CellList,
+        removed: CellList<V>,
     ) -> Result<(), AllocError>
         requires sound { IsSoundEdit (limit_of axis) edit }
         requires inside { AreEachInside (items_of removed) }
@@ -57,7 +58,7 @@ impl Grid {
         sheet: u32,
         axis: Axis,
         edit: Edit,
-        removed: CellList,
+        removed: CellList<V>,
     ) -> Result<(), AllocError>
         requires sound { IsSoundEdit (limit_of axis) edit }
         requires inside { AreEachInside (items_of removed) }
@@ -93,7 +94,7 @@ impl Grid {
         sheet: u32,
         axis: Axis,
         edit: Edit,
-        removed: CellList,
+        removed: CellList<V>,
     ) -> Result<(), AllocError>
         requires sound { IsSoundEdit (limit_of axis) edit }
         requires inside { AreEachInside (items_of removed) }

@@ -6,6 +6,7 @@ use Rattle.std.proofs.lemmas.Option.{same_Some}
 use Rattle.std.specs.Option.{option_eq}
 use Rattle.std.specs.Prelude.{insert, slice_get}
 use Rattle.cell_addr.specs.Sheets.{AreSheets, name_in}
+use Rattle.grid_store.specs.declared.cell.Cell.{Cell}
 use Rattle.grid_store.specs.declared.grid.Grid.{Grid}
 use Rattle.lazy_store.specs.Store.{at_in}
 use Rattle.lazy_store.specs.declared.lazy.Lazy.{Lazy}
@@ -16,7 +17,6 @@ use Rattle.name_table.proofs.SheetEntries.{Lacks, Sheet}
 use Rattle.name_table.specs.SheetLists.{CanJoin, index_in, left_in, renamed_in}
 use Rattle.name_table.specs.declared.names.Names.{Names}
 use Rattle.shift_line.specs.Track.{shift_at}
-use Rattle.book_model.specs.Workbook.{Workbook}
 use Rattle.kept_book.specs.Change.{HasSlot, Joins, with_slot}
 use Rattle.kept_book.specs.Frame.{Stands}
 use Rattle.kept_book.specs.Kept.{KeepsUpTo}
@@ -26,7 +26,7 @@ use Rattle.kept_book.proofs.Joining.{plain-joins}
 use Rattle.kept_book.proofs.SheetSlots.{index-left, inserted-joins, left-renamed, left-twice, renamed-same, same-left, slot-joins, slot-renamed}
 use Rattle.kept_book.proofs.ShiftedBooks.{frame_with}
 
-module _ (lazy : Lazy) (grid : Grid) (names names2 : Names) (same : KeepsNames names names2) where
+module _ (lazy : Lazy) (grid : Grid Cell) (names names2 : Names) (same : KeepsNames names names2) where
   pub sheets-stand : Stands (at_in lazy) (words_of names) (frame_with lazy grid names) → Stands (at_in lazy) (words_of names2) (frame_with lazy grid names2)
   sheets-stand stand =
       let named = subst (λ ns. Stands (at_in lazy) (words_of names) (record (frame_with lazy grid names) { names = ns })) (sym same.1) stand in

@@ -1,11 +1,14 @@
 -- Changes one after the other, as loops go over them. Serves the steps back and forth.
-use Rattle.std.proofs.Common.{◌≡◌, ◌∙◌, sym, ap, subst, refl, arith, ℕ, zero, suc, ◌+◌, ◌-◌, ◌<◌, ◌≤◌, List, [], ◌∷◌, ◌++◌, length, get_or, map, drop, Some, None}
+use Rattle.std.proofs.Common.{◌≡◌, ◌∙◌, sym, ap, subst, refl, arith, ℕ, zero, suc, ◌+◌, ◌-◌, ◌<◌, ◌≤◌, List, [], ◌∷◌, ◌++◌, length, get_or, map, drop, take, Some, None}
 use Rattle.std.proofs.lemmas.Option.{none-some, same_Some}
 use Rattle.std.specs.Prelude.{slice_get}
-use Rattle.std.proofs.lemmas.List.{drop_more}
+use Rattle.std.proofs.lemmas.List.{drop_more, map-append, take_more}
 use Rattle.std.specs.FinMap as fin
+use Rattle.grid_store.specs.Grid.{with_entries, without_places}
+use Rattle.grid_store.specs.declared.cell.Cell.{Cell}
 use Rattle.name_table.specs.Scopes.{NameMap, key_of}
-use Rattle.kept_book.specs.Change.{AreKnown, Change, HasSlot, HaveSlots, SheetSlot, back, cells_before, forth, names_with, shift_of, sheets_with, with_id}
+use Rattle.shift_core.specs.Maps.{PlaceMap}
+use Rattle.kept_book.specs.Change.{AreKnown, Change, HasSlot, HaveSlots, SheetSlot, back, cells_after, cells_before, forth, names_with, places_of, shift_of, sheets_with, with_id}
 use Rattle.kept_book.specs.Frame.{Frame, Line, Words}
 use Rattle.kept_book.specs.Kept.{change_of, changes_of, name_change, sheet_change}
 use Rattle.kept_book.specs.Walk.{Leads, back_all, forth_all}
@@ -18,6 +21,16 @@ use Rattle.kept_book.specs.internal.Stepping.{CanRepeat, CanReturn, ChangesNoNam
 -- one part, one change of a sheet, and one of a name, in front of those behind it
 pub parts-at : (ps : List Part) (i : ℕ) (p : Part) → i < length ps → p ≡ get_or ps i p → changes_of (drop i ps) ≡ change_of p ∷ changes_of (drop (i + 1) ps)
 parts-at ps i p l is = ap changes_of (drop_more ps i p l ∙ ap (λ x. x ∷ drop (i + 1) ps) (sym is))
+
+-- one part behind those in front of it
+pub parts-before : (ps : List Part) (i : ℕ) (p : Part) → i < length ps → p ≡ get_or ps i p → changes_of (take (i + 1) ps) ≡ changes_of (take i ps) ++ change_of p ∷ []
+parts-before ps i p l is = ap changes_of (take_more ps i p l ∙ ap (λ x. take i ps ++ x ∷ []) (sym is)) ∙ map-append change_of (take i ps) (p ∷ [])
+
+-- what a last change without an operation makes of the cells
+pub forth-last : (line : Line) (cs : List Change) (c : Change) (m : PlaceMap Cell) → shift_of line c ≡ None
+    → cells_forth line (cs ++ c ∷ []) m ≡ with_entries c.written (without_places (places_of c.replaced) (cells_forth line cs m))
+forth-last line [] c m none = ap (λ s. cells_after s c m) none
+forth-last line (d ∷ cs) c m none = forth-last line cs c (cells_after (shift_of line d) d m) none
 
 pub sheets-at : (cs : List SheetChange) (i : ℕ) (c : SheetChange) → i < length cs → c ≡ get_or cs i c → map sheet_change (drop i cs) ≡ sheet_change c ∷ map sheet_change (drop (i + 1) cs)
 sheets-at cs i c l is = ap (map sheet_change) (drop_more cs i c l ∙ ap (λ x. x ∷ drop (i + 1) cs) (sym is))

@@ -22,3 +22,4 @@ pub mod NamedBooks
 pub mod ChangedSheets
 pub mod NewBooks
 pub mod SameBooks
+pub mod Exchanged

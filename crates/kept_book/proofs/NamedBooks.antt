@@ -13,6 +13,7 @@ use Rattle.formula_tree.specs.declared.node.Node.{Node}
 use Rattle.formula_tree.specs.declared.reference.Home.TheVariants as homes
 use Rattle.grid_store.specs.Grid.{cells_of, with_entries, without_places}
 use Rattle.grid_store.specs.declared.cell.Cell.TheVariants as cell
+use Rattle.grid_store.specs.declared.cell.Cell.{Cell}
 use Rattle.grid_store.specs.declared.grid.Grid.{Grid}
 use Rattle.lazy_store.specs.Kept.{at, standing_at}
 use Rattle.lazy_store.specs.Standing.{Standing}
@@ -45,7 +46,7 @@ use Rattle.kept_book.proofs.NamesSeen.{is_id_key}
 use Rattle.kept_book.proofs.ShiftedBooks.{frame_with}
 use Rattle.kept_book.proofs.Staying.{cells-stay, names-stay, same-number, same-there, stays-stand, there-within}
 
-module _ (lazy lazy2 : Lazy) (grid : Grid) (names names2 : Names) (n : ℕ) (scope : Option ℕ) (tree : Option (Rc Node Global)) (word : ℕ) (text : List ℕ) (id : Option ℕ)
+module _ (lazy lazy2 : Lazy) (grid : Grid Cell) (names names2 : Names) (n : ℕ) (scope : Option ℕ) (tree : Option (Rc Node Global)) (word : ℕ) (text : List ℕ) (id : Option ℕ)
     (stand : Stands (at_in lazy) (words_of names) (frame_with lazy grid names)) (fresh : AreBelow n lazy) (number : number_in (words_of names2) text ≡ Some word) (words : words_of names2 ≡ with_word text (words_of names))
     (sheets : listed names2 ≡ listed names) (put : names_of names2 ≡ with_id (table.key_of scope word) id (names_of names)) (gives : Gives n scope tree id lazy lazy2)
     (line : lazy2.line ≡ with_spare lazy2.line.spare lazy.line) where

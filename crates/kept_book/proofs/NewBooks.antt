@@ -5,6 +5,7 @@ use Rattle.std.specs.FinMap as fin
 use Rattle.std.specs.FinMap.{get-empty}
 use Rattle.std.specs.Prelude.{option_and_then}
 use Rattle.grid_store.specs.Grid.{cells_of}
+use Rattle.grid_store.specs.declared.cell.Cell.{Cell}
 use Rattle.grid_store.specs.declared.grid.Grid.{Grid}
 use Rattle.lazy_store.specs.Store.{at_in}
 use Rattle.lazy_store.specs.declared.lazy.Lazy.{Lazy}
@@ -23,7 +24,7 @@ use Rattle.kept_book.proofs.ShiftedBooks.{frame_with}
 abbrev nothing : Workbook
 nothing = record { sheets = []; cells = fin.empty; names = fin.empty }
 
-module _ (lazy : Lazy) (grid : Grid) (names : Names) (cells : cells_of grid ≡ fin.empty) (ids : names_of names ≡ fin.empty) where
+module _ (lazy : Lazy) (grid : Grid Cell) (names : Names) (cells : cells_of grid ≡ fin.empty) (ids : names_of names ≡ fin.empty) where
   none-seen : names_seen (words_of names) (named_at (at_in lazy) lazy.line.cursor) (names_of names) ≡ fin.empty
   none-seen = same_names _ _ (λ q.
       get-seen (words_of names) names.words.proper (named_at (at_in lazy) lazy.line.cursor) (names_of names) q ∙ go q (number_of (words_of names) q.word) ∙ sym (get-empty names_order.key_cmp q))

@@ -3,6 +3,7 @@ use Rattle.std.proofs.Common.{◌≡◌, ◌∙◌, sym, ap, subst, ◌+◌, ◌
 use Rattle.std.specs.FinMap as fin
 use Rattle.std.specs.Prelude.{slice_get}
 use Rattle.grid_store.specs.Grid.{cells_of}
+use Rattle.grid_store.specs.declared.cell.Cell.{Cell}
 use Rattle.grid_store.specs.declared.grid.Grid.{Grid}
 use Rattle.lazy_store.proofs.Lines.{IsPushed, is-pushed}
 use Rattle.lazy_store.specs.Store.{at_in}
@@ -26,10 +27,10 @@ use Rattle.kept_book.proofs.Moving.{moved-book, moved-stands}
 use Rattle.kept_book.proofs.NamesLeft.{get-left, id_stays, left-back, left-known}
 use Rattle.kept_book.proofs.ShiftedContents.{cells_inside}
 
-abbrev pub frame_with : Lazy → Grid → Names → Frame
+abbrev pub frame_with : Lazy → Grid Cell → Names → Frame
 frame_with lazy grid names = record { position = lazy.line.cursor; cells = cells_of grid; sheets = listed names; names = names_of names }
 
-module _ (s : Shift) (lazy lazy2 : Lazy) (grid grid2 : Grid) (names names2 : Names) (sound : IsSound s) (from : lazy.line.first ≤ lazy.line.cursor) (within : lazy.line.cursor ≤ last lazy.line)
+module _ (s : Shift) (lazy lazy2 : Lazy) (grid grid2 : Grid Cell) (names names2 : Names) (sound : IsSound s) (from : lazy.line.first ≤ lazy.line.cursor) (within : lazy.line.cursor ≤ last lazy.line)
     (inside : AreInside (book_at (at_in lazy) (words_of names) (frame_with lazy grid names)).cells) (stand : Stands (at_in lazy) (words_of names) (frame_with lazy grid names))
     (line : lazy2.line ≡ with_spare lazy2.line.spare (pushed s lazy.line)) (pushes : PushesOn s lazy.line.cursor lazy lazy2) (cells : cells_of grid2 ≡ moved_map s (cells_of grid))
     (sheets : listed names2 ≡ sheets_left (form_of s) (listed names)) (left : names_of names2 ≡ names_with (λ x. x.1) (ids_left (form_of s) (names_of names)) (names_of names)) (words : words_of names2 ≡ words_of names) where

@@ -28,7 +28,7 @@ use Rattle.kept_book.proofs.ShiftedBooks.{frame_with}
 use Rattle.kept_book.proofs.Staying.{names-stay, same-number, same-there, stays-stand}
 use Rattle.kept_book.proofs.Written.{replaced-given, stood_given, written-contents, written-stand}
 
-module _ (lazy mid lazy2 : Lazy) (grid grid2 : Grid) (names : Names) (n : ℕ) (items : List (Place × CopyItem)) (replaced : List (Place × Cell)) (all : All IsCopied items)
+module _ (lazy mid lazy2 : Lazy) (grid grid2 : Grid Cell) (names : Names) (n : ℕ) (items : List (Place × CopyItem)) (replaced : List (Place × Cell)) (all : All IsCopied items)
     (stand : Stands (at_in lazy) (words_of names) (frame_with lazy grid names)) (below : AreBelow n mid) (cursors : mid.line.cursor ≡ lazy.line.cursor) (same : (id j : ℕ) → at_in mid id j ≡ at_in lazy id j)
     (comes : Inserts n (trees_given items) mid lazy2) (cells : cells_of grid2 ≡ with_entries (cells_given n items) (without_places (places_of replaced) (cells_of grid))) where
   stays : (id j : ℕ) (x : Standing) → at_in lazy id j ≡ Some x → at_in lazy2 id j ≡ Some x

@@ -2,7 +2,7 @@
 ghost use Rattle.kept_book.specs.Ids.{AreBelow, AreLive};
 ghost use Rattle.kept_book.specs.internal.Props.{are_below-prop, are_live-prop};
 
-use grid_store::Grid;
+use grid_store::{Cell, Grid};
 use lazy_store::Lazy;
 use name_table::Names;
 use std::alloc::{AllocError, Global};
@@ -13,7 +13,7 @@ use std::alloc::{AllocError, Global};
 pub struct Book {
     pub alloc: Global,
     pub lazy: Lazy,
-    pub grid: Grid,
+    pub grid: Grid<Cell>,
     pub names: Names,
     pub next_id: u64,
     pub ghost fresh: { AreBelow next_id lazy } by { are_below-prop next_id lazy },

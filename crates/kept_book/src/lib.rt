@@ -19,6 +19,7 @@
 
 mod book;
 mod copying;
+mod exchange;
 mod filling;
 mod looking;
 mod naming;

@@ -2,7 +2,7 @@
 ghost use Rattle.grid_store.specs.Grid.{AreListedInside, items_of};
 
 use cell_addr::Text;
-use grid_store::CellList;
+use grid_store::{Cell, CellList};
 
 /// A named expression that an operation added, changed or removed: its scope and the number of its word, and the id of its
 /// formula before and after.
@@ -29,8 +29,8 @@ pub struct SheetChange {
 pub struct Part {
     pub from: u64,
     pub to: u64,
-    pub replaced: CellList,
-    pub written: CellList,
+    pub replaced: CellList<Cell>,
+    pub written: CellList<Cell>,
     pub names: Vec<NameChange>,
     pub sheets: Vec<SheetChange>,
     pub ghost replaced_inside: { AreListedInside (items_of replaced) },

@@ -1,5 +1,5 @@
 // The grid and the table of names as changes are taken back or done again.
-ghost use Rattle.std.specs.Prelude.{◌≡◌, ◌<◌, [], false, length, map, IfOk, IsTrue, OnOk, OnErr, unwrap_or};
+ghost use Rattle.std.specs.Prelude.{◌≡◌, ◌<◌, [], false, length, map, IfOk, IfSome, IsTrue, OnOk, OnErr, unwrap_or};
 ghost use Rattle.grid_store.specs.Grid.{cells_of, items_of};
 ghost use Rattle.name_table.specs.Listed.{listed};
 ghost use Rattle.name_table.specs.Named.{KeepsNames, KeepsSheets, names_of, words_of};
@@ -8,11 +8,13 @@ ghost use Rattle.shift_line.specs.Track.{shift_at};
 ghost use Rattle.lazy_store.specs.Kept.{IsSoundLine};
 ghost use Rattle.kept_book.specs.Change.{AreKnown, HasSlot, HaveSlots, cells_after, cells_before, names_with, sheets_with, shift_of, with_id, with_slot};
 ghost use Rattle.kept_book.specs.Kept.{change_of, changes_of, name_change, sheet_change};
+ghost use Rattle.kept_book.specs.internal.Exchange.{IsPlacedInside, Makes};
 ghost use Rattle.kept_book.specs.internal.Stepping.{CanRepeat, CanReturn, ChangesNoNames, cells_back, cells_forth, names_back, names_forth, of_side, sheets_back, sheets_forth};
 
+use crate::exchange::Exchange;
 use crate::part::{NameChange, Part, SheetChange};
 use cell_addr::Text;
-use grid_store::{CellList, Grid};
+use grid_store::{Cell, CellList, Grid};
 use name_table::Names;
 use shift_core::Shift;
 use shift_line::Line;
@@ -25,11 +27,12 @@ pub(crate) enum Side {
     After,
 }
 
-// Takes the cells back over the parts: in place over one, and over several on a copy that takes the grid's place.
+// Takes the cells back over the parts: in place over one, and over several that have no operation, by one exchange of cells; over
+// others on a copy that takes the grid's place.
 pub(crate) fn step_back(
     alloc: Global,
     line: &Line,
-    grid: &mut Grid,
+    grid: &mut Grid<Cell>,
     parts: &[Part],
 ) -> Result<(), AllocError>
     requires sound { IsSoundLine line.now }
@@ -38,6 +41,9 @@ pub(crate) fn step_back(
 {
     if let [part] = parts {
         return cells_behind(alloc, line, grid, part);
+    }
+    if let Some(exchange) = exchange_back(alloc, line, parts)? {
+        return exchange.run(alloc, grid);
     }
     let mut copy = grid.copied()?;
     for index in (0..parts.len()).rev() {
@@ -51,7 +57,7 @@ pub(crate) fn step_back(
 pub(crate) fn step_forth(
     alloc: Global,
     line: &Line,
-    grid: &mut Grid,
+    grid: &mut Grid<Cell>,
     parts: &[Part],
 ) -> Result<(), AllocError>
     requires sound { IsSoundLine line.now }
@@ -61,12 +67,52 @@ pub(crate) fn step_forth(
     if let [part] = parts {
         return cells_ahead(alloc, line, grid, part);
     }
+    if let Some(exchange) = exchange_forth(alloc, line, parts)? {
+        return exchange.run(alloc, grid);
+    }
     let mut copy = grid.copied()?;
     for part in parts {
         cells_ahead(alloc, line, &mut copy, part)?;
     }
     *grid = copy;
     Ok(())
+}
+
+// The exchange that takes the cells back over the parts, if none of them has an operation. What a part replaced counts before what
+// later ones did.
+fn exchange_back(alloc: Global, line: &Line, parts: &[Part]) -> Result<Option<Exchange>, AllocError>
+    ensures back { IfOk result (λ r. IfSome r (λ exchange. Makes exchange (cells_back (shift_at line.now) (changes_of parts.now)))) }
+    ensures inside { IfOk result (λ r. IfSome r IsPlacedInside) }
+{
+    let mut exchange = Exchange::new(alloc)?;
+    for part in parts {
+        if shift_of(line, part).is_some() {
+            return Ok(None);
+        }
+        exchange.put_before(alloc, &part.written, &part.replaced)?;
+    }
+    Ok(Some(exchange))
+}
+
+// The exchange that takes the cells forth over the parts, if none of them has an operation. What a part wrote counts before what
+// earlier ones did.
+fn exchange_forth(
+    alloc: Global,
+    line: &Line,
+    parts: &[Part],
+) -> Result<Option<Exchange>, AllocError>
+    ensures forth { IfOk result (λ r. IfSome r (λ exchange. Makes exchange (cells_forth (shift_at line.now) (changes_of parts.now)))) }
+    ensures inside { IfOk result (λ r. IfSome r IsPlacedInside) }
+{
+    let mut exchange = Exchange::new(alloc)?;
+    for index in (0..parts.len()).rev() {
+        let part = &parts[index];
+        if shift_of(line, part).is_some() {
+            return Ok(None);
+        }
+        exchange.put_before(alloc, &part.replaced, &part.written)?;
+    }
+    Ok(Some(exchange))
 }
 
 // The operation of a part that has one.
@@ -81,7 +127,12 @@ fn shift_of(line: &Line, part: &Part) -> Option<Shift>
 }
 
 // Takes the cells back over one part.
-fn cells_behind(alloc: Global, line: &Line, grid: &mut Grid, part: &Part) -> Result<(), AllocError>
+fn cells_behind(
+    alloc: Global,
+    line: &Line,
+    grid: &mut Grid<Cell>,
+    part: &Part,
+) -> Result<(), AllocError>
     requires sound { IsSoundLine line.now }
     ensures ok { OnOk result (cells_of grid.new ≡ cells_before (shift_of (shift_at line.now) (change_of part.now)) (change_of part.now) (cells_of grid.old)) }
     ensures err { OnErr result (cells_of grid.new ≡ cells_of grid.old) }
@@ -97,7 +148,12 @@ fn cells_behind(alloc: Global, line: &Line, grid: &mut Grid, part: &Part) -> Res
 }
 
 // Takes the cells forth over one part.
-fn cells_ahead(alloc: Global, line: &Line, grid: &mut Grid, part: &Part) -> Result<(), AllocError>
+fn cells_ahead(
+    alloc: Global,
+    line: &Line,
+    grid: &mut Grid<Cell>,
+    part: &Part,
+) -> Result<(), AllocError>
     requires sound { IsSoundLine line.now }
     ensures ok { OnOk result (cells_of grid.new ≡ cells_after (shift_of (shift_at line.now) (change_of part.now)) (change_of part.now) (cells_of grid.old)) }
     ensures err { OnErr result (cells_of grid.new ≡ cells_of grid.old) }
@@ -116,7 +172,7 @@ fn cells_ahead(alloc: Global, line: &Line, grid: &mut Grid, part: &Part) -> Resu
 }
 
 // An equal list of cells.
-pub(crate) fn copied(alloc: Global, cells: &CellList) -> Result<CellList, AllocError>
+pub(crate) fn copied(alloc: Global, cells: &CellList<Cell>) -> Result<CellList<Cell>, AllocError>
     ensures { IfOk result (λ copy. items_of copy ≡ items_of cells.now) }
 {
     let mut copy = CellList::new(alloc)?;

@@ -155,7 +155,7 @@ fn read_formula(
 }
 
 // What the cell at a place holds, as a list.
-fn replaced_at(alloc: Global, grid: &Grid, at: Place) -> Result<CellList, AllocError>
+fn replaced_at(alloc: Global, grid: &Grid<Cell>, at: Place) -> Result<CellList<Cell>, AllocError>
     ensures { IfOk result (λ list. items_of list ≡ listed_at at (map.get (cells_of grid.now) at)) }
 {
     let mut list = CellList::new(alloc)?;

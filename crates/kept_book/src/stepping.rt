@@ -18,7 +18,7 @@ impl Book {
     /// touched. The parts lead here from some frame, and begin on the line. For want of memory the workbook is as it was.
     ///
     /// Costs the cells that the parts list and what taking their operations back costs the grid. Where a part changed a name
-    /// or a sheet the table of names is copied once, and where there are several parts the grid.
+    /// or a sheet the table of names is copied once, and where one of several parts has an operation the grid.
     pub fn back(&mut self, parts: &[Part]) -> Result<(), AllocError>
         requires leads { (f : Frame) × Leads (line_of self.old) (words_of self.old.names) (changes_of parts.now) f (frame_of self.old) }
         requires first { self.old.lazy.line.first ≤ (back_all (line_of self.old) (changes_of parts.now) (frame_of self.old)).position }
@@ -44,7 +44,7 @@ impl Book {
     /// is touched. The parts lead from here to some frame, and end on the line. For want of memory the workbook is as it was.
     ///
     /// Costs the cells that the parts list and what their operations cost the grid. Where a part changed a name or a sheet
-    /// the table of names is copied once, and where there are several parts the grid.
+    /// the table of names is copied once, and where one of several parts has an operation the grid.
     pub fn forth(&mut self, parts: &[Part]) -> Result<(), AllocError>
         requires leads { (g : Frame) × Leads (line_of self.old) (words_of self.old.names) (changes_of parts.now) (frame_of self.old) g }
         requires last { (forth_all (line_of self.old) (changes_of parts.now) (frame_of self.old)).position ≤ last self.old.lazy.line }

@@ -29,7 +29,7 @@ use std::alloc::{AllocError, Global};
 // What is given to cells: the cells, formulas by their ids, and the trees of these with their places, in the order of ids.
 #[derive(Drop)]
 struct Given {
-    cells: CellList,
+    cells: CellList<Cell>,
     trees: Vec<(Place, Tree)>,
 }
 
@@ -39,7 +39,7 @@ impl Book {
     // the cells of both lists, each with the logarithm of the number of filled cells.
     pub(crate) fn write(
         &mut self,
-        replaced: CellList,
+        replaced: CellList<Cell>,
         given: Vec<(Place, CopyItem)>,
     ) -> Result<Part, AllocError>
         requires given { All IsCopied given.items }

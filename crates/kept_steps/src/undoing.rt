@@ -50,7 +50,7 @@ impl Session {
     /// For want of memory the session is as it was.
     ///
     /// Costs the cells, names and sheets that the step lists, and what taking its operations back costs the grid; for a step of
-    /// several operations a copy of the grid.
+    /// several operations, of which one is structural, a copy of the grid.
     pub fn undo(&mut self) -> Result<(), AllocError>
         requires closed { self.old.batch ≡ None }
         ensures ok { OnOk result (state_of self.new ≡ undone (state_of self.old).undo (state_of self.old)) }

@@ -2,6 +2,7 @@
 ghost use Rattle.shift_core.specs.Sound.{IsSound};
 
 use cell_addr::{Block, Place, Text};
+use cell_value::Scalar;
 use fix_num::Fixed;
 use grid_store::{Cell, CellList, Grid};
 use shift_core::{Shift, sound};
@@ -19,7 +20,7 @@ fn place(at: Spot) -> Place {
 }
 
 // Puts a cell at each place, which holds the number of its place in the list.
-fn fill(grid: &mut Grid, places: &[Spot]) -> Result<(), AllocError> {
+fn fill(grid: &mut Grid<Cell>, places: &[Spot]) -> Result<(), AllocError> {
     for (number, at) in places.iter().enumerate() {
         let at = place(*at);
         if at.inside() {
@@ -30,13 +31,13 @@ fn fill(grid: &mut Grid, places: &[Spot]) -> Result<(), AllocError> {
 }
 
 // Whether the grid has these cells, each with this number, and no others.
-fn has(grid: &Grid, cells: &[(Spot, u64)]) -> bool {
+fn has(grid: &Grid<Cell>, cells: &[(Spot, u64)]) -> bool {
     let all = cells.iter().all(|cell| stands(grid, cell.0, cell.1));
     all && grid.filled() == cells.len() as u64
 }
 
 // Whether the cell with the number is at the place.
-fn stands(grid: &Grid, at: Spot, number: u64) -> bool {
+fn stands(grid: &Grid<Cell>, at: Spot, number: u64) -> bool {
     match grid.cell(place(at)) {
         Some(Cell::Formula(held)) => *held == number,
         _ => false,
@@ -44,7 +45,7 @@ fn stands(grid: &Grid, at: Spot, number: u64) -> bool {
 }
 
 // Whether the list has these places, in order.
-fn lists(list: &CellList, places: &[Spot]) -> bool {
+fn lists(list: &CellList<Cell>, places: &[Spot]) -> bool {
     let mut rest = places;
     for (at, _) in list.items() {
         match rest {
@@ -215,7 +216,11 @@ const OPERATIONS: &[Operation] = &[
 ];
 
 // Takes the operation back. Whether the grid has its cells again.
-fn goes_back(grid: &mut Grid, shift: &Shift, removed: CellList) -> Result<bool, AllocError>
+fn goes_back(
+    grid: &mut Grid<Cell>,
+    shift: &Shift,
+    removed: CellList<Cell>,
+) -> Result<bool, AllocError>
     requires { IsSound shift.now }
 {
     if !removed.inside() {
@@ -226,7 +231,7 @@ fn goes_back(grid: &mut Grid, shift: &Shift, removed: CellList) -> Result<bool, 
 }
 
 // Does the operation and takes it back. Whether the right cells move, and the right ones are removed.
-fn is_done(grid: &mut Grid, operation: &Operation) -> Result<bool, AllocError>
+fn is_done(grid: &mut Grid<Cell>, operation: &Operation) -> Result<bool, AllocError>
     requires { IsSound operation.now.0 }
 {
     let (shift, cells, places) = operation;
@@ -236,7 +241,7 @@ fn is_done(grid: &mut Grid, operation: &Operation) -> Result<bool, AllocError>
 }
 
 // The same, and whether a copy of the grid stays as it is.
-fn is_done_beside_copy(grid: &mut Grid, operation: &Operation) -> Result<bool, AllocError>
+fn is_done_beside_copy(grid: &mut Grid<Cell>, operation: &Operation) -> Result<bool, AllocError>
     requires { IsSound operation.now.0 }
 {
     let copy = grid.copied()?;
@@ -281,27 +286,62 @@ const LOWER_ROWS: Block = Block {
 const IN_LOWER_ROWS: [Spot; 4] = [(0, 3, 1), (0, 3, 2), (0, 4, 0), (0, 9, 5)];
 
 // Whether the cells of the lower rows are listed.
-fn are_listed(grid: &Grid) -> Result<bool, AllocError> {
+fn are_listed(grid: &Grid<Cell>) -> Result<bool, AllocError> {
     let list = grid.listed(LOWER_ROWS)?;
     Ok(lists(&list, &IN_LOWER_ROWS))
 }
 
+const SEEN_IN_LOWER_ROWS: [(Spot, u64); 4] = [
+    ((0, 3, 1), 1),
+    ((0, 3, 2), 2),
+    ((0, 4, 0), 3),
+    ((0, 9, 5), 4),
+];
+
+// Whether these are the cells with their numbers, in order.
+fn sees(cells: &[(Place, &Cell)], expected: &[(Spot, u64)]) -> bool {
+    let mut rest = expected;
+    for (at, cell) in cells {
+        match rest {
+            [(spot, number), others @ ..] if place(*spot) == *at && holds(cell, *number) => {
+                rest = others
+            }
+            _ => return false,
+        }
+    }
+    rest.is_empty()
+}
+
+// Whether the cell holds the number.
+fn holds(cell: &Cell, number: u64) -> bool {
+    match cell {
+        Cell::Formula(held) => *held == number,
+        _ => false,
+    }
+}
+
+// Whether the cells of the lower rows are listed by reference.
+fn are_seen(grid: &Grid<Cell>) -> Result<bool, AllocError> {
+    let cells = grid.listed_refs(LOWER_ROWS)?;
+    Ok(sees(&cells, &SEEN_IN_LOWER_ROWS))
+}
+
 // Takes the cells of the lower rows out. Whether they are listed, and the others stay.
-fn are_cleared(grid: &mut Grid) -> Result<bool, AllocError> {
+fn are_cleared(grid: &mut Grid<Cell>) -> Result<bool, AllocError> {
     let list = grid.clear(LOWER_ROWS)?;
     Ok(lists(&list, &IN_LOWER_ROWS) && grid.filled() == 3)
 }
 
 // Takes the first cell out, and none off the sheet. Whether the others stay.
-fn is_taken(grid: &mut Grid) -> bool {
+fn is_taken(grid: &mut Grid<Cell>) -> bool {
     let is_out = grid.take(place((0, 0, 0))).is_some();
     is_out && grid.take(place((0, 40_000, 0))).is_none() && grid.filled() == 2
 }
 
 // Whether the grid lists its cells and is emptied of them.
-fn is_emptied(grid: &mut Grid) -> Result<bool, AllocError> {
+fn is_emptied(grid: &mut Grid<Cell>) -> Result<bool, AllocError> {
     let is_pushed = grid.pushed_off(&ROW_IN_FIRST) && !grid.pushed_off(&ROW_IN_SECOND);
-    Ok(is_pushed && are_listed(grid)? && are_cleared(grid)? && is_taken(grid))
+    Ok(is_pushed && are_seen(grid)? && are_listed(grid)? && are_cleared(grid)? && is_taken(grid))
 }
 
 #[test]
@@ -309,6 +349,37 @@ fn cells_are_filled_listed_and_emptied(rt: HostRuntime) -> Result<(), AllocError
     let mut grid = Grid::new(rt.alloc())?;
     fill(&mut grid, &FILLED)?;
     assert!(rt; is_emptied(&mut grid)?);
+    Ok(())
+}
+
+const ROWS_OUT: Shift = Shift::DeleteRows {
+    sheet: 0,
+    at: 2,
+    count: 2,
+};
+
+// Puts a value above rows that are deleted and one in them. Whether the first stays and the other is handed out.
+fn are_values_carried(grid: &mut Grid<Scalar>, text: Text) -> Result<bool, AllocError> {
+    grid.put(place((0, 1, 1)), Scalar::Text(text))?;
+    grid.put(place((0, 3, 1)), Scalar::Truth(true))?;
+    let removed = grid.apply(&ROWS_OUT)?;
+    let first = grid.cell(place((0, 1, 1)));
+    Ok(is_text(first, "ab") && removed.items().len() == 1 && grid.filled() == 1)
+}
+
+// Whether the value is this text.
+fn is_text(value: Option<&Scalar>, expected: &str) -> bool {
+    match value {
+        Some(Scalar::Text(text)) => text.as_str() == expected,
+        _ => false,
+    }
+}
+
+#[test]
+fn values_are_carried(rt: HostRuntime) -> Result<(), AllocError> {
+    let text = Text::from_str(rt.alloc(), "ab")?;
+    let mut grid = Grid::new(rt.alloc())?;
+    assert!(rt; are_values_carried(&mut grid, text)?);
     Ok(())
 }
 
@@ -321,7 +392,7 @@ fn copy_has(alloc: Global, cell: &Cell, expected: &str) -> Result<bool, AllocErr
 }
 
 // Whether the list's one cell has a copy with the text.
-fn one_has(alloc: Global, list: &CellList, expected: &str) -> Result<bool, AllocError> {
+fn one_has(alloc: Global, list: &CellList<Cell>, expected: &str) -> Result<bool, AllocError> {
     match list.items() {
         [(_, cell)] => copy_has(alloc, cell, expected),
         _ => Ok(false),

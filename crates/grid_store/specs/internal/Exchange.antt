@@ -1,6 +1,6 @@
 -- Cells that are emptied and filled together: lists of places, and maps over them.
-use Rattle.std.specs.Prelude.{◌≡◌, Bool, true, false, List, IsSome}
-use Rattle.std.specs.FinMap as map
+use Rattle.std.specs.Prelude.{◌≡◌, Bool, true, false, List, map, None, IsSome}
+use Rattle.std.specs.FinMap as fin
 use Rattle.std.specs.List.{AllByRecursion, list_any}
 use Rattle.std.specs.Ordering.{eq_by_cmp}
 use Rattle.cell_addr.specs.Order.{place_cmp}
@@ -13,12 +13,16 @@ is_among places q = list_any (eq_by_cmp place_cmp q) places
 
 -- the maps have the same but at these places
 abbrev pub HasSame : {X : Type 0} → List Place → PlaceMap X → PlaceMap X → Type 0
-HasSame places old new = (q : Place) → is_among places q ≡ false → map.get new q ≡ map.get old q
+HasSame places old new = (q : Place) → is_among places q ≡ false → fin.get new q ≡ fin.get old q
 
--- each of these places is filled
-abbrev pub HasAll : {X : Type 0} → List Place → PlaceMap X → Type 0
-HasAll places m = (q : Place) → is_among places q ≡ true → IsSome (map.get m q)
+-- none of these places is filled
+abbrev pub LacksAll : {X : Type 0} → List Place → PlaceMap X → Type 0
+LacksAll places m = (q : Place) → is_among places q ≡ true → fin.get m q ≡ None
+
+-- the places of entries
+abbrev pub places_of : {X : Type 0} → List (Place × X) → List Place
+places_of es = map (λ e. e.0) es
 
 -- the place of each entry is filled
 abbrev pub AreFilled : {X : Type 0} → List (Place × X) → PlaceMap X → Type 0
-AreFilled es m = AllByRecursion (λ e. IsSome (map.get m e.0)) es
+AreFilled es m = AllByRecursion (λ e. IsSome (fin.get m e.0)) es

@@ -1,5 +1,6 @@
 -- How far the cells of a block have been found.
-use Rattle.std.specs.Prelude.{◌≡◌, ℕ, ◌+◌, ◌<◌, ◌≤◌, true, if◌then◌else◌, Some, IsSome}
+use Rattle.std.specs.Prelude.{◌≡◌, ℕ, ◌+◌, ◌<◌, ◌≤◌, true, if◌then◌else◌, Option, Some, IsSome, option_copied}
+use Rattle.std.specs.Borrow.{Bor}
 use Rattle.std.specs.BTreeMap as tree
 use Rattle.std.specs.BTreeMap.{BTreeMap, is_at}
 use Rattle.std.specs.FinMap as map
@@ -12,54 +13,57 @@ use Rattle.stable_lines.specs.Lines.{line_at}
 use Rattle.stable_lines.specs.declared.run.Run.{Run}
 use Rattle.stable_lines.specs.declared.table.LineTable.{LineTable}
 use Rattle.grid_store.specs.Keys.{key_cmp, place_at}
-use Rattle.grid_store.specs.declared.cell.Cell.{Cell}
 use Rattle.grid_store.specs.declared.grid.Grid.{Grid}
 use Rattle.grid_store.specs.declared.key.CellKey.{CellKey}
 
+-- what was found at a place
+abbrev pub look : {X : Type 0} → BTreeMap Place (Bor X) → Place → Option X
+look found q = option_copied (tree.get place_cmp found q)
+
 -- all that was found is in the block, and is what the map has there
-abbrev pub AreCellsOf : Block → PlaceMap Cell → BTreeMap Place Cell → Type 0
-AreCellsOf area m found = (q : Place) (c : Cell) → tree.get place_cmp found q ≡ Some c → (covers area q ≡ true) × (map.get m q ≡ Some c)
+abbrev pub AreCellsOf : {X : Type 0} → Block → PlaceMap X → BTreeMap Place (Bor X) → Type 0
+AreCellsOf area m found = (q : Place) (c : _) → look found q ≡ Some c → (covers area q ≡ true) × (map.get m q ≡ Some c)
 
 -- the block's cells of the rows from `low` to before `high` are found
-abbrev pub HasRows : Block → PlaceMap Cell → ℕ → ℕ → BTreeMap Place Cell → Type 0
+abbrev pub HasRows : {X : Type 0} → Block → PlaceMap X → ℕ → ℕ → BTreeMap Place (Bor X) → Type 0
 HasRows area m low high found =
-    (q : Place) → covers area q ≡ true → IsSome (map.get m q) → low ≤ q.row → q.row < high → IsSome (tree.get place_cmp found q)
+    (q : Place) → covers area q ≡ true → IsSome (map.get m q) → low ≤ q.row → q.row < high → IsSome (look found q)
 
 -- what was found before is found still
-abbrev pub StillHas : BTreeMap Place Cell → BTreeMap Place Cell → Type 0
-StillHas old new = (q : Place) → IsSome (tree.get place_cmp old q) → IsSome (tree.get place_cmp new q)
+abbrev pub StillHas : {X : Type 0} → BTreeMap Place (Bor X) → BTreeMap Place (Bor X) → Type 0
+StillHas old new = (q : Place) → IsSome (look old q) → IsSome (look new q)
 
 -- the lines of the run stand from its first number on
 abbrev pub AreLinesAt : LineTable → Run → Type 0
 AreLinesAt t r = (i : ℕ) → i < r.count → line_at t (r.from + i) ≡ Some (r.to + i)
 
 -- the cell is added at its place, and all else is as it was
-abbrev pub IsAdded : BTreeMap Place Cell → Place → Cell → BTreeMap Place Cell → Type 0
-IsAdded old at cell new = (q : Place) → tree.get place_cmp new q ≡ (if is_at (place_cmp at) q then Some cell else tree.get place_cmp old q)
+abbrev pub IsAdded : {X : Type 0} → BTreeMap Place (Bor X) → Place → X → BTreeMap Place (Bor X) → Type 0
+IsAdded old at cell new = (q : Place) → look new q ≡ (if is_at (place_cmp at) q then Some cell else look old q)
 
 -- the map has nothing in the block's rows from `low` to before `high`
-abbrev pub HasNone : Block → PlaceMap Cell → ℕ → ℕ → Type 0
+abbrev pub HasNone : {X : Type 0} → Block → PlaceMap X → ℕ → ℕ → Type 0
 HasNone area m low high = (q : Place) → covers area q ≡ true → IsSome (map.get m q) → low ≤ q.row → q.row < high → ⊥
 
 -- the block's cells on lines of rows from `low` to before `high` are found
-abbrev pub HasLines : Grid → Block → ℕ → ℕ → BTreeMap Place Cell → Type 0
+abbrev pub HasLines : {X : Type 0} → Grid X → Block → ℕ → ℕ → BTreeMap Place (Bor X) → Type 0
 HasLines g area low high found =
-    (k : CellKey) (q : Place) → IsSome (tree.get key_cmp g.cells k) → place_at g.rows g.cols k ≡ Some q → covers area q ≡ true → low ≤ k.row → k.row < high → IsSome (tree.get place_cmp found q)
+    (k : CellKey) (q : Place) → IsSome (tree.get key_cmp g.cells k) → place_at g.rows g.cols k ≡ Some q → covers area q ≡ true → low ≤ k.row → k.row < high → IsSome (look found q)
 
 -- the block's cells on one line of rows, in the columns from `low` to before `high`, are found
-abbrev pub HasCols : Grid → Block → ℕ → ℕ → ℕ → BTreeMap Place Cell → Type 0
+abbrev pub HasCols : {X : Type 0} → Grid X → Block → ℕ → ℕ → ℕ → BTreeMap Place (Bor X) → Type 0
 HasCols g area row low high found =
-    (k : CellKey) (q : Place) → IsSome (tree.get key_cmp g.cells k) → k.row ≡ row → place_at g.rows g.cols k ≡ Some q → covers area q ≡ true → low ≤ q.col → q.col < high → IsSome (tree.get place_cmp found q)
+    (k : CellKey) (q : Place) → IsSome (tree.get key_cmp g.cells k) → k.row ≡ row → place_at g.rows g.cols k ≡ Some q → covers area q ≡ true → low ≤ q.col → q.col < high → IsSome (look found q)
 
 -- no cell is kept on the sheet's lines of rows from `low` to before `high`
-abbrev pub KeepsNone : Grid → ℕ → ℕ → ℕ → Type 0
+abbrev pub KeepsNone : {X : Type 0} → Grid X → ℕ → ℕ → ℕ → Type 0
 KeepsNone g sheet low high = (k : CellKey) → IsSome (tree.get key_cmp g.cells k) → k.sheet ≡ sheet → low ≤ k.row → k.row < high → ⊥
 
 -- no cell of the block is on lines of rows from `low` to before `high`
-abbrev pub LacksLines : Grid → Block → ℕ → ℕ → Type 0
+abbrev pub LacksLines : {X : Type 0} → Grid X → Block → ℕ → ℕ → Type 0
 LacksLines g area low high = (k : CellKey) (q : Place) → IsSome (tree.get key_cmp g.cells k) → place_at g.rows g.cols k ≡ Some q → covers area q ≡ true → low ≤ k.row → k.row < high → ⊥
 
 -- no cell of the block is on one line of rows, in the columns from `low` to before `high`
-abbrev pub LacksCols : Grid → Block → ℕ → ℕ → ℕ → Type 0
+abbrev pub LacksCols : {X : Type 0} → Grid X → Block → ℕ → ℕ → ℕ → Type 0
 LacksCols g area row low high =
     (k : CellKey) (q : Place) → IsSome (tree.get key_cmp g.cells k) → k.row ≡ row → place_at g.rows g.cols k ≡ Some q → covers area q ≡ true → low ≤ q.col → q.col < high → ⊥

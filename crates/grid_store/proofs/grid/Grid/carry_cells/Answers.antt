@@ -12,7 +12,7 @@ use Rattle.grid_store.proofs.RenewedCells.{seen_inside}
 use Rattle.grid_store.proofs.grid.Grid.carry_cells.Goals as goal
 
 pub replace-requires : goal.replace-requires
-replace-requires c =
+replace-requires _ c =
     let g = c.args.self.now in
     let goes = form_goes c.args.way (Cells c.args.source c.args.to) in
     let taken = c.in_ok-moved.ensures ∙ ap (λ b. fin.entries (within b (cells_of g))) c.blocks-2.ensures.from in
@@ -22,7 +22,7 @@ replace-requires c =
     (targets_inside c.args.way c.args.source c.args.to c.requires.sound (cells_of g) (seen_inside g.rows g.cols g.cells.entries g.rows_limit g.cols_limit)))
 
 pub returns-clause-carried : goal.returns-clause-carried
-returns-clause-carried c =
+returns-clause-carried _ c =
     let g = c.args.self.now in
     let m = cells_of g in
     let goes = form_goes c.args.way (Cells c.args.source c.args.to) in
@@ -38,7 +38,7 @@ returns-clause-carried c =
     ∙ ap (with_entries (items_of c.args.more)) (moved_cells c.args.way c.args.source c.args.to c.requires.sound m (seen_inside g.rows g.cols g.cells.entries g.rows_limit g.cols_limit))
 
 pub returns-clause-lost : goal.returns-clause-lost
-returns-clause-lost c =
+returns-clause-lost _ c =
     let g = c.args.self.now in
     let m = cells_of g in
     let from = from_block c.args.way c.args.source c.args.to in

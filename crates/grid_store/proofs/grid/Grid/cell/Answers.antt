@@ -3,10 +3,10 @@ use Rattle.grid_store.proofs.Views.{get-seen, get-seen_at, kept}
 use Rattle.grid_store.proofs.grid.Grid.cell.Goals as goal
 
 pub returns-in_err-key : goal.returns-in_err-key
-returns-in_err-key c =
+returns-in_err-key _ c =
     let g = c.args.self.now in
     ap option_copied c.from_residual.ensures ∙ sym (get-seen g.rows g.cols g.cells.entries c.args.at ∙ ap (option_and_then (kept g.cells.entries)) (sym c.in_err-key.ensures))
 
 pub returns : goal.returns
-returns c =
+returns _ c =
     let g = c.args.self.now in c.get.ensures.value ∙ sym (get-seen_at g.rows g.cols g.cells.entries c.args.at c.in_ok-key.key (sym c.in_ok-key.ensures))

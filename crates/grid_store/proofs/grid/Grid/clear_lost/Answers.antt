@@ -9,19 +9,19 @@ use Rattle.grid_store.proofs.RenewedCells.{seen_inside}
 use Rattle.grid_store.proofs.grid.Grid.clear_lost.Goals as goal
 
 pub returns-in_ok-new-in-None-clause-lost : goal.returns-in_ok-new-in-None-clause-lost
-returns-in_ok-new-in-None-clause-lost c =
+returns-in_ok-new-in-None-clause-lost _ c =
     let g = c.args.self.now in
     let lost = subst (λ n. (line : ℕ) → line < n → span_has None line ≡ is_none (line_goes c.args.way n c.args.edit line)) c.limit.ensures c.in-None.ensures.lost in
     c.in_ok-new-in-None.ensures ∙ sym (nothing_lost c.args.way c.args.sheet c.args.axis c.args.edit (cells_of g) (seen_inside g.rows g.cols g.cells.entries g.rows_limit g.cols_limit) lost)
 
 pub returns-in_ok-new-in-None-clause-kept : goal.returns-in_ok-new-in-None-clause-kept
-returns-in_ok-new-in-None-clause-kept c =
+returns-in_ok-new-in-None-clause-kept _ c =
     let g = c.args.self.now in
     let lost = subst (λ n. (line : ℕ) → line < n → span_has None line ≡ is_none (line_goes c.args.way n c.args.edit line)) c.limit.ensures c.in-None.ensures.lost in
     all_kept c.args.way c.args.sheet c.args.axis c.args.edit (cells_of g) (seen_inside g.rows g.cols g.cells.entries g.rows_limit g.cols_limit) lost
 
 pub returns-in-Some-clause-lost : goal.returns-in-Some-clause-lost
-returns-in-Some-clause-lost c =
+returns-in-Some-clause-lost _ c =
     let g = c.args.self.now in
     let lost = subst (λ n. (line : ℕ) → line < n → span_has (Some c.in-Some.span) line ≡ is_none (line_goes c.args.way n c.args.edit line)) c.limit.ensures c.in-Some.ensures.lost in
     let area : c.with_span.result ≡ with_span c.args.axis c.in-Some.span (whole c.args.sheet) = c.with_span.ensures ∙ ap (with_span c.args.axis c.in-Some.span) c.whole.ensures in
@@ -29,7 +29,7 @@ returns-in-Some-clause-lost c =
     ∙ lost_within c.args.way c.args.sheet c.args.axis c.args.edit c.in-Some.span (cells_of g) (seen_inside g.rows g.cols g.cells.entries g.rows_limit g.cols_limit) lost) c.clear.ensures.removed
 
 pub returns-in-Some-clause-kept : goal.returns-in-Some-clause-kept
-returns-in-Some-clause-kept c =
+returns-in-Some-clause-kept _ c =
     let g = c.args.self.now in
     let lost = subst (λ n. (line : ℕ) → line < n → span_has (Some c.in-Some.span) line ≡ is_none (line_goes c.args.way n c.args.edit line)) c.limit.ensures c.in-Some.ensures.lost in
     let area : c.with_span.result ≡ with_span c.args.axis c.in-Some.span (whole c.args.sheet) = c.with_span.ensures ∙ ap (with_span c.args.axis c.in-Some.span) c.whole.ensures in

@@ -4,7 +4,7 @@ use Rattle.grid_store.proofs.Views.{kept, seen}
 use Rattle.grid_store.proofs.grid.Grid.copied.Goals as goal
 
 pub invariant_of-result : goal.invariant_of-result
-invariant_of-result c =
+invariant_of-result _ c =
     let g = c.args.self.now in
     let rows = c.in_ok-copied in
     let cols = c.in_ok-copied-2 in record {
@@ -15,7 +15,7 @@ invariant_of-result c =
     }
 
 pub returns : goal.returns
-returns c =
+returns _ c =
     let g = c.args.self.now in
     let rows = c.in_ok-copied in
     let cols = c.in_ok-copied-2 in

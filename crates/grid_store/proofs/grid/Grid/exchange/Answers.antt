@@ -5,4 +5,4 @@ use Rattle.grid_store.specs.Grid.{items_of}
 use Rattle.grid_store.proofs.grid.Grid.exchange.Goals as goal
 
 pub replace-requires : goal.replace-requires
-replace-requires c = recursion_from_All (λ e. IsInside e.0) (items_of c.args.placed) c.requires
+replace-requires _ c = recursion_from_All (λ e. IsInside e.0) (items_of c.args.placed) c.requires

@@ -4,10 +4,10 @@ use Rattle.grid_store.specs.internal.Listing.{AreCellsOf, HasRows}
 use Rattle.grid_store.proofs.grid.Grid.find.Given as goal
 
 abbrev pub invariant-loop-row : goal.invariant-loop-row
-invariant-loop-row l = record {
+invariant-loop-row _ l = record {
   cells : AreCellsOf l.area (cells_of l.self) l.found;
   rows : HasRows l.area (cells_of l.self) 0 l.row l.found;
 }
 
 abbrev pub decreases-loop-row : goal.decreases-loop-row
-decreases-loop-row l = l.area.bottom + 1 - l.row
+decreases-loop-row _ l = l.area.bottom + 1 - l.row

@@ -6,20 +6,20 @@ use Rattle.grid_store.proofs.Listings.{Progress, begun, gone_through, pass, take
 use Rattle.grid_store.proofs.grid.Grid.find_between.Goals as goal
 
 pub loop-key-init : goal.loop-key-init
-loop-key-init c =
+loop-key-init _ c =
     let g = c.args.self.now in
     begun g.rows g.cols g.cells c.args.area c.args.row c.args.lines c.args.found.now c.range-key-items.result c.into_iter-key-iterator.result c.requires.cells
     c.into_iter-key-iterator.ensures.into_iter_gives (c.range-key-items.ensures.between tt) (c.range-key-items.ensures.in_range tt).0
 
 pub loop-key-preserved-in-Continue-1 : goal.loop-key-preserved-in-Continue-1
-loop-key-preserved-in-Continue-1 c =
+loop-key-preserved-in-Continue-1 _ c =
     let g = c.args.self.now in
     take_up g.rows g.cols g.cells.entries c.args.area c.args.row c.args.lines c.args.found.now c.loop-key.found c.add.new.found (c.in-Some.key.now, c.in-Some.cell.now) c.next.new.self c.in-Some-place.at
     (subst (λ r. Progress g.rows g.cols g.cells.entries c.args.area c.args.row c.args.lines c.args.found.now c.loop-key.found r) c.in-Some.ensures.steps c.loop-key.invariant)
     (sym c.in-Some-place.ensures) (sym c.holds.ensures.test ∙ c.if-holds.true) c.in_ok-add.ensures
 
 pub loop-key-preserved-else-holds : goal.loop-key-preserved-else-holds
-loop-key-preserved-else-holds c =
+loop-key-preserved-else-holds _ c =
     let g = c.args.self.now in
     pass g.rows g.cols g.cells.entries c.args.area c.args.row c.args.lines c.args.found.now c.loop-key.found (c.in-Some.key.now, c.in-Some.cell.now) c.next.new.self
     (subst (λ r. Progress g.rows g.cols g.cells.entries c.args.area c.args.row c.args.lines c.args.found.now c.loop-key.found r) c.in-Some.ensures.steps c.loop-key.invariant)
@@ -28,13 +28,13 @@ loop-key-preserved-else-holds c =
     both_ways (covers c.args.area c.in-Some-place.at) (sym c.holds.ensures.test ∙ c.if-holds.false) (ap (covers c.args.area) same ∙ there))
 
 pub returns-clause-cells : goal.returns-clause-cells
-returns-clause-cells c = c.loop-key.invariant.cells
+returns-clause-cells _ c = c.loop-key.invariant.cells
 
 pub returns-clause-cols : goal.returns-clause-cols
-returns-clause-cols c =
+returns-clause-cols _ c =
     let g = c.args.self.now in
     gone_through g.rows g.cols g.cells.entries c.args.area c.args.row c.args.lines c.args.found.now c.loop-key.found
     (subst (λ r. Progress g.rows g.cols g.cells.entries c.args.area c.args.row c.args.lines c.args.found.now c.loop-key.found r) c.in-None.ensures.steps.0 c.loop-key.invariant) c.requires.lines
 
 pub returns-clause-still : goal.returns-clause-still
-returns-clause-still c = c.loop-key.invariant.still
+returns-clause-still _ c = c.loop-key.invariant.still

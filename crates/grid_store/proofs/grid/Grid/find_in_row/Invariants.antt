@@ -4,11 +4,11 @@ use Rattle.grid_store.specs.internal.Listing.{AreCellsOf, HasCols, StillHas}
 use Rattle.grid_store.proofs.grid.Grid.find_in_row.Given as goal
 
 abbrev pub invariant-loop-col : goal.invariant-loop-col
-invariant-loop-col l = record {
+invariant-loop-col _ l = record {
   cells : AreCellsOf l.area (cells_of l.self) l.found;
   cols : HasCols l.self l.area l.fn.row 0 l.col l.found;
   still : StillHas l.initial.found l.found;
 }
 
 abbrev pub decreases-loop-col : goal.decreases-loop-col
-decreases-loop-col l = l.area.right + 1 - l.col
+decreases-loop-col _ l = l.area.right + 1 - l.col

@@ -4,7 +4,7 @@ use Rattle.grid_store.proofs.Listings.{cases_lt, covers_sheet, rows_found}
 use Rattle.grid_store.proofs.grid.Grid.find_on.Goals as goal
 
 pub returns-clause-rows : goal.returns-clause-rows
-returns-clause-rows c =
+returns-clause-rows _ c =
     let g = c.args.self.now in
     let i = c.loop-line.invariant in
     rows_found g.rows g.cols g.cells.entries c.args.area c.args.lines c.loop-line.found c.requires.lines

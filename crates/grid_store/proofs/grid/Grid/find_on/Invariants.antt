@@ -4,7 +4,7 @@ use Rattle.grid_store.specs.internal.Listing.{AreCellsOf, HasLines, StillHas}
 use Rattle.grid_store.proofs.grid.Grid.find_on.Given as goal
 
 abbrev pub invariant-loop-line : goal.invariant-loop-line
-invariant-loop-line l = record {
+invariant-loop-line _ l = record {
   cells : AreCellsOf l.area (cells_of l.self) l.found;
   lines : HasLines l.self l.area l.fn.lines.to l.row l.found;
   still : StillHas l.initial.found l.found;
@@ -13,4 +13,4 @@ invariant-loop-line l = record {
 }
 
 abbrev pub decreases-loop-line : goal.decreases-loop-line
-decreases-loop-line l = l.fn.lines.to + l.fn.lines.count - l.row
+decreases-loop-line _ l = l.fn.lines.to + l.fn.lines.count - l.row

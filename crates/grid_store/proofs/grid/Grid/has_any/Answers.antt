@@ -4,7 +4,7 @@ use Rattle.grid_store.proofs.Listings.{seen_below}
 use Rattle.grid_store.proofs.grid.Grid.has_any.Goals as goal
 
 pub returns-in_default : goal.returns-in_default
-returns-in_default c =
+returns-in_default _ c =
     let g = c.args.self.now in
     let past : c.loop-row.row < (table_of g.rows c.args.area.sheet).limit → ⊥ = λ lt. cc (c.in_default.ensures.found.1 (rw c.table-table.ensures lt)) in (
       λ bad. cc,

@@ -6,12 +6,12 @@ use Rattle.grid_store.proofs.Listings.{Search, search_begun, search_hit, search_
 use Rattle.grid_store.proofs.grid.Grid.has_any_between.Goals as goal
 
 pub loop-key-init : goal.loop-key-init
-loop-key-init c =
+loop-key-init _ c =
     let g = c.args.self.now in
     search_begun g.rows g.cols g.cells c.args.area c.args.row c.args.lines c.range-key-items.result c.into_iter-key-iterator.result c.into_iter-key-iterator.ensures.into_iter_gives (c.range-key-items.ensures.between tt) (c.range-key-items.ensures.in_range tt).0
 
 pub loop-key-preserved-else-holds : goal.loop-key-preserved-else-holds
-loop-key-preserved-else-holds c =
+loop-key-preserved-else-holds _ c =
     let g = c.args.self.now in
     search_on g.rows g.cols g.cells.entries c.args.area c.args.row c.args.lines (c.in-Some.key.now, c.in-Some._cell.now) c.next.new.self
     (subst (Search g.rows g.cols g.cells.entries c.args.area c.args.row c.args.lines) c.in-Some.ensures.steps c.loop-key.invariant)
@@ -20,12 +20,12 @@ loop-key-preserved-else-holds c =
     both_ways (covers c.args.area c.in-Some-place.at) (sym c.holds.ensures.test ∙ c.if-holds.false) (ap (covers c.args.area) same ∙ there))
 
 pub returns-then-holds-clause-found : goal.returns-then-holds-clause-found
-returns-then-holds-clause-found c = λ _.
+returns-then-holds-clause-found _ c = λ _.
     let g = c.args.self.now in
     search_hit g.rows g.cols g.cells.entries c.args.area c.args.row c.args.lines (c.in-Some.key.now, c.in-Some._cell.now) c.next.new.self c.in-Some-place.at
     (subst (Search g.rows g.cols g.cells.entries c.args.area c.args.row c.args.lines) c.in-Some.ensures.steps c.loop-key.invariant) (sym c.in-Some-place.ensures) (sym c.holds.ensures.test ∙ c.if-holds.true)
 
 pub returns-clause-none : goal.returns-clause-none
-returns-clause-none c = λ _.
+returns-clause-none _ c = λ _.
     let g = c.args.self.now in
     search_over g.rows g.cols g.cells.entries c.args.area c.args.row c.args.lines (subst (Search g.rows g.cols g.cells.entries c.args.area c.args.row c.args.lines) c.in-None.ensures.steps.0 c.loop-key.invariant) c.requires.lines

@@ -5,7 +5,7 @@ use Rattle.grid_store.proofs.Listings.{stands_before}
 use Rattle.grid_store.proofs.grid.Grid.has_any_in_row.Goals as goal
 
 pub returns-in_default-clause-none : goal.returns-in_default-clause-none
-returns-in_default-clause-none c = λ _ k q some at there low high.
+returns-in_default-clause-none _ c = λ _ k q some at there low high.
     let g = c.args.self.now in
     let past : c.loop-col.col < (table_of g.cols c.args.area.sheet).limit → ⊥ = λ lt. cc (c.in_default.ensures.found.1 (rw c.table-table.ensures lt)) in
     c.loop-col.invariant k q some (omega (arith, low, high)) at there (omega arith) (stands_before g.rows g.cols g.rows_limit g.cols_limit c.args.area.sheet c.loop-col.col past k q at)

@@ -4,7 +4,7 @@ use Rattle.grid_store.proofs.Listings.{cases_lt, covers_sheet, rows_none}
 use Rattle.grid_store.proofs.grid.Grid.has_any_on.Goals as goal
 
 pub returns-clause-none : goal.returns-clause-none
-returns-clause-none c = λ _.
+returns-clause-none _ c = λ _.
     let g = c.args.self.now in
     rows_none g.rows g.cols g.cells.entries c.args.area c.args.lines c.requires.lines
     (λ k q some at there low high.

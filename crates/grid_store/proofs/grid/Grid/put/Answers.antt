@@ -7,7 +7,7 @@ use Rattle.grid_store.proofs.Views.{get-seen_at, seen-insert, standing_inserted}
 use Rattle.grid_store.proofs.grid.Grid.put.Goals as goal
 
 pub invariant_of-self : goal.invariant_of-self
-invariant_of-self c =
+invariant_of-self _ c =
     let g = c.args.self.now in record {
       rows_limit = g.rows_limit;
       cols_limit = g.cols_limit;
@@ -16,16 +16,16 @@ invariant_of-self c =
     }
 
 pub returns-in_err-insert-clause-filled : goal.returns-in_err-insert-clause-filled
-returns-in_err-insert-clause-filled c = λ some.
+returns-in_err-insert-clause-filled _ c = λ some.
     let g = c.args.self.now in
     let none : map.get (cells_of g) c.args.at ≡ None = get-seen_at g.rows g.cols g.cells.entries c.args.at c.in-Some.key (sym c.in-Some.ensures) ∙ c.in_err-insert.ensures.absent in
     absurd (both_ways _ (ap is_some none) some)
 
 pub returns-clause-before : goal.returns-clause-before
-returns-clause-before c =
+returns-clause-before _ c =
     let g = c.args.self.now in c.in_ok-insert.ensures.old ∙ sym (get-seen_at g.rows g.cols g.cells.entries c.args.at c.in-Some.key (sym c.in-Some.ensures))
 
 pub returns-clause-ok : goal.returns-clause-ok
-returns-clause-ok c =
+returns-clause-ok _ c =
     let g = c.args.self.now in
     seen-insert g.rows g.cols g.cells.entries c.insert.new.self.entries c.args.at c.in-Some.key c.args.cell (sym c.in-Some.ensures) c.in_ok-insert.ensures.updates.0

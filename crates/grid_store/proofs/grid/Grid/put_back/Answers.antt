@@ -9,9 +9,9 @@ use Rattle.grid_store.proofs.Fills.{with_from}
 use Rattle.grid_store.proofs.grid.Grid.put_back.Goals as goal
 
 pub restore-requires-clause-inside : goal.restore-requires-clause-inside
-restore-requires-clause-inside c = recursion_from_All (λ e. IsInside e.0) (items_of c.args.removed) c.requires.inside
+restore-requires-clause-inside _ c = recursion_from_All (λ e. IsInside e.0) (items_of c.args.removed) c.requires.inside
 
 pub returns-clause-restored : goal.returns-clause-restored
-returns-clause-restored c =
+returns-clause-restored _ c =
     let m = cells_of c.args.self.now in
     on_ok_weaker c.restore.result (λ h. h ∙ with_from (items_of c.args.removed) (filter_map (entry_before c.args.s.now) (map.entries m))) c.restore.ensures.restored

@@ -6,7 +6,7 @@ use Rattle.grid_store.proofs.Renewals.{renewed_cols, renewed_rows}
 use Rattle.grid_store.proofs.grid.Grid.renew.Goals as goal
 
 pub invariant_of-self : goal.invariant_of-self
-invariant_of-self c =
+invariant_of-self _ c =
     let g = c.args.self.now in
     let renewal = renewed_rows c.args.axis c.in-Rows.is c.args.sheet (line_goes (turned c.args.way) (limit_of c.args.axis) c.args.edit) g.rows g.cols c.replace.new.self c.args.table c.requires.renewed c.replace.ensures.replaced c.replace.ensures.others in
     record {
@@ -16,7 +16,7 @@ invariant_of-self c =
     }
 
 pub invariant_of-self-in-Cols : goal.invariant_of-self-in-Cols
-invariant_of-self-in-Cols c =
+invariant_of-self-in-Cols _ c =
     let g = c.args.self.now in
     let put = c.replace-in-Cols in
     let renewal = renewed_cols c.args.axis c.in-Cols.is c.args.sheet (line_goes (turned c.args.way) (limit_of c.args.axis) c.args.edit) g.rows g.cols put.new.self c.args.table c.requires.renewed put.ensures.replaced put.ensures.others in
@@ -27,13 +27,13 @@ invariant_of-self-in-Cols c =
     }
 
 pub returns-in-Rows-clause-carried : goal.returns-in-Rows-clause-carried
-returns-in-Rows-clause-carried c =
+returns-in-Rows-clause-carried _ c =
     let g = c.args.self.now in
     let renewal = renewed_rows c.args.axis c.in-Rows.is c.args.sheet (line_goes (turned c.args.way) (limit_of c.args.axis) c.args.edit) g.rows g.cols c.replace.new.self c.args.table c.requires.renewed c.replace.ensures.replaced c.replace.ensures.others in
     renewed_cells c.args.way c.args.sheet c.args.axis c.args.edit c.requires.sound g.rows g.cols c.replace.new.self g.cols renewal g.rows_limit g.cols_limit g.cells.entries g.standing (c.replace.ensures.limit ∙ g.rows_limit) g.cols_limit
 
 pub returns-in-Cols-clause-carried : goal.returns-in-Cols-clause-carried
-returns-in-Cols-clause-carried c =
+returns-in-Cols-clause-carried _ c =
     let g = c.args.self.now in
     let put = c.replace-in-Cols in
     let renewal = renewed_cols c.args.axis c.in-Cols.is c.args.sheet (line_goes (turned c.args.way) (limit_of c.args.axis) c.args.edit) g.rows g.cols put.new.self c.args.table c.requires.renewed put.ensures.replaced put.ensures.others in

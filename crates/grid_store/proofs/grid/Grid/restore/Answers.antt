@@ -11,7 +11,7 @@ use Rattle.grid_store.proofs.RenewedCells.{seen_inside}
 use Rattle.grid_store.proofs.grid.Grid.restore.Goals as goal
 
 pub returns-in_ok-emptied-in-Sheet-clause-restored : goal.returns-in_ok-emptied-in-Sheet-clause-restored
-returns-in_ok-emptied-in-Sheet-clause-restored c =
+returns-in_ok-emptied-in-Sheet-clause-restored _ c =
     let g = c.args.self.now in
     let m = cells_of g in
     let there = c.in_ok-there-in-Sheet.ensures ∙ ap (λ b. fin.entries (within b m)) c.whole.ensures in

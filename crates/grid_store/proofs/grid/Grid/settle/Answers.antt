@@ -9,7 +9,7 @@ use Rattle.grid_store.proofs.Fills.{each_front, with_last}
 use Rattle.grid_store.proofs.grid.Grid.settle.Goals as goal
 
 pub loop-at-preserved : goal.loop-at-preserved
-loop-at-preserved c =
+loop-at-preserved _ c =
     let i = c.loop-at.invariant in
     let old = cells_of c.loop-at.self in
     let front = items_of c.pop.new.self in

@@ -5,7 +5,7 @@ use Rattle.grid_store.specs.internal.Lists.{AreEachInside}
 use Rattle.grid_store.proofs.grid.Grid.settle.Given as goal
 
 abbrev pub invariant-loop-at : goal.invariant-loop-at
-invariant-loop-at l = record {
+invariant-loop-at _ l = record {
   cells : with_entries (items_of l.list) (cells_of l.self) ≡ with_entries (items_of l.fn.list) (cells_of l.fn.self);
   inside : AreEachInside (items_of l.list);
   filled : AreFilled (items_of l.list) (cells_of l.self);
@@ -13,4 +13,4 @@ invariant-loop-at l = record {
 }
 
 abbrev pub decreases-loop-at : goal.decreases-loop-at
-decreases-loop-at l = length (items_of l.list)
+decreases-loop-at _ l = length (items_of l.list)

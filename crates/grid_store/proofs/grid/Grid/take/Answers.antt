@@ -3,15 +3,15 @@ use Rattle.grid_store.proofs.Views.{get-seen, get-seen_at, kept, remove-absent, 
 use Rattle.grid_store.proofs.grid.Grid.take.Goals as goal
 
 pub returns-in_err-key-clause-before : goal.returns-in_err-key-clause-before
-returns-in_err-key-clause-before c =
+returns-in_err-key-clause-before _ c =
     let g = c.args.self.now in
     c.from_residual.ensures ∙ sym (get-seen g.rows g.cols g.cells.entries c.args.at ∙ ap (option_and_then (kept g.cells.entries)) (sym c.in_err-key.ensures))
 
 pub returns-in_err-key-clause-taken : goal.returns-in_err-key-clause-taken
-returns-in_err-key-clause-taken c = let g = c.args.self.now in remove-absent g.rows g.cols g.cells.entries c.args.at (sym c.in_err-key.ensures)
+returns-in_err-key-clause-taken _ c = let g = c.args.self.now in remove-absent g.rows g.cols g.cells.entries c.args.at (sym c.in_err-key.ensures)
 
 pub invariant_of-self : goal.invariant_of-self
-invariant_of-self c =
+invariant_of-self _ c =
     let g = c.args.self.now in record {
       rows_limit = g.rows_limit;
       cols_limit = g.cols_limit;
@@ -19,10 +19,10 @@ invariant_of-self c =
     }
 
 pub returns-clause-before : goal.returns-clause-before
-returns-clause-before c =
+returns-clause-before _ c =
     let g = c.args.self.now in c.remove.ensures.value ∙ sym (get-seen_at g.rows g.cols g.cells.entries c.args.at c.in_ok-key.key (sym c.in_ok-key.ensures))
 
 pub returns-clause-taken : goal.returns-clause-taken
-returns-clause-taken c =
+returns-clause-taken _ c =
     let g = c.args.self.now in
     seen-remove g.rows g.cols g.cells.entries c.remove.new.self.entries c.args.at c.in_ok-key.key (sym c.in_ok-key.ensures) c.remove.ensures.updates.0

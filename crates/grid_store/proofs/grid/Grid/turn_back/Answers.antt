@@ -6,7 +6,7 @@ use Rattle.grid_store.proofs.Views.{kept}
 use Rattle.grid_store.proofs.grid.Grid.turn_back.Goals as goal
 
 pub returns-clause-err : goal.returns-clause-err
-returns-clause-err c =
+returns-clause-err _ c =
     let g = c.renew.new.self in
     let after = c.replace.new.self in
     on_err_weaker c.replace.result (λ same k.
