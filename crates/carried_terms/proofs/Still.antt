@@ -1,9 +1,9 @@
 -- A formula that an operation carries along as it is goes along. Serves the law.
-use Rattle.std.proofs.Common.{◌≡◌, ◌∙◌, sym, ap, refl, subst, ◌⊎◌, ℕ, Bool, true, false, ◌&&◌, ◌||◌, List, [], ◌∷◌, ◌++◌, Option, Some, None, MatchOption, arith}
+use Rattle.std.proofs.Common.{◌≡◌, ◌∙◌, sym, ap, refl, subst, ◌⊎◌, ℕ, Bool, true, false, cond, List, [], ◌∷◌, ◌++◌, Option, Some, None, MatchOption, arith}
 use Rattle.std.specs.Prelude.{⊤, bytes_eq}
 use Rattle.std.specs.List.{list_any}
 use Rattle.std.specs.Cmp.Lexicographic.{bytes_decides}
-use Rattle.std.proofs.lemmas.Bool.{and_from, or_left, or_right}
+use Rattle.std.proofs.lemmas.Bool.{false≢true, or_left, or_right}
 use Rattle.std.proofs.lemmas.Bool.Decides.{nat_tests}
 use Rattle.std.proofs.lemmas.List.Folds.{list_any-append}
 use Rattle.cell_addr.specs.Place.{Covers, IsBlockInside, IsInside}
@@ -21,9 +21,12 @@ use Rattle.shift_core.specs.Tables.{block_after, place_after}
 use Rattle.shift_core.specs.declared.shift.Shift.{Shift}
 use Rattle.shift_core.proofs.BlockLaws.{block_moved_inside}
 use Rattle.tree_rewrite.specs.References.{EachReference, EachReferenceOfAll}
+use Rattle.tree_rewrite.specs.Rewritten.{area_at, cell_at}
 use Rattle.calc_terms.specs.Cells.{fits}
+use Rattle.calc_terms.specs.References.{area_reference, own_reference}
 use Rattle.calc_terms.specs.World.{World}
-use Rattle.carried_terms.specs.Carried.{AllGoAlong, AreaGoes, CellGoes, CellsAgree, GoesAlong, NamesAgree, Passage, SizeGoes, SizesAgree}
+use Rattle.calc_terms.specs.declared.reference.Reference.TheVariants as reference
+use Rattle.carried_terms.specs.Carried.{AllGoAlong, AreaGoes, CellGoes, CellsAgree, GoesAlong, NamesAgree, Passage, ReferencesAgree, SizeGoes, passed}
 use Rattle.carried_terms.specs.Following.{AllFollow, Follows, IsWhole, KeepsOffsets}
 use Rattle.carried_terms.specs.Laws.{StillGoesAlong}
 use Rattle.carried_terms.specs.Still.{AllAskNowhere, AsksNowhere, IsStillArea, IsStillReference, ShowAlong, passage_of}
@@ -60,6 +63,12 @@ module _ (s : Shift) (v w : World) (from to : Home) (sound : IsSound s) (shows :
   right : (xs ys : List (List ℕ)) → NamesDo (xs ++ ys) → NamesDo ys
   right xs ys names word h = names word (list_any-append (bytes_eq word) xs ys ∙ or_right (list_any (bytes_eq word) xs) (list_any (bytes_eq word) ys) h)
 
+  areas_agree : (b c : Block) (i j : Bool) → i ≡ j → CellsAgree x (reference.Area b) (reference.Area c) → ReferencesAgree x (cond i (Some (reference.Area b)) None) (cond j (Some (reference.Area c)) None)
+  areas_agree b c true true e h = h
+  areas_agree b c false false e h = tt
+  areas_agree b c true false e h = absurd (false≢true (sym e))
+  areas_agree b c false true e h = absurd (false≢true e)
+
   cell_goes : (c : Corner) → IsStillReference s c → CellGoes x (CellsAgree x) c
   cell_goes c (i, (q, e)) = (q, e, shows c.at q i e)
 
@@ -79,6 +88,25 @@ module _ (s : Shift) (v w : World) (from to : Home) (sound : IsSound s) (shows :
       let k = kept c d h in
       let keeps = k.3 in
       (k.0, k.1, k.2, cells_along v.shown w.shown (block_of c d) k.0 keeps.heights keeps.widths (λ p on. shows p _ (covered_inside (block_of c d) p h.0 on) (keeps.offsets p on)))
+
+  -- the reference that a tree is itself goes along
+  pub own_agrees : (t : Term Corner) → EachReference (IsStillReference s) (IsStillArea s) t → ReferencesAgree x (own_reference t) (own_reference (passed x t))
+  own_agrees (cell c) h =
+      let g = cell_goes c h in subst (λ o. ReferencesAgree x (Some (reference.Cell c.at)) (own_reference (cell_at c o))) (sym g.1) g.2
+  own_agrees (area c d) h =
+      let g = area_goes c d h in
+      subst (λ o. ReferencesAgree x (area_reference (block_of c d)) (own_reference (area_at c d o))) (sym g.1)
+      (areas_agree (block_of c d) g.0 (fits (block_of c d)) (fits g.0) g.2 g.3)
+  own_agrees (number m) h = tt
+  own_agrees (text u) h = tt
+  own_agrees (truth b) h = tt
+  own_agrees (fault f) h = tt
+  own_agrees (name word) h = tt
+  own_agrees (prefix sign t) h = tt
+  own_agrees (percent t) h = tt
+  own_agrees (binary o l r) h = tt
+  own_agrees (call word ts) h = tt
+  own_agrees (paren t) h = tt
 
   size_goes : (t : Term Corner) → EachReference (IsStillReference s) (IsStillArea s) t → SizeGoes x t
   size_goes (cell c) (i, (q, e)) = (q, e, tt)
@@ -118,7 +146,7 @@ module _ (s : Shift) (v w : World) (from to : Home) (sound : IsSound s) (shows :
     )
 
   mutual
-    follows : (t : Term Corner) → EachReference (IsStillReference s) (IsStillArea s) t → Follows (place_after s) (block_after s) t
+    pub follows : (t : Term Corner) → EachReference (IsStillReference s) (IsStillArea s) t → Follows (place_after s) (block_after s) t
     follows (cell c) h = h.1
     follows (area c d) h = let k = kept c d h in let keeps = k.3 in (k.0, k.1, keeps.places)
     follows (prefix sign t) h = follows t h
