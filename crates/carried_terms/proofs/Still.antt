@@ -1,5 +1,5 @@
 -- A formula that an operation carries along as it is goes along. Serves the law.
-use Rattle.std.proofs.Common.{◌≡◌, ◌∙◌, sym, ap, refl, subst, ◌⊎◌, ℕ, Bool, true, false, cond, List, [], ◌∷◌, ◌++◌, Option, Some, None, MatchOption, arith}
+use Rattle.std.proofs.Common.{◌≡◌, ◌∙◌, sym, refl, subst, ◌⊎◌, ℕ, Bool, true, false, cond, List, ◌++◌, Option, Some, None, MatchOption, arith}
 use Rattle.std.specs.Prelude.{⊤, bytes_eq}
 use Rattle.std.specs.List.{list_any}
 use Rattle.std.specs.Cmp.Lexicographic.{bytes_decides}
@@ -11,10 +11,10 @@ use Rattle.cell_addr.specs.declared.place.Block.{Block}
 use Rattle.cell_addr.specs.declared.place.Place.{Place}
 use Rattle.formula_tree.specs.Links.{is_place_word, names_in, names_in_all}
 use Rattle.formula_tree.specs.Reference.{block_of, sheet_of}
-use Rattle.formula_tree.specs.Term.{Term, number, text, truth, fault, cell, area, name, prefix, percent, binary, call, paren, Terms, no_terms, term, is_reference}
+use Rattle.formula_tree.specs.Term.{Term, number, text, truth, fault, cell, area, name, prefix, percent, binary, call, paren, Terms, no_terms, term}
 use Rattle.formula_tree.specs.declared.reference.Corner.{Corner}
 use Rattle.formula_tree.specs.declared.reference.Home.{Home}
-use Rattle.shift_core.specs.Bent.{HaveOtherSizes, IsBent, IsCut, MeetsDisplaced}
+use Rattle.shift_core.specs.Bent.{HaveOtherSizes, MeetsDisplaced}
 use Rattle.shift_core.specs.Form.{form_of}
 use Rattle.shift_core.specs.Sound.{IsSound}
 use Rattle.shift_core.specs.Tables.{block_after, place_after}
@@ -27,7 +27,7 @@ use Rattle.calc_terms.specs.References.{area_reference, own_reference}
 use Rattle.calc_terms.specs.World.{World}
 use Rattle.calc_terms.specs.declared.reference.Reference.TheVariants as reference
 use Rattle.carried_terms.specs.Carried.{AllGoAlong, AreaGoes, CellGoes, CellsAgree, GoesAlong, NamesAgree, Passage, ReferencesAgree, SizeGoes, passed}
-use Rattle.carried_terms.specs.Following.{AllFollow, Follows, IsWhole, KeepsOffsets}
+use Rattle.carried_terms.specs.Following.{AllFollow, Follows, KeepsOffsets}
 use Rattle.carried_terms.specs.Laws.{StillGoesAlong}
 use Rattle.carried_terms.specs.Still.{AllAskNowhere, AsksNowhere, IsStillArea, IsStillReference, ShowAlong, passage_of}
 use Rattle.carried_terms.proofs.Blocks.{kept_follow}

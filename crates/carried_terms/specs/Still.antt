@@ -1,5 +1,5 @@
 -- Formulas that an operation carries along as they are. Source: this project's own.
-use Rattle.std.specs.Prelude.{◌≡◌, ⊤, false, true, ℕ, List, Option, Some}
+use Rattle.std.specs.Prelude.{◌≡◌, ⊤, false, true, ℕ, List, Some}
 use Rattle.cell_addr.specs.Place.{IsBlockInside, IsInside}
 use Rattle.cell_addr.specs.declared.place.Place.{Place}
 use Rattle.formula_tree.specs.Reference.{block_of, sheet_of}
