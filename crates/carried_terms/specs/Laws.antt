@@ -8,14 +8,17 @@ use Rattle.custom_fn.specs.declared.rule.Rule.{Rule}
 use Rattle.formula_tree.specs.Links.{names_in}
 use Rattle.formula_tree.specs.Term.{Term}
 use Rattle.formula_tree.specs.declared.reference.Corner.{Corner}
+use Rattle.formula_tree.specs.declared.reference.Home.{Home}
 use Rattle.calc_terms.specs.Cells.{cells_in, height, width}
 use Rattle.calc_terms.specs.Meaning.{meaning}
 use Rattle.calc_terms.specs.Needs.{mentions}
+use Rattle.calc_terms.specs.World.{World}
 use Rattle.shift_core.specs.Bent.{IsBent, IsCut}
 use Rattle.shift_core.specs.Sound.{IsSound}
-use Rattle.shift_core.specs.Tables.{block_after}
+use Rattle.shift_core.specs.Tables.{block_after, place_after}
 use Rattle.shift_core.specs.declared.shift.Shift.{Shift}
 use Rattle.tree_rewrite.specs.Rewritten.{placed_by}
+use Rattle.carried_terms.specs.Still.{IsStill, ShowAlong, WordsAgree, passage_of}
 use Rattle.carried_terms.specs.Following.{Follows, IsWhole, KeepsOffsets}
 use Rattle.carried_terms.specs.Carried.{GoesAlong, Passage, ShowsAlong, passed}
 
@@ -44,3 +47,10 @@ NeedsFollow = (place : Place → Option Place) (block : Block → Option Block) 
 abbrev pub KeptBlocksFollow : Type 0
 KeptBlocksFollow =
     (s : Shift) (b c : Block) → IsSound s → IsBlockInside b → ¬ IsBent s b → ¬ IsCut s b → IsWhole s b → block_after s b ≡ Some c → KeepsOffsets s b c
+
+-- all of a formula that an operation carries along as it is goes along, where places show the same where they are then and
+-- its words find names that agree; and its references follow
+abbrev pub StillGoesAlong : Type 0
+StillGoesAlong =
+    (s : Shift) (v w : World) (from to : Home) (t : Term Corner) → IsSound s → IsStill s t → ShowAlong s v w → WordsAgree (passage_of s v w from to) t →
+    GoesAlong (passage_of s v w from to) t × Follows (place_after s) (block_after s) t

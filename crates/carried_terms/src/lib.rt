@@ -7,4 +7,6 @@
 
 mod laws;
 
-pub use laws::{carried_means_same, cells_go_along, kept_blocks_follow, needs_follow};
+pub use laws::{
+    carried_means_same, cells_go_along, kept_blocks_follow, needs_follow, still_goes_along,
+};

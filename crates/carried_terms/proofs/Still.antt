@@ -1,0 +1,169 @@
+-- A formula that an operation carries along as it is goes along. Serves the law.
+use Rattle.std.proofs.Common.{◌≡◌, ◌∙◌, sym, refl, subst, ◌⊎◌, ℕ, Bool, true, false, cond, List, ◌++◌, Option, Some, None, MatchOption, arith}
+use Rattle.std.specs.Prelude.{⊤, bytes_eq}
+use Rattle.std.specs.List.{list_any}
+use Rattle.std.specs.Cmp.Lexicographic.{bytes_decides}
+use Rattle.std.proofs.lemmas.Bool.{false≢true, or_left, or_right}
+use Rattle.std.proofs.lemmas.Bool.Decides.{nat_tests}
+use Rattle.std.proofs.lemmas.List.Folds.{list_any-append}
+use Rattle.cell_addr.specs.Place.{Covers, IsBlockInside, IsInside}
+use Rattle.cell_addr.specs.declared.place.Block.{Block}
+use Rattle.cell_addr.specs.declared.place.Place.{Place}
+use Rattle.formula_tree.specs.Links.{is_place_word, names_in, names_in_all}
+use Rattle.formula_tree.specs.Reference.{block_of, sheet_of}
+use Rattle.formula_tree.specs.Term.{Term, number, text, truth, fault, cell, area, name, prefix, percent, binary, call, paren, Terms, no_terms, term}
+use Rattle.formula_tree.specs.declared.reference.Corner.{Corner}
+use Rattle.formula_tree.specs.declared.reference.Home.{Home}
+use Rattle.shift_core.specs.Bent.{HaveOtherSizes, MeetsDisplaced}
+use Rattle.shift_core.specs.Form.{form_of}
+use Rattle.shift_core.specs.Sound.{IsSound}
+use Rattle.shift_core.specs.Tables.{block_after, place_after}
+use Rattle.shift_core.specs.declared.shift.Shift.{Shift}
+use Rattle.shift_core.proofs.BlockLaws.{block_moved_inside}
+use Rattle.tree_rewrite.specs.References.{EachReference, EachReferenceOfAll}
+use Rattle.tree_rewrite.specs.Rewritten.{area_at, cell_at}
+use Rattle.calc_terms.specs.Cells.{fits}
+use Rattle.calc_terms.specs.References.{area_reference, own_reference}
+use Rattle.calc_terms.specs.World.{World}
+use Rattle.calc_terms.specs.declared.reference.Reference.TheVariants as reference
+use Rattle.carried_terms.specs.Carried.{AllGoAlong, AreaGoes, CellGoes, CellsAgree, GoesAlong, NamesAgree, Passage, ReferencesAgree, SizeGoes, passed}
+use Rattle.carried_terms.specs.Following.{AllFollow, Follows, KeepsOffsets}
+use Rattle.carried_terms.specs.Laws.{StillGoesAlong}
+use Rattle.carried_terms.specs.Still.{AllAskNowhere, AsksNowhere, IsStillArea, IsStillReference, ShowAlong, passage_of}
+use Rattle.carried_terms.proofs.Blocks.{kept_follow}
+use Rattle.carried_terms.proofs.Cells.{cells_along}
+
+-- what isn't bent isn't lost
+not_lost : (f : Block → Option Block) (b : Block) (P : Block → Type 0) → ¬ MatchOption (f b) ⊤ P → (c : Block) × (f b ≡ Some c)
+not_lost f b P still = found (f b) refl still
+  where
+    found : (o : Option Block) → f b ≡ o → ¬ MatchOption o ⊤ P → (c : Block) × (f b ≡ Some c)
+    found None e h = absurd (h tt)
+    found (Some c) e h = (c, e)
+
+inside_fits : (b : Block) → IsBlockInside b → fits b ≡ true
+inside_fits b i = grind (arith, nat_tests)
+
+covered_inside : (b : Block) (p : Place) → IsBlockInside b → Covers b p → IsInside p
+covered_inside b p i on = (omega arith, omega arith)
+
+bytes_eq-self : (word : List ℕ) → bytes_eq word word ≡ true
+bytes_eq-self word = (bytes_decides word word).1 refl
+
+module _ (s : Shift) (v w : World) (from to : Home) (sound : IsSound s) (shows : ShowAlong s v w) where
+  abbrev x : Passage
+  x = passage_of s v w from to
+
+  abbrev NamesDo : List (List ℕ) → Type 0
+  NamesDo names = (word : List ℕ) → list_any (bytes_eq word) names ≡ true → NamesAgree x (v.named word (sheet_of from)) (w.named word (sheet_of to))
+
+  left : (xs ys : List (List ℕ)) → NamesDo (xs ++ ys) → NamesDo xs
+  left xs ys names word h = names word (list_any-append (bytes_eq word) xs ys ∙ or_left (list_any (bytes_eq word) xs) (list_any (bytes_eq word) ys) h)
+
+  right : (xs ys : List (List ℕ)) → NamesDo (xs ++ ys) → NamesDo ys
+  right xs ys names word h = names word (list_any-append (bytes_eq word) xs ys ∙ or_right (list_any (bytes_eq word) xs) (list_any (bytes_eq word) ys) h)
+
+  areas_agree : (b c : Block) (i j : Bool) → i ≡ j → CellsAgree x (reference.Area b) (reference.Area c) → ReferencesAgree x (cond i (Some (reference.Area b)) None) (cond j (Some (reference.Area c)) None)
+  areas_agree b c true true e h = h
+  areas_agree b c false false e h = tt
+  areas_agree b c true false e h = absurd (false≢true (sym e))
+  areas_agree b c false true e h = absurd (false≢true e)
+
+  cell_goes : (c : Corner) → IsStillReference s c → CellGoes x (CellsAgree x) c
+  cell_goes c (i, (q, e)) = (q, e, shows c.at q i e)
+
+  -- a still block, where it is then
+  abbrev Kept : Block → Type 0
+  Kept b = (c : Block) × (block_after s b ≡ Some c) × (fits b ≡ fits c) × KeepsOffsets s b c
+
+  kept : (c d : Corner) → IsStillArea s c d → Kept (block_of c d)
+  kept c d (i, still, whole, torn) =
+      let b = block_of c d in
+      let there = not_lost (block_after s) b (λ after. HaveOtherSizes b after ⊎ MeetsDisplaced (form_of s) b) still in
+      let after = there.0 in
+      (after, there.1, inside_fits b i ∙ sym (inside_fits after (block_moved_inside (form_of s) b after sound i there.1)), kept_follow s b after sound i still whole torn there.1)
+
+  area_goes : (c d : Corner) → IsStillArea s c d → AreaGoes x (CellsAgree x) c d
+  area_goes c d h =
+      let k = kept c d h in
+      let keeps = k.3 in
+      (k.0, k.1, k.2, cells_along v.shown w.shown (block_of c d) k.0 keeps.heights keeps.widths (λ p on. shows p _ (covered_inside (block_of c d) p h.0 on) (keeps.offsets p on)))
+
+  -- the reference that a tree is itself goes along
+  pub own_agrees : (t : Term Corner) → EachReference (IsStillReference s) (IsStillArea s) t → ReferencesAgree x (own_reference t) (own_reference (passed x t))
+  own_agrees (cell c) h =
+      let g = cell_goes c h in subst (λ o. ReferencesAgree x (Some (reference.Cell c.at)) (own_reference (cell_at c o))) (sym g.1) g.2
+  own_agrees (area c d) h =
+      let g = area_goes c d h in
+      subst (λ o. ReferencesAgree x (area_reference (block_of c d)) (own_reference (area_at c d o))) (sym g.1)
+      (areas_agree (block_of c d) g.0 (fits (block_of c d)) (fits g.0) g.2 g.3)
+  own_agrees (number m) h = tt
+  own_agrees (text u) h = tt
+  own_agrees (truth b) h = tt
+  own_agrees (fault f) h = tt
+  own_agrees (name word) h = tt
+  own_agrees (prefix sign t) h = tt
+  own_agrees (percent t) h = tt
+  own_agrees (binary o l r) h = tt
+  own_agrees (call word ts) h = tt
+  own_agrees (paren t) h = tt
+
+  size_goes : (t : Term Corner) → EachReference (IsStillReference s) (IsStillArea s) t → SizeGoes x t
+  size_goes (cell c) (i, (q, e)) = (q, e, tt)
+  size_goes (area c d) h = let k = kept c d h in let keeps = k.3 in (k.0, k.1, k.2, (keeps.heights, keeps.widths))
+  size_goes (number m) h = tt
+  size_goes (text u) h = tt
+  size_goes (truth b) h = tt
+  size_goes (fault f) h = tt
+  size_goes (name word) h = tt
+  size_goes (prefix sign t) h = tt
+  size_goes (percent t) h = tt
+  size_goes (binary o l r) h = tt
+  size_goes (call word ts) h = tt
+  size_goes (paren t) h = tt
+
+  mutual
+    goes : (t : Term Corner) → EachReference (IsStillReference s) (IsStillArea s) t → AsksNowhere t → NamesDo (names_in t) → GoesAlong x t
+    goes (cell c) h n names = cell_goes c h
+    goes (area c d) h n names = area_goes c d h
+    goes (name word) h n names = names word (or_left (bytes_eq word word) false (bytes_eq-self word))
+    goes (prefix sign t) h n names = goes t h n names
+    goes (percent t) h n names = goes t h n names
+    goes (binary o l r) h n names = (goes l h.0 n.0 (left (names_in l) (names_in r) names), goes r h.1 n.1 (right (names_in l) (names_in r) names))
+    goes (call word ts) h n names = (n.0, all_go (is_place_word word) ts h n.1 names)
+    goes (paren t) h n names = goes t h n names
+    goes (number m) h n names = tt
+    goes (text u) h n names = tt
+    goes (truth b) h n names = tt
+    goes (fault f) h n names = tt
+
+    all_go : (sized : Bool) (ts : Terms Corner) → EachReferenceOfAll (IsStillReference s) (IsStillArea s) ts → AllAskNowhere ts → NamesDo (names_in_all ts) → AllGoAlong x sized ts
+    all_go sized no_terms h n names = tt
+    all_go sized (term t ts) h n names = (
+      λ _. size_goes t h.0,
+      λ _. goes t h.0 n.0 (left (names_in t) (names_in_all ts) names),
+      all_go sized ts h.1 n.1 (right (names_in t) (names_in_all ts) names),
+    )
+
+  mutual
+    pub follows : (t : Term Corner) → EachReference (IsStillReference s) (IsStillArea s) t → Follows (place_after s) (block_after s) t
+    follows (cell c) h = h.1
+    follows (area c d) h = let k = kept c d h in let keeps = k.3 in (k.0, k.1, keeps.places)
+    follows (prefix sign t) h = follows t h
+    follows (percent t) h = follows t h
+    follows (binary o l r) h = (follows l h.0, follows r h.1)
+    follows (call word ts) h = all_follow (is_place_word word) ts h
+    follows (paren t) h = follows t h
+    follows (number m) h = tt
+    follows (text u) h = tt
+    follows (truth b) h = tt
+    follows (fault f) h = tt
+    follows (name word) h = tt
+
+    all_follow : (skip : Bool) (ts : Terms Corner) → EachReferenceOfAll (IsStillReference s) (IsStillArea s) ts → AllFollow (place_after s) (block_after s) skip ts
+    all_follow skip no_terms h = tt
+    all_follow skip (term t ts) h = (λ _. follows t h.0, all_follow skip ts h.1)
+
+pub still_goes : StillGoesAlong
+still_goes s v w from to t sound still shows words =
+    (goes s v w from to sound shows t still.references still.nowhere words, follows s v w from to sound shows t still.references)

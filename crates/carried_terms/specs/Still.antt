@@ -1,0 +1,56 @@
+-- Formulas that an operation carries along as they are. Source: this project's own.
+use Rattle.std.specs.Prelude.{◌≡◌, ⊤, false, true, ℕ, List, Some}
+use Rattle.cell_addr.specs.Place.{IsBlockInside, IsInside}
+use Rattle.cell_addr.specs.declared.place.Place.{Place}
+use Rattle.formula_tree.specs.Reference.{block_of, sheet_of}
+use Rattle.formula_tree.specs.Term.{Term, prefix, percent, binary, call, paren, Terms, no_terms, term}
+use Rattle.formula_tree.specs.declared.reference.Corner.{Corner}
+use Rattle.formula_tree.specs.declared.reference.Home.{Home}
+use Rattle.shift_core.specs.Bent.{IsBent, IsCut}
+use Rattle.shift_core.specs.Tables.{block_after, place_after}
+use Rattle.shift_core.specs.declared.shift.Shift.{Shift}
+use Rattle.tree_rewrite.specs.References.{EachReference}
+use Rattle.calc_terms.specs.Needs.{mentions_name}
+use Rattle.calc_terms.specs.World.{World}
+use Rattle.carried_terms.specs.Carried.{NamesAgree, Passage, asks_where}
+use Rattle.carried_terms.specs.Following.{IsWhole}
+
+-- the passage of a formula that an operation rewrites
+abbrev pub passage_of : Shift → World → World → Home → Home → Passage
+passage_of s v w from to = record { place = place_after s; block = block_after s; old = v; new = w; from = from; to = to }
+
+-- a reference within the limits of a sheet that isn't lost
+abbrev pub IsStillReference : Shift → Corner → Type 0
+IsStillReference s c = IsInside c.at × ((q : Place) × (place_after s c.at ≡ Some q))
+
+-- a block within the limits of a sheet that is neither bent nor cut nor torn
+abbrev pub IsStillArea : Shift → Corner → Corner → Type 0
+IsStillArea s c d = IsBlockInside (block_of c d) × (¬ IsBent s (block_of c d)) × (¬ IsCut s (block_of c d)) × IsWhole s (block_of c d)
+
+abbrev mutual
+  -- nothing in a tree asks where a cell stands
+  pub AsksNowhere : Term Corner → Type 0
+  AsksNowhere (prefix s t) = AsksNowhere t
+  AsksNowhere (percent t) = AsksNowhere t
+  AsksNowhere (binary o l r) = AsksNowhere l × AsksNowhere r
+  AsksNowhere (call word ts) = (asks_where word ≡ false) × AllAskNowhere ts
+  AsksNowhere (paren t) = AsksNowhere t
+  AsksNowhere t = ⊤
+
+  pub AllAskNowhere : Terms Corner → Type 0
+  AllAskNowhere no_terms = ⊤
+  AllAskNowhere (term t ts) = AsksNowhere t × AllAskNowhere ts
+
+-- each place of the sheets that isn't lost shows the same where it is then
+abbrev pub ShowAlong : Shift → World → World → Type 0
+ShowAlong s v w = (p q : Place) → IsInside p → place_after s p ≡ Some q → v.shown p ≡ w.shown q
+
+-- each word of the tree finds a name that agrees
+abbrev pub WordsAgree : Passage → Term Corner → Type 0
+WordsAgree x t =
+    (word : List ℕ) → mentions_name t word ≡ true → NamesAgree x (x.old.named word (sheet_of x.from)) (x.new.named word (sheet_of x.to))
+
+-- the operation carries the formula's tree along as it is
+pub record IsStill (s : Shift) (t : Term Corner) : Type 0 where
+  pub references : EachReference (IsStillReference s) (IsStillArea s) t
+  pub nowhere : AsksNowhere t
