@@ -1,4 +1,6 @@
 pub mod Nodes
 pub mod Links
 pub mod Kept
+pub mod Given
 pub mod Laws
+pub mod internal

@@ -1,6 +1,9 @@
 //! The values of a workbook, kept and worked out anew only where a change may have reached them.
 #![tactic(auto)]
 
+mod kept;
 mod laws;
+mod trees;
 
 pub use laws::{chains_are_needs, cycles_agree, linking_holds};
+pub use trees::{Given, Trees};
