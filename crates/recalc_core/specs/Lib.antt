@@ -1,6 +1,7 @@
 pub mod Nodes
 pub mod Links
 pub mod Kept
+pub mod Recalc
 pub mod Given
 pub mod Laws
 pub mod internal

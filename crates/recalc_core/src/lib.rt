@@ -3,7 +3,11 @@
 
 mod kept;
 mod laws;
+mod names;
+mod recalc;
+mod seen;
 mod trees;
 
 pub use laws::{chains_are_needs, cycles_agree, linking_holds};
+pub use recalc::Recalc;
 pub use trees::{Given, Trees};
