@@ -1,15 +1,13 @@
 -- Needs lead from node to node in the graph exactly where they do in the workbook. Serves the laws on links, and
 -- recalculation.
-use Rattle.std.proofs.Common.{◌≡◌, ◌≢◌, ◌∙◌, sym, ap, refl, subst, ℕ, ℤ, Bool, true, false, cond, ◌||◌, ◌==◌, List, [], ◌∷◌, get_or, Option, Some, None, is_some, ◌⊎◌, inl, inr, ⊎_elim, eqb-true, eq-eqb, ◌<◌, length}
-use Rattle.std.specs.Prelude.{IsTrue, slice_get, ◌↔◌}
-use Rattle.std.specs.List.{AllPairs, list_any}
-use Rattle.std.proofs.lemmas.Bool.{cases_Bool, cases_lt, false≢true, or_cases, or_left, or_right}
-use Rattle.std.proofs.lemmas.Option.{get_or_from_slice_get, slice_get_within}
+use Rattle.std.proofs.Common.{◌≡◌, ◌∙◌, sym, ap, refl, subst, ℕ, ℤ, Bool, true, false, cond, List, [], ◌∷◌, Option, Some, None, is_some, ◌⊎◌, inl, inr, ⊎_elim}
+use Rattle.std.specs.Prelude.{IsTrue, slice_get}
+use Rattle.std.specs.List.{list_any}
+use Rattle.std.proofs.lemmas.Bool.{false≢true, or_cases, or_left, or_right}
 use Rattle.cell_addr.proofs.SamePlaces.{same_block-decides, same_block-equal, same_place-equal, same_place-self}
 use Rattle.cell_addr.specs.Place.{covers, same_place}
 use Rattle.cell_addr.specs.declared.place.Block.{Block}
 use Rattle.cell_addr.specs.declared.place.Place.{Place}
-use Rattle.cell_addr.specs.declared.place.TheConstants.{NO_SHEET}
 use Rattle.cell_value.specs.declared.scalar.Scalar.{Scalar}
 use Rattle.custom_fn.specs.declared.rule.Rule.{Rule}
 use Rattle.formula_tree.specs.Links.{links_in, names_in, same_link}
@@ -18,13 +16,13 @@ use Rattle.formula_tree.specs.Term.{Term}
 use Rattle.formula_tree.specs.declared.link.Link.{Link}
 use Rattle.formula_tree.specs.declared.link.Link.TheVariants as links
 use Rattle.formula_tree.specs.declared.reference.Corner.{Corner}
-use Rattle.value_network.specs.Network.{LeadsTo, Network, after, at_once, cyclic}
+use Rattle.value_network.specs.Network.{LeadsTo, Network, after, at_once}
 use Rattle.calc_terms.proofs.LinkedPlaces.{mentions-links}
 use Rattle.calc_terms.specs.Laws.{is_link_to}
 use Rattle.calc_terms.specs.Needs.{mentions}
 use Rattle.book_values.proofs.Keys.{same_key-equal}
 use Rattle.book_values.proofs.Networks.{cycles_return}
-use Rattle.book_values.specs.Names.{Key, Names, found, is_found, key_of, same_key, tree_in}
+use Rattle.book_values.specs.Names.{Key, Names, found, is_found, key_of, tree_in}
 use Rattle.book_values.specs.Values.{network}
 use Rattle.book_values.specs.Workbook as book
 use Rattle.book_values.specs.Workbook.{Workbook, home_of, mentions_node, needs, tree_at, tree_needs}
@@ -34,8 +32,8 @@ use Rattle.dep_graph.specs.Nodes.{covers_node, has}
 use Rattle.dep_graph.specs.declared.node.Node.{Node}
 use Rattle.dep_graph.specs.declared.node.Node.TheVariants.{Cell, Name, Range}
 use Rattle.recalc_core.specs.Laws.{ChainsAreNeeds, CyclesAgree}
-use Rattle.recalc_core.specs.Links.{AreLinksOf, IsLinkAt, IsLinkOf}
-use Rattle.recalc_core.specs.Nodes.{AreNumbered, name_at, node_at, scope_at}
+use Rattle.recalc_core.specs.Links.{AreLinksOf, IsLinkOf}
+use Rattle.recalc_core.specs.Nodes.{name_at, node_at, scope_at}
 
 -- ---- lists and options
 

@@ -2,7 +2,7 @@
 use Rattle.std.proofs.Common.{◌≡◌, ◌≢◌, ◌∙◌, sym, ap, refl, subst, ℕ, Bool, true, false, cond, ◌==◌, List, get_or, Option, Some, None, ⊎_elim, eqb-true, eq-eqb, ◌<◌, ◌⊎◌, inl, inr, length, arith}
 use Rattle.std.specs.Prelude.{IsTrue, slice_get, ◌↔◌}
 use Rattle.std.specs.List.{AllPairs, list_any}
-use Rattle.std.proofs.lemmas.Bool.{cases_Bool, cases_lt, false≢true}
+use Rattle.std.proofs.lemmas.Bool.{cases_lt, false≢true}
 use Rattle.std.proofs.lemmas.Option.{get_or_from_slice_get, slice_get_within}
 use Rattle.cell_addr.specs.declared.place.TheConstants.{NO_SHEET}
 use Rattle.formula_tree.specs.Links.{names_in}

@@ -1,5 +1,5 @@
 -- The names that a formula reads, one word after another. Serves what reads them.
-use Rattle.std.proofs.Common.{◌≡◌, ◌∙◌, sym, ap, refl, subst, ℕ, Bool, true, false, cond, ◌||◌, List, [], ◌∷◌, ◌++◌, Option, Some, None, is_some, ◌⊎◌, inl, inr, ⊎_elim, drop, get_or, length, ◌<◌, ◌+◌}
+use Rattle.std.proofs.Common.{◌≡◌, ◌∙◌, sym, ap, subst, ℕ, true, false, cond, ◌||◌, List, [], ◌∷◌, ◌++◌, Some, None, is_some, inl, inr, ⊎_elim, drop, get_or, length, ◌<◌, ◌+◌}
 use Rattle.std.specs.Cmp.Lexicographic.{bytes_decides}
 use Rattle.std.specs.List.{All, find, list_any}
 use Rattle.std.proofs.lemmas.Bool.{false≢true, or_cases, or_left, or_right}
@@ -11,13 +11,10 @@ use Rattle.cell_addr.specs.Text.{folded}
 use Rattle.formula_tree.proofs.Once.{lists_once}
 use Rattle.formula_tree.proofs.SameLinks.{names_alike}
 use Rattle.formula_tree.specs.Links.{once}
-use Rattle.formula_tree.specs.Relative.{relative}
-use Rattle.formula_tree.specs.StandsFor.{at_home}
 use Rattle.book_values.specs.Names.{Names, found, tree_in}
-use Rattle.book_values.specs.Workbook as book
 use Rattle.book_values.specs.Workbook.{Workbook}
 use Rattle.dep_graph.specs.declared.node.Node.{Node}
-use Rattle.recalc_core.specs.Given.{IsFound, IsGiven}
+use Rattle.recalc_core.specs.Given.{HasGivenAt, IsFound, IsGiven}
 use Rattle.recalc_core.specs.Nodes.{node_at}
 use Rattle.recalc_core.specs.declared.names.ReadName.{ReadName}
 use Rattle.recalc_core.specs.declared.trees.Given.{Given}
@@ -39,7 +36,7 @@ module _ (b : Workbook) (words : List (List ℕ)) (sheet : ℕ) where
   pub read_here : (word : List ℕ) (a : Node) (given : Given) (name : ReadName) → IsFound b words word sheet (Some a) → IsGiven b words a given → given ≡ Formula name.tree name.home
       → name.word ≡ word → name.node ≡ a → IsRead b words sheet name
   read_here word a given name (key, is, at) has formula same here =
-      let (home, tree) = subst (IsGiven b words a) formula has (book.name key) at in
+      let (home, tree) = subst (λ o. HasGivenAt b o (Formula name.tree name.home)) at (subst (IsGiven b words a) formula has) in
       (key, ap (λ w. found b.names w sheet) same ∙ is, ap (node_at words) here ∙ at, tree)
 
   pub none_read : AreRead b words sheet [] []

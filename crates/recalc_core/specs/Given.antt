@@ -21,9 +21,13 @@ HasGiven b x Nothing = stands b x ≡ false
 HasGiven b x (Value s) = (stands b x ≡ true) × (tree_at b x ≡ None) × ((w : World) (customs : List (List ℕ × Rule)) → worked_out b w customs x ≡ s)
 HasGiven b x (Formula tree home) = (home ≡ home_of x) × (tree_at b x ≡ Some (at_home home (relative tree.value)))
 
--- what it has at a node
+-- what it has at a node; at one that is neither a place nor a name that it could know, nothing
+abbrev pub HasGivenAt : Workbook → Option book.Node → Given → Type 0
+HasGivenAt b (Some x) given = HasGiven b x given
+HasGivenAt b None given = given ≡ Nothing
+
 abbrev pub IsGiven : Workbook → List (List ℕ) → Node → Given → Type 0
-IsGiven b words a given = (x : book.Node) → node_at words a ≡ Some x → HasGiven b x given
+IsGiven b words a given = HasGivenAt b (node_at words a) given
 
 -- the node of the name that a word finds on a sheet
 abbrev pub IsFound : Workbook → List (List ℕ) → List ℕ → ℕ → Option Node → Type 0

@@ -5,8 +5,11 @@ mod kept;
 mod laws;
 mod names;
 mod recalc;
+mod recalculation;
 mod seen;
+mod settling;
 mod trees;
+mod working;
 
 pub use laws::{chains_are_needs, cycles_agree, linking_holds};
 pub use recalc::Recalc;

@@ -24,9 +24,10 @@ pub enum Given {
 pub trait Trees {
     // The workbook, and the words by their numbers.
     ghost workbook: { Self → Workbook };
+
     ghost words: { Self → List (List ℕ) };
 
-    /// What stands at the place or name. A formula that can't be read is the value `#ERROR!`.
+    /// What stands at the place or name; at a range nothing. A formula that can't be read is the value `#ERROR!`.
     fn given(&mut self, a: Node) -> Result<Given, AllocError>
         ensures given { IfOk result (IsGiven (workbook self.old) (words self.old) a) }
         ensures leaves { workbook self.new ≡ workbook self.old }

@@ -1,5 +1,5 @@
 -- What a formula sees of kept values, and the names that it reads.
-use Rattle.std.specs.Prelude.{◌≡◌, ◌⊎◌, ◌++◌, ◌∷◌, [], ℕ, ℤ, true, List, All, Option, Some, None, unwrap_or, is_some}
+use Rattle.std.specs.Prelude.{◌≡◌, ◌⊎◌, ◌++◌, ◌∷◌, [], ℕ, ℤ, true, List, All, Some, None, unwrap_or, is_some}
 use Rattle.std.specs.List.{find, list_any}
 use Rattle.std.specs.Option.{option_map}
 use Rattle.cell_addr.specs.Sheets.{same_name}

@@ -1,4 +1,4 @@
-use Rattle.std.proofs.Common.{◌≡◌, ◌∙◌, sym, ap, refl, subst}
+use Rattle.std.proofs.Common.{◌∙◌, refl, subst}
 use Rattle.formula_tree.specs.Links.{names_in}
 use Rattle.formula_tree.specs.Relative.{relative}
 use Rattle.formula_tree.specs.StandsFor.{at_home}

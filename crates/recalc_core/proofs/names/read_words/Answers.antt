@@ -1,5 +1,5 @@
-use Rattle.std.proofs.Common.{◌≡◌, ◌∙◌, sym, ap, refl, subst, take, get_or, ◌∷◌, ◌++◌, []}
-use Rattle.std.proofs.lemmas.List.{take_all, take_more}
+use Rattle.std.proofs.Common.{◌∙◌, sym, ap, refl, subst, take, ◌∷◌, ◌++◌, []}
+use Rattle.std.proofs.lemmas.List.{take_more}
 use Rattle.recalc_core.specs.internal.Seen.{AddsRead, AreRead}
 use Rattle.recalc_core.proofs.ReadNames.{none_read, reads_on}
 use Rattle.recalc_core.proofs.names.read_words.Goals as goal
