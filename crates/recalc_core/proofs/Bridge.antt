@@ -26,6 +26,7 @@ use Rattle.book_values.specs.Names.{Key, Names, found, is_found, key_of, tree_in
 use Rattle.book_values.specs.Values.{network}
 use Rattle.book_values.specs.Workbook as book
 use Rattle.book_values.specs.Workbook.{Workbook, home_of, mentions_node, needs, tree_at, tree_needs}
+use Rattle.dep_graph.specs.Laws.{IsNoRange}
 use Rattle.dep_graph.specs.Needs.{Chain, Links, Needs, OnCycle}
 use Rattle.dep_graph.specs.Needs as graph
 use Rattle.dep_graph.specs.Nodes.{covers_node, has}
@@ -195,6 +196,17 @@ module _ (b : Workbook) (words : List (List ℕ)) (graph_links : Links) (good : 
       by : (o : Option (Term Corner)) → tree_needs b.names (sheet_of (home_of x)) o (book.name key) ≡ true → (c : Node) × (node_at words c ≡ Some (book.name key))
       by None n = absurd (false≢true n)
       by (Some t) n = good.numbered.all key (mentioned_stands b.names (sheet_of (home_of x)) t key n)
+
+  -- a node that is neither a place nor a known name needs nothing
+  needs_nothing : (a m : Node) → IsNoRange a → node_at words a ≡ None → Needs graph_links a m → ⊥
+  needs_nothing a m plain none (inl h) = let (x, t, at, is, link) = (good.exact a m).0 h in none_some x (sym none ∙ at)
+  needs_nothing (Cell p) m plain none (inr h) = false≢true h.0
+  needs_nothing (Name scope word) m plain none (inr h) = false≢true h.0
+  needs_nothing (Range block) m plain none (inr h) = plain
+
+  pub unlinked : (a : Node) → IsNoRange a → node_at words a ≡ None → {c : Node} → Chain graph_links a c → ⊥
+  unlinked a plain none (graph.at_once {b = m} need) = needs_nothing a m plain none need
+  unlinked a plain none (graph.after {b = m} need rest) = needs_nothing a m plain none need
 
   -- ---- from needs to the graph
 

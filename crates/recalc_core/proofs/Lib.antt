@@ -5,3 +5,4 @@ pub mod Touched
 pub mod Worked
 pub mod UnderWay
 pub mod Recalculated
+pub mod Changes

@@ -18,7 +18,7 @@ use Rattle.dep_graph.specs.Nodes.{has, same_node}
 use Rattle.dep_graph.specs.declared.node.Node.{Node}
 use Rattle.dep_graph.specs.internal.Hashed.{own_node, same_nodes}
 use Rattle.recalc_core.specs.Given.{HasGivenAt, IsGiven}
-use Rattle.recalc_core.specs.Kept.{AreRight, IsRight, Kept, expected}
+use Rattle.recalc_core.specs.Kept.{AreRight, IsRight, Kept, expected_at}
 use Rattle.recalc_core.specs.Nodes.{node_at}
 use Rattle.recalc_core.specs.declared.trees.Given.{Given}
 use Rattle.recalc_core.specs.declared.trees.Given.TheVariants as given
@@ -35,28 +35,44 @@ module _ (b : Workbook) (words : List (List ℕ)) (customs : List (List ℕ × R
   Right kept a = IsRight b words customs today kept a
 
   -- what is put of a node is right where it is what should be kept
-  put_right : (a : Node) (value : Option Scalar) (old new : Kept) → IsPut a value old new → ((x : book.Node) → node_at words a ≡ Some x → expected b customs today x ≡ value) → Right new a
-  put_right a value old new put should x at = put a ∙ ap (λ t. cond t value (old a)) (own_node a) ∙ sym (should x at)
+  put_right : (a : Node) (value : Option Scalar) (old new : Kept) → IsPut a value old new → expected_at b customs today (node_at words a) ≡ value → Right new a
+  put_right a value old new put should plain = put a ∙ ap (λ t. cond t value (old a)) (own_node a) ∙ sym should
+
+  given_value : (s : Scalar) (o : Option book.Node) → HasGivenAt b o (given.Value s) → expected_at b customs today o ≡ Some s
+  given_value s (Some x) has_it = value_expected b customs today x s has_it
+  given_value s None has_it = absurd (apart has_it)
+    where
+      apart : given.Value s ≡ given.Nothing → ⊥
+      apart e = cc
+
+  given_nothing : (o : Option book.Node) → HasGivenAt b o given.Nothing → expected_at b customs today o ≡ None
+  given_nothing (Some x) has_it = nothing_expected b customs today x has_it
+  given_nothing None has_it = refl
+
+  given_formula : (a : Node) (tree : Rc term.Node Global) (home : Home) (s : Scalar) (kept : Kept) (o : Option book.Node) → IsReady b words customs today kept a → node_at words a ≡ o → HasGivenAt b o (given.Formula tree home)
+      → IsMeaning b words customs today kept home (at_home home (relative tree.value)) s → expected_at b customs today o ≡ Some s
+  given_formula a tree home s kept (Some x) ready at (same, tree_is) means =
+      meaning_expected b customs today words kept a x (at_home home (relative tree.value)) s ready at tree_is (subst (λ h. IsMeaning b words customs today kept h (at_home home (relative tree.value)) s) same means)
+  given_formula a tree home s kept None ready at has_it means = absurd (apart has_it)
+    where
+      apart : given.Formula tree home ≡ given.Nothing → ⊥
+      apart e = cc
 
   pub value_right : (a : Node) (s : Scalar) (has_it : Given) (old new : Kept) (r : Result (Unit {0}) AllocError) → IsGiven b words a has_it → has_it ≡ given.Value s → OnOk r (IsPut a (Some s) old new) → OnOk r (Right new a)
-  value_right a s has_it old new r here is put =
-      on_ok r (λ p. put_right a (Some s) old new p (λ x at. value_expected b customs today x s (subst (λ o. HasGivenAt b o (given.Value s)) at (subst (IsGiven b words a) is here)))) put
+  value_right a s has_it old new r here is put = on_ok r (λ p. put_right a (Some s) old new p (given_value s (node_at words a) (subst (IsGiven b words a) is here))) put
 
   pub nothing_right : (a : Node) (has_it : Given) (old new : Kept) (r : Result (Unit {0}) AllocError) → IsGiven b words a has_it → has_it ≡ given.Nothing → OnOk r (IsPut a None old new) → OnOk r (Right new a)
-  nothing_right a has_it old new r here is put =
-      on_ok r (λ p. put_right a None old new p (λ x at. nothing_expected b customs today x (subst (λ o. HasGivenAt b o given.Nothing) at (subst (IsGiven b words a) is here)))) put
+  nothing_right a has_it old new r here is put = on_ok r (λ p. put_right a None old new p (given_nothing (node_at words a) (subst (IsGiven b words a) is here))) put
 
-  pub formula_right : (a : Node) (tree : Rc term.Node Global) (home : Home) (s : Scalar) (has_it : Given) (kept old new : Kept) (r : Result (Unit {0}) AllocError) → IsReady b words customs today kept a → IsGiven b words a has_it → has_it ≡ given.Formula tree home
-      → IsMeaning b words customs today kept home (at_home home (relative tree.value)) s → OnOk r (IsPut a (Some s) old new) → OnOk r (Right new a)
+  pub formula_right : (a : Node) (tree : Rc term.Node Global) (home : Home) (s : Scalar) (has_it : Given) (kept old new : Kept) (r : Result (Unit {0}) AllocError) → IsReady b words customs today kept a
+      → IsGiven b words a has_it → has_it ≡ given.Formula tree home → IsMeaning b words customs today kept home (at_home home (relative tree.value)) s → OnOk r (IsPut a (Some s) old new) → OnOk r (Right new a)
   formula_right a tree home s has_it kept old new r ready here is means put =
-      on_ok r (λ p. put_right a (Some s) old new p (λ x at.
-      let (same, tree_is) = subst (λ o. HasGivenAt b o (given.Formula tree home)) at (subst (IsGiven b words a) is here) in
-      meaning_expected b customs today words kept a x (at_home home (relative tree.value)) s ready at tree_is (subst (λ h. IsMeaning b words customs today kept h (at_home home (relative tree.value)) s) same means))) put
+      on_ok r (λ p. put_right a (Some s) old new p (given_formula a tree home s kept (node_at words a) ready refl (subst (IsGiven b words a) is here) means)) put
 
   -- ---- the loop over the order
 
   right_still : (a : Node) (old new : Kept) → new a ≡ old a → Right old a → Right new a
-  right_still a old new same right x at = same ∙ right x at
+  right_still a old new same right plain = same ∙ right plain
 
   pub next_ready : (order : List Node) (i : ℕ) (a : Node) (kept : Kept) → IsPlan b words customs today order → IsUnderWay b words customs today order i kept → i < length order → a ≡ get_or order i a → IsReady b words customs today kept a
   next_ready order i a kept plan way low is x at =

@@ -39,10 +39,11 @@ use Rattle.book_values.specs.Names.{Key, found, is_found, tree_in}
 use Rattle.book_values.specs.Values.{content_value, name_value, named_as, network, value_of, worked_out, world_of}
 use Rattle.book_values.specs.Workbook as book
 use Rattle.book_values.specs.Workbook.{Workbook, content_tree, home_of, mentions_node, needs, tree_at, tree_needs}
+use Rattle.dep_graph.specs.Laws.{IsNoRange}
 use Rattle.dep_graph.specs.declared.node.Node.{Node}
-use Rattle.dep_graph.specs.declared.node.Node.TheVariants.{Cell}
+use Rattle.dep_graph.specs.declared.node.Node.TheVariants.{Cell, Name, Range}
 use Rattle.recalc_core.specs.Given.{HasGiven}
-use Rattle.recalc_core.specs.Kept.{IsRight, Kept, expected, stands}
+use Rattle.recalc_core.specs.Kept.{IsRight, Kept, expected, expected_at, stands}
 use Rattle.recalc_core.specs.Nodes.{node_at}
 use Rattle.recalc_core.specs.Steps.{bare}
 use Rattle.recalc_core.specs.declared.names.ReadName.{ReadName}
@@ -151,6 +152,17 @@ cost_is b words sheet t names kept today read =
 
 -- ---- values of single nodes
 
+-- a place or a name is no range
+pub no_range : (words : List (List ℕ)) (a : Node) (x : book.Node) → node_at words a ≡ Some x → IsNoRange a
+no_range words (Cell p) x at = tt
+no_range words (Name scope word) x at = tt
+no_range words (Range b) x at = none_some x at
+
+-- what is kept of a place or a name where it is right
+pub right_at : (b : Workbook) (words : List (List ℕ)) (customs : List (List ℕ × Rule)) (today : ℤ) (kept : Kept) (a : Node) (x : book.Node) → IsRight b words customs today kept a → node_at words a ≡ Some x
+    → kept a ≡ expected b customs today x
+right_at b words customs today kept a x right at = right (no_range words a x at) ∙ ap (expected_at b customs today) at
+
 module _ (b : Workbook) (customs : List (List ℕ × Rule)) (today : ℤ) where
   abbrev net : Network book.Node Scalar
   net = network b customs today
@@ -233,10 +245,10 @@ module _ (b : Workbook) (customs : List (List ℕ × Rule)) (today : ℤ) where
 
   module _ (words : List (List ℕ)) (kept : Kept) where
     shows_right : (p : Place) → IsRight b words customs today kept (Cell p) → shown_at kept p ≡ value (book.place p)
-    shows_right p right = ap (λ o. unwrap_or o Empty) (right (book.place p) refl) ∙ place_shows p
+    shows_right p right = ap (λ o. unwrap_or o Empty) (right tt) ∙ place_shows p
 
     name_right : (key : Key) (t : Term Corner) (c : Node) → tree_in b.names key ≡ Some t → node_at words c ≡ Some (book.name key) → IsRight b words customs today kept c → shown_of kept c ≡ value (book.name key)
-    name_right key t c tree at right = ap (λ o. unwrap_or o Empty) (right (book.name key) at ∙ expected_some (book.name key) (ap is_some tree))
+    name_right key t c tree at right = ap (λ o. unwrap_or o Empty) (right_at b words customs today kept c (book.name key) right at ∙ expected_some (book.name key) (ap is_some tree))
 
     module _ (x : book.Node) (t : Term Corner) (is : tree_at b x ≡ Some t) (right : (z : book.Node) (c : Node) → LeadsTo net x z → node_at words c ≡ Some z → IsRight b words customs today kept c)
         (names : List ReadName) (read : AreRead b words (sheet_of (home_of x)) (names_in t) names) where

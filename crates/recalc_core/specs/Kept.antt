@@ -7,6 +7,7 @@ use Rattle.book_values.specs.Names.{tree_in}
 use Rattle.book_values.specs.Values.{value_of}
 use Rattle.book_values.specs.Workbook as book
 use Rattle.book_values.specs.Workbook.{Workbook}
+use Rattle.dep_graph.specs.Laws.{IsNoRange}
 use Rattle.dep_graph.specs.Needs.{Links, Reaches}
 use Rattle.dep_graph.specs.declared.node.Node.{Node}
 use Rattle.recalc_core.specs.Nodes.{node_at}
@@ -24,9 +25,14 @@ stands b (book.name key) = is_some (tree_in b.names key)
 abbrev pub expected : Workbook → List (List ℕ × Rule) → ℤ → book.Node → Option Scalar
 expected b customs today x = if stands b x then Some (value_of b customs today x) else None
 
--- what is kept of the node is what should be
+-- and of a node of the graph: nothing where it is neither a place nor a name that could be known
+abbrev pub expected_at : Workbook → List (List ℕ × Rule) → ℤ → Option book.Node → Option Scalar
+expected_at b customs today (Some x) = expected b customs today x
+expected_at b customs today None = None
+
+-- what is kept of the node is what should be; of a range nothing is asked
 abbrev pub IsRight : Workbook → List (List ℕ) → List (List ℕ × Rule) → ℤ → Kept → Node → Type 0
-IsRight b words customs today kept a = (x : book.Node) → node_at words a ≡ Some x → kept a ≡ expected b customs today x
+IsRight b words customs today kept a = IsNoRange a → kept a ≡ expected_at b customs today (node_at words a)
 
 -- what is kept of every node is
 abbrev pub AreRight : Workbook → List (List ℕ) → List (List ℕ × Rule) → ℤ → Kept → Type 0

@@ -11,6 +11,6 @@ mod settling;
 mod trees;
 mod working;
 
-pub use laws::{chains_are_needs, cycles_agree, linking_holds};
+pub use laws::{chains_are_needs, changes_keep_fit, cycles_agree, linking_holds};
 pub use recalc::Recalc;
 pub use trees::{Given, Trees};
