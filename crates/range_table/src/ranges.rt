@@ -24,6 +24,7 @@ impl Ranges {
     ghost use Rattle.std.specs.FinMap as map;
     ghost use Rattle.cell_addr.specs.Place.{IsBlockInside};
     ghost use Rattle.cell_addr.specs.declared.place.Place.{Place};
+    ghost use Rattle.cell_value.specs.Summary.{IsBounded};
     ghost use Rattle.cell_value.specs.declared.scalar.Scalar.{Scalar};
     ghost use Rattle.shift_core.specs.Sound.{IsSound};
     ghost use Rattle.range_table.specs.Cells.{fold};
@@ -87,6 +88,7 @@ impl Ranges {
         requires inside { IsBlockInside b }
         requires right { AreFolds (C.values cells.now) (table_of self.old).kept }
         ensures fold { IfOk result (λ s. s ≡ fold (C.values cells.now) b) }
+        ensures bounded { IfOk result IsBounded }
         ensures kept { OnOk result (table_of self.new ≡ with_summary b (fold (C.values cells.now) b) (table_of self.old)) }
         ensures right { OnOk result (AreFolds (C.values cells.now) (table_of self.new).kept) }
         ensures steps { OnOk result (steps.new ≡ steps.old + cells_to_merge (table_of self.old).kept b) }

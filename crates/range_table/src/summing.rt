@@ -38,6 +38,7 @@ impl Kept {
         requires inside { IsBlockInside b }
         requires right { AreFolds (C.values cells.now) (map_of self.old.summaries.entries) }
         ensures fold { IfOk result (λ merged. merged.summary ≡ fold (C.values cells.now) b) }
+        ensures bounded { IfOk result (λ merged. IsBounded merged.summary) }
         ensures merged { IfOk result (λ merged. merged.cells ≡ cells_to_merge (map_of self.old.summaries.entries) b) }
         ensures kept { OnOk result (map_of self.new.summaries.entries ≡ map.insert (map_of self.old.summaries.entries) b (fold (C.values cells.now) b)) }
         ensures steps { OnOk result (steps.new ≡ steps.old + cells_to_merge (map_of self.old.summaries.entries) b) }
@@ -60,6 +61,7 @@ impl Kept {
         requires inside { IsBlockInside b }
         requires right { AreFolds (C.values cells.now) (map_of self.old.summaries.entries) }
         ensures fold { IfOk result (λ merged. merged.summary ≡ fold (C.values cells.now) b) }
+        ensures bounded { IfOk result (λ merged. IsBounded merged.summary) }
         ensures merged { IfOk result (λ merged. merged.cells ≡ cells_left b (begun (map_of self.old.summaries.entries) b)) }
         ensures kept { OnOk result (map_of self.new.summaries.entries ≡ map.insert (map_of self.old.summaries.entries) b (fold (C.values cells.now) b)) }
         ensures steps { OnOk result (steps.new ≡ steps.old + cells_left b (begun (map_of self.old.summaries.entries) b)) }

@@ -1,0 +1,296 @@
+-- What a node shows: nothing where it doesn't stand, a value without a tree, the cycle's, or what its formula means over
+-- kept values that are right of all that its needs lead to. Serves what works nodes out.
+use Rattle.std.proofs.Common.{◌≡◌, ◌∙◌, sym, ap, ap₂, refl, subst, ℕ, ℤ, ◌+◌, Bool, true, false, cond, List, [], ◌∷◌, ◌++◌, Option, Some, None, is_some, option_map, option_and_then, ◌⊎◌, inl, inr, ⊎_elim}
+use Rattle.std.specs.FinMap as map
+use Rattle.std.specs.List.{All, find, list_any}
+use Rattle.std.specs.Cmp.Lexicographic.{bytes_decides}
+use Rattle.std.specs.Prelude.{bytes_eq, unwrap_or}
+use Rattle.std.proofs.lemmas.Bool.{cases_Bool, false≢true, or_cases, or_left, or_right}
+use Rattle.std.proofs.lemmas.List.Elements.{All-head, All-tail}
+use Rattle.std.proofs.lemmas.List.Folds.{list_any-append}
+use Rattle.cell_addr.specs.Sheets.{same_name}
+use Rattle.cell_addr.specs.Text.{folded}
+use Rattle.cell_addr.specs.declared.place.Place.{Place}
+use Rattle.cell_value.specs.declared.fault.FaultKind.TheVariants as fault
+use Rattle.cell_value.specs.declared.scalar.Scalar.{Scalar}
+use Rattle.cell_value.specs.declared.scalar.Scalar.TheVariants as scalar
+use Rattle.cell_value.specs.declared.scalar.Scalar.TheVariants.{Empty}
+use Rattle.custom_fn.specs.declared.rule.Rule.{Rule}
+use Rattle.formula_tree.specs.Links.{names_in, names_in_all}
+use Rattle.formula_tree.specs.Reference.{sheet_of}
+use Rattle.formula_tree.specs.Relative.{relative}
+use Rattle.formula_tree.specs.StandsFor.{at_home}
+use Rattle.formula_tree.specs.Term.{Term, number, text, truth, cell, area, name, prefix, percent, binary, call, paren, Terms, no_terms, term}
+use Rattle.formula_tree.specs.Term as tree
+use Rattle.formula_tree.specs.declared.reference.Corner.{Corner}
+use Rattle.value_network.specs.Network.{LeadsTo, Network, after, at_once, cyclic}
+use Rattle.calc_terms.proofs.Reading.{reads_needs}
+use Rattle.calc_terms.specs.Cost.{block_size, cost, cost_all}
+use Rattle.calc_terms.specs.Laws.{NameAlike, ShowAlike}
+use Rattle.calc_terms.specs.Meaning.{meaning}
+use Rattle.calc_terms.specs.Needs.{mentions_name}
+use Rattle.calc_terms.specs.References.{reference_named}
+use Rattle.calc_terms.specs.World.{World}
+use Rattle.book_cells.specs.Workbook.{Content}
+use Rattle.book_cells.specs.Workbook as content
+use Rattle.book_values.proofs.Keys.{same_key-self, word_passes}
+use Rattle.book_values.proofs.Networks.{cycles_return, values_unfold}
+use Rattle.book_values.specs.Names.{Key, found, is_found, tree_in}
+use Rattle.book_values.specs.Values.{content_value, name_value, named_as, network, value_of, worked_out, world_of}
+use Rattle.book_values.specs.Workbook as book
+use Rattle.book_values.specs.Workbook.{Workbook, content_tree, home_of, mentions_node, needs, tree_at, tree_needs}
+use Rattle.dep_graph.specs.Laws.{IsNoRange}
+use Rattle.dep_graph.specs.declared.node.Node.{Node}
+use Rattle.dep_graph.specs.declared.node.Node.TheVariants.{Cell, Name, Range}
+use Rattle.recalc_core.specs.Given.{HasGiven}
+use Rattle.recalc_core.specs.Kept.{IsRight, Kept, expected, expected_at, stands}
+use Rattle.recalc_core.specs.Nodes.{node_at}
+use Rattle.recalc_core.specs.Steps.{bare}
+use Rattle.recalc_core.specs.declared.names.ReadName.{ReadName}
+use Rattle.recalc_core.specs.declared.trees.Given.TheVariants as given
+use Rattle.recalc_core.specs.declared.kept.KeptValues.{KeptValues}
+use Rattle.recalc_core.specs.internal.KeptValues.{kept_by}
+use Rattle.recalc_core.specs.internal.Seen.{AreRead, IsRead, named_by, shown_at, shown_of, world_in}
+use Rattle.recalc_core.specs.internal.UnderWay.{IsMeaning, IsReady}
+use Rattle.recalc_core.proofs.Bridge.{any_as, none_some, same_some}
+use Rattle.recalc_core.proofs.ReadNames.{found_alike}
+
+-- ---- names that are read
+
+-- an item that is found is one of the list, and passes
+found_item : {X : Type 0} (P : X → Type 0) (p : X → Bool) (xs : List X) (x : X) → All P xs → find p xs ≡ Some x → P x × (p x ≡ true)
+found_item P p [] x all h = absurd (none_some x h)
+found_item P p (y ∷ ys) x all h = by (p y) refl (λ later. found_item P p ys x (All-tail P y ys all) later)
+  where
+    by : (t : Bool) → p y ≡ t → (find p ys ≡ Some x → P x × (p x ≡ true)) → P x × (p x ≡ true)
+    by true e on =
+        let same : y ≡ x = same_some y x (sym (ap (λ t. cond t (Some y) (find p ys)) e) ∙ h) in
+        subst (λ z. P z × (p z ≡ true)) same (All-head P y ys all, e)
+    by false e on = on (sym (ap (λ t. cond t (Some y) (find p ys)) e) ∙ h)
+
+passing_found : {X : Type 0} (p : X → Bool) (xs : List X) → list_any p xs ≡ true → find p xs ≡ None → ⊥
+passing_found p [] h none = false≢true h
+passing_found p (x ∷ xs) h none = by (p x) refl (λ later no_more. passing_found p xs later no_more)
+  where
+    by : (t : Bool) → p x ≡ t → (list_any p xs ≡ true → find p xs ≡ None → ⊥) → ⊥
+    by true e on = none_some x (sym none ∙ ap (λ t. cond t (Some x) (find p xs)) e)
+    by false e on = on (⊎_elim (λ (here : p x ≡ true). absurd (false≢true (sym e ∙ here))) (λ (later : list_any p xs ≡ true). later) (or_cases (p x) (list_any p xs) h))
+        (sym (ap (λ t. cond t (Some x) (find p xs)) e) ∙ none)
+
+module _ (b : Workbook) (words : List (List ℕ)) (sheet : ℕ) (asked : List (List ℕ)) (names : List ReadName) (read : AreRead b words sheet asked names) where
+  abbrev of_word : List ℕ → Option ReadName
+  of_word word = find (λ name. same_name name.word word) names
+
+  -- a word finds nothing in the workbook and among the names, or the same name in both
+  abbrev Finds : List ℕ → Type 0
+  Finds word = ((found b.names word sheet ≡ None) × (of_word word ≡ None))
+      ⊎ ((key : Key) × (read_as : ReadName) × (found b.names word sheet ≡ Some key) × (of_word word ≡ Some read_as) × (node_at words read_as.node ≡ Some (book.name key))
+      × (tree_in b.names key ≡ Some (at_home read_as.home (relative read_as.tree.value))))
+
+  pub finds : (word : List ℕ) → list_any (same_name word) asked ≡ true → Finds word
+  finds word mentioned = by (found b.names word sheet) (of_word word) refl refl
+    where
+      by : (m : Option Key) (n : Option ReadName) → found b.names word sheet ≡ m → of_word word ≡ n → Finds word
+      by None None e f = inl (e, f)
+      by (Some key) None e f = absurd (passing_found (λ name. same_name name.word word) names (read.all word mentioned (ap is_some e)) f)
+      by None (Some other) e f =
+          let ((key, is, at, tree), same) = found_item (IsRead b words sheet) (λ name. same_name name.word word) names other read.each f in
+          absurd (none_some key (sym e ∙ sym (found_alike b.names other.word word sheet same) ∙ is))
+      by (Some key) (Some other) e f =
+          let ((known, is, at, tree), same) = found_item (IsRead b words sheet) (λ name. same_name name.word word) names other read.each f in
+          let one : known ≡ key = same_some known key (sym is ∙ found_alike b.names other.word word sheet same ∙ e) in
+          inr (key, other, e, f, at ∙ ap (λ k. Some (book.name k)) one, ap (tree_in b.names) (sym one) ∙ tree)
+
+word_asked : (t : Term Corner) (word : List ℕ) → mentions_name t word ≡ true → list_any (same_name word) (names_in t) ≡ true
+word_asked t word h = any_as (bytes_eq word) (same_name word) (names_in t) (λ other same. (bytes_decides (folded word) (folded other)).1 (ap folded ((bytes_decides word other).0 same))) h
+
+-- ---- costs rest on the trees of names
+
+module _ (v w : World) (sheet : ℕ) where
+  abbrev TreesAlike : List (List ℕ) → Type 0
+  TreesAlike names = (word : List ℕ) → list_any (bytes_eq word) names ≡ true → reference_named (v.named word sheet) ≡ reference_named (w.named word sheet)
+
+  trees_left : (xs ys : List (List ℕ)) → TreesAlike (xs ++ ys) → TreesAlike xs
+  trees_left xs ys names word h = names word (list_any-append (bytes_eq word) xs ys ∙ or_left (list_any (bytes_eq word) xs) (list_any (bytes_eq word) ys) h)
+
+  trees_right : (xs ys : List (List ℕ)) → TreesAlike (xs ++ ys) → TreesAlike ys
+  trees_right xs ys names word h = names word (list_any-append (bytes_eq word) xs ys ∙ or_right (list_any (bytes_eq word) xs) (list_any (bytes_eq word) ys) h)
+
+  mutual
+    costs_alike : (t : Term Corner) → TreesAlike (names_in t) → cost v sheet t ≡ cost w sheet t
+    costs_alike (number m) names = refl
+    costs_alike (text s) names = refl
+    costs_alike (truth b) names = refl
+    costs_alike (tree.fault k) names = refl
+    costs_alike (cell c) names = refl
+    costs_alike (area c d) names = refl
+    costs_alike (name word) names = ap (λ r. block_size r + 1) (names word (or_left (bytes_eq word word) false ((bytes_decides word word).1 refl)))
+    costs_alike (prefix s t) names = ap (λ n. n + 1) (costs_alike t names)
+    costs_alike (percent t) names = ap (λ n. n + 1) (costs_alike t names)
+    costs_alike (binary o l r) names =
+        ap₂ (λ m n. m + n + 1) (costs_alike l (trees_left (names_in l) (names_in r) names)) (costs_alike r (trees_right (names_in l) (names_in r) names))
+    costs_alike (call word ts) names = ap (λ n. n + 1) (all_costs_alike ts names)
+    costs_alike (paren t) names = ap (λ n. n + 1) (costs_alike t names)
+
+    all_costs_alike : (ts : Terms Corner) → TreesAlike (names_in_all ts) → cost_all v sheet ts ≡ cost_all w sheet ts
+    all_costs_alike no_terms names = refl
+    all_costs_alike (term t ts) names =
+        ap₂ (λ m n. m + n) (costs_alike t (trees_left (names_in t) (names_in_all ts) names)) (all_costs_alike ts (trees_right (names_in t) (names_in_all ts) names))
+
+-- over kept values a formula costs what it does over bare names
+pub cost_is : (b : Workbook) (words : List (List ℕ)) (sheet : ℕ) (t : Term Corner) (names : List ReadName) (kept : Kept) (today : ℤ) → AreRead b words sheet (names_in t) names
+    → cost (world_in kept names today) sheet t ≡ cost (bare b.names) sheet t
+cost_is b words sheet t names kept today read =
+    costs_alike (world_in kept names today) (bare b.names) sheet t (λ word h. by word (finds b words sheet (names_in t) names read word (word_asked t word h)))
+  where
+    by : (word : List ℕ) → Finds b words sheet (names_in t) names read word → reference_named ((world_in kept names today).named word sheet) ≡ reference_named ((bare b.names).named word sheet)
+    by word (inl (none, no_name)) = ap (λ o. reference_named (option_map (named_by kept) o)) no_name ∙ sym (ap (λ o. reference_named (option_and_then (named_as b.names (λ _. Empty)) o)) none)
+    by word (inr (key, other, is, here, at, tree)) =
+        ap (λ o. reference_named (option_map (named_by kept) o)) here
+        ∙ sym (ap (λ o. reference_named (option_and_then (named_as b.names (λ _. Empty)) o)) is
+        ∙ ap (λ o. reference_named (option_map (λ u. record { value = Empty; tree = u }) o)) tree)
+
+-- ---- values of single nodes
+
+-- a place or a name is no range
+pub no_range : (words : List (List ℕ)) (a : Node) (x : book.Node) → node_at words a ≡ Some x → IsNoRange a
+no_range words (Cell p) x at = tt
+no_range words (Name scope word) x at = tt
+no_range words (Range b) x at = none_some x at
+
+-- what is kept of a place or a name where it is right
+pub right_at : (b : Workbook) (words : List (List ℕ)) (customs : List (List ℕ × Rule)) (today : ℤ) (kept : Kept) (a : Node) (x : book.Node) → IsRight b words customs today kept a → node_at words a ≡ Some x
+    → kept a ≡ expected b customs today x
+right_at b words customs today kept a x right at = right (no_range words a x at) ∙ ap (expected_at b customs today) at
+
+module _ (b : Workbook) (customs : List (List ℕ × Rule)) (today : ℤ) where
+  abbrev net : Network book.Node Scalar
+  net = network b customs today
+
+  abbrev value : book.Node → Scalar
+  value = value_of b customs today
+
+  abbrev world : World
+  world = world_of b.names today value
+
+  needs_none : (x c : book.Node) → tree_at b x ≡ None → needs b x c ≡ true → ⊥
+  needs_none x c none h = false≢true (sym (ap (λ t. tree_needs b.names (sheet_of (home_of x)) t c) none) ∙ h)
+
+  leads_none : {x c : book.Node} → LeadsTo net x c → tree_at b x ≡ None → ⊥
+  leads_none (at_once {a = x} {b = c} h) none = needs_none x c none h
+  leads_none (after {a = x} {b = c} h rest) none = needs_none x c none h
+
+  -- a node without a tree is on no cycle
+  pub free : (x : book.Node) → tree_at b x ≡ None → cyclic net x ≡ false
+  free x none = ⊎_elim (λ h. absurd (leads_none ((cycles_return b customs today x).0 h) none)) (λ h. h) (cases_Bool (cyclic net x))
+
+  value_good : (x : book.Node) → cyclic net x ≡ false → value x ≡ worked_out b world customs x
+  value_good x good = values_unfold b customs today x ∙ ap (λ t. cond t (scalar.Fault fault.Cycle) (worked_out b world customs x)) good
+
+  -- a node with a tree stands
+  pub tree_stands : (x : book.Node) (t : Term Corner) → tree_at b x ≡ Some t → stands b x ≡ true
+  tree_stands (book.place p) t h = by (map.get b.cells p) refl
+    where
+      by : (o : Option Content) → map.get b.cells p ≡ o → is_some (map.get b.cells p) ≡ true
+      by None e = absurd (none_some t (sym (ap content_tree e) ∙ h))
+      by (Some c) e = ap is_some e
+  tree_stands (book.name key) t h = ap is_some h
+
+  expected_some : (x : book.Node) → stands b x ≡ true → expected b customs today x ≡ Some (value x)
+  expected_some x h = ap (λ t. cond t (Some (value x)) None) h
+
+  pub nothing_expected : (x : book.Node) → HasGiven b x given.Nothing → expected b customs today x ≡ None
+  nothing_expected x h = ap (λ t. cond t (Some (value x)) None) h
+
+  pub value_expected : (x : book.Node) (s : Scalar) → HasGiven b x (given.Value s) → expected b customs today x ≡ Some s
+  value_expected x s (here, no_tree, shows) = expected_some x here ∙ ap Some (value_good x (free x no_tree) ∙ shows world customs)
+
+  -- a node on a cycle shows the cycle's value
+  pub cycle_expected : (x : book.Node) → cyclic net x ≡ true → expected b customs today x ≡ Some (scalar.Fault fault.Cycle)
+  cycle_expected x bad = by (tree_at b x) refl
+    where
+      by : (o : Option (Term Corner)) → tree_at b x ≡ o → expected b customs today x ≡ Some (scalar.Fault fault.Cycle)
+      by None e = absurd (false≢true (sym (free x e) ∙ bad))
+      by (Some t) e =
+          expected_some x (tree_stands x t e)
+          ∙ ap Some (values_unfold b customs today x ∙ ap (λ m. cond m (scalar.Fault fault.Cycle) (worked_out b world customs x)) bad)
+
+  -- a formula shows what its tree means
+  works_tree : (x : book.Node) (t : Term Corner) → tree_at b x ≡ Some t → worked_out b world customs x ≡ meaning world customs (home_of x) t
+  works_tree (book.place p) t h = by (map.get b.cells p) refl
+    where
+      by : (o : Option Content) → map.get b.cells p ≡ o → content_value world customs (home_of (book.place p)) (map.get b.cells p) ≡ meaning world customs (home_of (book.place p)) t
+      by None e = absurd (none_some t (sym (ap content_tree e) ∙ h))
+      by (Some (content.number m)) e = absurd (none_some t (sym (ap content_tree e) ∙ h))
+      by (Some (content.truth m)) e = absurd (none_some t (sym (ap content_tree e) ∙ h))
+      by (Some (content.text m)) e = absurd (none_some t (sym (ap content_tree e) ∙ h))
+      by (Some (content.unreadable m)) e = absurd (none_some t (sym (ap content_tree e) ∙ h))
+      by (Some (content.formula u)) e =
+          ap (content_value world customs (home_of (book.place p))) e
+          ∙ ap (meaning world customs (home_of (book.place p))) (same_some u t (sym (ap content_tree e) ∙ h))
+  works_tree (book.name key) t h = ap (name_value world customs (home_of (book.name key))) h
+
+  pub formula_expected : (x : book.Node) (t : Term Corner) → tree_at b x ≡ Some t → cyclic net x ≡ false → expected b customs today x ≡ Some (meaning world customs (home_of x) t)
+  formula_expected x t is good = expected_some x (tree_stands x t is) ∙ ap Some (value_good x good ∙ works_tree x t is)
+
+  -- what a place shows by what should be kept of it
+  place_shows : (p : Place) → unwrap_or (expected b customs today (book.place p)) Empty ≡ value (book.place p)
+  place_shows p = by (map.get b.cells p) refl
+    where
+      by : (o : Option Content) → map.get b.cells p ≡ o → unwrap_or (cond (is_some (map.get b.cells p)) (Some (value (book.place p))) None) Empty ≡ value (book.place p)
+      by None e =
+          ap (λ o. unwrap_or (cond (is_some o) (Some (value (book.place p))) None) Empty) e
+          ∙ sym (value_good (book.place p) (free (book.place p) (ap content_tree e)) ∙ ap (content_value world customs (home_of (book.place p))) e)
+      by (Some c) e = ap (λ o. unwrap_or (cond (is_some o) (Some (value (book.place p))) None) Empty) e
+
+  module _ (words : List (List ℕ)) (kept : Kept) where
+    shows_right : (p : Place) → IsRight b words customs today kept (Cell p) → shown_at kept p ≡ value (book.place p)
+    shows_right p right = ap (λ o. unwrap_or o Empty) (right tt) ∙ place_shows p
+
+    name_right : (key : Key) (t : Term Corner) (c : Node) → tree_in b.names key ≡ Some t → node_at words c ≡ Some (book.name key) → IsRight b words customs today kept c → shown_of kept c ≡ value (book.name key)
+    name_right key t c tree at right = ap (λ o. unwrap_or o Empty) (right_at b words customs today kept c (book.name key) right at ∙ expected_some (book.name key) (ap is_some tree))
+
+    module _ (x : book.Node) (t : Term Corner) (is : tree_at b x ≡ Some t) (right : (z : book.Node) (c : Node) → LeadsTo net x z → node_at words c ≡ Some z → IsRight b words customs today kept c)
+        (names : List ReadName) (read : AreRead b words (sheet_of (home_of x)) (names_in t) names) where
+      need : (z : book.Node) → mentions_node b.names (sheet_of (home_of x)) t z ≡ true → needs b x z ≡ true
+      need z h = ap (λ o. tree_needs b.names (sheet_of (home_of x)) o z) is ∙ h
+
+      shown_alike : ShowAlike (world_in kept names today) world t
+      shown_alike p h = shows_right p (right (book.place p) (Cell p) (at_once (need (book.place p) h)) refl)
+
+      named_alike : (word : List ℕ) → mentions_name t word ≡ true → Finds b words (sheet_of (home_of x)) (names_in t) names read word
+          → NameAlike (world_in kept names today) world ((world_in kept names today).named word (sheet_of (home_of x))) (world.named word (sheet_of (home_of x)))
+      named_alike word h (inl (none, no_name)) =
+          subst (λ o. NameAlike (world_in kept names today) world (option_map (named_by kept) o) (world.named word (sheet_of (home_of x)))) (sym no_name)
+          (subst (λ o. NameAlike (world_in kept names today) world None (option_and_then (named_as b.names value) o)) (sym none) tt)
+      named_alike word h (inr (key, other, found_key, here, at, tree)) =
+          let mentioned : mentions_node b.names (sheet_of (home_of x)) t (book.name key) ≡ true =
+          word_passes word (λ v. is_found (found b.names v (sheet_of (home_of x))) key) (names_in t) (ap (λ o. is_found o key) found_key ∙ same_key-self key) h in
+          let own : Term Corner = at_home other.home (relative other.tree.value) in
+          subst (λ o. NameAlike (world_in kept names today) world (option_map (named_by kept) o) (world.named word (sheet_of (home_of x)))) (sym here)
+          (subst (λ o. NameAlike (world_in kept names today) world (Some (named_by kept other)) (option_and_then (named_as b.names value) o)) (sym found_key)
+          (subst (λ o. NameAlike (world_in kept names today) world (Some (named_by kept other)) (option_map (λ u. record { value = value (book.name key); tree = u }) o)) (sym tree) (
+            name_right key own other.node tree at (right (book.name key) other.node (at_once (need (book.name key) mentioned)) at),
+            refl,
+            λ p m. shows_right p (right (book.place p) (Cell p)
+                (after (need (book.name key) mentioned) (at_once (ap (λ o. tree_needs b.names (sheet_of (home_of (book.name key))) o (book.place p)) tree ∙ m))) refl),
+          )))
+
+      -- a formula means over kept values what it means in the workbook
+      pub means_alike : meaning (world_in kept names today) customs (home_of x) t ≡ meaning world customs (home_of x) t
+      means_alike = reads_needs (world_in kept names today) world customs (home_of x) t (record {
+        today = refl;
+        shown = shown_alike;
+        named = λ word h. named_alike word h (finds b words (sheet_of (home_of x)) (names_in t) names read word (word_asked t word h));
+      })
+
+    -- what is worked out of a node that is ready should be kept of it
+    pub meaning_expected : (a : Node) (x : book.Node) (t : Term Corner) (s : Scalar) → IsReady b words customs today kept a → node_at words a ≡ Some x → tree_at b x ≡ Some t
+        → IsMeaning b words customs today kept (home_of x) t s → expected b customs today x ≡ Some s
+    meaning_expected a x t s ready at is (names, read, shows) =
+        let (good, right) = ready x at in
+        formula_expected x t is good ∙ ap Some (sym (means_alike x t is right names read) ∙ sym shows)
+
+-- one view's world, by equal values
+pub same_world : (one two : KeptValues) (names : List ReadName) (today : ℤ) → one ≡ two → world_in (kept_by one) names today ≡ world_in (kept_by two) names today
+same_world one two names today e = ap (λ (k : KeptValues). world_in (kept_by k) names today) e

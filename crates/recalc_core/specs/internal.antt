@@ -1,0 +1,4 @@
+-- What only the proofs of bodies need.
+pub mod KeptValues
+pub mod Seen
+pub mod UnderWay

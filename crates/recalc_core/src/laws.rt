@@ -1,0 +1,24 @@
+// What holds of the links of a workbook. The functions do nothing: what each ensures is the law.
+ghost use Rattle.recalc_core.specs.Laws.{ChainsAreNeeds, ChangesKeepFit, CyclesAgree, LinkingHolds};
+
+/// Where links are the needs of a workbook, needs lead from one place or name to another in the graph exactly where they do
+/// in the workbook.
+pub fn chains_are_needs()
+    ensures { ChainsAreNeeds }
+{}
+
+/// And a place or a name is on a cycle in the graph exactly where it shows `#CYCLE!` by itself.
+pub fn cycles_agree()
+    ensures { CyclesAgree }
+{}
+
+/// Links stay the needs of a workbook where one node's formula becomes another one and the node is linked anew.
+pub fn linking_holds()
+    ensures { LinkingHolds }
+{}
+
+/// Kept values fit the marks after a change of the workbook where each node that doesn't stand, need and work out what it did
+/// before is marked as well.
+pub fn changes_keep_fit()
+    ensures { ChangesKeepFit }
+{}

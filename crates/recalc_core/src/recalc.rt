@@ -1,0 +1,80 @@
+// Kept values, marks and kept summaries.
+ghost use Rattle.std.specs.Prelude.{◌≡◌, ◌++◌, ◌∷◌, [], IfOk, None, OnErr, OnOk};
+ghost use Rattle.std.specs.Option.{option_copied};
+ghost use Rattle.dep_graph.specs.Nodes.{items_of};
+ghost use Rattle.dep_graph.specs.declared.node.Node.{Node};
+ghost use Rattle.range_table.specs.Ranges.{table_of};
+ghost use Rattle.range_table.specs.Table.{AreFolds};
+ghost use Rattle.recalc_core.specs.internal.KeptValues.{kept_by};
+ghost use Rattle.recalc_core.specs.internal.Seen.{shown_at};
+
+use crate::kept::KeptValues;
+use cell_value::Scalar;
+use dep_graph::{Node, Nodes};
+use range_table::Ranges;
+use std::alloc::{AllocError, Global};
+
+/// The values of a workbook as they are kept, the marks, and kept summaries of ranges.
+///
+/// It stands for a finite map from nodes to values, for the list of marks, and for the number of cells that were merged for
+/// summaries.
+#[derive(Drop)]
+pub struct Recalc {
+    pub(crate) alloc: Global,
+    pub(crate) kept: KeptValues,
+    pub(crate) marks: Nodes,
+    pub(crate) ranges: Ranges,
+
+    // Each summary is that of its block's cells.
+    pub ghost right: { AreFolds (shown_at (kept_by kept)) (table_of ranges).kept },
+}
+
+impl Recalc {
+    ghost use Rattle.recalc_core.specs.Recalc.{kept_in, marks_in, merged_in};
+
+    /// Nothing is kept, and there are no marks. Errs for want of memory.
+    pub fn new(alloc: Global) -> Result<Recalc, AllocError>
+        ensures kept { IfOk result (λ recalc. (a : Node) → kept_in recalc a ≡ None) }
+        ensures marks { IfOk result (λ recalc. marks_in recalc ≡ []) }
+        ensures merged { IfOk result (λ recalc. merged_in recalc ≡ 0) }
+    {
+        Ok(Recalc {
+            alloc,
+            kept: KeptValues::new(alloc),
+            marks: Nodes::new(alloc)?,
+            ranges: Ranges::new(alloc)?,
+        })
+    }
+
+    /// Marks a node: what is kept of it, and of all that its value reaches, may not be its value any more. For want of memory
+    /// all is as it was.
+    pub fn mark(&mut self, a: Node) -> Result<(), AllocError>
+        ensures ok { OnOk result (marks_in self.new ≡ marks_in self.old ++ a ∷ []) }
+        ensures err { OnErr result (marks_in self.new ≡ marks_in self.old) }
+        ensures kept { kept_in self.new ≡ kept_in self.old }
+        ensures merged { merged_in self.new ≡ merged_in self.old }
+    {
+        self.marks.push(a)
+    }
+
+    /// The marks.
+    pub fn marks(&self) -> &Nodes
+        ensures { items_of result.now ≡ marks_in self.now }
+    {
+        &self.marks
+    }
+
+    /// The value that is kept of the node; `None` where none is. Costs a look-up.
+    pub fn value(&self, a: Node) -> Option<&Scalar>
+        ensures { option_copied result ≡ kept_in self.now a }
+    {
+        self.kept.get(a)
+    }
+
+    /// How many cells were merged so far for summaries of ranges; the count stays at the greatest number of 64 bits.
+    pub fn merged(&self) -> u64
+        ensures { result ≡ merged_in self.now }
+    {
+        self.ranges.merged()
+    }
+}
