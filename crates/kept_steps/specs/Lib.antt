@@ -1,5 +1,6 @@
 pub mod Timeline
 pub mod Steps
 pub mod Fits
+pub mod InUse
 pub mod Session
 pub mod internal
