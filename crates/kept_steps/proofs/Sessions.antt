@@ -1,6 +1,7 @@
 -- The session after a call: where a change was noted, where nothing changed, after a step back or forth, and where a batch
 -- begins or is closed. Serves all calls of sessions.
 use Rattle.std.proofs.Common.{pos, ◌≡◌, ◌∙◌, sym, ap, subst, refl, arith, inl, inr, ℕ, ◌≤◌, ◌-◌, Bool, true, false, if◌then◌else◌, List, [], ◌∷◌, ◌++◌, length, take, Option, Some, None, option_map}
+use Rattle.std.specs.Prelude.{⊤}
 use Rattle.undo_book.specs.History.{History, last_of, stepped_back, stepped_forward}
 use Rattle.undo_book.proofs.LastEntries.{all_but_last-end, last_of-end}
 use Rattle.book_model.specs.Clipboard.{nothing}
