@@ -6,3 +6,5 @@ mod Lists
 mod Sessions
 mod Outcomes
 mod Turning
+mod Including
+mod ListedIds

@@ -3,4 +3,5 @@ pub mod Steps
 pub mod Fits
 pub mod InUse
 pub mod Session
+pub mod Kept
 pub mod internal

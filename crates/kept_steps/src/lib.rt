@@ -16,10 +16,13 @@
 
 mod changing;
 mod entry;
+mod listing;
 mod noting;
 mod reading;
 mod session;
+mod sweeping;
 mod undoing;
 
 pub use entry::Entry;
 pub use session::Session;
+pub use sweeping::LEAST_GROWTH;
