@@ -8,3 +8,4 @@ mod Outcomes
 mod Turning
 mod Including
 mod ListedIds
+mod Swept

@@ -26,6 +26,7 @@ use shift_core::Shift;
 use std::alloc::AllocError;
 
 impl Session {
+    ghost use Rattle.kept_steps.specs.Kept.{KeepsInUse};
     ghost use Rattle.kept_steps.specs.Session.{state_of};
 
     /// Gives a cell the content that a text says. No other formula is touched. For want of memory the session is as it was. Costs
@@ -35,8 +36,9 @@ impl Session {
         ensures ok { OnOk result (state_of self.new ≡ changed (with_content at text.now (state_of self.old).book) (state_of self.old)) }
         ensures err { OnErr result (state_of self.new ≡ state_of self.old) }
         ensures line { self.new.book.lazy.line ≡ with_spare self.new.book.lazy.line.spare self.old.book.lazy.line }
-        ensures kept { KeepsBelow self.old.book.next_id self.old.book.lazy self.new.book.lazy }
+        ensures kept { KeepsInUse self.old self.new.book.lazy }
     {
+        self.sweep_where_due()?;
         let room = room(self.book.alloc, &mut self.batch)?;
         let part = self.book.fill(&mut self.pool, at, text)?;
         note(&mut self.steps, &mut self.batch, room, part);
@@ -85,8 +87,9 @@ impl Session {
         ensures ok { OnOk result (state_of self.new ≡ changed (with_copy area (contents_copied cells.now) at (state_of self.old).book) (state_of self.old)) }
         ensures err { OnErr result (state_of self.new ≡ state_of self.old) }
         ensures line { self.new.book.lazy.line ≡ with_spare self.new.book.lazy.line.spare self.old.book.lazy.line }
-        ensures kept { KeepsBelow self.old.book.next_id self.old.book.lazy self.new.book.lazy }
+        ensures kept { KeepsInUse self.old self.new.book.lazy }
     {
+        self.sweep_where_due()?;
         let room = room(self.book.alloc, &mut self.batch)?;
         let part = self.book.paste(&mut self.pool, area, cells, at)?;
         note(&mut self.steps, &mut self.batch, room, part);
@@ -155,8 +158,9 @@ impl Session {
         ensures ok { OnOk result (state_of self.new ≡ changed (with_name (key_of scope word.now) (option_map (tree_in_scope scope) tree) (state_of self.old).book) (state_of self.old)) }
         ensures err { OnErr result (state_of self.new ≡ state_of self.old) }
         ensures line { self.new.book.lazy.line ≡ with_spare self.new.book.lazy.line.spare self.old.book.lazy.line }
-        ensures kept { KeepsBelow self.old.book.next_id self.old.book.lazy self.new.book.lazy }
+        ensures kept { KeepsInUse self.old self.new.book.lazy }
     {
+        self.sweep_where_due()?;
         let room = room(self.book.alloc, &mut self.batch)?;
         let part = self.book.name(scope, word, tree)?;
         note(&mut self.steps, &mut self.batch, room, part);

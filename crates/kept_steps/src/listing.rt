@@ -32,7 +32,8 @@ pub(crate) fn add_present(ids: &mut IndexSet<u64>, book: &Book) -> Result<(), Al
     let cells = book.grid.all()?;
     add_cells(ids, cells.items())?;
     let names = book.names.all()?;
-    add_named(ids, names.as_slice())
+    add_named(ids, names.as_slice())?;
+    Ok(())
 }
 
 // Adds the ids of the formulas that the done steps replaced.
