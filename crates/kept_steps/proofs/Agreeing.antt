@@ -46,11 +46,11 @@ known_more words more [] m h = tt
 known_more words more (c ∷ cs) m h = (word_known words more c.0.word m h.0, known_more words more cs m h.1)
 
 -- the standing of what stands somewhere
-standing_of : (r : Option Standing) (h : Home) → option_map (λ (x : Standing). x.home) r ≡ Some h → (x : Standing) × (r ≡ Some x)
+pub standing_of : (r : Option Standing) (h : Home) → option_map (λ (x : Standing). x.home) r ≡ Some h → (x : Standing) × (r ≡ Some x)
 standing_of None h e = cc
 standing_of (Some x) h e = (x, refl)
 
-standing_under : (r : Option Standing) (p : Place) → option_map (λ f. f.0) (option_and_then stood_of r) ≡ Some p → (x : Standing) × (r ≡ Some x)
+pub standing_under : (r : Option Standing) (p : Place) → option_map (λ f. f.0) (option_and_then stood_of r) ≡ Some p → (x : Standing) × (r ≡ Some x)
 standing_under None p e = cc
 standing_under (Some x) p e = (x, refl)
 

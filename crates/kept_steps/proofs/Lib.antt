@@ -9,3 +9,4 @@ mod Turning
 mod Including
 mod ListedIds
 mod Swept
+mod Settled

@@ -164,7 +164,7 @@ fn add_named(ids: &mut IndexSet<u64>, names: &[(NameKey, u64)]) -> Result<(), Al
 }
 
 // Adds an id, if there is one.
-fn add(ids: &mut IndexSet<u64>, id: Option<u64>) -> Result<(), AllocError>
+pub(crate) fn add(ids: &mut IndexSet<u64>, id: Option<u64>) -> Result<(), AllocError>
     ensures { OnOk result (Adds (option_to_list id) ids.old ids.new) }
 {
     if let Some(id) = id {

@@ -51,7 +51,7 @@ impl Session {
     }
 
     // The ids of the formulas that the workbook has, and of those that the steps list.
-    fn listed(&self) -> Result<IndexSet<u64>, AllocError>
+    pub(crate) fn listed(&self) -> Result<IndexSet<u64>, AllocError>
         ensures { IfOk result (λ ids. (id : ℕ) → IsInUse self.now id → contains nat_eq ids id ≡ true) }
     {
         let mut ids = IndexSet::new(self.book.alloc);
@@ -64,7 +64,7 @@ impl Session {
 }
 
 // Drops the formulas whose ids aren't among these.
-fn keep_only(book: &mut Book, ids: &IndexSet<u64>)
+pub(crate) fn keep_only(book: &mut Book, ids: &IndexSet<u64>)
     ensures kept { (id : ℕ) → kept_in book.new.lazy id ≡ (if contains nat_eq ids.now id then kept_in book.old.lazy id else None) }
     ensures line { book.new.lazy.line ≡ book.old.lazy.line }
     ensures frame { frame_of book.new ≡ frame_of book.old }

@@ -1,14 +1,18 @@
 -- The ids that a workbook and the parts of steps list, and sets to which ids are added.
-use Rattle.std.specs.Prelude.{◌≡◌, ◌||◌, [], None, ◌++◌, ℕ, Bool, List, Option, Some, nat_eq}
+use Rattle.std.specs.Prelude.{◌≡◌, ◌||◌, ◌++◌, ℕ, Bool, false, List, [], ◌∷◌, Option, Some, None, is_some, nat_eq, nat_le, unwrap_or}
 use Rattle.std.specs.HashSet.{HashSet, contains}
 use Rattle.std.specs.List.{flat_map, list_any}
 use Rattle.std.specs.Option.{option_to_list}
 use Rattle.cell_addr.specs.declared.place.Place.{Place}
 use Rattle.grid_store.specs.Grid.{items_of}
 use Rattle.grid_store.specs.declared.cell.Cell.{Cell}
+use Rattle.lazy_store.specs.Store.{at_in, position_in}
+use Rattle.lazy_store.specs.declared.lazy.Lazy.{Lazy}
+use Rattle.kept_book.specs.Change.{Change}
 use Rattle.kept_book.specs.Kept.{id_of}
 use Rattle.kept_book.specs.declared.part.NameChange.{NameChange}
 use Rattle.kept_book.specs.declared.part.Part.{Part}
+use Rattle.kept_steps.specs.Fits.{changes_in}
 use Rattle.kept_steps.specs.declared.entry.Entry.{Entry}
 use Rattle.kept_steps.specs.declared.listing.Side.{Side}
 use Rattle.kept_steps.specs.declared.listing.Side.TheVariants.{Before, After}
@@ -47,3 +51,22 @@ ids_of_step side e = flat_map (ids_on side) e.parts.items
 abbrev pub ids_open : Option Entry → List ℕ
 ids_open None = []
 ids_open (Some e) = ids_of_step Before e
+
+-- the position before the first of some changes
+abbrev pub first_from : List Change → Option ℕ
+first_from [] = None
+first_from (c ∷ cs) = Some c.from
+
+-- the position before the first of all steps, the oldest step first; this one where there is none
+abbrev pub rests_on : List Entry → ℕ → ℕ
+rests_on [] p = p
+rests_on (e ∷ es) p = unwrap_or (first_from (changes_in e)) (rests_on es p)
+
+-- the position is from this one on
+abbrev pub is_from : ℕ → Option ℕ → Bool
+is_from k None = false
+is_from k (Some p) = nat_le k p
+
+-- a formula is kept as of the position or a later one, or it has a standing there
+abbrev pub goes_on : Lazy → ℕ → ℕ → Bool
+goes_on store k id = is_from k (position_in store id) || is_some (at_in store id k)
