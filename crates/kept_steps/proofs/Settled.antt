@@ -10,13 +10,16 @@ use Rattle.lazy_store.proofs.Lines.{is-forgotten}
 use Rattle.lazy_store.proofs.Reaching.{at-has}
 use Rattle.lazy_store.specs.Kept.{Kept, at}
 use Rattle.lazy_store.specs.Standing.{Standing}
-use Rattle.lazy_store.specs.Store.{CanGoOn, GoOnTo, KeepsFrom, StandsAsBefore, StandsFrom, at_in, kept_in, position_in, stored_in}
+use Rattle.lazy_store.specs.Store.{CanGoOn, GoOnTo, KeepsBehind, KeepsFrom, StandsAsBefore, StandsFrom, at_in, kept_in, position_in, stored_in}
 use Rattle.lazy_store.specs.declared.lazy.Lazy.{Lazy}
 use Rattle.name_table.specs.Named.{names_of, words_of}
-use Rattle.shift_line.specs.Track.{forgotten, last, shift_at, with_spare}
+use Rattle.shift_line.specs.Track.{Track, forgotten, last, shift_at, with_spare}
 use Rattle.undo_book.specs.History.{History}
 use Rattle.kept_book.specs.Change.{Change}
 use Rattle.kept_book.specs.Frame.{Frame}
+use Rattle.formula_tree.specs.Term.{Term}
+use Rattle.formula_tree.specs.declared.reference.Home.{Home}
+use Rattle.formula_tree.specs.declared.reference.Ref.{Ref}
 use Rattle.grid_store.specs.Grid.{cells_of}
 use Rattle.name_table.specs.Listed as names_listed
 use Rattle.kept_book.specs.Kept.{SameBook, frame_of}
@@ -24,9 +27,12 @@ use Rattle.kept_book.specs.Walk.{back_all, forth_all}
 use Rattle.kept_book.specs.declared.book.Book.{Book}
 use Rattle.kept_steps.specs.Fits.{AreSteps, Fits, changes_in, open_changes, session_of, start_of, steps_of}
 use Rattle.kept_steps.specs.InUse.{AheadHas, HasAny, HasFormula, PastHas}
+use Rattle.kept_steps.specs.Kept.{ComeToBase, KeepsFromBase}
+use Rattle.kept_steps.specs.Session.{base_of, line_settled, settles}
 use Rattle.kept_steps.specs.Steps.{AreAhead, ArePast, oldest}
 use Rattle.kept_steps.specs.Timeline.{Agree, StandIn, Timeline, timeline_of}
 use Rattle.kept_steps.specs.declared.entry.Entry.{Entry}
+use Rattle.kept_steps.specs.declared.session.Session.{Session}
 use Rattle.kept_steps.specs.internal.Listed.{first_from, goes_on, has, is_from, rests_on}
 use Rattle.kept_steps.proofs.Agreeing.{oldest_first, standing_of, standing_under}
 use Rattle.kept_steps.proofs.Outcomes.{same_batch, unchanged, upto_last}
@@ -288,3 +294,38 @@ module _ {S T : Type 0} (old mid new : Book) (h : History Entry) (b : Option Ent
   settling (Err e) ok standings err same grid same_names =
       let after = settled-err mid new h b s n between.0 same err grid same_names in
       (after.0, after.1 ∙ between.1)
+
+-- ---- an operation behind a settling
+
+abbrev stored_parts : Kept → ℕ × (Home × Term Ref)
+stored_parts h = (h.position, (h.home, h.tree))
+
+settled-cursor : (b : Bool) (k : ℕ) (line : Track) → (if b then forgotten k line else line).cursor ≡ line.cursor
+settled-cursor true k line = refl
+settled-cursor false k line = refl
+
+module _ (old mid : Session) (new : Lazy) (behind : KeepsBehind mid.book.lazy.line.cursor mid.book.lazy new) (line : mid.book.lazy.line ≡ with_spare mid.book.lazy.line.spare (line_settled old)) where
+  cursor-kept : mid.book.lazy.line.cursor ≡ old.book.lazy.line.cursor
+  cursor-kept = ap (λ l. l.cursor) line ∙ settled-cursor (settles old) (base_of old) old.book.lazy.line
+
+  pub behind-same : mid.book.lazy ≡ old.book.lazy → KeepsBehind old.book.lazy.line.cursor old.book.lazy new
+  behind-same same id h is upto = behind id h (ap (λ l. kept_in l id) same ∙ is) (omega (arith, upto, cursor-kept))
+
+  pub from-behind : KeepsFromBase old mid.book.lazy → KeepsFromBase old new
+  from-behind keeps id h used is from upto = by (kept_in mid.book.lazy id) refl (keeps id h used is from upto)
+    where
+      by : (o : Option Kept) → kept_in mid.book.lazy id ≡ o → stored_in mid.book.lazy id ≡ stored_in old.book.lazy id → stored_in new id ≡ stored_in old.book.lazy id
+      by None e same = absurd (none-some (stored_parts h) (ap (option_map stored_parts) (sym e) ∙ same ∙ ap (option_map stored_parts) is))
+      by (Some g) e same =
+          let stored : Some (stored_parts g) ≡ Some (stored_parts h) = sym (ap (option_map stored_parts) e) ∙ same ∙ ap (option_map stored_parts) is in
+          let there : g.position ≡ h.position = ap (λ x. x.0) (same_Some (stored_parts g) (stored_parts h) stored) in
+          ap (option_map stored_parts) (behind id g e (omega (arith, there, upto, cursor-kept)) ∙ sym e) ∙ same
+
+  pub to-behind : base_of old ≤ old.book.lazy.line.cursor → ComeToBase old mid.book.lazy → ComeToBase old new
+  to-behind within come id h used is under = by (kept_in mid.book.lazy id) refl (come id h used is under)
+    where
+      by : (o : Option Kept) → kept_in mid.book.lazy id ≡ o → position_in mid.book.lazy id ≡ Some (base_of old) → position_in new id ≡ Some (base_of old)
+      by None e there = absurd (none-some (base_of old) (ap (option_map (λ (x : Kept). x.position)) (sym e) ∙ there))
+      by (Some g) e there =
+          let at_base : g.position ≡ base_of old = same_Some g.position (base_of old) (sym (ap (option_map (λ (x : Kept). x.position)) e) ∙ there) in
+          ap (option_map (λ (x : Kept). x.position)) (behind id g e (omega (arith, at_base, within, cursor-kept)) ∙ sym e) ∙ there

@@ -1,5 +1,5 @@
 // Changes of a session: each is a step, or part of the open batch, and ends what could be done again.
-ghost use Rattle.std.specs.Prelude.{◌≡◌, ◌==◌, ◌+◌, ◌<◌, OnOk, OnErr, IfOk, IsSome, option_map};
+ghost use Rattle.std.specs.Prelude.{◌≡◌, ◌==◌, ◌+◌, ◌<◌, true, false, OnOk, OnErr, IfOk, IsSome, option_map};
 ghost use Rattle.std.specs.List.{All};
 ghost use Rattle.cell_addr.specs.Place.{IsBlockInside, IsInside, covers};
 ghost use Rattle.cell_addr.specs.Sheets.{name_in};
@@ -26,11 +26,15 @@ use shift_core::Shift;
 use std::alloc::AllocError;
 
 impl Session {
-    ghost use Rattle.kept_steps.specs.Kept.{KeepsInUse};
-    ghost use Rattle.kept_steps.specs.Session.{state_of};
+    ghost use Rattle.kept_steps.specs.Kept.{ComeToBase, KeepsFromBase, KeepsInUse};
+    ghost use Rattle.kept_steps.specs.Session.{line_settled, settles, state_of};
 
-    /// Gives a cell the content that a text says. No other formula is touched. For want of memory the session is as it was. Costs
-    /// what [`kept_book::Book::fill`] does.
+    /// Gives a cell the content that a text says. No other formula of the session's workbooks is touched. For want of memory
+    /// the session is as it was. Costs what [`kept_book::Book::fill`] does.
+    ///
+    /// Where since the last time as many formulas came as were left then, and at least [`crate::LEAST_GROWTH`], those that
+    /// neither the workbook nor a step lists are dropped first. That costs the number of formulas, the filled cells, and what the
+    /// steps list.
     pub fn fill(&mut self, at: Place, text: &str) -> Result<(), AllocError>
         requires inside { IsInside at }
         ensures ok { OnOk result (state_of self.new ≡ changed (with_content at text.now (state_of self.old).book) (state_of self.old)) }
@@ -97,16 +101,26 @@ impl Session {
     }
 
     /// Does a structural operation: it goes on the line at the cursor, in place of those beyond it. A formula that is kept as of
-    /// a position up to the cursor isn't touched. For want of memory the session is as it was, though formulas that were kept
-    /// beyond the cursor may have come back to it. Costs what [`kept_book::Book::shift`] does.
+    /// a position up to the cursor isn't touched. Where at least [`crate::LEAST_SETTLED`] operations of the line lie before
+    /// the base, the oldest position on which a step or the open batch rests, they are forgotten first: formulas of the
+    /// session's workbooks that are kept as of a position before the base come to it, those that no workbook has may be
+    /// dropped, and no other one is touched. No other call forgets operations.
+    ///
+    /// For want of memory the session is as it was, though the line may have been settled, and formulas that were kept beyond
+    /// the cursor may have come back to it. Costs what [`kept_book::Book::shift`] does; where it settles, also the number of
+    /// formulas and the filled cells, what the steps list, and for each formula before the base the operations that it is
+    /// taken over, twice.
     pub fn structural(&mut self, s: &Shift) -> Result<(), AllocError>
         requires sound { IsSound s.now }
         requires inside { AreInside (state_of self.old).book.cells }
         ensures ok { OnOk result (state_of self.new ≡ changed (shifted s.now (state_of self.old).book) (state_of self.old)) }
         ensures err { OnErr result (state_of self.new ≡ state_of self.old) }
-        ensures line { OnOk result (self.new.book.lazy.line ≡ with_spare self.new.book.lazy.line.spare (pushed s.now self.old.book.lazy.line)) }
-        ensures kept { KeepsBehind self.old.book.lazy.line.cursor self.old.book.lazy self.new.book.lazy }
+        ensures line { OnOk result (self.new.book.lazy.line ≡ with_spare self.new.book.lazy.line.spare (pushed s.now (line_settled self.old))) }
+        ensures kept { settles self.old ≡ false → KeepsBehind self.old.book.lazy.line.cursor self.old.book.lazy self.new.book.lazy }
+        ensures from_base { KeepsFromBase self.old self.new.book.lazy }
+        ensures to_base { OnOk result (settles self.old ≡ true → ComeToBase self.old self.new.book.lazy) }
     {
+        self.settle_where_due()?;
         let room = room(self.book.alloc, &mut self.batch)?;
         let part = self.book.shift(&mut self.pool, s)?;
         note(&mut self.steps, &mut self.batch, room, part);

@@ -78,11 +78,7 @@ pub(crate) fn add_undone(ids: &mut IndexSet<u64>, steps: &[Entry]) -> Result<(),
 }
 
 // Adds the ids of the formulas that the parts list on one side.
-fn add_parts(
-    ids: &mut IndexSet<u64>,
-    side: Side,
-    parts: &[Part],
-) -> Result<(), AllocError>
+fn add_parts(ids: &mut IndexSet<u64>, side: Side, parts: &[Part]) -> Result<(), AllocError>
     ensures { OnOk result (Adds (flat_map (ids_on side) parts.now) ids.old ids.new) }
 {
     for part in parts {
@@ -130,11 +126,7 @@ fn formula_of(cell: &Cell) -> Option<u64>
 }
 
 // Adds the ids of the formulas that changes of names list on one side.
-fn add_names(
-    ids: &mut IndexSet<u64>,
-    side: Side,
-    changes: &[NameChange],
-) -> Result<(), AllocError>
+fn add_names(ids: &mut IndexSet<u64>, side: Side, changes: &[NameChange]) -> Result<(), AllocError>
     ensures { OnOk result (Adds (flat_map (λ c. option_to_list (id_on side c)) changes.now) ids.old ids.new) }
 {
     for change in changes {
