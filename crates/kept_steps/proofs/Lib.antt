@@ -10,3 +10,4 @@ mod Including
 mod ListedIds
 mod Swept
 mod Settled
+pub mod Unchanged

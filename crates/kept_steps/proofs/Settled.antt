@@ -13,7 +13,8 @@ use Rattle.lazy_store.specs.Standing.{Standing}
 use Rattle.lazy_store.specs.Store.{CanGoOn, GoOnTo, KeepsBehind, KeepsFrom, StandsAsBefore, StandsFrom, at_in, kept_in, position_in, stored_in}
 use Rattle.lazy_store.specs.declared.lazy.Lazy.{Lazy}
 use Rattle.name_table.specs.Named.{names_of, words_of}
-use Rattle.shift_line.specs.Track.{Track, forgotten, last, shift_at, with_spare}
+use Rattle.shift_core.specs.declared.shift.Shift.{Shift}
+use Rattle.shift_line.specs.Track.{Track, forgotten, last, pushed, shift_at, with_spare}
 use Rattle.undo_book.specs.History.{History}
 use Rattle.kept_book.specs.Change.{Change}
 use Rattle.kept_book.specs.Frame.{Frame}
@@ -27,7 +28,7 @@ use Rattle.kept_book.specs.Walk.{back_all, forth_all}
 use Rattle.kept_book.specs.declared.book.Book.{Book}
 use Rattle.kept_steps.specs.Fits.{AreSteps, Fits, changes_in, open_changes, session_of, start_of, steps_of}
 use Rattle.kept_steps.specs.InUse.{AheadHas, HasAny, HasFormula, PastHas}
-use Rattle.kept_steps.specs.Kept.{ComeToBase, KeepsFromBase}
+use Rattle.kept_steps.specs.Kept.{ComeToBase, GoesOn, KeepsAtShift, KeepsFromBase}
 use Rattle.kept_steps.specs.Session.{base_of, line_settled, settles}
 use Rattle.kept_steps.specs.Steps.{AreAhead, ArePast, oldest}
 use Rattle.kept_steps.specs.Timeline.{Agree, StandIn, Timeline, timeline_of}
@@ -308,10 +309,10 @@ module _ (old mid : Session) (new : Lazy) (behind : KeepsBehind mid.book.lazy.li
   cursor-kept : mid.book.lazy.line.cursor ≡ old.book.lazy.line.cursor
   cursor-kept = ap (λ l. l.cursor) line ∙ settled-cursor (settles old) (base_of old) old.book.lazy.line
 
-  pub behind-same : mid.book.lazy ≡ old.book.lazy → KeepsBehind old.book.lazy.line.cursor old.book.lazy new
+  behind-same : mid.book.lazy ≡ old.book.lazy → KeepsBehind old.book.lazy.line.cursor old.book.lazy new
   behind-same same id h is upto = behind id h (ap (λ l. kept_in l id) same ∙ is) (omega (arith, upto, cursor-kept))
 
-  pub from-behind : KeepsFromBase old mid.book.lazy → KeepsFromBase old new
+  from-behind : KeepsFromBase old mid.book.lazy → KeepsFromBase old new
   from-behind keeps id h used is from upto = by (kept_in mid.book.lazy id) refl (keeps id h used is from upto)
     where
       by : (o : Option Kept) → kept_in mid.book.lazy id ≡ o → stored_in mid.book.lazy id ≡ stored_in old.book.lazy id → stored_in new id ≡ stored_in old.book.lazy id
@@ -321,7 +322,7 @@ module _ (old mid : Session) (new : Lazy) (behind : KeepsBehind mid.book.lazy.li
           let there : g.position ≡ h.position = ap (λ x. x.0) (same_Some (stored_parts g) (stored_parts h) stored) in
           ap (option_map stored_parts) (behind id g e (omega (arith, there, upto, cursor-kept)) ∙ sym e) ∙ same
 
-  pub to-behind : base_of old ≤ old.book.lazy.line.cursor → ComeToBase old mid.book.lazy → ComeToBase old new
+  to-behind : base_of old ≤ old.book.lazy.line.cursor → ComeToBase old mid.book.lazy → ComeToBase old new
   to-behind within come id h used is under = by (kept_in mid.book.lazy id) refl (come id h used is under)
     where
       by : (o : Option Kept) → kept_in mid.book.lazy id ≡ o → position_in mid.book.lazy id ≡ Some (base_of old) → position_in new id ≡ Some (base_of old)
@@ -329,3 +330,10 @@ module _ (old mid : Session) (new : Lazy) (behind : KeepsBehind mid.book.lazy.li
       by (Some g) e there =
           let at_base : g.position ≡ base_of old = same_Some g.position (base_of old) (sym (ap (option_map (λ (x : Kept). x.position)) e) ∙ there) in
           ap (option_map (λ (x : Kept). x.position)) (behind id g e (omega (arith, at_base, within, cursor-kept)) ∙ sym e) ∙ there
+
+  -- all that an operation leaves
+  pub shift-keeps : (settles old ≡ false → mid.book.lazy ≡ old.book.lazy) → KeepsFromBase old mid.book.lazy → KeepsAtShift old new
+  shift-keeps same keeps = record { up_to_cursor = λ stays. behind-same (same stays); from_base = from-behind keeps }
+
+  pub shift-goes : (x : Shift) → new.line ≡ with_spare new.line.spare (pushed x mid.book.lazy.line) → base_of old ≤ old.book.lazy.line.cursor → (settles old ≡ true → ComeToBase old mid.book.lazy) → GoesOn x old new
+  shift-goes x goes within come = record { line = goes ∙ ap (λ l. with_spare new.line.spare (pushed x l)) line; to_base = λ yields. to-behind within (come yields) }

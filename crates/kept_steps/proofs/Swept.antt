@@ -71,9 +71,6 @@ module _ (old new : Book) (h : History Entry) (b : Option Entry) (s : Bool) (n :
       )
 
 -- a sweep, and a change behind it that keeps what was there
-pub kept-itself : (s : Session) → KeepsInUse s s.book.lazy
-kept-itself s = record { in_use = λ id l used. refl; others = λ id l. inl refl }
-
 pub kept-behind : (old mid : Session) (new : Lazy) → KeepsInUse old mid.book.lazy → mid.book.next_id ≡ old.book.next_id → KeepsBelow mid.book.next_id mid.book.lazy new → KeepsInUse old new
 kept-behind old mid new first same after = record {
   in_use = λ id l used. after id (subst (λ k. id < k) (sym same) l) ∙ first.in_use id l used;

@@ -1,10 +1,12 @@
 -- What calls of a session leave of the formulas that it keeps. Source: this project's own.
-use Rattle.std.specs.Prelude.{◌≡◌, ◌⊎◌, ℕ, ◌<◌, ◌≤◌, None, Some}
+use Rattle.std.specs.Prelude.{◌≡◌, ◌⊎◌, ℕ, ◌<◌, ◌≤◌, true, false, None, Some}
 use Rattle.lazy_store.specs.Kept.{Kept}
-use Rattle.lazy_store.specs.Store.{kept_in, position_in, stored_in}
+use Rattle.lazy_store.specs.Store.{KeepsBehind, kept_in, position_in, stored_in}
 use Rattle.lazy_store.specs.declared.lazy.Lazy.{Lazy}
+use Rattle.shift_core.specs.declared.shift.Shift.{Shift}
+use Rattle.shift_line.specs.Track.{pushed, with_spare}
 use Rattle.kept_steps.specs.InUse.{IsInUse}
-use Rattle.kept_steps.specs.Session.{base_of}
+use Rattle.kept_steps.specs.Session.{base_of, line_settled, settles}
 use Rattle.kept_steps.specs.declared.session.Session.{Session}
 
 -- each formula from before that a workbook of the session has is kept as it was; another one is, or is dropped
@@ -22,3 +24,15 @@ KeepsFromBase s new =
 -- and each that is kept as of an earlier position comes to the base
 abbrev pub ComeToBase : Session → Lazy → Type 0
 ComeToBase s new = (id : ℕ) (h : Kept) → IsInUse s id → kept_in s.book.lazy id ≡ Some h → h.position < base_of s → position_in new id ≡ Some (base_of s)
+
+-- what a structural change leaves of the formulas. Where it doesn't settle, each that is kept as of a position up to the
+-- cursor is kept as it was; where it does, each that a workbook of the session has stays so from the base on
+pub record KeepsAtShift (s : Session) (new : Lazy) : Type 0 where
+  pub up_to_cursor : settles s ≡ false → KeepsBehind s.book.lazy.line.cursor s.book.lazy new
+  pub from_base : KeepsFromBase s new
+
+-- how an operation goes on the line: at the cursor, in place of those beyond it; those before the base leave, where it settles
+-- first, and then the formulas from before the base are at it
+pub record GoesOn (x : Shift) (s : Session) (new : Lazy) : Type 0 where
+  pub line : new.line ≡ with_spare new.line.spare (pushed x (line_settled s))
+  pub to_base : settles s ≡ true → ComeToBase s new

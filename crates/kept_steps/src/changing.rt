@@ -1,15 +1,14 @@
 // Changes of a session: each is a step, or part of the open batch, and ends what could be done again.
-ghost use Rattle.std.specs.Prelude.{◌≡◌, ◌==◌, ◌+◌, ◌<◌, true, false, OnOk, OnErr, IfOk, IsSome, option_map};
+ghost use Rattle.std.specs.Prelude.{◌≡◌, ◌==◌, ◌+◌, ◌<◌, OnOk, OnErr, IfOk, IsSome, option_map};
 ghost use Rattle.std.specs.List.{All};
 ghost use Rattle.cell_addr.specs.Place.{IsBlockInside, IsInside, covers};
 ghost use Rattle.cell_addr.specs.Sheets.{name_in};
-ghost use Rattle.lazy_store.specs.Store.{KeepsBehind};
 ghost use Rattle.name_table.specs.Listed.{listed};
 ghost use Rattle.name_table.specs.SheetLists.{CanJoin, IsFree};
 ghost use Rattle.shift_core.specs.Carried as carrying;
 ghost use Rattle.shift_core.specs.Maps.{AreInside};
 ghost use Rattle.shift_core.specs.Sound.{IsSound};
-ghost use Rattle.shift_line.specs.Track.{pushed, with_spare};
+ghost use Rattle.shift_line.specs.Track.{with_spare};
 ghost use Rattle.book_values.specs.Names.{key_of};
 ghost use Rattle.book_model.specs.Changes.{emptied, renamed, shifted, with_content, with_copy, with_name, with_sheet};
 ghost use Rattle.book_model.specs.Session.{changed};
@@ -26,8 +25,8 @@ use shift_core::Shift;
 use std::alloc::AllocError;
 
 impl Session {
-    ghost use Rattle.kept_steps.specs.Kept.{ComeToBase, KeepsFromBase, KeepsInUse};
-    ghost use Rattle.kept_steps.specs.Session.{line_settled, settles, state_of};
+    ghost use Rattle.kept_steps.specs.Kept.{GoesOn, KeepsAtShift, KeepsInUse};
+    ghost use Rattle.kept_steps.specs.Session.{state_of};
 
     /// Gives a cell the content that a text says. No other formula of the session's workbooks is touched. For want of memory
     /// the session is as it was. Costs what [`kept_book::Book::fill`] does.
@@ -115,10 +114,8 @@ impl Session {
         requires inside { AreInside (state_of self.old).book.cells }
         ensures ok { OnOk result (state_of self.new ≡ changed (shifted s.now (state_of self.old).book) (state_of self.old)) }
         ensures err { OnErr result (state_of self.new ≡ state_of self.old) }
-        ensures line { OnOk result (self.new.book.lazy.line ≡ with_spare self.new.book.lazy.line.spare (pushed s.now (line_settled self.old))) }
-        ensures kept { settles self.old ≡ false → KeepsBehind self.old.book.lazy.line.cursor self.old.book.lazy self.new.book.lazy }
-        ensures from_base { KeepsFromBase self.old self.new.book.lazy }
-        ensures to_base { OnOk result (settles self.old ≡ true → ComeToBase self.old self.new.book.lazy) }
+        ensures line { OnOk result (GoesOn s.now self.old self.new.book.lazy) }
+        ensures kept { KeepsAtShift self.old self.new.book.lazy }
     {
         self.settle_where_due()?;
         let room = room(self.book.alloc, &mut self.batch)?;
