@@ -15,7 +15,7 @@ ghost use Rattle.book_model.specs.Workbook.{has_sheet};
 ghost use Rattle.book_model.specs.declared.limits.TheConstants.{MAX_CELLS};
 ghost use Rattle.book_model.specs.declared.refusal.Refusal.TheVariants as refusals;
 ghost use Rattle.kept_book.specs.Copied.{IsCopied, contents_copied};
-ghost use Rattle.kept_book.specs.Ids.{KeepsBelow};
+ghost use Rattle.kept_steps.specs.Kept.{KeepsInUse};
 ghost use Rattle.book_engine.specs.Engine.{NoAnswer};
 ghost use Rattle.book_engine.specs.Seen.{Fits, clip_of, state_of, with_clipboard};
 ghost use Rattle.book_engine.specs.internal.Pasting.{ArePlaces, place_pasted};
@@ -59,7 +59,7 @@ impl Parts {
         requires copied { All IsCopied cells.now }
         ensures turns { Turns (op.paste at) NoAnswer (with_clipboard (clipboard.copied area (contents_copied cells.now)) (state_of self.old)) (with_clipboard (clipboard.copied area (contents_copied cells.now)) (state_of self.new)) result }
         ensures fits { Fits self.new }
-        ensures kept { KeepsBelow self.old.session.book.next_id self.old.session.book.lazy self.new.session.book.lazy }
+        ensures kept { KeepsInUse self.old.session self.new.session.book.lazy }
     {
         self.check_paste(area, at)?;
         if self.filled_after(area, cells, at)? > MAX_CELLS {

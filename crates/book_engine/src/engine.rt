@@ -1,5 +1,5 @@
 // The engine, and its calls.
-ghost use Rattle.std.specs.Prelude.{◌≡◌, ◌≤◌, All, IfOk, length, option_map};
+ghost use Rattle.std.specs.Prelude.{◌≡◌, ◌≤◌, All, IfOk, OnOk, length, option_map};
 ghost use Rattle.cell_addr.specs.Sheets.{id_in, name_in};
 ghost use Rattle.shift_core.specs.declared.shift.Shift.TheVariants as shifts;
 ghost use Rattle.formula_tree.specs.Relative.{relative};
@@ -46,7 +46,7 @@ pub struct Engine<C> {
 #[tactic(auto, unfolding(crate::specs::Engine::StandsFor))]
 impl<C: Customs> Engine<C> {
     ghost use Rattle.book_engine.specs.Engine.{Does, DoesAlways, NoAnswer, StandsFor};
-    ghost use Rattle.book_engine.specs.Kept.{KeepsAll, KeepsAtPaste, KeepsEarlier, KeepsElsewhere, KeepsUpToCursor, book_kept, stored_by};
+    ghost use Rattle.book_engine.specs.Kept.{GoesOn, KeepsAll, KeepsAtPaste, KeepsAtShift, KeepsEarlier, KeepsElsewhere, KeepsInUse, book_kept, stored_by};
 
     /// The engine of a workbook with these sheets, numbered from 0 in their order, and these texts in their cells. All
     /// formulas are read when all sheets are there. At most `limit` steps can be undone, which is at most 1,000. Formulas
@@ -79,7 +79,7 @@ impl<C: Customs> Engine<C> {
     /// where more than 1,000,000 cells would be filled; the first that holds.
     pub fn set(&mut self, at: Place, text: &str) -> Result<(), Stop>
         ensures does { Does C.customs (op.set at text.now) NoAnswer self.old self.new result }
-        ensures kept { KeepsEarlier self.old self.new }
+        ensures kept { KeepsInUse self.old self.new }
     {
         self.parts.set(at, text)?;
         self.waiting.clear_cut();
@@ -102,7 +102,8 @@ impl<C: Customs> Engine<C> {
     // Does a structural operation, after which no block is cut.
     fn structural(&mut self, s: Shift) -> Result<(), Stop>
         ensures does { Does C.customs (op.structural s) NoAnswer self.old self.new result }
-        ensures kept { KeepsUpToCursor self.old self.new }
+        ensures line { OnOk result (GoesOn s self.old self.new) }
+        ensures kept { KeepsAtShift self.old self.new }
     {
         self.parts.structural(&s)?;
         self.waiting.clear_cut();
@@ -116,7 +117,8 @@ impl<C: Customs> Engine<C> {
     /// be pushed off the sheet.
     pub fn insert_rows(&mut self, sheet: u32, at: u32, count: u32) -> Result<(), Stop>
         ensures does { Does C.customs (op.structural (shifts.InsertRows sheet at count)) NoAnswer self.old self.new result }
-        ensures kept { KeepsUpToCursor self.old self.new }
+        ensures line { OnOk result (GoesOn (shifts.InsertRows sheet at count) self.old self.new) }
+        ensures kept { KeepsAtShift self.old self.new }
     {
         self.structural(Shift::InsertRows { sheet, at, count })
     }
@@ -127,7 +129,8 @@ impl<C: Customs> Engine<C> {
     /// `NoSheet`, `BadSpan` for no rows, `Outside` where the rows end behind the sheet.
     pub fn delete_rows(&mut self, sheet: u32, at: u32, count: u32) -> Result<(), Stop>
         ensures does { Does C.customs (op.structural (shifts.DeleteRows sheet at count)) NoAnswer self.old self.new result }
-        ensures kept { KeepsUpToCursor self.old self.new }
+        ensures line { OnOk result (GoesOn (shifts.DeleteRows sheet at count) self.old self.new) }
+        ensures kept { KeepsAtShift self.old self.new }
     {
         self.structural(Shift::DeleteRows { sheet, at, count })
     }
@@ -135,7 +138,8 @@ impl<C: Customs> Engine<C> {
     /// Puts so many columns before a column of the sheet. Its errors are those of [`Engine::insert_rows`].
     pub fn insert_cols(&mut self, sheet: u32, at: u32, count: u32) -> Result<(), Stop>
         ensures does { Does C.customs (op.structural (shifts.InsertCols sheet at count)) NoAnswer self.old self.new result }
-        ensures kept { KeepsUpToCursor self.old self.new }
+        ensures line { OnOk result (GoesOn (shifts.InsertCols sheet at count) self.old self.new) }
+        ensures kept { KeepsAtShift self.old self.new }
     {
         self.structural(Shift::InsertCols { sheet, at, count })
     }
@@ -143,7 +147,8 @@ impl<C: Customs> Engine<C> {
     /// Deletes so many columns of the sheet from a column on. Its errors are those of [`Engine::delete_rows`].
     pub fn delete_cols(&mut self, sheet: u32, at: u32, count: u32) -> Result<(), Stop>
         ensures does { Does C.customs (op.structural (shifts.DeleteCols sheet at count)) NoAnswer self.old self.new result }
-        ensures kept { KeepsUpToCursor self.old self.new }
+        ensures line { OnOk result (GoesOn (shifts.DeleteCols sheet at count) self.old self.new) }
+        ensures kept { KeepsAtShift self.old self.new }
     {
         self.structural(Shift::DeleteCols { sheet, at, count })
     }
@@ -155,7 +160,8 @@ impl<C: Customs> Engine<C> {
     /// `BadSpan` where they would stay.
     pub fn move_rows(&mut self, sheet: u32, from: u32, count: u32, before: u32) -> Result<(), Stop>
         ensures does { Does C.customs (op.structural (shifts.MoveRows sheet from count before)) NoAnswer self.old self.new result }
-        ensures kept { KeepsUpToCursor self.old self.new }
+        ensures line { OnOk result (GoesOn (shifts.MoveRows sheet from count before) self.old self.new) }
+        ensures kept { KeepsAtShift self.old self.new }
     {
         self.structural(Shift::MoveRows {
             sheet,
@@ -169,7 +175,8 @@ impl<C: Customs> Engine<C> {
     /// [`Engine::move_rows`].
     pub fn move_cols(&mut self, sheet: u32, from: u32, count: u32, before: u32) -> Result<(), Stop>
         ensures does { Does C.customs (op.structural (shifts.MoveCols sheet from count before)) NoAnswer self.old self.new result }
-        ensures kept { KeepsUpToCursor self.old self.new }
+        ensures line { OnOk result (GoesOn (shifts.MoveCols sheet from count before) self.old self.new) }
+        ensures kept { KeepsAtShift self.old self.new }
     {
         self.structural(Shift::MoveCols {
             sheet,
@@ -187,7 +194,8 @@ impl<C: Customs> Engine<C> {
     /// a sheet, `BadSpan` where they are the same.
     pub fn move_block(&mut self, source: Block, to: Place) -> Result<(), Stop>
         ensures does { Does C.customs (op.structural (shifts.MoveBlock source to)) NoAnswer self.old self.new result }
-        ensures kept { KeepsUpToCursor self.old self.new }
+        ensures line { OnOk result (GoesOn (shifts.MoveBlock source to) self.old self.new) }
+        ensures kept { KeepsAtShift self.old self.new }
     {
         self.structural(Shift::MoveBlock { source, to })
     }
@@ -212,7 +220,8 @@ impl<C: Customs> Engine<C> {
     /// `NoSheet`.
     pub fn drop_sheet(&mut self, sheet: u32) -> Result<(), Stop>
         ensures does { Does C.customs (op.structural (shifts.DropSheet sheet)) NoAnswer self.old self.new result }
-        ensures kept { KeepsUpToCursor self.old self.new }
+        ensures line { OnOk result (GoesOn (shifts.DropSheet sheet) self.old self.new) }
+        ensures kept { KeepsAtShift self.old self.new }
     {
         self.structural(Shift::DropSheet { sheet })
     }
@@ -253,7 +262,7 @@ impl<C: Customs> Engine<C> {
     /// sheet; the first that holds.
     pub fn add_name(&mut self, name: &str, scope: Option<u32>, text: &str) -> Result<(), Stop>
         ensures does { Does C.customs (op.add_name name.now scope text.now) NoAnswer self.old self.new result }
-        ensures kept { KeepsEarlier self.old self.new }
+        ensures kept { KeepsInUse self.old self.new }
     {
         self.parts.add_name(name, scope, text)?;
         self.waiting.clear_cut();
@@ -267,7 +276,7 @@ impl<C: Customs> Engine<C> {
     /// [`Engine::add_name`].
     pub fn change_name(&mut self, name: &str, scope: Option<u32>, text: &str) -> Result<(), Stop>
         ensures does { Does C.customs (op.change_name name.now scope text.now) NoAnswer self.old self.new result }
-        ensures kept { KeepsEarlier self.old self.new }
+        ensures kept { KeepsInUse self.old self.new }
     {
         self.parts.change_name(name, scope, text)?;
         self.waiting.clear_cut();
@@ -280,7 +289,7 @@ impl<C: Customs> Engine<C> {
     /// `NoSheet`, `NoSuchName`.
     pub fn remove_name(&mut self, name: &str, scope: Option<u32>) -> Result<(), Stop>
         ensures does { Does C.customs (op.remove_name name.now scope) NoAnswer self.old self.new result }
-        ensures kept { KeepsEarlier self.old self.new }
+        ensures kept { KeepsInUse self.old self.new }
     {
         self.parts.remove_name(name, scope)?;
         self.waiting.clear_cut();

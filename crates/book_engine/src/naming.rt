@@ -10,7 +10,7 @@ ghost use Rattle.book_model.specs.Content.{tree_given};
 ghost use Rattle.book_model.specs.Operation as op;
 ghost use Rattle.book_model.specs.Refusals.{first_cause, of_name_text, of_tried_text};
 ghost use Rattle.kept_book.specs.Formula.{tree_in_scope};
-ghost use Rattle.kept_book.specs.Ids.{KeepsBelow};
+ghost use Rattle.kept_steps.specs.Kept.{KeepsInUse};
 ghost use Rattle.book_engine.specs.Engine.{NoAnswer};
 ghost use Rattle.book_engine.specs.Seen.{Fits, state_of};
 ghost use Rattle.book_engine.specs.internal.Names.{Reads};
@@ -38,7 +38,7 @@ impl Parts {
         requires { Fits self.old }
         ensures turns { Turns (op.add_name name.now scope text.now) NoAnswer (state_of self.old) (state_of self.new) result }
         ensures fits { Fits self.new }
-        ensures kept { KeepsBelow self.old.session.book.next_id self.old.session.book.lazy self.new.session.book.lazy }
+        ensures kept { KeepsInUse self.old.session self.new.session.book.lazy }
     {
         self.check_new_name(name, scope)?;
         let Session { pool, book, .. } = &mut self.session;
@@ -57,7 +57,7 @@ impl Parts {
         requires { Fits self.old }
         ensures turns { Turns (op.change_name name.now scope text.now) NoAnswer (state_of self.old) (state_of self.new) result }
         ensures fits { Fits self.new }
-        ensures kept { KeepsBelow self.old.session.book.next_id self.old.session.book.lazy self.new.session.book.lazy }
+        ensures kept { KeepsInUse self.old.session self.new.session.book.lazy }
     {
         self.check_known_name(name, scope)?;
         let Session { pool, book, .. } = &mut self.session;
@@ -71,7 +71,7 @@ impl Parts {
         requires { Fits self.old }
         ensures turns { Turns (op.remove_name name.now scope) NoAnswer (state_of self.old) (state_of self.new) result }
         ensures fits { Fits self.new }
-        ensures kept { KeepsBelow self.old.session.book.next_id self.old.session.book.lazy self.new.session.book.lazy }
+        ensures kept { KeepsInUse self.old.session self.new.session.book.lazy }
     {
         self.check_known_name(name, scope)?;
         self.session.name(scope, name, None)?;

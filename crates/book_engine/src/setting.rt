@@ -1,6 +1,7 @@
 // Cells that are filled and emptied.
 ghost use Rattle.book_model.specs.Operation as op;
 ghost use Rattle.kept_book.specs.Ids.{KeepsBelow};
+ghost use Rattle.kept_steps.specs.Kept.{KeepsInUse};
 ghost use Rattle.book_engine.specs.Engine.{NoAnswer};
 ghost use Rattle.book_engine.specs.Seen.{Fits, state_of};
 ghost use Rattle.book_engine.specs.internal.Turns.{Turns};
@@ -15,7 +16,7 @@ impl Parts {
         requires { Fits self.old }
         ensures turns { Turns (op.set at text.now) NoAnswer (state_of self.old) (state_of self.new) result }
         ensures fits { Fits self.new }
-        ensures kept { KeepsBelow self.old.session.book.next_id self.old.session.book.lazy self.new.session.book.lazy }
+        ensures kept { KeepsInUse self.old.session self.new.session.book.lazy }
     {
         self.check_set(at, text)?;
         self.session.fill(at, text)?;

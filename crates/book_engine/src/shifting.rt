@@ -1,6 +1,7 @@
 // Structural operations.
+ghost use Rattle.std.specs.Prelude.{OnOk};
 ghost use Rattle.book_model.specs.Operation as op;
-ghost use Rattle.lazy_store.specs.Store.{KeepsBehind};
+ghost use Rattle.kept_steps.specs.Kept.{GoesOn, KeepsAtShift};
 ghost use Rattle.book_engine.specs.Engine.{NoAnswer};
 ghost use Rattle.book_engine.specs.Seen.{Fits, state_of};
 ghost use Rattle.book_engine.specs.internal.Turns.{Turns};
@@ -15,7 +16,8 @@ impl Parts {
         requires { Fits self.old }
         ensures turns { Turns (op.structural s.now) NoAnswer (state_of self.old) (state_of self.new) result }
         ensures fits { Fits self.new }
-        ensures kept { KeepsBehind self.old.session.book.lazy.line.cursor self.old.session.book.lazy self.new.session.book.lazy }
+        ensures line { OnOk result (GoesOn s.now self.old.session self.new.session.book.lazy) }
+        ensures kept { KeepsAtShift self.old.session self.new.session.book.lazy }
     {
         self.check_structural(s)?;
         self.session.structural(s)?;

@@ -1,6 +1,6 @@
--- Where two timelines agree between two positions, the steps between them and the workbooks that these lead to are the
--- same. Serves all changes: what is past stays.
-use Rattle.std.proofs.Common.{◌≡◌, ◌∙◌, sym, ap, subst, refl, arith, ℕ, zero, suc, ◌<◌, ◌≤◌, Bool, true, false, cond, nat_lt, List, [], ◌∷◌, length, Option, Some, None, option_map}
+-- Where two timelines agree on some formulas between two positions, steps between them whose frames have these formulas alone
+-- are the same, and so are the workbooks that they lead to. Serves all changes: what is past stays.
+use Rattle.std.proofs.Common.{◌≡◌, ◌∙◌, sym, ap, subst, refl, arith, inl, inr, ℕ, zero, suc, ◌<◌, ◌≤◌, Bool, true, false, cond, nat_lt, List, [], ◌∷◌, length, Option, Some, None, option_map}
 use Rattle.std.specs.Prelude.{slice_get, option_and_then}
 use Rattle.std.specs.FinMap as fin
 use Rattle.std.specs.FinMap.{same_map}
@@ -17,6 +17,7 @@ use Rattle.kept_book.specs.Frame.{Frame, IsNamed, Words, home_at, name_seen, nam
 use Rattle.kept_book.specs.Kept.{IsMore}
 use Rattle.kept_book.specs.Stored.{StandsAt, contents_of}
 use Rattle.kept_book.specs.Walk.{back_all, forth_all}
+use Rattle.kept_steps.specs.InUse.{AheadHas, HasFormula, PastHas}
 use Rattle.kept_steps.specs.Steps.{AllLeadOn, AllLedHere, AreAhead, ArePast, LeadsOn, LedHere, SameFrame, books_ahead, books_past, furthest, oldest}
 use Rattle.kept_steps.specs.Timeline.{Agree, StandIn, Timeline, book_in}
 use Rattle.kept_steps.proofs.Entries.{each_entry, filter_map_same}
@@ -45,11 +46,11 @@ known_more words more [] m h = tt
 known_more words more (c ∷ cs) m h = (word_known words more c.0.word m h.0, known_more words more cs m h.1)
 
 -- the standing of what stands somewhere
-standing_of : (r : Option Standing) (h : Home) → option_map (λ (x : Standing). x.home) r ≡ Some h → (x : Standing) × (r ≡ Some x)
+pub standing_of : (r : Option Standing) (h : Home) → option_map (λ (x : Standing). x.home) r ≡ Some h → (x : Standing) × (r ≡ Some x)
 standing_of None h e = cc
 standing_of (Some x) h e = (x, refl)
 
-standing_under : (r : Option Standing) (p : Place) → option_map (λ f. f.0) (option_and_then stood_of r) ≡ Some p → (x : Standing) × (r ≡ Some x)
+pub standing_under : (r : Option Standing) (p : Place) → option_map (λ f. f.0) (option_and_then stood_of r) ≡ Some p → (x : Standing) × (r ≡ Some x)
 standing_under None p e = cc
 standing_under (Some x) p e = (x, refl)
 
@@ -68,7 +69,7 @@ furthest_last t f (e ∷ es) ahead =
     let one = further t e f ahead.0 in
     omega (arith, rest, one)
 
-module _ (low high : ℕ) (t u : Timeline) (a : Agree low high t u) where
+module _ (among : ℕ → Type 0) (low high : ℕ) (t u : Timeline) (a : Agree among low high t u) where
   shift_same : (c : Change) → low ≤ c.from → c.to ≤ high → shift_of u.line c ≡ shift_of t.line c
   shift_same c l h = go (nat_lt c.from c.to) refl
     where
@@ -148,72 +149,74 @@ module _ (low high : ℕ) (t u : Timeline) (a : Agree low high t u) where
 
   -- ---- what a frame shows
 
-  at_same : (id j : ℕ) (h : Home) → low ≤ j → j ≤ high → home_at t.at j id ≡ Some h → u.at id j ≡ t.at id j
-  at_same id j h l e some = let x = standing_of (t.at id j) h some in a.at id j x.0 l e x.1 ∙ sym x.1
+  at_same : (id j : ℕ) (h : Home) → among id → low ≤ j → j ≤ high → home_at t.at j id ≡ Some h → u.at id j ≡ t.at id j
+  at_same id j h one l e some = let x = standing_of (t.at id j) h some in a.at id j x.0 one l e x.1 ∙ sym x.1
 
-  number_same : (id j : ℕ) (p : Place) → low ≤ j → j ≤ high → StandsAt (numbered_at t.at j) id p → numbered_at u.at j id ≡ numbered_at t.at j id
-  number_same id j p l h some =
+  number_same : (id j : ℕ) (p : Place) → among id → low ≤ j → j ≤ high → StandsAt (numbered_at t.at j) id p → numbered_at u.at j id ≡ numbered_at t.at j id
+  number_same id j p one l h some =
       let x = standing_under (t.at id j) p some in
-      ap (option_and_then stood_of) (a.at id j x.0 l h x.1 ∙ sym x.1)
+      ap (option_and_then stood_of) (a.at id j x.0 one l h x.1 ∙ sym x.1)
 
-  name_same : (j : ℕ) (key : NameKey) (id : ℕ) → low ≤ j → j ≤ high → IsNamed t.at t.words j key id
+  name_same : (j : ℕ) (key : NameKey) (id : ℕ) → among id → low ≤ j → j ≤ high → IsNamed t.at t.words j key id
       → name_seen u.words (named_at u.at j) (key, id) ≡ name_seen t.words (named_at t.at j) (key, id)
-  name_same j key id l h named =
+  name_same j key id one l h named =
       let word = word_same t.words u.words key.word a.words named.known in
-      let tree = ap tree_named (at_same id j _ l h named.home) in
+      let tree = ap tree_named (at_same id j _ one l h named.home) in
       λ i. option_map (λ w. (record { scope = key.scope; word = w }, tree i)) (word i)
 
-  pub stand_same : (f : Frame) → low ≤ f.position → f.position ≤ high → StandIn t f → StandIn u f
-  stand_same f l h s = record {
-    cells = λ p n e. ap (option_map (λ x. x.0)) (number_same n f.position p l h (s.cells p n e)) ∙ s.cells p n e;
+  pub stand_same : (f : Frame) → ((id : ℕ) → HasFormula f id → among id) → low ≤ f.position → f.position ≤ high → StandIn t f → StandIn u f
+  stand_same f all l h s = record {
+    cells = λ p n e. ap (option_map (λ x. x.0)) (number_same n f.position p (all n (inl (p, e))) l h (s.cells p n e)) ∙ s.cells p n e;
     names = λ key id e.
         let named = s.names key id e in
-        record { known = word_known t.words u.words key.word a.words named.known; home = ap (option_map (λ (x : Standing). x.home)) (at_same id f.position _ l h named.home) ∙ named.home };
+        record { known = word_known t.words u.words key.word a.words named.known; home = ap (option_map (λ (x : Standing). x.home)) (at_same id f.position _ (all id (inr (key, e))) l h named.home) ∙ named.home };
   }
 
-  pub book_same : (f : Frame) → low ≤ f.position → f.position ≤ high → StandIn t f → book_in u f ≡ book_in t f
-  book_same f l h s =
+  pub book_same : (f : Frame) → ((id : ℕ) → HasFormula f id → among id) → low ≤ f.position → f.position ≤ high → StandIn t f → book_in u f ≡ book_in t f
+  book_same f all l h s =
       let one = numbered_at t.at f.position in
       let two = numbered_at u.at f.position in
       let cells : contents_of two f.cells ≡ contents_of one f.cells = same_map place_cmp-IsTotalOrder place_cmp-IsAntisymmetric _ _ (λ p.
       get-contents two f.cells p
-      ∙ content_same one two (fin.get f.cells p) (λ n e. number_same n f.position p l h (s.cells p n e))
+      ∙ content_same one two (fin.get f.cells p) (λ n e. number_same n f.position p (all n (inl (p, e))) l h (s.cells p n e))
       ∙ sym (get-contents one f.cells p)) in
-      let entries = each_entry key_cmp-IsTotalOrder (λ e. name_seen u.words (named_at u.at f.position) e ≡ name_seen t.words (named_at t.at f.position) e) f.names (λ key id e. name_same f.position key id l h (s.names key id e)) in
+      let entries = each_entry key_cmp-IsTotalOrder (λ e. name_seen u.words (named_at u.at f.position) e ≡ name_seen t.words (named_at t.at f.position) e) f.names (λ key id e. name_same f.position key id (all id (inr (key, e))) l h (s.names key id e)) in
       let names : names_seen u.words (named_at u.at f.position) f.names ≡ names_seen t.words (named_at t.at f.position) f.names =
       ap fin.from_entries (filter_map_same (name_seen u.words (named_at u.at f.position)) (name_seen t.words (named_at t.at f.position)) (fin.entries f.names) entries) in
       λ i. record { sheets = f.sheets; cells = cells i; names = names i }
 
   -- ---- steps
 
-  pub past_same : (f : Frame) (es : List (List Change)) → low ≤ (oldest t f es).position → f.position ≤ high → ArePast t f es
+  pub past_same : (f : Frame) (es : List (List Change)) → ((id : ℕ) → PastHas t f es id → among id) → low ≤ (oldest t f es).position → f.position ≤ high → ArePast t f es
       → ArePast u f es × (books_past u f es ≡ books_past t f es) × (oldest u f es ≡ oldest t f es)
-  past_same f [] l h past = (tt, refl, refl)
-  past_same f (e ∷ es) l h past =
+  past_same f [] all l h past = (tt, refl, refl)
+  past_same f (e ∷ es) all l h past =
+      let here : (id : ℕ) → HasFormula (back_all t.line e f) id → among id = λ id x. all id (inl x) in
       let g = back_all t.line e f in
       let upto = earlier t e f past.0 in
       let low_g = oldest_first t g es past.2 in
       let start : low ≤ g.position = omega (arith, low_g, l) in
       let end : g.position ≤ high = omega (arith, upto, h) in
       let step = all_led_same e f start h past.0 in
-      let rest = past_same g es l end past.2 in (
-        (step.0, subst (StandIn u) (sym step.1) (stand_same g start end past.1), subst (λ x. ArePast u x es) (sym step.1) rest.0),
-        ap (λ x. book_in u x ∷ books_past u x es) step.1 ∙ (λ i. book_same g start end past.1 i ∷ rest.1 i),
+      let rest = past_same g es (λ id x. all id (inr x)) l end past.2 in (
+        (step.0, subst (StandIn u) (sym step.1) (stand_same g here start end past.1), subst (λ x. ArePast u x es) (sym step.1) rest.0),
+        ap (λ x. book_in u x ∷ books_past u x es) step.1 ∙ (λ i. book_same g here start end past.1 i ∷ rest.1 i),
         ap (λ x. oldest u x es) step.1 ∙ rest.2,
       )
 
-  pub ahead_same : (f : Frame) (es : List (List Change)) → low ≤ f.position → (furthest t f es).position ≤ high → AreAhead t f es
+  pub ahead_same : (f : Frame) (es : List (List Change)) → ((id : ℕ) → AheadHas t f es id → among id) → low ≤ f.position → (furthest t f es).position ≤ high → AreAhead t f es
       → AreAhead u f es × (books_ahead u f es ≡ books_ahead t f es) × (furthest u f es ≡ furthest t f es)
-  ahead_same f [] l h ahead = (tt, refl, refl)
-  ahead_same f (e ∷ es) l h ahead =
+  ahead_same f [] all l h ahead = (tt, refl, refl)
+  ahead_same f (e ∷ es) all l h ahead =
+      let here : (id : ℕ) → HasFormula (forth_all t.line e f) id → among id = λ id x. all id (inl x) in
       let g = forth_all t.line e f in
       let upto = further t e f ahead.0 in
       let high_g = furthest_last t g es ahead.2 in
       let start : low ≤ g.position = omega (arith, upto, l) in
       let end : g.position ≤ high = omega (arith, high_g, h) in
       let step = all_lead_same e f l end ahead.0 in
-      let rest = ahead_same g es start h ahead.2 in (
-        (step.0, subst (StandIn u) (sym step.1) (stand_same g start end ahead.1), subst (λ x. AreAhead u x es) (sym step.1) rest.0),
-        ap (λ x. book_in u x ∷ books_ahead u x es) step.1 ∙ (λ i. book_same g start end ahead.1 i ∷ rest.1 i),
+      let rest = ahead_same g es (λ id x. all id (inr x)) start h ahead.2 in (
+        (step.0, subst (StandIn u) (sym step.1) (stand_same g here start end ahead.1), subst (λ x. AreAhead u x es) (sym step.1) rest.0),
+        ap (λ x. book_in u x ∷ books_ahead u x es) step.1 ∙ (λ i. book_same g here start end ahead.1 i ∷ rest.1 i),
         ap (λ x. furthest u x es) step.1 ∙ rest.2,
       )

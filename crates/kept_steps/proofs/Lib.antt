@@ -6,3 +6,8 @@ mod Lists
 mod Sessions
 mod Outcomes
 mod Turning
+mod Including
+mod ListedIds
+mod Swept
+mod Settled
+pub mod Unchanged

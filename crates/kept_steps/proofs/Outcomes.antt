@@ -14,14 +14,14 @@ use Rattle.kept_steps.specs.Timeline.{Agree, timeline_of}
 use Rattle.kept_steps.specs.declared.entry.Entry.{Entry}
 use Rattle.kept_steps.specs.internal.Noted.{Notes, SameBatch}
 use Rattle.kept_steps.proofs.Agreeing.{furthest_last, oldest_first}
-use Rattle.kept_steps.proofs.Sessions.{noted, stays}
+use Rattle.kept_steps.proofs.Sessions.{any_formula, noted, stays}
 use Rattle.kept_steps.proofs.Walks.{earlier}
 
 -- the same workbook is on the same line
-same_line : (old new : Book) → SameBook old new → (high : ℕ) → Agree 0 high (timeline_of old) (timeline_of new)
+same_line : (old new : Book) → SameBook old new → (high : ℕ) → Agree any_formula 0 high (timeline_of old) (timeline_of new)
 same_line old new same high = record {
   line = λ j l h. ap (λ t. shift_at t j) same.line;
-  at = λ id j x l h e. same.standings id j ∙ e;
+  at = λ id j x any l h e. same.standings id j ∙ e;
   words = same.known;
 }
 
@@ -54,9 +54,9 @@ pub made : (old new : Book) (h h2 : History Entry) (b room b2 : Option Entry) (s
 made old new h h2 b room b2 s n c fits batch makes notes first top =
     let t = timeline_of old in
     let u = timeline_of new in
-    let agree : Agree 0 (frame_of old).position t u = record {
+    let agree : Agree any_formula 0 (frame_of old).position t u = record {
       line = λ j l k. makes.keeps.below j k;
-      at = λ id j x l k e. makes.keeps.stays id j x k e;
+      at = λ id j x any l k e. makes.keeps.stays id j x k e;
       words = makes.keeps.known;
     } in
     let ready = unchanged old old h b room s n fits (itself old) batch in

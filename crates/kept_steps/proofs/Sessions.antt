@@ -1,6 +1,7 @@
 -- The session after a call: where a change was noted, where nothing changed, after a step back or forth, and where a batch
 -- begins or is closed. Serves all calls of sessions.
-use Rattle.std.proofs.Common.{pos, ◌≡◌, ◌∙◌, sym, ap, subst, refl, arith, ℕ, ◌≤◌, ◌-◌, Bool, true, false, if◌then◌else◌, List, [], ◌∷◌, ◌++◌, length, take, Option, Some, None, option_map}
+use Rattle.std.proofs.Common.{pos, ◌≡◌, ◌∙◌, sym, ap, subst, refl, arith, inl, inr, ℕ, ◌≤◌, ◌-◌, Bool, true, false, if◌then◌else◌, List, [], ◌∷◌, ◌++◌, length, take, Option, Some, None, option_map}
+use Rattle.std.specs.Prelude.{⊤}
 use Rattle.undo_book.specs.History.{History, last_of, stepped_back, stepped_forward}
 use Rattle.undo_book.proofs.LastEntries.{all_but_last-end, last_of-end}
 use Rattle.book_model.specs.Clipboard.{nothing}
@@ -11,11 +12,12 @@ use Rattle.kept_book.specs.Frame.{Frame}
 use Rattle.kept_book.specs.Kept.{changes_of}
 use Rattle.kept_book.specs.Walk.{back_all, forth_all}
 use Rattle.kept_steps.specs.Fits.{AreSteps, batch_of, changes_in, has_any, open_changes, session_of, start_of, steps_of}
+use Rattle.kept_steps.specs.InUse.{AheadHas, HasAny, HasFormula, PastHas}
 use Rattle.kept_steps.specs.Steps.{AllLedHere, AreAhead, ArePast, books_ahead, books_past, furthest, oldest}
 use Rattle.kept_steps.specs.Timeline.{Agree, StandIn, Timeline, book_in}
 use Rattle.kept_steps.specs.declared.entry.Entry.{Entry}
 use Rattle.kept_steps.specs.internal.Noted.{Adds, Closes, ClosesWith, Notes, SameBatch, SameSteps}
-use Rattle.kept_steps.proofs.Agreeing.{ahead_same, all_led_same, book_same, furthest_last, past_same, stand_same}
+use Rattle.kept_steps.proofs.Agreeing.{ahead_same, all_led_same, book_same, furthest_last, oldest_first, past_same, stand_same}
 use Rattle.kept_steps.proofs.Lists.{books_taken, oldest_taken, past_taken, steps_end, steps_pushed}
 use Rattle.kept_steps.proofs.Walks.{all_lead, all_led, earlier, led, led_more, leads_here, leads_on}
 
@@ -23,13 +25,17 @@ use Rattle.kept_steps.proofs.Walks.{all_lead, all_led, earlier, led, led_more, l
 abbrev pub Becomes : Timeline → ℕ → ℕ → Frame → History Entry → Option Entry → Bool → ℕ → State → Type 0
 Becomes u first end g h b s n after = AreSteps u first end g h b × (session_of u g h b s n ≡ after)
 
+-- every formula
+abbrev pub any_formula : ℕ → Type 0
+any_formula id = ⊤
+
 has-append : (cs : List Change) (c : Change) → has_any (cs ++ c ∷ []) ≡ true
 has-append [] c = refl
 has-append (d ∷ cs) c = refl
 
 -- ---- a change is noted
 
-module _ (t u : Timeline) (first end was : ℕ) (f g : Frame) (c : Change) (agree : Agree 0 f.position t u) (joins : Joins u.line u.words c f g) (stand : StandIn u g) (s : Bool) (n : ℕ) where
+module _ (t u : Timeline) (first end was : ℕ) (f g : Frame) (c : Change) (agree : Agree any_formula 0 f.position t u) (joins : Joins u.line u.words c f g) (stand : StandIn u g) (s : Bool) (n : ℕ) where
   at_end : (x : ℕ) → 0 ≤ x
   at_end x = omega arith
 
@@ -43,11 +49,11 @@ module _ (t u : Timeline) (first end was : ℕ) (f g : Frame) (c : Change) (agre
       → Becomes u first end g h2 None s n (changed (book_in u g) (session_of t f h None s n))
   noted_alone h h2 fits adds top =
       let es = steps_of h.done in
-      let past = past_same 0 f.position t u agree f es (at_end _) within fits.past in
+      let past = past_same any_formula 0 f.position t u agree f es (λ id x. tt) (at_end _) within fits.past in
       let pushed : steps_of h2.done ≡ take h.limit ((c ∷ []) ∷ es) = ap steps_of adds.2 ∙ steps_pushed h.limit h.done adds.0 ∙ ap (λ cs. take h.limit (cs ∷ es)) adds.1 in
       let none : steps_of h2.undone ≡ [] = ap steps_of adds.3 in
-      let shown : book_in u f ≡ book_in t f = book_same 0 f.position t u agree f (at_end _) within fits.stand in
-      let long : ArePast u g ((c ∷ []) ∷ es) = (here, subst (StandIn u) (sym joins.before) (stand_same 0 f.position t u agree f (at_end _) within fits.stand), subst (λ x. ArePast u x es) (sym joins.before) past.0) in
+      let shown : book_in u f ≡ book_in t f = book_same any_formula 0 f.position t u agree f (λ id x. tt) (at_end _) within fits.stand in
+      let long : ArePast u g ((c ∷ []) ∷ es) = (here, subst (StandIn u) (sym joins.before) (stand_same any_formula 0 f.position t u agree f (λ id x. tt) (at_end _) within fits.stand), subst (λ x. ArePast u x es) (sym joins.before) past.0) in
       let books : books_past u g ((c ∷ []) ∷ es) ≡ book_in t f ∷ books_past t f es =
       ap (λ x. book_in u x ∷ books_past u x es) joins.before ∙ (λ i. shown i ∷ past.1 i) in
       let start : (oldest u g ((c ∷ []) ∷ es)).position ≡ (oldest t f es).position = ap (λ x. (oldest u x es).position) joins.before ∙ ap (λ (x : Frame). x.position) past.2 in
@@ -84,11 +90,11 @@ module _ (t u : Timeline) (first end was : ℕ) (f g : Frame) (c : Change) (agre
       let cs = changes_in b in
       let x = back_all t.line cs f in
       let upto = earlier t cs f fits.led in
-      let begun_steps = all_led_same 0 f.position t u agree cs f (at_end _) within fits.led in
+      let begun_steps = all_led_same any_formula 0 f.position t u agree cs f (at_end _) within fits.led in
       let more = led_more u cs c f g begun_steps.0 joins in
       let back : back_all u.line (changes_in b2) g ≡ x = ap (λ l. back_all u.line l g) grown ∙ more.1 ∙ begun_steps.1 in
-      let past = past_same 0 f.position t u agree x es (at_end _) upto fits.past in
-      let shown : book_in u x ≡ book_in t x = book_same 0 f.position t u agree x (at_end _) upto fits.start in
+      let past = past_same any_formula 0 f.position t u agree x es (λ id y. tt) (at_end _) upto fits.past in
+      let shown : book_in u x ≡ book_in t x = book_same any_formula 0 f.position t u agree x (λ id y. tt) (at_end _) upto fits.start in
       let kept : steps_of h2.done ≡ es = ap steps_of done in
       let none : steps_of h2.undone ≡ [] = ap steps_of undone in
       let any : has_any (changes_in b2) ≡ true = ap has_any grown ∙ has-append cs c in
@@ -98,7 +104,7 @@ module _ (t u : Timeline) (first end was : ℕ) (f g : Frame) (c : Change) (agre
         record {
           stand = stand;
           led = subst (λ l. AllLedHere u l g) (sym grown) more.0;
-          start = subst (StandIn u) (sym back) (stand_same 0 f.position t u agree x (at_end _) upto fits.start);
+          start = subst (StandIn u) (sym back) (stand_same any_formula 0 f.position t u agree x (λ id y. tt) (at_end _) upto fits.start);
           past = subst (λ y. ArePast u y (steps_of h2.done)) (sym back) (subst (ArePast u x) (sym kept) past.0);
           ahead = subst (AreAhead u g) (sym none) tt;
           base = omega (arith, start, base);
@@ -141,37 +147,44 @@ batch_same t u f (Some b) b2 same shown start =
     let there : back_all u.line (changes_in same.0) f ≡ back_all t.line (changes_in b) f = ap (λ o. start_of u o f) (sym same.1) ∙ start in
     ap (option_map (batch_of u f)) same.1 ∙ (λ i. Some (record { start = (ap (book_in u) there ∙ shown) i; changed = has_any (changes i) }))
 
-pub stays : (t u : Timeline) (first end : ℕ) (f : Frame) (h : History Entry) (b b2 : Option Entry) (s : Bool) (n : ℕ) → ((high : ℕ) → Agree 0 high t u) → AreSteps t first end f h b → SameBatch b b2
+-- so it is where what is in use stays from the base on, and the line begins at the base or before
+pub stays_in_use : (among : ℕ → Type 0) (low : ℕ) (t u : Timeline) (was first end : ℕ) (f : Frame) (h : History Entry) (b b2 : Option Entry) (s : Bool) (n : ℕ) → ((high : ℕ) → Agree among low high t u) → AreSteps t was end f h b
+    → ((id : ℕ) → HasAny t f h b id → among id) → low ≤ (oldest t (start_of t b f) (steps_of h.done)).position → first ≤ (oldest t (start_of t b f) (steps_of h.done)).position → SameBatch b b2
     → Becomes u first end f h b2 s n (session_of t f h b s n)
-stays t u first end f h b b2 s n agree fits same =
+stays_in_use among low t u was first end f h b b2 s n agree fits all under from same =
     let es = steps_of h.done in
     let us = steps_of h.undone in
     let cs = open_changes b in
     let x = start_of t b f in
-    let zero_first : (k : ℕ) → 0 ≤ k = λ k. omega arith in
     let now : f.position ≤ f.position = omega arith in
     let upto = earlier t cs f fits.led in
+    let behind = oldest_first t x es fits.past in
+    let low_start : low ≤ x.position = omega (arith, under, behind) in
+    let low_now : low ≤ f.position = omega (arith, low_start, upto) in
+    let past_all : (id : ℕ) → PastHas t x es id → among id = λ id y. all id (inr (inl y)) in
+    let ahead_all : (id : ℕ) → AheadHas t f us id → among id = λ id y. all id (inr (inr y)) in
+    let now_all : (id : ℕ) → HasFormula f id → among id = λ id y. all id (inl (inl y)) in
+    let start_all : (id : ℕ) → HasFormula x id → among id = λ id y. all id (inl (inr y)) in
     let a = agree f.position in
     let same_open = open_same b b2 same in
-    let led = all_led_same 0 f.position t u a cs f (zero_first _) now fits.led in
+    let led = all_led_same among low f.position t u a cs f low_start now fits.led in
     let start : start_of u b2 f ≡ x = ap (λ l. back_all u.line l f) same_open ∙ led.1 in
-    let past = past_same 0 f.position t u a x es (zero_first _) upto fits.past in
+    let past = past_same among low f.position t u a x es past_all under upto fits.past in
     let high = (furthest t f us).position in
     let last : high ≤ high = omega arith in
-    let ahead = ahead_same 0 high t u (agree high) f us (zero_first _) last fits.ahead in
-    let shown = book_same 0 f.position t u a f (zero_first _) now fits.stand in
-    let begun = book_same 0 f.position t u a x (zero_first _) upto fits.start in
+    let ahead = ahead_same among low high t u (agree high) f us ahead_all low_now last fits.ahead in
+    let shown = book_same among low f.position t u a f now_all low_now now fits.stand in
+    let begun = book_same among low f.position t u a x start_all low_start upto fits.start in
     let oldest_is : (oldest u (start_of u b2 f) es).position ≡ (oldest t x es).position = ap (λ y. (oldest u y es).position) start ∙ ap (λ (y : Frame). y.position) past.2 in
     let furthest_is : (furthest u f us).position ≡ high = ap (λ (y : Frame). y.position) ahead.2 in
-    let base = fits.base in
     let top = fits.top in (
       record {
-        stand = stand_same 0 f.position t u a f (zero_first _) now fits.stand;
+        stand = stand_same among low f.position t u a f now_all low_now now fits.stand;
         led = subst (λ l. AllLedHere u l f) (sym same_open) led.0;
-        start = subst (StandIn u) (sym start) (stand_same 0 f.position t u a x (zero_first _) upto fits.start);
+        start = subst (StandIn u) (sym start) (stand_same among low f.position t u a x start_all low_start upto fits.start);
         past = subst (λ y. ArePast u y es) (sym start) past.0;
         ahead = ahead.0;
-        base = omega (arith, oldest_is, base);
+        base = omega (arith, oldest_is, from);
         top = omega (arith, furthest_is, top);
         cleared = λ e. fits.cleared (ap has_any (sym same_open) ∙ e);
       },
@@ -188,6 +201,10 @@ stays t u first end f h b b2 s n agree fits same =
         clip = nothing;
       }),
     )
+
+pub stays : (t u : Timeline) (first end : ℕ) (f : Frame) (h : History Entry) (b b2 : Option Entry) (s : Bool) (n : ℕ) → ((high : ℕ) → Agree any_formula 0 high t u) → AreSteps t first end f h b → SameBatch b b2
+    → Becomes u first end f h b2 s n (session_of t f h b s n)
+stays t u first end f h b b2 s n agree fits same = stays_in_use any_formula 0 t u first first end f h b b2 s n agree fits (λ id y. tt) (omega arith) fits.base same
 
 -- ---- steps back and forth, where no batch is open
 

@@ -18,7 +18,7 @@ use Rattle.kept_steps.specs.declared.entry.Entry.{Entry}
 use Rattle.kept_steps.proofs.Agreeing.{furthest_last, oldest_first}
 use Rattle.kept_steps.proofs.Lists.{steps_end}
 use Rattle.kept_steps.proofs.Outcomes.{same_batch}
-use Rattle.kept_steps.proofs.Sessions.{goes_back, goes_forth, stays}
+use Rattle.kept_steps.proofs.Sessions.{any_formula, goes_back, goes_forth, stays}
 use Rattle.kept_steps.proofs.Walks.{leads_here, leads_on}
 
 found_at : (es : List Entry) (k : ℕ) (d : Entry) → k < length es → slice_get es k ≡ Some (get_or es k d)
@@ -79,10 +79,10 @@ module _ (old : Book) (h : History Entry) (b : Option Entry) (none : b ≡ None)
 
   -- the workbook that the cursor was moved in
   module _ (new : Book) (s : Bool) (n : ℕ) (line : new.lazy.line ≡ record old.lazy.line { cursor = new.lazy.line.cursor }) (standings : (id k : ℕ) → at_of new id k ≡ at_of old id k) (words : words_of new.names ≡ words_of old.names) where
-    along : (high : ℕ) → Agree 0 high (timeline_of old) (timeline_of new)
+    along : (high : ℕ) → Agree any_formula 0 high (timeline_of old) (timeline_of new)
     along high = record {
       line = λ j l h. ap (λ x. shift_at x j) line;
-      at = λ id j x l h g. standings id j ∙ g;
+      at = λ id j x any l h g. standings id j ∙ g;
       words = λ i w g. ap (λ l. slice_get l i) words ∙ g;
     }
 

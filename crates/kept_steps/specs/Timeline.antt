@@ -24,8 +24,8 @@ book_in t f = book_at t.at t.words f
 abbrev pub StandIn : Timeline → Frame → Type 0
 StandIn t f = Stands t.at t.words f
 
--- between two positions the second timeline tells what the first one does, and it knows each word
-pub record Agree (low high : ℕ) (t u : Timeline) : Type 0 where
+-- between two positions the second timeline tells of these formulas what the first one does, and it knows each word
+pub record Agree (among : ℕ → Type 0) (low high : ℕ) (t u : Timeline) : Type 0 where
   pub line : (j : ℕ) → low ≤ j → j < high → u.line j ≡ t.line j
-  pub at : (id j : ℕ) (x : Standing) → low ≤ j → j ≤ high → t.at id j ≡ Some x → u.at id j ≡ Some x
+  pub at : (id j : ℕ) (x : Standing) → among id → low ≤ j → j ≤ high → t.at id j ≡ Some x → u.at id j ≡ Some x
   pub words : IsMore t.words u.words

@@ -1,3 +1,4 @@
 -- What only the proofs of bodies need.
 pub mod Noted
 pub mod FitsProp
+pub mod Listed

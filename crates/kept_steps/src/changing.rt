@@ -3,13 +3,12 @@ ghost use Rattle.std.specs.Prelude.{◌≡◌, ◌==◌, ◌+◌, ◌<◌, OnOk,
 ghost use Rattle.std.specs.List.{All};
 ghost use Rattle.cell_addr.specs.Place.{IsBlockInside, IsInside, covers};
 ghost use Rattle.cell_addr.specs.Sheets.{name_in};
-ghost use Rattle.lazy_store.specs.Store.{KeepsBehind};
 ghost use Rattle.name_table.specs.Listed.{listed};
 ghost use Rattle.name_table.specs.SheetLists.{CanJoin, IsFree};
 ghost use Rattle.shift_core.specs.Carried as carrying;
 ghost use Rattle.shift_core.specs.Maps.{AreInside};
 ghost use Rattle.shift_core.specs.Sound.{IsSound};
-ghost use Rattle.shift_line.specs.Track.{pushed, with_spare};
+ghost use Rattle.shift_line.specs.Track.{with_spare};
 ghost use Rattle.book_values.specs.Names.{key_of};
 ghost use Rattle.book_model.specs.Changes.{emptied, renamed, shifted, with_content, with_copy, with_name, with_sheet};
 ghost use Rattle.book_model.specs.Session.{changed};
@@ -26,17 +25,23 @@ use shift_core::Shift;
 use std::alloc::AllocError;
 
 impl Session {
+    ghost use Rattle.kept_steps.specs.Kept.{GoesOn, KeepsAtShift, KeepsInUse};
     ghost use Rattle.kept_steps.specs.Session.{state_of};
 
-    /// Gives a cell the content that a text says. No other formula is touched. For want of memory the session is as it was. Costs
-    /// what [`kept_book::Book::fill`] does.
+    /// Gives a cell the content that a text says. No other formula of the session's workbooks is touched. For want of memory
+    /// the session is as it was. Costs what [`kept_book::Book::fill`] does.
+    ///
+    /// Where since the last time as many formulas came as were left then, and at least [`crate::LEAST_GROWTH`], those that
+    /// neither the workbook nor a step lists are dropped first. That costs the number of formulas, the filled cells, and what the
+    /// steps list.
     pub fn fill(&mut self, at: Place, text: &str) -> Result<(), AllocError>
         requires inside { IsInside at }
         ensures ok { OnOk result (state_of self.new ≡ changed (with_content at text.now (state_of self.old).book) (state_of self.old)) }
         ensures err { OnErr result (state_of self.new ≡ state_of self.old) }
         ensures line { self.new.book.lazy.line ≡ with_spare self.new.book.lazy.line.spare self.old.book.lazy.line }
-        ensures kept { KeepsBelow self.old.book.next_id self.old.book.lazy self.new.book.lazy }
+        ensures kept { KeepsInUse self.old self.new.book.lazy }
     {
+        self.sweep_where_due()?;
         let room = room(self.book.alloc, &mut self.batch)?;
         let part = self.book.fill(&mut self.pool, at, text)?;
         note(&mut self.steps, &mut self.batch, room, part);
@@ -85,8 +90,9 @@ impl Session {
         ensures ok { OnOk result (state_of self.new ≡ changed (with_copy area (contents_copied cells.now) at (state_of self.old).book) (state_of self.old)) }
         ensures err { OnErr result (state_of self.new ≡ state_of self.old) }
         ensures line { self.new.book.lazy.line ≡ with_spare self.new.book.lazy.line.spare self.old.book.lazy.line }
-        ensures kept { KeepsBelow self.old.book.next_id self.old.book.lazy self.new.book.lazy }
+        ensures kept { KeepsInUse self.old self.new.book.lazy }
     {
+        self.sweep_where_due()?;
         let room = room(self.book.alloc, &mut self.batch)?;
         let part = self.book.paste(&mut self.pool, area, cells, at)?;
         note(&mut self.steps, &mut self.batch, room, part);
@@ -94,16 +100,24 @@ impl Session {
     }
 
     /// Does a structural operation: it goes on the line at the cursor, in place of those beyond it. A formula that is kept as of
-    /// a position up to the cursor isn't touched. For want of memory the session is as it was, though formulas that were kept
-    /// beyond the cursor may have come back to it. Costs what [`kept_book::Book::shift`] does.
+    /// a position up to the cursor isn't touched. Where at least [`crate::LEAST_SETTLED`] operations of the line lie before
+    /// the base, the oldest position on which a step or the open batch rests, they are forgotten first: formulas of the
+    /// session's workbooks that are kept as of a position before the base come to it, those that no workbook has may be
+    /// dropped, and no other one is touched. No other call forgets operations.
+    ///
+    /// For want of memory the session is as it was, though the line may have been settled, and formulas that were kept beyond
+    /// the cursor may have come back to it. Costs what [`kept_book::Book::shift`] does; where it settles, also the number of
+    /// formulas and the filled cells, what the steps list, and for each formula before the base the operations that it is
+    /// taken over, twice.
     pub fn structural(&mut self, s: &Shift) -> Result<(), AllocError>
         requires sound { IsSound s.now }
         requires inside { AreInside (state_of self.old).book.cells }
         ensures ok { OnOk result (state_of self.new ≡ changed (shifted s.now (state_of self.old).book) (state_of self.old)) }
         ensures err { OnErr result (state_of self.new ≡ state_of self.old) }
-        ensures line { OnOk result (self.new.book.lazy.line ≡ with_spare self.new.book.lazy.line.spare (pushed s.now self.old.book.lazy.line)) }
-        ensures kept { KeepsBehind self.old.book.lazy.line.cursor self.old.book.lazy self.new.book.lazy }
+        ensures line { OnOk result (GoesOn s.now self.old self.new.book.lazy) }
+        ensures kept { KeepsAtShift self.old self.new.book.lazy }
     {
+        self.settle_where_due()?;
         let room = room(self.book.alloc, &mut self.batch)?;
         let part = self.book.shift(&mut self.pool, s)?;
         note(&mut self.steps, &mut self.batch, room, part);
@@ -155,8 +169,9 @@ impl Session {
         ensures ok { OnOk result (state_of self.new ≡ changed (with_name (key_of scope word.now) (option_map (tree_in_scope scope) tree) (state_of self.old).book) (state_of self.old)) }
         ensures err { OnErr result (state_of self.new ≡ state_of self.old) }
         ensures line { self.new.book.lazy.line ≡ with_spare self.new.book.lazy.line.spare self.old.book.lazy.line }
-        ensures kept { KeepsBelow self.old.book.next_id self.old.book.lazy self.new.book.lazy }
+        ensures kept { KeepsInUse self.old self.new.book.lazy }
     {
+        self.sweep_where_due()?;
         let room = room(self.book.alloc, &mut self.batch)?;
         let part = self.book.name(scope, word, tree)?;
         note(&mut self.steps, &mut self.batch, room, part);

@@ -16,10 +16,15 @@
 
 mod changing;
 mod entry;
+mod listing;
 mod noting;
 mod reading;
 mod session;
+mod settling;
+mod sweeping;
 mod undoing;
 
 pub use entry::Entry;
 pub use session::Session;
+pub use settling::LEAST_SETTLED;
+pub use sweeping::LEAST_GROWTH;

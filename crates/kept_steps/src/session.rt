@@ -3,6 +3,7 @@ ghost use Rattle.kept_steps.specs.Fits.{Fits};
 ghost use Rattle.kept_steps.specs.internal.FitsProp.{fits-prop};
 
 use crate::entry::Entry;
+use crate::sweeping::next_sweep;
 use book_model::BookSheet;
 use formula_tree::Pool;
 use kept_book::Book;
@@ -10,7 +11,8 @@ use std::alloc::{AllocError, Global};
 use undo_book::UndoBook;
 
 /// A workbook, the trees that its formulas share, the steps that can be undone and done again, the open batch, which becomes
-/// one of them, whether the computation of values is suspended, and the number that the next new sheet gets.
+/// one of them, whether the computation of values is suspended, and the number that the next new sheet gets. Formulas that
+/// nothing names any more are dropped by the next change that adds formulas once the next id is `sweep_at`.
 #[derive(Drop)]
 pub struct Session {
     pub pool: Pool,
@@ -19,6 +21,7 @@ pub struct Session {
     pub batch: Option<Entry>,
     pub suspended: bool,
     pub next_sheet: u32,
+    pub sweep_at: u64,
     pub ghost fits: { Fits book steps batch } by { fits-prop book steps batch },
 }
 
@@ -34,6 +37,7 @@ impl Session {
     {
         let mut pool = Pool::new(alloc)?;
         let book = Book::given(alloc, &mut pool, books)?;
+        let sweep_at = next_sweep(book.next_id, book.next_id);
         Ok(Session {
             pool,
             book,
@@ -41,6 +45,7 @@ impl Session {
             batch: None,
             suspended: false,
             next_sheet: books.len() as u32,
+            sweep_at,
         })
     }
 }
