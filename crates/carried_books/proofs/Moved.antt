@@ -1,10 +1,13 @@
 -- Values stay with cells and names that an operation carries along. Serves the law.
-use Rattle.std.proofs.Common.{◌≡◌, ◌∙◌, sym, ap, refl, subst, inr, ℕ, ℤ, Bool, true, not, ◌&&◌, List, [], ◌∷◌, Option, Some, None, option_map, option_and_then, ⊎_elim, arith}
+use Rattle.value_network.proofs.Values.{value-good}
+use Rattle.value_network.proofs.Stuck.{cyclic_covers}
+use Rattle.value_network.proofs.FollowedNeeds.{cycles_return, first_need}
+use Rattle.std.proofs.Common.{◌≡◌, ◌∙◌, sym, ap, refl, subst, inr, ℕ, ℤ, Bool, true, not, ◌&&◌, List, [], ◌∷◌, Option, Some, None, option_map, option_and_then, ⊎_elim, arith, ◌⊎◌, inl, is_none, false}
 use Rattle.std.specs.Prelude.{bytes_eq}
 use Rattle.std.specs.FinMap as map
 use Rattle.std.specs.List.{list_any}
 use Rattle.std.specs.Cmp.Lexicographic.{bytes_decides}
-use Rattle.std.proofs.lemmas.Bool.{and_parts, false≢true, or_cases, or_left, or_right}
+use Rattle.std.proofs.lemmas.Bool.{and_parts, cases_Bool, false≢true, or_cases, or_left, or_right}
 use Rattle.std.proofs.lemmas.Option.{same_Some}
 use Rattle.cell_addr.specs.Place.{Covers, IsBlockInside, IsInside}
 use Rattle.cell_addr.specs.declared.place.Block.{Block}
@@ -46,7 +49,15 @@ use Rattle.carried_terms.proofs.Still.{follows, own_agrees, still_goes}
 use Rattle.carried_values.specs.Over.{GoesOver, Idle, shown_from, values_carried}
 use Rattle.carried_values.proofs.Over.{go_over}
 use Rattle.carried_books.specs.Laws.{MovedValuesStay}
-use Rattle.carried_books.specs.Moved.{AreCarried, content_after, node_before}
+use Rattle.carried_books.specs.Moved.{AreCarried, content_after, node_before, is_bare}
+
+none_there : {X : Type 0} (o : Option X) → is_none o ≡ true → o ≡ None
+none_there None h = refl
+none_there (Some x) h = absurd (false≢true h)
+
+none_before : (s : Shift) (o : Option contents.Content) → option_map (content_after s) o ≡ None → o ≡ None
+none_before s None h = refl
+none_before s (Some x) h = cc
 
 -- a word of the list that passes a test
 any_word : (test : List ℕ → Bool) (words : List (List ℕ)) → list_any test words ≡ true → (word : List ℕ) × (list_any (bytes_eq word) words ≡ true) × (test word ≡ true)
@@ -61,9 +72,9 @@ covered_inside : (b : Block) (p : Place) → IsBlockInside b → Covers b p → 
 covered_inside b p i on = (omega arith, omega arith)
 
 -- what a tree whose references are on the sheets mentions is on them
-module _ (s : Shift) where
+module _ (s : Shift) (bare : Place → Bool) where
   mutual
-    mentioned_inside : (t : Term Corner) → EachReference (IsStillReference s) (IsStillArea s) t → (p : Place) → mentions t p ≡ true → IsInside p
+    mentioned_inside : (t : Term Corner) → EachReference (IsStillReference s) (IsStillArea s bare) t → (p : Place) → mentions t p ≡ true → IsInside p
     mentioned_inside (cell c) h p m = subst IsInside (same_place-equal c.at p m) h.0
     mentioned_inside (area c d) h p m = covered_inside (block_of c d) p h.0 (Covers-from_covers (block_of c d) p m)
     mentioned_inside (prefix sign t) h p m = mentioned_inside t h p m
@@ -77,7 +88,7 @@ module _ (s : Shift) where
     mentioned_inside (fault f) h p m = absurd (false≢true m)
     mentioned_inside (terms.name word) h p m = absurd (false≢true m)
 
-    any_inside : (skip : Bool) (ts : Terms Corner) → EachReferenceOfAll (IsStillReference s) (IsStillArea s) ts → (p : Place) → mentions_any skip ts p ≡ true → IsInside p
+    any_inside : (skip : Bool) (ts : Terms Corner) → EachReferenceOfAll (IsStillReference s) (IsStillArea s bare) ts → (p : Place) → mentions_any skip ts p ≡ true → IsInside p
     any_inside skip no_terms h p m = absurd (false≢true m)
     any_inside skip (term t ts) h p m =
         ⊎_elim
@@ -137,22 +148,58 @@ module _ (s : Shift) (b c : Workbook) (customs : List (List ℕ × Rule)) (today
       let on = over.within q i in
       (w.0, w.2, place_returned_inside (form_of s) w.0 q sound on w.1, place_returned_goes (form_of s) w.0 q sound on w.1)
 
-  shows_along : ShowAlong s old new
-  shows_along p q i e = sym (ap (shown_from scalar.Empty was) (comes p q i e))
+  abbrev bare : Place → Bool
+  bare = is_bare b c
+
+  -- an empty cell needs nothing and shows nothing
+  empty_idle : (p : Place) → map.get b.cells p ≡ None → Idle one (nodes.place p)
+  empty_idle p e d = ap (λ o. tree_needs b.names (sheet_of (home_of (nodes.place p))) (content_tree o) d) e
+
+  empty_idle_after : (q : Place) → map.get c.cells q ≡ None → Idle two (nodes.place q)
+  empty_idle_after q e d = ap (λ o. tree_needs c.names (sheet_of (home_of (nodes.place q))) (content_tree o) d) e
+
+  empty_free : (p : Place) → map.get b.cells p ≡ None → cyclic one (nodes.place p) ≡ false
+  empty_free p e =
+      ⊎_elim
+      (λ (h : cyclic one (nodes.place p) ≡ true).
+      let w = first_need one ((cycles_return one (is_network b customs today) (nodes.place p)).0 h) in absurd (false≢true (sym (empty_idle p e w.0) ∙ w.1)))
+      (λ (h : cyclic one (nodes.place p) ≡ false). h)
+      (cases_Bool (cyclic one (nodes.place p)))
+
+  empty_shows : (p : Place) → map.get b.cells p ≡ None → was (nodes.place p) ≡ scalar.Empty
+  empty_shows p e =
+      value-good one (is_network b customs today) (cyclic one) (cyclic_covers one) (nodes.place p) (empty_free p e)
+      ∙ ap (content_value old customs (home_of (nodes.place p))) e
+
+  bare_parts : (p : Place) → bare p ≡ true → (map.get b.cells p ≡ None) × (map.get c.cells p ≡ None)
+  bare_parts p h =
+      let w = and_parts (is_none (map.get b.cells p)) (is_none (map.get c.cells p)) h in (none_there (map.get b.cells p) w.0, none_there (map.get c.cells p) w.1)
+
+  bare_shown : (p : Place) (o : Option Place) → place_before s p ≡ o → IsInside p → map.get c.cells p ≡ None → shown_from scalar.Empty was (option_map nodes.place o) ≡ scalar.Empty
+  bare_shown p None is i e = refl
+  bare_shown p (Some r) is i e =
+      let on = place_returned_inside (form_of s) r p sound i is in
+      empty_shows r (none_before s (map.get b.cells r) (sym (over.cells r p on (place_returned_goes (form_of s) r p sound i is)) ∙ e))
+
+  shows_along : ShowAlong s bare old new
+  shows_along = record {
+    moved = λ p q i e. sym (ap (shown_from scalar.Empty was) (comes p q i e));
+    bare_ones = λ p i h. let w = bare_parts p h in empty_shows p w.0 ∙ sym (bare_shown p (place_before s p) refl i w.1);
+  }
 
   tree_moves : (a x : Node) → Inside a → back a ≡ Some x → tree_at c a ≡ option_map (rewritten s) (tree_at b x)
   tree_moves (nodes.place q) x i e =
       let w = came q x i e in
-      ap content_tree (over.cells w.0 q i w.2 w.3) ∙ tree_after s (map.get b.cells w.0) ∙ sym (ap (λ y. option_map (rewritten s) (tree_at b y)) w.1)
+      ap content_tree (over.cells w.0 q w.2 w.3) ∙ tree_after s (map.get b.cells w.0) ∙ sym (ap (λ y. option_map (rewritten s) (tree_at b y)) w.1)
   tree_moves (nodes.name key) x i e = over.names key i ∙ ap (λ y. option_map (rewritten s) (tree_at b y)) (same_Some _ _ e)
 
   tree_is : (a x : Node) (t : Term Corner) → Inside a → back a ≡ Some x → tree_at b x ≡ Some t → tree_at c a ≡ Some (rewritten s t)
   tree_is a x t i e is = tree_moves a x i e ∙ ap (option_map (rewritten s)) is
 
-  goes : (a x : Node) (t : Term Corner) → Inside a → back a ≡ Some x → tree_at b x ≡ Some t → NeedsGo (place_after s) t (rewritten s t)
+  goes : (a x : Node) (t : Term Corner) → Inside a → back a ≡ Some x → tree_at b x ≡ Some t → NeedsGo (place_after s) bare t (rewritten s t)
   goes a x t i e is =
       let still = over.still a x t i e is in
-      needs_go (place_after s) (block_after s) t (follows s old new (home_of x) (home_of a) sound shows_along t still.references)
+      needs_go (place_after s) (block_after s) bare t (follows s bare old new (home_of x) (home_of a) sound shows_along t still.references)
 
   -- the words of a formula that is carried along mention the names that they did
   names_along : (a x : Node) (t : Term Corner) (key : Key) → Inside a → back a ≡ Some x → tree_at b x ≡ Some t
@@ -184,7 +231,7 @@ module _ (s : Shift) (b c : Workbook) (customs : List (List ℕ × Rule)) (today
       subst (λ o. NamesAgree (passage_of s old new from to) (option_map (λ t. record { value = was (nodes.name key); tree = t }) o) (named_as c.names shown key)) (sym is)
       (subst (λ o. NamesAgree (passage_of s old new from to) (Some (record { value = was (nodes.name key); tree = u })) (option_map (λ t. record { value = shown (nodes.name key); tree = t }) o))
       (sym (over.names key i ∙ ap (option_map (rewritten s)) is))
-      (refl, own_agrees s old new from to sound shows_along u still.references))
+      (refl, own_agrees s bare old new from to sound shows_along u still.references))
 
   found_agree : (from to : Home) (f : Option Key) → ((key : Key) → f ≡ Some key → Inside (nodes.name key))
       → NamesAgree (passage_of s old new from to) (option_and_then (named_as b.names was) f) (option_and_then (named_as c.names shown) f)
@@ -201,39 +248,46 @@ module _ (s : Shift) (b c : Workbook) (customs : List (List ℕ × Rule)) (today
       (word_passes word (λ w. is_found (found b.names w (sheet_of (home_of x))) key) (names_in t) (ap (λ g. is_found g key) f ∙ same_key-self key) m))))
 
   along : (a x : Node) (t : Term Corner) → Inside a → back a ≡ Some x → tree_at b x ≡ Some t → GoesAlong (passage_of s old new (home_of x) (home_of a)) t
-  along a x t i e is = (still_goes s old new (home_of x) (home_of a) t sound (over.still a x t i e is) shows_along (words_agree a x t i e is)).0
+  along a x t i e is = (still_goes s bare old new (home_of x) (home_of a) t sound (over.still a x t i e is) shows_along (words_agree a x t i e is)).0
 
   -- needs go and come
-  forth : (a x d : Node) → Inside a → back a ≡ Some x → needs b x d ≡ true → (y : Node) × (back y ≡ Some d) × (needs c a y ≡ true)
+  forth : (a x d : Node) → Inside a → back a ≡ Some x → needs b x d ≡ true → Idle one d ⊎ ((y : Node) × (back y ≡ Some d) × (needs c a y ≡ true))
   forth a x (nodes.place p) i e h =
       let w = tree_found b.names (sheet_of (home_of x)) (tree_at b x) (nodes.place p) h in
-      let go = (goes a x w.0 i e w.1).forth p w.2 in
-      let still = over.still a x w.0 i e w.1 in (
+      let still = over.still a x w.0 i e w.1 in
+      ⊎_elim
+      (λ h. inl (empty_idle p (bare_parts p h).0))
+      (λ go. inr (
         nodes.place go.0,
-        comes p go.0 (mentioned_inside s w.0 still.references p w.2) go.1,
+        comes p go.0 (mentioned_inside s bare w.0 still.references p w.2) go.1,
         ap (λ o. tree_needs c.names (sheet_of (home_of a)) o (nodes.place go.0)) (tree_is a x w.0 i e w.1) ∙ go.2,
-      )
+      ))
+      ((goes a x w.0 i e w.1).forth p w.2)
   forth a x (nodes.name key) i e h =
       let w = tree_found b.names (sheet_of (home_of x)) (tree_at b x) (nodes.name key) h in
-      (nodes.name key, refl, names_along a x w.0 key i e w.1 w.2)
+      inr (nodes.name key, refl, names_along a x w.0 key i e w.1 w.2)
 
   tree_was : (o : Option (Term Corner)) (u : Term Corner) → option_map (rewritten s) o ≡ Some u → (t : Term Corner) × (o ≡ Some t) × (u ≡ rewritten s t)
   tree_was None u e = cc
   tree_was (Some t) u e = (t, refl, sym (same_Some _ _ e))
 
-  there : (a y x : Node) → Inside a → back a ≡ Some x → needs c a y ≡ true → (d : Node) × (back y ≡ Some d) × (needs b x d ≡ true)
+  there : (a y x : Node) → Inside a → back a ≡ Some x → needs c a y ≡ true → Idle two y ⊎ ((d : Node) × (back y ≡ Some d) × (needs b x d ≡ true))
   there a (nodes.place q) x i e h =
       let w = tree_found c.names (sheet_of (home_of a)) (tree_at c a) (nodes.place q) h in
       let v = tree_was (tree_at b x) w.0 (sym (tree_moves a x i e) ∙ w.1) in
       let still = over.still a x v.0 i e v.1 in
-      let go = (goes a x v.0 i e v.1).back q (ap (λ u. mentions u q) (sym v.2) ∙ w.2) in (
+      ⊎_elim
+      (λ h. inl (empty_idle_after q (bare_parts q h).1))
+      (λ go. inr (
         nodes.place go.0,
-        comes go.0 q (mentioned_inside s v.0 still.references go.0 go.2) go.1,
+        comes go.0 q (mentioned_inside s bare v.0 still.references go.0 go.2) go.1,
         ap (λ o. tree_needs b.names (sheet_of (home_of x)) o (nodes.place go.0)) v.1 ∙ go.2,
-      )
+      ))
+      ((goes a x v.0 i e v.1).back q (ap (λ u. mentions u q) (sym v.2) ∙ w.2))
   there a (nodes.name key) x i e h =
       let w = tree_found c.names (sheet_of (home_of a)) (tree_at c a) (nodes.name key) h in
-      let v = tree_was (tree_at b x) w.0 (sym (tree_moves a x i e) ∙ w.1) in (
+      let v = tree_was (tree_at b x) w.0 (sym (tree_moves a x i e) ∙ w.1) in
+      inr (
         nodes.name key,
         refl,
         ap (λ o. tree_needs b.names (sheet_of (home_of x)) o (nodes.name key)) v.1
@@ -260,7 +314,7 @@ module _ (s : Shift) (b c : Workbook) (customs : List (List ℕ × Rule)) (today
   own_stays : (a x : Node) → Inside a → back a ≡ Some x → two.own shown a ≡ one.own was x
   own_stays (nodes.place q) x i e =
       let w = came q x i e in
-      ap (content_value new customs (home_of (nodes.place q))) (over.cells w.0 q i w.2 w.3)
+      ap (content_value new customs (home_of (nodes.place q))) (over.cells w.0 q w.2 w.3)
       ∙ content_stays w.0 q (map.get b.cells w.0) refl i (e ∙ ap (λ y. Some y) w.1)
       ∙ sym (ap (one.own was) w.1)
   own_stays (nodes.name key) x i e =
@@ -272,11 +326,11 @@ module _ (s : Shift) (b c : Workbook) (customs : List (List ℕ × Rule)) (today
   no_place None e = refl
   no_place (Some p) e = cc
 
-  bare : (a : Node) → Inside a → back a ≡ None → Idle two a × (two.own shown a ≡ scalar.Empty)
-  bare (nodes.place q) i e =
+  put_in : (a : Node) → Inside a → back a ≡ None → Idle two a × (two.own shown a ≡ scalar.Empty)
+  put_in (nodes.place q) i e =
       let empty = over.fresh q i (no_place (place_before s q) e) in
       (λ d. ap (λ o. tree_needs c.names (sheet_of (home_of (nodes.place q))) (content_tree o) d) empty, ap (content_value new customs (home_of (nodes.place q))) empty)
-  bare (nodes.name key) i e = cc
+  put_in (nodes.name key) i e = cc
 
   apart : (a d x : Node) → Inside a → Inside d → back a ≡ Some x → back d ≡ Some x → a ≡ d
   apart (nodes.place q) (nodes.place r) x i j e f =
@@ -300,10 +354,10 @@ module _ (s : Shift) (b c : Workbook) (customs : List (List ℕ × Rule)) (today
     cycle = refl;
     closed = over.closed;
     apart = apart;
-    forth = λ a x d i e h. inr (forth a x d i e h);
-    there = λ a y x i e h. inr (there a y x i e h);
+    forth = forth;
+    there = there;
     own = λ a x i e h. own_stays a x i e;
-    bare = bare;
+    bare = put_in;
   }
 
   pub values_stay : (a : Node) → Inside a → value_of c customs today a ≡ shown_from scalar.Empty (value_of b customs today) (back a)

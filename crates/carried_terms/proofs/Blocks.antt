@@ -94,10 +94,10 @@ kept_follow s b c sound i still whole torn h =
       widths = omega arith;
       offsets = offsets;
       places = record {
-        forth = λ p on. (carried_place b (first_place c) p, offsets p on, there b c p i j rows cols on);
+        forth = λ p on. inr (carried_place b (first_place c) p, offsets p on, there b c p i j rows cols on);
         back = λ q on.
             let p = carried_place c (first_place b) q in
             let here = there c b q j i (sym rows) (sym cols) on in
-            (p, offsets p here ∙ ap (λ z. Some z) (and_back b c q on), here);
+            inr (p, offsets p here ∙ ap (λ z. Some z) (and_back b c q on), here);
       };
     }

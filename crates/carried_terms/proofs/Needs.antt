@@ -1,5 +1,5 @@
 -- A formula whose references follow mentions the places to which they went. Serves the law.
-use Rattle.std.proofs.Common.{◌≡◌, ◌∙◌, sym, ap, ap₂, refl, Bool, true, false, not, ◌&&◌, [], ◌++◌, Option, Some, None, ⊎_elim}
+use Rattle.std.proofs.Common.{◌≡◌, ◌∙◌, sym, ap, ap₂, refl, Bool, true, false, not, ◌&&◌, [], ◌++◌, Option, Some, None, ⊎_elim, ◌⊎◌, inl, inr}
 use Rattle.std.proofs.lemmas.Bool.{and_from, and_parts, false≢true, or_cases, or_left, or_right}
 use Rattle.cell_addr.specs.declared.place.Block.{Block}
 use Rattle.cell_addr.specs.declared.place.Place.{Place}
@@ -13,6 +13,10 @@ use Rattle.tree_rewrite.specs.Rewritten.{area_at, cell_at, placed_by}
 use Rattle.calc_terms.specs.Needs.{mentions, mentions_any}
 use Rattle.carried_terms.specs.Following.{AllFollow, Follows}
 use Rattle.carried_terms.specs.Laws.{NeedsFollow}
+
+on_second : {A B C : Type 0} → (B → C) → A ⊎ B → A ⊎ C
+on_second f (inl a) = inl a
+on_second f (inr b) = inr (f b)
 
 not_true : (b : Bool) → not b ≡ true → b ≡ false
 not_true true h = absurd (false≢true h)
@@ -39,7 +43,7 @@ no_names_area : (c d : Corner) (o : Option Block) → names_in (area_at c d o) �
 no_names_area c d None = refl
 no_names_area c d (Some b) = refl
 
-module _ (place : Place → Option Place) (block : Block → Option Block) where
+module _ (place : Place → Option Place) (block : Block → Option Block) (bare : Place → Bool) where
   abbrev moved : Term Corner → Term Corner
   moved = placed_by place block
 
@@ -84,28 +88,28 @@ module _ (place : Place → Option Place) (block : Block → Option Block) where
   counted false t q is m = refl
 
   abbrev Goes : Term Corner → Place → Type 0
-  Goes u p = (q : Place) × (place p ≡ Some q) × (mentions u q ≡ true)
+  Goes u p = (bare p ≡ true) ⊎ ((q : Place) × (place p ≡ Some q) × (mentions u q ≡ true))
 
   abbrev GoesAny : Bool → Terms Corner → Place → Type 0
-  GoesAny skip us p = (q : Place) × (place p ≡ Some q) × (mentions_any skip us q ≡ true)
+  GoesAny skip us p = (bare p ≡ true) ⊎ ((q : Place) × (place p ≡ Some q) × (mentions_any skip us q ≡ true))
 
   abbrev Came : Term Corner → Place → Type 0
-  Came t q = (p : Place) × (place p ≡ Some q) × (mentions t p ≡ true)
+  Came t q = (bare q ≡ true) ⊎ ((p : Place) × (place p ≡ Some q) × (mentions t p ≡ true))
 
   abbrev CameAny : Bool → Terms Corner → Place → Type 0
-  CameAny skip ts q = (p : Place) × (place p ≡ Some q) × (mentions_any skip ts p ≡ true)
+  CameAny skip ts q = (bare q ≡ true) ⊎ ((p : Place) × (place p ≡ Some q) × (mentions_any skip ts p ≡ true))
 
   mutual
-    forth : (t : Term Corner) → Follows place block t → (p : Place) → mentions t p ≡ true → Goes (moved t) p
-    forth (cell c) (q, e) p h = (q, ap place (sym (same_place-equal c.at p h)) ∙ e, ap (λ o. mentions (cell_at c o) q) e ∙ same_place-self q)
+    forth : (t : Term Corner) → Follows place block bare t → (p : Place) → mentions t p ≡ true → Goes (moved t) p
+    forth (cell c) (q, e) p h = inr (q, ap place (sym (same_place-equal c.at p h)) ∙ e, ap (λ o. mentions (cell_at c o) q) e ∙ same_place-self q)
     forth (area c d) (b, e, go) p h =
-        let w = go.forth p (Covers-from_covers (block_of c d) p h) in (w.0, w.1, ap (λ o. mentions (area_at c d o) w.0) e ∙ covers-from_Covers b w.0 w.2)
+        on_second (λ w. (w.0, w.1, ap (λ o. mentions (area_at c d o) w.0) e ∙ covers-from_Covers b w.0 w.2)) (go.forth p (Covers-from_covers (block_of c d) p h))
     forth (prefix s t) f p h = forth t f p h
     forth (percent t) f p h = forth t f p h
     forth (binary o l r) f p h =
         ⊎_elim
-        (λ m. let w = forth l f.0 p m in (w.0, w.1, or_left (mentions (moved l) w.0) (mentions (moved r) w.0) w.2))
-        (λ m. let w = forth r f.1 p m in (w.0, w.1, or_right (mentions (moved l) w.0) (mentions (moved r) w.0) w.2))
+        (λ m. on_second (λ w. (w.0, w.1, or_left (mentions (moved l) w.0) (mentions (moved r) w.0) w.2)) (forth l f.0 p m))
+        (λ m. on_second (λ w. (w.0, w.1, or_right (mentions (moved l) w.0) (mentions (moved r) w.0) w.2)) (forth r f.1 p m))
         (or_cases (mentions l p) (mentions r p) h)
     forth (call w ts) f p h = forth_any (is_place_word w) ts f p h
     forth (paren t) f p h = forth t f p h
@@ -115,36 +119,35 @@ module _ (place : Place → Option Place) (block : Block → Option Block) where
     forth (fault k) f p h = absurd (false≢true h)
     forth (name w) f p h = absurd (false≢true h)
 
-    forth_any : (skip : Bool) (ts : Terms Corner) → AllFollow place block skip ts → (p : Place) → mentions_any skip ts p ≡ true → GoesAny skip (moved_all ts) p
+    forth_any : (skip : Bool) (ts : Terms Corner) → AllFollow place block bare skip ts → (p : Place) → mentions_any skip ts p ≡ true → GoesAny skip (moved_all ts) p
     forth_any skip no_terms f p h = absurd (false≢true h)
     forth_any skip (term t ts) f p h =
         ⊎_elim
         (λ m.
         let parts = and_parts (not (skip && is_reference t)) (mentions t p) m in
         let counts = not_true (skip && is_reference t) parts.0 in
-        let w = forth t (f.0 counts) p parts.1 in (
+        on_second (λ w. (
           w.0,
           w.1,
           or_left (not (skip && is_reference (moved t)) && mentions (moved t) w.0) (mentions_any skip (moved_all ts) w.0)
               (and_from (not (skip && is_reference (moved t))) (mentions (moved t) w.0) (not_false (skip && is_reference (moved t)) (counts_still skip t counts)) w.2),
-        ))
+        )) (forth t (f.0 counts) p parts.1))
         (λ m.
-        let w = forth_any skip ts f.1 p m in
-        (w.0, w.1, or_right (not (skip && is_reference (moved t)) && mentions (moved t) w.0) (mentions_any skip (moved_all ts) w.0) w.2))
+        on_second (λ w. (w.0, w.1, or_right (not (skip && is_reference (moved t)) && mentions (moved t) w.0) (mentions_any skip (moved_all ts) w.0) w.2)) (forth_any skip ts f.1 p m))
         (or_cases (not (skip && is_reference t) && mentions t p) (mentions_any skip ts p) h)
 
   mutual
-    back : (t : Term Corner) → Follows place block t → (q : Place) → mentions (moved t) q ≡ true → Came t q
+    back : (t : Term Corner) → Follows place block bare t → (q : Place) → mentions (moved t) q ≡ true → Came t q
     back (cell c) (r, e) q h =
-        let there : r ≡ q = same_place-equal r q (sym (ap (λ o. mentions (cell_at c o) q) e) ∙ h) in (c.at, e ∙ ap (λ z. Some z) there, same_place-self c.at)
+        let there : r ≡ q = same_place-equal r q (sym (ap (λ o. mentions (cell_at c o) q) e) ∙ h) in inr (c.at, e ∙ ap (λ z. Some z) there, same_place-self c.at)
     back (area c d) (b, e, go) q h =
-        let w = go.back q (Covers-from_covers b q (sym (ap (λ o. mentions (area_at c d o) q) e) ∙ h)) in (w.0, w.1, covers-from_Covers (block_of c d) w.0 w.2)
+        on_second (λ w. (w.0, w.1, covers-from_Covers (block_of c d) w.0 w.2)) (go.back q (Covers-from_covers b q (sym (ap (λ o. mentions (area_at c d o) q) e) ∙ h)))
     back (prefix s t) f q h = back t f q h
     back (percent t) f q h = back t f q h
     back (binary o l r) f q h =
         ⊎_elim
-        (λ m. let w = back l f.0 q m in (w.0, w.1, or_left (mentions l w.0) (mentions r w.0) w.2))
-        (λ m. let w = back r f.1 q m in (w.0, w.1, or_right (mentions l w.0) (mentions r w.0) w.2))
+        (λ m. on_second (λ w. (w.0, w.1, or_left (mentions l w.0) (mentions r w.0) w.2)) (back l f.0 q m))
+        (λ m. on_second (λ w. (w.0, w.1, or_right (mentions l w.0) (mentions r w.0) w.2)) (back r f.1 q m))
         (or_cases (mentions (moved l) q) (mentions (moved r) q) h)
     back (call w ts) f q h = back_any (is_place_word w) ts f q h
     back (paren t) f q h = back t f q h
@@ -154,20 +157,20 @@ module _ (place : Place → Option Place) (block : Block → Option Block) where
     back (fault k) f q h = absurd (false≢true h)
     back (name w) f q h = absurd (false≢true h)
 
-    back_any : (skip : Bool) (ts : Terms Corner) → AllFollow place block skip ts → (q : Place) → mentions_any skip (moved_all ts) q ≡ true → CameAny skip ts q
+    back_any : (skip : Bool) (ts : Terms Corner) → AllFollow place block bare skip ts → (q : Place) → mentions_any skip (moved_all ts) q ≡ true → CameAny skip ts q
     back_any skip no_terms f q h = absurd (false≢true h)
     back_any skip (term t ts) f q h =
         ⊎_elim
         (λ m.
         let parts = and_parts (not (skip && is_reference (moved t))) (mentions (moved t) q) m in
         let counts = counted skip t q (not_true (skip && is_reference (moved t)) parts.0) parts.1 in
-        let w = back t (f.0 counts) q parts.1 in (
+        on_second (λ w. (
           w.0,
           w.1,
           or_left (not (skip && is_reference t) && mentions t w.0) (mentions_any skip ts w.0)
               (and_from (not (skip && is_reference t)) (mentions t w.0) (not_false (skip && is_reference t) counts) w.2),
-        ))
-        (λ m. let w = back_any skip ts f.1 q m in (w.0, w.1, or_right (not (skip && is_reference t) && mentions t w.0) (mentions_any skip ts w.0) w.2))
+        )) (back t (f.0 counts) q parts.1))
+        (λ m. on_second (λ w. (w.0, w.1, or_right (not (skip && is_reference t) && mentions t w.0) (mentions_any skip ts w.0) w.2)) (back_any skip ts f.1 q m))
         (or_cases (not (skip && is_reference (moved t)) && mentions (moved t) q) (mentions_any skip (moved_all ts) q) h)
 
   mutual
@@ -190,4 +193,4 @@ module _ (place : Place → Option Place) (block : Block → Option Block) where
     all_names_stay (term t ts) = ap₂ (λ xs ys. xs ++ ys) (names_stay t) (all_names_stay ts)
 
 pub needs_go : NeedsFollow
-needs_go place block t f = record { forth = forth place block t f; back = back place block t f; names = names_stay place block t }
+needs_go place block bare t f = record { forth = forth place block bare t f; back = back place block bare t f; names = names_stay place block bare t }

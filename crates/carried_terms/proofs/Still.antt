@@ -1,5 +1,5 @@
 -- A formula that an operation carries along as it is goes along. Serves the law.
-use Rattle.std.proofs.Common.{◌≡◌, ◌∙◌, sym, refl, subst, ◌⊎◌, ℕ, Bool, true, false, cond, List, ◌++◌, Option, Some, None, MatchOption, arith}
+use Rattle.std.proofs.Common.{◌≡◌, ◌∙◌, sym, refl, subst, ◌⊎◌, inl, inr, ⊎_elim, ℕ, ◌+◌, ◌-◌, Bool, true, false, cond, List, ◌++◌, Option, Some, None, MatchOption, arith, ap}
 use Rattle.std.specs.Prelude.{⊤, bytes_eq}
 use Rattle.std.specs.List.{list_any}
 use Rattle.std.specs.Cmp.Lexicographic.{bytes_decides}
@@ -14,7 +14,8 @@ use Rattle.formula_tree.specs.Reference.{block_of, sheet_of}
 use Rattle.formula_tree.specs.Term.{Term, number, text, truth, fault, cell, area, name, prefix, percent, binary, call, paren, Terms, no_terms, term}
 use Rattle.formula_tree.specs.declared.reference.Corner.{Corner}
 use Rattle.formula_tree.specs.declared.reference.Home.{Home}
-use Rattle.shift_core.specs.Bent.{HaveOtherSizes, MeetsDisplaced}
+use Rattle.shift_core.specs.Bent.{HaveOtherSizes, MeetsDisplaced, IsBent, IsCut}
+use Rattle.shift_core.specs.Carried.{carried_place, first_place}
 use Rattle.shift_core.specs.Form.{form_of}
 use Rattle.shift_core.specs.Sound.{IsSound}
 use Rattle.shift_core.specs.Tables.{block_after, place_after}
@@ -22,12 +23,12 @@ use Rattle.shift_core.specs.declared.shift.Shift.{Shift}
 use Rattle.shift_core.proofs.BlockLaws.{block_moved_inside}
 use Rattle.tree_rewrite.specs.References.{EachReference, EachReferenceOfAll}
 use Rattle.tree_rewrite.specs.Rewritten.{area_at, cell_at}
-use Rattle.calc_terms.specs.Cells.{fits}
+use Rattle.calc_terms.specs.Cells.{cells_in, fits, height, width}
 use Rattle.calc_terms.specs.References.{area_reference, own_reference}
 use Rattle.calc_terms.specs.World.{World}
 use Rattle.calc_terms.specs.declared.reference.Reference.TheVariants as reference
 use Rattle.carried_terms.specs.Carried.{AllGoAlong, AreaGoes, CellGoes, CellsAgree, GoesAlong, NamesAgree, Passage, ReferencesAgree, SizeGoes, passed}
-use Rattle.carried_terms.specs.Following.{AllFollow, Follows, KeepsOffsets}
+use Rattle.carried_terms.specs.Following.{AllFollow, Follows, IsWhole, PlacesGo}
 use Rattle.carried_terms.specs.Laws.{StillGoesAlong}
 use Rattle.carried_terms.specs.Still.{AllAskNowhere, AsksNowhere, IsStillArea, IsStillReference, ShowAlong, passage_of}
 use Rattle.carried_terms.proofs.Blocks.{kept_follow}
@@ -41,6 +42,24 @@ not_lost f b P still = found (f b) refl still
     found None e h = absurd (h tt)
     found (Some c) e h = (c, e)
 
+on_second : {A B C : Type 0} → (B → C) → A ⊎ B → A ⊎ C
+on_second f (inl a) = inl a
+on_second f (inr b) = inr (f b)
+
+-- nothing is bare by a test that nothing passes
+never : {A B : Type 0} → (false ≡ true) ⊎ B → A ⊎ B
+never (inl h) = absurd (false≢true h)
+never (inr b) = inr b
+
+stays_put : (b : Block) (p : Place) → Covers b p → carried_place b (first_place b) p ≡ p
+stays_put b p c = λ i. record { sheet = c.0 i; row = back_row i; col = back_col i }
+  where
+    back_row : b.top + (p.row - b.top) ≡ p.row
+    back_row = omega arith
+
+    back_col : b.left + (p.col - b.left) ≡ p.col
+    back_col = omega arith
+
 inside_fits : (b : Block) → IsBlockInside b → fits b ≡ true
 inside_fits b i = grind (arith, nat_tests)
 
@@ -50,7 +69,7 @@ covered_inside b p i on = (omega arith, omega arith)
 bytes_eq-self : (word : List ℕ) → bytes_eq word word ≡ true
 bytes_eq-self word = (bytes_decides word word).1 refl
 
-module _ (s : Shift) (v w : World) (from to : Home) (sound : IsSound s) (shows : ShowAlong s v w) where
+module _ (s : Shift) (bare : Place → Bool) (v w : World) (from to : Home) (sound : IsSound s) (shows : ShowAlong s bare v w) where
   abbrev x : Passage
   x = passage_of s v w from to
 
@@ -70,27 +89,55 @@ module _ (s : Shift) (v w : World) (from to : Home) (sound : IsSound s) (shows :
   areas_agree b c false true e h = absurd (false≢true e)
 
   cell_goes : (c : Corner) → IsStillReference s c → CellGoes x (CellsAgree x) c
-  cell_goes c (i, (q, e)) = (q, e, shows c.at q i e)
+  cell_goes c (i, (q, e)) = (q, e, shows.moved c.at q i e)
 
-  -- a still block, where it is then
-  abbrev Kept : Block → Type 0
-  Kept b = (c : Block) × (block_after s b ≡ Some c) × (fits b ≡ fits c) × KeepsOffsets s b c
+  -- a still block, where it is then: as large as before, with the same cells, and with its places
+  pub record Kept (b c : Block) : Type 0 where
+    pub fit : fits b ≡ fits c
+    pub heights : height b ≡ height c
+    pub widths : width b ≡ width c
+    pub cells : cells_in v.shown b ≡ cells_in w.shown c
+    pub places : PlacesGo (place_after s) bare b c
 
-  kept : (c d : Corner) → IsStillArea s c d → Kept (block_of c d)
-  kept c d (i, still, whole, torn) =
+  kept_whole : (b c : Block) → IsBlockInside b → ¬ IsBent s b → ¬ IsCut s b → IsWhole s b → block_after s b ≡ Some c → Kept b c
+  kept_whole b c i still whole torn h =
+      let keeps = kept_follow s b c sound i still whole torn h in
+      record {
+        fit = inside_fits b i ∙ sym (inside_fits c (block_moved_inside (form_of s) b c sound i h));
+        heights = keeps.heights;
+        widths = keeps.widths;
+        cells = cells_along v.shown w.shown b c keeps.heights keeps.widths (λ p on. shows.moved p _ (covered_inside b p i on) (keeps.offsets p on));
+        places = record {
+          forth = λ p on. never (keeps.places.forth p on);
+          back = λ q on. never (keeps.places.back q on);
+        };
+      }
+
+  kept_torn : (b : Block) → IsBlockInside b → ((p : Place) → Covers b p → (bare p ≡ true) ⊎ (place_after s p ≡ Some p)) → Kept b b
+  kept_torn b i torn =
+      record {
+        fit = refl;
+        heights = refl;
+        widths = refl;
+        cells = cells_along v.shown w.shown b b refl refl (λ p on. ⊎_elim (λ h. shows.bare_ones p (covered_inside b p i on) h) (λ h. shows.moved p p (covered_inside b p i on) h) (torn p on) ∙ sym (ap w.shown (stays_put b p on)));
+        places = record {
+          forth = λ p on. on_second (λ h. (p, h, on)) (torn p on);
+          back = λ q on. on_second (λ h. (q, h, on)) (torn q on);
+        };
+      }
+
+  kept : (c d : Corner) → IsStillArea s bare c d → (after : Block) × (block_after s (block_of c d) ≡ Some after) × Kept (block_of c d) after
+  kept c d (i, still, whole, inl torn) =
       let b = block_of c d in
       let there = not_lost (block_after s) b (λ after. HaveOtherSizes b after ⊎ MeetsDisplaced (form_of s) b) still in
-      let after = there.0 in
-      (after, there.1, inside_fits b i ∙ sym (inside_fits after (block_moved_inside (form_of s) b after sound i there.1)), kept_follow s b after sound i still whole torn there.1)
+      (there.0, there.1, kept_whole b there.0 i still whole torn there.1)
+  kept c d (i, still, whole, inr (stays, torn)) = (block_of c d, stays, kept_torn (block_of c d) i torn)
 
-  area_goes : (c d : Corner) → IsStillArea s c d → AreaGoes x (CellsAgree x) c d
-  area_goes c d h =
-      let k = kept c d h in
-      let keeps = k.3 in
-      (k.0, k.1, k.2, cells_along v.shown w.shown (block_of c d) k.0 keeps.heights keeps.widths (λ p on. shows p _ (covered_inside (block_of c d) p h.0 on) (keeps.offsets p on)))
+  area_goes : (c d : Corner) → IsStillArea s bare c d → AreaGoes x (CellsAgree x) c d
+  area_goes c d h = let k = kept c d h in let keeps = k.2 in (k.0, k.1, keeps.fit, keeps.cells)
 
   -- the reference that a tree is itself goes along
-  pub own_agrees : (t : Term Corner) → EachReference (IsStillReference s) (IsStillArea s) t → ReferencesAgree x (own_reference t) (own_reference (passed x t))
+  pub own_agrees : (t : Term Corner) → EachReference (IsStillReference s) (IsStillArea s bare) t → ReferencesAgree x (own_reference t) (own_reference (passed x t))
   own_agrees (cell c) h =
       let g = cell_goes c h in subst (λ o. ReferencesAgree x (Some (reference.Cell c.at)) (own_reference (cell_at c o))) (sym g.1) g.2
   own_agrees (area c d) h =
@@ -108,9 +155,9 @@ module _ (s : Shift) (v w : World) (from to : Home) (sound : IsSound s) (shows :
   own_agrees (call word ts) h = tt
   own_agrees (paren t) h = tt
 
-  size_goes : (t : Term Corner) → EachReference (IsStillReference s) (IsStillArea s) t → SizeGoes x t
+  size_goes : (t : Term Corner) → EachReference (IsStillReference s) (IsStillArea s bare) t → SizeGoes x t
   size_goes (cell c) (i, (q, e)) = (q, e, tt)
-  size_goes (area c d) h = let k = kept c d h in let keeps = k.3 in (k.0, k.1, k.2, (keeps.heights, keeps.widths))
+  size_goes (area c d) h = let k = kept c d h in let keeps = k.2 in (k.0, k.1, keeps.fit, (keeps.heights, keeps.widths))
   size_goes (number m) h = tt
   size_goes (text u) h = tt
   size_goes (truth b) h = tt
@@ -123,7 +170,7 @@ module _ (s : Shift) (v w : World) (from to : Home) (sound : IsSound s) (shows :
   size_goes (paren t) h = tt
 
   mutual
-    goes : (t : Term Corner) → EachReference (IsStillReference s) (IsStillArea s) t → AsksNowhere t → NamesDo (names_in t) → GoesAlong x t
+    goes : (t : Term Corner) → EachReference (IsStillReference s) (IsStillArea s bare) t → AsksNowhere t → NamesDo (names_in t) → GoesAlong x t
     goes (cell c) h n names = cell_goes c h
     goes (area c d) h n names = area_goes c d h
     goes (name word) h n names = names word (or_left (bytes_eq word word) false (bytes_eq-self word))
@@ -137,7 +184,7 @@ module _ (s : Shift) (v w : World) (from to : Home) (sound : IsSound s) (shows :
     goes (truth b) h n names = tt
     goes (fault f) h n names = tt
 
-    all_go : (sized : Bool) (ts : Terms Corner) → EachReferenceOfAll (IsStillReference s) (IsStillArea s) ts → AllAskNowhere ts → NamesDo (names_in_all ts) → AllGoAlong x sized ts
+    all_go : (sized : Bool) (ts : Terms Corner) → EachReferenceOfAll (IsStillReference s) (IsStillArea s bare) ts → AllAskNowhere ts → NamesDo (names_in_all ts) → AllGoAlong x sized ts
     all_go sized no_terms h n names = tt
     all_go sized (term t ts) h n names = (
       λ _. size_goes t h.0,
@@ -146,9 +193,9 @@ module _ (s : Shift) (v w : World) (from to : Home) (sound : IsSound s) (shows :
     )
 
   mutual
-    pub follows : (t : Term Corner) → EachReference (IsStillReference s) (IsStillArea s) t → Follows (place_after s) (block_after s) t
+    pub follows : (t : Term Corner) → EachReference (IsStillReference s) (IsStillArea s bare) t → Follows (place_after s) (block_after s) bare t
     follows (cell c) h = h.1
-    follows (area c d) h = let k = kept c d h in let keeps = k.3 in (k.0, k.1, keeps.places)
+    follows (area c d) h = let k = kept c d h in let keeps = k.2 in (k.0, k.1, keeps.places)
     follows (prefix sign t) h = follows t h
     follows (percent t) h = follows t h
     follows (binary o l r) h = (follows l h.0, follows r h.1)
@@ -160,10 +207,10 @@ module _ (s : Shift) (v w : World) (from to : Home) (sound : IsSound s) (shows :
     follows (fault f) h = tt
     follows (name word) h = tt
 
-    all_follow : (skip : Bool) (ts : Terms Corner) → EachReferenceOfAll (IsStillReference s) (IsStillArea s) ts → AllFollow (place_after s) (block_after s) skip ts
+    all_follow : (skip : Bool) (ts : Terms Corner) → EachReferenceOfAll (IsStillReference s) (IsStillArea s bare) ts → AllFollow (place_after s) (block_after s) bare skip ts
     all_follow skip no_terms h = tt
     all_follow skip (term t ts) h = (λ _. follows t h.0, all_follow skip ts h.1)
 
 pub still_goes : StillGoesAlong
-still_goes s v w from to t sound still shows words =
-    (goes s v w from to sound shows t still.references still.nowhere words, follows s v w from to sound shows t still.references)
+still_goes s bare v w from to t sound still shows words =
+    (goes s bare v w from to sound shows t still.references still.nowhere words, follows s bare v w from to sound shows t still.references)

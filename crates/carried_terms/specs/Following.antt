@@ -9,38 +9,38 @@ use Rattle.formula_tree.specs.Term.{Term, cell, area, prefix, percent, binary, c
 use Rattle.formula_tree.specs.declared.reference.Corner.{Corner}
 use Rattle.shift_core.specs.Carried.{carried_place, contains, destination, first_place}
 use Rattle.shift_core.specs.Form.{form_of}
-use Rattle.shift_core.specs.Tables.{place_after}
+use Rattle.shift_core.specs.Tables.{block_after, place_after}
 use Rattle.shift_core.specs.declared.form.Form.{Form}
 use Rattle.shift_core.specs.declared.form.Form.TheVariants.{Cells}
 use Rattle.shift_core.specs.declared.shift.Shift.{Shift}
 use Rattle.calc_terms.specs.Cells.{height, width}
 
--- a rule puts the places of the first block exactly at those of the second one
-pub record PlacesGo (place : Place → Option Place) (b c : Block) : Type 0 where
-  pub forth : (p : Place) → Covers b p → (q : Place) × (place p ≡ Some q) × Covers c q
-  pub back : (q : Place) → Covers c q → (p : Place) × (place p ≡ Some q) × Covers b p
+-- a rule puts the places of the first block exactly at those of the second one, but for places that are bare
+pub record PlacesGo (place : Place → Option Place) (bare : Place → Bool) (b c : Block) : Type 0 where
+  pub forth : (p : Place) → Covers b p → (bare p ≡ true) ⊎ ((q : Place) × (place p ≡ Some q) × Covers c q)
+  pub back : (q : Place) → Covers c q → (bare q ≡ true) ⊎ ((p : Place) × (place p ≡ Some q) × Covers b p)
 
 -- a block isn't lost, and its places go where it does
-abbrev pub BlockFollows : (Place → Option Place) → (Block → Option Block) → Block → Type 0
-BlockFollows place block b = (c : Block) × (block b ≡ Some c) × PlacesGo place b c
+abbrev pub BlockFollows : (Place → Option Place) → (Block → Option Block) → (Place → Bool) → Block → Type 0
+BlockFollows place block bare b = (c : Block) × (block b ≡ Some c) × PlacesGo place bare b c
 
 abbrev mutual
   -- the places that a tree mentions go where its references do: none of them is lost, and the blocks take their places
   -- along
-  pub Follows : (Place → Option Place) → (Block → Option Block) → Term Corner → Type 0
-  Follows place block (cell c) = (q : Place) × (place c.at ≡ Some q)
-  Follows place block (area c d) = BlockFollows place block (block_of c d)
-  Follows place block (prefix s t) = Follows place block t
-  Follows place block (percent t) = Follows place block t
-  Follows place block (binary o l r) = Follows place block l × Follows place block r
-  Follows place block (call w ts) = AllFollow place block (is_place_word w) ts
-  Follows place block (paren t) = Follows place block t
-  Follows place block t = ⊤
+  pub Follows : (Place → Option Place) → (Block → Option Block) → (Place → Bool) → Term Corner → Type 0
+  Follows place block bare (cell c) = (q : Place) × (place c.at ≡ Some q)
+  Follows place block bare (area c d) = BlockFollows place block bare (block_of c d)
+  Follows place block bare (prefix s t) = Follows place block bare t
+  Follows place block bare (percent t) = Follows place block bare t
+  Follows place block bare (binary o l r) = Follows place block bare l × Follows place block bare r
+  Follows place block bare (call w ts) = AllFollow place block bare (is_place_word w) ts
+  Follows place block bare (paren t) = Follows place block bare t
+  Follows place block bare t = ⊤
 
   -- so do the arguments of a call, of which those that are references are skipped or not
-  pub AllFollow : (Place → Option Place) → (Block → Option Block) → Bool → Terms Corner → Type 0
-  AllFollow place block skip no_terms = ⊤
-  AllFollow place block skip (term t ts) = ((skip && is_reference t) ≡ false → Follows place block t) × AllFollow place block skip ts
+  pub AllFollow : (Place → Option Place) → (Block → Option Block) → (Place → Bool) → Bool → Terms Corner → Type 0
+  AllFollow place block bare skip no_terms = ⊤
+  AllFollow place block bare skip (term t ts) = ((skip && is_reference t) ≡ false → Follows place block bare t) × AllFollow place block bare skip ts
 
 -- a moved block of cells doesn't tear the block: it has all of it along, or meets it neither where it was nor where it comes
 abbrev pub IsWholeIn : Form → Block → Type 0
@@ -56,4 +56,8 @@ pub record KeepsOffsets (s : Shift) (b c : Block) : Type 0 where
   pub heights : height b ≡ height c
   pub widths : width b ≡ width c
   pub offsets : (p : Place) → Covers b p → place_after s p ≡ Some (carried_place b (first_place c) p)
-  pub places : PlacesGo (place_after s) b c
+  pub places : PlacesGo (place_after s) (λ p. false) b c
+
+-- the block stays where it is, though the moved cells tear it: each of its places stays too, or is bare
+abbrev pub StaysTorn : Shift → (Place → Bool) → Block → Type 0
+StaysTorn s bare b = (block_after s b ≡ Some b) × ((p : Place) → Covers b p → (bare p ≡ true) ⊎ (place_after s p ≡ Some p))

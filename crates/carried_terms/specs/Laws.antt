@@ -1,5 +1,5 @@
 -- What holds of formulas of which all goes along. Source: this project's own.
-use Rattle.std.specs.Prelude.{◌≡◌, ℕ, true, List, Option, Some}
+use Rattle.std.specs.Prelude.{◌≡◌, ◌⊎◌, ℕ, Bool, true, List, Option, Some}
 use Rattle.cell_addr.specs.Place.{IsBlockInside}
 use Rattle.cell_addr.specs.declared.place.Block.{Block}
 use Rattle.cell_addr.specs.declared.place.Place.{Place}
@@ -33,15 +33,17 @@ abbrev pub CellsGoAlong : Type 0
 CellsGoAlong =
     (v w : Place → Scalar) (b c : Block) → height b ≡ height c → width b ≡ width c → ShowsAlong v w b c → cells_in v b ≡ cells_in w c
 
--- the tree mentions then exactly the places to which those that it mentioned went, and the same names
-pub record NeedsGo (place : Place → Option Place) (t u : Term Corner) : Type 0 where
-  pub forth : (p : Place) → mentions t p ≡ true → (q : Place) × (place p ≡ Some q) × (mentions u q ≡ true)
-  pub back : (q : Place) → mentions u q ≡ true → (p : Place) × (place p ≡ Some q) × (mentions t p ≡ true)
+-- the tree mentions then exactly the places to which those that it mentioned went, but for bare places, and the same names
+pub record NeedsGo (place : Place → Option Place) (bare : Place → Bool) (t u : Term Corner) : Type 0 where
+  pub forth : (p : Place) → mentions t p ≡ true → (bare p ≡ true) ⊎ ((q : Place) × (place p ≡ Some q) × (mentions u q ≡ true))
+  pub back : (q : Place) → mentions u q ≡ true → (bare q ≡ true) ⊎ ((p : Place) × (place p ≡ Some q) × (mentions t p ≡ true))
   pub names : names_in u ≡ names_in t
 
 -- it does where its references follow
 abbrev pub NeedsFollow : Type 0
-NeedsFollow = (place : Place → Option Place) (block : Block → Option Block) (t : Term Corner) → Follows place block t → NeedsGo place t (placed_by place block t)
+NeedsFollow =
+    (place : Place → Option Place) (block : Block → Option Block) (bare : Place → Bool) (t : Term Corner) → Follows place block bare t →
+    NeedsGo place bare t (placed_by place block t)
 
 -- a block that an operation neither bends nor cuts nor tears keeps its size, and its places their offsets in it
 abbrev pub KeptBlocksFollow : Type 0
@@ -52,5 +54,5 @@ KeptBlocksFollow =
 -- its words find names that agree; and its references follow
 abbrev pub StillGoesAlong : Type 0
 StillGoesAlong =
-    (s : Shift) (v w : World) (from to : Home) (t : Term Corner) → IsSound s → IsStill s t → ShowAlong s v w → WordsAgree (passage_of s v w from to) t →
-    GoesAlong (passage_of s v w from to) t × Follows (place_after s) (block_after s) t
+    (s : Shift) (bare : Place → Bool) (v w : World) (from to : Home) (t : Term Corner) → IsSound s → IsStill s bare t → ShowAlong s bare v w →
+    WordsAgree (passage_of s v w from to) t → GoesAlong (passage_of s v w from to) t × Follows (place_after s) (block_after s) bare t

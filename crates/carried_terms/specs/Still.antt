@@ -1,5 +1,5 @@
 -- Formulas that an operation carries along as they are. Source: this project's own.
-use Rattle.std.specs.Prelude.{◌≡◌, ⊤, false, true, ℕ, List, Some}
+use Rattle.std.specs.Prelude.{◌≡◌, ⊤, false, true, ℕ, List, Some, ◌⊎◌, Bool}
 use Rattle.cell_addr.specs.Place.{IsBlockInside, IsInside}
 use Rattle.cell_addr.specs.declared.place.Place.{Place}
 use Rattle.formula_tree.specs.Reference.{block_of, sheet_of}
@@ -13,7 +13,7 @@ use Rattle.tree_rewrite.specs.References.{EachReference}
 use Rattle.calc_terms.specs.Needs.{mentions_name}
 use Rattle.calc_terms.specs.World.{World}
 use Rattle.carried_terms.specs.Carried.{NamesAgree, Passage, asks_where}
-use Rattle.carried_terms.specs.Following.{IsWhole}
+use Rattle.carried_terms.specs.Following.{IsWhole, StaysTorn}
 
 -- the passage of a formula that an operation rewrites
 abbrev pub passage_of : Shift → World → World → Home → Home → Passage
@@ -23,9 +23,11 @@ passage_of s v w from to = record { place = place_after s; block = block_after s
 abbrev pub IsStillReference : Shift → Corner → Type 0
 IsStillReference s c = IsInside c.at × ((q : Place) × (place_after s c.at ≡ Some q))
 
--- a block within the limits of a sheet that is neither bent nor cut nor torn
-abbrev pub IsStillArea : Shift → Corner → Corner → Type 0
-IsStillArea s c d = IsBlockInside (block_of c d) × (¬ IsBent s (block_of c d)) × (¬ IsCut s (block_of c d)) × IsWhole s (block_of c d)
+-- a block within the limits of a sheet that is neither bent nor cut, nor torn but over bare places
+abbrev pub IsStillArea : Shift → (Place → Bool) → Corner → Corner → Type 0
+IsStillArea s bare c d =
+    IsBlockInside (block_of c d) × (¬ IsBent s (block_of c d)) × (¬ IsCut s (block_of c d))
+    × (IsWhole s (block_of c d) ⊎ StaysTorn s bare (block_of c d))
 
 abbrev mutual
   -- nothing in a tree asks where a cell stands
@@ -41,9 +43,10 @@ abbrev mutual
   AllAskNowhere no_terms = ⊤
   AllAskNowhere (term t ts) = AsksNowhere t × AllAskNowhere ts
 
--- each place of the sheets that isn't lost shows the same where it is then
-abbrev pub ShowAlong : Shift → World → World → Type 0
-ShowAlong s v w = (p q : Place) → IsInside p → place_after s p ≡ Some q → v.shown p ≡ w.shown q
+-- each place of the sheets that isn't lost shows the same where it is then, and each bare one where it is
+pub record ShowAlong (s : Shift) (bare : Place → Bool) (v w : World) : Type 0 where
+  pub moved : (p q : Place) → IsInside p → place_after s p ≡ Some q → v.shown p ≡ w.shown q
+  pub bare_ones : (p : Place) → IsInside p → bare p ≡ true → v.shown p ≡ w.shown p
 
 -- each word of the tree finds a name that agrees
 abbrev pub WordsAgree : Passage → Term Corner → Type 0
@@ -51,6 +54,6 @@ WordsAgree x t =
     (word : List ℕ) → mentions_name t word ≡ true → NamesAgree x (x.old.named word (sheet_of x.from)) (x.new.named word (sheet_of x.to))
 
 -- the operation carries the formula's tree along as it is
-pub record IsStill (s : Shift) (t : Term Corner) : Type 0 where
-  pub references : EachReference (IsStillReference s) (IsStillArea s) t
+pub record IsStill (s : Shift) (bare : Place → Bool) (t : Term Corner) : Type 0 where
+  pub references : EachReference (IsStillReference s) (IsStillArea s bare) t
   pub nowhere : AsksNowhere t
