@@ -358,11 +358,20 @@ const ROWS_OUT: Shift = Shift::DeleteRows {
     count: 2,
 };
 
-// Puts a value above rows that are deleted and one in them. Whether the first stays and the other is handed out.
-fn are_values_carried(grid: &mut Grid<Scalar>, text: Text) -> Result<bool, AllocError> {
-    grid.put(place((0, 1, 1)), Scalar::Text(text))?;
-    grid.put(place((0, 3, 1)), Scalar::Truth(true))?;
-    let removed = grid.apply(&ROWS_OUT)?;
+// Puts a value at the place, if it is on a sheet.
+fn put_value(grid: &mut Grid<Scalar>, at: Spot, value: Scalar) -> Result<(), AllocError> {
+    let at = place(at);
+    if at.inside() {
+        grid.put(at, value)?;
+    }
+    Ok(())
+}
+
+// Deletes rows. Whether the value above them stays and the one in them is handed out.
+fn are_values_carried(grid: &mut Grid<Scalar>, shift: &Shift) -> Result<bool, AllocError>
+    requires { IsSound shift.now }
+{
+    let removed = grid.apply(shift)?;
     let first = grid.cell(place((0, 1, 1)));
     Ok(is_text(first, "ab") && removed.items().len() == 1 && grid.filled() == 1)
 }
@@ -379,7 +388,9 @@ fn is_text(value: Option<&Scalar>, expected: &str) -> bool {
 fn values_are_carried(rt: HostRuntime) -> Result<(), AllocError> {
     let text = Text::from_str(rt.alloc(), "ab")?;
     let mut grid = Grid::new(rt.alloc())?;
-    assert!(rt; are_values_carried(&mut grid, text)?);
+    put_value(&mut grid, (0, 1, 1), Scalar::Text(text))?;
+    put_value(&mut grid, (0, 3, 1), Scalar::Truth(true))?;
+    assert!(rt; sound(&ROWS_OUT) && are_values_carried(&mut grid, &ROWS_OUT)?);
     Ok(())
 }
 
