@@ -1,7 +1,7 @@
 use Rattle.shift_core.specs.declared.shift.Shift.TheVariants.{InsertRows}
 use Rattle.range_table.specs.Ranges.{table_of}
-use Rattle.range_cases.proofs.Grids.{alike_right}
-use Rattle.range_cases.proofs.bench.Summed.insert.Goals as goal
+use Rattle.call_bench.proofs.Alike.{alike_right}
+use Rattle.call_bench.proofs.ranges.Summed.insert.Goals as goal
 
 pub invariant_of-self : goal.invariant_of-self
 invariant_of-self c =

@@ -1,8 +1,11 @@
 // A store whose cursor never goes back.
+ghost use Rattle.formula_tree.specs.Reference.{IsHomeInside};
+ghost use Rattle.formula_tree.specs.Relative.{relative};
+ghost use Rattle.formula_tree.specs.StandsFor.{at_home};
 ghost use Rattle.lazy_store.specs.Store.{AreBehind};
+ghost use Rattle.tree_rewrite.specs.References.{FitsSheets};
 
-use crate::known::Known;
-use formula_tree::Pool;
+use formula_tree::{Home, Pool, Tree};
 use lazy_store::Lazy;
 use shift_core::{Shift, sound};
 use std::alloc::{AllocError, Global};
@@ -22,13 +25,16 @@ impl Onward {
         })
     }
 
-    /// Adds a formula, where there is none under the id.
-    pub(crate) fn insert(&mut self, id: u64, standing: &Known) -> Result<(), AllocError> {
+    /// Adds a formula, where there is none under the id. The home and the tree's references and blocks lie within the limits
+    /// of a sheet.
+    pub(crate) fn insert(&mut self, id: u64, home: Home, tree: Tree) -> Result<(), AllocError>
+        requires home { IsHomeInside home }
+        requires fits { FitsSheets (at_home home (relative tree.value)) }
+    {
         if self.store.is_live(id).is_some() {
             return Ok(());
         }
-        let tree = standing.tree.clone()?;
-        self.store.insert(id, standing.home, tree)
+        self.store.insert(id, home, tree)
     }
 
     /// Puts an operation on the line, where it can be done.

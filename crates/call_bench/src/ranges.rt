@@ -118,15 +118,15 @@ const CASES: [(Case, &'static str); 6] = [
     ),
 ];
 
-// Times all cases, and prints a line for each.
-pub(crate) fn bench<L: Ledger>(rt: &HostRuntime, steps: &mut Steps<L>) -> io::Result<()> {
+/// Times all cases, and prints a line for each.
+pub(crate) fn run<L: Ledger>(rt: &HostRuntime, steps: &mut Steps<L>) -> io::Result<bool> {
     'cases: for &(case, shows) in &CASES {
         let mut summed = Summed::new(rt.alloc())?;
         let time = time_case(rt, &mut summed, case, steps)?;
         let merged = summed.ranges.merged();
         println!(rt; "{shows}: {time} microseconds, {merged} cells merged in all")?;
     }
-    Ok(())
+    Ok(true)
 }
 
 // How many microseconds a case takes.
@@ -140,12 +140,16 @@ fn time_case<L: Ledger>(
         summed.ask_prefixes(rows, steps)?;
     }
     let start = Instant::now(rt)?;
-    run(summed, case, steps)?;
+    ask_for(summed, case, steps)?;
     Ok(start.elapsed(rt)?.as_micros())
 }
 
-// Runs a case.
-fn run<L: Ledger>(summed: &mut Summed, case: Case, steps: &mut Steps<L>) -> Result<(), AllocError> {
+// Asks for what a case asks for.
+fn ask_for<L: Ledger>(
+    summed: &mut Summed,
+    case: Case,
+    steps: &mut Steps<L>,
+) -> Result<(), AllocError> {
     match case {
         Case::Prefixes(rows) => summed.ask_prefixes(rows, steps),
         Case::Rolling(rows, from) => roll(summed, rows, from, steps),

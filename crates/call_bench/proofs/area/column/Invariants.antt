@@ -2,7 +2,7 @@
 use Rattle.std.proofs.Common.{◌≡◌, true, drop}
 use Rattle.std.specs.List.{list_all}
 use Rattle.cell_value.specs.Scalar.{is_empty}
-use Rattle.function_bench.proofs.area.column.Given as goal
+use Rattle.call_bench.proofs.area.column.Given as goal
 
 abbrev pub invariant-rows : goal.invariant-rows
 invariant-rows l = record {

@@ -1,4 +1,4 @@
-// What is timed: functions, and their arguments.
+// Functions that are timed, and their arguments.
 use crate::area::column;
 use cell_addr::Text;
 use cell_value::{Arg, Scalar};
@@ -7,6 +7,7 @@ use func_look::{LookFn, look};
 use func_math::{MathFn, math};
 use func_text::{TextFn, texts};
 use std::alloc::{AllocError, Global};
+use std::io;
 
 /// A function of a crate that is timed.
 #[derive(Clone, Copy, Debug)]
@@ -17,8 +18,8 @@ pub enum Function {
 }
 
 impl Function {
-    /// The function's value of the arguments.
-    pub(crate) fn value(self, alloc: Global, args: &[Arg]) -> Result<Scalar, AllocError> {
+    // The function's value of the arguments.
+    fn value(self, alloc: Global, args: &[Arg]) -> Result<Scalar, AllocError> {
         match self {
             Function::Math(function) => math(alloc, function, args),
             Function::Look(function) => look(alloc, function, args),
@@ -27,9 +28,26 @@ impl Function {
     }
 }
 
-/// The function of a case and its arguments: a column of so many rows, of which so many are filled with
-/// their numbers, and what is sought in it, or a text of so many bytes. `None` where there is no such case.
-pub(crate) fn arguments_of(
+/// Works the function of a name out so many times over so many rows or bytes, so many of which are filled, and prints its
+/// value of the last time. Whether there is such a function, and all three numbers are given.
+pub(crate) fn run(rt: &HostRuntime, name: &str, numbers: [Option<u32>; 3]) -> io::Result<bool> {
+    let [Some(rows), Some(filled), Some(times)] = numbers else {
+        return Ok(false);
+    };
+    let Some((function, args)) = arguments_of(rt.alloc(), name, rows, filled)? else {
+        return Ok(false);
+    };
+    let mut value = Scalar::Empty;
+    'times: for _ in 0..times {
+        value = function.value(rt.alloc(), &args)?;
+    }
+    println!(rt; "{}", value.shown(rt.alloc())?.as_str())?;
+    Ok(true)
+}
+
+// The function of a case and its arguments: a column of so many rows, of which so many are filled with
+// their numbers, and what is sought in it, or a text of so many bytes. `None` where there is no such case.
+fn arguments_of(
     alloc: Global,
     name: &str,
     rows: u32,

@@ -1,7 +1,7 @@
 // Stores that are timed.
 
 use crate::onward::Onward;
-use crate::reading::read_formula;
+use crate::reading::read_tree;
 use cell_addr::{Place, ROWS};
 use formula_tree::{Home, Pool};
 use lazy_store::Lazy;
@@ -23,8 +23,16 @@ const FIRST_CELL: Place = Place {
 
 /// Times a store of so many formulas over so many operations, and prints what each part took, in nanoseconds: putting the
 /// formulas in, the operations, reading one formula over all of them; and, with one formula that loses something over each
-/// operation, reading it over all of them and back. Whether the formulas could be read.
-pub(crate) fn run_bench(rt: &HostRuntime, formulas: u64, operations: u64) -> io::Result<bool> {
+/// operation, reading it over all of them and back. Whether both numbers are given, and the formulas could be read.
+pub(crate) fn run(rt: &HostRuntime, formulas: &str, operations: Option<u32>) -> io::Result<bool> {
+    let (Ok(formulas), Some(operations)) = (formulas.parse::<u64>(), operations) else {
+        return Ok(false);
+    };
+    time_both(rt, formulas, u64::from(operations))
+}
+
+// Times a store of so many formulas, and one of a single formula; whether both could be read.
+fn time_both(rt: &HostRuntime, formulas: u64, operations: u64) -> io::Result<bool> {
     let mut pool = Pool::new(rt.alloc())?;
     let many = time_many(rt, &mut pool, formulas, operations)?;
     let one = time_one(rt, &mut pool, operations)?;
@@ -127,8 +135,11 @@ fn put(
     cell: Place,
     text: &str,
 ) -> Result<(), AllocError> {
-    match read_formula(alloc, pool, Home::Cell(cell), text)? {
-        Some(standing) => store.insert(id, &standing),
+    if !cell.inside() {
+        return Ok(());
+    }
+    match read_tree(alloc, pool, Home::Cell(cell), text)? {
+        Some(tree) => store.insert(id, Home::Cell(cell), tree),
         None => Ok(()),
     }
 }

@@ -2,7 +2,6 @@
 // rows that are put in.
 ghost use Rattle.std.specs.Prelude.{◌<◌};
 
-use crate::both::nodes;
 use crate::shapes::Shape;
 use dep_graph::{Graph, Nodes};
 use shift_core::{Shift, sound};
@@ -56,23 +55,23 @@ impl fmt::Display for Millis {
     }
 }
 
-// Prints the titles of all graphs, a line each.
-pub(crate) fn print_titles(rt: &HostRuntime) -> io::Result<()> {
+/// Prints the titles of all graphs, a line each.
+pub(crate) fn print_titles(rt: &HostRuntime) -> io::Result<bool> {
     'cases: for &(shape, name, count) in &CASES {
         println!(rt; "{}", Case { shape, name, count })?;
     }
-    Ok(())
+    Ok(true)
 }
 
-// Times the graph of a title, or all where no title is given, and prints a line for each part.
-pub(crate) fn bench(rt: &HostRuntime, title: Option<&str>) -> io::Result<()> {
+/// Times the graph of a title, or all where it is empty, and prints a line for each part.
+pub(crate) fn run(rt: &HostRuntime, title: &str) -> io::Result<bool> {
     'cases: for &(shape, name, count) in &CASES {
         let case = Case { shape, name, count };
         if case.is_wanted(rt, title)? {
             time_case(rt, case)?;
         }
     }
-    Ok(())
+    Ok(true)
 }
 
 // Times a graph.
@@ -82,15 +81,10 @@ fn time_case(rt: &HostRuntime, case: Case) -> io::Result<()> {
 }
 
 impl Case {
-    // Whether the title is that of the graph, or none is given.
-    fn is_wanted(self, rt: &HostRuntime, title: Option<&str>) -> io::Result<bool> {
-        match title {
-            None => Ok(true),
-            Some(title) => {
-                let own = format!(in rt.alloc(); "{self}")?;
-                Ok(own.as_str() == title)
-            }
-        }
+    // Whether the title is that of the graph, or empty.
+    fn is_wanted(self, rt: &HostRuntime, title: &str) -> io::Result<bool> {
+        let own = format!(in rt.alloc(); "{self}")?;
+        Ok(title.is_empty() || own.as_str() == title)
     }
 
     // Times how the graph is linked, what it answers, and rows that are put in.
@@ -104,7 +98,8 @@ impl Case {
 
     // Times what the graph answers for a mark.
     fn time_mark(self, rt: &HostRuntime, graph: &Graph) -> io::Result<()> {
-        let marks = nodes(rt.alloc(), &[self.shape.mark()])?;
+        let mut marks = Nodes::new(rt.alloc())?;
+        marks.push(self.shape.mark())?;
         self.time_answers(rt, graph, &marks)
     }
 

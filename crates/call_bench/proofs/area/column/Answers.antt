@@ -4,7 +4,7 @@ use Rattle.cell_value.specs.declared.scalar.Scalar.{Scalar}
 use Rattle.cell_value.specs.Cells.{Cells, with_value}
 use Rattle.cell_value.specs.Scalar.{is_empty}
 use Rattle.cell_value.proofs.Filling.{empty_after, empty_from_any}
-use Rattle.function_bench.proofs.area.column.Goals as goal
+use Rattle.call_bench.proofs.area.column.Goals as goal
 
 -- from the row after the one that was filled all are empty
 next : (cells : Cells) (row : ℕ) (value : Scalar) → cells.cols ≡ 1 → list_all is_empty (drop row cells.values) ≡ true
