@@ -1,10 +1,13 @@
+// What is copied, cut and pasted.
 ghost use Rattle.formula_tree.specs.Reference.{IsHomeInside};
 ghost use Rattle.formula_tree.specs.Seen.{seen};
 ghost use Rattle.formula_tree.specs.StandsFor.{ArePlacesInside};
 
 use cell_addr::{Block, OneSheet, Place, Text};
 use clip_board::{Clip, CopyItem, CopyList, pasted};
+use fix_num::Fixed;
 use formula_tree::{Corner, Home, Plain, Pool, Tree};
+use grid_store::Cell;
 use std::alloc::{AllocError, Global};
 use std::test::Fail;
 
@@ -105,5 +108,20 @@ fn a_cut_ends_and_a_copy_stays(rt: HostRuntime) -> Result<(), Fail> {
     put_formula(rt.alloc(), &mut cells)?;
     assert!(rt; copy_stays(cells));
     assert!(rt; cut_ends());
+    Ok(())
+}
+
+// Whether a list of what was copied has the one content that is put in.
+fn has_copy(alloc: Global) -> Result<bool, AllocError> {
+    let mut list = CopyList::new(alloc)?;
+    list.push(B2, CopyItem::Kept(Cell::Number(Fixed::ONE)))?;
+    Ok(
+        matches!(list.items(), [(at, CopyItem::Kept(Cell::Number(one)))] if *at == B2 && *one == Fixed::ONE),
+    )
+}
+
+#[test]
+fn copies_have_what_is_put_in(rt: HostRuntime) -> Result<(), Fail> {
+    assert!(rt; has_copy(rt.alloc())?);
     Ok(())
 }
