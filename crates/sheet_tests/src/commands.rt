@@ -29,9 +29,17 @@ fn is_cause(alloc: Global, fields: &[&[u8]], cause: &ScriptError) -> Result<bool
     }
 }
 
+// Whether the command takes the last step back.
+fn is_undo(command: &Command) -> bool {
+    matches!(command, Command::Undo)
+}
+
 // Whether the field `undo` alone says that command.
 fn says_undo(alloc: Global) -> bool {
-    matches!(said(alloc, &[b"undo"]), Ok(Command::Undo))
+    match said(alloc, &[b"undo"]) {
+        Ok(command) => is_undo(&command),
+        Err(_) => false,
+    }
 }
 
 #[test]
