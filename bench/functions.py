@@ -1,8 +1,8 @@
-"""Times functions over long columns and long texts, by the built program `function_bench`.
+"""Times functions over long columns and long texts, by the built program `call_bench`.
 
     python3 bench/functions.py [PROGRAM]
 
-PROGRAM is crates/function_bench/out/function_bench where no word is given (`rt run` there builds it). Each row
+PROGRAM is crates/call_bench/out/call_bench where no word is given (`rt run` there builds it). Each row
 gives what one call takes, and what that is for each filled cell or byte: a run without calls is taken off.
 """
 import os
@@ -35,14 +35,14 @@ def seconds(program, words):
     times = []
     for _ in range(3):
         start = time.perf_counter()
-        subprocess.run([program, *map(str, words)], stdout=subprocess.DEVNULL, check=True)
+        subprocess.run([program, "functions", *map(str, words)], stdout=subprocess.DEVNULL, check=True)
         times.append(time.perf_counter() - start)
     return min(times)
 
 
 def main(words):
     here = os.path.dirname(os.path.abspath(__file__))
-    program = words[0] if words else os.path.join(here, "..", "crates", "function_bench", "out", "function_bench")
+    program = words[0] if words else os.path.join(here, "..", "crates", "call_bench", "out", "call_bench")
     for name, rows, filled, repeats in CASES:
         whole = seconds(program, (name, rows, filled, repeats)) - seconds(program, (name, rows, filled, 0))
         call = whole / repeats

@@ -1,9 +1,9 @@
-"""Times the graph of needs on large workbooks, by the built program `graph_cases`.
+"""Times the graph of needs on large workbooks, by the built program `call_bench`.
 
     python3 bench/graph.py [--counted] [--rounds COUNT] [--program PROGRAM] [NAME ..]
 
 A NAME is that of graphs, as "prefix sums" or "formulas in a chain"; without any, all are made. PROGRAM is
-crates/graph_cases/out/graph_cases where it isn't given (`rt run` there builds it). Each graph is made in a process of its own,
+crates/call_bench/out/call_bench where it isn't given (`rt run` there builds it). Each graph is made in a process of its own,
 so that none is timed in memory that another has left. The program's clock gives the times, in rounds of which each makes all
 graphs, some times each: a figure of a round is the least time in it, and the figure of all rounds the least of these. With
 --counted the program runs once under valgrind's callgrind instead, which counts the instructions of each part: the same number
@@ -24,7 +24,7 @@ import tempfile
 
 ROUNDS, REPEATS = 5, 3
 # The program begins a graph by a call of the one function, and prints the time of a part by a call of the other.
-BEGINNING, PRINTING = "dep_graph::net::Net::new", "graph_cases::bench::Case::print_time"
+BEGINNING, PRINTING = "dep_graph::net::Net::new", "call_bench::graphs::Case::print_time"
 # The part for which a graph is begun.
 FIRST_PART = "links"
 # Below these milliseconds and instructions no growth is worked out.
@@ -83,12 +83,12 @@ def main(words):
     options = argparse.ArgumentParser()
     options.add_argument("--counted", action="store_true")
     options.add_argument("--rounds", type=int, default=ROUNDS)
-    options.add_argument("--program", default=os.path.join(here, "..", "crates", "graph_cases", "out", "graph_cases"))
+    options.add_argument("--program", default=os.path.join(here, "..", "crates", "call_bench", "out", "call_bench"))
     options.add_argument("names", nargs="*")
     said = options.parse_args(words)
-    titles = [title for title in lines_of([said.program, "graphs"]) if title]
+    titles = [title for title in lines_of([said.program, "titles"]) if title]
     wanted = [title for title in titles if not said.names or title.split(" ", 1)[1] in said.names]
-    benches = [[said.program, "bench", title] for title in wanted]
+    benches = [[said.program, "graphs", title] for title in wanted]
     measure, count, unit, least = (counted, 1, "instructions", LEAST_COUNT) if said.counted else (timed, said.rounds, "ms", LEAST_TIME)
     rounds = [{part: figure for bench in benches for part, figure in measure(bench).items()} for _ in range(count)]
     before, greatest = {}, 0

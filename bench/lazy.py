@@ -1,8 +1,8 @@
-"""Times a store of lazy formulas, by the built program `lazy_cases`.
+"""Times a store of lazy formulas, by the built program `call_bench`.
 
     python3 bench/lazy.py [PROGRAM]
 
-PROGRAM is crates/lazy_cases/out/lazy_cases where no word is given (`rt run` there builds it). Its clock gives the times, and
+PROGRAM is crates/call_bench/out/call_bench where no word is given (`rt run` there builds it). Its clock gives the times, and
 each is the least of three runs. Memory is the peak of a run, less that of a run with half as many formulas.
 """
 import os
@@ -16,7 +16,7 @@ OPERATIONS = 1_000
 def run(program, formulas, operations):
     """Nanoseconds of each part of a run, and its peak memory in bytes."""
     with tempfile.TemporaryFile() as output:
-        child = subprocess.Popen([program, "bench", str(formulas), str(operations)], stdout=output)
+        child = subprocess.Popen([program, "lazy", str(formulas), str(operations)], stdout=output)
         _, status, usage = os.wait4(child.pid, 0)
         child.returncode = os.waitstatus_to_exitcode(status)
         output.seek(0)
@@ -33,7 +33,7 @@ def least(program, formulas, operations):
 
 def main(words):
     here = os.path.dirname(os.path.abspath(__file__))
-    program = words[0] if words else os.path.join(here, "..", "crates", "lazy_cases", "out", "lazy_cases")
+    program = words[0] if words else os.path.join(here, "..", "crates", "call_bench", "out", "call_bench")
     for formulas in (1, 1_000, 10_000, 100_000):
         times = least(program, formulas, OPERATIONS)
         print(f"{OPERATIONS:,} operations over {formulas:7,} formulas: {times['operations'] / OPERATIONS / 1e3:7.3f} us each; "

@@ -1,156 +1,98 @@
-//! Reads formulas that are data. The program takes the names of tables, reads each row's text as a formula
-//! of the table's cell, prints each difference, and at the end how many rows it read.
+//! Reads formulas that are data. The program takes the names of pages, and in each every row of a table whose first cell
+//! stands between backticks is a case, with what is to be found of it in the second cell. It prints each case that differs
+//! or can't be read, and how many cases a page has.
 //!
-//! ```toml
-//! sheet = "Two"
-//! cell = { sheet = 1, row = 4, col = 4 }
-//!
-//! [[texts]]
-//! text = "= 1+2*a1"
-//! tree = "(+ 1 (* 2 1!R0C0))"
-//! prints = "=1+2*A1"
-//!
-//! [[nested]]
-//! count = 63
-//! front = "("
-//! middle = "1"
-//! after = ")"
-//! levels = 64
-//!
-//! [[columns]]
-//! rows = 10000
-//! text = "=B{}*C{}"
-//! trees = 1
-//!
-//! [[shifts]]
-//! text = "=B6"
-//! shift = "insert-rows 1 5 2"
-//! after = "1!R7C1"
-//! at = { sheet = 1, row = 4, col = 4 }
-//! back = "1!R5C1"
-//! lost = false
-//!
-//! [[moves]]
-//! shift = "delete-rows 1 3 2"
-//! of = "1 3 3 5 5"
-//! after = "1 3 3 3 5"
-//! back = "1 5 3 7 5"
-//! is = "bent"
-//!
-//! [[sound]]
-//! shift = "insert-rows 1 0 0"
-//! sound = false
+//! ```text
+//! | `home 1 4 4` | Two |
+//! | `read = 1+2*a1` | (+ 1 (* 2 1!R0C0)), printed =1+2*A1 |
+//! | `nest 63;(;1;)` | 64 |
+//! | `column 10000;=B…*C…` | 1 |
+//! | `shift insert-rows 1 5 2;=B6` | 1!R7C1 at 1 4 4, back 1!R5C1, lost false |
+//! | `move delete-rows 1 3 2;1 3 3 5 5` | 1 3 3 3 5, back 1 5 3 7 5, bent |
+//! | `sound insert-rows 1 0 0` | not sound |
 //! ```
 //!
-//! The status is 0 where every table could be read, each has rows and none differs, 1 where not, and 2 where there is no
+//! `home` is no case: from there on formulas are those of the cell in this sheet, row and column, counted from 0, and the
+//! sheet of this name has the number 0.
+//!
+//! The status is 0 where every page could be read, each has cases and none differs, 1 where not, and 2 where there is no
 //! memory or no output.
 #![tactic(auto)]
 
+mod found;
 mod moving;
 mod operation;
-mod outcome;
 mod reading;
+mod setting;
 mod shifting;
 mod show;
-mod table;
 
-use case_files::{Row, Tally};
-use outcome::outcome_of;
+use case_files::{Tally, cells_of};
+use found::found;
+use setting::Setting;
 use std::process::ExitCode;
 use std::{env, fs, io};
-use table::{Kind, Setting, document_row};
-use toml::{Table, Value};
 
 fn main(rt: HostRuntime) -> ExitCode {
-    match run_tables(&rt) {
+    match run_pages(&rt) {
         Ok(tally) if tally.is_clean() => ExitCode::SUCCESS,
         Ok(_) => ExitCode::from(1),
         Err(_) => ExitCode::from(2),
     }
 }
 
-// Runs the tables that the words after the program's name name.
-fn run_tables(rt: &HostRuntime) -> io::Result<Tally> {
+// Runs the pages that the words after the program's name name.
+fn run_pages(rt: &HostRuntime) -> io::Result<Tally> {
     let mut whole = Tally::default();
     let mut names = env::args(rt)?;
     let _program = names.next();
-    'tables: for name in names {
-        println!(rt; "{name}")?;
-        whole = whole.with(run_file(rt, &name)?);
+    'pages: for name in names {
+        whole = whole.with(run_page(rt, &name)?);
     }
-    println!(rt; "{} rows, {} differ", whole.cases, whole.differ)?;
     Ok(whole)
 }
 
-// Runs the rows of a file's table.
-fn run_file(rt: &HostRuntime, name: &str) -> io::Result<Tally> {
-    match table_of(rt, name) {
-        Ok(table) => run_table(rt, &table),
+// Runs the cases of a page, and prints how many they are.
+fn run_page(rt: &HostRuntime, name: &str) -> io::Result<Tally> {
+    match fs::read_to_string(rt, name) {
+        Ok(text) => {
+            let tally = run_text(rt, &text)?;
+            println!(rt; "{name}: {tally}")?;
+            Ok(tally)
+        }
         Err(cause) => {
-            println!(rt; "    UNREADABLE: {cause}")?;
+            println!(rt; "{name}: UNREADABLE: {cause}")?;
             Ok(Tally::default())
         }
     }
 }
 
-// The table of a file.
-fn table_of(rt: &HostRuntime, name: &str) -> anyhow::Result<Table> {
-    let text = fs::read_to_string(rt, name)?;
-    let table = toml::table_from_str(rt.alloc(), &text)?;
-    Ok(table)
-}
-
-// Runs the rows of a table.
-fn run_table(rt: &HostRuntime, table: &Table) -> io::Result<Tally> {
+// Runs the cases of a text, and prints those that differ or can't be read.
+fn run_text(rt: &HostRuntime, text: &str) -> io::Result<Tally> {
+    let mut setting = Setting::first("");
     let mut tally = Tally::default();
-    match document_row(table) {
-        Some(document) => run_kinds(rt, document, &mut tally)?,
-        None => println!(rt; "    UNREADABLE: no table of formulas")?,
+    'lines: for line in text.lines() {
+        if !line.starts_with("| `") {
+            continue;
+        }
+        let (case, wanted) = cells_of(line).unwrap_or((line, ""));
+        match Setting::of(rt.alloc(), case, wanted)? {
+            Some(given) => setting = given,
+            None => tally.count(holds(rt, &setting, case, wanted)?),
+        }
     }
     Ok(tally)
 }
 
-// Runs the rows of each kind.
-fn run_kinds(rt: &HostRuntime, document: Row, tally: &mut Tally) -> io::Result<()> {
-    let Some(setting) = Setting::of(document) else {
-        return println!(rt; "    UNREADABLE: the cell is none of a sheet");
-    };
-    'kinds: for (kind, key) in Kind::ALL {
-        let rows = document.values(key).unwrap_or_default();
-        run_rows(rt, &setting, kind, rows, tally)?;
-    }
-    if tally.cases == 0 {
-        println!(rt; "    NO ROWS")?;
-    }
-    Ok(())
-}
-
-// Runs rows of a kind.
-fn run_rows(
-    rt: &HostRuntime,
-    setting: &Setting,
-    kind: Kind,
-    rows: &[Value],
-    tally: &mut Tally,
-) -> io::Result<()> {
-    'rows: for row in rows {
-        tally.count(row_holds(rt, setting, kind, row)?);
-    }
-    Ok(())
-}
-
-// Whether what is found of a row is what is wanted; where it isn't, both are printed.
-fn row_holds(rt: &HostRuntime, setting: &Setting, kind: Kind, row: &Value) -> io::Result<bool> {
-    let Some(outcome) = outcome_of(rt.alloc(), setting, kind, row)? else {
-        println!(rt; "    UNREADABLE: a row of kind {kind:?}")?;
+// Whether what is found of a case is what is wanted; where it isn't, both are printed.
+fn holds(rt: &HostRuntime, setting: &Setting, case: &str, wanted: &str) -> io::Result<bool> {
+    let Some(found) = found(rt.alloc(), setting, case)? else {
+        println!(rt; "    NO CASE: {case}")?;
         return Ok(false);
     };
-    if outcome.found == outcome.wanted {
+    if found.as_str() == wanted {
         return Ok(true);
     }
-    println!(rt;
-        "    DIFFERS: {}: found {}, wanted {}",
-        outcome.shows, outcome.found, outcome.wanted
-    )?;
+    println!(rt; "    DIFFERS: {case}: found {found}, wanted {wanted}")?;
     Ok(false)
 }

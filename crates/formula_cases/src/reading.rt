@@ -6,12 +6,12 @@ ghost use Rattle.formula_tree.specs.StandsFor.{ArePlacesInside, at_home};
 ghost use Rattle.tree_rewrite.specs.References.{FitsSheets};
 
 use crate::show::show;
-use crate::table::ColumnRow;
 use cell_addr::{OneSheet, Place, Text};
 use formula_parse::{ParseError, parse};
 use formula_print::print;
 use formula_tree::{Home, Pool, Tree, depth, to_absolute};
 use std::alloc::{AllocError, Global};
+use std::fmt::Write;
 
 /// The tree of a formula at the home and its canonical text, where this sheet is listed; `none` for both where the
 /// text spells no tree. The home lies within the limits of a sheet.
@@ -41,23 +41,36 @@ pub(crate) fn levels_of(
     reading.levels(home, text)
 }
 
-/// How many trees a column of formulas leaves in the pool. Those that would stand beyond the sheet's last row
+/// How many trees a column of so many formulas leaves in the pool. Those that would stand beyond the sheet's last row
 /// aren't read.
 pub(crate) fn column_trees(
     alloc: Global,
     sheet: &str,
     first: Place,
-    column: &ColumnRow,
+    rows: u32,
+    text: &str,
 ) -> Result<usize, AllocError> {
     let mut reading = Reading::new(alloc, sheet)?;
-    'rows: for line in 0..column.rows {
+    'rows: for line in 0..rows {
         let at = Place {
             row: first.row.saturating_add(line),
             ..first
         };
-        reading.read_row(at, column)?;
+        reading.read_row(at, text)?;
     }
     Ok(reading.pool.len())
+}
+
+// The text with the number for each `…`.
+fn with_number(alloc: Global, text: &str, number: u64) -> Result<String, AllocError> {
+    let mut numbered = String::new(alloc);
+    'characters: for character in text.chars() {
+        match character {
+            '…' => write!(numbered, "{number}")?,
+            other => numbered.push(other)?,
+        }
+    }
+    Ok(numbered)
 }
 
 /// The tree of a formula at the home, with every reference as the place that it names.
@@ -133,11 +146,11 @@ impl Reading {
     }
 
     // Reads the formula of a row of a column, where the row is on the sheet.
-    fn read_row(&mut self, at: Place, column: &ColumnRow) -> Result<(), AllocError> {
+    fn read_row(&mut self, at: Place, text: &str) -> Result<(), AllocError> {
         if !at.inside() {
             return Ok(());
         }
-        let text = column.formula(self.alloc, u64::from(at.row) + 1)?;
+        let text = with_number(self.alloc, text, u64::from(at.row) + 1)?;
         let _tree = self.read(Home::Cell(at), &text)?;
         Ok(())
     }

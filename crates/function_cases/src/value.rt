@@ -1,7 +1,9 @@
-// Calls of values.
+// Calls of values, of words and of days.
+use crate::call::Function;
 use cell_addr::Text;
 use cell_value::{Arg, FaultKind, Scalar};
 use fix_num::Fixed;
+use func_date::{DateFn, dates};
 use std::alloc::{AllocError, Global};
 use std::cmp::Ordering;
 
@@ -29,6 +31,8 @@ fn of_one(alloc: Global, word: &str, value: &Scalar) -> Result<Option<Scalar>, A
         "shown" => Ok(Some(Scalar::Text(value.shown(alloc)?))),
         "copy" => Ok(Some(value.copy(alloc)?)),
         "named" => Ok(named(value)),
+        "is_function" => Ok(is_function(value)),
+        "today" => today(value),
         _ => Ok(None),
     }
 }
@@ -57,6 +61,25 @@ fn named(value: &Scalar) -> Option<Scalar> {
     match FaultKind::named(text.as_str()) {
         Some(fault) => Some(Scalar::Fault(fault)),
         None => Some(Scalar::Empty),
+    }
+}
+
+// Whether a text is the word of a function, in capitals.
+fn is_function(value: &Scalar) -> Option<Scalar> {
+    match value {
+        Scalar::Text(word) => Some(Scalar::Truth(Function::named(word.as_str()).is_some())),
+        _ => None,
+    }
+}
+
+// What TODAY answers on the day of this serial number, which stands in a text.
+fn today(value: &Scalar) -> Result<Option<Scalar>, AllocError> {
+    let Scalar::Text(text) = value else {
+        return Ok(None);
+    };
+    match text.as_str().parse::<i32>() {
+        Ok(day) => Ok(Some(dates(DateFn::Today, &[], day)?)),
+        Err(_) => Ok(None),
     }
 }
 

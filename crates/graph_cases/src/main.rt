@@ -1,28 +1,23 @@
 //! Graphs of needs beside what follows from their links plainly. It prints a line for each group of calls on small graphs,
 //! and for lists of calls that are drawn how many there were, and the first answer that differs from that of the plain
 //! model, a list of links. The status is 0 where all answers are as they should be, and else 1.
-//!
-//! For `bench/graph.py` it times large graphs: with the word `graphs` it prints the title of each, with `bench` and a title,
-//! as `"1000 prefix sums"`, it times that graph and prints a line for each part, and with `bench` alone it times all.
 #![tactic(auto)]
 
-mod bench;
 mod both;
 mod lists;
 mod nodes;
 mod plain;
 mod rows;
-mod shapes;
 mod tally;
 
 use draws::Corner;
 use lists::lists;
 use rows::Step;
+use std::io;
 use std::process::ExitCode;
-use std::{env, io};
 
 // The groups of calls on small graphs, with what they show.
-const GROUPS: [(&'static [Step], &'static str); 7] = [
+const GROUPS: [(&'static [Step], &'static str); 10] = [
     (&rows::NEEDS_LEAD_ON, "needs lead on, and in a circle"),
     (
         &rows::USED_RANGES_NEED_THEIR_CELLS,
@@ -30,6 +25,12 @@ const GROUPS: [(&'static [Step], &'static str); 7] = [
     ),
     (&rows::OPERATIONS_BEND, "operations bend what formulas read"),
     (&rows::A_COPY_IS_EQUAL, "a copy has the same links"),
+    (&rows::COPIES_STAY, "copies stay"),
+    (&rows::A_ROW_OF_NEEDS, "a row of needs"),
+    (
+        &rows::LISTS_HAVE_WHAT_IS_PUT_IN,
+        "lists have what is put in",
+    ),
     (&rows::TWO_RANGES_BECOME_ONE, "two ranges become one"),
     (&rows::A_LOST_CELL_GOES, "a lost cell goes with its links"),
     (
@@ -45,32 +46,8 @@ fn main(rt: HostRuntime) -> ExitCode {
     }
 }
 
-// Whether all answers are as they should be, or all graphs were timed.
-fn run(rt: &HostRuntime) -> io::Result<bool> {
-    let mut words = env::args(rt)?;
-    let _program = words.next();
-    match words.next() {
-        None => compare(rt),
-        Some(word) => time(
-            rt,
-            word.as_str(),
-            words.next().as_ref().map(|word| word.as_str()),
-        ),
-    }
-}
-
-// Whether the word asks for titles of graphs or for their times; if so, these are printed.
-fn time(rt: &HostRuntime, word: &str, title: Option<&str>) -> io::Result<bool> {
-    match word {
-        "graphs" => bench::print_titles(rt)?,
-        "bench" => bench::bench(rt, title)?,
-        _ => return Ok(false),
-    }
-    Ok(true)
-}
-
 // Whether all answers are as they should be.
-fn compare(rt: &HostRuntime) -> io::Result<bool> {
+fn run(rt: &HostRuntime) -> io::Result<bool> {
     let small = groups_hold(rt)?;
     let drawn = lists_agree(rt)?;
     Ok(small && drawn)

@@ -48,6 +48,12 @@ const C1: Node = Node::Cell(Place {
     col: 2,
 });
 
+const C2: Node = Node::Cell(Place {
+    sheet: 0,
+    row: 1,
+    col: 2,
+});
+
 const C3: Node = Node::Cell(Place {
     sheet: 0,
     row: 2,
@@ -120,6 +126,13 @@ const DELETE_SIXTH: Shift = Shift::DeleteRows {
     count: 1,
 };
 
+// A row put in beneath all of them.
+const INSERT_NINTH: Shift = Shift::InsertRows {
+    sheet: 0,
+    at: 8,
+    count: 1,
+};
+
 // A call, or an answer that is wanted.
 #[derive(Clone, Copy)]
 pub(crate) enum Step {
@@ -131,8 +144,14 @@ pub(crate) enum Step {
     Shift(Shift),
     // The graph is from now on a copy of what it is.
     Copy,
+    // A copy of the graph is kept.
+    Keep,
     // Exactly these nodes are reached from the mark.
     Reach(Node, &'static [Node]),
+    // Exactly these nodes are reached from the mark in the copy that was kept.
+    ReachKept(Node, &'static [Node]),
+    // A list of nodes has those that are put in.
+    List(&'static [Node]),
     // The nodes of the first list have this order.
     Order(&'static [Node], &'static [Node]),
     // Whether the node is on a cycle.
@@ -187,6 +206,33 @@ pub(crate) const A_COPY_IS_EQUAL: [Step; 6] = [
     Step::Reach(A3, &[A3]),
 ];
 
+// A copy stays as it is where the graph itself changes.
+pub(crate) const COPIES_STAY: [Step; 6] = [
+    Step::Link(B1, &[A1]),
+    Step::Link(C1, &[B1]),
+    Step::Keep,
+    Step::Unlink(B1),
+    Step::Reach(A1, &[A1]),
+    Step::ReachKept(A1, &[A1, B1, C1]),
+];
+
+// A chain of needs and a circle, and the row in which all of them stand.
+pub(crate) const A_ROW_OF_NEEDS: [Step; 10] = [
+    Step::Link(B1, &[A1]),
+    Step::Link(C1, &[B1]),
+    Step::Link(D1, &[D1]),
+    Step::Reach(A1, &[A1, B1, C1]),
+    Step::Order(&[A1, B1, C1], &[A1, B1, C1]),
+    Step::OnCycle(D1, true),
+    Step::OnCycle(C1, false),
+    Step::Bent(DELETE_FIRST, &[B1, C1, D1]),
+    Step::Shift(INSERT_NINTH),
+    Step::Reach(A1, &[A1, B1, C1]),
+];
+
+// A list of nodes has what is put in.
+pub(crate) const LISTS_HAVE_WHAT_IS_PUT_IN: [Step; 1] = [Step::List(&[C2])];
+
 // Where row 6 is taken out, A1:A5 and A1:A6 become one range with the needs and the users of both.
 pub(crate) const TWO_RANGES_BECOME_ONE: [Step; 9] = [
     Step::Link(B1, &[A1_TO_A5]),
@@ -224,11 +270,12 @@ pub(crate) const A_DROPPED_SHEET_GOES: [Step; 8] = [
     Step::Reach(OTHER_A1_TO_A5, &[OTHER_A1_TO_A5]),
 ];
 
-// A graph.
+// A graph, and a copy that was kept.
 #[derive(Drop)]
 struct Scene {
     alloc: Global,
     graph: Graph,
+    kept: Graph,
 }
 
 impl Scene {
@@ -258,7 +305,13 @@ impl Scene {
                 go_on_with_a_copy(&mut self.graph)?;
                 Ok(true)
             }
-            Step::Reach(mark, wanted) => self.reaches(mark, wanted),
+            Step::Keep => {
+                self.kept = self.graph.copied()?;
+                Ok(true)
+            }
+            Step::Reach(mark, wanted) => reaches(self.alloc, &self.graph, mark, wanted),
+            Step::ReachKept(mark, wanted) => reaches(self.alloc, &self.kept, mark, wanted),
+            Step::List(list) => Ok(nodes(self.alloc, list)?.items() == list),
             Step::Order(list, wanted) => self.orders(list, wanted),
             Step::OnCycle(node, wanted) => Ok(self.graph.on_cycle(node)? == wanted),
             Step::Bent(ref s, wanted) => self.bends(s, wanted),
@@ -272,12 +325,6 @@ impl Scene {
             self.graph.shift(s)?;
         }
         Ok(fits)
-    }
-
-    // Whether exactly these nodes are reached from the mark.
-    fn reaches(&self, mark: Node, wanted: &[Node]) -> Result<bool, AllocError> {
-        let reached = self.graph.reach(&nodes(self.alloc, &[mark])?)?;
-        Ok(are_same(reached.items(), wanted))
     }
 
     // Whether the nodes have this order.
@@ -296,11 +343,18 @@ impl Scene {
     }
 }
 
+// Whether exactly these nodes are reached from the mark.
+fn reaches(alloc: Global, graph: &Graph, mark: Node, wanted: &[Node]) -> Result<bool, AllocError> {
+    let reached = graph.reach(&nodes(alloc, &[mark])?)?;
+    Ok(are_same(reached.items(), wanted))
+}
+
 // Whether all steps hold, from a graph without links on.
 pub(crate) fn all_hold(alloc: Global, steps: &[Step]) -> Result<bool, AllocError> {
     let mut scene = Scene {
         alloc,
         graph: Graph::new(alloc)?,
+        kept: Graph::new(alloc)?,
     };
     scene.all_hold(steps)
 }

@@ -3,16 +3,12 @@
 //! It makes calls whose answers are known, and random lists of calls, each on a store of lazy formulas and on the plain
 //! machine, and compares all formulas at all positions after each call. It prints a line for each group of calls. The
 //! status is 0 where all answers agree, and else 1.
-//!
-//! With the words `bench`, a number of formulas and a number of operations it times a store for `bench/lazy.py`.
 #![tactic(auto)]
 
-mod bench;
 mod clearing;
 mod guarded;
 mod known;
 mod lists;
-mod onward;
 mod pair;
 mod plain;
 mod reading;
@@ -22,8 +18,8 @@ mod whole;
 
 use lists::run_lists;
 use std::alloc::{AllocError, Global};
+use std::io;
 use std::process::ExitCode;
-use std::{env, io};
 
 // A group of calls.
 #[derive(Clone, Copy)]
@@ -66,28 +62,8 @@ fn main(rt: HostRuntime) -> ExitCode {
     }
 }
 
-// Runs what the words after the program's name say.
-fn run(rt: &HostRuntime) -> io::Result<bool> {
-    let mut words = env::args(rt)?;
-    let _program = words.next();
-    match words.next() {
-        None => run_cases(rt),
-        Some(word) if word.as_str() == "bench" => {
-            let formulas = number(words.next());
-            let operations = number(words.next());
-            bench::run_bench(rt, formulas, operations)
-        }
-        Some(_) => Ok(false),
-    }
-}
-
-// The number that a word spells; 0 where it spells none.
-fn number(word: Option<String>) -> u64 {
-    word.and_then(|w| w.parse::<u64>().ok()).unwrap_or(0)
-}
-
 // Whether all calls answered as they should.
-fn run_cases(rt: &HostRuntime) -> io::Result<bool> {
+fn run(rt: &HostRuntime) -> io::Result<bool> {
     let mut all = true;
     for (group, shows) in Group::ALL {
         let end = group.holds(rt.alloc());

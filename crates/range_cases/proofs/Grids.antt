@@ -1,5 +1,5 @@
 -- Values that move with their cells. Serves the grid, and the summaries beside it.
-use Rattle.std.proofs.Common.{◌≡◌, ◌∙◌, sym, ap, refl, subst, arith, ◌&&◌, Bool, true, false, cond, List, [], ◌∷◌, map, Option, Some, None, Result, Ok, Err, OnOk, OnErr}
+use Rattle.std.proofs.Common.{◌≡◌, ◌∙◌, sym, ap, refl, subst, arith, ◌&&◌, Bool, true, false, cond, List, [], ◌∷◌, map, Option, Some, None}
 use Rattle.std.specs.Option.{option_map_or}
 use Rattle.std.specs.Prelude.{nat_lt, option_and_then}
 use Rattle.std.proofs.lemmas.Bool.Decides.{nat_tests}
@@ -18,7 +18,7 @@ use Rattle.shift_core.proofs.PlaceLaws.{place_moved_apart}
 use Rattle.cell_addr.proofs.SamePlaces.{same_place-decides}
 use Rattle.range_table.specs.Blocks.{BlockMap}
 use Rattle.range_table.specs.Shifted.{TakesValues}
-use Rattle.range_table.specs.Table.{AreFolds, RangeTable, without_holders}
+use Rattle.range_table.specs.Table.{AreFolds, without_holders}
 use Rattle.range_table.proofs.Staying.{touched_stay_right}
 use Rattle.range_cases.specs.Grid.{moved_cell, moved_on_sheet, stands_at, value_in}
 use Rattle.range_cases.specs.declared.grid.Filled.{Filled}
@@ -77,9 +77,3 @@ other-by cell at p v w is apart =
 pub put_right : (cells : List Filled) (cell : Filled) (at : Place) (kept : BlockMap Summary) → cell.at ≡ Some at → AreFolds (value_in cells) kept → AreFolds (value_in (cell ∷ cells)) (without_holders at kept)
 put_right cells cell at kept is right =
     touched_stay_right (value_in cells) (value_in (cell ∷ cells)) at kept (λ p apart. other-by cell at p cell.value (value_in cells p) is apart) right
-
--- over cells that all have one value, summaries stay right whether an operation is done or wants memory
-pub alike_right : {A E : Type 0} (r : Result A E) (v : Scalar) (s : Shift) (old new : RangeTable)
-    → OnOk r ((before after : Place → Scalar) → TakesValues s before after → AreFolds before old.kept → AreFolds after new.kept) → OnErr r (new ≡ old) → AreFolds (λ p. v) old.kept → AreFolds (λ p. v) new.kept
-alike_right (Ok _) v s old new right err is = right (λ p. v) (λ p. v) (λ p q i goes. refl) is
-alike_right (Err _) v s old new right err is = subst (λ (t : RangeTable). AreFolds (λ p. v) t.kept) (sym err) is

@@ -1,13 +1,10 @@
 //! Kept summaries of ranges beside what is worked out plainly. It prints a line for each group of calls, and for lists of
 //! calls that are drawn how many there were and how many answers differ. The status is 0 where all answers are as they
 //! should be, and else 1.
-//!
-//! With the word `bench` it times kept summaries instead, and prints a line for each case.
 #![tactic(auto)]
 
 ghost use Rattle.std.specs.Prelude.{◌≡◌, ◌<◌};
 
-mod bench;
 mod both;
 mod calls;
 mod grid;
@@ -18,10 +15,10 @@ mod values;
 use draws::Corner;
 use lists::lists;
 use std::alloc::{AllocError, Global};
+use std::io;
 use std::marker::Brand;
 use std::process::ExitCode;
 use std::sync::ledger::{Blank, Ledger};
-use std::{env, io};
 use steps::Steps;
 
 // How many lists are drawn at each corner.
@@ -34,29 +31,15 @@ fn main(rt: HostRuntime) -> ExitCode {
     }
 }
 
-// Whether all answers are as they should be, or all cases were timed.
+// Whether all answers are as they should be.
 fn run<L: Ledger>(rt: &HostRuntime, blank: Blank) -> io::Result<bool>
     requires name { blank.name ≡ L.name }
     requires parts { blank.parts ≡ L.parts }
     requires some { 0 < blank.parts }
 {
     let mut steps = Steps::<L>::new(blank);
-    let mut words = env::args(rt)?;
-    let _program = words.next();
-    match words.next() {
-        None => compare(rt, &mut steps),
-        Some(word) if word.as_str() == "bench" => {
-            bench::bench(rt, &mut steps)?;
-            Ok(true)
-        }
-        Some(_) => Ok(false),
-    }
-}
-
-// Whether all answers are as they should be.
-fn compare<L: Ledger>(rt: &HostRuntime, steps: &mut Steps<L>) -> io::Result<bool> {
-    let alone = calls_hold(rt, steps)?;
-    let drawn = lists_agree(rt, steps)?;
+    let alone = calls_hold(rt, &mut steps)?;
+    let drawn = lists_agree(rt, &mut steps)?;
     Ok(alone && drawn)
 }
 

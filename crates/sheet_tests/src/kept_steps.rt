@@ -1,42 +1,109 @@
+// Entries that are done and undone, up to a limit.
 use std::alloc::{AllocError, Global};
 use std::collections::VecDeque;
 use undo_book::UndoBook;
 
-/// What a book of this limit has after the entries 1, 2 and 3 and a step back, and then after a fourth one.
-struct Row {
-    limit: u16,
-    done: &'static [u8],
-    undone: &'static [u8],
-    then: &'static [u8],
+// A call of a book, and what it is to answer.
+#[derive(Clone, Copy)]
+enum Step {
+    Push(u8),
+    // A step back; whether there is one.
+    Back(bool),
+    // A step forward; whether there is one.
+    Forward(bool),
+    // The entry that is taken out of those that are done, or of those that are undone.
+    TakeDone(Option<u8>),
+    TakeUndone(Option<u8>),
+    // An entry put on each side of the book, where it has none and takes two.
+    PutDoneAndUndone(u8, u8),
+    ForgetUndone,
+    // The entries that are done, and those that are undone.
+    Has(&'static [u8], &'static [u8]),
+    Limit(u16),
 }
 
-const ROWS: [Row; 3] = [
-    Row {
-        limit: 0,
-        done: &[],
-        undone: &[],
-        then: &[],
-    },
-    Row {
-        limit: 1,
-        done: &[],
-        undone: &[3],
-        then: &[4],
-    },
-    Row {
-        limit: 2,
-        done: &[2],
-        undone: &[3],
-        then: &[2, 4],
-    },
+// A limit, and the calls of a book that has it.
+type Calls = (u16, &'static [Step]);
+
+// What books have after the entries 1, 2 and 3 and a step back, and then after a fourth one.
+const NEWEST: [Calls; 3] = [
+    (
+        0,
+        &[
+            Step::Push(1),
+            Step::Push(2),
+            Step::Push(3),
+            Step::Back(false),
+            Step::Has(&[], &[]),
+            Step::Push(4),
+            Step::Has(&[], &[]),
+            Step::Limit(0),
+        ],
+    ),
+    (
+        1,
+        &[
+            Step::Push(1),
+            Step::Push(2),
+            Step::Push(3),
+            Step::Back(true),
+            Step::Has(&[], &[3]),
+            Step::Push(4),
+            Step::Has(&[4], &[]),
+            Step::Limit(1),
+        ],
+    ),
+    (
+        2,
+        &[
+            Step::Push(1),
+            Step::Push(2),
+            Step::Push(3),
+            Step::Back(true),
+            Step::Has(&[2], &[3]),
+            Step::Push(4),
+            Step::Has(&[2, 4], &[]),
+            Step::Limit(2),
+        ],
+    ),
 ];
 
-// Puts the entries 1, 2 and 3 into the book.
-fn push_three(book: &mut UndoBook<u8>) {
-    for entry in 1u8..4 {
-        book.push(entry);
-    }
-}
+// Two steps and no more lead back; one leads forward; both sides are changed, and what is undone is dropped.
+const BACK_AND_FORWARD: Calls = (
+    2,
+    &[
+        Step::Push(1),
+        Step::Push(2),
+        Step::Push(3),
+        Step::Back(true),
+        Step::Back(true),
+        Step::Back(false),
+        Step::Has(&[], &[3, 2]),
+        Step::Forward(true),
+        Step::Has(&[2], &[3]),
+        Step::TakeUndone(Some(3)),
+        Step::TakeUndone(None),
+        Step::Forward(false),
+        Step::Has(&[2], &[]),
+        Step::TakeDone(Some(2)),
+        Step::TakeDone(None),
+        Step::PutDoneAndUndone(5, 4),
+        Step::Has(&[5], &[4]),
+        Step::ForgetUndone,
+        Step::Has(&[5], &[]),
+    ],
+);
+
+// The second entry takes the place of the first.
+const OLDEST: Calls = (
+    1,
+    &[
+        Step::Push(1),
+        Step::Has(&[1], &[]),
+        Step::Push(2),
+        Step::Has(&[2], &[]),
+    ],
+);
 
 // Whether these are the entries, in this order.
 fn are(entries: &VecDeque<u8>, expected: &[u8]) -> bool {
@@ -44,100 +111,64 @@ fn are(entries: &VecDeque<u8>, expected: &[u8]) -> bool {
     entries.len() == expected.len() && pairs.all(|(entry, other)| *entry == *other)
 }
 
-// Whether the book has these entries done, and these undone.
-fn has(book: &UndoBook<u8>, done: &[u8], undone: &[u8]) -> bool {
-    are(book.done(), done) && book.undone() == undone
+// Puts an entry on each side of the book, where it has none and takes two. Whether it does.
+fn put_both(book: &mut UndoBook<u8>, done: u8, undone: u8) -> bool {
+    let is_empty = book.limit() == 2 && book.done().is_empty() && book.undone().is_empty();
+    if is_empty {
+        book.put_undone(undone);
+        book.put_done(done);
+    }
+    is_empty
 }
 
-// Takes a step back. Whether there was one, and what the book has then.
-fn goes_back(book: &mut UndoBook<u8>, row: &Row) -> bool {
-    let is_stepped = book.step_back();
-    is_stepped == (row.limit > 0) && has(book, row.done, row.undone)
+// Makes the call. Whether it answers as it should.
+fn holds(book: &mut UndoBook<u8>, step: Step) -> bool {
+    match step {
+        Step::Push(entry) => {
+            book.push(entry);
+            true
+        }
+        Step::Back(is_stepped) => book.step_back() == is_stepped,
+        Step::Forward(is_stepped) => book.step_forward() == is_stepped,
+        Step::TakeDone(entry) => book.take_done() == entry,
+        Step::TakeUndone(entry) => book.take_undone() == entry,
+        Step::PutDoneAndUndone(done, undone) => put_both(book, done, undone),
+        Step::ForgetUndone => {
+            book.forget_undone();
+            true
+        }
+        Step::Has(done, undone) => are(book.done(), done) && book.undone() == undone,
+        Step::Limit(limit) => book.limit() == limit,
+    }
 }
 
-// Whether the book has what a fourth entry leaves.
-fn has_fourth(book: &UndoBook<u8>, row: &Row) -> bool {
-    has(book, row.then, &[]) && book.limit() == row.limit
-}
-
-// Puts the entry 4 into the book. Whether the right ones stay.
-fn takes_fourth(book: &mut UndoBook<u8>, row: &Row) -> bool {
-    book.push(4);
-    has_fourth(book, row)
-}
-
-// Whether an empty book of the row's limit does as the row says.
-fn is_so(book: &mut UndoBook<u8>, row: &Row) -> bool {
-    push_three(book);
-    goes_back(book, row) && takes_fourth(book, row)
-}
-
-// The same of a new book.
-fn is_so_of_new(alloc: Global, row: &Row) -> Result<bool, AllocError> {
-    let mut book = UndoBook::new(alloc, row.limit)?;
-    Ok(is_so(&mut book, row))
+// Whether all calls of a new book answer as they should.
+fn all_hold(alloc: Global, calls: &Calls) -> Result<bool, AllocError> {
+    let mut book = UndoBook::new(alloc, calls.0)?;
+    for step in calls.1 {
+        if !holds(&mut book, *step) {
+            return Ok(false);
+        }
+    }
+    Ok(true)
 }
 
 #[test]
 fn the_newest_stay_up_to_the_limit(rt: HostRuntime) -> Result<(), AllocError> {
-    for row in &ROWS {
-        assert!(rt; is_so_of_new(rt.alloc(), row)?);
+    for calls in &NEWEST {
+        assert!(rt; all_hold(rt.alloc(), calls)?);
     }
     Ok(())
 }
 
-// Whether two steps and no more lead back.
-fn steps(book: &mut UndoBook<u8>) -> bool {
-    let is_back = book.step_back() && book.step_back();
-    is_back && !book.step_back() && has(book, &[], &[3, 2])
-}
-
-// Takes a step forward. Whether the first entry is done again then.
-fn steps_forward(book: &mut UndoBook<u8>) -> bool {
-    book.step_forward() && has(book, &[2], &[3])
-}
-
-// Whether the entry that is undone is taken out alone, and no step leads to it.
-fn undone_goes(book: &mut UndoBook<u8>) -> bool {
-    let is_out = book.take_undone() == Some(3) && book.take_undone().is_none();
-    is_out && !book.step_forward() && has(book, &[2], &[])
-}
-
-// Whether the entry that is done is taken out alone.
-fn done_goes(book: &mut UndoBook<u8>) -> bool {
-    book.take_done() == Some(2) && book.take_done().is_none()
-}
-
-// Puts an entry on each side of the book, where it has none.
-fn put_both(book: &mut UndoBook<u8>) {
-    if book.limit() == 2 && book.done().is_empty() && book.undone().is_empty() {
-        book.put_undone(4);
-        book.put_done(5);
-    }
-}
-
-// Whether both are taken out of the book, and others put in.
-fn both_are_changed(book: &mut UndoBook<u8>) -> bool {
-    let are_out = undone_goes(book) && done_goes(book);
-    put_both(book);
-    are_out && has(book, &[5], &[4])
-}
-
-// Whether the entries that are undone are dropped, and those that are done stay.
-fn undone_are_dropped(book: &mut UndoBook<u8>) -> bool {
-    book.forget_undone();
-    has(book, &[5], &[])
-}
-
-// Whether an empty book of two entries takes steps back and forward.
-fn takes_steps(book: &mut UndoBook<u8>) -> bool {
-    push_three(book);
-    steps(book) && steps_forward(book) && both_are_changed(book) && undone_are_dropped(book)
+#[test]
+fn steps_go_back_and_forward(rt: HostRuntime) -> Result<(), AllocError> {
+    assert!(rt; all_hold(rt.alloc(), &BACK_AND_FORWARD)?);
+    Ok(())
 }
 
 #[test]
-fn steps_go_back_and_forward(rt: HostRuntime) -> Result<(), AllocError> {
-    let mut book = UndoBook::new(rt.alloc(), 2)?;
-    assert!(rt; takes_steps(&mut book));
+fn the_oldest_is_dropped_at_the_limit(rt: HostRuntime) -> Result<(), AllocError> {
+    assert!(rt; all_hold(rt.alloc(), &OLDEST)?);
     Ok(())
 }

@@ -1,5 +1,5 @@
 //! Tests of what a sheet stands on and of what stands around the program: operations on lines, their list, stable lines, the
-//! grid, names, the clipboard, kept steps, needs and their orders, the values of a book, lists, contents, commands and
+//! grid, names, kept steps, needs and their orders, the values of a book, lists, contents, commands and
 //! their records, files, books, streams and generated lists.
 //!
 //! They stand here since a crate with tests of its own is proved twice.
@@ -9,8 +9,6 @@
 mod books;
 #[cfg(test)]
 mod calculation;
-#[cfg(test)]
-mod clipboard;
 #[cfg(test)]
 mod commands;
 #[cfg(test)]
@@ -30,8 +28,6 @@ mod lists;
 #[cfg(test)]
 mod names;
 #[cfg(test)]
-mod needs;
-#[cfg(test)]
 mod networks;
 #[cfg(test)]
 mod orders;
@@ -47,5 +43,3 @@ mod shifts;
 mod slots;
 #[cfg(test)]
 mod streams;
-#[cfg(test)]
-mod undo_limit;

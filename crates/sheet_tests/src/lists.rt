@@ -1,9 +1,6 @@
 // Each list has what is put into it.
 use book_model::{BookCell, BookCells};
 use cell_addr::{Place, Text};
-use clip_board::{CopyItem, CopyList};
-use dep_graph::{Node, Nodes};
-use fix_num::Fixed;
 use grid_store::{Cell, CellList};
 use name_table::NameList;
 use std::alloc::{AllocError, Global};
@@ -21,27 +18,11 @@ fn has_cell(alloc: Global) -> Result<bool, AllocError> {
     Ok(matches!(list.items(), [(at, Cell::Formula(7))] if *at == PLACE))
 }
 
-// Whether a list of what was copied has the one content that is put in.
-fn has_copy(alloc: Global) -> Result<bool, AllocError> {
-    let mut list = CopyList::new(alloc)?;
-    list.push(PLACE, CopyItem::Kept(Cell::Number(Fixed::ONE)))?;
-    Ok(
-        matches!(list.items(), [(at, CopyItem::Kept(Cell::Number(one)))] if *at == PLACE && *one == Fixed::ONE),
-    )
-}
-
 // Whether a list of names has the one pair that is put in.
 fn has_name(alloc: Global) -> Result<bool, AllocError> {
     let mut list = NameList::new(alloc)?;
     list.push(3, 9)?;
     Ok(list.items() == [(3, 9)].as_slice())
-}
-
-// Whether a list of nodes has the one that is put in.
-fn has_node(alloc: Global) -> Result<bool, AllocError> {
-    let mut list = Nodes::new(alloc)?;
-    list.push(Node::Cell(PLACE))?;
-    Ok(list.items() == [Node::Cell(PLACE)].as_slice())
 }
 
 // Whether a list of given cells has the one that is put in.
@@ -58,7 +39,7 @@ fn has_given_cell(alloc: Global) -> Result<bool, AllocError> {
 
 #[test]
 fn lists_have_what_is_put_in(rt: HostRuntime) -> Result<(), AllocError> {
-    assert!(rt; has_cell(rt.alloc())? && has_copy(rt.alloc())? && has_name(rt.alloc())?);
-    assert!(rt; has_node(rt.alloc())? && has_given_cell(rt.alloc())?);
+    assert!(rt; has_cell(rt.alloc())? && has_name(rt.alloc())?);
+    assert!(rt; has_given_cell(rt.alloc())?);
     Ok(())
 }

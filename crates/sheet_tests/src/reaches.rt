@@ -21,17 +21,24 @@ impl Arrows for Halves {
     }
 }
 
+const TEN: Halves = Halves { count: 10 };
+
+// Whether 9 and 3 lead to these numbers, in this order.
+fn lead_to(alloc: Global, numbers: &[usize]) -> Result<bool, AllocError> {
+    let nodes = reach(alloc, &TEN, &[9, 3])?;
+    Ok(nodes.as_slice() == numbers)
+}
+
+// Whether what 9 and 3 lead to has this order, and on a cycle are those for which this says so.
+fn are_ordered(alloc: Global, numbers: &[usize], on_cycle: &[bool]) -> Result<bool, AllocError> {
+    let walk = order(alloc, &TEN, &[9, 3])?;
+    Ok(walk.nodes.as_slice() == numbers && walk.on_cycle.as_slice() == on_cycle)
+}
+
 #[test]
 fn halves_are_reached(rt: HostRuntime) -> Result<(), Fail> {
-    let alloc = rt.alloc();
-    let graph = Halves { count: 10 };
-    let nodes = reach(alloc, &graph, &[9, 3])?;
-    assert_eq!(rt; nodes.as_slice(), [9, 3, 4, 1, 2, 0].as_slice());
-    let walk = order(alloc, &graph, &[9, 3])?;
-    assert_eq!(rt; walk.nodes.as_slice(), [0, 1, 2, 4, 9, 3].as_slice());
-    assert_eq!(rt;
-        walk.on_cycle.as_slice(),
-        [true, false, false, false, false, false].as_slice()
-    );
+    assert!(rt; lead_to(rt.alloc(), &[9, 3, 4, 1, 2, 0])?);
+    let on_cycle = [true, false, false, false, false, false];
+    assert!(rt; are_ordered(rt.alloc(), &[0, 1, 2, 4, 9, 3], &on_cycle)?);
     Ok(())
 }

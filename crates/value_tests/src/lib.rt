@@ -1,5 +1,5 @@
-//! Tests of numbers, addresses, values, runs of digits, custom functions and formulas: what the data of `function_cases`
-//! and `formula_cases` can't say, and each call that allocates once.
+//! Tests of numbers, addresses, values, runs of digits, custom functions, formulas and the clipboard: what the data of
+//! `function_cases` and `formula_cases` can't say, and each call that allocates once.
 //!
 //! They stand here since a crate with tests of its own is proved twice.
 #![tactic(auto)]
@@ -7,9 +7,9 @@
 #[cfg(test)]
 mod addresses;
 #[cfg(test)]
-mod digit_runs;
+mod clipboard;
 #[cfg(test)]
-mod function_words;
+mod digit_runs;
 #[cfg(test)]
 mod numbers;
 #[cfg(test)]

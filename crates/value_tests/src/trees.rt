@@ -49,27 +49,42 @@ fn relative(row: i32, col: i32) -> Ref {
     }
 }
 
-// A call with two arguments.
-fn call(alloc: Global, word: &str, first: Node, second: Node) -> Result<Node, AllocError> {
+// A list of two arguments.
+fn arguments(alloc: Global, first: Node, second: Node) -> Result<TreeList, AllocError> {
     let mut list = TreeList::new(alloc)?;
     list.push(Rc::new(alloc, first)?)?;
     list.push(Rc::new(alloc, second)?)?;
+    Ok(list)
+}
+
+// A call with two arguments.
+fn call(alloc: Global, word: &str, first: Node, second: Node) -> Result<Node, AllocError> {
+    let list = arguments(alloc, first, second)?;
     Ok(Node::Call(Text::from_str(alloc, word)?, list))
+}
+
+// A name.
+fn name(alloc: Global, word: &str) -> Result<Node, AllocError> {
+    Ok(Node::Name(Text::from_str(alloc, word)?))
+}
+
+// Two trees added.
+fn added(alloc: Global, left: Node, right: Node) -> Result<Tree, AllocError> {
+    let left = Rc::new(alloc, left)?;
+    let right = Rc::new(alloc, right)?;
+    Ok(Rc::new(alloc, Node::Binary(Op::Add, left, right))?)
+}
+
+// The call `ROWS(A1:C3,Rate)` in a formula of A1.
+fn rows(alloc: Global) -> Result<Node, AllocError> {
+    let block = Node::Area(relative(0, 0), relative(2, 2));
+    call(alloc, "ROWS", block, name(alloc, "Rate")?)
 }
 
 // The tree of `=SUM(B2,ROWS(A1:C3,Rate))+RATE` in a formula of A1.
 fn sum_of_rows(alloc: Global) -> Result<Tree, AllocError> {
-    let rate = Node::Name(Text::from_str(alloc, "Rate")?);
-    let rows = call(
-        alloc,
-        "ROWS",
-        Node::Area(relative(0, 0), relative(2, 2)),
-        rate,
-    )?;
-    let sum = Rc::new(alloc, call(alloc, "SUM", Node::Cell(relative(1, 1)), rows)?)?;
-    let rate = Rc::new(alloc, Node::Name(Text::from_str(alloc, "RATE")?))?;
-    let tree = Rc::new(alloc, Node::Binary(Op::Add, sum, rate))?;
-    Ok(tree)
+    let sum = call(alloc, "SUM", Node::Cell(relative(1, 1)), rows(alloc)?)?;
+    added(alloc, sum, name(alloc, "RATE")?)
 }
 
 // Whether the tree is the sum of two cells.
@@ -134,12 +149,16 @@ fn sums_share(alloc: Global, pool: &mut Pool) -> Result<bool, AllocError> {
     Ok(are_places && Tree::ptr_eq(&first, &second) && is_third_sum(alloc, &first)?)
 }
 
+// Whether the pool was empty, and has one tree for both of these formulas.
+fn has_one_tree(alloc: Global, pool: &mut Pool) -> Result<bool, AllocError> {
+    let is_empty = pool.is_empty();
+    Ok(is_empty && sums_share(alloc, pool)? && pool.len() == 1)
+}
+
 #[test]
 fn equal_formulas_share_a_tree(rt: HostRuntime) -> Result<(), Fail> {
     let mut pool = Pool::new(rt.alloc())?;
-    assert!(rt; pool.is_empty());
-    assert!(rt; sums_share(rt.alloc(), &mut pool)?);
-    assert!(rt; pool.len() == 1);
+    assert!(rt; has_one_tree(rt.alloc(), &mut pool)?);
     Ok(())
 }
 
@@ -158,11 +177,15 @@ fn leaves_are_shared(alloc: Global, pool: &mut Pool) -> Result<bool, AllocError>
     Ok(share_operand(&plus, &minus))
 }
 
+// Whether they share it, and the pool has the two trees.
+fn has_two_trees(alloc: Global, pool: &mut Pool) -> Result<bool, AllocError> {
+    Ok(leaves_are_shared(alloc, pool)? && pool.len() == 2)
+}
+
 #[test]
 fn trees_that_differ_share_their_leaves(rt: HostRuntime) -> Result<(), Fail> {
     let mut pool = Pool::new(rt.alloc())?;
-    assert!(rt; leaves_are_shared(rt.alloc(), &mut pool)?);
-    assert!(rt; pool.len() == 2);
+    assert!(rt; has_two_trees(rt.alloc(), &mut pool)?);
     Ok(())
 }
 
@@ -185,11 +208,16 @@ fn others_are_swept(alloc: Global, pool: &mut Pool) -> Result<bool, AllocError> 
     Ok(pool.len() == 1 && shares(alloc, pool, &in_use[0])?)
 }
 
+// Whether a tree that nobody holds is swept, and the other one stays.
+fn are_swept(alloc: Global, pool: &mut Pool) -> Result<bool, AllocError> {
+    share_for_nobody(alloc, pool)?;
+    others_are_swept(alloc, pool)
+}
+
 #[test]
 fn trees_that_nobody_holds_are_swept(rt: HostRuntime) -> Result<(), Fail> {
     let mut pool = Pool::new(rt.alloc())?;
-    share_for_nobody(rt.alloc(), &mut pool)?;
-    assert!(rt; others_are_swept(rt.alloc(), &mut pool)?);
+    assert!(rt; are_swept(rt.alloc(), &mut pool)?);
     Ok(())
 }
 
@@ -260,14 +288,17 @@ fn mentions_both(alloc: Global, tree: &Tree, home: Home) -> Result<bool, AllocEr
     }
 }
 
+// Whether the tree has four levels, its name and its cell.
+fn names_all(alloc: Global, tree: &Tree, home: Home) -> Result<bool, AllocError> {
+    let has_levels = depth(tree) == 4;
+    Ok(has_levels && has_name(alloc, tree)? && has_cell(alloc, tree, home)?)
+}
+
 #[test]
 fn what_a_tree_names(rt: HostRuntime) -> Result<(), Fail> {
     let home = Home::Cell(place(0, 0));
     let tree = sum_of_rows(rt.alloc())?;
-    assert!(rt; depth(&tree) == 4);
-    assert!(rt; has_name(rt.alloc(), &tree)?);
-    assert!(rt; has_cell(rt.alloc(), &tree, home)?);
-    assert!(rt; mentions_both(rt.alloc(), &tree, home)?);
+    assert!(rt; names_all(rt.alloc(), &tree, home)? && mentions_both(rt.alloc(), &tree, home)?);
     Ok(())
 }
 
