@@ -66,6 +66,42 @@ pub(crate) fn steps_go_back_and_forward(engine: &mut Engine<NoCustoms>) -> Resul
     Ok(before.is_none() && reads(engine, 0, 0, "=#REF!"))
 }
 
+// A long line is settled up to the oldest step: a formula has followed it, and undo goes back as far as before.
+pub(crate) fn a_long_line_is_settled(engine: &mut Engine<NoCustoms>) -> Result<bool, Stop> {
+    engine.add_sheet("Plan")?;
+    engine.set(place(0, 0), "=B5")?;
+    for _ in 0..4_200 {
+        engine.insert_rows(0, 1, 1)?;
+    }
+    let settled = engine.line().first() == 4_096;
+    let after = reads(engine, 0, 0, "=B4205");
+    for _ in 0..20 {
+        engine.undo()?;
+    }
+    let before = reads(engine, 0, 0, "=B4185");
+    let oldest = engine.undo() == Err(Stop::Refused(Refusal::NothingToUndo));
+    Ok(settled && after && before && oldest)
+}
+
+// Formulas that were replaced come back with undo as far as the steps reach, however many were swept before.
+pub(crate) fn replaced_formulas_come_back(engine: &mut Engine<NoCustoms>) -> Result<bool, Stop> {
+    engine.add_sheet("Plan")?;
+    for _ in 0..2_000 {
+        engine.set(place(0, 0), "=B1")?;
+        engine.set(place(0, 0), "=B2")?;
+    }
+    engine.undo()?;
+    let one_back = reads(engine, 0, 0, "=B1");
+    for _ in 0..19 {
+        engine.undo()?;
+    }
+    let oldest = reads(engine, 0, 0, "=B2");
+    for _ in 0..19 {
+        engine.redo()?;
+    }
+    Ok(one_back && oldest && reads(engine, 0, 0, "=B1"))
+}
+
 // How many steps are kept of three changes; `None` where none of them can be undone.
 pub(crate) fn kept(engine: &mut Engine<NoCustoms>) -> Result<Option<usize>, Stop> {
     engine.add_sheet("Plan")?;

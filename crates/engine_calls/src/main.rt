@@ -34,6 +34,8 @@ enum Calls {
     Rows,
     Columns,
     Steps,
+    Line,
+    Replaced,
     Names,
     Clipboard,
     Links,
@@ -43,7 +45,7 @@ enum Calls {
 }
 
 impl Group {
-    const ALL: [(Group, &'static str); 10] = [
+    const ALL: [(Group, &'static str); 12] = [
         (Group::Given, "begins with given sheets"),
         (Group::Limit, "steps are kept up to the limit"),
         (Group::Over(Calls::Sheets), "sheets come and go"),
@@ -53,6 +55,8 @@ impl Group {
             "formulas follow columns and blocks",
         ),
         (Group::Over(Calls::Steps), "steps go back and forward"),
+        (Group::Over(Calls::Line), "a long line is settled"),
+        (Group::Over(Calls::Replaced), "replaced formulas come back"),
         (Group::Over(Calls::Names), "names come and go"),
         (Group::Over(Calls::Clipboard), "blocks are pasted"),
         (Group::Over(Calls::Links), "links are listed in order"),
@@ -77,6 +81,8 @@ impl Calls {
             Calls::Rows => groups::formulas_follow_rows(engine),
             Calls::Columns => groups::formulas_follow_columns(engine),
             Calls::Steps => groups::steps_go_back_and_forward(engine),
+            Calls::Line => groups::a_long_line_is_settled(engine),
+            Calls::Replaced => groups::replaced_formulas_come_back(engine),
             Calls::Names => groups::names_come_and_go(engine),
             Calls::Clipboard => groups::blocks_are_pasted(engine),
             Calls::Links => groups::links_are_listed_in_order(engine),
