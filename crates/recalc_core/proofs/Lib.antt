@@ -7,3 +7,4 @@ pub mod UnderWay
 pub mod Recalculated
 pub mod Changes
 pub mod Moves
+pub mod CopiedValues
