@@ -29,6 +29,15 @@ pub reaches_on : (b : Workbook) (words : List (List ℕ)) (links : Links) (good 
 reaches_on b words links good marks a c chain (inl mark) = inr (c, mark, chain)
 reaches_on b words links good marks a c chain (inr (m, mark, rest)) = inr (m, mark, join b words links good chain rest)
 
+-- nothing is kept of what is neither a place nor a known name
+pub nothing_kept : (b : Workbook) (words : List (List ℕ)) (links : Links) (customs : List (List ℕ × Rule)) (today : ℤ) (marks : List Node) (kept : Kept) → AreLinksOf b words links → AreKnown words marks
+    → IsFit b words customs today links marks kept → (a : Node) → IsNoRange a → node_at words a ≡ None → kept a ≡ None
+nothing_kept b words links customs today marks kept good known fit a plain none = fit a never plain ∙ ap (expected_at b customs today) none
+  where
+    never : ¬ Reaches links marks a
+    never (inl mark) = let (y, to) = known a mark in none_some y (sym none ∙ to)
+    never (inr (m, mark, chain)) = unlinked b words links good a plain none chain
+
 module _ (b c : Workbook) (words more : List (List ℕ)) (old new : Links) (customs : List (List ℕ × Rule)) (today : ℤ) (marks changed : List Node) (kept : Kept)
     (before : AreLinksOf b words old) (now : AreLinksOf c more new) (numbers : KeepNumbers words more) (known : AreKnown words marks) (alike : DoAlike b c more changed) (fit : IsFit b words customs today old marks kept) where
   abbrev one : Network book.Node Scalar
@@ -85,14 +94,6 @@ module _ (b c : Workbook) (words more : List (List ℕ)) (old new : Links) (cust
       let leads = leads_over ((chains_agree b words old customs today a m x y before at to).0 chain) (a, numbers a x at, apart) in
       apart (inr (m, mark_of m mark, (chains_agree c more new customs today a m x y now (numbers a x at) (numbers m y to)).1 leads))
 
-  -- nothing is kept of what was neither a place nor a known name
-  nothing_kept : (a : Node) → IsNoRange a → node_at words a ≡ None → kept a ≡ None
-  nothing_kept a plain none = fit a never plain ∙ ap (expected_at b customs today) none
-    where
-      never : ¬ Reaches old marks a
-      never (inl mark) = let (y, to) = known a mark in none_some y (sym none ∙ to)
-      never (inr (m, mark, chain)) = unlinked b words old before a plain none chain
-
   -- a name that is known only now has no formula
   new_name : (a : Node) (x : book.Node) → node_at more a ≡ Some x → node_at words a ≡ None → stands b x ≡ false
   new_name (Cell p) x at none = absurd (none_some (book.place p) (sym none))
@@ -118,12 +119,12 @@ module _ (b c : Workbook) (words more : List (List ℕ)) (old new : Links) (cust
           let same : y ≡ x = same_some y x (sym (numbers a y from) ∙ at) in
           fit a (none_before a y from apart) plain ∙ ap (expected_at b customs today) from ∙ ap (expected b customs today) same ∙ expected_same x (a, at, apart)
       was x at None none =
-          nothing_kept a plain none
+          nothing_kept b words old customs today marks kept before known fit a plain none
           ∙ sym (ap (λ t. cond t (Some (value_of c customs today x)) None) (sym ((inside_alike x (a, at, apart)).stands) ∙ new_name a x at none))
 
       by : (o : Option book.Node) → node_at more a ≡ o → kept a ≡ expected_at c customs today o
       by (Some x) at = was x at (node_at words a) refl
-      by None none = nothing_kept a plain (unknown (node_at words a) refl)
+      by None none = nothing_kept b words old customs today marks kept before known fit a plain (unknown (node_at words a) refl)
         where
           unknown : (o : Option book.Node) → node_at words a ≡ o → node_at words a ≡ None
           unknown None e = e

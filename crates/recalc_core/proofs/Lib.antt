@@ -6,3 +6,5 @@ pub mod Worked
 pub mod UnderWay
 pub mod Recalculated
 pub mod Changes
+pub mod Moves
+pub mod CopiedValues

@@ -176,7 +176,7 @@ module _ (b : Workbook) (customs : List (List ℕ × Rule)) (today : ℤ) where
   needs_none : (x c : book.Node) → tree_at b x ≡ None → needs b x c ≡ true → ⊥
   needs_none x c none h = false≢true (sym (ap (λ t. tree_needs b.names (sheet_of (home_of x)) t c) none) ∙ h)
 
-  leads_none : {x c : book.Node} → LeadsTo net x c → tree_at b x ≡ None → ⊥
+  pub leads_none : {x c : book.Node} → LeadsTo net x c → tree_at b x ≡ None → ⊥
   leads_none (at_once {a = x} {b = c} h) none = needs_none x c none h
   leads_none (after {a = x} {b = c} h rest) none = needs_none x c none h
 

@@ -5,4 +5,5 @@ pub mod Recalc
 pub mod Given
 pub mod Steps
 pub mod Laws
+pub mod Moves
 pub mod internal

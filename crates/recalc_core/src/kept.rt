@@ -50,4 +50,16 @@ impl KeptValues {
     {
         self.values.remove(&a);
     }
+
+    // Equal values.
+    pub(crate) fn copied(&self, alloc: Global) -> Result<KeptValues, AllocError>
+        ensures { IfOk result (λ copy. AreSame (kept_by self.now) (kept_by copy)) }
+    {
+        let _once = self.values.len();
+        let mut copy = KeptValues::new(alloc);
+        'values: for (node, value) in &self.values {
+            copy.put(*node, value.copy(alloc)?)?;
+        }
+        Ok(copy)
+    }
 }

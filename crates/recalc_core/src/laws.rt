@@ -1,5 +1,6 @@
 // What holds of the links of a workbook. The functions do nothing: what each ensures is the law.
 ghost use Rattle.recalc_core.specs.Laws.{ChainsAreNeeds, ChangesKeepFit, CyclesAgree, LinkingHolds};
+ghost use Rattle.recalc_core.specs.Moves.{MovesKeepFit};
 
 /// Where links are the needs of a workbook, needs lead from one place or name to another in the graph exactly where they do
 /// in the workbook.
@@ -21,4 +22,10 @@ pub fn linking_holds()
 /// before is marked as well.
 pub fn changes_keep_fit()
     ensures { ChangesKeepFit }
+{}
+
+/// Kept values that come along with their nodes fit the marks where these come along too, and each node is marked as well that
+/// doesn't do what the node did that it was.
+pub fn moves_keep_fit()
+    ensures { MovesKeepFit }
 {}

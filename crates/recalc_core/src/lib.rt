@@ -27,6 +27,6 @@ mod settling;
 mod trees;
 mod working;
 
-pub use laws::{chains_are_needs, changes_keep_fit, cycles_agree, linking_holds};
+pub use laws::{chains_are_needs, changes_keep_fit, cycles_agree, linking_holds, moves_keep_fit};
 pub use recalc::Recalc;
 pub use trees::{Given, Trees};

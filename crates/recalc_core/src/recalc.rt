@@ -77,4 +77,29 @@ impl Recalc {
     {
         self.ranges.merged()
     }
+
+    /// Equal values, marks and summaries. Costs their number. Errs for want of memory.
+    pub fn copied(&self) -> Result<Recalc, AllocError>
+        ensures kept { IfOk result (λ copy. (a : Node) → kept_in copy a ≡ kept_in self.now a) }
+        ensures marks { IfOk result (λ copy. marks_in copy ≡ marks_in self.now) }
+        ensures merged { IfOk result (λ copy. merged_in copy ≡ merged_in self.now) }
+    {
+        Ok(Recalc {
+            alloc: self.alloc,
+            kept: self.kept.copied(self.alloc)?,
+            marks: copied_nodes(self.alloc, self.marks.items())?,
+            ranges: self.ranges.copied()?,
+        })
+    }
+}
+
+// The list of these nodes.
+fn copied_nodes(alloc: Global, nodes: &[Node]) -> Result<Nodes, AllocError>
+    ensures { IfOk result (λ copy. items_of copy ≡ nodes.now) }
+{
+    let mut copy = Nodes::new(alloc)?;
+    'nodes: for node in nodes {
+        copy.push(*node)?;
+    }
+    Ok(copy)
 }
