@@ -28,7 +28,6 @@ use Rattle.kept_book.specs.Kept.{change_of, changes_of, name_change}
 use Rattle.kept_book.specs.Walk.{back_all, forth_all}
 use Rattle.kept_book.specs.declared.part.NameChange.{NameChange}
 use Rattle.kept_book.specs.declared.part.Part.{Part}
-use Rattle.name_table.proofs.KeyOrder.{key_cmp-IsTotalOrder}
 use Rattle.name_table.specs.Scopes.{NameMap, key_cmp}
 use Rattle.name_table.specs.declared.key.NameKey.{NameKey}
 use Rattle.shift_core.specs.Maps.{PlaceMap, entry_after, entry_before}
@@ -38,7 +37,6 @@ use Rattle.kept_steps.specs.Fits.{changes_in, steps_of}
 use Rattle.kept_steps.specs.InUse.{AheadHas, HasFormula, PastHas}
 use Rattle.kept_steps.specs.Timeline.{Timeline}
 use Rattle.kept_steps.specs.declared.entry.Entry.{Entry}
-use Rattle.kept_steps.specs.declared.listing.Side.{Side}
 use Rattle.kept_steps.specs.declared.listing.Side.TheVariants.{Before, After}
 use Rattle.kept_steps.specs.internal.Listed.{has, id_in, id_on, ids_of_step, ids_on}
 use Rattle.kept_steps.proofs.Entries.{each_entry}

@@ -10,11 +10,10 @@ use Rattle.std.specs.Prelude.{nat_eq}
 use Rattle.cell_addr.specs.declared.place.Place.{Place}
 use Rattle.grid_store.specs.declared.cell.Cell.{Cell}
 use Rattle.kept_book.specs.Frame.{Frame}
-use Rattle.kept_book.specs.Walk.{back_all}
 use Rattle.name_table.specs.declared.key.NameKey.{NameKey}
 use Rattle.undo_book.specs.History.{History}
-use Rattle.kept_steps.specs.Fits.{start_of, steps_of}
-use Rattle.kept_steps.specs.InUse.{AheadHas, HasAny, HasFormula, PastHas}
+use Rattle.kept_steps.specs.Fits.{start_of}
+use Rattle.kept_steps.specs.InUse.{HasAny, HasFormula}
 use Rattle.kept_steps.specs.Timeline.{Timeline}
 use Rattle.kept_steps.specs.declared.entry.Entry.{Entry}
 use Rattle.kept_steps.specs.declared.listing.Side.TheVariants.{Before, After}

@@ -1,5 +1,5 @@
 -- That what is in use stands from the base on, and a session whose line begins at the base. Serves settling.
-use Rattle.std.proofs.Common.{Bor, IsSome, IfSome, cond, filter, length, get_or, take, drop, max, ◌+◌, ◌≡◌, ◌≢◌, ◌∙◌, sym, ap, subst, refl, arith, inl, inr, ℕ, ◌<◌, ◌≤◌, ◌-◌, Bool, true, false, true≢false, ◌||◌, ◌&&◌, ◌⊎◌, List, [], ◌∷◌, ◌++◌, map, reverse, Option, Some, None, Result, Ok, Err, is_some, if◌then◌else◌}
+use Rattle.std.proofs.Common.{Bor, IsSome, IfSome, cond, filter, length, get_or, take, drop, max, ◌+◌, ◌≡◌, ◌≢◌, ◌∙◌, sym, ap, subst, refl, arith, inl, inr, ℕ, ◌<◌, ◌≤◌, Bool, true, false, true≢false, ◌||◌, ◌&&◌, ◌⊎◌, List, [], ◌∷◌, ◌++◌, map, reverse, Option, Some, None, Result, Ok, Err, is_some, if◌then◌else◌}
 use Rattle.std.proofs.lemmas.Bool.{cases_lt, eqb-true}
 use Rattle.std.proofs.lemmas.Bool.Decides.{nat_tests}
 use Rattle.std.proofs.lemmas.List.{drop_all, drop_more, map-append, reverse-append, take_all}
@@ -9,7 +9,6 @@ use Rattle.std.specs.Prelude.{nat_eq, nat_le, OnErr, OnOk, option_and_then, opti
 use Rattle.lazy_store.proofs.Lines.{is-forgotten}
 use Rattle.lazy_store.proofs.Reaching.{at-has}
 use Rattle.lazy_store.specs.Kept.{Kept, at}
-use Rattle.lazy_store.specs.Standing.{Standing}
 use Rattle.lazy_store.specs.Store.{CanGoOn, GoOnTo, KeepsBehind, KeepsFrom, StandsAsBefore, StandsFrom, at_in, kept_in, position_in, stored_in}
 use Rattle.lazy_store.specs.declared.lazy.Lazy.{Lazy}
 use Rattle.name_table.specs.Named.{names_of, words_of}

@@ -1,19 +1,17 @@
 -- A session whose store keeps the listed formulas alone. Serves the sweep and the changes that begin with it.
-use Rattle.std.proofs.Common.{◌≡◌, ◌∙◌, sym, ap, subst, refl, arith, inl, inr, ℕ, ◌<◌, ◌≤◌, Bool, true, false, ◌⊎◌, Option, Some, None, is_some, if◌then◌else◌}
-use Rattle.std.specs.HashSet.{HashSet, contains}
-use Rattle.std.specs.Prelude.{nat_eq, option_and_then, option_map, slice_get}
+use Rattle.std.proofs.Common.{◌≡◌, ◌∙◌, sym, ap, subst, arith, inl, inr, ℕ, ◌<◌, Bool, true, false, ◌⊎◌, Option, Some, None, is_some, if◌then◌else◌}
+use Rattle.std.specs.Prelude.{option_and_then, option_map, slice_get}
 use Rattle.lazy_store.specs.Kept.{Kept, at}
-use Rattle.lazy_store.specs.Standing.{Standing}
-use Rattle.lazy_store.specs.Store.{kept_in, live_in}
+use Rattle.lazy_store.specs.Store.{kept_in}
 use Rattle.lazy_store.specs.declared.lazy.Lazy.{Lazy}
 use Rattle.name_table.specs.Named.{words_of}
 use Rattle.shift_line.specs.Track.{last, shift_at}
 use Rattle.undo_book.specs.History.{History}
 use Rattle.kept_book.specs.Ids.{AreBelow, AreLive, KeepsBelow}
-use Rattle.kept_book.specs.Kept.{at_of, frame_of}
+use Rattle.kept_book.specs.Kept.{frame_of}
 use Rattle.kept_book.specs.declared.book.Book.{Book}
 use Rattle.kept_steps.specs.Fits.{AreSteps, Fits, session_of}
-use Rattle.kept_steps.specs.InUse.{HasAny, IsInUse}
+use Rattle.kept_steps.specs.InUse.{HasAny}
 use Rattle.kept_steps.specs.Kept.{KeepsInUse}
 use Rattle.kept_steps.specs.Timeline.{Agree, timeline_of}
 use Rattle.kept_steps.specs.declared.entry.Entry.{Entry}

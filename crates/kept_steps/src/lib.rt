@@ -4,6 +4,9 @@
 //! step; a step lists what its operations changed and nothing else. Undo puts that back and moves the line's cursor, redo does it
 //! again; no workbook is kept beside the present one. A change after an undo cuts the line, and nothing can be redone then.
 //!
+//! Formulas that neither the workbook nor a step lists are dropped by changes that add formulas, now and then, and the oldest
+//! operations, on which no step rests, are forgotten by structural changes once there are [`LEAST_SETTLED`] of them.
+//!
 //! Contracts speak of the session's state as the plain machine defines it, with whole workbooks in both lists: which
 //! workbooks these are follows from the steps and from the standings of formulas along the line.
 //!

@@ -1,9 +1,6 @@
-use Rattle.std.proofs.Common.{◌∙◌, sym, ap, subst, refl, arith, rules, ◌+◌, ◌<◌, length, get_or, take, map, Some}
-use Rattle.std.specs.List.{flat_map}
-use Rattle.std.specs.Option.{option_to_list}
-use Rattle.kept_steps.specs.declared.listing.Side.TheVariants as sides
-use Rattle.kept_steps.specs.internal.Listed.{Adds, has, id_in, id_on, ids_of_step, ids_on}
-use Rattle.kept_steps.proofs.ListedIds.{adds-all, adds-none, adds-step}
+use Rattle.std.proofs.Common.{arith}
+use Rattle.kept_steps.specs.internal.Listed.{ids_on}
+use Rattle.kept_steps.proofs.ListedIds.{adds-none, adds-step}
 use Rattle.kept_steps.proofs.listing.add_parts.Goals as goal
 
 pub loop-part-init : goal.loop-part-init

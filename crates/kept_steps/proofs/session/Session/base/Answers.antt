@@ -1,4 +1,4 @@
-use Rattle.std.proofs.Common.{◌∙◌, ◌<◌, ◌≡◌, sym, ap, subst, arith, get_or, IfSome, length, Some, None}
+use Rattle.std.proofs.Common.{◌∙◌, ◌≡◌, sym, ap, subst, arith, get_or, IfSome, length}
 use Rattle.std.specs.Prelude.{unwrap_or}
 use Rattle.std.specs.VecDeque.{deque_len}
 use Rattle.kept_book.specs.Kept.{frame_of}

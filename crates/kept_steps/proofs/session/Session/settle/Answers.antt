@@ -2,7 +2,7 @@ use Rattle.std.proofs.Common.{◌≡◌, ◌∙◌, ap, arith, Some}
 use Rattle.shift_line.specs.Track.{last}
 use Rattle.kept_book.specs.Kept.{frame_of}
 use Rattle.kept_steps.specs.Timeline.{timeline_of}
-use Rattle.kept_steps.proofs.Settled.{base-cursor, can-go-on, comes-to, settling, stored-from}
+use Rattle.kept_steps.proofs.Settled.{base-cursor, comes-to, settling, stored-from}
 use Rattle.kept_steps.proofs.session.Session.settle.Goals as goal
 
 pub settle-requires-clause-cursor : goal.settle-requires-clause-cursor
