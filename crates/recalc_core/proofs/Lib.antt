@@ -8,3 +8,4 @@ pub mod Recalculated
 pub mod Changes
 pub mod Moves
 pub mod CopiedValues
+pub mod Edits

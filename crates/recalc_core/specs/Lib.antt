@@ -6,4 +6,5 @@ pub mod Given
 pub mod Steps
 pub mod Laws
 pub mod Moves
+pub mod Edits
 pub mod internal

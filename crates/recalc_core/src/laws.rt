@@ -1,5 +1,6 @@
-// What holds of the links of a workbook. The functions do nothing: what each ensures is the law.
+// What holds of the links of a workbook, and what changes leave of kept values. The functions do nothing: what each ensures is the law.
 ghost use Rattle.recalc_core.specs.Laws.{ChainsAreNeeds, ChangesKeepFit, CyclesAgree, LinkingHolds};
+ghost use Rattle.recalc_core.specs.Edits.{CellChangesAlone, NameChangesItsUsers};
 ghost use Rattle.recalc_core.specs.Moves.{MovesKeepFit};
 
 /// Where links are the needs of a workbook, needs lead from one place or name to another in the graph exactly where they do
@@ -28,4 +29,15 @@ pub fn changes_keep_fit()
 /// doesn't do what the node did that it was.
 pub fn moves_keep_fit()
     ensures { MovesKeepFit }
+{}
+
+/// After a cell was filled, emptied or given another content, all nodes but that cell do as before.
+pub fn cell_changes_alone()
+    ensures { CellChangesAlone }
+{}
+
+/// After a name was added, removed or given another formula, all nodes do as before but the name and those whose formulas use
+/// its word.
+pub fn name_changes_its_users()
+    ensures { NameChangesItsUsers }
 {}

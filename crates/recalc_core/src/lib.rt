@@ -27,6 +27,9 @@ mod settling;
 mod trees;
 mod working;
 
-pub use laws::{chains_are_needs, changes_keep_fit, cycles_agree, linking_holds, moves_keep_fit};
+pub use laws::{
+    cell_changes_alone, chains_are_needs, changes_keep_fit, cycles_agree, linking_holds,
+    moves_keep_fit, name_changes_its_users,
+};
 pub use recalc::Recalc;
 pub use trees::{Given, Trees};

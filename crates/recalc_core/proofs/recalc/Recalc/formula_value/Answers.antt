@@ -16,6 +16,7 @@ use Rattle.range_table.specs.Table.{AreFolds}
 use Rattle.recalc_core.specs.Recalc.{kept_in}
 use Rattle.recalc_core.specs.internal.KeptValues.{kept_by}
 use Rattle.recalc_core.specs.internal.Seen.{AreRead, world_in}
+use Rattle.recalc_core.specs.internal.UnderWay.{IsMeaning}
 use Rattle.recalc_core.proofs.Worked.{cost_is, same_world}
 use Rattle.recalc_core.proofs.recalc.Recalc.formula_value.Goals as goal
 
@@ -34,7 +35,7 @@ returns-clause-means g c =
     let t : Term Corner = at_home c.args.home (relative c.args.tree.now.value) in
     let names = c.in_ok-names.names.items in
     let kept = kept_in c.args.self.now in
-    IfOk-weaker c.eval-value.result _ _
+    IfOk-weaker c.eval-value.result _ (IsMeaning b words customs c.args.day kept c.args.home t)
     (λ (value : Scalar) shows. (
       names,
       subst (λ sheet. AreRead b words sheet (names_in t) names) c.sheet.ensures (c.in_ok-names.ensures.read c.args.home),
