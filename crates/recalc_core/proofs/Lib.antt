@@ -9,3 +9,4 @@ pub mod Changes
 pub mod Moves
 pub mod CopiedValues
 pub mod Edits
+pub mod Shifted

@@ -7,4 +7,5 @@ pub mod Steps
 pub mod Laws
 pub mod Moves
 pub mod Edits
+pub mod Shifted
 pub mod internal

@@ -2,6 +2,7 @@
 ghost use Rattle.recalc_core.specs.Laws.{ChainsAreNeeds, ChangesKeepFit, CyclesAgree, LinkingHolds};
 ghost use Rattle.recalc_core.specs.Edits.{CellChangesAlone, NameChangesItsUsers};
 ghost use Rattle.recalc_core.specs.Moves.{MovesKeepFit};
+ghost use Rattle.recalc_core.specs.Shifted.{ShiftsGoBack};
 
 /// Where links are the needs of a workbook, needs lead from one place or name to another in the graph exactly where they do
 /// in the workbook.
@@ -40,4 +41,9 @@ pub fn cell_changes_alone()
 /// its word.
 pub fn name_changes_its_users()
     ensures { NameChangesItsUsers }
+{}
+
+/// Over every sound operation, nodes of the graph come from where their places and names do, and no two from one.
+pub fn shifts_go_back()
+    ensures { ShiftsGoBack }
 {}

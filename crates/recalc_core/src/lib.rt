@@ -29,7 +29,7 @@ mod working;
 
 pub use laws::{
     cell_changes_alone, chains_are_needs, changes_keep_fit, cycles_agree, linking_holds,
-    moves_keep_fit, name_changes_its_users,
+    moves_keep_fit, name_changes_its_users, shifts_go_back,
 };
 pub use recalc::Recalc;
 pub use trees::{Given, Trees};
