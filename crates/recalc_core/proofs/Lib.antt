@@ -10,3 +10,4 @@ pub mod Moves
 pub mod CopiedValues
 pub mod Edits
 pub mod Shifted
+pub mod Shown

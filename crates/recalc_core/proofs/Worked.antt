@@ -196,7 +196,7 @@ module _ (b : Workbook) (customs : List (List ℕ × Rule)) (today : ℤ) where
       by (Some c) e = ap is_some e
   tree_stands (book.name key) t h = ap is_some h
 
-  expected_some : (x : book.Node) → stands b x ≡ true → expected b customs today x ≡ Some (value x)
+  pub expected_some : (x : book.Node) → stands b x ≡ true → expected b customs today x ≡ Some (value x)
   expected_some x h = ap (λ t. cond t (Some (value x)) None) h
 
   pub nothing_expected : (x : book.Node) → HasGiven b x given.Nothing → expected b customs today x ≡ None
@@ -244,7 +244,7 @@ module _ (b : Workbook) (customs : List (List ℕ × Rule)) (today : ℤ) where
       by (Some c) e = ap (λ o. unwrap_or (cond (is_some o) (Some (value (book.place p))) None) Empty) e
 
   module _ (words : List (List ℕ)) (kept : Kept) where
-    shows_right : (p : Place) → IsRight b words customs today kept (Cell p) → shown_at kept p ≡ value (book.place p)
+    pub shows_right : (p : Place) → IsRight b words customs today kept (Cell p) → shown_at kept p ≡ value (book.place p)
     shows_right p right = ap (λ o. unwrap_or o Empty) (right tt) ∙ place_shows p
 
     name_right : (key : Key) (t : Term Corner) (c : Node) → tree_in b.names key ≡ Some t → node_at words c ≡ Some (book.name key) → IsRight b words customs today kept c → shown_of kept c ≡ value (book.name key)

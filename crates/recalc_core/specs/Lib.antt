@@ -5,6 +5,7 @@ pub mod Recalc
 pub mod Given
 pub mod Steps
 pub mod Laws
+pub mod Shown
 pub mod Moves
 pub mod Edits
 pub mod Shifted

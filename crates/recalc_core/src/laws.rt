@@ -3,6 +3,7 @@ ghost use Rattle.recalc_core.specs.Laws.{ChainsAreNeeds, ChangesKeepFit, CyclesA
 ghost use Rattle.recalc_core.specs.Edits.{CellChangesAlone, NameChangesItsUsers};
 ghost use Rattle.recalc_core.specs.Moves.{MovesKeepFit};
 ghost use Rattle.recalc_core.specs.Shifted.{ShiftsGoBack};
+ghost use Rattle.recalc_core.specs.Shown.{AllMarkedFit, NamesShowKept, PlacesShowKept};
 
 /// Where links are the needs of a workbook, needs lead from one place or name to another in the graph exactly where they do
 /// in the workbook.
@@ -46,4 +47,19 @@ pub fn name_changes_its_users()
 /// Over every sound operation, nodes of the graph come from where their places and names do, and no two from one.
 pub fn shifts_go_back()
     ensures { ShiftsGoBack }
+{}
+
+/// Where kept values are right, a place shows what is kept of it, and nothing where nothing is.
+pub fn places_show_kept()
+    ensures { PlacesShowKept }
+{}
+
+/// And a name that the workbook knows shows what is kept of it.
+pub fn names_show_kept()
+    ensures { NamesShowKept }
+{}
+
+/// Where nothing is kept, marks fit that are all filled cells and all names.
+pub fn all_marked_fit()
+    ensures { AllMarkedFit }
 {}

@@ -28,8 +28,9 @@ mod trees;
 mod working;
 
 pub use laws::{
-    cell_changes_alone, chains_are_needs, changes_keep_fit, cycles_agree, linking_holds,
-    moves_keep_fit, name_changes_its_users, shifts_go_back,
+    all_marked_fit, cell_changes_alone, chains_are_needs, changes_keep_fit, cycles_agree,
+    linking_holds, moves_keep_fit, name_changes_its_users, names_show_kept, places_show_kept,
+    shifts_go_back,
 };
 pub use recalc::Recalc;
 pub use trees::{Given, Trees};
