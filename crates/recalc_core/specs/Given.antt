@@ -33,3 +33,8 @@ IsGiven b words a given = HasGivenAt b (node_at words a) given
 abbrev pub IsFound : Workbook → List (List ℕ) → List ℕ → ℕ → Option Node → Type 0
 IsFound b words word sheet None = found b.names word sheet ≡ None
 IsFound b words word sheet (Some a) = (key : Key) × (found b.names word sheet ≡ Some key) × (node_at words a ≡ Some (book.name key))
+
+-- what no call leaves, and what two calls leave that one does
+pub record IsOrder {T : Type 0} (leaves : T → T → Type 0) : Type 0 where
+  pub none : (t : T) → leaves t t
+  pub both : (t u v : T) → leaves t u → leaves u v → leaves t v

@@ -1,0 +1,79 @@
+-- What structural operations leave of links and kept values that follow a workbook. Source: this project's own.
+use Rattle.std.specs.Prelude.{◌≡◌, ◌⊎◌, ◌||◌, Bool, true, false, ℕ, ℤ, List, Some, None, is_none, ◌&&◌, IsTrue}
+use Rattle.std.specs.FinMap as map
+use Rattle.std.specs.Option.{option_map}
+use Rattle.cell_addr.specs.declared.place.Place.{Place}
+use Rattle.cell_addr.specs.Place.{IsInside, covers}
+use Rattle.custom_fn.specs.declared.rule.Rule.{Rule}
+use Rattle.formula_tree.specs.Links.{is_place_word}
+use Rattle.formula_tree.specs.Term.{Term, prefix, percent, binary, call, paren, Terms, no_terms, term}
+use Rattle.formula_tree.specs.declared.reference.Corner.{Corner}
+use Rattle.shift_core.specs.Carried.{destination}
+use Rattle.shift_core.specs.Form.{form_of}
+use Rattle.shift_core.specs.Sound.{IsSound}
+use Rattle.shift_core.specs.Tables.{place_after, place_before}
+use Rattle.shift_core.specs.declared.form.Form.{Form}
+use Rattle.shift_core.specs.declared.form.Form.TheVariants.{Cells}
+use Rattle.shift_core.specs.declared.shift.Shift.{Shift}
+use Rattle.tree_rewrite.specs.Rewritten.{rewritten}
+use Rattle.book_values.specs.Names.{Key, tree_in}
+use Rattle.book_values.specs.Workbook as book
+use Rattle.book_values.specs.Workbook.{Workbook, scope_sheet, tree_at}
+use Rattle.dep_graph.specs.Bent.{IsBentBy}
+use Rattle.dep_graph.specs.Needs.{Links}
+use Rattle.dep_graph.specs.Nodes.{has}
+use Rattle.dep_graph.specs.Shifted.{AreShifted}
+use Rattle.dep_graph.specs.declared.node.Node.{Node}
+use Rattle.dep_graph.specs.declared.node.Node.TheVariants.{Cell}
+use Rattle.recalc_core.specs.Kept.{Kept}
+use Rattle.recalc_core.specs.Laws.{AreKnown}
+use Rattle.recalc_core.specs.Moves.{MarksFollow, carried_kept}
+use Rattle.recalc_core.specs.Nodes.{AreNumbered, node_at}
+use Rattle.recalc_core.specs.Shifted.{drops_scope, from_over}
+use Rattle.carried_books.specs.Moved.{content_after, is_bare}
+use Rattle.marked_values.specs.Marks.{Follow, IsBookInside}
+
+-- the workbook after an operation: each cell where it was moved, each formula rewritten, and the names of a dropped sheet gone
+pub record IsBookAfter (s : Shift) (b c : Workbook) : Type 0 where
+  pub cells : (p q : Place) → IsInside p → place_after s p ≡ Some q → map.get c.cells q ≡ option_map (content_after s) (map.get b.cells p)
+  pub fresh : (q : Place) → IsInside q → place_before s q ≡ None → map.get c.cells q ≡ None
+  pub names : (key : Key) → drops_scope (form_of s) (scope_sheet key.scope) ≡ false → tree_in c.names key ≡ option_map (rewritten s) (tree_in b.names key)
+  pub dropped : (key : Key) → drops_scope (form_of s) (scope_sheet key.scope) ≡ true → tree_in c.names key ≡ None
+
+abbrev mutual
+  -- a formula has a call of a function that asks where a reference is: ROW, COLUMN, ROWS or COLUMNS
+  pub asks_place : Term Corner → Bool
+  asks_place (prefix s t) = asks_place t
+  asks_place (percent t) = asks_place t
+  asks_place (binary o l r) = asks_place l || asks_place r
+  asks_place (call word ts) = is_place_word word || any_asks_place ts
+  asks_place (paren t) = asks_place t
+  asks_place t = false
+
+  pub any_asks_place : Terms Corner → Bool
+  any_asks_place no_terms = false
+  any_asks_place (term t ts) = asks_place t || any_asks_place ts
+
+-- the place is one from which an operation moves a block of cells, or one to which it does
+abbrev pub is_moved_in : Form → Place → Bool
+is_moved_in (Cells source to) p = covers source p || covers (destination source to) p
+is_moved_in form p = false
+
+abbrev pub is_moved_cell : Shift → Place → Bool
+is_moved_cell s p = is_moved_in (form_of s) p
+
+-- the marks after an operation: those from before where they are then; in a moved block those that were there too, and each cell that
+-- is filled or was; and each node whose formula the operation bends, or that asks where a reference is
+pub record AreMarksAfter (s : Shift) (b c : Workbook) (words : List (List ℕ)) (links : Links) (marks more : List Node) : Type 0 where
+  pub follow : MarksFollow (from_over s) marks more
+  pub stay : (p : Place) → is_moved_cell s p ≡ true → IsTrue (has (Cell p) marks) → IsTrue (has (Cell p) more)
+  pub moved : (p : Place) → is_moved_cell s p ≡ true → is_bare b c p ≡ false → IsTrue (has (Cell p) more)
+  pub bent : (a z : Node) → IsBentBy s links a → from_over s z ≡ Some a → IsTrue (has z more)
+  pub asking : (a z : Node) (x : book.Node) (t : Term Corner) → node_at words a ≡ Some x → tree_at b x ≡ Some t → asks_place t ≡ true → from_over s z ≡ Some a → IsTrue (has z more)
+
+-- after an operation, links and kept values that went along with their nodes follow
+abbrev pub ShiftsFollow : Type 0
+ShiftsFollow =
+    (s : Shift) (b c : Workbook) (words : List (List ℕ)) (customs : List (List ℕ × Rule)) (today : ℤ) (old new : Links) (marks more : List Node) (kept : Kept) →
+    IsSound s → IsBookInside b → IsBookAfter s b c → AreNumbered words c.names → AreShifted s old new → AreMarksAfter s b c words old marks more → AreKnown words more →
+    Follow b words customs today old marks kept → Follow c words customs today new more (carried_kept (from_over s) kept)

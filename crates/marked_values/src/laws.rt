@@ -1,0 +1,58 @@
+// What holds of links and kept values that follow a workbook, as laws.
+ghost use Rattle.marked_values.specs.Changes.{AllMarkedFollow, CellsAlone, ChangesFollow, FitsFollow, FollowFits, LinksAreInside, MoreMarksFollow, NameAlone, NodesLinkAnew, RightFollow};
+ghost use Rattle.marked_values.specs.Shifts.{ShiftsFollow};
+
+/// After a change, links and kept values follow where what it didn't leave alone is marked as well.
+pub fn changes_follow()
+    ensures { ChangesFollow }
+{}
+
+/// More marks do no harm.
+pub fn more_marks_follow()
+    ensures { MoreMarksFollow }
+{}
+
+/// A change of cells leaves all nodes alone but these cells.
+pub fn cells_alone()
+    ensures { CellsAlone }
+{}
+
+/// A change of one name leaves all nodes alone but the name and those whose formulas use its word.
+pub fn name_alone()
+    ensures { NameAlone }
+{}
+
+/// Of a workbook that isn't linked and of which nothing is kept, all that stands is to be marked.
+pub fn all_marked_follow()
+    ensures { AllMarkedFollow }
+{}
+
+/// A node that is linked anew needn't be marked for its links.
+pub fn nodes_link_anew()
+    ensures { NodesLinkAnew }
+{}
+
+/// The links of a workbook that lies within the limits of its sheets lie there too.
+pub fn links_are_inside()
+    ensures { LinksAreInside }
+{}
+
+/// Once all links are those of the workbook, what is kept fits the marks by the graph as well.
+pub fn follow_fits()
+    ensures { FollowFits }
+{}
+
+/// What fits the marks by the graph follows.
+pub fn fits_follow()
+    ensures { FitsFollow }
+{}
+
+/// Values that are all right follow without marks.
+pub fn right_follow()
+    ensures { RightFollow }
+{}
+
+/// After a structural operation, links and kept values that went along with their nodes follow.
+pub fn shifts_follow()
+    ensures { ShiftsFollow }
+{}
