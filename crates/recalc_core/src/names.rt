@@ -31,6 +31,7 @@ pub(crate) fn read_names<T: Trees>(
     ensures read { IfOk result (λ names. (home : Home) → AreRead (T.workbook trees.old) (T.words trees.old) sheet (names_in (at_home home (relative tree.now.value))) names.items) }
     ensures leaves { T.workbook trees.new ≡ T.workbook trees.old }
     ensures words { T.words trees.new ≡ T.words trees.old }
+    ensures reads { T.leaves trees.old trees.new }
 {
     let words = names_of(alloc, tree)?;
     read_words(alloc, trees, &words, sheet)
@@ -46,6 +47,7 @@ fn read_words<T: Trees>(
     ensures read { IfOk result (λ names. AreRead (T.workbook trees.old) (T.words trees.old) sheet words.now names.items) }
     ensures leaves { T.workbook trees.new ≡ T.workbook trees.old }
     ensures words { T.words trees.new ≡ T.words trees.old }
+    ensures reads { T.leaves trees.old trees.new }
 {
     let mut names = Vec::new(alloc);
     'words: for word in words {
@@ -65,6 +67,7 @@ fn read_word<T: Trees>(
     ensures read { OnOk result (AddsRead (T.workbook trees.old) (T.words trees.old) sheet word.now names.old.items names.new.items) }
     ensures leaves { T.workbook trees.new ≡ T.workbook trees.old }
     ensures words { T.words trees.new ≡ T.words trees.old }
+    ensures reads { T.leaves trees.old trees.new }
 {
     let Some(node) = trees.find(word.as_str(), sheet)? else {
         return Ok(());

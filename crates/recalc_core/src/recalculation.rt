@@ -42,6 +42,7 @@ impl Recalc {
         ensures most { TakesSteps (T.workbook trees.old) (T.words trees.old) (links_of graph.now) (marks_in self.old) steps.old steps.new }
         ensures leaves { T.workbook trees.new ≡ T.workbook trees.old }
         ensures words { T.words trees.new ≡ T.words trees.old }
+        ensures reads { T.leaves trees.old trees.new }
     {
         let affected = graph.reach(&self.marks)?;
         let order = graph.order(&affected)?;

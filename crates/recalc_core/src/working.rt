@@ -42,6 +42,7 @@ impl Recalc {
         ensures marks { marks_in self.new ≡ marks_in self.old }
         ensures leaves { T.workbook trees.new ≡ T.workbook trees.old }
         ensures words { T.words trees.new ≡ T.words trees.old }
+        ensures reads { T.leaves trees.old trees.new }
     {
         let names = read_names(self.alloc, trees, tree, home.sheet())?;
         let none = Ranges::new(self.alloc)?;
@@ -69,6 +70,7 @@ impl Recalc {
         ensures marks { marks_in self.new ≡ marks_in self.old }
         ensures leaves { T.workbook trees.new ≡ T.workbook trees.old }
         ensures words { T.words trees.new ≡ T.words trees.old }
+        ensures reads { T.leaves trees.old trees.new }
     {
         match trees.given(a)? {
             Given::Nothing => self.settle(a, None),
@@ -98,6 +100,7 @@ impl Recalc {
         ensures marks { marks_in self.new ≡ marks_in self.old }
         ensures leaves { T.workbook trees.new ≡ T.workbook trees.old }
         ensures words { T.words trees.new ≡ T.words trees.old }
+        ensures reads { T.leaves trees.old trees.new }
     {
         'nodes: for node in order {
             self.renew(trees, *node, customs, day, steps)?;

@@ -8,7 +8,7 @@ pub words-init : goal.words-init
 words-init g c =
     let b = g.T.Trees.workbook c.args.trees.now in
     let words = g.T.Trees.words c.args.trees.now in
-    record { read = subst (AreRead b words c.args.sheet []) (sym c.new-names.ensures.items) (none_read b words c.args.sheet); leaves = refl; words = refl }
+    record { read = subst (AreRead b words c.args.sheet []) (sym c.new-names.ensures.items) (none_read b words c.args.sheet); leaves = refl; words = refl; reads = g.T.Trees.laws.none c.args.trees.now }
 
 pub words-preserved : goal.words-preserved
 words-preserved g c =
@@ -25,4 +25,5 @@ words-preserved g c =
           (subst (λ ws. AddsRead (g.T.Trees.workbook c.words.trees) ws sheet word c.words.names.items c.read_word.new.names.items) c.words.invariant.words c.in_ok-read_word.ensures.read)));
       leaves = c.in_ok-read_word.ensures.leaves ∙ c.words.invariant.leaves;
       words = c.in_ok-read_word.ensures.words ∙ c.words.invariant.words;
+      reads = g.T.Trees.laws.both _ _ _ c.words.invariant.reads c.in_ok-read_word.ensures.reads;
     }

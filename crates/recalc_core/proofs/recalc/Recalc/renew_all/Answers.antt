@@ -53,6 +53,7 @@ nodes-preserved g c =
       marks = c.renew.ensures.marks ∙ c.nodes.invariant.marks;
       leaves = c.renew.ensures.leaves ∙ c.nodes.invariant.leaves;
       words = c.renew.ensures.words ∙ c.nodes.invariant.words;
+      reads = g.T.Trees.laws.both _ _ _ c.nodes.invariant.reads c.renew.ensures.reads;
     }
   where
     more : (new now old there here before after : ℕ) → new ≤ now + there → there ≡ here → now ≤ old + before → after ≡ before + here → new ≤ old + after

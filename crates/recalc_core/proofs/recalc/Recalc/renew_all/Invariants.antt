@@ -15,4 +15,5 @@ invariant-nodes g l = record {
   marks : marks_in l.self ≡ marks_in l.fn.self;
   leaves : g.T.Trees.workbook l.trees ≡ g.T.Trees.workbook l.fn.trees;
   words : g.T.Trees.words l.trees ≡ g.T.Trees.words l.fn.trees;
+  reads : g.T.Trees.leaves l.fn.trees l.trees;
 }
