@@ -19,6 +19,7 @@
 
 mod kept;
 mod laws;
+mod marks;
 mod names;
 mod recalc;
 mod recalculation;

@@ -1,7 +1,8 @@
 // Kept values, marks and kept summaries.
-ghost use Rattle.std.specs.Prelude.{◌≡◌, ◌++◌, ◌∷◌, [], IfOk, None, OnErr, OnOk};
+ghost use Rattle.std.specs.Prelude.{◌≡◌, [], IfOk, None, OnErr, OnOk};
 ghost use Rattle.std.specs.Option.{option_copied};
-ghost use Rattle.dep_graph.specs.Nodes.{items_of};
+ghost use Rattle.dep_graph.specs.Nodes.{has, items_of};
+ghost use Rattle.dep_graph.specs.Walks.{IsOnce};
 ghost use Rattle.dep_graph.specs.declared.node.Node.{Node};
 ghost use Rattle.range_table.specs.Ranges.{table_of};
 ghost use Rattle.range_table.specs.Table.{AreFolds};
@@ -9,6 +10,7 @@ ghost use Rattle.recalc_core.specs.internal.KeptValues.{kept_by};
 ghost use Rattle.recalc_core.specs.internal.Seen.{shown_at};
 
 use crate::kept::KeptValues;
+use crate::marks::Marks;
 use cell_value::Scalar;
 use dep_graph::{Node, Nodes};
 use range_table::Ranges;
@@ -16,13 +18,13 @@ use std::alloc::{AllocError, Global};
 
 /// The values of a workbook as they are kept, the marks, and kept summaries of ranges.
 ///
-/// It stands for a finite map from nodes to values, for the list of marks, and for the number of cells that were merged for
-/// summaries.
+/// It stands for a finite map from nodes to values, for the list of marks, each of which stands once, and for the number of
+/// cells that were merged for summaries.
 #[derive(Drop)]
 pub struct Recalc {
     pub(crate) alloc: Global,
     pub(crate) kept: KeptValues,
-    pub(crate) marks: Nodes,
+    pub(crate) marks: Marks,
     pub(crate) ranges: Ranges,
 
     // Each summary is that of its block's cells.
@@ -30,7 +32,7 @@ pub struct Recalc {
 }
 
 impl Recalc {
-    ghost use Rattle.recalc_core.specs.Recalc.{kept_in, marks_in, merged_in};
+    ghost use Rattle.recalc_core.specs.Recalc.{kept_in, marks_in, merged_in, with_mark};
 
     /// Nothing is kept, and there are no marks. Errs for want of memory.
     pub fn new(alloc: Global) -> Result<Recalc, AllocError>
@@ -41,27 +43,35 @@ impl Recalc {
         Ok(Recalc {
             alloc,
             kept: KeptValues::new(alloc),
-            marks: Nodes::new(alloc)?,
+            marks: Marks::new(alloc)?,
             ranges: Ranges::new(alloc)?,
         })
     }
 
-    /// Marks a node: what is kept of it, and of all that its value reaches, may not be its value any more. For want of memory
-    /// all is as it was.
+    /// Marks a node, unless it is marked: what is kept of it, and of all that its value reaches, may not be its value any
+    /// more. Costs a look-up. For want of memory all is as it was.
     pub fn mark(&mut self, a: Node) -> Result<(), AllocError>
-        ensures ok { OnOk result (marks_in self.new ≡ marks_in self.old ++ a ∷ []) }
+        ensures ok { OnOk result (marks_in self.new ≡ with_mark a (marks_in self.old)) }
         ensures err { OnErr result (marks_in self.new ≡ marks_in self.old) }
         ensures kept { kept_in self.new ≡ kept_in self.old }
         ensures merged { merged_in self.new ≡ merged_in self.old }
     {
-        self.marks.push(a)
+        self.marks.add(a)
     }
 
-    /// The marks.
-    pub fn marks(&self) -> &Nodes
-        ensures { items_of result.now ≡ marks_in self.now }
+    /// Whether the node is marked. Costs a look-up.
+    pub fn is_marked(&self, a: Node) -> bool
+        ensures { result ≡ has a (marks_in self.now) }
     {
-        &self.marks
+        self.marks.holds(a)
+    }
+
+    /// The marks, each once, in the order in which they came.
+    pub fn marks(&self) -> &Nodes
+        ensures list { items_of result.now ≡ marks_in self.now }
+        ensures once { IsOnce (marks_in self.now) }
+    {
+        self.marks.list()
     }
 
     /// The value that is kept of the node; `None` where none is. Costs a look-up.
@@ -87,19 +97,8 @@ impl Recalc {
         Ok(Recalc {
             alloc: self.alloc,
             kept: self.kept.copied(self.alloc)?,
-            marks: copied_nodes(self.alloc, self.marks.items())?,
+            marks: self.marks.copied(self.alloc)?,
             ranges: self.ranges.copied()?,
         })
     }
-}
-
-// The list of these nodes.
-fn copied_nodes(alloc: Global, nodes: &[Node]) -> Result<Nodes, AllocError>
-    ensures { IfOk result (λ copy. items_of copy ≡ nodes.now) }
-{
-    let mut copy = Nodes::new(alloc)?;
-    'nodes: for node in nodes {
-        copy.push(*node)?;
-    }
-    Ok(copy)
 }

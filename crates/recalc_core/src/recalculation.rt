@@ -8,10 +8,11 @@ ghost use Rattle.recalc_core.specs.Links.{AreLinksOf};
 ghost use Rattle.recalc_core.specs.Recalc.{kept_in, marks_in};
 ghost use Rattle.recalc_core.specs.Steps.{TakesSteps};
 
+use crate::marks::Marks;
 use crate::recalc::Recalc;
 use crate::trees::Trees;
 use calc_eval::Customs;
-use dep_graph::{Graph, Nodes};
+use dep_graph::Graph;
 use std::alloc::AllocError;
 use std::sync::ledger::Ledger;
 use steps::Steps;
@@ -44,9 +45,9 @@ impl Recalc {
         ensures words { T.words trees.new ≡ T.words trees.old }
         ensures reads { T.leaves trees.old trees.new }
     {
-        let affected = graph.reach(&self.marks)?;
+        let affected = graph.reach(self.marks.list())?;
         let order = graph.order(&affected)?;
-        let none = Nodes::new(self.alloc)?;
+        let none = Marks::new(self.alloc)?;
         self.settle_cycles(affected.items(), order.items())?;
         self.renew_all(trees, order.items(), customs, day, steps)?;
         self.marks = none;

@@ -1,7 +1,5 @@
 // What is kept of single nodes, and of those on a cycle.
-ghost use Rattle.std.specs.Prelude.{◌≡◌, IfOk, IsTrue, OnErr, OnOk, Some};
-ghost use Rattle.std.specs.HashSet as hash;
-ghost use Rattle.dep_graph.specs.Nodes.{has, same_node};
+ghost use Rattle.std.specs.Prelude.{◌≡◌, OnErr, OnOk};
 ghost use Rattle.dep_graph.specs.declared.node.Node.{Node};
 ghost use Rattle.range_table.specs.Ranges.{table_of};
 ghost use Rattle.range_table.specs.Table.{AreFolds};
@@ -11,12 +9,12 @@ ghost use Rattle.recalc_core.specs.internal.KeptValues.{AreSame, IsPut};
 ghost use Rattle.recalc_core.specs.internal.Seen.{shown_at};
 ghost use Rattle.recalc_core.specs.internal.UnderWay.{AreCycles, DifferWithin, DiffersAt, ShowsCycle};
 
+use crate::marks::set_of;
 use crate::recalc::Recalc;
 use cell_value::{FaultKind, Scalar};
 use dep_graph::Node;
 use range_table::Ranges;
-use std::alloc::{AllocError, Global};
-use std::collections::HashSet;
+use std::alloc::AllocError;
 
 impl Recalc {
     // Keeps this of the node, or nothing any more. For want of memory what is kept is as it was.
@@ -74,15 +72,4 @@ fn touch(ranges: &mut Ranges, a: Node)
         Node::Name { .. } => {}
         Node::Range(_) => {}
     }
-}
-
-// The set of the nodes.
-fn set_of(alloc: Global, nodes: &[Node]) -> Result<HashSet<Node>, AllocError>
-    ensures { IfOk result (λ set. (a : Node) → hash.contains same_node set a ≡ has a nodes.now) }
-{
-    let mut set = HashSet::new(alloc);
-    'nodes: for node in nodes {
-        set.insert(*node)?;
-    }
-    Ok(set)
 }

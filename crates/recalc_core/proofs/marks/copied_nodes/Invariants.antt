@@ -1,6 +1,6 @@
 use Rattle.std.proofs.Common.{◌≡◌, take}
 use Rattle.dep_graph.specs.Nodes.{items_of}
-use Rattle.recalc_core.proofs.recalc.copied_nodes.Given as goal
+use Rattle.recalc_core.proofs.marks.copied_nodes.Given as goal
 
 -- the nodes so far are in the copy
 abbrev pub invariant-nodes : goal.invariant-nodes
