@@ -23,6 +23,7 @@ use Rattle.formula_tree.specs.StandsFor.{at_home}
 use Rattle.formula_tree.specs.Term.{Term, number, text, truth, cell, area, name, prefix, percent, binary, call, paren, Terms, no_terms, term}
 use Rattle.formula_tree.specs.Term as tree
 use Rattle.formula_tree.specs.declared.reference.Corner.{Corner}
+use Rattle.formula_tree.specs.declared.reference.Home.{Home}
 use Rattle.value_network.specs.Network.{LeadsTo, Network, after, at_once, cyclic}
 use Rattle.calc_terms.proofs.Reading.{reads_needs}
 use Rattle.calc_terms.specs.Cost.{block_size, cost, cost_all}
@@ -43,7 +44,7 @@ use Rattle.dep_graph.specs.Laws.{IsNoRange}
 use Rattle.dep_graph.specs.declared.node.Node.{Node}
 use Rattle.dep_graph.specs.declared.node.Node.TheVariants.{Cell, Name, Range}
 use Rattle.recalc_core.specs.Given.{HasGiven}
-use Rattle.recalc_core.specs.Kept.{IsRight, Kept, expected, expected_at, stands}
+use Rattle.recalc_core.specs.Kept.{AreRight, IsRight, Kept, expected, expected_at, stands}
 use Rattle.recalc_core.specs.Nodes.{node_at}
 use Rattle.recalc_core.specs.Steps.{bare}
 use Rattle.recalc_core.specs.declared.names.ReadName.{ReadName}
@@ -250,46 +251,53 @@ module _ (b : Workbook) (customs : List (List ℕ × Rule)) (today : ℤ) where
     name_right : (key : Key) (t : Term Corner) (c : Node) → tree_in b.names key ≡ Some t → node_at words c ≡ Some (book.name key) → IsRight b words customs today kept c → shown_of kept c ≡ value (book.name key)
     name_right key t c tree at right = ap (λ o. unwrap_or o Empty) (right_at b words customs today kept c (book.name key) right at ∙ expected_some (book.name key) (ap is_some tree))
 
-    module _ (x : book.Node) (t : Term Corner) (is : tree_at b x ≡ Some t) (right : (z : book.Node) (c : Node) → LeadsTo net x z → node_at words c ≡ Some z → IsRight b words customs today kept c)
-        (names : List ReadName) (read : AreRead b words (sheet_of (home_of x)) (names_in t) names) where
-      need : (z : book.Node) → mentions_node b.names (sheet_of (home_of x)) t z ≡ true → needs b x z ≡ true
-      need z h = ap (λ o. tree_needs b.names (sheet_of (home_of x)) o z) is ∙ h
-
+    -- a formula at a home, where all that it reads is right: each place and name that it mentions, and what the trees of these names need
+    module _ (home : Home) (t : Term Corner) (Reads : book.Node → Type 0) (once : (z : book.Node) → mentions_node b.names (sheet_of home) t z ≡ true → Reads z)
+        (twice : (y z : book.Node) → mentions_node b.names (sheet_of home) t y ≡ true → needs b y z ≡ true → Reads z)
+        (right : (z : book.Node) (c : Node) → Reads z → node_at words c ≡ Some z → IsRight b words customs today kept c) (names : List ReadName) (read : AreRead b words (sheet_of home) (names_in t) names) where
       shown_alike : ShowAlike (world_in kept names today) world t
-      shown_alike p h = shows_right p (right (book.place p) (Cell p) (at_once (need (book.place p) h)) refl)
+      shown_alike p h = shows_right p (right (book.place p) (Cell p) (once (book.place p) h) refl)
 
-      named_alike : (word : List ℕ) → mentions_name t word ≡ true → Finds b words (sheet_of (home_of x)) (names_in t) names read word
-          → NameAlike (world_in kept names today) world ((world_in kept names today).named word (sheet_of (home_of x))) (world.named word (sheet_of (home_of x)))
+      named_alike : (word : List ℕ) → mentions_name t word ≡ true → Finds b words (sheet_of home) (names_in t) names read word
+          → NameAlike (world_in kept names today) world ((world_in kept names today).named word (sheet_of home)) (world.named word (sheet_of home))
       named_alike word h (inl (none, no_name)) =
-          subst (λ o. NameAlike (world_in kept names today) world (option_map (named_by kept) o) (world.named word (sheet_of (home_of x)))) (sym no_name)
+          subst (λ o. NameAlike (world_in kept names today) world (option_map (named_by kept) o) (world.named word (sheet_of home))) (sym no_name)
           (subst (λ o. NameAlike (world_in kept names today) world None (option_and_then (named_as b.names value) o)) (sym none) tt)
       named_alike word h (inr (key, other, found_key, here, at, tree)) =
-          let mentioned : mentions_node b.names (sheet_of (home_of x)) t (book.name key) ≡ true =
-          word_passes word (λ v. is_found (found b.names v (sheet_of (home_of x))) key) (names_in t) (ap (λ o. is_found o key) found_key ∙ same_key-self key) h in
+          let mentioned : mentions_node b.names (sheet_of home) t (book.name key) ≡ true =
+          word_passes word (λ v. is_found (found b.names v (sheet_of home)) key) (names_in t) (ap (λ o. is_found o key) found_key ∙ same_key-self key) h in
           let own : Term Corner = at_home other.home (relative other.tree.value) in
-          subst (λ o. NameAlike (world_in kept names today) world (option_map (named_by kept) o) (world.named word (sheet_of (home_of x)))) (sym here)
+          subst (λ o. NameAlike (world_in kept names today) world (option_map (named_by kept) o) (world.named word (sheet_of home))) (sym here)
           (subst (λ o. NameAlike (world_in kept names today) world (Some (named_by kept other)) (option_and_then (named_as b.names value) o)) (sym found_key)
           (subst (λ o. NameAlike (world_in kept names today) world (Some (named_by kept other)) (option_map (λ u. record { value = value (book.name key); tree = u }) o)) (sym tree) (
-            name_right key own other.node tree at (right (book.name key) other.node (at_once (need (book.name key) mentioned)) at),
+            name_right key own other.node tree at (right (book.name key) other.node (once (book.name key) mentioned) at),
             refl,
             λ p m. shows_right p (right (book.place p) (Cell p)
-                (after (need (book.name key) mentioned) (at_once (ap (λ o. tree_needs b.names (sheet_of (home_of (book.name key))) o (book.place p)) tree ∙ m))) refl),
+                (twice (book.name key) (book.place p) mentioned (ap (λ o. tree_needs b.names (sheet_of (home_of (book.name key))) o (book.place p)) tree ∙ m)) refl),
           )))
 
-      -- a formula means over kept values what it means in the workbook
-      pub means_alike : meaning (world_in kept names today) customs (home_of x) t ≡ meaning world customs (home_of x) t
-      means_alike = reads_needs (world_in kept names today) world customs (home_of x) t (record {
+      -- it means over kept values what it means in the workbook
+      pub means_alike : meaning (world_in kept names today) customs home t ≡ meaning world customs home t
+      means_alike = reads_needs (world_in kept names today) world customs home t (record {
         today = refl;
         shown = shown_alike;
-        named = λ word h. named_alike word h (finds b words (sheet_of (home_of x)) (names_in t) names read word (word_asked t word h));
+        named = λ word h. named_alike word h (finds b words (sheet_of home) (names_in t) names read word (word_asked t word h));
       })
+
+    need : (x : book.Node) (t : Term Corner) (z : book.Node) → tree_at b x ≡ Some t → mentions_node b.names (sheet_of (home_of x)) t z ≡ true → needs b x z ≡ true
+    need x t z is h = ap (λ o. tree_needs b.names (sheet_of (home_of x)) o z) is ∙ h
 
     -- what is worked out of a node that is ready should be kept of it
     pub meaning_expected : (a : Node) (x : book.Node) (t : Term Corner) (s : Scalar) → IsReady b words customs today kept a → node_at words a ≡ Some x → tree_at b x ≡ Some t
         → IsMeaning b words customs today kept (home_of x) t s → expected b customs today x ≡ Some s
     meaning_expected a x t s ready at is (names, read, shows) =
         let (good, right) = ready x at in
-        formula_expected x t is good ∙ ap Some (sym (means_alike x t is right names read) ∙ sym shows)
+        let same = means_alike (home_of x) t (λ z. LeadsTo net x z) (λ z h. at_once (need x t z is h)) (λ y z h more. after (need x t y is h) (at_once more)) right names read in
+        formula_expected x t is good ∙ ap Some (sym same ∙ sym shows)
+
+    -- any formula means over values that are all right what it means in the workbook
+    pub meaning_right : (home : Home) (t : Term Corner) (s : Scalar) → AreRight b words customs today kept → IsMeaning b words customs today kept home t s → s ≡ meaning world customs home t
+    meaning_right home t s right (names, read, shows) = shows ∙ means_alike home t (λ z. Unit {0}) (λ z h. tt) (λ y z h more. tt) (λ z c reads at. right c) names read
 
 -- one view's world, by equal values
 pub same_world : (one two : KeptValues) (names : List ReadName) (today : ℤ) → one ≡ two → world_in (kept_by one) names today ≡ world_in (kept_by two) names today

@@ -5,6 +5,8 @@ ghost use Rattle.formula_tree.specs.Reference.{sheet_of};
 ghost use Rattle.formula_tree.specs.Relative.{relative};
 ghost use Rattle.formula_tree.specs.StandsFor.{at_home};
 ghost use Rattle.calc_terms.specs.Cost.{cost};
+ghost use Rattle.calc_terms.specs.Meaning.{meaning};
+ghost use Rattle.book_values.specs.Values.{value_of, world_of};
 ghost use Rattle.recalc_core.specs.Kept.{AreRight, IsRight};
 ghost use Rattle.recalc_core.specs.Recalc.{kept_in, marks_in};
 ghost use Rattle.recalc_core.specs.Steps.{bare, node_cost};
@@ -25,6 +27,30 @@ use std::sync::ledger::Ledger;
 use steps::Steps;
 
 impl Recalc {
+    /// What a tree, as it is seen from a home, means in a formula there: by the values that are kept, which are all right.
+    /// Nothing more is kept for it but summaries of ranges. Errs for want of memory. Costs what the tree costs to work out.
+    pub fn tried<T: Trees, C: Customs, L: Ledger>(
+        &mut self,
+        trees: &mut T,
+        tree: &Tree,
+        home: Home,
+        customs: &C,
+        day: i32,
+        steps: &mut Steps<L>,
+    ) -> Result<Scalar, AllocError>
+        requires right { AreRight (T.workbook trees.old) (T.words trees.old) (C.customs customs.now) day (kept_in self.old) }
+        ensures means { IfOk result (λ value. value ≡ meaning (world_of (T.workbook trees.old).names day (value_of (T.workbook trees.old) (C.customs customs.now) day)) (C.customs customs.now) home (at_home home (relative tree.now.value))) }
+        ensures least { steps.old ≤ steps.new }
+        ensures most { steps.new ≤ steps.old + cost (bare (T.workbook trees.old).names) (sheet_of home) (at_home home (relative tree.now.value)) }
+        ensures kept { kept_in self.new ≡ kept_in self.old }
+        ensures marks { marks_in self.new ≡ marks_in self.old }
+        ensures leaves { T.workbook trees.new ≡ T.workbook trees.old }
+        ensures words { T.words trees.new ≡ T.words trees.old }
+        ensures reads { T.leaves trees.old trees.new }
+    {
+        self.formula_value(trees, tree, home, customs, day, steps)
+    }
+
     // What the tree means over what is kept, in a formula at the home.
     fn formula_value<T: Trees, C: Customs, L: Ledger>(
         &mut self,
