@@ -10,7 +10,7 @@ use Rattle.dep_graph.specs.Nodes.{same_node}
 use Rattle.dep_graph.specs.declared.node.Node.{Node}
 use Rattle.dep_graph.specs.internal.Hashed.{own_node, same_nodes}
 use Rattle.recalc_core.specs.Kept.{Kept}
-use Rattle.recalc_core.specs.internal.KeptValues.{IsPut}
+use Rattle.recalc_core.specs.internal.KeptTables.{IsPut}
 
 -- no key in front is the one in the middle
 front_apart : (done rest : List (Node × Scalar)) (e : Node × Scalar) (x : Node × Scalar) → IsDistinct same_node (keys_of (x ∷ done ++ e ∷ rest)) → same_node x.0 e.0 ≡ false

@@ -8,6 +8,7 @@ pub mod Recalculated
 pub mod Changes
 pub mod Moves
 pub mod CopiedValues
+pub mod Held
 pub mod Marking
 pub mod Edits
 pub mod Shifted

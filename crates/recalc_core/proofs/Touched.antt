@@ -15,7 +15,7 @@ use Rattle.range_table.proofs.Staying.{touched_stay_right}
 use Rattle.range_table.specs.Blocks.{BlockMap}
 use Rattle.range_table.specs.Table.{AreFolds, without_holders}
 use Rattle.recalc_core.specs.Kept.{Kept}
-use Rattle.recalc_core.specs.internal.KeptValues.{AreSame, IsPut}
+use Rattle.recalc_core.specs.internal.KeptTables.{AreSame, IsPut}
 use Rattle.recalc_core.specs.internal.Seen.{shown_at}
 use Rattle.recalc_core.specs.internal.UnderWay.{DiffersAt}
 

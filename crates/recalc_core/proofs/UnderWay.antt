@@ -22,7 +22,7 @@ use Rattle.recalc_core.specs.Kept.{AreRight, IsRight, Kept, expected_at}
 use Rattle.recalc_core.specs.Nodes.{node_at}
 use Rattle.recalc_core.specs.declared.trees.Given.{Given}
 use Rattle.recalc_core.specs.declared.trees.Given.TheVariants as given
-use Rattle.recalc_core.specs.internal.KeptValues.{IsPut}
+use Rattle.recalc_core.specs.internal.KeptTables.{IsPut}
 use Rattle.recalc_core.specs.internal.UnderWay.{AreCycles, DifferWithin, DiffersAt, IsMeaning, IsPlan, IsReady, IsUnderWay, ShowsCycle}
 use Rattle.recalc_core.proofs.Worked.{meaning_expected, nothing_expected, value_expected}
 

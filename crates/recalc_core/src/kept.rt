@@ -1,36 +1,65 @@
 // Kept values.
-ghost use Rattle.std.specs.Prelude.{◌≡◌, IfOk, OnErr, OnOk, None, Some};
+ghost use Rattle.std.specs.Prelude.{◌≡◌, if◌then◌else◌, IfOk, OnErr, OnOk, None, Some};
+ghost use Rattle.std.specs.HashMap as hash;
 ghost use Rattle.std.specs.Option.{option_copied};
+ghost use Rattle.dep_graph.specs.Nodes.{same_node};
 ghost use Rattle.dep_graph.specs.declared.node.Node.{Node};
+ghost use Rattle.dep_graph.specs.declared.node.Node.TheVariants.{Cell};
+ghost use Rattle.recalc_core.specs.Shifted.{is_inside};
+ghost use Rattle.recalc_core.specs.internal.KeptTables.{AreSame, IsPut};
 
+use cell_addr::Place;
 use cell_value::Scalar;
 use dep_graph::Node;
+use grid_store::Grid;
 use std::alloc::{AllocError, Global};
 use std::collections::HashMap;
 
 // A finite map from nodes to values.
 #[derive(Drop)]
 pub(crate) struct KeptValues {
-    values: HashMap<Node, Scalar>,
+    // Those of places within the limits of a sheet.
+    pub(crate) cells: Grid<Scalar>,
+    // Those of places beyond them.
+    pub(crate) beyond: HashMap<Node, Scalar>,
+    // Those of names.
+    pub(crate) names: HashMap<Node, Scalar>,
 }
 
 impl KeptValues {
-    ghost use Rattle.recalc_core.specs.internal.KeptValues.{AreSame, IsPut, kept_by};
+    ghost use Rattle.recalc_core.specs.internal.KeptValues.{kept_by};
 
     // Nothing is kept.
-    pub(crate) fn new(alloc: Global) -> KeptValues
-        ensures { (a : Node) → kept_by result a ≡ None }
+    pub(crate) fn new(alloc: Global) -> Result<KeptValues, AllocError>
+        ensures { IfOk result (λ kept. (a : Node) → kept_by kept a ≡ None) }
     {
-        KeptValues {
-            values: HashMap::new(alloc),
-        }
+        Ok(KeptValues {
+            cells: Grid::new(alloc)?,
+            beyond: HashMap::new(alloc),
+            names: HashMap::new(alloc),
+        })
     }
 
     // What is kept of the node.
     pub(crate) fn get(&self, a: Node) -> Option<&Scalar>
         ensures { option_copied result ≡ kept_by self.now a }
     {
-        self.values.get(&a)
+        match a {
+            Node::Cell(at) => self.cell(at),
+            Node::Name { .. } => self.names.get(&a),
+            Node::Range(_) => self.names.get(&a),
+        }
+    }
+
+    // What is kept of the place.
+    fn cell(&self, at: Place) -> Option<&Scalar>
+        ensures { option_copied result ≡ kept_by self.now (Cell at) }
+    {
+        if is_inside(at) {
+            self.cells.cell(at)
+        } else {
+            self.beyond.get(&Node::Cell(at))
+        }
     }
 
     // Keeps the value of the node, in place of what was kept of it. For want of memory all is as it was.
@@ -38,9 +67,23 @@ impl KeptValues {
         ensures ok { OnOk result (IsPut a (Some value) (kept_by self.old) (kept_by self.new)) }
         ensures err { OnErr result (AreSame (kept_by self.old) (kept_by self.new)) }
     {
-        match self.values.insert(a, value) {
-            Ok(_) => Ok(()),
-            Err(_) => Err(AllocError),
+        match a {
+            Node::Cell(at) => self.put_cell(at, value),
+            Node::Name { .. } => insert(&mut self.names, a, value),
+            Node::Range(_) => insert(&mut self.names, a, value),
+        }
+    }
+
+    // Keeps the value of the place.
+    fn put_cell(&mut self, at: Place, value: Scalar) -> Result<(), AllocError>
+        ensures ok { OnOk result (IsPut (Cell at) (Some value) (kept_by self.old) (kept_by self.new)) }
+        ensures err { OnErr result (AreSame (kept_by self.old) (kept_by self.new)) }
+    {
+        if is_inside(at) {
+            self.cells.put(at, value)?;
+            Ok(())
+        } else {
+            insert(&mut self.beyond, Node::Cell(at), value)
         }
     }
 
@@ -48,18 +91,72 @@ impl KeptValues {
     pub(crate) fn remove(&mut self, a: Node)
         ensures { IsPut a None (kept_by self.old) (kept_by self.new) }
     {
-        self.values.remove(&a);
+        match a {
+            Node::Cell(at) => self.remove_cell(at),
+            Node::Name { .. } => remove(&mut self.names, a),
+            Node::Range(_) => remove(&mut self.names, a),
+        }
+    }
+
+    // Keeps nothing of the place any more.
+    fn remove_cell(&mut self, at: Place)
+        ensures { IsPut (Cell at) None (kept_by self.old) (kept_by self.new) }
+    {
+        if is_inside(at) {
+            self.cells.take(at);
+        } else {
+            remove(&mut self.beyond, Node::Cell(at));
+        }
     }
 
     // Equal values.
     pub(crate) fn copied(&self, alloc: Global) -> Result<KeptValues, AllocError>
         ensures { IfOk result (λ copy. AreSame (kept_by self.now) (kept_by copy)) }
     {
-        let _once = self.values.len();
-        let mut copy = KeptValues::new(alloc);
-        'values: for (node, value) in &self.values {
-            copy.put(*node, value.copy(alloc)?)?;
-        }
-        Ok(copy)
+        Ok(KeptValues {
+            cells: self.cells.copied()?,
+            beyond: copied_values(alloc, &self.beyond)?,
+            names: copied_values(alloc, &self.names)?,
+        })
     }
+}
+
+// Whether the place is within the limits of a sheet.
+pub(crate) fn is_inside(at: Place) -> bool
+    ensures { result ≡ is_inside at }
+{
+    at.inside()
+}
+
+// Keeps the value under the node. For want of memory all is as it was.
+fn insert(values: &mut HashMap<Node, Scalar>, a: Node, value: Scalar) -> Result<(), AllocError>
+    ensures ok { OnOk result (IsPut a (Some value) (hash.get same_node values.old) (hash.get same_node values.new)) }
+    ensures err { OnErr result (AreSame (hash.get same_node values.old) (hash.get same_node values.new)) }
+{
+    match values.insert(a, value) {
+        Ok(_) => Ok(()),
+        Err(_) => Err(AllocError),
+    }
+}
+
+// Keeps nothing under the node any more.
+fn remove(values: &mut HashMap<Node, Scalar>, a: Node)
+    ensures { IsPut a None (hash.get same_node values.old) (hash.get same_node values.new) }
+{
+    values.remove(&a);
+}
+
+// Equal values under the same nodes.
+fn copied_values(
+    alloc: Global,
+    values: &HashMap<Node, Scalar>,
+) -> Result<HashMap<Node, Scalar>, AllocError>
+    ensures { IfOk result (λ copy. AreSame (hash.get same_node values.now) (hash.get same_node copy)) }
+{
+    let _once = values.len();
+    let mut copy = HashMap::new(alloc);
+    'values: for (node, value) in values {
+        insert(&mut copy, *node, value.copy(alloc)?)?;
+    }
+    Ok(copy)
 }

@@ -42,7 +42,7 @@ impl Recalc {
     {
         Ok(Recalc {
             alloc,
-            kept: KeptValues::new(alloc),
+            kept: KeptValues::new(alloc)?,
             marks: Marks::new(alloc)?,
             ranges: Ranges::new(alloc)?,
         })

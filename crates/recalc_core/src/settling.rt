@@ -5,7 +5,7 @@ ghost use Rattle.range_table.specs.Ranges.{table_of};
 ghost use Rattle.range_table.specs.Table.{AreFolds};
 ghost use Rattle.recalc_core.specs.Kept.{Kept};
 ghost use Rattle.recalc_core.specs.Recalc.{kept_in, marks_in};
-ghost use Rattle.recalc_core.specs.internal.KeptValues.{AreSame, IsPut};
+ghost use Rattle.recalc_core.specs.internal.KeptTables.{AreSame, IsPut};
 ghost use Rattle.recalc_core.specs.internal.Seen.{shown_at};
 ghost use Rattle.recalc_core.specs.internal.UnderWay.{AreCycles, DifferWithin, DiffersAt, ShowsCycle};
 
