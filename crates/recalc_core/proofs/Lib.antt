@@ -9,7 +9,7 @@ pub mod Changes
 pub mod Moves
 pub mod CopiedValues
 pub mod Held
-pub mod Marking
 pub mod Edits
 pub mod Shifted
+pub mod MovedMarks
 pub mod Shown

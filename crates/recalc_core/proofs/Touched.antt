@@ -11,6 +11,7 @@ use Rattle.cell_value.specs.declared.scalar.Scalar.TheVariants.{Empty}
 use Rattle.cell_value.specs.declared.summary.Summary.{Summary}
 use Rattle.dep_graph.specs.declared.node.Node.{Node}
 use Rattle.dep_graph.specs.declared.node.Node.TheVariants.{Cell}
+use Rattle.dep_graph.specs.internal.Hashed.{own_node}
 use Rattle.range_table.proofs.Staying.{touched_stay_right}
 use Rattle.range_table.specs.Blocks.{BlockMap}
 use Rattle.range_table.specs.Table.{AreFolds, without_holders}
@@ -37,6 +38,10 @@ cells_alike before after kept same right = subst (λ (values : Place → Scalar)
 
 pub put_differs : (a : Node) (value : Option Scalar) (old new : Kept) → IsPut a value old new → DiffersAt a old new
 put_differs a value old new put x apart = put x ∙ ap (λ t. cond t value (old x)) apart
+
+-- what is put of a node is kept of it
+pub put_there : (a : Node) (value : Option Scalar) (old new : Kept) → IsPut a value old new → new a ≡ value
+put_there a value old new put = put a ∙ ap (λ t. cond t value (old a)) (own_node a)
 
 -- whether it was put or not
 pub either_differs : (a : Node) (value : Option Scalar) (old new : Kept) (r : Result (Unit {0}) AllocError) → OnOk r (IsPut a value old new) → OnErr r (AreSame old new) → DiffersAt a old new

@@ -25,6 +25,7 @@ mod recalc;
 mod recalculation;
 mod seen;
 mod settling;
+mod shifting;
 mod trees;
 mod working;
 

@@ -12,8 +12,8 @@ use std::collections::HashSet;
 // Marked nodes, each once, in the order in which they were marked.
 #[derive(Drop)]
 pub(crate) struct Marks {
-    list: Nodes,
-    set: HashSet<Node>,
+    pub(crate) list: Nodes,
+    pub(crate) set: HashSet<Node>,
 
     // The set has what the list has.
     pub ghost same: { (a : Node) → hash.contains same_node set a ≡ has a (items_of list) },
@@ -32,14 +32,6 @@ impl Marks {
             list: Nodes::new(alloc)?,
             set: HashSet::new(alloc),
         })
-    }
-
-    // The list of the marked nodes.
-    pub(crate) fn list(&self) -> &Nodes
-        ensures list { items_of result.now ≡ marked_by self.now }
-        ensures once { IsOnce (marked_by self.now) }
-    {
-        &self.list
     }
 
     // Whether the node is marked.

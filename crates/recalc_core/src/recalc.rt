@@ -71,7 +71,7 @@ impl Recalc {
         ensures list { items_of result.now ≡ marks_in self.now }
         ensures once { IsOnce (marks_in self.now) }
     {
-        self.marks.list()
+        &self.marks.list
     }
 
     /// The value that is kept of the node; `None` where none is. Costs a look-up.

@@ -45,7 +45,7 @@ impl Recalc {
         ensures words { T.words trees.new ≡ T.words trees.old }
         ensures reads { T.leaves trees.old trees.new }
     {
-        let affected = graph.reach(self.marks.list())?;
+        let affected = graph.reach(&self.marks.list)?;
         let order = graph.order(&affected)?;
         let none = Marks::new(self.alloc)?;
         self.settle_cycles(affected.items(), order.items())?;

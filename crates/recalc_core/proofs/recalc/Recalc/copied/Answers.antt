@@ -10,6 +10,6 @@ use Rattle.recalc_core.proofs.recalc.Recalc.copied.Goals as goal
 
 pub invariant_of-result : goal.invariant_of-result
 invariant_of-result c = record {
-  right = cells_alike (kept_in c.args.self.now) (kept_by c.in_ok-copied.field-0) (table_of c.in_ok-copied-2.field-0).kept (λ p. c.in_ok-copied.ensures (Cell p))
-      (subst (λ (t : RangeTable). AreFolds (shown_at (kept_in c.args.self.now)) t.kept) (sym c.in_ok-copied-2.ensures) c.args.self.now.right);
+  right = cells_alike (kept_in c.args.self.now) (kept_by c.in_ok-copied.field-0) (table_of c.in_ok-copied-3.field-0).kept (λ p. c.in_ok-copied.ensures (Cell p))
+      (subst (λ (t : RangeTable). AreFolds (shown_at (kept_in c.args.self.now)) t.kept) (sym c.in_ok-copied-3.ensures) c.args.self.now.right);
 }

@@ -6,11 +6,16 @@ use Rattle.recalc_core.specs.Kept.{Kept}
 use Rattle.recalc_core.specs.Recalc.{kept_in}
 use Rattle.recalc_core.specs.internal.UnderWay.{IsMeaning}
 use Rattle.recalc_core.proofs.Touched.{either_differs}
-use Rattle.recalc_core.proofs.UnderWay.{formula_right, value_right}
+use Rattle.recalc_core.proofs.UnderWay.{formula_right, nothing_right, value_right}
 use Rattle.recalc_core.proofs.recalc.Recalc.renew.Goals as goal
 
 pub returns-in_err-value-in-Formula-clause-others : goal.returns-in_err-value-in-Formula-clause-others
 returns-in_err-value-in-Formula-clause-others g c = λ x apart. ap (λ (k : Kept). k x) c.formula_value.ensures.kept
+
+pub returns-in-Nothing-clause-right : goal.returns-in-Nothing-clause-right
+returns-in-Nothing-clause-right g c =
+    nothing_right (g.T.Trees.workbook c.args.trees.now) (g.T.Trees.words c.args.trees.now) (g.C.Customs.customs c.args.customs.now) c.args.day c.args.a c.in_ok-given.field-0
+    (kept_in c.args.self.now) (kept_in c.settle.new.self) c.settle.result c.in_ok-given.ensures.given c.in-Nothing.is c.settle.ensures.ok
 
 pub returns-in-Value-clause-right : goal.returns-in-Value-clause-right
 returns-in-Value-clause-right g c =

@@ -18,6 +18,6 @@ returns-clause-means g c =
     let home = c.args.home in
     let t = at_home home (relative c.args.tree.now.value) in
     IfOk-weaker c.formula_value.result _ _
-    (λ (value : Scalar) means. meaning_right b customs c.args.day words kept home t value c.requires
+    (λ (value : Scalar) means. meaning_right b customs c.args.day words kept home t value c.requires.right
     (subst (λ (d : ℤ). IsMeaning b words customs d kept home t value) (to_z-of_z w32 c.args.day c.ranges.day) means))
     c.formula_value.ensures.means
