@@ -9,6 +9,7 @@ pub mod Changes
 pub mod Moves
 pub mod CopiedValues
 pub mod Held
+pub mod FilledBlocks
 pub mod Edits
 pub mod Shifted
 pub mod MovedMarks

@@ -1,14 +1,16 @@
 // Kept values.
-ghost use Rattle.std.specs.Prelude.{◌≡◌, if◌then◌else◌, IfOk, OnErr, OnOk, None, Some};
+ghost use Rattle.std.specs.Prelude.{◌≡◌, true, if◌then◌else◌, IfOk, OnErr, OnOk, None, Some};
 ghost use Rattle.std.specs.HashMap as hash;
 ghost use Rattle.std.specs.Option.{option_copied};
+ghost use Rattle.calc_eval.specs.Filled.{AreFilled, seen_cells, shown_by};
+ghost use Rattle.calc_terms.specs.Cells.{cells_in, fits};
 ghost use Rattle.dep_graph.specs.Nodes.{same_node};
 ghost use Rattle.dep_graph.specs.declared.node.Node.{Node};
 ghost use Rattle.dep_graph.specs.declared.node.Node.TheVariants.{Cell};
 ghost use Rattle.recalc_core.specs.Shifted.{is_inside};
 ghost use Rattle.recalc_core.specs.internal.KeptTables.{AreSame, IsPut};
 
-use cell_addr::Place;
+use cell_addr::{Block, Place};
 use cell_value::Scalar;
 use dep_graph::Node;
 use grid_store::Grid;
@@ -28,6 +30,7 @@ pub(crate) struct KeptValues {
 
 impl KeptValues {
     ghost use Rattle.recalc_core.specs.internal.KeptValues.{kept_by};
+    ghost use Rattle.recalc_core.specs.internal.Seen.{shown_at};
 
     // Nothing is kept.
     pub(crate) fn new(alloc: Global) -> Result<KeptValues, AllocError>
@@ -107,6 +110,16 @@ impl KeptValues {
         } else {
             remove(&mut self.beyond, Node::Cell(at));
         }
+    }
+
+    // What is kept of the places of a block within the limits of a sheet, in the order of these places. Costs what
+    // [`Grid::listed_refs`] does.
+    pub(crate) fn listed(&self, block: Block) -> Result<Vec<(Place, &Scalar)>, AllocError>
+        requires { fits block ≡ true }
+        ensures filled { IfOk result (λ list. AreFilled block (seen_cells list.items)) }
+        ensures shown { IfOk result (λ list. cells_in (shown_by (seen_cells list.items)) block ≡ cells_in (shown_at (kept_by self.now)) block) }
+    {
+        self.cells.listed_refs(block)
     }
 
     // Equal values.

@@ -9,7 +9,7 @@ ghost use Rattle.recalc_core.specs.internal.Seen.{shown_at, shown_of, world_in};
 
 use crate::kept::KeptValues;
 use crate::names::ReadName;
-use calc_eval::{NameView, View, area_of};
+use calc_eval::{NameView, View, filled_area};
 use cell_addr::{Block, Place, same_folded};
 use cell_value::{Area, Scalar, Summary};
 use dep_graph::Node;
@@ -47,14 +47,6 @@ impl<'a> Shown<'a> {
             Some(value) => value,
             None => &self.empty,
         }
-    }
-}
-
-impl calc_eval::Cells for Shown<'_> {
-    ghost shown = { λ s. shown_at (kept_by s.kept.now) };
-
-    fn value(&self, at: Place) -> &Scalar {
-        self.of(Node::Cell(at))
     }
 }
 
@@ -115,7 +107,8 @@ impl View for Seen<'_> {
     }
 
     fn area(&self, alloc: Global, block: Block) -> Result<Area, AllocError> {
-        area_of(alloc, &self.shown, block)
+        let filled = self.shown.kept.listed(block)?;
+        filled_area(alloc, block, &filled)
     }
 
     #[tactic(auto, unfolding(calc_terms::specs::Cells::cells_in))]
