@@ -1,5 +1,5 @@
 -- What is kept of nodes by three tables, as one of them changes, and over a structural operation. Serves kept values.
-use Rattle.std.proofs.Common.{◌≡◌, ◌∙◌, sym, ap, refl, subst, ◌↔◌, ℕ, ◌<◌, Bool, true, false, cond, Option, Some, None, option_map, option_and_then, arith}
+use Rattle.std.proofs.Common.{◌≡◌, ◌∙◌, sym, ap, refl, ℕ, ◌<◌, Bool, true, false, cond, Option, Some, None, option_map, option_and_then, arith}
 use Rattle.std.specs.FinMap as map
 use Rattle.std.specs.FinMap.{get-insert, get-remove}
 use Rattle.std.specs.Ordering.{eq_by_cmp}
@@ -10,7 +10,6 @@ use Rattle.cell_addr.proofs.Places.{place_cmp-IsAntisymmetric, place_cmp-IsTotal
 use Rattle.cell_addr.proofs.SamePlaces.{same_place-decides, same_place-equal}
 use Rattle.cell_addr.specs.Order.{place_cmp}
 use Rattle.cell_addr.specs.Place.{IsInside, same_place}
-use Rattle.cell_addr.specs.declared.place.Block.{Block}
 use Rattle.cell_addr.specs.declared.place.Place.{Place}
 use Rattle.cell_addr.specs.declared.place.TheConstants.{COLS, ROWS}
 use Rattle.cell_value.specs.declared.scalar.Scalar.{Scalar}
@@ -23,7 +22,6 @@ use Rattle.shift_core.specs.Sound.{IsSound}
 use Rattle.shift_core.specs.Tables.{place_before}
 use Rattle.shift_core.specs.declared.shift.Shift.{Shift}
 use Rattle.dep_graph.specs.Laws.{IsNoRange}
-use Rattle.dep_graph.specs.Nodes.{same_node}
 use Rattle.dep_graph.specs.declared.node.Node.{Node}
 use Rattle.dep_graph.specs.declared.node.Node.TheVariants.{Cell, Name, Range}
 use Rattle.recalc_core.specs.Kept.{Kept}
@@ -42,9 +40,6 @@ inside_of p h = let (row, col) = and_parts (nat_lt p.row ROWS) (nat_lt p.col COL
 pub inside_is : (p : Place) → IsInside p → is_inside p ≡ true
 inside_is p (row, col) = and_from (nat_lt p.row ROWS) (nat_lt p.col COLS) (lt_test p.row ROWS row) (lt_test p.col COLS col)
 
-pub inside_test : (p : Place) (t : Bool) → (t ≡ true) ↔ IsInside p → t ≡ is_inside p
-inside_test p t says = same_test t (is_inside p) says (inside_of p, inside_is p) ((λ h. h), (λ h. h))
-
 key_test : (p q : Place) → eq_by_cmp place_cmp q p ≡ same_place p q
 key_test p q = same_test (eq_by_cmp place_cmp q p) (same_place p q) (eq_by_cmp-decides place_cmp-IsTotalOrder place_cmp-IsAntisymmetric q p) (same_place-decides p q) ((λ e. sym e), (λ e. sym e))
 
@@ -55,13 +50,8 @@ through true same v old other h = refl
 through false true v old other h = absurd (false≢true (h refl))
 through false false v old other h = refl
 
-beside : {X : Type 0} (inside same : Bool) (v old other : X) → (same ≡ true → inside ≡ false) → cond inside old (cond same v other) ≡ cond same v (cond inside old other)
-beside true true v old other h = absurd (false≢true (sym (h refl)))
-beside true false v old other h = refl
-beside false same v old other h = refl
-
--- the table of places within the limits
-pub put_inside : (cells new : PlaceMap Scalar) (beyond others : Kept) (p : Place) (v : Option Scalar) → is_inside p ≡ true → ((q : Place) → map.get new q ≡ cond (eq_by_cmp place_cmp q p) v (map.get cells q))
+-- the table of places within the limits of a sheet
+put_inside : (cells new : PlaceMap Scalar) (beyond others : Kept) (p : Place) (v : Option Scalar) → is_inside p ≡ true → ((q : Place) → map.get new q ≡ cond (eq_by_cmp place_cmp q p) v (map.get cells q))
     → IsPut (Cell p) v (held cells beyond others) (held new beyond others)
 put_inside cells new beyond others p v inside put (Cell q) =
     ap (λ x. cond (is_inside q) x (beyond (Cell q))) (put q ∙ ap (λ t. cond t v (map.get cells q)) (key_test p q))
@@ -75,31 +65,6 @@ cell_put cells new beyond others p v inside is =
 
 pub cell_removed : (cells new : PlaceMap Scalar) (beyond others : Kept) (p : Place) → is_inside p ≡ true → new ≡ map.remove cells p → IsPut (Cell p) None (held cells beyond others) (held new beyond others)
 cell_removed cells new beyond others p inside is = put_inside cells new beyond others p None inside (λ q. ap (λ m. map.get m q) is ∙ get-remove place_cmp-IsTotalOrder cells p q)
-
--- that of places beyond them
-pub put_beyond : (cells : PlaceMap Scalar) (beyond new others : Kept) (p : Place) (v : Option Scalar) → is_inside p ≡ false → IsPut (Cell p) v beyond new → IsPut (Cell p) v (held cells beyond others) (held cells new others)
-put_beyond cells beyond new others p v outside put (Cell q) =
-    ap (λ x. cond (is_inside q) (map.get cells q) x) (put (Cell q))
-    ∙ beside (is_inside q) (same_place p q) v (map.get cells q) (beyond (Cell q)) (λ e. ap is_inside (sym (same_place-equal p q e)) ∙ outside)
-put_beyond cells beyond new others p v outside put (Name scope word) = refl
-put_beyond cells beyond new others p v outside put (Range b) = refl
-
--- and that of all other nodes
-pub put_name : (cells : PlaceMap Scalar) (beyond others new : Kept) (a : Node) (scope word : ℕ) (v : Option Scalar) → a ≡ Name scope word → IsPut a v others new → IsPut a v (held cells beyond others) (held cells beyond new)
-put_name cells beyond others new a scope word v is put = subst (λ n. IsPut n v (held cells beyond others) (held cells beyond new)) (sym is) (there (subst (λ n. IsPut n v others new) is put))
-  where
-    there : IsPut (Name scope word) v others new → IsPut (Name scope word) v (held cells beyond others) (held cells beyond new)
-    there h (Cell q) = refl
-    there h (Name other_scope other_word) = h (Name other_scope other_word)
-    there h (Range b) = h (Range b)
-
-pub put_range : (cells : PlaceMap Scalar) (beyond others new : Kept) (a : Node) (b : Block) (v : Option Scalar) → a ≡ Range b → IsPut a v others new → IsPut a v (held cells beyond others) (held cells beyond new)
-put_range cells beyond others new a b v is put = subst (λ n. IsPut n v (held cells beyond others) (held cells beyond new)) (sym is) (there (subst (λ n. IsPut n v others new) is put))
-  where
-    there : IsPut (Range b) v others new → IsPut (Range b) v (held cells beyond others) (held cells beyond new)
-    there h (Cell q) = refl
-    there h (Name scope word) = h (Name scope word)
-    there h (Range c) = h (Range c)
 
 -- ---- all of them
 

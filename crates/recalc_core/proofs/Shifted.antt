@@ -1,10 +1,8 @@
 -- Nodes come from where places and names do over a structural operation. Serves the law.
 use Rattle.std.proofs.Common.{◌≡◌, ◌∙◌, sym, ap, refl, subst, ℕ, Bool, true, false, cond, ◌==◌, List, Option, Some, None, option_map, option_and_then, eqb-true}
-use Rattle.std.specs.Prelude.{nat_lt, slice_get}
-use Rattle.std.proofs.lemmas.Bool.{and_parts, ltb-true}
-use Rattle.cell_addr.specs.Place.{IsInside}
+use Rattle.std.specs.Prelude.{slice_get}
 use Rattle.cell_addr.specs.declared.place.Place.{Place}
-use Rattle.cell_addr.specs.declared.place.TheConstants.{COLS, NO_SHEET, ROWS}
+use Rattle.cell_addr.specs.declared.place.TheConstants.{NO_SHEET}
 use Rattle.shift_core.specs.Form.{form_of}
 use Rattle.shift_core.specs.Sound.{IsSound}
 use Rattle.shift_core.specs.Tables.{place_after, place_before}
@@ -18,6 +16,7 @@ use Rattle.dep_graph.specs.declared.node.Node.TheVariants.{Cell, Name, Range}
 use Rattle.recalc_core.specs.Nodes.{name_at, node_at, scope_at}
 use Rattle.recalc_core.specs.Shifted.{ShiftsGoBack, back_over, drops_scope, from_over, is_inside}
 use Rattle.recalc_core.proofs.Bridge.{none_some, same_some}
+use Rattle.recalc_core.proofs.Held.{inside_of}
 
 -- the sheet of the scope of a number is that number
 sheet_again : (scope : ℕ) → book.scope_sheet (scope_at scope) ≡ scope
@@ -62,9 +61,6 @@ module _ (s : Shift) (words : List (List ℕ)) (sound : IsSound s) where
   plain (Cell p) before no_block e = cell_plain (is_inside p) (place_before s p) before e
   plain (Name scope word) before no_block e = name_plain (drops_scope (form_of s) scope) scope word before e
   plain (Range b) before no_block e = absurd no_block
-
-  inside_of : (p : Place) → is_inside p ≡ true → IsInside p
-  inside_of p h = let (row, col) = and_parts (nat_lt p.row ROWS) (nat_lt p.col COLS) h in (ltb-true p.row ROWS row, ltb-true p.col COLS col)
 
   -- where a place came from
   came : (p : Place) (y : book.Node) → back_over s (book.place p) ≡ Some y → (q : Place) × (y ≡ book.place q) × (place_after s q ≡ Some p)

@@ -1,4 +1,4 @@
-use Rattle.std.proofs.Common.{sym, subst, get_or, take, [], ◌∷◌, ◌++◌, List, ◌+◌}
+use Rattle.std.proofs.Common.{sym, subst, get_or, take, [], ◌∷◌, ◌++◌, List}
 use Rattle.std.proofs.lemmas.List.{take_all, take_more}
 use Rattle.dep_graph.specs.declared.node.Node.{Node}
 use Rattle.dep_graph.specs.declared.node.Node.TheVariants.{Cell}

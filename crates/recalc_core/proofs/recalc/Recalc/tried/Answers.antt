@@ -1,4 +1,4 @@
-use Rattle.std.proofs.Common.{subst, to_z, of_z, w32, ℤ}
+use Rattle.std.proofs.Common.{subst, w32, ℤ}
 use Rattle.std.proofs.lemmas.Int.{to_z-of_z}
 use Rattle.std.proofs.lemmas.Result.{IfOk-weaker}
 use Rattle.cell_value.specs.declared.scalar.Scalar.{Scalar}
