@@ -13,7 +13,7 @@ use std::collections::HashSet;
 #[derive(Drop)]
 pub(crate) struct Marks {
     pub(crate) list: Nodes,
-    pub(crate) set: HashSet<Node>,
+    set: HashSet<Node>,
 
     // The set has what the list has.
     pub ghost same: { (a : Node) → hash.contains same_node set a ≡ has a (items_of list) },
