@@ -23,12 +23,10 @@ use Rattle.recalc_core.specs.Links.{AreLinksFor, AreLinksOf, IsLinkOf}
 use Rattle.recalc_core.specs.Nodes.{AreNumbered, node_at}
 use Rattle.marked_values.specs.Marks.{AreLinksBut, Follow, IsBookInside}
 
--- a change of the workbook leaves the place or the name alone: it does as before, by the same tree, whose words find the same names
+-- a change of the workbook leaves the place or the name alone: it does as before, by the same tree
 pub record IsLeftAlone (b c : Workbook) (x : book.Node) : Type 0 where
   pub alike : DoesAlike b c x
   pub tree : tree_at c x ≡ tree_at b x
-  pub finds : (t : Term Corner) (word : List ℕ) → tree_at b x ≡ Some t → mentions_name t word ≡ true
-      → found c.names word (sheet_of (home_of x)) ≡ found b.names word (sheet_of (home_of x))
 
 -- so it does each but those of the list
 abbrev pub LeavesAlone : Workbook → Workbook → List (List ℕ) → List Node → Type 0
