@@ -4,3 +4,10 @@ pub mod Fitting
 pub mod Alone
 pub mod Changed
 pub mod Linked
+pub mod MovedTrees
+pub mod StillTrees
+pub mod Pairs
+pub mod PairLinks
+pub mod PairValues
+pub mod Origins
+pub mod AfterShift

@@ -3,8 +3,10 @@ use Rattle.std.specs.Prelude.{◌≡◌, ◌⊎◌, ◌||◌, Bool, true, false,
 use Rattle.std.specs.FinMap as map
 use Rattle.std.specs.Option.{option_map}
 use Rattle.cell_addr.specs.declared.place.Place.{Place}
+use Rattle.cell_addr.specs.declared.place.TheConstants.{NO_SHEET}
 use Rattle.cell_addr.specs.Place.{IsInside, covers}
 use Rattle.custom_fn.specs.declared.rule.Rule.{Rule}
+use Rattle.book_cells.specs.Workbook as contents
 use Rattle.formula_tree.specs.Links.{is_place_word}
 use Rattle.formula_tree.specs.Term.{Term, prefix, percent, binary, call, paren, Terms, no_terms, term}
 use Rattle.formula_tree.specs.declared.reference.Corner.{Corner}
@@ -24,7 +26,7 @@ use Rattle.dep_graph.specs.Needs.{Links}
 use Rattle.dep_graph.specs.Nodes.{has}
 use Rattle.dep_graph.specs.Shifted.{AreShifted}
 use Rattle.dep_graph.specs.declared.node.Node.{Node}
-use Rattle.dep_graph.specs.declared.node.Node.TheVariants.{Cell}
+use Rattle.dep_graph.specs.declared.node.Node.TheVariants.{Cell, Name}
 use Rattle.recalc_core.specs.Kept.{Kept}
 use Rattle.recalc_core.specs.Laws.{AreKnown}
 use Rattle.recalc_core.specs.Moves.{MarksFollow, carried_kept}
@@ -33,12 +35,15 @@ use Rattle.recalc_core.specs.Shifted.{drops_scope, from_over}
 use Rattle.carried_books.specs.Moved.{content_after, is_bare}
 use Rattle.marked_values.specs.Marks.{Follow, IsBookInside}
 
--- the workbook after an operation: each cell where it was moved, each formula rewritten, and the names of a dropped sheet gone
+-- the workbook after an operation: each cell where it was moved, each formula rewritten, and the names of a dropped sheet gone,
+-- which isn't the scope of the whole workbook
 pub record IsBookAfter (s : Shift) (b c : Workbook) : Type 0 where
   pub cells : (p q : Place) → IsInside p → place_after s p ≡ Some q → map.get c.cells q ≡ option_map (content_after s) (map.get b.cells p)
   pub fresh : (q : Place) → IsInside q → place_before s q ≡ None → map.get c.cells q ≡ None
   pub names : (key : Key) → drops_scope (form_of s) (scope_sheet key.scope) ≡ false → tree_in c.names key ≡ option_map (rewritten s) (tree_in b.names key)
   pub dropped : (key : Key) → drops_scope (form_of s) (scope_sheet key.scope) ≡ true → tree_in c.names key ≡ None
+  pub global : drops_scope (form_of s) NO_SHEET ≡ false
+  pub inside : (q : Place) (x : contents.Content) → map.get c.cells q ≡ Some x → IsInside q
 
 abbrev mutual
   -- a formula has a call of a function that asks where a reference is: ROW, COLUMN, ROWS or COLUMNS
@@ -63,13 +68,15 @@ abbrev pub is_moved_cell : Shift → Place → Bool
 is_moved_cell s p = is_moved_in (form_of s) p
 
 -- the marks after an operation: those from before where they are then; in a moved block those that were there too, and each cell that
--- is filled or was; and each node whose formula the operation bends, or that asks where a reference is
+-- is filled or was; each node whose formula the operation bends, or that asks where a reference is; and each name of a dropped sheet
+-- that is linked to something
 pub record AreMarksAfter (s : Shift) (b c : Workbook) (words : List (List ℕ)) (links : Links) (marks more : List Node) : Type 0 where
   pub follow : MarksFollow (from_over s) marks more
   pub stay : (p : Place) → is_moved_cell s p ≡ true → IsTrue (has (Cell p) marks) → IsTrue (has (Cell p) more)
   pub moved : (p : Place) → is_moved_cell s p ≡ true → is_bare b c p ≡ false → IsTrue (has (Cell p) more)
   pub bent : (a z : Node) → IsBentBy s links a → from_over s z ≡ Some a → IsTrue (has z more)
   pub asking : (a z : Node) (x : book.Node) (t : Term Corner) → node_at words a ≡ Some x → tree_at b x ≡ Some t → asks_place t ≡ true → from_over s z ≡ Some a → IsTrue (has z more)
+  pub gone : (scope word : ℕ) (d : Node) → drops_scope (form_of s) scope ≡ true → IsTrue (has d (links (Name scope word))) → IsTrue (has (Name scope word) more)
 
 -- after an operation, links and kept values that went along with their nodes follow
 abbrev pub ShiftsFollow : Type 0
