@@ -4,6 +4,7 @@ use Rattle.std.specs.Prelude.{IsTrue, ◌↔◌}
 use Rattle.std.specs.FinMap as map
 use Rattle.std.proofs.lemmas.Bool.{and_parts, false_from_ne_true, false≢true}
 use Rattle.std.proofs.lemmas.Option.{none-some, same_Some}
+use Rattle.cell_addr.specs.declared.place.Block.{Block}
 use Rattle.cell_addr.specs.declared.place.Place.{Place}
 use Rattle.custom_fn.specs.declared.rule.Rule.{Rule}
 use Rattle.formula_tree.specs.Links.{links_in}
@@ -47,7 +48,8 @@ use Rattle.marked_values.specs.Marks.{Follow, IsBookInside, Leads, ReachesMark}
 use Rattle.marked_values.specs.Shifts.{AreMarksAfter, IsBookAfter, ShiftsFollow, asks_place, is_moved_cell}
 use Rattle.marked_values.proofs.Alone.{place_node}
 use Rattle.marked_values.proofs.MovedTrees.{HasLink}
-use Rattle.marked_values.proofs.Origins.{Comes, comes, from_cell, from_name, node_from, node_was, was_at}
+use Rattle.marked_values.proofs.NoLinks.{no_link}
+use Rattle.marked_values.proofs.Origins.{Comes, comes, node_from, node_was, was_at}
 use Rattle.marked_values.proofs.PairLinks.{linked_came, linked_goes}
 use Rattle.marked_values.proofs.Pairs.{IsSettled, Pair, pair_finds, pair_tree}
 use Rattle.marked_values.proofs.PairValues.{AreTaken, IsReady, expected_stays, leads_forth, tree_of_need, tree_was}
@@ -138,41 +140,14 @@ module _ (s : Shift) (b c : Workbook) (words : List (List ℕ)) (customs : List 
             let (e, onto, both) = (have_gone a was out from).0 y held in
             subst (λ n. IsTrue (has n (new a))) (same_Some e d (sym both.0 ∙ goes)) onto
 
-  -- what came from nowhere is linked to nothing
-  no_link : (a d : Node) → ¬ IsTrue (has a more) → from_over s a ≡ None → IsTrue (has d (new a)) → ⊥
-  no_link a d out none h =
-      let (x, y, link, x_to, y_to) = (shifted a d).0 h in
-      by a x y out none link x_to ((before.inside x y link).0)
-    where
-      by : (a x y : Node) → ¬ IsTrue (has a more) → from_over s a ≡ None → IsTrue (has y (old x)) → node_after s x ≡ Some a → IsNodeInside x → ⊥
-      by (Cell q) (Cell p) y out none link to in_limits =
-          let (r, goes, same) = mapped Cell (place_after s p) (Cell q) to in
-          none_some (Cell p) (sym none ∙ from_cell s sound p q in_limits (goes ∙ ap Some (one_cell r q same)))
-        where
-          one_cell : (r q : Place) → Cell r ≡ Cell q → r ≡ q
-          one_cell r q e = cc
-      by (Cell q) (Name scope word) y out none link to in_limits = absurd (cc)
-      by (Cell q) (Range block) y out none link to in_limits = let (r, goes, same) = mapped Range (block_after s block) (Cell q) to in absurd (cc)
-      by (Name scope word) (Cell p) y out none link to in_limits = let (r, goes, same) = mapped Cell (place_after s p) (Name scope word) to in absurd (cc)
-      by (Name scope word) (Name other last) y out none link to in_limits =
-          let same : Name other last ≡ Name scope word = same_Some (Name other last) (Name scope word) to in
-          out (marked.gone scope word y (dropped scope word none) (subst (λ n. IsTrue (has y (old n))) same link))
-        where
-          dropped : (scope word : ℕ) → from_over s (Name scope word) ≡ None → drops_scope (form_of s) scope ≡ true
-          dropped scope word none = drops (drops_scope (form_of s) scope) refl
-            where
-              drops : (t : Bool) → drops_scope (form_of s) scope ≡ t → drops_scope (form_of s) scope ≡ true
-              drops true e = e
-              drops false e = absurd (none_some (Name scope word) (sym none ∙ from_name s sound scope word e))
-      by (Name scope word) (Range block) y out none link to in_limits = let (r, goes, same) = mapped Range (block_after s block) (Name scope word) to in absurd (cc)
-      by (Range after) x y out none link to in_limits = never x link to
-        where
-          never : (x : Node) → IsTrue (has y (old x)) → node_after s x ≡ Some (Range after) → ⊥
-          never (Cell p) link to = let (r, goes, same) = mapped Cell (place_after s p) (Range after) to in absurd (cc)
-          never (Name scope word) link to = absurd (cc)
-          never (Range block) link to =
-              let (x, t, at, is, linked) = (before.linked.exact (Range block) y (λ mark. let (x, at) = before.known (Range block) mark in none_some x at)).0 link in
-              none_some x at
+  -- no range is linked to anything
+  no_ranges : (block : Block) (y : Node) → ¬ IsTrue (has y (old (Range block)))
+  no_ranges block y link =
+      let (x, t, at, is, linked) = (before.linked.exact (Range block) y (λ mark. let (x, at) = before.known (Range block) mark in none_some x at)).0 link in
+      none_some x at
+
+  no_name : (a : Node) → ¬ IsTrue (has a more) → (scope word : ℕ) (y : Node) → a ≡ Name scope word → drops_scope (form_of s) scope ≡ true → ¬ IsTrue (has y (old (Name scope word)))
+  no_name a out scope word y same drops link = out (subst (λ n. IsTrue (has n more)) (sym same) (marked.gone scope word y drops link))
 
   no_tree : (a d : Node) → from_over s a ≡ None → IsLinkAt c words a d → ⊥
   no_tree a d none (z, u, at, is, link) = by (comes s sound b c over z)
@@ -185,7 +160,7 @@ module _ (s : Shift) (b c : Workbook) (words : List (List ℕ)) (customs : List 
   exact a d out = by (from_over s a) refl
     where
       by : (o : Option Node) → from_over s a ≡ o → IsTrue (has d (new a)) ↔ IsLinkAt c words a d
-      by None none = (λ h. absurd (no_link a d out none h), λ link. absurd (no_tree a d none link))
+      by None none = (λ h. absurd (no_link s old new sound before.inside shifted no_ranges a d (no_name a out) none h), λ link. absurd (no_tree a d none link))
       by (Some was) from = (came_forth a was d out from, came_back a was d out from)
 
   -- ---- values

@@ -10,4 +10,8 @@ pub mod Pairs
 pub mod PairLinks
 pub mod PairValues
 pub mod Origins
+pub mod NoLinks
 pub mod AfterShift
+pub mod Undoing
+pub mod GoingBack
+pub mod Returning

@@ -36,7 +36,7 @@ use Rattle.recalc_core.proofs.Bridge.{mentioned_stands}
 use Rattle.marked_values.specs.Shifts.{IsBookAfter, is_moved_cell, is_moved_in}
 use Rattle.marked_values.proofs.StillTrees.{IsUnbent, mention_came, mention_goes, mentioned_inside}
 
-some_mapped : {X Y : Type 0} (f : X → Y) (o : Option X) → is_some (option_map f o) ≡ is_some o
+pub some_mapped : {X Y : Type 0} (f : X → Y) (o : Option X) → is_some (option_map f o) ≡ is_some o
 some_mapped f None = refl
 some_mapped f (Some x) = refl
 

@@ -41,7 +41,7 @@ use Rattle.marked_values.proofs.TreeLinks.{IsLinkInside, link_inside, passing_li
 lost_bends : (f : Form) (b : Block) → block_moved f b ≡ None → BendsBlock f b
 lost_bends f b lost = subst (λ o. MatchOption o ⊤ (λ after. HaveOtherSizes b after ⊎ MeetsDisplaced f b)) (sym lost) tt
 
-some_block : (f : Form) (b : Block) → ¬ BendsBlock f b → (c : Block) × (block_moved f b ≡ Some c)
+pub some_block : (f : Form) (b : Block) → ¬ BendsBlock f b → (c : Block) × (block_moved f b ≡ Some c)
 some_block f b still = by (block_moved f b) refl
   where
     by : (o : Option Block) → block_moved f b ≡ o → (c : Block) × (block_moved f b ≡ Some c)

@@ -1,6 +1,6 @@
 // What holds of links and kept values that follow a workbook, as laws.
 ghost use Rattle.marked_values.specs.Changes.{AllMarkedFollow, CellsAlone, ChangesFollow, FitsFollow, FollowFits, LinksAreInside, MoreMarksFollow, NameAlone, NodesLinkAnew, RightFollow};
-ghost use Rattle.marked_values.specs.Shifts.{ShiftsFollow};
+ghost use Rattle.marked_values.specs.Shifts.{ReturnsFollow, ShiftsFollow, ShiftsGoBackFollow};
 
 /// After a change, links and kept values follow where what it didn't leave alone is marked as well.
 pub fn changes_follow()
@@ -55,4 +55,15 @@ pub fn right_follow()
 /// After a structural operation, links and kept values that went along with their nodes follow.
 pub fn shifts_follow()
     ensures { ShiftsFollow }
+{}
+
+/// After an operation was taken back by its opposite, links and kept values that went back with their nodes follow the workbook
+/// from before it.
+pub fn shifts_go_back_follow()
+    ensures { ShiftsGoBackFollow }
+{}
+
+/// After a dropped sheet came back, links and kept values that stayed as they were follow the workbook with the sheet.
+pub fn returns_follow()
+    ensures { ReturnsFollow }
 {}

@@ -9,5 +9,6 @@ mod laws;
 
 pub use laws::{
     all_marked_follow, cells_alone, changes_follow, fits_follow, follow_fits, links_are_inside,
-    more_marks_follow, name_alone, nodes_link_anew, right_follow, shifts_follow,
+    more_marks_follow, name_alone, nodes_link_anew, returns_follow, right_follow, shifts_follow,
+    shifts_go_back_follow,
 };
