@@ -15,3 +15,5 @@ pub mod AfterShift
 pub mod Undoing
 pub mod GoingBack
 pub mod Returning
+pub mod Touched
+pub mod BooksInside

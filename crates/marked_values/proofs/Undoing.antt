@@ -52,7 +52,7 @@ use Rattle.marked_values.proofs.StillTrees.{some_block}
 use Rattle.marked_values.proofs.TreeLinks.{linked_inside}
 
 -- a moved cell comes from a moved one
-moved_before : (f : Form) (p q : Place) → is_moved_in f q ≡ true → place_moved f p ≡ Some q → is_moved_in f p ≡ true
+pub moved_before : (f : Form) (p q : Place) → is_moved_in f q ≡ true → place_moved f p ≡ Some q → is_moved_in f p ≡ true
 moved_before (Lines sheet axis edit) p q moved goes = moved
 moved_before (Sheet sheet) p q moved goes = moved
 moved_before (Cells source to) p q moved goes = by (cases_chosen (covers source p) (covers (destination source to) p) (carried_place source to p) p q goes)

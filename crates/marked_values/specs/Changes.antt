@@ -96,3 +96,9 @@ abbrev pub RightFollow : Type 0
 RightFollow =
     (b : Workbook) (words : List (List ℕ)) (customs : List (List ℕ × Rule)) (today : ℤ) (links : Links) (kept : Kept) →
     AreLinksOf b words links → AreLinksInside links → AreRight b words customs today kept → Follow b words customs today links [] kept
+
+-- once each marked node was linked anew, the links are those of the workbook, and what is kept fits the marks by the graph
+abbrev pub LinkedAnewFits : Type 0
+LinkedAnewFits =
+    (b : Workbook) (words : List (List ℕ)) (customs : List (List ℕ × Rule)) (today : ℤ) (old new : Links) (marks : List Node) (kept : Kept) →
+    Follow b words customs today old marks kept → AreLinksBut b words [] new → AreLinksOf b words new × IsFit b words customs today new marks kept

@@ -49,6 +49,10 @@ pub record IsBookAfter (s : Shift) (b c : Workbook) : Type 0 where
   pub global : drops_scope (form_of s) NO_SHEET ≡ false
   pub inside : (q : Place) (x : contents.Content) → map.get c.cells q ≡ Some x → IsInside q
 
+-- a workbook stays within the limits of its sheets
+abbrev pub BooksStayInside : Type 0
+BooksStayInside = (s : Shift) (b c : Workbook) → IsSound s → IsBookInside b → IsBookAfter s b c → IsBookInside c
+
 abbrev mutual
   -- a formula has a call of a function that asks where a reference is: ROW, COLUMN, ROWS or COLUMNS
   pub asks_place : Term Corner → Bool
