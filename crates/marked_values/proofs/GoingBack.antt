@@ -55,17 +55,17 @@ keeps_names (Cells source to) g scope e = (refl, ap (λ h. drops_scope h scope) 
 keeps_names (Sheet sheet) g scope e = absurd (none-some g e)
 
 module _ (s back : Shift) (sound : IsSound s) (opposite : opposite_of s ≡ Some back) where
-  back_is_sound : IsSound back
+  pub back_is_sound : IsSound back
   back_is_sound = back_sound (form_of s) (form_of back) sound (form_of_opposite s back opposite)
 
-  keeps : (scope : ℕ) → (drops_scope (form_of s) scope ≡ false) × (drops_scope (form_of back) scope ≡ false)
+  pub keeps : (scope : ℕ) → (drops_scope (form_of s) scope ≡ false) × (drops_scope (form_of back) scope ≡ false)
   keeps scope = keeps_names (form_of s) (form_of back) scope (form_of_opposite s back opposite)
 
   by_opposite : (p : Place) → IsInside p → place_after back p ≡ place_before s p
   by_opposite p inside = place_goes_back (form_of s) (form_of back) p sound (form_of_opposite s back opposite) inside
 
   -- what the one takes there the other takes back
-  turned : (x z : book.Node) → Pair s x z → Pair back z x
+  pub turned : (x z : book.Node) → Pair s x z → Pair back z x
   turned (book.place p) (book.place q) (inside, goes) =
       let there = place_moved_inside (form_of s) p q sound inside goes in
       (there, by_opposite q there ∙ place_moved_returns (form_of s) p q sound inside goes)

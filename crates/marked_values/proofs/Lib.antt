@@ -17,3 +17,4 @@ pub mod GoingBack
 pub mod Returning
 pub mod Touched
 pub mod BooksInside
+pub mod Restored

@@ -64,10 +64,10 @@ module _ (s : Shift) (b c : Workbook) (words : List (List ℕ)) (customs : List 
           let goes = place_returned_goes (form_of s) q p sound in_limits was in
           let here : is_some (map.get b.cells q) ≡ true =
           sym (ap is_some (over.cells q p (place_returned_inside (form_of s) q p sound in_limits was) goes) ∙ some_mapped (content_after s) (map.get b.cells q)) ∙ there in
-          taken.along (Cell q) (Cell p) (has-append_right (Cell q) marks touched (gathered.filled q (moved_before (form_of s) q p moved goes) here)) (ap (option_map Cell) goes)
+          taken.along (Cell q) (Cell p) (has-append_right (Cell q) marks touched (gathered.unsettled.filled q (moved_before (form_of s) q p moved goes) here)) (ap (option_map Cell) goes)
 
       by : (is_some (map.get b.cells p) ≡ true) ⊎ (is_some (map.get c.cells p) ≡ true) → IsTrue (has (Cell p) more)
-      by (inl here) = taken.stay p moved (has-append_right (Cell p) marks touched (gathered.filled p moved here))
+      by (inl here) = taken.stay p moved (has-append_right (Cell p) marks touched (gathered.unsettled.filled p moved here))
       by (inr there) = came (map.get c.cells p) refl there (place_before s p) refl
 
   -- a name of a dropped sheet that is linked to something is marked or stands
@@ -103,7 +103,7 @@ module _ (s : Shift) (b c : Workbook) (words : List (List ℕ)) (customs : List 
     stay = λ p moved mark. taken.stay p moved (has-append_left (Cell p) marks touched mark);
     moved = moved_on;
     bent = λ a z bent from. touched_along a z (gathered.bent a bent) from;
-    asking = λ a z x t at is asks from. touched_along a z (gathered.asking a x t at is asks) from;
+    asking = λ a z x t at is asks from. touched_along a z (gathered.unsettled.asking a x t at is asks) from;
     gone = gone_on;
   }
 

@@ -1,6 +1,6 @@
 // What holds of links and kept values that follow a workbook, as laws.
 ghost use Rattle.marked_values.specs.Changes.{AllMarkedFollow, CellsAlone, ChangesFollow, FitsFollow, FollowFits, LinkedAnewFits, LinksAreInside, MoreMarksFollow, NameAlone, NodesLinkAnew, RightFollow};
-ghost use Rattle.marked_values.specs.Gathered.{TouchedAreMarked};
+ghost use Rattle.marked_values.specs.Gathered.{RestoredAreMarked, TouchedAreMarked};
 ghost use Rattle.marked_values.specs.Shifts.{BooksStayInside, ReturnsFollow, ShiftsFollow, ShiftsGoBackFollow};
 
 /// After a change, links and kept values follow where what it didn't leave alone is marked as well.
@@ -77,6 +77,12 @@ pub fn touched_are_marked()
 /// from before it.
 pub fn shifts_go_back_follow()
     ensures { ShiftsGoBackFollow }
+{}
+
+/// What was marked before an operation is taken back, what asks for places or is moved, and what comes back, are the marks after
+/// that.
+pub fn restored_are_marked()
+    ensures { RestoredAreMarked }
 {}
 
 /// After a dropped sheet came back, links and kept values that stayed as they were follow the workbook with the sheet.
