@@ -3,38 +3,33 @@ use Rattle.std.proofs.Common.{◌≡◌, ◌∙◌, sym, ap, refl, subst, ℕ, �
 use Rattle.std.specs.Prelude.{IsTrue, ◌↔◌}
 use Rattle.std.specs.FinMap as map
 use Rattle.std.proofs.lemmas.Bool.{and_parts, false_from_ne_true, false≢true}
-use Rattle.std.proofs.lemmas.Option.{none-some, same_Some}
+use Rattle.std.proofs.lemmas.Option.{same_Some}
 use Rattle.cell_addr.specs.declared.place.Block.{Block}
 use Rattle.cell_addr.specs.declared.place.Place.{Place}
 use Rattle.custom_fn.specs.declared.rule.Rule.{Rule}
-use Rattle.formula_tree.specs.Links.{links_in}
 use Rattle.formula_tree.specs.Reference.{sheet_of}
 use Rattle.formula_tree.specs.Term.{Term}
-use Rattle.formula_tree.specs.declared.link.Link.TheVariants as links
 use Rattle.formula_tree.specs.declared.reference.Corner.{Corner}
-use Rattle.shift_core.specs.Bent.{IsBent, IsCut}
 use Rattle.shift_core.specs.Form.{form_of}
 use Rattle.shift_core.specs.Sound.{IsSound}
-use Rattle.shift_core.specs.Tables.{block_after, place_after}
+use Rattle.shift_core.specs.Tables.{place_after}
 use Rattle.shift_core.specs.declared.shift.Shift.{Shift}
-use Rattle.shift_core.proofs.PlaceLaws.{place_moved_returns}
 use Rattle.tree_rewrite.specs.Rewritten.{rewritten}
-use Rattle.book_cells.specs.Workbook.{Content}
 use Rattle.book_values.specs.Values.{value_of}
 use Rattle.book_values.specs.Workbook as book
 use Rattle.book_values.specs.Workbook.{Workbook, content_tree, home_of, needs, tree_at}
 use Rattle.carried_books.specs.Moved.{is_bare}
 use Rattle.carried_books.proofs.Moved.{none_there}
 use Rattle.dep_graph.specs.Bent.{IsBentBy}
-use Rattle.dep_graph.specs.Laws.{HaveGone, IsNoRange, IsNodeInside}
+use Rattle.dep_graph.specs.Laws.{HaveGone, IsNoRange}
 use Rattle.dep_graph.specs.Needs.{Links}
 use Rattle.dep_graph.specs.Nodes.{has}
 use Rattle.dep_graph.specs.Shifted.{AreShifted, node_after}
 use Rattle.dep_graph.specs.declared.node.Node.{Node}
 use Rattle.dep_graph.specs.declared.node.Node.TheVariants.{Cell, Name, Range}
 use Rattle.dep_graph.proofs.InsideNodes.{links_inside}
-use Rattle.dep_graph.proofs.UnbentNodes.{mapped, unbent_links}
-use Rattle.recalc_core.specs.Kept.{Kept, expected, expected_at, stands}
+use Rattle.dep_graph.proofs.UnbentNodes.{unbent_links}
+use Rattle.recalc_core.specs.Kept.{Kept, expected, expected_at}
 use Rattle.recalc_core.specs.Laws.{AreKnown}
 use Rattle.recalc_core.specs.Links.{IsLinkAt, IsLinkOf}
 use Rattle.recalc_core.specs.Moves.{carried_kept}
@@ -47,14 +42,12 @@ use Rattle.recalc_core.proofs.Worked.{no_range, tree_stands}
 use Rattle.marked_values.specs.Marks.{Follow, IsBookInside, Leads, ReachesMark}
 use Rattle.marked_values.specs.Shifts.{AreMarksAfter, IsBookAfter, ShiftsFollow, asks_place, is_moved_cell}
 use Rattle.marked_values.proofs.Alone.{place_node}
-use Rattle.marked_values.proofs.MovedTrees.{HasLink}
 use Rattle.marked_values.proofs.NoLinks.{no_link}
 use Rattle.marked_values.proofs.Origins.{Comes, comes, node_from, node_was, was_at}
 use Rattle.marked_values.proofs.PairLinks.{linked_came, linked_goes}
 use Rattle.marked_values.proofs.Pairs.{IsSettled, Pair, pair_finds, pair_tree}
-use Rattle.marked_values.proofs.PairValues.{AreTaken, IsReady, expected_stays, leads_forth, tree_of_need, tree_was}
+use Rattle.marked_values.proofs.PairValues.{AreTaken, IsReady, expected_stays, leads_forth, tree_was}
 use Rattle.marked_values.proofs.Reaching.{marked_reaches, need_reaches, needed_known, unknown_bare}
-use Rattle.marked_values.proofs.StillTrees.{IsUnbent}
 
 module _ (s : Shift) (b c : Workbook) (words : List (List ℕ)) (customs : List (List ℕ × Rule)) (today : ℤ) (old new : Links) (marks more : List Node) (kept : Kept)
     (sound : IsSound s) (inside : IsBookInside b) (over : IsBookAfter s b c) (numbered : AreNumbered words c.names) (shifted : AreShifted s old new)

@@ -1,6 +1,6 @@
 -- What changes of cells and of one name leave alone. Serves the laws.
-use Rattle.std.proofs.Common.{◌≡◌, ◌∙◌, sym, ap, refl, true, List, Some, None, is_some}
-use Rattle.std.specs.Prelude.{IsTrue, ℕ, slice_get}
+use Rattle.std.proofs.Common.{◌≡◌, ◌∙◌, sym, ap, List, Some, is_some}
+use Rattle.std.specs.Prelude.{ℕ, slice_get}
 use Rattle.std.specs.FinMap as map
 use Rattle.cell_addr.specs.declared.place.Place.{Place}
 use Rattle.formula_tree.specs.Reference.{sheet_of}

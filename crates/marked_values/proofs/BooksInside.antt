@@ -1,19 +1,16 @@
 -- A workbook stays within the limits of its sheets over an operation. Serves the law.
-use Rattle.std.proofs.Common.{◌≡◌, ◌∙◌, sym, ap, subst, false, Option, Some, None, option_map, ◌⊎◌, inl, inr, pos, []}
+use Rattle.std.proofs.Common.{◌≡◌, ◌∙◌, sym, ap, subst, Some, option_map, inl, inr, pos, []}
 use Rattle.std.proofs.lemmas.Bool.{false≢true}
 use Rattle.std.proofs.lemmas.Option.{same_Some}
 use Rattle.formula_tree.specs.Term.{Term}
 use Rattle.formula_tree.specs.declared.reference.Corner.{Corner}
-use Rattle.shift_core.specs.Sound.{IsSound}
-use Rattle.shift_core.specs.declared.shift.Shift.{Shift}
 use Rattle.tree_rewrite.specs.References.{FitsSheets}
 use Rattle.tree_rewrite.specs.Rewritten.{rewritten}
 use Rattle.tree_rewrite.proofs.CallerLemmas.{fit-stays}
 use Rattle.book_values.specs.Workbook as book
 use Rattle.book_values.specs.Workbook.{Workbook, tree_at}
 use Rattle.recalc_core.proofs.Worked.{tree_stands}
-use Rattle.marked_values.specs.Marks.{IsBookInside}
-use Rattle.marked_values.specs.Shifts.{BooksStayInside, IsBookAfter}
+use Rattle.marked_values.specs.Shifts.{BooksStayInside}
 use Rattle.marked_values.proofs.Origins.{Comes, comes}
 use Rattle.marked_values.proofs.Pairs.{pair_tree}
 use Rattle.marked_values.proofs.PairValues.{tree_was}

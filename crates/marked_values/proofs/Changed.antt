@@ -1,16 +1,15 @@
 -- What a change leaves alone keeps its links, and its value where it reaches nothing else. Serves the law.
-use Rattle.std.proofs.Common.{◌≡◌, ◌∙◌, sym, ap, refl, subst, ℕ, ℤ, Bool, true, false, cond, List, ◌++◌, Option, Some, None, is_some, ◌⊎◌, inl, inr}
+use Rattle.std.proofs.Common.{◌≡◌, ◌∙◌, sym, ap, refl, subst, ℕ, ℤ, Bool, true, false, cond, List, ◌++◌, Option, Some, None, ◌⊎◌, inl, inr}
 use Rattle.std.specs.Prelude.{IsTrue, slice_get}
-use Rattle.cell_addr.specs.declared.place.Place.{Place}
 use Rattle.cell_value.specs.declared.scalar.Scalar.{Scalar}
 use Rattle.custom_fn.specs.declared.rule.Rule.{Rule}
 use Rattle.formula_tree.specs.Reference.{sheet_of}
 use Rattle.formula_tree.specs.Term.{Term}
 use Rattle.formula_tree.specs.declared.reference.Corner.{Corner}
 use Rattle.value_network.proofs.Alike.{NeedAlike, cyclic_alike, values_alike}
-use Rattle.value_network.specs.Network.{LeadsTo, Network, after, at_once, cyclic}
+use Rattle.value_network.specs.Network.{Network, after, at_once, cyclic}
 use Rattle.book_values.proofs.Networks.{is_network}
-use Rattle.book_values.specs.Names.{Key, tree_in}
+use Rattle.book_values.specs.Names.{Key}
 use Rattle.book_values.specs.Values.{network, value_of}
 use Rattle.book_values.specs.Workbook as book
 use Rattle.book_values.specs.Workbook.{Workbook, home_of, mentions_node, needs, tree_at, tree_needs}
@@ -28,7 +27,7 @@ use Rattle.recalc_core.proofs.Bridge.{mentioned_stands, name_only, none_some, sa
 use Rattle.recalc_core.proofs.Linking.{one_node}
 use Rattle.recalc_core.proofs.Worked.{tree_stands}
 use Rattle.marked_values.specs.Changes.{ChangesFollow, IsLeftAlone, LeavesAlone}
-use Rattle.marked_values.specs.Marks.{FitsMarks, Follow, Leads, ReachesMark}
+use Rattle.marked_values.specs.Marks.{Follow, Leads, ReachesMark}
 use Rattle.marked_values.proofs.Reaching.{need_reaches, needed_known, unknown_bare}
 
 module _ (b c : Workbook) (words more : List (List ℕ)) (customs : List (List ℕ × Rule)) (today : ℤ) (links : Links) (marks changed : List Node) (kept : Kept)

@@ -1,5 +1,5 @@
 -- What follows fits by the graph, and what fits by the graph follows. Serves the laws.
-use Rattle.std.proofs.Common.{◌≡◌, ◌∙◌, sym, ap, refl, subst, ℕ, ℤ, pos, true, List, [], Option, Some, None, inl, inr}
+use Rattle.std.proofs.Common.{◌≡◌, ◌∙◌, sym, ap, refl, subst, ℕ, ℤ, pos, List, [], Option, Some, None, inl, inr}
 use Rattle.std.specs.Prelude.{IsTrue}
 use Rattle.std.proofs.lemmas.Bool.{false≢true}
 use Rattle.custom_fn.specs.declared.rule.Rule.{Rule}
@@ -12,11 +12,11 @@ use Rattle.dep_graph.specs.declared.node.Node.{Node}
 use Rattle.recalc_core.specs.Kept.{IsFit, Kept, expected_at}
 use Rattle.recalc_core.specs.Links.{AreLinksOf}
 use Rattle.recalc_core.specs.Nodes.{node_at}
-use Rattle.recalc_core.proofs.Bridge.{chains_agree, none_some}
+use Rattle.recalc_core.proofs.Bridge.{chains_agree}
 use Rattle.recalc_core.proofs.Changes.{nothing_kept}
 use Rattle.recalc_core.proofs.Linking.{one_node}
 use Rattle.marked_values.specs.Changes.{FitsFollow, FollowFits, LinkedAnewFits, MoreMarksFollow, RightFollow}
-use Rattle.marked_values.specs.Marks.{AreLinksBut, FitsMarks, ReachesMark}
+use Rattle.marked_values.specs.Marks.{FitsMarks, ReachesMark}
 
 pub more_marks : MoreMarksFollow
 more_marks b words customs today links marks more kept follow wider known = record {

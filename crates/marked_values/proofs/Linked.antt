@@ -1,5 +1,5 @@
 -- Links of nodes that are linked anew, or not at all. Serves the laws.
-use Rattle.std.proofs.Common.{◌≡◌, ◌∙◌, sym, ap, refl, subst, ℕ, ℤ, Bool, true, false, cond, List, ◌∷◌, Option, Some, None, ◌⊎◌, inl, inr}
+use Rattle.std.proofs.Common.{◌≡◌, ◌∙◌, sym, ap, refl, subst, ℕ, Bool, true, false, cond, List, ◌∷◌, Option, Some, None, ◌⊎◌, inl, inr}
 use Rattle.std.specs.Prelude.{IsTrue, ◌↔◌}
 use Rattle.std.proofs.lemmas.Bool.{false≢true}
 use Rattle.formula_tree.specs.Reference.{sheet_of}
@@ -8,21 +8,18 @@ use Rattle.formula_tree.specs.declared.reference.Corner.{Corner}
 use Rattle.book_values.specs.Values.{value_of}
 use Rattle.book_values.specs.Workbook as book
 use Rattle.book_values.specs.Workbook.{Workbook, home_of, tree_at}
-use Rattle.dep_graph.specs.Graph.{AreLinked}
-use Rattle.dep_graph.specs.Laws.{AreLinksInside, IsNoRange, IsNodeInside}
-use Rattle.dep_graph.specs.Needs.{Links}
+use Rattle.dep_graph.specs.Laws.{IsNodeInside}
 use Rattle.dep_graph.specs.Nodes.{has, same_node}
 use Rattle.dep_graph.specs.declared.node.Node.{Node}
-use Rattle.dep_graph.specs.declared.node.Node.TheVariants.{Cell, Name, Range}
 use Rattle.dep_graph.specs.internal.Hashed.{own_node, same_nodes}
-use Rattle.dep_graph.proofs.Places.{has_cases, has_first, has_later}
+use Rattle.dep_graph.proofs.Places.{has_cases}
 use Rattle.recalc_core.specs.Kept.{expected_at, stands}
 use Rattle.recalc_core.specs.Links.{AreLinksFor, IsLinkAt, IsLinkOf}
 use Rattle.recalc_core.specs.Nodes.{node_at}
-use Rattle.recalc_core.proofs.Bridge.{none_some, same_some}
+use Rattle.recalc_core.proofs.Bridge.{same_some}
 use Rattle.recalc_core.proofs.Worked.{tree_stands}
 use Rattle.marked_values.specs.Changes.{AllMarkedFollow, LinksAreInside, NodesLinkAnew}
-use Rattle.marked_values.specs.Marks.{AreLinksBut, IsBookInside, ReachesMark}
+use Rattle.marked_values.specs.Marks.{ReachesMark}
 use Rattle.marked_values.proofs.TreeLinks.{cell_filled, linked_inside}
 
 -- ---- nothing is linked

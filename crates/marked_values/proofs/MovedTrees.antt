@@ -1,16 +1,15 @@
 -- The links of a formula's tree after an operation rewrote it. Serves the laws on operations.
-use Rattle.std.proofs.Common.{◌≡◌, ◌∙◌, sym, ap, ap₂, refl, subst, ℕ, Bool, true, false, cond, ◌&&◌, ◌||◌, List, [], ◌∷◌, ◌++◌, Option, Some, None, option_map, ◌⊎◌, inl, inr, ⊎_elim, ◌==◌, eq-eqb}
+use Rattle.std.proofs.Common.{◌≡◌, ◌∙◌, sym, ap, ap₂, refl, ℕ, Bool, true, false, cond, ◌&&◌, ◌||◌, List, [], ◌∷◌, ◌++◌, Option, Some, None, option_map, ⊎_elim, eq-eqb}
 use Rattle.std.specs.Prelude.{bytes_eq, codes}
 use Rattle.std.specs.List.{cons_option, filter_map, list_any}
 use Rattle.std.specs.Cmp.Lexicographic.{bytes_decides}
 use Rattle.std.proofs.lemmas.Bool.{and_from, false≢true, or_cases, or_left, or_parts, or_right}
 use Rattle.std.proofs.lemmas.List.Folds.{list_any-append}
-use Rattle.std.proofs.lemmas.Option.{same_Some}
 use Rattle.cell_addr.proofs.SamePlaces.{same_block-decides, same_block-equal, same_place-equal, same_place-self}
 use Rattle.cell_addr.specs.Text.{folded}
 use Rattle.cell_addr.specs.declared.place.Block.{Block}
 use Rattle.cell_addr.specs.declared.place.Place.{Place}
-use Rattle.formula_tree.specs.Links.{is_place_word, links_in, links_in_all, names_in, same_link, same_scope}
+use Rattle.formula_tree.specs.Links.{is_place_word, links_in, links_in_all, same_link, same_scope}
 use Rattle.formula_tree.specs.Reference.{block_of}
 use Rattle.formula_tree.specs.Term.{Term, Terms, number, text, truth, fault, cell, area, prefix, percent, binary, call, paren, no_terms, term, is_reference, mapped_all}
 use Rattle.formula_tree.specs.Term as terms

@@ -1,12 +1,12 @@
 -- Nodes that come from nowhere over an operation are linked to nothing. Serves the laws on operations.
-use Rattle.std.proofs.Common.{◌≡◌, ◌∙◌, sym, ap, refl, subst, ℕ, Bool, true, false, List, Option, Some, None}
+use Rattle.std.proofs.Common.{◌≡◌, ◌∙◌, sym, ap, refl, subst, ℕ, Bool, true, false, Some, None}
 use Rattle.std.specs.Prelude.{IsTrue}
 use Rattle.std.proofs.lemmas.Option.{same_Some}
 use Rattle.cell_addr.specs.declared.place.Block.{Block}
 use Rattle.cell_addr.specs.declared.place.Place.{Place}
 use Rattle.shift_core.specs.Form.{form_of}
 use Rattle.shift_core.specs.Sound.{IsSound}
-use Rattle.shift_core.specs.Tables.{block_after, place_after}
+use Rattle.shift_core.specs.Tables.{place_after}
 use Rattle.shift_core.specs.declared.shift.Shift.{Shift}
 use Rattle.dep_graph.specs.Laws.{AreLinksInside, IsNodeInside}
 use Rattle.dep_graph.specs.Needs.{Links}

@@ -1,6 +1,6 @@
 -- Nodes that an operation takes along with all that they need: chains of their needs go over, and their values stay. Serves the laws
 -- on operations.
-use Rattle.std.proofs.Common.{◌≡◌, ◌∙◌, sym, ap, refl, subst, ℕ, ℤ, pos, [], Bool, true, false, cond, List, Option, Some, None, option_map, ◌⊎◌, inl, inr, ⊎_elim, is_none}
+use Rattle.std.proofs.Common.{◌≡◌, ◌∙◌, sym, ap, refl, subst, ℕ, ℤ, pos, [], true, false, cond, List, Option, Some, None, option_map, ◌⊎◌, inl, inr, ⊎_elim, is_none}
 use Rattle.std.specs.FinMap as map
 use Rattle.std.proofs.lemmas.Bool.{and_parts, false≢true}
 use Rattle.std.proofs.lemmas.Option.{none-some, same_Some}
@@ -13,12 +13,11 @@ use Rattle.formula_tree.specs.Term.{Term}
 use Rattle.formula_tree.specs.declared.reference.Corner.{Corner}
 use Rattle.shift_core.specs.Form.{form_of}
 use Rattle.shift_core.specs.Sound.{IsSound}
-use Rattle.shift_core.specs.Tables.{place_after, place_before}
+use Rattle.shift_core.specs.Tables.{place_before}
 use Rattle.shift_core.specs.declared.shift.Shift.{Shift}
 use Rattle.shift_core.proofs.PlaceLaws.{place_moved_inside, place_returned_goes, place_returned_inside}
 use Rattle.tree_rewrite.specs.References.{FitsSheets}
 use Rattle.tree_rewrite.specs.Rewritten.{rewritten}
-use Rattle.calc_terms.specs.Needs.{mentions}
 use Rattle.value_network.specs.Network.{after, at_once}
 use Rattle.book_values.specs.Names.{Key, found, tree_in}
 use Rattle.book_values.specs.Values.{value_of}
@@ -28,7 +27,7 @@ use Rattle.carried_books.specs.Moved.{AreCarried, is_bare, node_before}
 use Rattle.carried_books.proofs.Moved.{none_before, none_there, values_stay}
 use Rattle.carried_terms.specs.Still.{IsStill}
 use Rattle.carried_values.specs.Over.{shown_from}
-use Rattle.recalc_core.specs.Kept.{expected, stands}
+use Rattle.recalc_core.specs.Kept.{expected}
 use Rattle.recalc_core.proofs.Worked.{leads_none}
 use Rattle.marked_values.specs.Marks.{Leads}
 use Rattle.marked_values.specs.Shifts.{IsBookAfter, asks_place, is_moved_cell}

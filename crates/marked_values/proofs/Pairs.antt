@@ -1,5 +1,5 @@
 -- Nodes before an operation and where they are after it: their trees, their words and what they need. Serves the laws on operations.
-use Rattle.std.proofs.Common.{◌≡◌, ◌∙◌, sym, ap, refl, subst, ℕ, Bool, true, false, cond, ◌==◌, eqb-true, List, Option, Some, None, is_some, option_map, ◌⊎◌, inl, inr, ⊎_elim}
+use Rattle.std.proofs.Common.{◌≡◌, ◌∙◌, sym, ap, refl, ℕ, true, false, cond, ◌==◌, eqb-true, List, Option, Some, None, is_some, option_map, ◌⊎◌, inl, inr}
 use Rattle.std.specs.Prelude.{⊤}
 use Rattle.std.specs.FinMap as map
 use Rattle.std.specs.List.{list_any}
@@ -13,7 +13,7 @@ use Rattle.formula_tree.specs.declared.reference.Corner.{Corner}
 use Rattle.shift_core.specs.Carried.{carried_place, destination}
 use Rattle.shift_core.specs.Form.{form_of}
 use Rattle.shift_core.specs.Sound.{IsSound}
-use Rattle.shift_core.specs.Tables.{block_after, place_after, place_before, place_moved}
+use Rattle.shift_core.specs.Tables.{block_after, place_after, place_moved}
 use Rattle.shift_core.specs.declared.form.Form.{Form}
 use Rattle.shift_core.specs.declared.form.Form.TheVariants.{Cells, Lines, Sheet}
 use Rattle.shift_core.specs.declared.shift.Shift.{Shift}
@@ -23,7 +23,6 @@ use Rattle.tree_rewrite.specs.References.{FitsSheets}
 use Rattle.tree_rewrite.specs.Rewritten.{rewritten}
 use Rattle.tree_rewrite.proofs.OnSheets.{place-leads}
 use Rattle.calc_terms.specs.Needs.{mentions}
-use Rattle.book_cells.specs.Workbook as contents
 use Rattle.book_values.specs.Names.{Key, found, is_found, key_of, tree_in}
 use Rattle.book_values.specs.Workbook as book
 use Rattle.book_values.specs.Workbook.{Workbook, content_tree, home_of, mentions_node, needs, scope_sheet, tree_at, tree_needs}

@@ -1,14 +1,12 @@
 -- What reaches a mark by the needs of a workbook, and what is kept where it reaches none. Serves the laws.
-use Rattle.std.proofs.Common.{◌≡◌, ◌∙◌, sym, ap, refl, subst, ℕ, ℤ, true, false, List, Option, Some, None, is_some, inl, inr}
+use Rattle.std.proofs.Common.{◌≡◌, ◌∙◌, sym, ap, refl, subst, ℕ, ℤ, true, List, Option, Some, None, inl, inr}
 use Rattle.std.specs.Prelude.{IsTrue}
 use Rattle.std.proofs.lemmas.Bool.{false≢true}
-use Rattle.cell_addr.specs.declared.place.Place.{Place}
 use Rattle.custom_fn.specs.declared.rule.Rule.{Rule}
 use Rattle.formula_tree.specs.Reference.{sheet_of}
 use Rattle.formula_tree.specs.Term.{Term}
 use Rattle.formula_tree.specs.declared.reference.Corner.{Corner}
 use Rattle.value_network.specs.Network.{LeadsTo, after, at_once}
-use Rattle.book_values.specs.Names.{Key, tree_in}
 use Rattle.book_values.specs.Values.{network}
 use Rattle.book_values.specs.Workbook as book
 use Rattle.book_values.specs.Workbook.{Workbook, home_of, needs, tree_at, tree_needs}

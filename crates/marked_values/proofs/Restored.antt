@@ -25,20 +25,16 @@ use Rattle.shift_core.proofs.Opposites.{form_of_opposite}
 use Rattle.shift_core.proofs.UnbentBlocks.{carried_back}
 use Rattle.tree_rewrite.specs.Rewritten.{area_at, cell_at, rewritten}
 use Rattle.book_cells.specs.Workbook.{Content}
-use Rattle.book_values.specs.Names.{Key, tree_in}
 use Rattle.book_values.specs.Workbook as book
 use Rattle.book_values.specs.Workbook.{Workbook, content_tree, scope_sheet, tree_at}
 use Rattle.carried_books.specs.Moved.{content_after, is_bare}
 use Rattle.carried_books.proofs.Moved.{tree_after}
 use Rattle.dep_graph.specs.Nodes.{has}
-use Rattle.dep_graph.specs.Shifted.{node_after}
 use Rattle.dep_graph.specs.declared.node.Node.{Node}
 use Rattle.dep_graph.specs.declared.node.Node.TheVariants.{Cell, Name, Range}
 use Rattle.dep_graph.proofs.Places.{has-append_left, has-append_right}
 use Rattle.recalc_core.specs.Nodes.{node_at}
-use Rattle.recalc_core.specs.Shifted.{drops_scope, from_over}
 use Rattle.recalc_core.proofs.Bridge.{none_some}
-use Rattle.recalc_core.proofs.Worked.{tree_stands}
 use Rattle.marked_values.specs.Gathered.{AreRestored, AreTakenAlong, AreUnsettled, RestoredAreMarked}
 use Rattle.marked_values.specs.Marks.{IsBookInside}
 use Rattle.marked_values.specs.Shifts.{AreMarksBack, IsBookAfter, any_asks_place, asks_place, is_moved_cell, is_moved_in}

@@ -9,8 +9,7 @@ use Rattle.cell_addr.specs.declared.place.Place.{Place}
 use Rattle.custom_fn.specs.declared.rule.Rule.{Rule}
 use Rattle.formula_tree.specs.Term.{Term}
 use Rattle.formula_tree.specs.declared.reference.Corner.{Corner}
-use Rattle.shift_core.specs.Tables.{block_after, block_moved, place_after}
-use Rattle.shift_core.specs.declared.form.Form.TheVariants.{Sheet}
+use Rattle.shift_core.specs.Tables.{block_after, place_after}
 use Rattle.shift_core.specs.declared.shift.Shift.{Shift}
 use Rattle.shift_core.specs.declared.shift.Shift.TheVariants.{DropSheet}
 use Rattle.shift_core.proofs.PlaceLaws.{stays_on_drop}
@@ -18,8 +17,6 @@ use Rattle.book_cells.specs.Workbook.{Content}
 use Rattle.book_values.specs.Values.{value_of}
 use Rattle.book_values.specs.Workbook as book
 use Rattle.book_values.specs.Workbook.{Workbook, scope_sheet, tree_at}
-use Rattle.dep_graph.specs.Bent.{Bends}
-use Rattle.dep_graph.specs.Laws.{IsNodeInside}
 use Rattle.dep_graph.specs.Needs.{Links}
 use Rattle.dep_graph.specs.Nodes.{has}
 use Rattle.dep_graph.specs.Shifted.{node_after}
@@ -29,7 +26,7 @@ use Rattle.dep_graph.proofs.UnbentNodes.{mapped}
 use Rattle.recalc_core.specs.Kept.{Kept, expected_at, stands}
 use Rattle.recalc_core.specs.Moves.{From}
 use Rattle.recalc_core.specs.Nodes.{AreNumbered, node_at}
-use Rattle.recalc_core.proofs.Bridge.{none_some, same_some}
+use Rattle.recalc_core.proofs.Bridge.{same_some}
 use Rattle.recalc_core.proofs.Linking.{one_node}
 use Rattle.recalc_core.proofs.Worked.{leads_none, no_range, tree_stands}
 use Rattle.marked_values.specs.Marks.{Follow, IsBookInside, ReachesMark}

@@ -1,9 +1,8 @@
 -- What was marked before an operation, and what it touches, are the marks after it. Serves the law.
-use Rattle.std.proofs.Common.{◌≡◌, ◌∙◌, sym, ap, refl, subst, ℕ, ℤ, Bool, true, false, cond, ◌&&◌, List, ◌++◌, Option, Some, None, is_none, is_some, option_and_then, option_map, ◌⊎◌, inl, inr}
+use Rattle.std.proofs.Common.{◌≡◌, ◌∙◌, sym, ap, refl, ℕ, ℤ, Bool, true, false, cond, ◌&&◌, List, ◌++◌, Option, Some, None, is_none, is_some, option_and_then, option_map, ◌⊎◌, inl, inr}
 use Rattle.std.specs.Prelude.{IsTrue, slice_get}
 use Rattle.std.specs.FinMap as map
-use Rattle.std.proofs.lemmas.Bool.{and_from, cases_Bool, false≢true, or_left}
-use Rattle.std.proofs.lemmas.Option.{none-some}
+use Rattle.std.proofs.lemmas.Bool.{cases_Bool, false≢true}
 use Rattle.cell_addr.specs.declared.place.Place.{Place}
 use Rattle.custom_fn.specs.declared.rule.Rule.{Rule}
 use Rattle.formula_tree.specs.Term.{Term}
@@ -14,13 +13,12 @@ use Rattle.shift_core.specs.Tables.{place_before}
 use Rattle.shift_core.specs.declared.shift.Shift.{Shift}
 use Rattle.shift_core.proofs.PlaceLaws.{place_returned_goes, place_returned_inside}
 use Rattle.book_cells.specs.Workbook.{Content}
-use Rattle.book_values.specs.Names.{Key, tree_in}
+use Rattle.book_values.specs.Names.{Key}
 use Rattle.book_values.specs.Workbook as book
 use Rattle.book_values.specs.Workbook.{Workbook, scope_sheet, tree_at}
 use Rattle.carried_books.specs.Moved.{content_after, is_bare}
 use Rattle.dep_graph.specs.Needs.{Links}
 use Rattle.dep_graph.specs.Nodes.{has}
-use Rattle.dep_graph.specs.Shifted.{node_after}
 use Rattle.dep_graph.specs.declared.node.Node.{Node}
 use Rattle.dep_graph.specs.declared.node.Node.TheVariants.{Cell, Name}
 use Rattle.dep_graph.proofs.Places.{has-append_left, has-append_right}

@@ -1,13 +1,12 @@
 -- The links of a tree, and its references. Serves the laws on links.
-use Rattle.std.proofs.Common.{◌≡◌, ◌∙◌, sym, ap, refl, subst, ℕ, Bool, true, false, cond, ◌&&◌, ◌||◌, List, [], ◌∷◌, ◌++◌, Option, Some, None, ◌⊎◌, inl, inr, ⊎_elim}
-use Rattle.std.specs.Prelude.{IsTrue, ⊤}
+use Rattle.std.proofs.Common.{◌≡◌, ◌∙◌, sym, ap, refl, subst, ℕ, Bool, true, false, cond, ◌&&◌, ◌||◌, List, [], ◌++◌, Option, Some, None, ◌⊎◌, ⊎_elim}
+use Rattle.std.specs.Prelude.{⊤}
 use Rattle.std.specs.FinMap as map
 use Rattle.std.specs.List.{list_any}
-use Rattle.std.proofs.lemmas.Bool.{false≢true, or_cases, or_left, or_parts, or_right}
+use Rattle.std.proofs.lemmas.Bool.{false≢true, or_cases}
 use Rattle.std.proofs.lemmas.List.Folds.{list_any-append}
-use Rattle.cell_addr.proofs.SamePlaces.{same_block-decides, same_block-equal, same_place-equal, same_place-self}
+use Rattle.cell_addr.proofs.SamePlaces.{same_block-equal, same_place-equal}
 use Rattle.cell_addr.specs.Place.{IsBlockInside, IsInside}
-use Rattle.cell_addr.specs.declared.place.Place.{Place}
 use Rattle.formula_tree.specs.Links.{is_place_word, links_in, links_in_all, same_link}
 use Rattle.formula_tree.specs.Reference.{block_of}
 use Rattle.formula_tree.specs.Term.{Term, Terms, number, text, truth, fault, cell, area, prefix, percent, binary, call, paren, no_terms, term, is_reference}

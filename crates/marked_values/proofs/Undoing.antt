@@ -3,7 +3,7 @@
 use Rattle.std.proofs.Common.{◌≡◌, ◌∙◌, sym, ap, refl, subst, ℕ, ℤ, Bool, true, false, cond, List, Option, Some, None, is_none, option_map, ◌⊎◌, inl, inr}
 use Rattle.std.specs.Prelude.{IsTrue, ◌↔◌}
 use Rattle.std.specs.FinMap as map
-use Rattle.std.proofs.lemmas.Bool.{and_parts, false_from_ne_true, false≢true, or_left, or_right}
+use Rattle.std.proofs.lemmas.Bool.{and_parts, false_from_ne_true, false≢true, or_left}
 use Rattle.std.proofs.lemmas.Option.{same_Some}
 use Rattle.cell_addr.specs.Place.{covers}
 use Rattle.cell_addr.specs.declared.place.Place.{Place}
@@ -14,7 +14,7 @@ use Rattle.formula_tree.specs.declared.reference.Corner.{Corner}
 use Rattle.shift_core.specs.Carried.{carried_place, destination}
 use Rattle.shift_core.specs.Form.{form_of}
 use Rattle.shift_core.specs.Sound.{IsSound}
-use Rattle.shift_core.specs.Tables.{block_after, place_after, place_moved}
+use Rattle.shift_core.specs.Tables.{place_after, place_moved}
 use Rattle.shift_core.specs.declared.form.Form.{Form}
 use Rattle.shift_core.specs.declared.form.Form.TheVariants.{Cells, Lines, Sheet}
 use Rattle.shift_core.specs.declared.shift.Shift.{Shift}

@@ -4,14 +4,11 @@ use Rattle.std.specs.FinMap as map
 use Rattle.cell_addr.specs.declared.place.Place.{Place}
 use Rattle.custom_fn.specs.declared.rule.Rule.{Rule}
 use Rattle.formula_tree.specs.Reference.{sheet_of}
-use Rattle.formula_tree.specs.Term.{Term}
-use Rattle.formula_tree.specs.declared.reference.Corner.{Corner}
-use Rattle.calc_terms.specs.Needs.{mentions_name}
-use Rattle.book_values.specs.Names.{Key, found}
+use Rattle.book_values.specs.Names.{Key}
 use Rattle.book_values.specs.Workbook as book
 use Rattle.book_values.specs.Workbook.{Workbook, home_of, tree_at}
 use Rattle.dep_graph.specs.Graph.{AreLinked}
-use Rattle.dep_graph.specs.Laws.{AreLinksInside, IsNodeInside}
+use Rattle.dep_graph.specs.Laws.{AreLinksInside}
 use Rattle.dep_graph.specs.Needs.{Links}
 use Rattle.dep_graph.specs.Nodes.{has}
 use Rattle.dep_graph.specs.declared.node.Node.{Node}
@@ -19,7 +16,7 @@ use Rattle.dep_graph.specs.declared.node.Node.TheVariants.{Cell}
 use Rattle.recalc_core.specs.Edits.{DifferInName, HaveUsers}
 use Rattle.recalc_core.specs.Kept.{AreRight, IsFit, Kept, stands}
 use Rattle.recalc_core.specs.Laws.{AreKnown, DoesAlike, KeepNumbers}
-use Rattle.recalc_core.specs.Links.{AreLinksFor, AreLinksOf, IsLinkOf}
+use Rattle.recalc_core.specs.Links.{AreLinksFor, AreLinksOf}
 use Rattle.recalc_core.specs.Nodes.{AreNumbered, node_at}
 use Rattle.marked_values.specs.Marks.{AreLinksBut, Follow, IsBookInside}
 
