@@ -27,7 +27,7 @@ use Rattle.recalc_core.specs.Nodes.{node_at}
 use Rattle.recalc_core.specs.Shifted.{back_over, drops_scope, from_over}
 use Rattle.recalc_core.proofs.Bridge.{name_only, none_some}
 use Rattle.recalc_core.proofs.Shifted.{shifts_go_back}
-use Rattle.marked_values.specs.Gathered.{AreTakenAlong, AreTouched, TouchedAreMarked}
+use Rattle.marked_values.specs.Gathered.{AreTakenAlong, AreTouched, BentAreNoted, TouchedAreMarked}
 use Rattle.marked_values.specs.Marks.{Follow}
 use Rattle.marked_values.specs.Shifts.{AreMarksAfter, IsBookAfter, is_moved_cell}
 use Rattle.marked_values.proofs.Origins.{was_at}
@@ -108,3 +108,11 @@ module _ (s : Shift) (b c : Workbook) (words : List (List ℕ)) (customs : List 
 pub touched_are_marked : TouchedAreMarked
 touched_are_marked s b c words customs today links marks touched more kept sound over before gathered taken =
     marks_after s b c words customs today links marks touched more kept sound over before gathered taken
+
+-- a node that isn't marked is linked to what its formula is linked to
+pub bent_are_noted : BentAreNoted
+bent_are_noted s b words customs today links marks noted kept before all a d link bends = by (cases_Bool (has a marks))
+  where
+    by : (has a marks ≡ true) ⊎ (has a marks ≡ false) → IsTrue (has a (marks ++ noted))
+    by (inl mark) = has-append_left a marks noted mark
+    by (inr out) = has-append_right a marks noted ((all.0 a).1 (d, (before.linked.exact a d (λ mark. false≢true (sym out ∙ mark))).1 link, bends))

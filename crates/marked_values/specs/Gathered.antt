@@ -13,7 +13,7 @@ use Rattle.shift_core.specs.declared.shift.Shift.{Shift}
 use Rattle.book_values.specs.Names.{Key, tree_in}
 use Rattle.book_values.specs.Workbook as book
 use Rattle.book_values.specs.Workbook.{Workbook, scope_sheet, tree_at}
-use Rattle.dep_graph.specs.Bent.{Bends, IsBentBy}
+use Rattle.dep_graph.specs.Bent.{AreBent, Bends, IsBentBy}
 use Rattle.dep_graph.specs.Needs.{Links}
 use Rattle.dep_graph.specs.Nodes.{has}
 use Rattle.dep_graph.specs.Shifted.{node_after}
@@ -56,6 +56,12 @@ TouchedAreMarked =
 pub record AreRestored (s : Shift) (b : Workbook) (words : List (List ℕ)) (restored : List Node) : Type 0 where
   pub removed : (p : Place) → place_after s p ≡ None → is_some (map.get b.cells p) ≡ true → IsTrue (has (Cell p) restored)
   pub bent : (a d : Node) → IsLinkAt b words a d → Bends s d → IsTrue (has a restored)
+
+-- what an operation bends is known from the graph and the marks before it, where these are noted for when it is taken back
+abbrev pub BentAreNoted : Type 0
+BentAreNoted =
+    (s : Shift) (b : Workbook) (words : List (List ℕ)) (customs : List (List ℕ × Rule)) (today : ℤ) (links : Links) (marks noted : List Node) (kept : Kept) →
+    Follow b words customs today links marks kept → AreBent s links noted → (a d : Node) → IsLinkAt b words a d → Bends s d → IsTrue (has a (marks ++ noted))
 
 -- the marks and what is unsettled, taken along by the second operation, which takes the first one back, and what comes back are the
 -- marks after that

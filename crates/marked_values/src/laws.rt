@@ -1,6 +1,6 @@
 // What holds of links and kept values that follow a workbook, as laws.
 ghost use Rattle.marked_values.specs.Changes.{AllMarkedFollow, CellsAlone, ChangesFollow, FitsFollow, FollowFits, LinkedAnewFits, LinksAreInside, MoreMarksFollow, NameAlone, NodesLinkAnew, RightFollow};
-ghost use Rattle.marked_values.specs.Gathered.{RestoredAreMarked, TouchedAreMarked};
+ghost use Rattle.marked_values.specs.Gathered.{BentAreNoted, RestoredAreMarked, TouchedAreMarked};
 ghost use Rattle.marked_values.specs.Shifts.{BooksStayInside, ReturnsFollow, ShiftsFollow, ShiftsGoBackFollow};
 
 /// After a change, links and kept values follow where what it didn't leave alone is marked as well.
@@ -77,6 +77,11 @@ pub fn touched_are_marked()
 /// from before it.
 pub fn shifts_go_back_follow()
     ensures { ShiftsGoBackFollow }
+{}
+
+/// What an operation bends is known from the graph and the marks before it, where these are noted for when it is taken back.
+pub fn bent_are_noted()
+    ensures { BentAreNoted }
 {}
 
 /// What was marked before an operation is taken back, what asks for places or is moved, and what comes back, are the marks after
