@@ -51,11 +51,11 @@ use Rattle.carried_values.proofs.Over.{go_over}
 use Rattle.carried_books.specs.Laws.{MovedValuesStay}
 use Rattle.carried_books.specs.Moved.{AreCarried, content_after, node_before, is_bare}
 
-none_there : {X : Type 0} (o : Option X) → is_none o ≡ true → o ≡ None
+pub none_there : {X : Type 0} (o : Option X) → is_none o ≡ true → o ≡ None
 none_there None h = refl
 none_there (Some x) h = absurd (false≢true h)
 
-none_before : (s : Shift) (o : Option contents.Content) → option_map (content_after s) o ≡ None → o ≡ None
+pub none_before : (s : Shift) (o : Option contents.Content) → option_map (content_after s) o ≡ None → o ≡ None
 none_before s None h = refl
 none_before s (Some x) h = cc
 
@@ -101,7 +101,7 @@ tree_found : (names : Names) (sheet : ℕ) (o : Option (Term Corner)) (d : Node)
 tree_found names sheet None d h = absurd (false≢true h)
 tree_found names sheet (Some t) d h = (t, refl, h)
 
-tree_after : (s : Shift) (o : Option contents.Content) → content_tree (option_map (content_after s) o) ≡ option_map (rewritten s) (content_tree o)
+pub tree_after : (s : Shift) (o : Option contents.Content) → content_tree (option_map (content_after s) o) ≡ option_map (rewritten s) (content_tree o)
 tree_after s None = refl
 tree_after s (Some (contents.number m)) = refl
 tree_after s (Some (contents.truth b)) = refl

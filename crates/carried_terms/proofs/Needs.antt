@@ -174,7 +174,7 @@ module _ (place : Place → Option Place) (block : Block → Option Block) (bare
         (or_cases (not (skip && is_reference (moved t)) && mentions (moved t) q) (mentions_any skip (moved_all ts) q) h)
 
   mutual
-    names_stay : (t : Term Corner) → names_in (moved t) ≡ names_in t
+    pub names_stay : (t : Term Corner) → names_in (moved t) ≡ names_in t
     names_stay (cell c) = no_names_cell c (place c.at)
     names_stay (area c d) = no_names_area c d (block (block_of c d))
     names_stay (prefix s t) = names_stay t

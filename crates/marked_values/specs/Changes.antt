@@ -4,14 +4,11 @@ use Rattle.std.specs.FinMap as map
 use Rattle.cell_addr.specs.declared.place.Place.{Place}
 use Rattle.custom_fn.specs.declared.rule.Rule.{Rule}
 use Rattle.formula_tree.specs.Reference.{sheet_of}
-use Rattle.formula_tree.specs.Term.{Term}
-use Rattle.formula_tree.specs.declared.reference.Corner.{Corner}
-use Rattle.calc_terms.specs.Needs.{mentions_name}
-use Rattle.book_values.specs.Names.{Key, found}
+use Rattle.book_values.specs.Names.{Key}
 use Rattle.book_values.specs.Workbook as book
 use Rattle.book_values.specs.Workbook.{Workbook, home_of, tree_at}
 use Rattle.dep_graph.specs.Graph.{AreLinked}
-use Rattle.dep_graph.specs.Laws.{AreLinksInside, IsNodeInside}
+use Rattle.dep_graph.specs.Laws.{AreLinksInside}
 use Rattle.dep_graph.specs.Needs.{Links}
 use Rattle.dep_graph.specs.Nodes.{has}
 use Rattle.dep_graph.specs.declared.node.Node.{Node}
@@ -19,16 +16,14 @@ use Rattle.dep_graph.specs.declared.node.Node.TheVariants.{Cell}
 use Rattle.recalc_core.specs.Edits.{DifferInName, HaveUsers}
 use Rattle.recalc_core.specs.Kept.{AreRight, IsFit, Kept, stands}
 use Rattle.recalc_core.specs.Laws.{AreKnown, DoesAlike, KeepNumbers}
-use Rattle.recalc_core.specs.Links.{AreLinksFor, AreLinksOf, IsLinkOf}
+use Rattle.recalc_core.specs.Links.{AreLinksFor, AreLinksOf}
 use Rattle.recalc_core.specs.Nodes.{AreNumbered, node_at}
 use Rattle.marked_values.specs.Marks.{AreLinksBut, Follow, IsBookInside}
 
--- a change of the workbook leaves the place or the name alone: it does as before, by the same tree, whose words find the same names
+-- a change of the workbook leaves the place or the name alone: it does as before, by the same tree
 pub record IsLeftAlone (b c : Workbook) (x : book.Node) : Type 0 where
   pub alike : DoesAlike b c x
   pub tree : tree_at c x ≡ tree_at b x
-  pub finds : (t : Term Corner) (word : List ℕ) → tree_at b x ≡ Some t → mentions_name t word ≡ true
-      → found c.names word (sheet_of (home_of x)) ≡ found b.names word (sheet_of (home_of x))
 
 -- so it does each but those of the list
 abbrev pub LeavesAlone : Workbook → Workbook → List (List ℕ) → List Node → Type 0
@@ -98,3 +93,9 @@ abbrev pub RightFollow : Type 0
 RightFollow =
     (b : Workbook) (words : List (List ℕ)) (customs : List (List ℕ × Rule)) (today : ℤ) (links : Links) (kept : Kept) →
     AreLinksOf b words links → AreLinksInside links → AreRight b words customs today kept → Follow b words customs today links [] kept
+
+-- once each marked node was linked anew, the links are those of the workbook, and what is kept fits the marks by the graph
+abbrev pub LinkedAnewFits : Type 0
+LinkedAnewFits =
+    (b : Workbook) (words : List (List ℕ)) (customs : List (List ℕ × Rule)) (today : ℤ) (old new : Links) (marks : List Node) (kept : Kept) →
+    Follow b words customs today old marks kept → AreLinksBut b words [] new → AreLinksOf b words new × IsFit b words customs today new marks kept

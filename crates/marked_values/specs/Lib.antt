@@ -1,3 +1,4 @@
 pub mod Marks
 pub mod Changes
 pub mod Shifts
+pub mod Gathered

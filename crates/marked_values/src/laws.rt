@@ -1,6 +1,7 @@
 // What holds of links and kept values that follow a workbook, as laws.
-ghost use Rattle.marked_values.specs.Changes.{AllMarkedFollow, CellsAlone, ChangesFollow, FitsFollow, FollowFits, LinksAreInside, MoreMarksFollow, NameAlone, NodesLinkAnew, RightFollow};
-ghost use Rattle.marked_values.specs.Shifts.{ShiftsFollow};
+ghost use Rattle.marked_values.specs.Changes.{AllMarkedFollow, CellsAlone, ChangesFollow, FitsFollow, FollowFits, LinkedAnewFits, LinksAreInside, MoreMarksFollow, NameAlone, NodesLinkAnew, RightFollow};
+ghost use Rattle.marked_values.specs.Gathered.{BentAreNoted, RestoredAreMarked, TouchedAreMarked};
+ghost use Rattle.marked_values.specs.Shifts.{BooksStayInside, ReturnsFollow, ShiftsFollow, ShiftsGoBackFollow};
 
 /// After a change, links and kept values follow where what it didn't leave alone is marked as well.
 pub fn changes_follow()
@@ -42,6 +43,11 @@ pub fn follow_fits()
     ensures { FollowFits }
 {}
 
+/// Once each marked node was linked anew, the links are those of the workbook, and what is kept fits the marks by the graph.
+pub fn linked_anew_fits()
+    ensures { LinkedAnewFits }
+{}
+
 /// What fits the marks by the graph follows.
 pub fn fits_follow()
     ensures { FitsFollow }
@@ -52,7 +58,39 @@ pub fn right_follow()
     ensures { RightFollow }
 {}
 
+/// A structural operation leaves a workbook within the limits of its sheets.
+pub fn books_stay_inside()
+    ensures { BooksStayInside }
+{}
+
 /// After a structural operation, links and kept values that went along with their nodes follow.
 pub fn shifts_follow()
     ensures { ShiftsFollow }
+{}
+
+/// What was marked before a structural operation, and what it touches, are the marks after it, where it takes them along.
+pub fn touched_are_marked()
+    ensures { TouchedAreMarked }
+{}
+
+/// After an operation was taken back by its opposite, links and kept values that went back with their nodes follow the workbook
+/// from before it.
+pub fn shifts_go_back_follow()
+    ensures { ShiftsGoBackFollow }
+{}
+
+/// What an operation bends is known from the graph and the marks before it, where these are noted for when it is taken back.
+pub fn bent_are_noted()
+    ensures { BentAreNoted }
+{}
+
+/// What was marked before an operation is taken back, what asks for places or is moved, and what comes back, are the marks after
+/// that.
+pub fn restored_are_marked()
+    ensures { RestoredAreMarked }
+{}
+
+/// After a dropped sheet came back, links and kept values that stayed as they were follow the workbook with the sheet.
+pub fn returns_follow()
+    ensures { ReturnsFollow }
 {}

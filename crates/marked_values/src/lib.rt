@@ -8,6 +8,8 @@
 mod laws;
 
 pub use laws::{
-    all_marked_follow, cells_alone, changes_follow, fits_follow, follow_fits, links_are_inside,
-    more_marks_follow, name_alone, nodes_link_anew, right_follow, shifts_follow,
+    all_marked_follow, bent_are_noted, books_stay_inside, cells_alone, changes_follow, fits_follow,
+    follow_fits, linked_anew_fits, links_are_inside, more_marks_follow, name_alone,
+    nodes_link_anew, restored_are_marked, returns_follow, right_follow, shifts_follow,
+    shifts_go_back_follow, touched_are_marked,
 };
