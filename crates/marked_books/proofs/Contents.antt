@@ -1,0 +1,83 @@
+-- Changes of cells and of names leave all other nodes alone. Serves the laws.
+use Rattle.std.proofs.Common.{◌≡◌, ◌∙◌, sym, ap, refl, subst, Bool, true, false, cond, not, [], ◌∷◌, Option, Some, None, is_some, inl, inr}
+use Rattle.std.specs.Prelude.{IsTrue}
+use Rattle.std.specs.FinMap as map
+use Rattle.std.specs.FinMap.{get-insert, get-remove, get-retain_keys}
+use Rattle.std.specs.Ordering.{eq_by_cmp}
+use Rattle.std.proofs.lemmas.Bool.{false≢true}
+use Rattle.cell_addr.specs.Order.{place_cmp}
+use Rattle.cell_addr.specs.Place.{covers}
+use Rattle.cell_addr.specs.declared.place.Place.{Place}
+use Rattle.cell_addr.proofs.Places.{place_cmp-IsAntisymmetric, place_cmp-IsTotalOrder}
+use Rattle.shift_core.specs.Carried.{destination}
+use Rattle.book_cells.specs.Workbook.{Book as Contents, Content}
+use Rattle.book_values.specs.Names.{Key}
+use Rattle.dep_graph.specs.Nodes.{has}
+use Rattle.dep_graph.specs.declared.node.Node.TheVariants.{Cell}
+use Rattle.dep_graph.proofs.Places.{has_first}
+use Rattle.marked_values.proofs.Alone.{cells_alone, name_alone}
+use Rattle.book_model.specs.Answers.{valued}
+use Rattle.book_model.specs.Changes.{emptied, placed, with_content, with_copy, with_name}
+use Rattle.book_model.specs.Content.{content_given, content_of}
+use Rattle.book_model.specs.Names.{key_cmp, with_tree}
+use Rattle.book_model.proofs.Contents.{is_at}
+use Rattle.book_model.proofs.NameMaps.{get-with}
+use Rattle.book_model.proofs.PastedCells.{get-pasted}
+use Rattle.marked_books.specs.Operations.{EmptyingLeavesAlone, NamingLeavesAlone, PastingLeavesAlone, SettingLeavesAlone, SheetsLeaveAlone}
+use Rattle.marked_books.proofs.NameEntries.{tied_keys, tree_in-entries}
+
+-- another place isn't changed
+other_place : (at p : Place) (c : Option Content) (cells : Contents) → ¬ (p ≡ at) → map.get cells p ≡ map.get (placed at c cells) p
+other_place at p c cells apart = by (eq_by_cmp place_cmp p at) refl c
+  where
+    by : (t : Bool) → eq_by_cmp place_cmp p at ≡ t → (c : Option Content) → map.get cells p ≡ map.get (placed at c cells) p
+    by true e c = absurd (apart (sym (is_at at p e)))
+    by false e None = sym (get-remove place_cmp-IsTotalOrder cells at p ∙ ap (λ t. cond t None (map.get cells p)) e)
+    by false e (Some x) = sym (get-insert place_cmp-IsTotalOrder cells at x p ∙ ap (λ t. cond t (Some x) (map.get cells p)) e)
+
+pub setting_leaves_alone : SettingLeavesAlone
+setting_leaves_alone at text b words =
+    cells_alone (valued b) (valued (with_content at text b)) words (Cell at ∷ []) refl
+    (λ p out. other_place at p (content_given b.sheets at.sheet (content_of text)) b.cells (λ same. out (subst (λ q. IsTrue (has (Cell q) (Cell at ∷ []))) (sym same) (has_first (Cell at) []))))
+
+-- what wasn't filled stays so
+unfilled : (o : Option Content) → ¬ (is_some o ≡ true) → o ≡ None
+unfilled None h = refl
+unfilled (Some x) h = absurd (h refl)
+
+not_chosen : (t : Bool) (x y : Option Content) → t ≡ false → cond t x y ≡ y
+not_chosen true x y e = absurd (false≢true (sym e))
+not_chosen false x y e = refl
+
+pub emptying_leaves_alone : EmptyingLeavesAlone
+emptying_leaves_alone test b words changed marked = cells_alone (valued b) (valued (emptied test b)) words changed refl (λ p out. sym (left p ∙ by p out (test p) refl))
+  where
+    left : (p : Place) → map.get (emptied test b).cells p ≡ cond (not (test p)) (map.get b.cells p) None
+    left p = get-retain_keys b.cells (λ q. not (test q)) p (λ q t. ap (λ r. not (test r)) (sym (place_cmp-IsAntisymmetric p q t)))
+
+    by : (p : Place) → ¬ IsTrue (has (Cell p) changed) → (t : Bool) → test p ≡ t → cond (not (test p)) (map.get b.cells p) None ≡ map.get b.cells p
+    by p out false e = ap (λ t. cond (not t) (map.get b.cells p) None) e
+    by p out true e = ap (λ t. cond (not t) (map.get b.cells p) None) e ∙ sym (unfilled (map.get b.cells p) (λ there. out (marked p e there)))
+
+pub pasting_leaves_alone : PastingLeavesAlone
+pasting_leaves_alone area copy at b words changed inside marked = cells_alone (valued b) (valued (with_copy area copy at b)) words changed refl (λ p out. by p out (covers (destination area at) p) refl)
+  where
+    by : (p : Place) → ¬ IsTrue (has (Cell p) changed) → (t : Bool) → covers (destination area at) p ≡ t → map.get b.cells p ≡ map.get (with_copy area copy at b).cells p
+    by p out true e =
+        unfilled (map.get b.cells p) (λ there. out (marked p e (inl there)))
+        ∙ sym (unfilled (map.get (with_copy area copy at b).cells p) (λ there. out (marked p e (inr there))))
+    by p out false e = sym (get-pasted area copy at b p inside ∙ not_chosen (covers (destination area at) p) _ _ e)
+
+pub naming_leaves_alone : NamingLeavesAlone
+naming_leaves_alone key tree b words changed users =
+    name_alone (valued b) (valued (with_name key tree b)) words key changed (record {
+      cells = refl;
+      trees = λ other apart. tree_in-entries b.names other ∙ by other apart (eq_by_cmp key_cmp other key) refl ∙ sym (tree_in-entries (with_tree key tree b.names) other);
+    }) users
+  where
+    by : (other : Key) → ¬ (other ≡ key) → (t : Bool) → eq_by_cmp key_cmp other key ≡ t → map.get b.names other ≡ map.get (with_tree key tree b.names) other
+    by other apart true e = absurd (apart (tied_keys other key e))
+    by other apart false e = sym (get-with key tree b.names other ∙ ap (λ t. cond t tree (map.get b.names other)) e)
+
+pub sheets_leave_alone : SheetsLeaveAlone
+sheets_leave_alone sheet name b = (refl, refl)

@@ -1,0 +1,3 @@
+pub mod NameEntries
+pub mod Contents
+pub mod Shifting

@@ -1,0 +1,5 @@
+use Rattle.marked_books.proofs.Contents.{naming_leaves_alone}
+use Rattle.marked_books.proofs.laws.naming_leaves_alone.Goals as goal
+
+pub returns : goal.returns
+returns c = naming_leaves_alone
