@@ -20,11 +20,13 @@
 mod changing;
 mod entry;
 mod listing;
+mod nodes;
 mod noting;
 mod reading;
 mod session;
 mod settling;
 mod sweeping;
+mod trees;
 mod undoing;
 
 pub use entry::Entry;

@@ -1,7 +1,11 @@
 use Rattle.book_model.specs.Operation as op
 use Rattle.book_engine.specs.Seen.{state_of}
+use Rattle.book_engine.proofs.Causes.{scoped}
 use Rattle.book_engine.proofs.Turning.{done_sound}
 use Rattle.book_engine.proofs.parts.Parts.remove_name.Goals as goal
 
 pub returns-clause-fits : goal.returns-clause-fits
 returns-clause-fits c = done_sound (op.remove_name c.args.name.now c.args.scope) (state_of c.args.self.now) _ c.in_ok-check_known_name.ensures c.in_ok-name.ensures.ok c.requires
+
+pub name-requires-clause-scope : goal.name-requires-clause-scope
+name-requires-clause-scope c = scoped (state_of c.args.self.now).book c.args.scope _ _ c.requires.book.sheets c.in_ok-check_known_name.ensures
