@@ -52,7 +52,8 @@ impl Session {
     }
 
     /// Takes the newest step back, if there is one; no batch is open. No formula is touched, and the line keeps its operations.
-    /// For want of memory the session is as it was.
+    /// Where the step has no operation and lists no name and no sheet, no other cell changes than those that it lists. For want of
+    /// memory the session is as it was.
     ///
     /// Costs the cells, names and sheets that the step lists, and what taking its operations back costs the grid; for a step of
     /// several operations, of which one is structural, a copy of the grid.
