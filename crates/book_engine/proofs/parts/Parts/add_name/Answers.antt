@@ -42,4 +42,4 @@ returns-clause-fits c =
     done_sound (op.add_name c.args.name.now c.args.scope c.args.text.now) d _ none same c.requires
 
 pub name-requires-clause-scope : goal.name-requires-clause-scope
-name-requires-clause-scope c = scoped (state_of c.args.self.now).book c.args.scope _ _ c.requires.book.sheets c.in_ok-check_new_name.ensures
+name-requires-clause-scope c = scoped (state_of c.args.self.now).book c.args.scope refusals.NoSheet ((not (is_name c.args.name.now), refusals.NameInvalid) ∷ (has_name (state_of c.args.self.now).book (key_of c.args.scope c.args.name.now), refusals.NameTaken) ∷ []) c.requires.book.sheets c.in_ok-check_new_name.ensures

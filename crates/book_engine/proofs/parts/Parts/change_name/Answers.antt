@@ -41,4 +41,4 @@ returns-clause-fits c =
     done_sound (op.change_name c.args.name.now c.args.scope c.args.text.now) d _ none same c.requires
 
 pub name-requires-clause-scope : goal.name-requires-clause-scope
-name-requires-clause-scope c = scoped (state_of c.args.self.now).book c.args.scope _ _ c.requires.book.sheets c.in_ok-check_known_name.ensures
+name-requires-clause-scope c = scoped (state_of c.args.self.now).book c.args.scope refusals.NoSheet ((not (has_name (state_of c.args.self.now).book (key_of c.args.scope c.args.name.now)), refusals.NoSuchName) ∷ []) c.requires.book.sheets c.in_ok-check_known_name.ensures
