@@ -23,8 +23,7 @@ impl Session {
     /// A law, and no work: no word of the session's names has two numbers, and each name is a node.
     pub fn names_are_nodes(&self)
         ensures { AreNumbered (words_of self.now.book.names) (valued (state_of self.now).book).names }
-    {
-    }
+    {}
 
     /// The nodes of all filled cells and of all names, in no order that is told. Costs their number.
     pub fn nodes(&self) -> Result<Nodes, AllocError>
