@@ -1,9 +1,15 @@
 -- The causes of a refusal, tested in two parts. Serves the calls on names, and the values of names and tried formulas.
-use Rattle.std.proofs.Common.{◌≡◌, ◌∙◌, refl, cond, Bool, true, false, List, [], ◌∷◌, ◌++◌, Option, Some, None, is_some, Err}
+use Rattle.std.proofs.Common.{◌≡◌, ◌≢◌, ◌∙◌, sym, ap, refl, cond, ℕ, Bool, true, false, not, ◌||◌, ◌==◌, List, [], ◌∷◌, ◌++◌, Option, Some, None, is_some, Err, eqb-true}
+use Rattle.std.proofs.lemmas.Bool.{false≢true}
+use Rattle.std.proofs.lemmas.List.Elements.{All-head, All-tail}
+use Rattle.std.proofs.lemmas.Option.{none-some}
+use Rattle.std.specs.List.{All, list_any}
 use Rattle.std.specs.Option.{is_none}
+use Rattle.cell_addr.specs.Sheets.{AreSheets}
+use Rattle.cell_addr.specs.declared.place.TheConstants.{NO_SHEET}
 use Rattle.book_model.specs.Operation.{Operation}
 use Rattle.book_model.specs.Refusals.{Cause, cause, first_cause}
-use Rattle.book_model.specs.Workbook.{State}
+use Rattle.book_model.specs.Workbook.{State, Workbook, has_scope}
 use Rattle.book_model.specs.declared.refusal.Refusal.{Refusal}
 use Rattle.book_engine.specs.declared.stop.Stop.{Stop}
 use Rattle.book_engine.specs.declared.stop.Stop.TheVariants.{Refused, NoMemory}
@@ -46,3 +52,22 @@ none_is (Some x) h = cc
 pub some_is : {X : Type 0} (o : Option X) → is_some o ≡ true → is_none o ≡ false
 some_is None h = cc
 some_is (Some x) h = refl
+
+-- no sheet of a proper list has the number of none
+none-listed : (sheets : List (ℕ × List ℕ)) → All (λ (s : ℕ × List ℕ). s.0 ≢ NO_SHEET) sheets → list_any (λ s. s.0 == NO_SHEET) sheets ≡ false
+none-listed [] h = refl
+none-listed (s ∷ sheets) h =
+    (λ i. differs (s.0 == NO_SHEET) refl i || none-listed sheets (All-tail (λ (x : ℕ × List ℕ). x.0 ≢ NO_SHEET) s sheets h) i)
+  where
+    differs : (b : Bool) → (s.0 == NO_SHEET) ≡ b → (s.0 == NO_SHEET) ≡ false
+    differs true is = absurd (All-head (λ (x : ℕ × List ℕ). x.0 ≢ NO_SHEET) s sheets h (eqb-true s.0 NO_SHEET is))
+    differs false is = is
+
+first-fails : (h : Bool) (r : Refusal) (rest : Option Refusal) → cond (not h) (Some r) rest ≡ None → h ≡ true
+first-fails true r rest e = refl
+first-fails false r rest e = absurd (none-some r (sym e))
+
+-- a scope that a proper workbook has isn't the number of no sheet
+pub scoped : (b : Workbook) (scope : Option ℕ) (r : Refusal) (cs : List Cause) → AreSheets b.sheets → first_cause ((not (has_scope b scope), r) ∷ cs) ≡ None → scope ≢ Some NO_SHEET
+scoped b scope r cs sheets none same =
+    false≢true (sym (none-listed b.sheets sheets.1) ∙ sym (ap (has_scope b) same) ∙ first-fails (has_scope b scope) r (first_cause cs) none)

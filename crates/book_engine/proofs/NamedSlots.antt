@@ -18,15 +18,10 @@ use Rattle.book_model.proofs.Counts.{length-map}
 use Rattle.book_model.proofs.NameMaps.{get-with}
 use Rattle.book_model.proofs.NameOrder.{key_cmp-IsAntisymmetric, key_cmp-IsTotalOrder}
 use Rattle.book_model.specs.Names.{NameMap, key_cmp}
+use Rattle.kept_book.proofs.FoundNames.{key-tests, tree_in-entries, turned-test}
 use Rattle.book_engine.specs.internal.Names.{with_slot}
 use Rattle.book_engine.specs.internal.Slots.{AreApart, Slot, names_under, slot_of}
 use Rattle.book_engine.specs.declared.named.Named.{Named}
-
--- the two tests of names are one
-pub key-tests : (a b : Key) → eq_by_cmp key_cmp a b ≡ same_key a b
-key-tests a b = both_ways (eq_by_cmp key_cmp a b) (same_key a b)
-    (λ h. subst (λ c. same_key a c ≡ true) ((eq_by_cmp-decides key_cmp-IsTotalOrder key_cmp-IsAntisymmetric a b).0 h) (same_key-self a))
-    (λ h. (eq_by_cmp-decides key_cmp-IsTotalOrder key_cmp-IsAntisymmetric a b).1 (same_key-equal a b h))
 
 pub is-key : (a b : Key) → eq_by_cmp key_cmp a b ≡ true → a ≡ b
 is-key a b h = (eq_by_cmp-decides key_cmp-IsTotalOrder key_cmp-IsAntisymmetric a b).0 h
@@ -78,11 +73,6 @@ get-apart (e ∷ es) k h =
     let n = neither (same_key k e.0) (list_any (same_key k) (map (λ s. s.0) es)) h in
     get-with e.0 e.1 (names_under es) k ∙ ap (λ b. cond b e.1 (fin.get (names_under es) k)) (key-tests k e.0 ∙ n.0) ∙ get-apart es k n.1
 
-turned-test : (a b : Key) → same_key a b ≡ same_key b a
-turned-test a b = both_ways (same_key a b) (same_key b a)
-    (λ h. subst (λ x. same_key x a ≡ true) (same_key-equal a b h) (same_key-self a))
-    (λ h. subst (λ x. same_key x b ≡ true) (same_key-equal b a h) (same_key-self b))
-
 -- names are put one by one, the last one first
 pub slot-put : (slot : Slot) (rest : List Slot) (names : Names) → list_any (same_key slot.0) (map (λ s. s.0) rest) ≡ false → ((q : Key) → tree_in names q ≡ fin.get (names_under rest) q)
     → (q : Key) → tree_in (with_slot slot names) q ≡ fin.get (names_under (slot ∷ rest)) q
@@ -101,14 +91,6 @@ pub apart-from : (slots : List Slot) (i : ℕ) (d : Slot) → AreApart (map (λ 
 apart-from [] i d apart l = absurd (omega (arith, l))
 apart-from (e ∷ es) zero d apart l = apart.0
 apart-from (e ∷ es) (suc i) d apart l = apart-from es i d apart.1 (omega (arith, l))
-
-find-tree : (es : Names) (q : Key) → tree_in es q ≡ find key_cmp q es
-find-tree [] q = refl
-find-tree (e ∷ es) q = (λ i. cond ((turned-test e.0 q ∙ sym (key-tests q e.0)) i) (Some e.1) (find-tree es q i))
-
--- the entries of a map of names have its trees
-pub tree_in-entries : (m : NameMap) (q : Key) → tree_in (fin.entries m) q ≡ fin.get m q
-tree_in-entries m q = find-tree (fin.entries m) q ∙ sym (get-entries m q)
 
 -- one more name is put
 pub named-put : (es : List Named) (i : ℕ) (e : Named) (old new : Names) → AreApart (map (λ s. s.0) (map slot_of es)) → i < length es → e ≡ get_or es i e

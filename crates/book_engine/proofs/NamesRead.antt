@@ -138,15 +138,6 @@ pub get-index : (names : table.NameMap) (i : ℕ) (e : NameKey × ℕ) → i < l
 get-index names i e l is =
     get-entries names e.0 ∙ ap (λ x. find table.key_cmp x.0 (fin.entries names)) is ∙ find-index (fin.entries names) i e (entries_sorted names) l ∙ ap (λ x. Some x.1) (sym is)
 
--- what the word of a text finds: its number in the list, and what the table has under that
-number-read : (words : Words) (text : List ℕ) → number_of words (folded text) ≡ number_in words text
-number-read words text = ap (λ b. cond b (number_in words (folded text)) None) ((bytes_eq-Decides (folded (folded text)) (folded text)).1 (folded-folded text)) ∙ number-folded words text
-
-pub get-read : (words : Words) (proper : AreWords words) (trees : ℕ → Term Corner) (names : table.NameMap) (scope : Option ℕ) (text : List ℕ)
-    → fin.get (names_seen words trees names) (key_of scope text) ≡ option_map trees (option_and_then (λ n. fin.get names (table.key_of scope n)) (number_in words text))
-get-read words proper trees names scope text =
-    get-seen words proper trees names (key_of scope text) ∙ ap (λ r. option_map trees (option_and_then (λ n. fin.get names (table.key_of scope n)) r)) (number-read words text)
-
 pub is_some-read : {X Y : Type 0} (f : X → Y) (o : Option X) → is_some (option_map f o) ≡ is_some o
 is_some-read f None = refl
 is_some-read f (Some x) = refl

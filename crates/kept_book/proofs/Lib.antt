@@ -22,4 +22,5 @@ pub mod NamedBooks
 pub mod ChangedSheets
 pub mod NewBooks
 pub mod SameBooks
+pub mod FoundNames
 pub mod Exchanged

@@ -102,7 +102,7 @@ module _ (s : Shift) (k : ℕ) (old new : At) (next : (id : ℕ) → new id (k +
     pub names-stand : (key : NameKey) (id : ℕ) → fin.get left key ≡ Some id → IsNamed new words (k + 1) key id
     names-stand key id is =
         let was = stand key id (stays-named (id_stays (form_of s) key) (fin.get names key) id (sym (gone key) ∙ is)) in
-        record { known = was.known; home = name-home id (scope_sheet key.scope) was.home }
+        record { known = was.known; scoped = was.scoped; home = name-home id (scope_sheet key.scope) was.home }
 
 module _ (s : Shift) (f g : Frame) (old new : At) (words : Words) (h : AreWords words) (next : (id : ℕ) → new id (f.position + 1) ≡ option_and_then (after s) (old id f.position))
     (sound : IsSound s) (inside : AreInside (book_at old words f).cells) (stand : Stands old words f) (position : g.position ≡ f.position + 1) (cells : g.cells ≡ moved_map s f.cells)

@@ -1,5 +1,5 @@
 -- The kept workbook after a name got a tree, or lost it. Serves the call that names a formula.
-use Rattle.std.proofs.Common.{◌≡◌, ◌∙◌, sym, ap, subst, refl, ℕ, Bool, true, false, cond, List, [], ◌∷◌, Option, Some, None, option_map}
+use Rattle.std.proofs.Common.{◌≡◌, ◌≢◌, ◌∙◌, sym, ap, subst, refl, ℕ, Bool, true, false, cond, List, [], ◌∷◌, Option, Some, None, option_map}
 use Rattle.std.proofs.lemmas.Option.{none-some, same_Some}
 use Rattle.std.specs.FinMap as fin
 use Rattle.std.specs.Ordering.{eq_by_cmp}
@@ -8,6 +8,7 @@ use Rattle.std.specs.declared.alloc.Global.{Global}
 use Rattle.std.specs.declared.rc.Rc.{Rc}
 use Rattle.cell_addr.specs.Text.{folded}
 use Rattle.cell_addr.specs.declared.place.Place.{Place}
+use Rattle.cell_addr.specs.declared.place.TheConstants.{NO_SHEET}
 use Rattle.formula_tree.specs.Relative.{relative}
 use Rattle.formula_tree.specs.declared.node.Node.{Node}
 use Rattle.formula_tree.specs.declared.reference.Home.TheVariants as homes
@@ -103,20 +104,21 @@ module _ (lazy lazy2 : Lazy) (grid : Grid Cell) (names names2 : Names) (n : ℕ)
   home-there (Some t) is i e =
       ap (λ j. home_at (at_in lazy2) lazy.line.cursor j) (sym (same_Some n i e)) ∙ ap (option_map (λ x. x.home)) (new-standing t is)
 
-  named-there : (key : NameKey) (i : ℕ) (b : Bool) → eq_by_cmp table.key_cmp key (table.key_of scope word) ≡ b → cond b id (fin.get (names_of names) key) ≡ Some i
+  named-there : scope ≢ Some NO_SHEET → (key : NameKey) (i : ℕ) (b : Bool) → eq_by_cmp table.key_cmp key (table.key_of scope word) ≡ b → cond b id (fin.get (names_of names) key) ≡ Some i
       → IsNamed (at_in lazy2) (words_of names2) lazy.line.cursor key i
-  named-there key i true same e =
+  named-there scoped key i true same e =
       subst (λ q. IsNamed (at_in lazy2) (words_of names2) lazy.line.cursor q i) (sym (is_id_key key (table.key_of scope word) same)) (record {
         known = there-within (words_of names2) word (folded text) spelt;
+        scoped = scoped;
         home = home-there tree refl i (sym gives.given ∙ e);
       })
-  named-there key i false same e =
+  named-there scoped key i false same e =
       (stays-stand (frame_with lazy grid names) (at_in lazy) (at_in lazy2) (words_of names) (words_of names2) names.words.proper names2.words.proper more (λ j x h. stays j lazy.line.cursor x h) stand).names key i e
 
-  pub named-stands : Stands (at_in lazy2) (words_of names2) (frame_with lazy2 grid names2)
-  named-stands = subst (Stands (at_in lazy2) (words_of names2)) is-named (record {
+  pub named-stands : scope ≢ Some NO_SHEET → Stands (at_in lazy2) (words_of names2) (frame_with lazy2 grid names2)
+  named-stands scoped = subst (Stands (at_in lazy2) (words_of names2)) is-named (record {
     cells = (stays-stand (frame_with lazy grid names) (at_in lazy) (at_in lazy2) (words_of names) (words_of names2) names.words.proper names2.words.proper more (λ j x h. stays j lazy.line.cursor x h) stand).cells;
-    names = λ key i e. named-there key i (eq_by_cmp table.key_cmp key (table.key_of scope word)) refl (sym (get-with_id (table.key_of scope word) id (names_of names) key) ∙ e);
+    names = λ key i e. named-there scoped key i (eq_by_cmp table.key_cmp key (table.key_of scope word)) refl (sym (get-with_id (table.key_of scope word) id (names_of names) key) ∙ e);
   })
 
   pub named-keeps : KeepsUpTo lazy.line.cursor (shift_at lazy.line) (shift_at lazy2.line) (at_in lazy) (at_in lazy2) (words_of names) (words_of names2)

@@ -110,6 +110,7 @@ module _ (f : Frame) (old new : At) (words more : Words) (h : AreWords words) (h
     cells = λ q n is. stands_too (numbered_at old f.position) (numbered_at new f.position) n q (same-number q n is) (stand.cells q n is);
     names = λ key id is. record {
       known = known-more words more key.word known (stand.names key id is).known;
+      scoped = (stand.names key id is).scoped;
       home = ap (option_map (λ x. x.home)) (same-there key id is) ∙ (stand.names key id is).home;
     };
   }

@@ -1,8 +1,9 @@
 -- The frame of a workbook at one position of its line: cells and names with ids in place of formulas. What it shows
 -- there follows from the standings of the formulas. Source: this project's own.
-use Rattle.std.specs.Prelude.{◌≡◌, ℕ, ◌<◌, List, length, Option, Some, None, option_map, option_and_then, slice_get}
+use Rattle.std.specs.Prelude.{◌≡◌, ◌≢◌, ℕ, ◌<◌, List, length, Option, Some, None, option_map, option_and_then, slice_get}
 use Rattle.std.specs.List.{filter_map}
 use Rattle.std.specs.FinMap as fin
+use Rattle.cell_addr.specs.declared.place.TheConstants.{NO_SHEET}
 use Rattle.cell_value.specs.declared.fault.FaultKind.TheVariants as faults
 use Rattle.formula_tree.specs.Term.{Term, fault}
 use Rattle.formula_tree.specs.declared.reference.Corner.{Corner}
@@ -79,9 +80,10 @@ book_at at words f = book_of (stored_at at words f)
 abbrev pub home_at : At → ℕ → ℕ → Option Home
 home_at at k id = option_map (λ x. x.home) (at id k)
 
--- a name's word is known, and its formula stands at the home of its scope
+-- a name's word is known, its scope isn't the number of no sheet, and its formula stands at the home of its scope
 pub record IsNamed (at : At) (words : Words) (k : ℕ) (key : NameKey) (id : ℕ) : Type 0 where
   pub known : key.word < length words
+  pub scoped : key.scope ≢ Some NO_SHEET
   pub home : home_at at k id ≡ Some (homes.Name (scope_sheet key.scope))
 
 -- the formulas of a frame stand at their cells and names

@@ -48,6 +48,10 @@ impl Book {
         requires stand { IsStanding self.old }
         ensures tree { IfOk result (λ tree. option_map (tree_at at) tree ≡ content_tree (map.get (workbook self.old).cells at)) }
         ensures same { SameBook self.old self.new }
+        ensures line { self.new.lazy.line ≡ self.old.lazy.line }
+        ensures grid { self.new.grid ≡ self.old.grid }
+        ensures names { self.new.names ≡ self.old.names }
+        ensures next { self.new.next_id ≡ self.old.next_id }
         ensures kept { KeepsElsewhere at self.old self.new }
         ensures position { OnOk result (option_map (λ s. s.0) (stored_at_place self.new at) ≡ option_map (λ id. self.old.lazy.line.cursor) (id_of (map.get (cells_of self.old.grid) at))) }
         ensures pool { IsFront (held pool.old) (held pool.new) }
@@ -69,6 +73,10 @@ impl Book {
         requires stand { IsStanding self.old }
         ensures tree { IfOk result (λ tree. option_map (tree_in_scope scope) tree ≡ option_map (named_at (at_of self.old) self.old.lazy.line.cursor) (map.get (names_of self.old.names) (key_of scope word))) }
         ensures same { SameBook self.old self.new }
+        ensures line { self.new.lazy.line ≡ self.old.lazy.line }
+        ensures grid { self.new.grid ≡ self.old.grid }
+        ensures names { self.new.names ≡ self.old.names }
+        ensures next { self.new.next_id ≡ self.old.next_id }
         ensures kept { KeepsOtherNames (key_of scope word) self.old self.new }
         ensures pool { IsFront (held pool.old) (held pool.new) }
     {

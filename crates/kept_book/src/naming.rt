@@ -1,5 +1,5 @@
 // Named expressions that are added, changed and removed.
-ghost use Rattle.std.specs.Prelude.{◌≡◌, ◌<◌, length, [], IfOk, OnOk, OnErr, option_map};
+ghost use Rattle.std.specs.Prelude.{◌≡◌, ◌≢◌, ◌<◌, Some, length, [], IfOk, OnOk, OnErr, option_map};
 ghost use Rattle.grid_store.specs.Grid.{items_of};
 ghost use Rattle.formula_tree.specs.declared.reference.Home.TheVariants as homes;
 ghost use Rattle.shift_line.specs.Track.{with_spare};
@@ -25,8 +25,8 @@ use grid_store::CellList;
 use std::alloc::{AllocError, Global};
 
 impl Book {
-    /// Gives the scope's own name of a word a tree, or takes the name away, and answers what that changed. Every formula from
-    /// before is kept as it was. For want of memory the workbook is as it was, but for a word that may be known then. Costs
+    /// Gives the scope's own name of a word a tree, or takes the name away, and answers what that changed. The scope is a sheet's
+    /// number or the whole workbook. Every formula from before is kept as it was. For want of memory the workbook is as it was, but for a word that may be known then. Costs
     /// the length of the word and the logarithm of the number of names.
     pub fn name(
         &mut self,
@@ -34,6 +34,7 @@ impl Book {
         word: &str,
         tree: Option<Tree>,
     ) -> Result<Part, AllocError>
+        requires scope { scope ≢ Some NO_SHEET }
         requires proper { IsProperIn scope tree }
         requires stand { IsStanding self.old }
         ensures ok { OnOk result (workbook self.new ≡ with_name (key_of scope word.now) (option_map (tree_in_scope scope) tree) (workbook self.old)) }

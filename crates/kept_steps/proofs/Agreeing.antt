@@ -169,7 +169,7 @@ module _ (among : ℕ → Type 0) (low high : ℕ) (t u : Timeline) (a : Agree a
     cells = λ p n e. ap (option_map (λ x. x.0)) (number_same n f.position p (all n (inl (p, e))) l h (s.cells p n e)) ∙ s.cells p n e;
     names = λ key id e.
         let named = s.names key id e in
-        record { known = word_known t.words u.words key.word a.words named.known; home = ap (option_map (λ (x : Standing). x.home)) (at_same id f.position _ (all id (inr (key, e))) l h named.home) ∙ named.home };
+        record { known = word_known t.words u.words key.word a.words named.known; scoped = named.scoped; home = ap (option_map (λ (x : Standing). x.home)) (at_same id f.position _ (all id (inr (key, e))) l h named.home) ∙ named.home };
   }
 
   pub book_same : (f : Frame) → ((id : ℕ) → HasFormula f id → among id) → low ≤ f.position → f.position ≤ high → StandIn t f → book_in u f ≡ book_in t f

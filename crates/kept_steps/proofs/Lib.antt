@@ -11,3 +11,6 @@ mod ListedIds
 mod Swept
 mod Settled
 pub mod Unchanged
+mod GivenNodes
+mod ListedNodes
+mod CellsTurned

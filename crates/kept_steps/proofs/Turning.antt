@@ -14,6 +14,7 @@ use Rattle.name_table.specs.Named.{words_of}
 use Rattle.kept_steps.specs.Fits.{AreSteps, Fits, changes_in, session_of, steps_of}
 use Rattle.kept_steps.specs.Steps.{AreAhead, ArePast, furthest, oldest}
 use Rattle.kept_steps.specs.Timeline.{Agree, timeline_of}
+use Rattle.kept_steps.specs.Turned.{first_step}
 use Rattle.kept_steps.specs.declared.entry.Entry.{Entry}
 use Rattle.kept_steps.proofs.Agreeing.{furthest_last, oldest_first}
 use Rattle.kept_steps.proofs.Lists.{steps_end}
@@ -40,6 +41,10 @@ ends xs e h =
   where
     nothing : Some e ≡ None → ⊥
     nothing x = cc
+
+-- the last one is the first step to turn
+pub newest-step : (xs : List Entry) (e : Entry) → Some e ≡ slice_get xs (length xs - 1) → first_step (steps_of xs) ≡ changes_in e
+newest-step xs e is = let split = ends xs e is in ap first_step (ap steps_of split.1 ∙ steps_end split.0 e)
 
 module _ (old : Book) (h : History Entry) (b : Option Entry) (none : b ≡ None) (fits : Fits old h b) (e : Entry) where
   alone : AreSteps (timeline_of old) old.lazy.line.first (last old.lazy.line) (frame_of old) h None

@@ -36,3 +36,7 @@ pub record KeepsAtShift (s : Session) (new : Lazy) : Type 0 where
 pub record GoesOn (x : Shift) (s : Session) (new : Lazy) : Type 0 where
   pub line : new.line ≡ with_spare new.line.spare (pushed x (line_settled s))
   pub to_base : settles s ≡ true → ComeToBase s new
+
+-- where a structural change wants memory, the line is as it was, or has settled
+abbrev pub StaysOrSettles : Session → Lazy → Type 0
+StaysOrSettles s new = (new.line ≡ with_spare new.line.spare s.book.lazy.line) ⊎ (new.line ≡ with_spare new.line.spare (line_settled s))

@@ -4,4 +4,6 @@ pub mod Fits
 pub mod InUse
 pub mod Session
 pub mod Kept
+pub mod Reads
+pub mod Turned
 pub mod internal

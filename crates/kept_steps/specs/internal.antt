@@ -2,3 +2,5 @@
 pub mod Noted
 pub mod FitsProp
 pub mod Listed
+pub mod GivenCell
+pub mod ReadsOrder

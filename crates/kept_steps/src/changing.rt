@@ -1,9 +1,11 @@
 // Changes of a session: each is a step, or part of the open batch, and ends what could be done again.
-ghost use Rattle.std.specs.Prelude.{◌≡◌, ◌==◌, ◌+◌, ◌<◌, OnOk, OnErr, IfOk, IsSome, option_map};
+ghost use Rattle.std.specs.Prelude.{◌≡◌, ◌≢◌, ◌==◌, ◌+◌, ◌<◌, OnOk, OnErr, IfOk, IsSome, Some, option_map};
 ghost use Rattle.std.specs.List.{All};
 ghost use Rattle.cell_addr.specs.Place.{IsBlockInside, IsInside, covers};
 ghost use Rattle.cell_addr.specs.Sheets.{name_in};
+ghost use Rattle.cell_addr.specs.declared.place.TheConstants.{NO_SHEET};
 ghost use Rattle.name_table.specs.Listed.{listed};
+ghost use Rattle.name_table.specs.Named.{words_of};
 ghost use Rattle.name_table.specs.SheetLists.{CanJoin, IsFree};
 ghost use Rattle.shift_core.specs.Carried as carrying;
 ghost use Rattle.shift_core.specs.Maps.{AreInside};
@@ -15,6 +17,7 @@ ghost use Rattle.book_model.specs.Session.{changed};
 ghost use Rattle.kept_book.specs.Copied.{IsCopied, contents_copied};
 ghost use Rattle.kept_book.specs.Formula.{IsProperIn, tree_in_scope};
 ghost use Rattle.kept_book.specs.Ids.{KeepsBelow};
+ghost use Rattle.kept_book.specs.Kept.{IsMore};
 
 use crate::noting::{note, room};
 use crate::session::Session;
@@ -25,7 +28,7 @@ use shift_core::Shift;
 use std::alloc::AllocError;
 
 impl Session {
-    ghost use Rattle.kept_steps.specs.Kept.{GoesOn, KeepsAtShift, KeepsInUse};
+    ghost use Rattle.kept_steps.specs.Kept.{GoesOn, KeepsAtShift, KeepsInUse, StaysOrSettles};
     ghost use Rattle.kept_steps.specs.Session.{state_of};
 
     /// Gives a cell the content that a text says. No other formula of the session's workbooks is touched. For want of memory
@@ -38,6 +41,7 @@ impl Session {
         requires inside { IsInside at }
         ensures ok { OnOk result (state_of self.new ≡ changed (with_content at text.now (state_of self.old).book) (state_of self.old)) }
         ensures err { OnErr result (state_of self.new ≡ state_of self.old) }
+        ensures words { IsMore (words_of self.old.book.names) (words_of self.new.book.names) }
         ensures line { self.new.book.lazy.line ≡ with_spare self.new.book.lazy.line.spare self.old.book.lazy.line }
         ensures kept { KeepsInUse self.old self.new.book.lazy }
     {
@@ -53,6 +57,7 @@ impl Session {
         requires inside { AreInside (state_of self.old).book.cells }
         ensures ok { OnOk result (state_of self.new ≡ changed (emptied (covers area) (state_of self.old).book) (state_of self.old)) }
         ensures err { OnErr result (state_of self.new ≡ state_of self.old) }
+        ensures words { IsMore (words_of self.old.book.names) (words_of self.new.book.names) }
         ensures line { self.new.book.lazy.line ≡ with_spare self.new.book.lazy.line.spare self.old.book.lazy.line }
         ensures kept { KeepsBelow self.old.book.next_id self.old.book.lazy self.new.book.lazy }
     {
@@ -67,6 +72,7 @@ impl Session {
         requires inside { AreInside (state_of self.old).book.cells }
         ensures ok { OnOk result (state_of self.new ≡ changed (emptied (λ p. p.sheet == sheet) (state_of self.old).book) (state_of self.old)) }
         ensures err { OnErr result (state_of self.new ≡ state_of self.old) }
+        ensures words { IsMore (words_of self.old.book.names) (words_of self.new.book.names) }
         ensures line { self.new.book.lazy.line ≡ with_spare self.new.book.lazy.line.spare self.old.book.lazy.line }
         ensures kept { KeepsBelow self.old.book.next_id self.old.book.lazy self.new.book.lazy }
     {
@@ -89,6 +95,7 @@ impl Session {
         requires inside { AreInside (state_of self.old).book.cells }
         ensures ok { OnOk result (state_of self.new ≡ changed (with_copy area (contents_copied cells.now) at (state_of self.old).book) (state_of self.old)) }
         ensures err { OnErr result (state_of self.new ≡ state_of self.old) }
+        ensures words { IsMore (words_of self.old.book.names) (words_of self.new.book.names) }
         ensures line { self.new.book.lazy.line ≡ with_spare self.new.book.lazy.line.spare self.old.book.lazy.line }
         ensures kept { KeepsInUse self.old self.new.book.lazy }
     {
@@ -114,7 +121,9 @@ impl Session {
         requires inside { AreInside (state_of self.old).book.cells }
         ensures ok { OnOk result (state_of self.new ≡ changed (shifted s.now (state_of self.old).book) (state_of self.old)) }
         ensures err { OnErr result (state_of self.new ≡ state_of self.old) }
+        ensures words { IsMore (words_of self.old.book.names) (words_of self.new.book.names) }
         ensures line { OnOk result (GoesOn s.now self.old self.new.book.lazy) }
+        ensures line_err { OnErr result (StaysOrSettles self.old self.new.book.lazy) }
         ensures kept { KeepsAtShift self.old self.new.book.lazy }
     {
         self.settle_where_due()?;
@@ -132,6 +141,7 @@ impl Session {
         ensures ok { OnOk result (state_of self.new ≡ record (changed (with_sheet self.old.next_sheet name.now (state_of self.old).book) (state_of self.old)) { next_sheet = self.old.next_sheet + 1 }) }
         ensures number { IfOk result (λ number. number ≡ self.old.next_sheet) }
         ensures err { OnErr result (state_of self.new ≡ state_of self.old) }
+        ensures words { IsMore (words_of self.old.book.names) (words_of self.new.book.names) }
         ensures lazy { self.new.book.lazy ≡ self.old.book.lazy }
     {
         let room = room(self.book.alloc, &mut self.batch)?;
@@ -149,6 +159,7 @@ impl Session {
         requires free { IsFree sheet name.now (listed self.old.book.names) }
         ensures ok { OnOk result (state_of self.new ≡ changed (renamed sheet name.now (state_of self.old).book) (state_of self.old)) }
         ensures err { OnErr result (state_of self.new ≡ state_of self.old) }
+        ensures words { IsMore (words_of self.old.book.names) (words_of self.new.book.names) }
         ensures lazy { self.new.book.lazy ≡ self.old.book.lazy }
     {
         let room = room(self.book.alloc, &mut self.batch)?;
@@ -157,17 +168,19 @@ impl Session {
         Ok(())
     }
 
-    /// Gives a name of a scope a tree, or takes the name away where there is none. No other formula is touched. For want of
-    /// memory the session is as it was.
+    /// Gives a name of a scope a tree, or takes the name away where there is none. The scope is a sheet's number or the whole
+    /// workbook. No other formula is touched. For want of memory the session is as it was.
     pub fn name(
         &mut self,
         scope: Option<u32>,
         word: &str,
         tree: Option<Tree>,
     ) -> Result<(), AllocError>
+        requires scope { scope ≢ Some NO_SHEET }
         requires proper { IsProperIn scope tree }
         ensures ok { OnOk result (state_of self.new ≡ changed (with_name (key_of scope word.now) (option_map (tree_in_scope scope) tree) (state_of self.old).book) (state_of self.old)) }
         ensures err { OnErr result (state_of self.new ≡ state_of self.old) }
+        ensures words { IsMore (words_of self.old.book.names) (words_of self.new.book.names) }
         ensures line { self.new.book.lazy.line ≡ with_spare self.new.book.lazy.line.spare self.old.book.lazy.line }
         ensures kept { KeepsInUse self.old self.new.book.lazy }
     {

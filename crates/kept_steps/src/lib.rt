@@ -10,6 +10,8 @@
 //! Contracts speak of the session's state as the plain machine defines it, with whole workbooks in both lists: which
 //! workbooks these are follows from the steps and from the standings of formulas along the line.
 //!
+//! A session is what a recalculation reads ([`recalc_core::Trees`]): what stands at a node, and which name a word finds.
+//!
 //! ```text
 //! session.fill(a1, "=B2*2")?;
 //! session.structural(&Shift::InsertRows { sheet, at: 1, count: 1 })?;
@@ -20,11 +22,13 @@
 mod changing;
 mod entry;
 mod listing;
+mod nodes;
 mod noting;
 mod reading;
 mod session;
 mod settling;
 mod sweeping;
+mod trees;
 mod undoing;
 
 pub use entry::Entry;

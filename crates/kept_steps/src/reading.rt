@@ -22,6 +22,7 @@ use formula_tree::Tree;
 use std::alloc::AllocError;
 
 impl Session {
+    ghost use Rattle.kept_steps.specs.Reads.{Reads};
     ghost use Rattle.kept_steps.specs.Session.{state_of};
 
     /// The tree of the formula that a cell holds; `None` exactly where it holds no formula that has one. Costs what
@@ -30,6 +31,7 @@ impl Session {
         ensures tree { IfOk result (λ tree. option_map (tree_at at) tree ≡ content_tree (map.get (state_of self.old).book.cells at)) }
         ensures state { state_of self.new ≡ state_of self.old }
         ensures same { SameBook self.old.book self.new.book }
+        ensures reads { Reads self.old self.new }
         ensures kept { KeepsElsewhere at self.old.book self.new.book }
         ensures position { OnOk result (option_map (λ s. s.0) (stored_at_place self.new.book at) ≡ option_map (λ id. self.old.book.lazy.line.cursor) (id_of (map.get (cells_of self.old.book.grid) at))) }
     {
@@ -41,6 +43,7 @@ impl Session {
         ensures tree { IfOk result (λ tree. option_map (tree_in_scope scope) tree ≡ option_map (named_at (at_of self.old.book) self.old.book.lazy.line.cursor) (map.get (names_of self.old.book.names) (key_of scope word))) }
         ensures state { state_of self.new ≡ state_of self.old }
         ensures same { SameBook self.old.book self.new.book }
+        ensures reads { Reads self.old self.new }
         ensures kept { KeepsOtherNames (key_of scope word) self.old.book self.new.book }
     {
         self.book.named(&mut self.pool, scope, word)

@@ -29,6 +29,7 @@ impl Session {
         ensures line { OnOk result (self.new.book.lazy.line ≡ with_spare self.new.book.lazy.line.spare (line_settled self.old)) }
         ensures line_err { OnErr result (self.new.book.lazy.line ≡ self.old.book.lazy.line) }
         ensures same { settles self.old ≡ false → self.new.book.lazy ≡ self.old.book.lazy }
+        ensures names { self.new.book.names ≡ self.old.book.names }
         ensures kept { KeepsFromBase self.old self.new.book.lazy }
         ensures placed { OnOk result (settles self.old ≡ true → ComeToBase self.old self.new.book.lazy) }
     {
@@ -62,6 +63,7 @@ impl Session {
         ensures state { state_of self.new ≡ state_of self.old }
         ensures line { OnOk result (self.new.book.lazy.line ≡ with_spare self.new.book.lazy.line.spare (forgotten base self.old.book.lazy.line)) }
         ensures line_err { OnErr result (self.new.book.lazy.line ≡ self.old.book.lazy.line) }
+        ensures names { self.new.book.names ≡ self.old.book.names }
         ensures kept { KeepsFromBase self.old self.new.book.lazy }
         ensures placed { OnOk result (ComeToBase self.old self.new.book.lazy) }
     {

@@ -28,6 +28,7 @@ impl Session {
         ensures state { state_of self.new ≡ state_of self.old }
         ensures line { self.new.book.lazy.line ≡ self.old.book.lazy.line }
         ensures kept { KeepsInUse self.old self.new.book.lazy }
+        ensures names { self.new.book.names ≡ self.old.book.names }
         ensures next { self.new.book.next_id ≡ self.old.book.next_id }
     {
         if self.book.next_id < self.sweep_at {
@@ -42,6 +43,7 @@ impl Session {
         ensures state { state_of self.new ≡ state_of self.old }
         ensures line { self.new.book.lazy.line ≡ self.old.book.lazy.line }
         ensures kept { KeepsInUse self.old self.new.book.lazy }
+        ensures names { self.new.book.names ≡ self.old.book.names }
         ensures next { self.new.book.next_id ≡ self.old.book.next_id }
     {
         let ids = self.listed()?;

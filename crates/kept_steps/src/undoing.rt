@@ -1,7 +1,11 @@
 // Steps that are undone and done again, batches of changes, and suspension.
 ghost use Rattle.std.specs.Prelude.{◌≡◌, None, true, false, OnOk, OnErr};
 ghost use Rattle.lazy_store.specs.Store.{KeepsAll};
+ghost use Rattle.name_table.specs.Named.{words_of};
+ghost use Rattle.shift_line.specs.Track.{with_spare};
 ghost use Rattle.book_model.specs.Session.{closed, opened, redone, undone};
+ghost use Rattle.kept_book.specs.Kept.{frame_of, line_of};
+ghost use Rattle.kept_book.specs.Walk.{back_all, forth_all};
 
 use crate::entry::Entry;
 use crate::noting::close;
@@ -10,6 +14,7 @@ use std::alloc::AllocError;
 
 impl Session {
     ghost use Rattle.kept_steps.specs.Session.{state_of};
+    ghost use Rattle.kept_steps.specs.Turned.{AreOfCells, DifferAmong, is_listed, to_redo, to_undo};
 
     /// Opens a batch: the changes until [`Session::commit`] are one step. None is open.
     pub fn begin(&mut self)
@@ -47,7 +52,8 @@ impl Session {
     }
 
     /// Takes the newest step back, if there is one; no batch is open. No formula is touched, and the line keeps its operations.
-    /// For want of memory the session is as it was.
+    /// Where the step has no operation and lists no name and no sheet, no other cell changes than those that it lists. For want of
+    /// memory the session is as it was.
     ///
     /// Costs the cells, names and sheets that the step lists, and what taking its operations back costs the grid; for a step of
     /// several operations, of which one is structural, a copy of the grid.
@@ -55,7 +61,11 @@ impl Session {
         requires closed { self.old.batch ≡ None }
         ensures ok { OnOk result (state_of self.new ≡ undone (state_of self.old).undo (state_of self.old)) }
         ensures err { OnErr result (state_of self.new ≡ state_of self.old) }
+        ensures frame { OnOk result (frame_of self.new.book ≡ back_all (line_of self.old.book) (to_undo self.old) (frame_of self.old.book)) }
+        ensures others { OnOk result (AreOfCells (to_undo self.old) → DifferAmong (is_listed (to_undo self.old)) (state_of self.old).book (state_of self.new).book) }
+        ensures words { words_of self.new.book.names ≡ words_of self.old.book.names }
         ensures line { OnOk result (self.new.book.lazy.line ≡ record self.old.book.lazy.line { cursor = self.new.book.lazy.line.cursor }) }
+        ensures line_err { OnErr result (self.new.book.lazy.line ≡ with_spare self.new.book.lazy.line.spare self.old.book.lazy.line) }
         ensures kept { KeepsAll self.old.book.lazy self.new.book.lazy }
     {
         if let Some(entry) = self.steps.done().back() {
@@ -70,7 +80,11 @@ impl Session {
         requires closed { self.old.batch ≡ None }
         ensures ok { OnOk result (state_of self.new ≡ redone (state_of self.old).redo (state_of self.old)) }
         ensures err { OnErr result (state_of self.new ≡ state_of self.old) }
+        ensures frame { OnOk result (frame_of self.new.book ≡ forth_all (line_of self.old.book) (to_redo self.old) (frame_of self.old.book)) }
+        ensures others { OnOk result (AreOfCells (to_redo self.old) → DifferAmong (is_listed (to_redo self.old)) (state_of self.old).book (state_of self.new).book) }
+        ensures words { words_of self.new.book.names ≡ words_of self.old.book.names }
         ensures line { OnOk result (self.new.book.lazy.line ≡ record self.old.book.lazy.line { cursor = self.new.book.lazy.line.cursor }) }
+        ensures line_err { OnErr result (self.new.book.lazy.line ≡ with_spare self.new.book.lazy.line.spare self.old.book.lazy.line) }
         ensures kept { KeepsAll self.old.book.lazy self.new.book.lazy }
     {
         if let Some(entry) = self.steps.undone().last() {

@@ -9,7 +9,7 @@ use Rattle.book_model.specs.Workbook.{State, has_name, has_scope}
 use Rattle.book_model.specs.declared.refusal.Refusal.TheVariants as refusals
 use Rattle.book_engine.specs.Engine.{NoAnswer}
 use Rattle.book_engine.specs.Seen.{state_of}
-use Rattle.book_engine.proofs.Causes.{behind, front, reads_turn}
+use Rattle.book_engine.proofs.Causes.{behind, front, reads_turn, scoped}
 use Rattle.book_engine.proofs.Turning.{done_sound, next_refused}
 use Rattle.book_engine.proofs.parts.Parts.change_name.Goals as goal
 
@@ -39,3 +39,6 @@ returns-clause-fits c =
     let none = behind (first d c.args.name.now c.args.scope) causes c.in_ok-check_known_name.ensures ∙ c.in_ok-tree.ensures.0 in
     let same = c.in_ok-name.ensures.ok ∙ ap (λ o. changed (with_name (key_of c.args.scope c.args.name.now) o d.book) d) (sym c.in_ok-tree.ensures.1.0) in
     done_sound (op.change_name c.args.name.now c.args.scope c.args.text.now) d _ none same c.requires
+
+pub name-requires-clause-scope : goal.name-requires-clause-scope
+name-requires-clause-scope c = scoped (state_of c.args.self.now).book c.args.scope refusals.NoSheet ((not (has_name (state_of c.args.self.now).book (key_of c.args.scope c.args.name.now)), refusals.NoSuchName) ∷ []) c.requires.book.sheets c.in_ok-check_known_name.ensures

@@ -5,7 +5,8 @@ use Rattle.name_table.specs.Named.{names_of, words_of}
 use Rattle.name_table.specs.Scopes as table
 use Rattle.kept_book.specs.Frame.{named_at}
 use Rattle.kept_book.specs.Kept.{at_of}
-use Rattle.book_engine.proofs.NamesRead.{get-read, is_some-read}
+use Rattle.kept_book.proofs.FoundNames.{get-read}
+use Rattle.book_engine.proofs.NamesRead.{is_some-read}
 use Rattle.book_engine.proofs.parts.Parts.has_name.Goals as goal
 
 pub returns-in-Some : goal.returns-in-Some

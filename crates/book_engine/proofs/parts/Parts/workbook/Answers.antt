@@ -1,6 +1,6 @@
 use Rattle.std.proofs.Common.{◌∙◌, sym, ap, map}
 use Rattle.std.specs.FinMap as fin
-use Rattle.book_engine.proofs.NamedSlots.{tree_in-entries}
+use Rattle.kept_book.proofs.FoundNames.{tree_in-entries}
 use Rattle.book_engine.specs.Seen.{state_of}
 use Rattle.book_engine.specs.internal.Slots.{names_under, slot_of}
 use Rattle.book_engine.proofs.parts.Parts.workbook.Goals as goal

@@ -69,7 +69,7 @@ returns-clause-makes c =
           (words c) (sheets c) (put c) c.in_ok-after.ensures.gives c.give.ensures.line;
       stand = subst (λ g. Stands (at_in lazy2) (words_of names2) (frame_with lazy2 g names2)) (sym c.give.ensures.grid)
           (named-stands lazy lazy2 grid names names2 c.args.self.now.next_id c.args.scope c.args.tree c.in_ok-word.word c.args.word.now c.in_ok-after.after c.requires.stand c.args.self.now.fresh (number c)
-          (words c) (sheets c) (put c) c.in_ok-after.ensures.gives c.give.ensures.line);
+          (words c) (sheets c) (put c) c.in_ok-after.ensures.gives c.give.ensures.line c.requires.scope);
     }
 
 pub returns-in_err-after-clause-err : goal.returns-in_err-after-clause-err

@@ -8,7 +8,8 @@ use Rattle.kept_book.specs.Walk.{Leads, forth_all}
 use Rattle.kept_steps.specs.Fits.{Fits, session_of}
 use Rattle.kept_steps.specs.Timeline.{timeline_of}
 use Rattle.kept_steps.proofs.Outcomes.{on_err, same_batch, unchanged}
-use Rattle.kept_steps.proofs.Turning.{forth_leads, forth_last, went_forth}
+use Rattle.kept_steps.proofs.CellsTurned.{differ-forth}
+use Rattle.kept_steps.proofs.Turning.{forth_leads, forth_last, newest-step, went_forth}
 use Rattle.kept_steps.proofs.session.Session.redo.Goals as goal
 
 pub forth-requires-clause-leads : goal.forth-requires-clause-leads
@@ -44,3 +45,10 @@ returns-in_ok-forth-clause-ok c =
     let after = went_forth c.args.self.now.book c.args.self.now.steps c.args.self.now.batch c.requires.closed c.args.self.now.fits c.in-Some.entry.now c.forth.new.self s.suspended s.next_sheet c.in_ok-forth.ensures.line c.in_ok-forth.ensures.standings c.in_ok-forth.ensures.words (c.in-Some.ensures.value ∙ ap (λ l. slice_get l (length l - 1)) c.undone.ensures.result)
     (c.in_ok-forth.ensures.ok ∙ ap (λ cs. forth_all (line_of s.book) cs (frame_of s.book)) (ap changes_of c.deref.ensures.value)) in
     ap (λ h. session_of (timeline_of c.forth.new.self) (frame_of c.forth.new.self) h s.batch s.suspended s.next_sheet) c.step_forward.ensures.moved ∙ after.1
+
+pub returns-in_ok-forth-clause-others : goal.returns-in_ok-forth-clause-others
+returns-in_ok-forth-clause-others c =
+    let s = c.args.self.now in
+    let step = newest-step s.steps.undone c.in-Some.entry.now (c.in-Some.ensures.value ∙ ap (λ l. slice_get l (length l - 1)) c.undone.ensures.result) in
+    differ-forth s.book c.forth.new.self s.steps s.batch s.fits c.in_ok-forth.ensures.standings c.in_ok-forth.ensures.words
+    (c.in_ok-forth.ensures.ok ∙ ap (λ cs. forth_all (line_of s.book) cs (frame_of s.book)) (ap changes_of c.deref.ensures.value ∙ sym step))

@@ -8,7 +8,8 @@ use Rattle.kept_book.specs.Walk.{Leads, back_all}
 use Rattle.kept_steps.specs.Fits.{Fits, session_of}
 use Rattle.kept_steps.specs.Timeline.{timeline_of}
 use Rattle.kept_steps.proofs.Outcomes.{on_err, same_batch, unchanged}
-use Rattle.kept_steps.proofs.Turning.{back_leads, back_first, last_entry, went_back}
+use Rattle.kept_steps.proofs.CellsTurned.{differ-back}
+use Rattle.kept_steps.proofs.Turning.{back_leads, back_first, last_entry, newest-step, went_back}
 use Rattle.kept_steps.proofs.session.Session.undo.Goals as goal
 
 pub back-requires-in-Some-clause-leads : goal.back-requires-in-Some-clause-leads
@@ -44,3 +45,10 @@ returns-in_ok-back-clause-ok c =
     let after = went_back c.args.self.now.book c.args.self.now.steps c.args.self.now.batch c.requires.closed c.args.self.now.fits c.in-Some.entry.now c.back-in-Some.new.self s.suspended s.next_sheet c.in_ok-back.ensures.line c.in_ok-back.ensures.standings c.in_ok-back.ensures.words (last_entry c.done.result.now.items (deque_len c.done.result.now) c.in-Some.entry.now c.in-Some.ensures.item.3.0 (c.done.result.now.ok.0) c.in-Some.ensures.item.1 ∙ ap (λ l. slice_get l (length l - 1)) c.done.ensures.result)
     (c.in_ok-back.ensures.ok ∙ ap (λ cs. back_all (line_of s.book) cs (frame_of s.book)) (ap changes_of c.deref.ensures.value)) in
     ap (λ h. session_of (timeline_of c.back-in-Some.new.self) (frame_of c.back-in-Some.new.self) h s.batch s.suspended s.next_sheet) c.step_back.ensures.moved ∙ after.1
+
+pub returns-in_ok-back-clause-others : goal.returns-in_ok-back-clause-others
+returns-in_ok-back-clause-others c =
+    let s = c.args.self.now in
+    let step = newest-step s.steps.done c.in-Some.entry.now (last_entry c.done.result.now.items (deque_len c.done.result.now) c.in-Some.entry.now c.in-Some.ensures.item.3.0 (c.done.result.now.ok.0) c.in-Some.ensures.item.1 ∙ ap (λ l. slice_get l (length l - 1)) c.done.ensures.result) in
+    differ-back s.book c.back-in-Some.new.self s.steps s.batch s.fits c.in_ok-back.ensures.standings c.in_ok-back.ensures.words c.requires.closed
+    (c.in_ok-back.ensures.ok ∙ ap (λ cs. back_all (line_of s.book) cs (frame_of s.book)) (ap changes_of c.deref.ensures.value ∙ sym step))
