@@ -1,0 +1,101 @@
+use Rattle.std.proofs.Common.{◌≡◌, ◌∙◌, sym, ap, refl, subst, to_z, of_z, w32, ℕ, ℤ, List}
+use Rattle.std.proofs.lemmas.Int.{to_z-of_z}
+use Rattle.dep_graph.specs.Graph.{links_of}
+use Rattle.dep_graph.specs.Nodes.{has}
+use Rattle.dep_graph.specs.declared.node.Node.{Node}
+use Rattle.book_values.specs.Workbook.{Workbook}
+use Rattle.recalc_core.specs.Kept.{IsFit}
+use Rattle.recalc_core.specs.Recalc.{kept_in, marks_in}
+use Rattle.recalc_core.specs.Steps as plain
+use Rattle.marked_values.specs.Marks.{AreLinksBut}
+use Rattle.marked_values.proofs.Fitting.{follow_fits}
+use Rattle.kept_values.specs.internal.Asking.{AreNoted}
+use Rattle.kept_values.proofs.Following.{from_follow, to_follow}
+use Rattle.kept_values.proofs.LinkedAnew.{AreRightOn, IsFitOn, all_asking, linked_marks, recalculated, steps_taken}
+use Rattle.kept_values.proofs.values.Values.refresh.Goals as goal
+
+pub link_all-requires-clause-but : goal.link_all-requires-clause-but
+link_all-requires-clause-but g c =
+    let b = g.T.Trees.workbook c.args.trees.now in
+    let words = g.T.Trees.words c.args.trees.now in
+    subst (λ (ms : List Node). AreLinksBut b words ms (links_of c.args.self.now.graph)) (sym (c.items.ensures ∙ c.marks.ensures.list))
+    (to_follow b words (g.C.Customs.customs c.args.customs.now) c.args.day c.args.self.now c.requires.numbered c.requires.follows).linked
+
+pub returns-in_err-link_all-clause-follows : goal.returns-in_err-link_all-clause-follows
+returns-in_err-link_all-clause-follows g c =
+    let b = g.T.Trees.workbook c.args.trees.now in
+    let words = g.T.Trees.words c.args.trees.now in
+    let customs = g.C.Customs.customs c.args.customs.now in
+    let self = c.args.self.now in
+    let follow = to_follow b words customs c.args.day self c.requires.numbered c.requires.follows in
+    from_follow b words customs c.args.day (record { alloc = self.alloc; graph = c.link_all.new.graph; asking = self.asking; recalc = self.recalc })
+    (linked_marks b words customs c.args.day (links_of self.graph) (links_of c.link_all.new.graph) (marks_in self.recalc) _ (kept_in self.recalc) follow c.link_all.ensures.but c.link_all.ensures.links (c.items.ensures ∙ c.marks.ensures.list))
+    c.requires.follows.asks
+
+pub returns-in_err-note_all-clause-follows : goal.returns-in_err-note_all-clause-follows
+returns-in_err-note_all-clause-follows g c =
+    let b = g.T.Trees.workbook c.args.trees.now in
+    let words = g.T.Trees.words c.args.trees.now in
+    let customs = g.C.Customs.customs c.args.customs.now in
+    let self = c.args.self.now in
+    let follow = to_follow b words customs c.args.day self c.requires.numbered c.requires.follows in
+    from_follow b words customs c.args.day (record { alloc = self.alloc; graph = c.link_all.new.graph; asking = c.note_all.new.asking; recalc = self.recalc })
+    (linked_marks b words customs c.args.day (links_of self.graph) (links_of c.link_all.new.graph) (marks_in self.recalc) _ (kept_in self.recalc) follow c.link_all.ensures.but c.link_all.ensures.links (c.items.ensures ∙ c.marks.ensures.list))
+    (λ a x t free at is asks. c.note_all.ensures.stay a (c.requires.follows.asks a x t free at is asks))
+
+pub recalculate-requires-clause-fit : goal.recalculate-requires-clause-fit
+recalculate-requires-clause-fit g c =
+    let b = g.T.Trees.workbook c.args.trees.now in
+    let words = g.T.Trees.words c.args.trees.now in
+    let customs = g.C.Customs.customs c.args.customs.now in
+    let recalc = c.args.self.now.recalc in
+    let links = links_of c.link_all.new.graph in
+    let follow = to_follow b words customs c.args.day c.args.self.now c.requires.numbered c.requires.follows in
+    let now = linked_marks b words customs c.args.day (links_of c.args.self.now.graph) links (marks_in recalc) _ (kept_in recalc) follow c.link_all.ensures.but c.link_all.ensures.links (c.items.ensures ∙ c.marks.ensures.list) in
+    let leaves = c.in_ok-note_all.ensures.leaves ∙ c.in_ok-link_all.ensures.leaves in
+    let same = c.in_ok-note_all.ensures.words ∙ c.in_ok-link_all.ensures.words in
+    subst (λ (d : ℤ). IsFit (g.T.Trees.workbook c.note_all.new.trees) (g.T.Trees.words c.note_all.new.trees) customs d links (marks_in recalc) (kept_in recalc)) (sym (to_z-of_z w32 c.args.day c.ranges.day))
+    (subst (λ (w : Workbook). IsFit w (g.T.Trees.words c.note_all.new.trees) customs c.args.day links (marks_in recalc) (kept_in recalc)) (sym leaves)
+    (subst (λ (ws : List (List ℕ)). IsFit b ws customs c.args.day links (marks_in recalc) (kept_in recalc)) (sym same)
+    (follow_fits b words customs c.args.day links (marks_in recalc) (kept_in recalc) now c.in_ok-link_all.ensures.ok)))
+
+pub returns-clause-follows : goal.returns-clause-follows
+returns-clause-follows g c =
+    let b = g.T.Trees.workbook c.args.trees.now in
+    let words = g.T.Trees.words c.args.trees.now in
+    let customs = g.C.Customs.customs c.args.customs.now in
+    let links = links_of c.link_all.new.graph in
+    let old = marks_in c.args.self.now.recalc in
+    let new = c.recalculate.new.self in
+    let follow = to_follow b words customs c.args.day c.args.self.now c.requires.numbered c.requires.follows in
+    let leaves = c.in_ok-note_all.ensures.leaves ∙ c.in_ok-link_all.ensures.leaves in
+    let same = c.in_ok-note_all.ensures.words ∙ c.in_ok-link_all.ensures.words in
+    let day = to_z-of_z w32 c.args.day c.ranges.day in
+    let far = to_z w32 (of_z w32 c.args.day) in
+    let right = subst (λ (d : ℤ). AreRightOn c.recalculate.result b words customs d (kept_in new)) day
+    (subst (λ (w : Workbook). AreRightOn c.recalculate.result w words customs far (kept_in new)) leaves
+    (subst (λ (ws : List (List ℕ)). AreRightOn c.recalculate.result (g.T.Trees.workbook c.note_all.new.trees) ws customs far (kept_in new)) same c.recalculate.ensures.right)) in
+    let fit = subst (λ (d : ℤ). IsFitOn c.recalculate.result b words customs d links (marks_in new) (kept_in new)) day
+    (subst (λ (w : Workbook). IsFitOn c.recalculate.result w words customs far links (marks_in new) (kept_in new)) leaves
+    (subst (λ (ws : List (List ℕ)). IsFitOn c.recalculate.result (g.T.Trees.workbook c.note_all.new.trees) ws customs far links (marks_in new) (kept_in new)) same c.recalculate.ensures.fit)) in
+    let noted = subst (λ (ms : List Node). AreNoted b words ms (λ a. has a c.note_all.new.asking.keys)) (c.items-2.ensures ∙ c.marks-2.ensures.list)
+    (subst (λ (w : Workbook). AreNoted w words c.items-2.result.now (λ a. has a c.note_all.new.asking.keys)) c.in_ok-link_all.ensures.leaves
+    (subst (λ (ws : List (List ℕ)). AreNoted (g.T.Trees.workbook c.link_all.new.trees) ws c.items-2.result.now (λ a. has a c.note_all.new.asking.keys)) c.in_ok-link_all.ensures.words c.in_ok-note_all.ensures.noted)) in
+    from_follow b words customs c.args.day (record { alloc = c.args.self.now.alloc; graph = c.link_all.new.graph; asking = c.note_all.new.asking; recalc = new })
+    (recalculated b words customs c.args.day c.recalculate.result links old (marks_in new) (kept_in new) c.in_ok-link_all.ensures.ok c.link_all.ensures.links follow.known right c.recalculate.ensures.unmarked c.recalculate.ensures.marks fit)
+    (λ a x t free at is asks. all_asking b words old (λ a. has a c.args.self.now.asking.keys) (λ a. has a c.note_all.new.asking.keys) c.requires.follows.asks c.note_all.ensures.stay noted a x t at is asks)
+
+pub returns-clause-most : goal.returns-clause-most
+returns-clause-most g c =
+    let b = g.T.Trees.workbook c.args.trees.now in
+    let words = g.T.Trees.words c.args.trees.now in
+    let customs = g.C.Customs.customs c.args.customs.now in
+    let links = links_of c.link_all.new.graph in
+    let marks = marks_in c.args.self.now.recalc in
+    let follow = to_follow b words customs c.args.day c.args.self.now c.requires.numbered c.requires.follows in
+    steps_taken b words links marks c.args.steps.now c.recalculate.new.steps c.in_ok-link_all.ensures.ok follow.known
+    (subst (λ (w : Workbook). plain.TakesSteps w words links marks c.args.steps.now c.recalculate.new.steps) (c.in_ok-note_all.ensures.leaves ∙ c.in_ok-link_all.ensures.leaves)
+    (subst (λ (ws : List (List ℕ)). plain.TakesSteps (g.T.Trees.workbook c.note_all.new.trees) ws links marks c.args.steps.now c.recalculate.new.steps) (c.in_ok-note_all.ensures.words ∙ c.in_ok-link_all.ensures.words) c.recalculate.ensures.most))
+
+pub returns-clause-reads : goal.returns-clause-reads
+returns-clause-reads g c = g.T.Trees.laws.both _ _ _ (g.T.Trees.laws.both _ _ _ c.link_all.ensures.reads c.note_all.ensures.reads) c.recalculate.ensures.reads

@@ -1,0 +1,84 @@
+-- What values that follow a workbook stand for. Source: this project's own.
+use Rattle.std.specs.Prelude.{◌≡◌, ◌⊎◌, ◌+◌, ◌≤◌, ℕ, ℤ, Bool, true, false, List, Option, Some, None, is_some, IsTrue}
+use Rattle.std.specs.List.{list_any, sum_by}
+use Rattle.formula_tree.specs.Links.{same_link}
+use Rattle.formula_tree.specs.Links.{links_in as links_in_tree}
+use Rattle.formula_tree.specs.Reference.{sheet_of}
+use Rattle.formula_tree.specs.Term.{Term}
+use Rattle.formula_tree.specs.declared.link.Link.TheVariants as links
+use Rattle.formula_tree.specs.declared.reference.Corner.{Corner}
+use Rattle.book_values.specs.Names.{Names}
+use Rattle.custom_fn.specs.declared.rule.Rule.{Rule}
+use Rattle.book_values.specs.Workbook as book
+use Rattle.book_values.specs.Workbook.{Workbook, home_of, tree_at}
+use Rattle.dep_graph.specs.Laws.{AreLinksInside}
+use Rattle.dep_graph.specs.Graph.{links_of}
+use Rattle.dep_graph.specs.Needs.{Links}
+use Rattle.dep_graph.specs.Nodes.{has}
+use Rattle.dep_graph.specs.Walks.{IsOnce}
+use Rattle.dep_graph.specs.declared.node.Node.{Node}
+use Rattle.dep_graph.specs.declared.node.Node.TheVariants.{Cell, Name, Range}
+use Rattle.recalc_core.specs.Kept.{Kept}
+use Rattle.recalc_core.specs.Nodes.{node_at}
+use Rattle.recalc_core.specs.Recalc as recalc
+use Rattle.recalc_core.specs.Steps.{node_cost}
+use Rattle.marked_values.specs.Marks.{FitsMarks, ReachesMark}
+use Rattle.marked_values.specs.Shifts.{asks_place}
+use Rattle.kept_values.specs.declared.values.Values.{Values}
+
+-- the nodes that each node is linked to
+abbrev pub links_in : Values → Links
+links_in v = links_of v.graph
+
+-- the value that is kept of each node
+abbrev pub kept_in : Values → Kept
+kept_in v = recalc.kept_in v.recalc
+
+-- the marks
+abbrev pub marks_in : Values → List Node
+marks_in v = recalc.marks_in v.recalc
+
+-- the nodes whose formulas were found to ask where a reference is
+abbrev pub asks_in : Values → Node → Bool
+asks_in v a = has a v.asking.keys
+
+-- there is one, and it passes a test
+abbrev pub passes : {X : Type 0} → (X → Bool) → Option X → Bool
+passes test None = false
+passes test (Some x) = test x
+
+-- tests whether a formula on a sheet is linked to a node: its tree refers to the cell or the block, or one of its words finds
+-- the name
+abbrev pub is_link_of : List (List ℕ) → Names → ℕ → Term Corner → Node → Bool
+is_link_of words names sheet t (Cell p) = list_any (same_link (links.Cell p)) (links_in_tree t)
+is_link_of words names sheet t (Range b) = list_any (same_link (links.Area b)) (links_in_tree t)
+is_link_of words names sheet t (Name scope word) = passes (book.mentions_node names sheet t) (node_at words (Name scope word))
+
+-- tests whether the formula of a place or a name is linked to a node
+abbrev pub is_link_from : Workbook → List (List ℕ) → Node → book.Node → Bool
+is_link_from b words c x = passes (λ t. is_link_of words b.names (sheet_of (home_of x)) t c) (tree_at b x)
+
+-- and the formula of a node
+abbrev pub is_link_at : Workbook → List (List ℕ) → Node → Node → Bool
+is_link_at b words a c = passes (is_link_from b words c) (node_at words a)
+
+-- they follow the workbook: each node that isn't marked is linked to exactly what its formula is linked to, and known to ask where a
+-- reference is where its formula does; and what is kept of each place and each name that reaches no mark is its value
+pub record Follows (b : Workbook) (words : List (List ℕ)) (customs : List (List ℕ × Rule)) (today : ℤ) (v : Values) : Type 0 where
+  pub linked : (a c : Node) → has a (marks_in v) ≡ false → has c (links_in v a) ≡ is_link_at b words a c
+  pub inside : AreLinksInside (links_in v)
+  pub asks : (a : Node) (x : book.Node) (t : Term Corner) → has a (marks_in v) ≡ false → node_at words a ≡ Some x → tree_at b x ≡ Some t → asks_place t ≡ true → asks_in v a ≡ true
+  pub known : (a : Node) → has a (marks_in v) ≡ true → is_some (node_at words a) ≡ true
+  pub fit : FitsMarks b words customs today (marks_in v) (kept_in v)
+
+-- some of the nodes were marked, and no other one
+pub record AreMarked (nodes old new : List Node) : Type 0 where
+  pub stay : (a : Node) → IsTrue (has a old) → IsTrue (has a new)
+  pub only : (a : Node) → IsTrue (has a new) → IsTrue (has a old) ⊎ IsTrue (has a nodes)
+
+-- only places and names that are marked, or whose needs lead to a marked one, were worked out, each at most once, within the
+-- sum of what their formulas cost
+abbrev pub TakesSteps : Workbook → List (List ℕ) → List Node → ℕ → ℕ → Type 0
+TakesSteps b words marks old new =
+    (nodes : List Node) × IsOnce nodes × ((a : Node) (x : book.Node) → IsTrue (has a nodes) → node_at words a ≡ Some x → ReachesMark b words marks x)
+    × (new ≤ old + sum_by (node_cost b words) nodes)

@@ -1,0 +1,22 @@
+//! The values of a workbook that changes: the links of its formulas, the values that are kept of its cells and names, and marks.
+//!
+//! [`Values`] follow a workbook that stands behind [`recalc_core::Trees`]. Whoever changes the workbook marks what it touches, and
+//! nothing is linked or worked out before the next read: [`Values::refresh`] links the marked nodes anew and works out what
+//! reaches a mark, once. A second refresh takes no step.
+//!
+//! ```text
+//! let mut values = Values::new(alloc)?;
+//! values.mark_all(everything.items())?;
+//! values.refresh(&mut session, &registry, day, &mut steps)?;  // links and works out the workbook
+//! values.mark(Node::Cell(at))?;                                // the cell was changed
+//! values.refresh(&mut session, &registry, day, &mut steps)?;  // links it, and works out what it reaches
+//! values.value(Node::Cell(total))
+//! ```
+#![tactic(auto)]
+
+mod asking;
+mod linking;
+mod refreshing;
+mod values;
+
+pub use values::Values;

@@ -1,0 +1,79 @@
+// Links, kept values and marks.
+ghost use Rattle.std.specs.Prelude.{◌≡◌, ◌++◌, ◌∷◌, [], IfOk, None, OnErr, OnOk};
+ghost use Rattle.std.specs.Option.{option_copied};
+ghost use Rattle.dep_graph.specs.Nodes.{has, items_of};
+ghost use Rattle.dep_graph.specs.declared.node.Node.{Node};
+
+use cell_value::Scalar;
+use dep_graph::{Graph, Node, Nodes};
+use indexmap::IndexSet;
+use recalc_core::Recalc;
+use std::alloc::{AllocError, Global};
+
+/// What is kept of the values of a workbook: the links of its formulas, which of these ask where a reference is, the values of its
+/// cells and names, and the marks of what was touched since they were worked out.
+#[derive(Drop)]
+pub struct Values {
+    pub(crate) alloc: Global,
+    pub(crate) graph: Graph,
+    pub(crate) asking: IndexSet<Node>,
+    pub(crate) recalc: Recalc,
+}
+
+impl Values {
+    ghost use Rattle.kept_values.specs.Values.{AreMarked, asks_in, kept_in, links_in, marks_in};
+
+    /// Nothing is linked, nothing is kept, and there are no marks. Errs for want of memory.
+    pub fn new(alloc: Global) -> Result<Values, AllocError>
+        ensures links { IfOk result (λ values. (a : Node) → links_in values a ≡ []) }
+        ensures kept { IfOk result (λ values. (a : Node) → kept_in values a ≡ None) }
+        ensures marks { IfOk result (λ values. marks_in values ≡ []) }
+    {
+        Ok(Values {
+            alloc,
+            graph: Graph::new(alloc)?,
+            asking: IndexSet::new(alloc),
+            recalc: Recalc::new(alloc)?,
+        })
+    }
+
+    /// Marks a node that a change touches: its formula is linked anew, and it and all that its value reaches are worked out, at
+    /// the next refresh. For want of memory all is as it was. Costs a look-up.
+    pub fn mark(&mut self, a: Node) -> Result<(), AllocError>
+        ensures ok { OnOk result ((c : Node) → has c (marks_in self.new) ≡ has c (marks_in self.old ++ a ∷ [])) }
+        ensures err { OnErr result (marks_in self.new ≡ marks_in self.old) }
+        ensures links { links_in self.new ≡ links_in self.old }
+        ensures asking { asks_in self.new ≡ asks_in self.old }
+        ensures kept { kept_in self.new ≡ kept_in self.old }
+    {
+        self.recalc.mark(a)
+    }
+
+    /// Marks each of the nodes. For want of memory some of them are marked. Costs a look-up for each.
+    pub fn mark_all(&mut self, nodes: &[Node]) -> Result<(), AllocError>
+        ensures ok { OnOk result ((c : Node) → has c (marks_in self.new) ≡ has c (marks_in self.old ++ nodes.now)) }
+        ensures err { OnErr result (AreMarked nodes.now (marks_in self.old) (marks_in self.new)) }
+        ensures links { links_in self.new ≡ links_in self.old }
+        ensures asking { asks_in self.new ≡ asks_in self.old }
+        ensures kept { kept_in self.new ≡ kept_in self.old }
+    {
+        'nodes: for node in nodes {
+            self.mark(*node)?;
+        }
+        Ok(())
+    }
+
+    /// The value that is kept of the node; `None` where none is. Costs a look-up.
+    pub fn value(&self, a: Node) -> Option<&Scalar>
+        ensures { option_copied result ≡ kept_in self.now a }
+    {
+        self.recalc.value(a)
+    }
+
+    /// The marks.
+    pub fn marks(&self) -> &Nodes
+        ensures { items_of result.now ≡ marks_in self.now }
+    {
+        self.recalc.marks()
+    }
+}
