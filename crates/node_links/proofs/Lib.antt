@@ -4,3 +4,6 @@ pub mod Relinking
 pub mod Listed
 pub mod LinkingEach
 pub mod Redirecting
+pub mod Changes
+pub mod Around
+pub mod Making

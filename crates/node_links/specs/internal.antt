@@ -2,3 +2,4 @@
 pub mod Lists
 pub mod Redirected
 pub mod Sets
+pub mod Few

@@ -4,7 +4,8 @@
 //! [`Links::link`] replaces; the users of a node are kept beside it, as a set, and are always exactly those nodes in
 //! whose lists it stands. A change of a node's needs costs about the number of its old and new needs, however many
 //! users these have. [`Links::link_each`] changes those of many nodes at once, or none, and [`Links::redirect`] takes
-//! all links along where nodes become others, and several become one.
+//! all links along where nodes become others, and several become one; [`Links::redirect_few`] does so where few nodes
+//! become others, with a look at these and their users alone.
 //!
 //! ```text
 //! let mut links = Links::new(alloc);
@@ -16,6 +17,8 @@
 //! ```
 #![tactic(auto)]
 
+mod change;
+mod few;
 mod links;
 mod lists;
 mod node_list;

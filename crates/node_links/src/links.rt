@@ -17,9 +17,9 @@ use std::mem;
 pub struct Links {
     pub(crate) alloc: Global,
     // What each node needs, as it was given.
-    needs: Vec<NodeList>,
+    pub(crate) needs: Vec<NodeList>,
     // Which nodes need each node.
-    users: Users,
+    pub(crate) users: Users,
     pub ghost counts: { length users.sets.items ≡ length needs.items },
     pub ghost exact: { (a b : ℕ) → is_in users.sets.items b a ≡ has b (needs_at needs.items a) },
     pub ghost known: { (a b : ℕ) → has b (needs_at needs.items a) ≡ true → b < length needs.items },

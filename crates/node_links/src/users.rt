@@ -3,9 +3,11 @@ ghost use Rattle.std.specs.Prelude.{◌≡◌, ◌+◌, ◌<◌, ◌≤◌, ◌=
 ghost use Rattle.std.specs.List.{All};
 ghost use Rattle.needs_order.specs.Needs.{has};
 ghost use Rattle.node_links.specs.Links.{AreBelow};
+ghost use Rattle.node_links.specs.internal.Few.{ArePutInPart, AreReady, KnowBefore, drops, puts};
 ghost use Rattle.node_links.specs.internal.Lists.{listed, ArePartlyPut};
 ghost use Rattle.node_links.specs.internal.Sets.{is_in, nodes_in, IsPartlyPut};
 
+use crate::change::Change;
 use crate::lists::items_of;
 use crate::node_list::NodeList;
 use crate::node_set::NodeSet;
@@ -131,6 +133,47 @@ impl Users {
     {
         'lists: for (node, list) in lists.iter().enumerate() {
             self.drop_each(items_of(list), node, &kept[node]);
+        }
+    }
+
+    // Adds each node to those that it gets to need. Where there is no memory some are added.
+    fn put_changes(&mut self, changes: &[Change]) -> Result<(), AllocError>
+        requires { AreReady (length self.old.sets.items) changes.now }
+        ensures ok { OnOk result ((i x : ℕ) → is_in self.new.sets.items i x ≡ (is_in self.old.sets.items i x || puts changes.now i x)) }
+        ensures err { OnErr result (ArePutInPart self.old.sets.items changes.now self.new.sets.items) }
+        ensures count { length self.new.sets.items ≡ length self.old.sets.items }
+    {
+        'changes: for change in changes {
+            self.put_each(change.needs.as_slice(), change.node)?;
+        }
+        Ok(())
+    }
+
+    // Takes each node from those that it would get to need, but for those that it needed before.
+    fn drop_changes(&mut self, changes: &[Change])
+        requires { AreReady (length self.old.sets.items) changes.now }
+        ensures rest { (i x : ℕ) → is_in self.new.sets.items i x ≡ (is_in self.old.sets.items i x && not (drops changes.now i x)) }
+        ensures count { length self.new.sets.items ≡ length self.old.sets.items }
+    {
+        'changes: for change in changes {
+            self.drop_each(change.needs.as_slice(), change.node, &change.was);
+        }
+    }
+
+    // Adds each node to those that it gets to need. Where there is no memory all is as it was.
+    pub(crate) fn put_all_changes(&mut self, changes: &[Change]) -> Result<(), AllocError>
+        requires ready { AreReady (length self.old.sets.items) changes.now }
+        requires before { KnowBefore (λ a x. is_in self.old.sets.items x a) changes.now }
+        ensures ok { OnOk result ((i x : ℕ) → is_in self.new.sets.items i x ≡ (is_in self.old.sets.items i x || puts changes.now i x)) }
+        ensures err { OnErr result ((i x : ℕ) → is_in self.new.sets.items i x ≡ is_in self.old.sets.items i x) }
+        ensures count { length self.new.sets.items ≡ length self.old.sets.items }
+    {
+        match self.put_changes(changes) {
+            Ok(()) => Ok(()),
+            Err(error) => {
+                self.drop_changes(changes);
+                Err(error)
+            }
         }
     }
 
