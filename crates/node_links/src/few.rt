@@ -93,7 +93,7 @@ impl Links {
         ensures marked { OnOk result (IsMarked few.now lists.new node) }
     {
         self.mark_row(lists, few, node)?;
-        match target(few, node) {
+        match few_target(few, node) {
             Some(target) => self.mark_row(lists, few, target),
             None => Ok(()),
         }
@@ -187,8 +187,8 @@ impl Links {
     }
 }
 
-// The target of a node.
-fn target(few: &BTreeMap<usize, Option<usize>>, node: usize) -> Option<usize>
+/// The target of a node, of which few have another than themselves, or none. Costs a search among the few.
+pub fn few_target(few: &BTreeMap<usize, Option<usize>>, node: usize) -> Option<usize>
     ensures { result ≡ few_target few.now node }
 {
     match few.get(&node) {
@@ -206,7 +206,7 @@ fn push_targets(
     ensures { OnOk result (list.new.items ≡ list.old.items ++ filter_map (few_target few.now) nodes.now) }
 {
     'nodes: for node in nodes {
-        push_some(list, target(few, *node))?;
+        push_some(list, few_target(few, *node))?;
     }
     Ok(())
 }

@@ -26,5 +26,6 @@ mod node_set;
 mod redirect;
 mod users;
 
+pub use few::few_target;
 pub use links::Links;
 pub use node_list::NodeList;
