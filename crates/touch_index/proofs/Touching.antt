@@ -1,10 +1,10 @@
 -- What an operation touches is near the lines that it edits, or in the blocks of its cells. Serves the search of an index.
-use Rattle.std.proofs.Common.{◌≡◌, ◌≢◌, sym, ap, refl, subst, arith, ℕ, ◌-◌, ◌<◌, ◌≤◌, ◌⊎◌, inl, inr, ⊎_elim, Bool, true, false, cond, eqb-true, nat_eq, List, [], ◌∷◌, Option, Some, None, MatchOption, option_map}
+use Rattle.std.proofs.Common.{◌≡◌, ◌∙◌, ◌≢◌, sym, ap, refl, subst, arith, ℕ, ◌-◌, ◌<◌, ◌≤◌, ◌⊎◌, inl, inr, ⊎_elim, Bool, true, false, cond, eqb-true, nat_eq, List, [], ◌∷◌, Option, Some, None, MatchOption, option_map}
 use Rattle.std.specs.Bool.{⊤}
-use Rattle.std.proofs.lemmas.Bool.{and_parts, cases_Bool, eq-eqb}
+use Rattle.std.proofs.lemmas.Bool.{and_parts, cases_Bool, cases_lt, eq-eqb}
 use Rattle.std.proofs.lemmas.Bool.Decides.{nat_tests}
 use Rattle.cell_addr.specs.Axis.{limit_of, line_of, span_of, with_line, with_span}
-use Rattle.cell_addr.specs.Place.{IsBlockInside, IsInside, covers}
+use Rattle.cell_addr.specs.Place.{Covers, IsBlockInside, IsInside, covers}
 use Rattle.cell_addr.specs.declared.axis.Axis.{Axis}
 use Rattle.cell_addr.specs.declared.axis.Axis.TheVariants.{Cols, Rows}
 use Rattle.cell_addr.specs.declared.axis.Span.{Span}
@@ -25,7 +25,7 @@ use Rattle.shift_core.specs.declared.form.Form.TheVariants.{Cells, Lines, Sheet}
 use Rattle.place_lines.proofs.LineNumbers.{has_number}
 use Rattle.place_lines.proofs.Places.{limit_along}
 use Rattle.shift_core.proofs.Axes.{ends_inside, line_inside}
-use Rattle.touch_index.specs.Kept.{FindsBlocks, FindsCells, GoesOver, KeepsBlock, goes_on}
+use Rattle.touch_index.specs.Kept.{FindsBlocks, FindsCells, FindsMeeting, GoesOver, KeepsBlock, goes_on}
 use Rattle.touch_index.specs.Touched.{TouchesBlock, TouchesCell}
 use Rattle.touch_index.specs.declared.index.TouchIndex.{TouchIndex}
 use Rattle.touch_index.specs.internal.Bands.{gap_of, lost_span, started_span}
@@ -216,3 +216,29 @@ on_runs axis lines p sheet span own items runs numbers is same on low high =
 
 pub first_inside : (b : Block) → IsBlockInside b → IsInside (first_place b)
 first_inside b inside = (omega (arith, inside.0, inside.1), omega (arith, inside.2, inside.3))
+
+-- ---- cells in common
+
+within : (axis : Axis) (b : Block) (p : Place) → Covers b p → ((span_of axis b).first ≤ line_of axis p) × (line_of axis p ≤ (span_of axis b).last)
+within Rows b p c = (c.1, c.2)
+within Cols b p c = (c.3, c.4)
+
+-- found where its lines begin and over the first of them, all that has a cell in common with a block is found
+pub meeting_blocks : (x : TouchIndex) (lines : PlaceLines) (axis : Axis) (other : Block) (found : List ℕ)
+    → ((p : Place) (n : ℕ) → has_point x.firsts (spot_of lines p) n ≡ true → p.sheet ≡ other.sheet → IsWithin (span_of axis other) (line_of axis p) → has n found ≡ true)
+    → ((n : ℕ) → goes_on axis x other.sheet (number_of (table_along axis lines other.sheet) (span_of axis other).first) n ≡ true → has n found ≡ true)
+    → FindsMeeting x lines other found
+meeting_blocks x lines axis other found starts over b n inside kept meet =
+    let (p, both) = meet in
+    let (mine, theirs) = both in
+    let sheet : b.sheet ≡ other.sheet = mine.0 ∙ sym theirs.0 in
+    let own = within axis b p mine in
+    let its = within axis other p theirs in
+    let first = first_line axis b in
+    ⊎_elim
+    (λ (before : (span_of axis b).first < (span_of axis other).first).
+    over n (subst (λ s. goes_on axis x s (number_of (table_along axis lines s) (span_of axis other).first) n ≡ true) sheet
+    (goes_along axis x lines b n kept (span_of axis other).first before (omega (arith, its.0, own.1)))))
+    (λ (after : (span_of axis other).first ≤ (span_of axis b).first).
+    starts (first_place b) n kept.0 sheet (omega (arith, first, after), omega (arith, first, own.0, its.1)))
+    (cases_lt (span_of axis b).first (span_of axis other).first)

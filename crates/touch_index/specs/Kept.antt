@@ -2,7 +2,7 @@
 use Rattle.std.specs.Prelude.{ℕ, Bool, ◌<◌, ◌≤◌, List, IsTrue}
 use Rattle.block_index.specs.Index.{finds}
 use Rattle.cell_addr.specs.Axis.{span_of}
-use Rattle.cell_addr.specs.Place.{IsBlockInside, IsInside}
+use Rattle.cell_addr.specs.Place.{CoverOne, IsBlockInside, IsInside}
 use Rattle.cell_addr.specs.declared.axis.Axis.{Axis}
 use Rattle.cell_addr.specs.declared.axis.Axis.TheVariants.{Cols, Rows}
 use Rattle.cell_addr.specs.declared.place.Block.{Block}
@@ -58,3 +58,7 @@ FindsCells x lines f numbers = (p : Place) (n : ℕ) → IsInside p → KeepsCel
 -- each kept block of the sheet that an operation touches is among the numbers
 abbrev pub FindsBlocks : TouchIndex → PlaceLines → Form → List ℕ → Type 0
 FindsBlocks x lines f numbers = (b : Block) (n : ℕ) → IsBlockInside b → KeepsBlock x lines b n → TouchesBlock f b → IsTrue (has n numbers)
+
+-- each kept block of the sheet that has a cell in common with the other is among the numbers
+abbrev pub FindsMeeting : TouchIndex → PlaceLines → Block → List ℕ → Type 0
+FindsMeeting x lines other numbers = (b : Block) (n : ℕ) → IsBlockInside b → KeepsBlock x lines b n → CoverOne b other → IsTrue (has n numbers)

@@ -22,6 +22,7 @@
 mod band;
 mod index;
 mod laws;
+mod meeting;
 mod point;
 mod points;
 mod touched;

@@ -125,7 +125,7 @@ impl TouchIndex {
     }
 
     // Finds the blocks that go on over the line at a position.
-    fn find_over(
+    pub(crate) fn find_over(
         &self,
         found: &mut Vec<usize>,
         lines: &PlaceLines,
@@ -177,7 +177,7 @@ fn find_filed(index: &BlockIndex, found: &mut Vec<usize>, slot: usize) -> Result
 }
 
 // Finds the numbers of the places of a sheet whose lines are in the span.
-fn find_on(
+pub(crate) fn find_on(
     points: &Points,
     found: &mut Vec<usize>,
     alloc: Global,
