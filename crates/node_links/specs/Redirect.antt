@@ -1,12 +1,8 @@
 -- Links redirected over targets of nodes. Source: this project's own.
-use Rattle.std.specs.Prelude.{◌≡◌, ◌↔◌, ℕ, Bool, List, Option, Some, None, IsTrue, is_some, slice_index_or, unwrap_or}
+use Rattle.std.specs.Prelude.{◌≡◌, ◌↔◌, ℕ, Bool, List, Option, Some, IsTrue, is_some, unwrap_or}
 use Rattle.std.specs.BTreeMap as tree
 use Rattle.std.specs.Ordering.{nat_cmp}
 use Rattle.needs_order.specs.Needs.{has}
-
--- the target of a node; none past the last
-abbrev pub target_of : List (Option ℕ) → ℕ → Option ℕ
-target_of targets a = slice_index_or targets a None
 
 -- the target of a node, of which few have another than themselves, or none
 abbrev pub few_target : tree.BTreeMap ℕ (Option ℕ) → ℕ → Option ℕ

@@ -8,9 +8,8 @@ ghost use Rattle.node_links.specs.Nodes.{needs_of, node_count};
 ghost use Rattle.node_links.specs.Redirect.{AreRedirected, few_target, is_among};
 ghost use Rattle.node_links.specs.internal.Few.{AreAround, AreChanges, AreOwn, AreRows, GathersFew, IsMarked, StillMarked, list_at, listed_at, own_list};
 
-use crate::change::Change;
+use crate::change::{Change, change_all};
 use crate::links::Links;
-use crate::lists::change_all;
 use crate::node_list::NodeList;
 use std::alloc::{AllocError, Global};
 use std::collections::BTreeMap;

@@ -2,13 +2,10 @@
 ghost use Rattle.std.specs.Prelude.{◌≡◌, ◌+◌, ◌<◌, ◌≤◌, ◌==◌, ◌&&◌, ◌||◌, not, ℕ, true, [], length, IfOk, OnOk, OnErr};
 ghost use Rattle.std.specs.List.{All};
 ghost use Rattle.needs_order.specs.Needs.{has};
-ghost use Rattle.node_links.specs.Links.{AreBelow};
 ghost use Rattle.node_links.specs.internal.Few.{ArePutInPart, AreReady, KnowBefore, drops, puts};
-ghost use Rattle.node_links.specs.internal.Lists.{listed, ArePartlyPut};
 ghost use Rattle.node_links.specs.internal.Sets.{is_in, nodes_in, IsPartlyPut};
 
 use crate::change::Change;
-use crate::lists::items_of;
 use crate::node_list::NodeList;
 use crate::node_set::NodeSet;
 use std::alloc::{AllocError, Global};
@@ -85,54 +82,6 @@ impl Users {
     {
         'needs: for need in needs {
             self.drop_unless(*need, node, kept);
-        }
-    }
-
-    // Adds each node to those that need the ones in its list. Where there is no memory some are added.
-    fn put_lists(&mut self, lists: &[Option<NodeList>]) -> Result<(), AllocError>
-        requires { AreBelow (length self.old.sets.items) lists.now }
-        ensures ok { OnOk result ((i x : ℕ) → is_in self.new.sets.items i x ≡ (is_in self.old.sets.items i x || has i (listed lists.now x))) }
-        ensures err { OnErr result (ArePartlyPut self.old.sets.items lists.now self.new.sets.items) }
-        ensures count { length self.new.sets.items ≡ length self.old.sets.items }
-    {
-        'lists: for (node, list) in lists.iter().enumerate() {
-            self.put_each(items_of(list), node)?;
-        }
-        Ok(())
-    }
-
-    // Adds each node to those that need the ones in its list, where it is known which of these it needs already. Where
-    // there is no memory all is as it was.
-    pub(crate) fn put_all_lists(
-        &mut self,
-        lists: &[Option<NodeList>],
-        was: &[NodeSet],
-    ) -> Result<(), AllocError>
-        requires lists { AreBelow (length self.old.sets.items) lists.now }
-        requires count { length lists.now ≤ length was.now }
-        requires was { (i x : ℕ) → has i (listed lists.now x) ≡ true → is_in was.now x i ≡ is_in self.old.sets.items i x }
-        ensures ok { OnOk result ((i x : ℕ) → is_in self.new.sets.items i x ≡ (is_in self.old.sets.items i x || has i (listed lists.now x))) }
-        ensures err { OnErr result ((i x : ℕ) → is_in self.new.sets.items i x ≡ is_in self.old.sets.items i x) }
-        ensures count { length self.new.sets.items ≡ length self.old.sets.items }
-    {
-        match self.put_lists(lists) {
-            Ok(()) => Ok(()),
-            Err(error) => {
-                self.drop_lists(lists, was);
-                Err(error)
-            }
-        }
-    }
-
-    // Takes each node from those that need the ones in its list, but for those that are kept for it.
-    pub(crate) fn drop_lists(&mut self, lists: &[Option<NodeList>], kept: &[NodeSet])
-        requires lists { AreBelow (length self.old.sets.items) lists.now }
-        requires count { length lists.now ≤ length kept.now }
-        ensures rest { (i x : ℕ) → is_in self.new.sets.items i x ≡ (is_in self.old.sets.items i x && not (has i (listed lists.now x) && not (is_in kept.now x i))) }
-        ensures count { length self.new.sets.items ≡ length self.old.sets.items }
-    {
-        'lists: for (node, list) in lists.iter().enumerate() {
-            self.drop_each(items_of(list), node, &kept[node]);
         }
     }
 

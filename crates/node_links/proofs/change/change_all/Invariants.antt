@@ -1,6 +1,6 @@
 use Rattle.std.specs.Vec.Iter.{into_iter_items}
 use Rattle.node_links.proofs.Changes.{AreChangedTo}
-use Rattle.node_links.proofs.lists.change_all.Given as goal
+use Rattle.node_links.proofs.change.change_all.Given as goal
 
 -- the changes gone by are made
 abbrev pub invariant-loop-change : goal.invariant-loop-change

@@ -3,7 +3,7 @@ use Rattle.std.specs.Vec.Iter.{into_iter_items}
 use Rattle.node_links.specs.Links.{needs_at}
 use Rattle.node_links.proofs.Changes.{AreChangedTo, changed_first, changed_next}
 use Rattle.node_links.proofs.Relinking.{all_of}
-use Rattle.node_links.proofs.lists.change_all.Goals as goal
+use Rattle.node_links.proofs.change.change_all.Goals as goal
 
 pub loop-change-init : goal.loop-change-init
 loop-change-init c = changed_first c.args.needs.now.items c.args.users.now.sets.items c.args.changes.items (into_iter_items c.into_iter-change-iterator.result) c.into_iter-change-iterator.ensures.into_iter_gives.0
