@@ -9,7 +9,6 @@ use Rattle.std.proofs.lemmas.Option.{same_Some}
 use Rattle.cell_addr.specs.declared.place.Block.{Block}
 use Rattle.node_links.specs.Nodes.{needs_of, users_of}
 use Rattle.node_links.specs.declared.links.Links.{Links}
-use Rattle.node_links.specs.Redirect.{target_of}
 use Rattle.place_lines.specs.Moved.{AreMoved}
 use Rattle.place_lines.specs.Spots.{area_of}
 use Rattle.place_lines.specs.declared.area.Area.{Area}
@@ -32,7 +31,8 @@ use Rattle.dep_graph.specs.internal.Keys.{key_of}
 use Rattle.dep_graph.specs.internal.Numbers.{count_of, found_at, key_place}
 use Rattle.dep_graph.specs.internal.ShiftedNumbers.{AreFilingsUnder, AreRefiled, AreTargets, BecomesRange, IsCarriedAt, after_at, block_in, is_linked}
 use Rattle.dep_graph.proofs.Filed.{carried, kept_holds}
-use Rattle.dep_graph.proofs.Numbers.{found_key, key_stands}
+use Rattle.dep_graph.proofs.Numbers.{alive_inside, found_key, key_stands}
+use Rattle.dep_graph.proofs.Targets.{linked_alive}
 
 -- ---- filings added
 
@@ -132,42 +132,35 @@ put_stays old new target filing kept n h = subst IsSome (sym (kept n)) (by (eqb 
 
 -- ---- the same targets by the same nodes and links
 
-module _ (s : Shift) (lines : PlaceLines) (a b : Net) (nodes : b.nodes ≡ a.nodes) (links : b.links ≡ a.links) (targets : List (Option ℕ)) where
+module _ (s : Shift) (lines : PlaceLines) (a b : Net) (nodes : b.nodes ≡ a.nodes) (links : b.links ≡ a.links) (target : ℕ → Option ℕ) where
   same_after : (n : ℕ) → after_at s b n ≡ after_at s a n
   same_after n = ap (λ (t : NodeTable). option_and_then (node_after s) (found_at t n)) nodes
 
-  pub same_targets : AreTargets s lines a targets → AreTargets s lines b targets
+  pub same_targets : AreTargets s lines a target → AreTargets s lines b target
   same_targets are = record {
     aims = λ n linked.
         let before : is_linked a n ≡ true = subst (λ (l : Links). (nat_lt 0 (length (needs_of l n)) || nat_lt 0 (length (users_of l n))) ≡ true) links linked in
         are.aims n before ∙ (ap (λ (t : NodeTable). option_map (λ x. key_place t (key_of lines x)) (after_at s a n)) (sym nodes) ∙ ap (option_map (λ x. key_place b.nodes (key_of lines x))) (sym (same_after n)));
-    inside = λ n t e. subst (λ (u : NodeTable). t < count_of u) (sym nodes) (are.inside n t e);
-    count = subst (λ (u : NodeTable). length targets ≤ count_of u) (sym nodes) are.count;
+    inside = λ n t low e. subst (λ (u : NodeTable). t < count_of u) (sym nodes) (are.inside n t (subst (λ (u : NodeTable). n < count_of u) nodes low) e);
   }
 
-  pub becomes_before : (n t : ℕ) (after : Block) → BecomesRange s b targets n t after → BecomesRange s a targets n t after
-  becomes_before n t after (used, target, moves) = (subst (λ (l : Links). nat_lt 0 (length (users_of l n)) ≡ true) links used, target, sym (same_after n) ∙ moves)
+  pub becomes_before : (n t : ℕ) (after : Block) → BecomesRange s b target n t after → BecomesRange s a target n t after
+  becomes_before n t after (used, is, moves) = (subst (λ (l : Links). nat_lt 0 (length (users_of l n)) ≡ true) links used, is, sym (same_after n) ∙ moves)
 
   -- one number more
-  pub next_refiled : (i : ℕ) (old new : Vec (Option ℕ) Global) → AreRefiled s a targets i old → ((n : ℕ) → IsSome (filing_of old n) → IsSome (filing_of new n))
-      → ((t : ℕ) (after : Block) → BecomesRange s a targets i t after → IsSome (filing_of new t)) → AreRefiled s b targets (i + 1) new
+  pub next_refiled : (i : ℕ) (old new : Vec (Option ℕ) Global) → AreRefiled s a target i old → ((n : ℕ) → IsSome (filing_of old n) → IsSome (filing_of new n))
+      → ((t : ℕ) (after : Block) → BecomesRange s a target i t after → IsSome (filing_of new t)) → AreRefiled s b target (i + 1) new
   next_refiled i old new before kept here n t after below becomes = ⊎_elim
       (λ (earlier : n < i). kept t (before n t after earlier (becomes_before n t after becomes)))
       (λ (late : i ≤ n).
       let same : n ≡ i = omega (arith, late, below) in
-      here t after (subst (λ m. BecomesRange s a targets m t after) same (becomes_before n t after becomes)))
+      here t after (subst (λ m. BecomesRange s a target m t after) same (becomes_before n t after becomes)))
       (cases_lt n i)
 
 -- ---- where a range goes
 
 pub no_some : {A : Type 0} (x : A) → None ≡ Some x → ⊥
 no_some x e = cc
-
--- a target that was read
-pub target_read : (targets : List (Option ℕ)) (n : ℕ) (d o : Option ℕ) → n < length targets → get_or targets n d ≡ o → target_of targets n ≡ o
-target_read [] n d o low e = absurd (omega (arith, low))
-target_read (x ∷ targets) zero d o low e = e
-target_read (x ∷ targets) (suc n) d o low e = target_read targets n d o (omega (arith, low)) e
 
 pub block_is : (o : Option Node) (b : Block) → block_in o ≡ Some b → o ≡ Some (Range b)
 block_is (Some (Range c)) b e = ap (λ x. Some (Range x)) (same_Some c b e)
@@ -185,11 +178,11 @@ block_is None b e = absurd (none e)
     none e = cc
 
 -- the key of what a used number becomes stands at its target
-pub target_stands : (s : Shift) (lines : PlaceLines) (net : Net) (targets : List (Option ℕ)) (n t : ℕ) (x : Node) → AreTargets s lines net targets → is_linked net n ≡ true → target_of targets n ≡ Some t
+pub target_stands : (s : Shift) (lines : PlaceLines) (net : Net) (target : ℕ → Option ℕ) (n t : ℕ) (x : Node) → AreTargets s lines net target → is_linked net n ≡ true → target n ≡ Some t
     → after_at s net n ≡ Some x → slice_get net.nodes.keys.keys t ≡ Some (key_of lines x)
-target_stands s lines net targets n t x are linked target goes =
-    let aim : key_place net.nodes (key_of lines x) ≡ t = same_Some (key_place net.nodes (key_of lines x)) t (sym (are.aims n linked ∙ ap (option_map (λ y. key_place net.nodes (key_of lines y))) goes) ∙ target) in
-    let inside : key_place net.nodes (key_of lines x) < count_of net.nodes = subst (λ m. m < count_of net.nodes) (sym aim) (are.inside n t target) in
+target_stands s lines net target n t x are linked is goes =
+    let aim : key_place net.nodes (key_of lines x) ≡ t = same_Some (key_place net.nodes (key_of lines x)) t (sym (are.aims n linked ∙ ap (option_map (λ y. key_place net.nodes (key_of lines y))) goes) ∙ is) in
+    let inside : key_place net.nodes (key_of lines x) < count_of net.nodes = subst (λ m. m < count_of net.nodes) (sym aim) (are.inside n t (alive_inside net.nodes n (linked_alive net n linked)) is) in
     ap (slice_get net.nodes.keys.keys) (sym aim) ∙ key_stands net.nodes (key_of lines x) inside
 
 pub used_is_linked : (net : Net) (n : ℕ) → is_used net n ≡ true → is_linked net n ≡ true

@@ -1,5 +1,5 @@
 -- Links that a structural operation moves: those between the targets of numbers. Serves the shift of the graph.
-use Rattle.std.proofs.Common.{◌≡◌, ◌∙◌, sym, ap, refl, subst, ℕ, ◌<◌, true, List, map, Option, Some, None, IsTrue}
+use Rattle.std.proofs.Common.{◌≡◌, ◌∙◌, sym, ap, refl, subst, ℕ, ◌<◌, true, map, Option, Some, None, IsTrue}
 use Rattle.std.specs.Prelude.{IsSome}
 use Rattle.std.specs.Option.{option_and_then, option_map}
 use Rattle.std.specs.declared.alloc.Global.{Global}
@@ -8,7 +8,7 @@ use Rattle.std.proofs.lemmas.Option.{same_Some}
 use Rattle.cell_addr.specs.declared.place.Block.{Block}
 use Rattle.needs_order.specs.Needs as plain
 use Rattle.node_links.specs.Nodes.{needs_of}
-use Rattle.node_links.specs.Redirect.{AreRedirected, target_of}
+use Rattle.node_links.specs.Redirect.{AreRedirected}
 use Rattle.node_links.specs.declared.links.Links.{Links}
 use Rattle.place_lines.specs.declared.lines.PlaceLines.{PlaceLines}
 use Rattle.shift_core.specs.declared.shift.Shift.{Shift}
@@ -24,10 +24,10 @@ use Rattle.dep_graph.specs.internal.Files.{HoldsBlock}
 use Rattle.dep_graph.specs.internal.Filings.{filing_of}
 use Rattle.dep_graph.specs.internal.Keys.{key_of}
 use Rattle.dep_graph.specs.internal.Nets.{Grows, links_in}
-use Rattle.dep_graph.specs.internal.Numbers.{IsAlive, found_at, is_range, key_place, linked, node_at, place_of}
+use Rattle.dep_graph.specs.internal.Numbers.{IsAlive, count_of, found_at, is_range, key_place, linked, node_at, place_of}
 use Rattle.dep_graph.specs.internal.ShiftedNumbers.{AreFilingsUnder, AreRefiled, AreTargets, after_at, is_linked}
 use Rattle.dep_graph.proofs.Growing.{grown_links}
-use Rattle.dep_graph.proofs.Numbers.{alive_is, alive_number, at_place, found_place, key_found, place_found}
+use Rattle.dep_graph.proofs.Numbers.{alive_inside, alive_is, alive_number, at_place, found_place, key_found, place_found}
 use Rattle.dep_graph.proofs.Places.{has_map, map_has}
 use Rattle.dep_graph.proofs.Refiling.{target_stands}
 use Rattle.dep_graph.proofs.Targets.{linked_alive, needing_linked, used_by, used_linked}
@@ -40,13 +40,13 @@ by_lines lines t = record { lines = lines; keys = t.keys; once = t.once; narrow 
 moves_to : (f : Node → Option Node) (x : Option Node) (y : Node) → x ≡ Some y → option_and_then f x ≡ f y
 moves_to f x y e = ap (option_and_then f) e
 
-module _ (s : Shift) (lines : PlaceLines) (net : Net) (targets : List (Option ℕ)) (are : AreTargets s lines net targets) where
+module _ (s : Shift) (lines : PlaceLines) (net : Net) (target_of : ℕ → Option ℕ) (are : AreTargets s lines net target_of) where
   -- the table after the operation
   abbrev after : NodeTable
   after = by_lines lines net.nodes
 
   -- what the node of a linked number becomes is found at its target
-  pub target_node : (n t : ℕ) → is_linked net n ≡ true → target_of targets n ≡ Some t
+  pub target_node : (n t : ℕ) → is_linked net n ≡ true → target_of n ≡ Some t
       → (a : Node) × (node_after s (node_at net.nodes n) ≡ Some a) × (found_at after t ≡ Some a)
   target_node n t has_link target = by (node_after s (node_at net.nodes n)) refl
     where
@@ -61,22 +61,22 @@ module _ (s : Shift) (lines : PlaceLines) (net : Net) (targets : List (Option �
         where
           none : None ≡ Some t → ⊥
           none e = cc
-      by (Some a) e = (a, e, key_found lines net.nodes.keys.keys t a net.nodes.narrow (target_stands s lines net targets n t a are has_link target (goes ∙ e)))
+      by (Some a) e = (a, e, key_found lines net.nodes.keys.keys t a net.nodes.narrow (target_stands s lines net target_of n t a are has_link target (goes ∙ e)))
 
   -- a linked number whose node stands somewhere after the operation has a target
   pub node_target : (n : ℕ) (x a : Node) → is_linked net n ≡ true → node_at net.nodes n ≡ x → node_after s x ≡ Some a
-      → (t : ℕ) × (target_of targets n ≡ Some t) × (found_at after t ≡ Some a)
+      → (t : ℕ) × (target_of n ≡ Some t) × (found_at after t ≡ Some a)
   node_target n x a has_link is moves =
       let alive : found_at net.nodes n ≡ Some x = linked_alive net n has_link ∙ ap Some is in
       let goes : after_at s net n ≡ Some a = moves_to (node_after s) (found_at net.nodes n) x alive ∙ moves in
-      let target : target_of targets n ≡ Some (key_place net.nodes (key_of lines a)) = are.aims n has_link ∙ ap (option_map (λ y. key_place net.nodes (key_of lines y))) goes in (
+      let target : target_of n ≡ Some (key_place net.nodes (key_of lines a)) = are.aims n has_link ∙ ap (option_map (λ y. key_place net.nodes (key_of lines y))) goes in (
         key_place net.nodes (key_of lines a),
         target,
         key_found lines net.nodes.keys.keys (key_place net.nodes (key_of lines a)) a net.nodes.narrow
-            (target_stands s lines net targets n (key_place net.nodes (key_of lines a)) a are has_link target goes),
+            (target_stands s lines net target_of n (key_place net.nodes (key_of lines a)) a are has_link target goes),
       )
 
-  module _ (links : Links) (redirected : AreRedirected (target_of targets) (needs_of net.links) (needs_of links)) where
+  module _ (links : Links) (redirected : AreRedirected target_of (needs_of net.links) (needs_of links)) where
     -- both ends of a link have nodes
     pub ends_alive : (a n : ℕ) → plain.has n (needs_of links a) ≡ true → IsAlive after a × IsAlive after n
     ends_alive a n h =
@@ -92,7 +92,7 @@ module _ (s : Shift) (lines : PlaceLines) (net : Net) (targets : List (Option �
         let (n, m, from, there, to) = (redirected (place_of after a) u).0 listed in
         let (x, moves_x, found_x) = target_node n (place_of after a) (needing_linked net n m there) from in
         let (y, moves_y, found_y) = target_node m u (used_linked net n m there) to in
-        let first : x ≡ a = same_Some x a (sym found_x ∙ found_place after a (are.inside n (place_of after a) from)) in
+        let first : x ≡ a = same_Some x a (sym found_x ∙ found_place after a (are.inside n (place_of after a) (alive_inside net.nodes n (linked_alive net n (needing_linked net n m there))) from)) in
         let second : y ≡ b = sym (alive_is after u y found_y).0 ∙ is in
         let listed_there : has (node_at net.nodes m) (map (node_at net.nodes) (needs_of net.links n)) ≡ true = has_map (node_at net.nodes) (needs_of net.links n) m there in
         let number : place_of net.nodes (node_at net.nodes n) ≡ n = alive_number net.nodes n (linked_alive net n (needing_linked net n m there)) in (
@@ -118,14 +118,14 @@ module _ (s : Shift) (lines : PlaceLines) (net : Net) (targets : List (Option �
     all_shifted a b = (came a b, λ link. goes a b link.0 link.1 link.2 link.3 link.4)
 
     -- the range that a used one becomes is filed
-    pub used_filed : (current : Vec (Option ℕ) Global) (i : ℕ) → AreRefiled s net targets i current → ((n t : ℕ) → target_of targets n ≡ Some t → n < i) → (a n : ℕ) → plain.has n (needs_of links a) ≡ true
+    pub used_filed : (current : Vec (Option ℕ) Global) (i : ℕ) → AreRefiled s net target_of i current → ((n : ℕ) → n < count_of net.nodes → n < i) → (a n : ℕ) → plain.has n (needs_of links a) ≡ true
         → (b : Block) → found_at after n ≡ Some (Range b) → IsSome (filing_of current n)
     used_filed current i refiled low a n h b range =
         let (k, m, from, there, to) = (redirected a n).0 h in
         let linked_m : is_linked net m ≡ true = used_linked net k m there in
         let (y, moves_y, found_y) = target_node m n linked_m to in
         let is : y ≡ Range b = same_Some y (Range b) (sym found_y ∙ range) in
-        refiled m n b (low m n to) (used_by net k m there, to, moves_to (node_after s) (found_at net.nodes m) (node_at net.nodes m) (linked_alive net m linked_m) ∙ (moves_y ∙ ap Some is))
+        refiled m n b (low m (alive_inside net.nodes m (linked_alive net m linked_m))) (used_by net k m there, to, moves_to (node_after s) (found_at net.nodes m) (node_at net.nodes m) (linked_alive net m linked_m) ∙ (moves_y ∙ ap Some is))
 
 -- the filings after the operation are those of ranges
 pub filings_after : (lines : PlaceLines) (net : Net) (current : Vec (Option ℕ) Global) → AreFilingsUnder lines net current → (n f : ℕ) → filing_of current n ≡ Some f

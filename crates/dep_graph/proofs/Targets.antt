@@ -1,11 +1,15 @@
 -- What the nodes of numbers become. Serves the shift of the graph.
-use Rattle.std.proofs.Common.{◌≡◌, ◌∙◌, sym, ap, refl, subst, arith, ℕ, ◌+◌, ◌<◌, ◌≤◌, inl, inr, ◌⊎◌, ⊎_elim, true, List, [], ◌∷◌, ◌++◌, length, nat_lt, Option, Some, None}
+use Rattle.std.proofs.Common.{◌≡◌, ◌∙◌, sym, ap, refl, subst, arith, ℕ, ◌+◌, ◌<◌, ◌≤◌, inl, inr, ◌⊎◌, ⊎_elim, true, false, cond, [], length, nat_lt, eqb, is_some, unwrap_or, Option, Some, None}
+use Rattle.std.specs.BTreeMap as tree
+use Rattle.std.specs.BTreeMap.{is_at}
+use Rattle.std.specs.Map.{lookup}
+use Rattle.std.specs.Ordering.{nat_cmp}
 use Rattle.std.specs.Option.{option_and_then, option_map}
-use Rattle.std.proofs.lemmas.Bool.{cases_lt, or_cases, or_left, or_right}
-use Rattle.std.proofs.lemmas.List.{get_or_append_left, get_or_past, length_push}
+use Rattle.std.proofs.lemmas.Bool.{cases_Bool, cases_lt, eq-eqb, false≢true, ne_eqb, or_cases, or_left, or_right}
+use Rattle.std.proofs.lemmas.Option.{same_Some}
 use Rattle.needs_order.specs.Needs as plain
 use Rattle.node_links.specs.Nodes.{needs_of, users_of}
-use Rattle.node_links.specs.Redirect.{target_of}
+use Rattle.node_links.specs.Redirect.{few_target, is_among}
 use Rattle.place_lines.specs.declared.lines.PlaceLines.{PlaceLines}
 use Rattle.shift_core.specs.declared.shift.Shift.{Shift}
 use Rattle.dep_graph.specs.Shifted.{node_after}
@@ -18,7 +22,7 @@ use Rattle.dep_graph.specs.internal.Arrows.{is_used}
 use Rattle.dep_graph.specs.internal.Keys.{key_of}
 use Rattle.dep_graph.specs.internal.Nets.{Grows}
 use Rattle.dep_graph.specs.internal.Numbers.{IsAlive, count_of, key_at, key_place}
-use Rattle.dep_graph.specs.internal.ShiftedNumbers.{AreTargets, after_at, aim_of, is_linked}
+use Rattle.dep_graph.specs.internal.ShiftedNumbers.{AreTargets, SetsTarget, after_at, aim_of, is_linked}
 use Rattle.dep_graph.proofs.Growing.{more_found, more_keys, more_place}
 use Rattle.dep_graph.proofs.Numbers.{alive_inside, gets, key_number}
 use Rattle.dep_graph.proofs.Walking.{of_some, some_of}
@@ -65,22 +69,16 @@ linked_before a b n f h = ⊎_elim
 
 -- ---- targets of numbers
 
-pub target_low : (old : List (Option ℕ)) (o : Option ℕ) (n : ℕ) → n < length old → target_of (old ++ o ∷ []) n ≡ target_of old n
-target_low old o n low = get_or_append_left old (o ∷ []) None n low
+abbrev pub Few : Type 0
+Few = tree.BTreeMap ℕ (Option ℕ)
 
-pub target_last : (old : List (Option ℕ)) (o : Option ℕ) → target_of (old ++ o ∷ []) (length old) ≡ o
-target_last [] o = refl
-target_last (x ∷ old) o = target_last old o
-
--- a target is within the list
-pub target_within : (targets : List (Option ℕ)) (n t : ℕ) → target_of targets n ≡ Some t → n < length targets
-target_within targets n t e = ⊎_elim
-    (λ (low : n < length targets). low)
-    (λ (past : length targets ≤ n). absurd (none (sym (get_or_past targets n None past) ∙ e)))
-    (cases_lt n (length targets))
+-- a number that isn't among them is its own target
+pub own_target : (few : Few) (n : ℕ) → (is_among few n ≡ true → ⊥) → few_target few n ≡ Some n
+own_target few n h = by (tree.get nat_cmp few n) h
   where
-    none : None ≡ Some t → ⊥
-    none e = cc
+    by : (o : Option (Option ℕ)) → (is_some o ≡ true → ⊥) → unwrap_or o (Some n) ≡ Some n
+    by None g = refl
+    by (Some x) g = absurd (g refl)
 
 module _ (s : Shift) (lines : PlaceLines) where
   -- the aim stays where keys are added
@@ -100,53 +98,61 @@ module _ (s : Shift) (lines : PlaceLines) where
           there ∙ (ap Some (sym (more_place a.nodes b.nodes (key_of lines x) f.keys (inside (number a x) there))) ∙ sym (ap (option_map (number b)) (same ∙ e)))
 
   -- the targets of the numbers below
-  pub record AreTargetsUpTo (net : Net) (i : ℕ) (targets : List (Option ℕ)) : Type 0 where
-    pub aims : (n : ℕ) → n < i → is_linked net n ≡ true → target_of targets n ≡ aim_of s lines net n
-    pub inside : (n t : ℕ) → target_of targets n ≡ Some t → t < count_of net.nodes
-    pub count : length targets ≡ i
+  pub record AreTargetsUpTo (net : Net) (i : ℕ) (few : Few) : Type 0 where
+    pub aims : (n : ℕ) → n < i → is_linked net n ≡ true → few_target few n ≡ aim_of s lines net n
+    pub inside : (n t : ℕ) → n < count_of net.nodes → few_target few n ≡ Some t → t < count_of net.nodes
+    pub among : (n : ℕ) → is_among few n ≡ true → n < i
     pub low : i ≤ count_of net.nodes
 
-  pub no_targets : (net : Net) (targets : List (Option ℕ)) → targets ≡ [] → AreTargetsUpTo net 0 targets
-  no_targets net targets none = record {
+  pub no_targets : (net : Net) (few : Few) → few.entries ≡ [] → AreTargetsUpTo net 0 few
+  no_targets net few none = record {
     aims = λ n low h. absurd (omega (arith, low));
-    inside = λ n t e. absurd (omega (arith, target_within targets n t e, ap length none));
-    count = ap length none;
+    inside = λ n t low e. subst (λ m. m < count_of net.nodes) (same_Some n t (sym (own_target few n (alone n)) ∙ e)) low;
+    among = λ n h. absurd (alone n h);
     low = omega arith;
   }
+    where
+      alone : (n : ℕ) → is_among few n ≡ true → ⊥
+      alone n h = false≢true (sym (ap (λ es. is_some (lookup (is_at (nat_cmp n)) es)) none) ∙ h)
 
-  pub next_targets : (a b : Net) (i : ℕ) (old new : List (Option ℕ)) (o : Option ℕ) → Grows a b → i < count_of a.nodes → AreTargetsUpTo a i old → new ≡ old ++ o ∷ []
+  pub next_targets : (a b : Net) (i : ℕ) (old new : Few) (o : Option ℕ) → Grows a b → i < count_of a.nodes → AreTargetsUpTo a i old → SetsTarget i o old new
       → (is_linked a i ≡ true → o ≡ aim_of s lines b i) → ((t : ℕ) → o ≡ Some t → t < count_of b.nodes) → AreTargetsUpTo b (i + 1) new
-  next_targets a b i old new o f low before is aim inside = record {
+  next_targets a b i old new o f low before sets aim inside = record {
     aims = λ n below linked. ⊎_elim
         (λ (earlier : n < i).
-        early n earlier ∙ grown_aim a b n (target_of old n) f (omega (arith, low, earlier)) (before.inside n) (before.aims n earlier (linked_before a b n f linked)))
+        early n earlier ∙ grown_aim a b n (few_target old n) f (omega (arith, low, earlier)) (λ t e. before.inside n t (omega (arith, low, earlier)) e) (before.aims n earlier (linked_before a b n f linked)))
         (λ (late : i ≤ n).
         let here : n ≡ i = omega (arith, late, below) in
         last n here ∙ (aim (subst (λ m. is_linked a m ≡ true) here (linked_before a b n f linked)) ∙ ap (aim_of s lines b) (sym here)))
         (cases_lt n i);
-    inside = λ n t e. ⊎_elim
-        (λ (earlier : n < i). omega (arith, before.inside n t (sym (early n earlier) ∙ e), more_keys a.nodes b.nodes f.keys))
-        (λ (late : i ≤ n).
-        let here : n ≡ i = omega (arith, late, target_within new n t e, count) in
-        inside t (sym (last n here) ∙ e))
-        (cases_lt n i);
-    count = count;
+    inside = λ n t within e. ⊎_elim
+        (λ (same : eqb n i ≡ true). inside t (sym (sets.here n ∙ ap (λ x. cond x o (few_target old n)) same) ∙ e))
+        (λ (other : eqb n i ≡ false). beyond n t within (sym (sets.here n ∙ ap (λ x. cond x o (few_target old n)) other) ∙ e))
+        (cases_Bool (eqb n i));
+    among = λ n h. ⊎_elim (λ (was : is_among old n ≡ true). let earlier = before.among n was in omega (arith, earlier)) (λ (is : n ≡ i). omega (arith, is)) (sets.among n h);
     low = omega (arith, low, more_keys a.nodes b.nodes f.keys);
   }
     where
-      count : length new ≡ i + 1
-      count = omega (arith, ap length is, length_push old o, before.count)
+      early : (n : ℕ) → n < i → few_target new n ≡ few_target old n
+      early n earlier = sets.here n ∙ ap (λ x. cond x o (few_target old n)) (ne_eqb n i (λ same. omega (arith, same, earlier)))
 
-      early : (n : ℕ) → n < i → target_of new n ≡ target_of old n
-      early n earlier = ap (λ l. target_of l n) is ∙ target_low old o n (omega (arith, earlier, before.count))
+      last : (n : ℕ) → n ≡ i → few_target new n ≡ o
+      last n here = sets.here n ∙ ap (λ x. cond x o (few_target old n)) (eq-eqb n i here)
 
-      last : (n : ℕ) → n ≡ i → target_of new n ≡ o
-      last n here = ap (target_of new) (here ∙ sym before.count) ∙ (ap (λ l. target_of l (length old)) is ∙ target_last old o)
+      -- a number that is new is its own target
+      beyond : (n t : ℕ) → n < count_of b.nodes → few_target old n ≡ Some t → t < count_of b.nodes
+      beyond n t within e = ⊎_elim
+          (λ (known : n < count_of a.nodes). let t_low = before.inside n t known e in omega (arith, t_low, more_keys a.nodes b.nodes f.keys))
+          (λ (fresh : count_of a.nodes ≤ n). subst (λ m. m < count_of b.nodes) (same_Some n t (sym (own_target old n (λ h. let low_n = before.among n h in omega (arith, low_n, low, fresh))) ∙ e)) within)
+          (cases_lt n (count_of a.nodes))
 
   -- all linked numbers are below the count of the net that grew
-  pub all_targets : (a b : Net) (i : ℕ) (targets : List (Option ℕ)) → Grows a b → count_of a.nodes ≤ i → AreTargetsUpTo b i targets → AreTargets s lines b targets
-  all_targets a b i targets f all up = record {
+  pub all_targets : (a b : Net) (i : ℕ) (few : Few) → Grows a b → count_of a.nodes ≤ i → AreTargetsUpTo b i few → AreTargets s lines b (few_target few)
+  all_targets a b i few f all up = record {
     aims = λ n linked. up.aims n (omega (arith, alive_inside a.nodes n (linked_alive a n (linked_before a b n f linked)), all)) linked;
     inside = up.inside;
-    count = omega (arith, up.count, up.low);
   }
+
+  -- and so are those that have a target
+  pub all_among : (b : Net) (i : ℕ) (few : Few) → AreTargetsUpTo b i few → (n : ℕ) → is_among few n ≡ true → n < count_of b.nodes
+  all_among b i few up n h = let low_n = up.among n h in let low = up.low in omega (arith, low_n, low)

@@ -1,5 +1,6 @@
 // Graphs moved over structural operations.
 ghost use Rattle.std.specs.Prelude.{◌≡◌, ◌==◌, ◌+◌, ◌<◌, ℕ, true, Some, length, slice_get, if◌then◌else◌, IsSome, IsTrue, IfOk, OnOk, OnErr};
+ghost use Rattle.node_links.specs.Redirect.{few_target, is_among};
 ghost use Rattle.place_lines.specs.Moved.{AreMoved};
 ghost use Rattle.shift_core.specs.Form.{form_of};
 ghost use Rattle.shift_core.specs.Sound.{IsSound};
@@ -11,22 +12,24 @@ ghost use Rattle.dep_graph.specs.internal.Filings.{filing_of, owner_at};
 ghost use Rattle.dep_graph.specs.internal.Keys.{is_narrow, key_of};
 ghost use Rattle.dep_graph.specs.internal.Nets.{Grows, links_in};
 ghost use Rattle.dep_graph.specs.internal.Numbers.{count_of, key_place};
-ghost use Rattle.dep_graph.specs.internal.ShiftedNumbers.{AreFilingsUnder, AreRefiled, AreTargets, IsCarriedAt, after_at, aim_of, block_in, is_linked};
+ghost use Rattle.dep_graph.specs.internal.ShiftedNumbers.{AreFilingsUnder, AreRefiled, AreTargets, IsCarriedAt, SetsTarget, after_at, aim_of, block_in, is_linked};
 
 use crate::graph::Graph;
 use crate::key::Key;
 use crate::net::Net;
 use crate::node::Node;
 use cell_addr::Block;
+use node_links::few_target;
 use place_lines::PlaceLines;
 use shift_core::{Shift, is_bent, is_cut, moved_block, moved_place};
 use std::alloc::AllocError;
+use std::collections::BTreeMap;
 
 impl Graph {
     /// Moves the nodes over the operation, with their links. A lost node goes with its links. Two ranges that become one
     /// block are one node, with the needs and the users of both. In which order a node's links stand then isn't told. Where
     /// there is no memory, or where the numbers of lines are used up, after more edits than fit a lifetime, all links stay
-    /// as they were. Costs a look at each node and each link, and the runs of lines of all edited sheets, which are copied;
+    /// as they were. Costs a look at each node, and the runs of lines of all edited sheets, which are copied;
     /// besides, for each node that the operation loses or bends, that it takes along with moved cells, or that isn't inside
     /// its sheet, about the number of its slots, of its links and of its users' links. What it only carries along isn't
     /// touched. Takes memory for each node while it runs. Now and then, where many ranges were bent or many nodes lost
@@ -52,29 +55,34 @@ impl Net {
         ensures err { OnErr result (AreSame (links_in self.old) (links_in self.new)) }
     {
         let lines = self.nodes.lines.moved(self.alloc, s)?;
-        let targets = self.targets(&lines, s)?;
-        let current = self.refiled(&lines, s, &targets)?;
-        self.links.redirect(&targets)?;
+        let few = self.targets(&lines, s)?;
+        let current = self.refiled(&lines, s, &few)?;
+        self.links.redirect_few(&few)?;
         self.nodes.lines = lines;
         self.files.current = current;
         Ok(())
     }
 
-    // For each number that of what its node becomes, which is added where it isn't known. Nodes without links have none.
-    fn targets(&mut self, lines: &PlaceLines, s: &Shift) -> Result<Vec<Option<usize>>, AllocError>
+    // The numbers of what nodes become, each of which is added where it isn't known, for those that become others or none.
+    fn targets(
+        &mut self,
+        lines: &PlaceLines,
+        s: &Shift,
+    ) -> Result<BTreeMap<usize, Option<usize>>, AllocError>
         requires { IsSound s.now }
         ensures grown { Grows self.old self.new }
-        ensures targets { IfOk result (λ targets. AreTargets s.now lines.now self.new targets.items) }
+        ensures targets { IfOk result (λ few. AreTargets s.now lines.now self.new (few_target few)) }
+        ensures among { IfOk result (λ few. (n : ℕ) → is_among few n ≡ true → n < count_of self.new.nodes) }
     {
-        let mut targets = Vec::new(self.alloc);
+        let mut few = BTreeMap::new(self.alloc);
         'numbers: for number in 0..self.nodes.len() {
             let target = self.target(lines, s, number)?;
-            targets.push(target)?;
+            set_target(&mut few, number, target)?;
         }
-        Ok(targets)
+        Ok(few)
     }
 
-    // The number of what the node of a number becomes.
+    // The number of what the node of a number becomes; of a node without links its own.
     fn target(
         &mut self,
         lines: &PlaceLines,
@@ -88,7 +96,7 @@ impl Net {
         ensures inside { IfOk result (λ target. (t : ℕ) → target ≡ Some t → t < count_of self.new.nodes) }
     {
         if !self.is_linked(number) {
-            return Ok(None);
+            return Ok(Some(number));
         }
         match self.moved(s, number) {
             Some(after) => self.target_of_key(Key::of(lines, after), number),
@@ -131,21 +139,21 @@ impl Net {
         &mut self,
         lines: &PlaceLines,
         s: &Shift,
-        targets: &[Option<usize>],
+        few: &BTreeMap<usize, Option<usize>>,
     ) -> Result<Vec<Option<usize>>, AllocError>
         requires sound { IsSound s.now }
         requires moved { AreMoved (form_of s.now) self.old.nodes.lines lines.now }
-        requires targets { AreTargets s.now lines.now self.old targets.now }
+        requires targets { AreTargets s.now lines.now self.old (few_target few.now) }
         ensures nodes { self.new.nodes ≡ self.old.nodes }
         ensures links { self.new.links ≡ self.old.links }
         ensures files { FilesOn self.old.files self.new.files }
         ensures count { IfOk result (λ current. length current.items ≡ count_of self.new.nodes) }
         ensures filings { IfOk result (AreFilingsUnder lines.now self.new) }
-        ensures refiled { IfOk result (AreRefiled s.now self.new targets.now (length targets.now)) }
+        ensures refiled { IfOk result (AreRefiled s.now self.new (few_target few.now) (count_of self.new.nodes)) }
     {
         let mut current = Vec::from_elem(self.alloc, None, self.nodes.len())?;
-        'numbers: for number in 0..targets.len() {
-            self.refile(&mut current, lines, s, targets, number)?;
+        'numbers: for number in 0..self.nodes.len() {
+            self.refile(&mut current, lines, s, few, number)?;
         }
         Ok(current)
     }
@@ -156,27 +164,27 @@ impl Net {
         current: &mut Vec<Option<usize>>,
         lines: &PlaceLines,
         s: &Shift,
-        targets: &[Option<usize>],
+        few: &BTreeMap<usize, Option<usize>>,
         number: usize,
     ) -> Result<(), AllocError>
         requires sound { IsSound s.now }
-        requires number { number < length targets.now }
+        requires number { number < count_of self.old.nodes }
         requires moved { AreMoved (form_of s.now) self.old.nodes.lines lines.now }
-        requires targets { AreTargets s.now lines.now self.old targets.now }
+        requires targets { AreTargets s.now lines.now self.old (few_target few.now) }
         requires count { length current.old.items ≡ count_of self.old.nodes }
         requires filings { AreFilingsUnder lines.now self.old current.old }
-        requires refiled { AreRefiled s.now self.old targets.now number current.old }
+        requires refiled { AreRefiled s.now self.old (few_target few.now) number current.old }
         ensures nodes { self.new.nodes ≡ self.old.nodes }
         ensures links { self.new.links ≡ self.old.links }
         ensures files { FilesOn self.old.files self.new.files }
         ensures count { length current.new.items ≡ length current.old.items }
         ensures filings { AreFilingsUnder lines.now self.new current.new }
-        ensures refiled { OnOk result (AreRefiled s.now self.new targets.now (number + 1) current.new) }
+        ensures refiled { OnOk result (AreRefiled s.now self.new (few_target few.now) (number + 1) current.new) }
     {
         if !self.is_used(number) {
             return Ok(());
         }
-        match targets[number] {
+        match few_target(few, number) {
             Some(target) => match self.moved_range(s, number) {
                 Some(after) => self.refile_range(current, lines, s, number, target, after),
                 None => Ok(()),
@@ -285,6 +293,21 @@ impl Net {
             *self = net;
         }
     }
+}
+
+// Sets the target of a number that has none yet, unless it is its own.
+fn set_target(
+    few: &mut BTreeMap<usize, Option<usize>>,
+    number: usize,
+    target: Option<usize>,
+) -> Result<(), AllocError>
+    requires { is_among few.old number ≡ true → ⊥ }
+    ensures { OnOk result (SetsTarget number target few.old few.new) }
+{
+    if target != Some(number) {
+        few.insert(number, target)?;
+    }
+    Ok(())
 }
 
 // Makes a filing the present one of a number.

@@ -1,6 +1,7 @@
 pub mod NodeSets
 pub mod Sets
 pub mod Relinking
-pub mod Listed
-pub mod LinkingEach
 pub mod Redirecting
+pub mod Changes
+pub mod Around
+pub mod Making

@@ -3,8 +3,8 @@
 //! Nodes are numbers from 0 on, in the order in which they were added. A node's needs are a list that
 //! [`Links::link`] replaces; the users of a node are kept beside it, as a set, and are always exactly those nodes in
 //! whose lists it stands. A change of a node's needs costs about the number of its old and new needs, however many
-//! users these have. [`Links::link_each`] changes those of many nodes at once, or none, and [`Links::redirect`] takes
-//! all links along where nodes become others, and several become one.
+//! users these have. [`Links::redirect_few`] takes all links along where few nodes become others, and several become
+//! one, with a look at these and their users alone.
 //!
 //! ```text
 //! let mut links = Links::new(alloc);
@@ -16,12 +16,13 @@
 //! ```
 #![tactic(auto)]
 
+mod change;
+mod few;
 mod links;
-mod lists;
 mod node_list;
 mod node_set;
-mod redirect;
 mod users;
 
+pub use few::few_target;
 pub use links::Links;
 pub use node_list::NodeList;

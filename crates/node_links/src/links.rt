@@ -2,10 +2,9 @@
 ghost use Rattle.std.specs.Prelude.{◌≡◌, ◌+◌, ◌<◌, ◌≤◌, ◌==◌, ℕ, [], true, if◌then◌else◌, length, nat_lt, unwrap_or, IfOk, OnOk, OnErr};
 ghost use Rattle.std.specs.List.{All};
 ghost use Rattle.needs_order.specs.Needs.{has};
-ghost use Rattle.node_links.specs.Links.{AreBelow, list_for, needs_at};
+ghost use Rattle.node_links.specs.Links.{needs_at};
 ghost use Rattle.node_links.specs.internal.Sets.{is_in};
 
-use crate::lists::{exchange, sets_of, sets_replaced};
 use crate::node_list::NodeList;
 use crate::node_set::NodeSet;
 use crate::users::{Users, set_of};
@@ -17,9 +16,9 @@ use std::mem;
 pub struct Links {
     pub(crate) alloc: Global,
     // What each node needs, as it was given.
-    needs: Vec<NodeList>,
+    pub(crate) needs: Vec<NodeList>,
     // Which nodes need each node.
-    users: Users,
+    pub(crate) users: Users,
     pub ghost counts: { length users.sets.items ≡ length needs.items },
     pub ghost exact: { (a b : ℕ) → is_in users.sets.items b a ≡ has b (needs_at needs.items a) },
     pub ghost known: { (a b : ℕ) → has b (needs_at needs.items a) ≡ true → b < length needs.items },
@@ -102,23 +101,6 @@ impl Links {
         self.users.put_all(needs, node, &was)?;
         let before = mem::replace(&mut self.needs[node], kept);
         self.users.drop_each(before.as_slice(), node, &now);
-        Ok(())
-    }
-
-    /// Replaces what each node needs for which there is a list; the others keep their needs. Where there is no memory all
-    /// stays as it was. Costs about the number of lists and the number of old and new needs of the nodes that have one.
-    pub fn link_each(&mut self, mut lists: Vec<Option<NodeList>>) -> Result<(), AllocError>
-        requires count { length lists.items ≤ node_count self.old }
-        requires needs { AreBelow (node_count self.old) lists.items }
-        ensures ok { OnOk result ((a : ℕ) → needs_of self.new a ≡ unwrap_or (list_for lists.items a) (needs_of self.old a)) }
-        ensures err { OnErr result ((a : ℕ) → needs_of self.new a ≡ needs_of self.old a) }
-        ensures count { node_count self.new ≡ node_count self.old }
-    {
-        let now = sets_of(self.alloc, &lists)?;
-        let was = sets_replaced(self.alloc, &lists, &self.needs)?;
-        self.users.put_all_lists(&lists, &was)?;
-        exchange(&mut self.needs, &mut lists);
-        self.users.drop_lists(&lists, &now);
         Ok(())
     }
 

@@ -2,11 +2,10 @@
 ghost use Rattle.std.specs.Prelude.{◌≡◌, ◌+◌, ◌<◌, ◌≤◌, ◌==◌, ◌&&◌, ◌||◌, not, ℕ, true, [], length, IfOk, OnOk, OnErr};
 ghost use Rattle.std.specs.List.{All};
 ghost use Rattle.needs_order.specs.Needs.{has};
-ghost use Rattle.node_links.specs.Links.{AreBelow};
-ghost use Rattle.node_links.specs.internal.Lists.{listed, ArePartlyPut};
+ghost use Rattle.node_links.specs.internal.Few.{ArePutInPart, AreReady, KnowBefore, drops, puts};
 ghost use Rattle.node_links.specs.internal.Sets.{is_in, nodes_in, IsPartlyPut};
 
-use crate::lists::items_of;
+use crate::change::Change;
 use crate::node_list::NodeList;
 use crate::node_set::NodeSet;
 use std::alloc::{AllocError, Global};
@@ -86,51 +85,44 @@ impl Users {
         }
     }
 
-    // Adds each node to those that need the ones in its list. Where there is no memory some are added.
-    fn put_lists(&mut self, lists: &[Option<NodeList>]) -> Result<(), AllocError>
-        requires { AreBelow (length self.old.sets.items) lists.now }
-        ensures ok { OnOk result ((i x : ℕ) → is_in self.new.sets.items i x ≡ (is_in self.old.sets.items i x || has i (listed lists.now x))) }
-        ensures err { OnErr result (ArePartlyPut self.old.sets.items lists.now self.new.sets.items) }
+    // Adds each node to those that it gets to need. Where there is no memory some are added.
+    fn put_changes(&mut self, changes: &[Change]) -> Result<(), AllocError>
+        requires { AreReady (length self.old.sets.items) changes.now }
+        ensures ok { OnOk result ((i x : ℕ) → is_in self.new.sets.items i x ≡ (is_in self.old.sets.items i x || puts changes.now i x)) }
+        ensures err { OnErr result (ArePutInPart self.old.sets.items changes.now self.new.sets.items) }
         ensures count { length self.new.sets.items ≡ length self.old.sets.items }
     {
-        'lists: for (node, list) in lists.iter().enumerate() {
-            self.put_each(items_of(list), node)?;
+        'changes: for change in changes {
+            self.put_each(change.needs.as_slice(), change.node)?;
         }
         Ok(())
     }
 
-    // Adds each node to those that need the ones in its list, where it is known which of these it needs already. Where
-    // there is no memory all is as it was.
-    pub(crate) fn put_all_lists(
-        &mut self,
-        lists: &[Option<NodeList>],
-        was: &[NodeSet],
-    ) -> Result<(), AllocError>
-        requires lists { AreBelow (length self.old.sets.items) lists.now }
-        requires count { length lists.now ≤ length was.now }
-        requires was { (i x : ℕ) → has i (listed lists.now x) ≡ true → is_in was.now x i ≡ is_in self.old.sets.items i x }
-        ensures ok { OnOk result ((i x : ℕ) → is_in self.new.sets.items i x ≡ (is_in self.old.sets.items i x || has i (listed lists.now x))) }
-        ensures err { OnErr result ((i x : ℕ) → is_in self.new.sets.items i x ≡ is_in self.old.sets.items i x) }
+    // Takes each node from those that it would get to need, but for those that it needed before.
+    fn drop_changes(&mut self, changes: &[Change])
+        requires { AreReady (length self.old.sets.items) changes.now }
+        ensures rest { (i x : ℕ) → is_in self.new.sets.items i x ≡ (is_in self.old.sets.items i x && not (drops changes.now i x)) }
         ensures count { length self.new.sets.items ≡ length self.old.sets.items }
     {
-        match self.put_lists(lists) {
-            Ok(()) => Ok(()),
-            Err(error) => {
-                self.drop_lists(lists, was);
-                Err(error)
-            }
+        'changes: for change in changes {
+            self.drop_each(change.needs.as_slice(), change.node, &change.was);
         }
     }
 
-    // Takes each node from those that need the ones in its list, but for those that are kept for it.
-    pub(crate) fn drop_lists(&mut self, lists: &[Option<NodeList>], kept: &[NodeSet])
-        requires lists { AreBelow (length self.old.sets.items) lists.now }
-        requires count { length lists.now ≤ length kept.now }
-        ensures rest { (i x : ℕ) → is_in self.new.sets.items i x ≡ (is_in self.old.sets.items i x && not (has i (listed lists.now x) && not (is_in kept.now x i))) }
+    // Adds each node to those that it gets to need. Where there is no memory all is as it was.
+    pub(crate) fn put_all_changes(&mut self, changes: &[Change]) -> Result<(), AllocError>
+        requires ready { AreReady (length self.old.sets.items) changes.now }
+        requires before { KnowBefore (λ a x. is_in self.old.sets.items x a) changes.now }
+        ensures ok { OnOk result ((i x : ℕ) → is_in self.new.sets.items i x ≡ (is_in self.old.sets.items i x || puts changes.now i x)) }
+        ensures err { OnErr result ((i x : ℕ) → is_in self.new.sets.items i x ≡ is_in self.old.sets.items i x) }
         ensures count { length self.new.sets.items ≡ length self.old.sets.items }
     {
-        'lists: for (node, list) in lists.iter().enumerate() {
-            self.drop_each(items_of(list), node, &kept[node]);
+        match self.put_changes(changes) {
+            Ok(()) => Ok(()),
+            Err(error) => {
+                self.drop_changes(changes);
+                Err(error)
+            }
         }
     }
 

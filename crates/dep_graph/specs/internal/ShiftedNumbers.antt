@@ -1,11 +1,12 @@
 -- What an operation makes of nodes under numbers: where each goes, and how ranges are filed then.
-use Rattle.std.specs.Prelude.{◌≡◌, ◌<◌, ◌≤◌, ◌||◌, ℕ, Bool, true, List, Option, Some, None, IsSome, length, nat_lt, slice_get}
+use Rattle.std.specs.BTreeMap as tree
+use Rattle.std.specs.Prelude.{◌≡◌, ◌<◌, ◌==◌, ◌||◌, ◌⊎◌, ℕ, Bool, true, Option, Some, None, IsSome, length, nat_lt, slice_get, if◌then◌else◌}
 use Rattle.std.specs.Option.{option_and_then, option_map}
 use Rattle.std.specs.declared.alloc.Global.{Global}
 use Rattle.std.specs.declared.vec.Vec.{Vec}
 use Rattle.cell_addr.specs.declared.place.Block.{Block}
 use Rattle.node_links.specs.Nodes.{needs_of}
-use Rattle.node_links.specs.Redirect.{target_of}
+use Rattle.node_links.specs.Redirect.{few_target, is_among}
 use Rattle.place_lines.specs.declared.lines.PlaceLines.{PlaceLines}
 use Rattle.cell_addr.specs.Place.{IsBlockInside}
 use Rattle.shift_core.specs.Bent.{IsBent, IsCut}
@@ -38,10 +39,9 @@ abbrev pub aim_of : Shift → PlaceLines → Net → ℕ → Option ℕ
 aim_of s lines net n = option_map (λ a. key_place net.nodes (key_of lines a)) (after_at s net n)
 
 -- each linked node has its aim as its target, and all targets are numbers of keys
-pub record AreTargets (s : Shift) (lines : PlaceLines) (net : Net) (targets : List (Option ℕ)) : Type 0 where
-  pub aims : (n : ℕ) → is_linked net n ≡ true → target_of targets n ≡ aim_of s lines net n
-  pub inside : (n t : ℕ) → target_of targets n ≡ Some t → t < count_of net.nodes
-  pub count : length targets ≤ count_of net.nodes
+pub record AreTargets (s : Shift) (lines : PlaceLines) (net : Net) (target : ℕ → Option ℕ) : Type 0 where
+  pub aims : (n : ℕ) → is_linked net n ≡ true → target n ≡ aim_of s lines net n
+  pub inside : (n t : ℕ) → n < count_of net.nodes → target n ≡ Some t → t < count_of net.nodes
 
 -- the filings are those of ranges by the lines after the operation
 abbrev pub AreFilingsUnder : PlaceLines → Net → Vec (Option ℕ) Global → Type 0
@@ -51,15 +51,20 @@ AreFilingsUnder lines net current =
     × ((b : Block) × (slice_get net.nodes.keys.keys n ≡ Some (key_of lines (Range b))) × HoldsBlock lines net.files f b)
 
 -- the node of the number is a used range, which becomes this block under this number
-abbrev pub BecomesRange : Shift → Net → List (Option ℕ) → ℕ → ℕ → Block → Type 0
-BecomesRange s net targets n t after =
-    (is_used net n ≡ true) × (target_of targets n ≡ Some t) × (after_at s net n ≡ Some (Range after))
+abbrev pub BecomesRange : Shift → Net → (ℕ → Option ℕ) → ℕ → ℕ → Block → Type 0
+BecomesRange s net target n t after =
+    (is_used net n ≡ true) × (target n ≡ Some t) × (after_at s net n ≡ Some (Range after))
 
 -- each used range of the numbers below is filed where it goes
-abbrev pub AreRefiled : Shift → Net → List (Option ℕ) → ℕ → Vec (Option ℕ) Global → Type 0
-AreRefiled s net targets i current =
-    (n t : ℕ) (after : Block) → n < i → BecomesRange s net targets n t after → IsSome (filing_of current t)
+abbrev pub AreRefiled : Shift → Net → (ℕ → Option ℕ) → ℕ → Vec (Option ℕ) Global → Type 0
+AreRefiled s net target i current =
+    (n t : ℕ) (after : Block) → n < i → BecomesRange s net target n t after → IsSome (filing_of current t)
 
 -- the node of the number is a range inside its sheet that the operation neither bends nor cuts
 abbrev pub IsCarriedAt : Shift → Net → ℕ → Type 0
 IsCarriedAt s net n = (b : Block) × (found_at net.nodes n ≡ Some (Range b)) × IsBlockInside b × ¬ IsBent s b × ¬ IsCut s b
+
+-- a target was set for a number that had none of its own
+pub record SetsTarget (number : ℕ) (target : Option ℕ) (old new : tree.BTreeMap ℕ (Option ℕ)) : Type 0 where
+  pub here : (n : ℕ) → few_target new n ≡ (if n == number then target else few_target old n)
+  pub among : (n : ℕ) → is_among new n ≡ true → (is_among old n ≡ true) ⊎ (n ≡ number)

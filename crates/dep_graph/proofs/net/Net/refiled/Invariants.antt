@@ -1,4 +1,5 @@
 use Rattle.std.proofs.Common.{◌≡◌, length}
+use Rattle.node_links.specs.Redirect.{few_target}
 use Rattle.dep_graph.specs.internal.Files.{FilesOn}
 use Rattle.dep_graph.specs.internal.Numbers.{count_of}
 use Rattle.dep_graph.specs.internal.ShiftedNumbers.{AreFilingsUnder, AreRefiled}
@@ -12,5 +13,5 @@ invariant-numbers l = record {
   files : FilesOn l.fn.self.files l.self.files;
   count : length l.current.items ≡ count_of l.fn.self.nodes;
   filings : AreFilingsUnder l.fn.lines l.self l.current;
-  refiled : AreRefiled l.fn.s l.self l.fn.targets l.number l.current;
+  refiled : AreRefiled l.fn.s l.self (few_target l.fn.few) l.number l.current;
 }

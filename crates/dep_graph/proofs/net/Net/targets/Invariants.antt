@@ -6,5 +6,5 @@ use Rattle.dep_graph.proofs.net.Net.targets.Given as goal
 abbrev pub invariant-numbers : goal.invariant-numbers
 invariant-numbers l = record {
   grown : Grows l.fn.self l.self;
-  targets : AreTargetsUpTo l.fn.s l.fn.lines l.self l.number l.targets.items;
+  targets : AreTargetsUpTo l.fn.s l.fn.lines l.self l.number l.few;
 }

@@ -1,6 +1,0 @@
-use Rattle.node_links.specs.Redirect.{target_of}
-use Rattle.node_links.proofs.Redirecting.{targets_next}
-use Rattle.node_links.proofs.redirect.push_targets.Goals as goal
-
-pub nodes-preserved : goal.nodes-preserved
-nodes-preserved c = targets_next (target_of c.args.targets.now) c.args.nodes.now c.nodes.node-index c.args.list.now.items c.nodes.list.items c.push_some.new.list.items c.target.result c.nodes-test.true c.nodes.invariant c.target.ensures c.in_ok-push_some.ensures

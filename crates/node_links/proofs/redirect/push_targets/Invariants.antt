@@ -1,7 +1,0 @@
-use Rattle.std.proofs.Common.{◌≡◌, ◌++◌, take, filter_map}
-use Rattle.node_links.specs.Redirect.{target_of}
-use Rattle.node_links.proofs.redirect.push_targets.Given as goal
-
--- the targets of the nodes gone by are added
-abbrev pub invariant-nodes : goal.invariant-nodes
-invariant-nodes l = l.list.items ≡ l.initial.list.items ++ filter_map (target_of l.targets) (take l.node-index l.nodes)

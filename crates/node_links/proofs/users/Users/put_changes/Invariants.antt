@@ -1,0 +1,11 @@
+use Rattle.std.proofs.Common.{◌≡◌, ℕ, ◌||◌, length, take}
+use Rattle.node_links.specs.internal.Few.{puts}
+use Rattle.node_links.specs.internal.Sets.{is_in}
+use Rattle.node_links.proofs.users.Users.put_changes.Given as goal
+
+-- the changes gone by are put
+abbrev pub invariant-changes : goal.invariant-changes
+invariant-changes l = record {
+  count : length l.self.sets.items ≡ length l.initial.self.sets.items;
+  put : (i x : ℕ) → is_in l.self.sets.items i x ≡ (is_in l.initial.self.sets.items i x || puts (take l.change-index l.changes) i x);
+}

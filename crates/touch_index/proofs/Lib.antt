@@ -1,0 +1,4 @@
+pub mod Found
+pub mod Bands
+pub mod Touching
+pub mod Staying

@@ -1,0 +1,4 @@
+pub mod Touched
+pub mod Kept
+pub mod Laws
+pub mod internal

@@ -1,0 +1,22 @@
+// What holds of cells and blocks that aren't touched.
+ghost use Rattle.touch_index.specs.Laws.{KeptBlocksStay, KeptCellsStay, UntouchedBlocksStay, UntouchedCellsStay};
+
+/// A cell of the sheet that an operation doesn't touch is somewhere afterwards, and has the spot that it had.
+pub fn untouched_cells_stay()
+    ensures { UntouchedCellsStay }
+{}
+
+/// A kept cell that an operation doesn't touch is kept where it is then.
+pub fn kept_cells_stay()
+    ensures { KeptCellsStay }
+{}
+
+/// A block of the sheet that an operation doesn't touch is somewhere afterwards, and has the area that it had.
+pub fn untouched_blocks_stay()
+    ensures { UntouchedBlocksStay }
+{}
+
+/// A kept block that an operation doesn't touch is kept where it is then.
+pub fn kept_blocks_stay()
+    ensures { KeptBlocksStay }
+{}
