@@ -1,0 +1,22 @@
+//! The values of a session's workbook, kept from one call to the next.
+//!
+//! [`SessionValues`] stand beside a [`kept_steps::Session`]: nothing is kept at first. The first read links and works out the whole
+//! workbook; after that a change marks the cells that it touches, and the next read works out what these reach. After a change of
+//! which it isn't known what it touches, [`SessionValues::forget`] makes the next read begin anew.
+//!
+//! ```text
+//! let mut values = SessionValues::nothing();
+//! values.refresh(&mut session, &registry, day, &mut steps)?;   // links and works out the workbook
+//! values.touch(at)?;
+//! session.fill(at, "=A1+1")?;
+//! values.refresh(&mut session, &registry, day, &mut steps)?;   // works out the cell, and what it reaches
+//! values.shown(alloc, at)?
+//! ```
+#![tactic(auto)]
+
+mod laws;
+mod reading;
+mod values;
+
+pub use laws::{cells_follow, reads_follow};
+pub use values::SessionValues;

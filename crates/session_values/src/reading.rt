@@ -1,0 +1,107 @@
+// Values that are read.
+ghost use Rattle.std.specs.Prelude.{◌≡◌, ℕ, ℤ, IfOk, List, OnOk, ◌+◌, ◌≤◌};
+ghost use Rattle.std.specs.Option.{option_map, unwrap_or};
+ghost use Rattle.cell_value.specs.declared.fault.FaultKind.TheVariants as faults;
+ghost use Rattle.cell_value.specs.declared.scalar.Scalar.TheVariants as scalars;
+ghost use Rattle.custom_fn.specs.declared.rule.Rule.{Rule};
+ghost use Rattle.formula_tree.specs.Relative.{relative};
+ghost use Rattle.formula_tree.specs.StandsFor.{at_home};
+ghost use Rattle.calc_terms.specs.Meaning.{meaning};
+ghost use Rattle.book_values.specs.Names.{found};
+ghost use Rattle.book_values.specs.Values.{value_of, world_of};
+ghost use Rattle.book_values.specs.Workbook as nodes;
+ghost use Rattle.marked_values.specs.Marks.{IsBookInside};
+ghost use Rattle.kept_steps.specs.Reads.{Reads};
+ghost use Rattle.kept_steps.specs.declared.session.Session.{Session as SessionSeen};
+ghost use Rattle.kept_values.specs.Values.{Follows};
+ghost use Rattle.session_values.specs.Following.{AreFollowing, AreShowing, book_of, words_in};
+
+use crate::values::SessionValues;
+use calc_eval::Customs;
+use cell_addr::Place;
+use cell_value::{FaultKind, Scalar};
+use dep_graph::Node;
+use formula_tree::{Home, Tree};
+use kept_steps::Session;
+use kept_values::Values;
+use recalc_core::Trees;
+use std::alloc::{AllocError, Global};
+use std::sync::ledger::Ledger;
+use steps::Steps;
+
+impl SessionValues {
+    /// Brings what is kept up to date with the session, with these custom functions, on the day of this serial number. Where nothing
+    /// is kept, the whole workbook is linked and worked out; else what was touched is linked anew, and it is worked out with all that
+    /// it reaches. Afterwards what is kept of every place and every name is its value.
+    ///
+    /// For want of memory what is kept follows the session still. Costs what [`Values::refresh`](kept_values::Values::refresh) does;
+    /// where nothing was kept, that of the whole workbook.
+    pub fn refresh<C: Customs, L: Ledger>(
+        &mut self,
+        session: &mut Session,
+        customs: &C,
+        day: i32,
+        steps: &mut Steps<L>,
+    ) -> Result<(), AllocError>
+        requires inside { IsBookInside (book_of session.old) }
+        requires follows { AreFollowing (C.customs customs.now) day session.old self.old.values }
+        ensures shows { OnOk result (AreShowing (C.customs customs.now) day session.new self.new.values) }
+        ensures follows { AreFollowing (C.customs customs.now) day session.new self.new.values }
+        ensures reads { Reads session.old session.new }
+        ensures least { steps.old ≤ steps.new }
+    {
+        session.names_are_nodes();
+        let mut values = match self.values.take() {
+            Some(values) => values,
+            None => all_marked(session)?,
+        };
+        let done = values.refresh(session, customs, day, steps);
+        self.values = Some(values);
+        done
+    }
+
+    /// What a cell shows, where what is kept is right: nothing, where it is empty. Costs a look-up.
+    pub fn shown(&self, alloc: Global, at: Place) -> Result<Scalar, AllocError>
+        ensures { (session : SessionSeen) (customs : List (List ℕ × Rule)) (today : ℤ) → AreShowing customs today session self.now.values → IfOk result (λ scalar. scalar ≡ value_of (book_of session) customs today (nodes.place at)) }
+    {
+        let Some(values) = &self.values else {
+            return Ok(Scalar::Empty);
+        };
+        match values.value(Node::Cell(at)) {
+            Some(scalar) => scalar.copy(alloc),
+            None => Ok(Scalar::Empty),
+        }
+    }
+
+    /// What the tree means in a formula at the home, where what is kept is right. Costs its steps.
+    pub fn tried<C: Customs, L: Ledger>(
+        &mut self,
+        session: &mut Session,
+        tree: &Tree,
+        home: Home,
+        customs: &C,
+        day: i32,
+        steps: &mut Steps<L>,
+    ) -> Result<Scalar, AllocError>
+        requires shows { AreShowing (C.customs customs.now) day session.old self.old.values }
+        ensures means { IfOk result (λ scalar. scalar ≡ meaning (world_of (book_of session.old).names day (value_of (book_of session.old) (C.customs customs.now) day)) (C.customs customs.now) home (at_home home (relative tree.now.value))) }
+        ensures reads { Reads session.old session.new }
+        ensures least { steps.old ≤ steps.new }
+    {
+        match &mut self.values {
+            Some(values) => values.tried(session, tree, home, customs, day, steps),
+            None => unreachable!(),
+        }
+    }
+}
+
+// Values of which nothing is linked and kept yet, where all that stands is marked.
+fn all_marked(session: &Session) -> Result<Values, AllocError>
+    ensures { IfOk result (λ values. (customs : List (List ℕ × Rule)) (today : ℤ) → Follows (book_of session.now) (words_in session.now) customs today values) }
+{
+    session.names_are_nodes();
+    let nodes = session.nodes()?;
+    let mut values = Values::new(session.book.alloc)?;
+    values.mark_all(nodes.items())?;
+    Ok(values)
+}
