@@ -27,6 +27,7 @@ use Rattle.dep_graph.specs.internal.Filings.{filing_of}
 use Rattle.dep_graph.specs.internal.Keys.{AreNarrow, is_narrow, own_key, same_key}
 use Rattle.dep_graph.specs.internal.Nets.{Grows}
 use Rattle.dep_graph.specs.internal.Numbers.{AreFilings, IsAlive, IsFiled, count_of, found_at, found_under, is_range, node_at, place_of}
+use Rattle.dep_graph.specs.internal.Touches.{IsIndexed}
 use Rattle.dep_graph.proofs.Filed.{kept_holds}
 use Rattle.dep_graph.proofs.Growing.{found_more, grown_map, known_inside}
 use Rattle.dep_graph.proofs.Numbers.{alive_inside, at_place, gets-more, got}
@@ -117,6 +118,32 @@ module _ (net : Net) (keys more : List Key) (behind : keys ≡ net.nodes.keys.ke
       let before : plain.has n (needs_of net.links a) ≡ true = subst (λ l. plain.has n l ≡ true) (same a) h in
       filed_more current n (known_inside net a n before) (filings n) (net.used a n before)
 
+-- what operations find by keys, which are the same
+pub indexed_same : (net : Net) (keys : List Key) → keys ≡ net.nodes.keys.keys → (n : ℕ) (k : Key) → slice_get keys n ≡ Some k → IsIndexed net.nodes.lines net.touches n k
+indexed_same net keys same n k at = net.indexed n k (ap (λ l. slice_get l n) (sym same) ∙ at)
+
+-- or with one more at the end
+pub indexed_push : (net : Net) (keys : List Key) (more : Key) → keys ≡ net.nodes.keys.keys ++ more ∷ [] → IsIndexed net.nodes.lines net.touches (count_of net.nodes) more
+    → (n : ℕ) (k : Key) → slice_get keys n ≡ Some k → IsIndexed net.nodes.lines net.touches n k
+indexed_push net keys more is last n k at = ⊎_elim
+    (λ (low : n < count_of net.nodes). net.indexed n k (sym (gets-more net.nodes.keys.keys (more ∷ []) n low) ∙ there))
+    (λ (high : count_of net.nodes ≤ n).
+    let (same, here) = pushed net.nodes.keys.keys more n k high there in
+    subst (λ m. IsIndexed net.nodes.lines net.touches m k) (sym same) (subst (IsIndexed net.nodes.lines net.touches (count_of net.nodes)) here last))
+    (cases_lt n (count_of net.nodes))
+  where
+    there : slice_get (net.nodes.keys.keys ++ more ∷ []) n ≡ Some k
+    there = ap (λ l. slice_get l n) (sym is) ∙ at
+
+    pushed : (l : List Key) (x : Key) (n : ℕ) (k : Key) → length l ≤ n → slice_get (l ++ x ∷ []) n ≡ Some k → (n ≡ length l) × (x ≡ k)
+    pushed [] x zero k high e = (refl, same_Some x k e)
+    pushed [] x (suc n) k high e = absurd (none e)
+      where
+        none : None ≡ Some k → ⊥
+        none e = cc
+    pushed (y ∷ l) x zero k high e = absurd (omega (arith, high))
+    pushed (y ∷ l) x (suc n) k high e = let (same, is) = pushed l x n k (omega (arith, high)) e in (ap suc same, is)
+
 -- ---- links of one node replaced
 
 pub either_need : {A B : Type 0} (r : Result A B) (new old : ℕ → List ℕ) (node : ℕ) (needs : List ℕ) → OnOk r ((n : ℕ) → new n ≡ cond (eqb n node) needs (old n)) → OnErr r ((n : ℕ) → new n ≡ old n)
@@ -173,7 +200,8 @@ each_number numbers more number P is before here n h = ⊎_elim
 
 -- ---- a node that is filed anew
 
-holds_same : (lines : PlaceLines) (old new : Files) (f : ℕ) (b : Block) → new.index ≡ old.index → HoldsBlock lines old f b → HoldsBlock lines new f b
+-- a filing holds its block still where others are the present ones
+pub holds_same : (lines : PlaceLines) (old new : Files) (f : ℕ) (b : Block) → new.index ≡ old.index → HoldsBlock lines old f b → HoldsBlock lines new f b
 holds_same lines old new f b index h = record {
   exact = λ p. ap (λ x. finds x (spot_of lines p).sheet (spot_of lines p).row (spot_of lines p).col f) index ∙ h.exact p;
   known = λ spot found. h.known spot (sym (ap (λ x. finds x spot.sheet spot.row spot.col f) index) ∙ found);

@@ -15,6 +15,7 @@ use Rattle.node_links.specs.declared.links.Links.{Links}
 use Rattle.place_lines.specs.declared.lines.PlaceLines.{PlaceLines}
 use Rattle.dep_graph.specs.Graph.{AreLinked, AreSame}
 use Rattle.dep_graph.specs.Nodes.{same_node}
+use Rattle.dep_graph.specs.declared.files.Files.{Files}
 use Rattle.dep_graph.specs.declared.key.Key.{Key}
 use Rattle.dep_graph.specs.declared.net.Net.{Net}
 use Rattle.dep_graph.specs.declared.node.Node.{Node}
@@ -24,7 +25,7 @@ use Rattle.dep_graph.specs.internal.Filings.{filing_of}
 use Rattle.dep_graph.specs.internal.Hashed.{own_node}
 use Rattle.dep_graph.specs.internal.Keys.{AreKeysOnce, key_of, node_of, same_key}
 use Rattle.dep_graph.specs.internal.Nets.{Grows, links_in}
-use Rattle.dep_graph.specs.internal.Numbers.{IsAlive, count_of, found_at, found_under, key_place, linked, node_at, place_of}
+use Rattle.dep_graph.specs.internal.Numbers.{IsAlive, IsFiled, count_of, found_at, found_under, key_place, linked, node_at, place_of}
 use Rattle.dep_graph.proofs.Numbers.{alive_inside, at_place, decides_keys, gets-more, place-behind, place-more}
 use Rattle.dep_graph.proofs.Places.{cases_node, other_node}
 
@@ -123,6 +124,15 @@ grown_links a b f x = ⊎_elim
 
 pub same_grows : (a : Net) → Grows a a
 same_grows a = record { keys = ([], sym (append-nil a.nodes.keys.keys)); lines = refl; needs = λ n. refl; filed = λ n inside h. h }
+
+-- a net that stays but for what operations find nodes by
+pub same_grown : (a b : Net) → b.nodes ≡ a.nodes → b.links ≡ a.links → b.files ≡ a.files → Grows a b
+same_grown a b nodes links files = record {
+  keys = no_more a.nodes b.nodes (ap (λ (t : NodeTable). t.keys.keys) nodes);
+  lines = ap (λ (t : NodeTable). t.lines) nodes;
+  needs = λ n. ap (λ (l : Links). needs_of l n) links;
+  filed = λ n low filed. subst (λ (t : NodeTable). IsFiled t b.files n) (sym nodes) (subst (λ (f : Files). IsFiled a.nodes f n) (sym files) filed);
+}
 
 -- ---- one key more
 

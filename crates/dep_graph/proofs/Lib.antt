@@ -1,6 +1,7 @@
 pub mod Places
 pub mod Numbers
 pub mod FiledCells
+pub mod Put
 pub mod Filed
 pub mod Growing
 pub mod Adding
@@ -10,6 +11,7 @@ pub mod Picking
 pub mod Reaching
 pub mod Ordering
 pub mod Copying
+pub mod Untouched
 pub mod Bending
 pub mod Targets
 pub mod Refiling

@@ -1,13 +1,19 @@
 -- How ranges are filed after a structural operation, beside how they were. Serves the shift of the graph.
-use Rattle.std.proofs.Common.{◌≡◌, ◌∙◌, sym, ap, refl, subst, arith, ℕ, zero, suc, ◌+◌, ◌<◌, ◌≤◌, ⊎_elim, Bool, true, false, cond, ◌||◌, List, [], ◌∷◌, length, get_or, nat_lt, eqb, Option, Some, None}
-use Rattle.std.specs.Prelude.{IsSome, replicate, slice_get}
+use Rattle.std.proofs.Common.{◌≡◌, ◌∙◌, sym, ap, refl, subst, arith, ℕ, zero, suc, ◌+◌, ◌<◌, inl, inr, Bool, true, false, cond, ◌||◌, List, [], ◌∷◌, length, get_or, nat_lt, eqb, is_some, take, unwrap_or, Option, Some, None}
+use Rattle.std.specs.BTreeMap as tree
+use Rattle.std.specs.BTreeMap.{is_at}
+use Rattle.std.specs.Map.{lookup}
+use Rattle.std.specs.Ordering.{nat_cmp}
+use Rattle.std.specs.Prelude.{IsSome, slice_get}
 use Rattle.std.specs.Option.{option_and_then, option_map}
-use Rattle.std.specs.declared.alloc.Global.{Global}
-use Rattle.std.specs.declared.vec.Vec.{Vec}
-use Rattle.std.proofs.lemmas.Bool.{cases_lt, eq-eqb, eqb-true, or_right}
+use Rattle.std.proofs.lemmas.Bool.{eq-eqb, eqb-true, false≢true, or_right}
 use Rattle.std.proofs.lemmas.Option.{same_Some}
 use Rattle.cell_addr.specs.declared.place.Block.{Block}
+use Rattle.cell_addr.specs.declared.place.Place.{Place}
+use Rattle.needs_order.specs.Needs.{has}
+use Rattle.needs_order.proofs.Lists.{has_or_not}
 use Rattle.node_links.specs.Nodes.{needs_of, users_of}
+use Rattle.node_links.specs.Redirect.{few_target, is_among}
 use Rattle.node_links.specs.declared.links.Links.{Links}
 use Rattle.place_lines.specs.Moved.{AreMoved}
 use Rattle.place_lines.specs.Spots.{area_of}
@@ -15,8 +21,9 @@ use Rattle.place_lines.specs.declared.area.Area.{Area}
 use Rattle.place_lines.specs.declared.lines.PlaceLines.{PlaceLines}
 use Rattle.shift_core.specs.Form.{form_of}
 use Rattle.shift_core.specs.Sound.{IsSound}
-use Rattle.shift_core.specs.Tables.{block_after}
+use Rattle.shift_core.specs.Tables.{block_after, place_after}
 use Rattle.shift_core.specs.declared.shift.Shift.{Shift}
+use Rattle.touch_index.proofs.Staying.{block_is_somewhere}
 use Rattle.dep_graph.specs.Shifted.{node_after}
 use Rattle.dep_graph.specs.declared.files.Files.{Files}
 use Rattle.dep_graph.specs.declared.key.Key.TheVariants as key
@@ -26,13 +33,16 @@ use Rattle.dep_graph.specs.declared.node.Node.TheVariants.{Cell, Name, Range}
 use Rattle.dep_graph.specs.declared.table.NodeTable.{NodeTable}
 use Rattle.dep_graph.specs.internal.Arrows.{is_used}
 use Rattle.dep_graph.specs.internal.Files.{FilesOn, HoldsBlock}
-use Rattle.dep_graph.specs.internal.Filings.{filing_of, owner_at}
+use Rattle.dep_graph.specs.internal.Filings.{filing_of, filing_then, owner_at}
 use Rattle.dep_graph.specs.internal.Keys.{key_of}
-use Rattle.dep_graph.specs.internal.Numbers.{count_of, found_at, key_place}
-use Rattle.dep_graph.specs.internal.ShiftedNumbers.{AreFilingsUnder, AreRefiled, AreTargets, BecomesRange, IsCarriedAt, after_at, block_in, is_linked}
+use Rattle.dep_graph.specs.internal.Numbers.{count_of, found_at, is_range, key_place}
+use Rattle.dep_graph.specs.internal.ShiftedNumbers.{AreAllRefiled, AreFilingsUnder, AreTargets, AreUnfiled, BecomesRange, IsCarriedAt, IsRefiled, StillFiled, after_at, block_in, is_linked}
+use Rattle.dep_graph.specs.internal.Touches.{FindsTouched, IsUntouched}
 use Rattle.dep_graph.proofs.Filed.{carried, kept_holds}
 use Rattle.dep_graph.proofs.Numbers.{alive_inside, found_key, key_stands}
-use Rattle.dep_graph.proofs.Targets.{linked_alive}
+use Rattle.dep_graph.proofs.Targets.{Few, linked_alive, own_target}
+use Rattle.dep_graph.proofs.Untouched.{taken_before, taken_cases, taken_here}
+use Rattle.dep_graph.proofs.Walking.{some_of}
 
 -- ---- filings added
 
@@ -83,28 +93,53 @@ present_serves s lines net n target f after sound moved (b, found, inside, still
 
 -- ---- filings by the lines after the operation
 
-same_all : (count n : ℕ) (o : Option ℕ) → get_or (replicate count o) n o ≡ o
-same_all zero n o = refl
-same_all (suc count) zero o = refl
-same_all (suc count) (suc n) o = same_all count n o
+abbrev pub Filing : Type 0
+Filing = ℕ → Option ℕ
 
-pub none_under : (lines : PlaceLines) (net : Net) (count : ℕ) (current : Vec (Option ℕ) Global) → current.items ≡ replicate count None → AreFilingsUnder lines net current
-none_under lines net count current is n f e = absurd (none (sym (ap (λ l. get_or l n None) is ∙ same_all count n None) ∙ e))
+nothing : {A : Type 0} (x : A) → None ≡ Some x → ⊥
+nothing x e = cc
+
+range_is : (o : Option Node) → is_range o ≡ true → (b : Block) × (o ≡ Some (Range b))
+range_is (Some (Range b)) h = (b, refl)
+range_is (Some (Cell p)) h = absurd (false≢true h)
+range_is (Some (Name scope word)) h = absurd (false≢true h)
+range_is None h = absurd (false≢true h)
+
+-- where those of the found nodes are taken away, the others serve on
+pub others_serve : (s : Shift) (lines : PlaceLines) (net : Net) (found : List ℕ) (filings : Few) → IsSound s → AreMoved (form_of s) net.nodes.lines lines → FindsTouched s net.nodes found → AreUnfiled found filings
+    → AreFilingsUnder lines net (filing_then filings net.files.current)
+others_serve s lines net found filings sound moved finds are n f e = elim (has_or_not n found) [
+  | inl h ↦ absurd (nothing f (sym (ap (λ o. unwrap_or o (filing_of net.files.current n)) (are n ∙ ap (λ t. cond t (Some None) None) h)) ∙ e))
+  | inr other ↦ by other (sym (ap (λ o. unwrap_or o (filing_of net.files.current n)) (are n ∙ ap (λ t. cond t (Some None) None) other)) ∙ e)
+]
   where
-    none : None ≡ Some f → ⊥
-    none e = cc
+    by : has n found ≡ false → filing_of net.files.current n ≡ Some f → (owner_at net.files.owners f ≡ Some n)
+        × (f < length net.files.owners.items)
+        × ((b : Block) × (slice_get net.nodes.keys.keys n ≡ Some (key_of lines (Range b))) × HoldsBlock lines net.files f b)
+    by other at =
+        let (b, is) = range_is (found_at net.nodes n) (net.filed n f at).0 in
+        let untouched : IsUntouched s (Range b) = elim (finds n (Range b) is) [ inl h ↦ absurd (false≢true (sym other ∙ h)) | inr u ↦ u ] in
+        let (after, goes, same) = block_is_somewhere (form_of s) net.nodes.lines lines b sound moved untouched.0 untouched.1 in (
+          net.files.owned n f at,
+          owner_inside net.files.owners.items f n (net.files.owned n f at),
+          (
+            after,
+            found_key net.nodes.lines net.nodes.keys.keys n (Range b) is ∙ ap Some (ap key.Range same),
+            carried s net.nodes.lines lines net.files f b after sound moved untouched.0 (λ bent. untouched.1 (inl bent)) (λ cut. untouched.1 (inr (inl cut))) goes same ((net.filed n f at).1 b is),
+          ),
+        )
 
 module _ (lines : PlaceLines) (a b : Net) (nodes : b.nodes ≡ a.nodes) (on : FilesOn a.files b.files) where
   -- those that there were are as they were
-  pub under_on : (current : Vec (Option ℕ) Global) → AreFilingsUnder lines a current → AreFilingsUnder lines b current
-  under_on current under n f e =
+  pub under_on : (filing : Filing) → AreFilingsUnder lines a filing → AreFilingsUnder lines b filing
+  under_on filing under n f e =
       let (owner, low, range) = under n f e in
       let (block, stands, holds) = range in
       (on.owners f n owner, on.count f low, (block, subst (λ (t : NodeTable). slice_get t.keys.keys n ≡ Some (key_of lines (Range block))) (sym nodes) stands, kept_holds lines a.files b.files f block on low holds))
 
   -- and one more
-  pub under_next : (old new : Vec (Option ℕ) Global) (target filing : ℕ) (after : Block) → AreFilingsUnder lines a old
-      → ((n : ℕ) → filing_of new n ≡ cond (eqb n target) (Some filing) (filing_of old n)) → owner_at b.files.owners filing ≡ Some target
+  pub under_next : (old new : Filing) (target filing : ℕ) (after : Block) → AreFilingsUnder lines a old
+      → ((n : ℕ) → new n ≡ cond (eqb n target) (Some filing) (old n)) → owner_at b.files.owners filing ≡ Some target
       → slice_get a.nodes.keys.keys target ≡ Some (key_of lines (Range after)) → HoldsBlock lines b.files filing after → AreFilingsUnder lines b new
   under_next old new target filing after under kept owner stands holds n f e = by (eqb n target) refl (sym (kept n) ∙ e)
     where
@@ -114,21 +149,70 @@ module _ (lines : PlaceLines) (a b : Net) (nodes : b.nodes ≡ a.nodes) (on : Fi
       Under : ℕ → ℕ → Type 0
       Under m g = (owner_at b.files.owners g ≡ Some m) × (g < length b.files.owners.items) × ((block : Block) × (slice_get b.nodes.keys.keys m ≡ Some (key_of lines (Range block))) × HoldsBlock lines b.files g block)
 
-      by : (t : Bool) → eqb n target ≡ t → cond t (Some filing) (filing_of old n) ≡ Some f → Under n f
+      by : (t : Bool) → eqb n target ≡ t → cond t (Some filing) (old n) ≡ Some f → Under n f
       by true here same =
           subst (λ m. Under m f) (sym (eqb-true n target here)) (subst (Under target) (same_Some filing f same) (owner, owner_inside b.files.owners.items filing target owner, (after, there, holds)))
       by false other same = under_on old under n f same
 
--- a filing that was put is there, and the others stay
-pub put_there : (old new : Vec (Option ℕ) Global) (target filing : ℕ) → ((n : ℕ) → filing_of new n ≡ cond (eqb n target) (Some filing) (filing_of old n)) → IsSome (filing_of new target)
-put_there old new target filing kept = subst IsSome (sym (kept target ∙ ap (λ t. cond t (Some filing) (filing_of old target)) (eq-eqb target target refl))) refl
+-- where a filing was set
+pub then_put : (old new : Few) (a b : Files) (target : ℕ) (filing : Option ℕ) → ((n : ℕ) → tree.get nat_cmp new n ≡ cond (eqb n target) (Some filing) (tree.get nat_cmp old n)) → b.current ≡ a.current
+    → (n : ℕ) → filing_then new b.current n ≡ cond (eqb n target) filing (filing_then old a.current n)
+then_put old new a b target filing put same n = ap (λ v. filing_then new v n) same ∙ (ap (λ o. unwrap_or o (filing_of a.current n)) (put n) ∙ by (eqb n target))
+  where
+    by : (t : Bool) → unwrap_or (cond t (Some filing) (tree.get nat_cmp old n)) (filing_of a.current n) ≡ cond t filing (filing_then old a.current n)
+    by true = refl
+    by false = refl
 
-pub put_stays : (old new : Vec (Option ℕ) Global) (target filing : ℕ) → ((n : ℕ) → filing_of new n ≡ cond (eqb n target) (Some filing) (filing_of old n)) → (n : ℕ) → IsSome (filing_of old n) → IsSome (filing_of new n)
+pub put_among : (old new : Few) (target count : ℕ) (filing : Option ℕ) → ((n : ℕ) → tree.get nat_cmp new n ≡ cond (eqb n target) (Some filing) (tree.get nat_cmp old n)) → target < count
+    → ((n : ℕ) → is_among old n ≡ true → n < count) → (n : ℕ) → is_among new n ≡ true → n < count
+put_among old new target count filing put low inside n h = by (eqb n target) refl (sym (ap is_some (put n)) ∙ h)
+  where
+    by : (t : Bool) → eqb n target ≡ t → is_some (cond t (Some filing) (tree.get nat_cmp old n)) ≡ true → n < count
+    by true here h = subst (λ m. m < count) (sym (eqb-true n target here)) low
+    by false other h = inside n h
+
+-- a filing that was put is there, and the others stay
+pub put_there : (old new : Filing) (target filing : ℕ) → ((n : ℕ) → new n ≡ cond (eqb n target) (Some filing) (old n)) → IsSome (new target)
+put_there old new target filing kept = subst IsSome (sym (kept target ∙ ap (λ t. cond t (Some filing) (old target)) (eq-eqb target target refl))) refl
+
+pub put_stays : (old new : Filing) (target filing : ℕ) → ((n : ℕ) → new n ≡ cond (eqb n target) (Some filing) (old n)) → StillFiled old new
 put_stays old new target filing kept n h = subst IsSome (sym (kept n)) (by (eqb n target))
   where
-    by : (t : Bool) → IsSome (cond t (Some filing) (filing_of old n))
+    by : (t : Bool) → IsSome (cond t (Some filing) (old n))
     by true = refl
     by false = h
+
+-- ---- one after another without a filing
+
+pub unfiled_next : (numbers : List ℕ) (i d : ℕ) (old new : Few) → i < length numbers → AreUnfiled (take i numbers) old
+    → ((n : ℕ) → tree.get nat_cmp new n ≡ cond (eqb n (get_or numbers i d)) (Some None) (tree.get nat_cmp old n)) → AreUnfiled (take (i + 1) numbers) new
+unfiled_next numbers i d old new inside before put n = put n ∙ by (eqb n (get_or numbers i d)) refl
+  where
+    by : (t : Bool) → eqb n (get_or numbers i d) ≡ t → cond t (Some None) (tree.get nat_cmp old n) ≡ cond (has n (take (i + 1) numbers)) (Some None) None
+    by true here = ap (λ t. cond t (Some None) None) (sym (subst (λ m. has m (take (i + 1) numbers) ≡ true) (sym (eqb-true n (get_or numbers i d) here)) (taken_here numbers i d inside)))
+    by false other = before n ∙ ap (λ t. cond t (Some None) None) (sym (elim (has_or_not n (take i numbers)) [
+      | inl h ↦ taken_before numbers i n d inside h ∙ sym h
+      | inr none ↦ elim (has_or_not n (take (i + 1) numbers)) [
+        | inl h ↦ elim (taken_cases numbers i n d inside h) [
+          | inl early ↦ absurd (false≢true (sym none ∙ early))
+          | inr same ↦ absurd (false≢true (sym other ∙ eq-eqb n (get_or numbers i d) same))
+        ]
+        | inr h ↦ h ∙ sym none
+      ]
+    ]))
+
+pub unfiled_first : (filings : Few) → filings.entries ≡ [] → AreUnfiled [] filings
+unfiled_first filings none n = ap (λ es. lookup (is_at (nat_cmp n)) es) none
+
+pub unfiled_inside : (numbers : List ℕ) (filings : Few) (count : ℕ) → AreUnfiled numbers filings → ((n : ℕ) → has n numbers ≡ true → n < count) → (n : ℕ) → is_among filings n ≡ true → n < count
+unfiled_inside numbers filings count are inside n h = elim (has_or_not n numbers) [
+  | inl there ↦ inside n there
+  | inr other ↦ absurd (false≢true (sym (ap is_some (are n ∙ ap (λ t. cond t (Some None) None) other)) ∙ h))
+]
+
+-- the others are filed as they were
+pub unfiled_still : (numbers : List ℕ) (filings : Few) (files : Files) → AreUnfiled numbers filings → (n : ℕ) → has n numbers ≡ false → IsSome (filing_of files.current n) → IsSome (filing_then filings files.current n)
+unfiled_still numbers filings files are n other h = subst IsSome (sym (ap (λ o. unwrap_or o (filing_of files.current n)) (are n ∙ ap (λ t. cond t (Some None) None) other))) h
 
 -- ---- the same targets by the same nodes and links
 
@@ -147,15 +231,8 @@ module _ (s : Shift) (lines : PlaceLines) (a b : Net) (nodes : b.nodes ≡ a.nod
   pub becomes_before : (n t : ℕ) (after : Block) → BecomesRange s b target n t after → BecomesRange s a target n t after
   becomes_before n t after (used, is, moves) = (subst (λ (l : Links). nat_lt 0 (length (users_of l n)) ≡ true) links used, is, sym (same_after n) ∙ moves)
 
-  -- one number more
-  pub next_refiled : (i : ℕ) (old new : Vec (Option ℕ) Global) → AreRefiled s a target i old → ((n : ℕ) → IsSome (filing_of old n) → IsSome (filing_of new n))
-      → ((t : ℕ) (after : Block) → BecomesRange s a target i t after → IsSome (filing_of new t)) → AreRefiled s b target (i + 1) new
-  next_refiled i old new before kept here n t after below becomes = ⊎_elim
-      (λ (earlier : n < i). kept t (before n t after earlier (becomes_before n t after becomes)))
-      (λ (late : i ≤ n).
-      let same : n ≡ i = omega (arith, late, below) in
-      here t after (subst (λ m. BecomesRange s a target m t after) same (becomes_before n t after becomes)))
-      (cases_lt n i)
+  pub refiled_before : (n : ℕ) (filing : Filing) → IsRefiled s a target n filing → IsRefiled s b target n filing
+  refiled_before n filing refiled t after becomes = refiled t after (becomes_before n t after becomes)
 
 -- ---- where a range goes
 
@@ -187,3 +264,38 @@ target_stands s lines net target n t x are linked is goes =
 
 pub used_is_linked : (net : Net) (n : ℕ) → is_used net n ≡ true → is_linked net n ≡ true
 used_is_linked net n used = or_right (nat_lt 0 (length (needs_of net.links n))) (is_used net n) used
+
+-- what is filed still, where more was filed
+pub still_refiled : (s : Shift) (net : Net) (target : ℕ → Option ℕ) (n : ℕ) (old new : Filing) → StillFiled old new → IsRefiled s net target n old → IsRefiled s net target n new
+still_refiled s net target n old new still refiled t after becomes = still t (refiled t after becomes)
+
+-- ---- used ranges that aren't found
+
+range_before : (s : Shift) (o : Option Node) (after : Block) → option_and_then (node_after s) o ≡ Some (Range after) → (b : Block) × (o ≡ Some (Range b))
+range_before s None after e = absurd (nothing (Range after) e)
+range_before s (Some (Range b)) after e = (b, refl)
+range_before s (Some (Cell p)) after e = absurd (by (place_after s p) e)
+  where
+    by : (o : Option Place) → option_map Cell o ≡ Some (Range after) → ⊥
+    by None e = nothing (Range after) e
+    by (Some q) e = cc
+range_before s (Some (Name scope word)) after e = absurd (apart e)
+  where
+    apart : Some (Name scope word) ≡ Some (Range after) → ⊥
+    apart e = cc
+
+-- they stay themselves, and are filed as they were
+pub all_refiled : (s : Shift) (net : Net) (few : Few) (found : List ℕ) (filing : Filing) → ((n : ℕ) → is_among few n ≡ true → has n found ≡ true) → ((n : ℕ) → has n found ≡ true → IsRefiled s net (few_target few) n filing)
+    → ((n : ℕ) → has n found ≡ false → IsSome (filing_of net.files.current n) → IsSome (filing n)) → AreAllRefiled s net (few_target few) filing
+all_refiled s net few found filing among refiled still n t after becomes = elim (has_or_not n found) [
+  | inl h ↦ refiled n h t after becomes
+  | inr other ↦ by other becomes
+]
+  where
+    by : has n found ≡ false → BecomesRange s net (few_target few) n t after → IsSome (filing t)
+    by other (used, is, moves) =
+        let (b, found_b) = range_before s (found_at net.nodes n) after moves in
+        let (user, uses) = some_of (users_of net.links n) used in
+        let filed : IsSome (filing_of net.files.current n) = net.used user n (sym (net.links.exact user n) ∙ uses) b found_b in
+        let same : n ≡ t = same_Some n t (sym (own_target few n (λ h. false≢true (sym other ∙ among n h))) ∙ is) in
+        subst (λ m. IsSome (filing m)) same (still n other filed)

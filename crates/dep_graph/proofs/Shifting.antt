@@ -1,9 +1,7 @@
 -- Links that a structural operation moves: those between the targets of numbers. Serves the shift of the graph.
-use Rattle.std.proofs.Common.{◌≡◌, ◌∙◌, sym, ap, refl, subst, ℕ, ◌<◌, true, map, Option, Some, None, IsTrue}
+use Rattle.std.proofs.Common.{◌≡◌, ◌∙◌, sym, ap, refl, subst, ℕ, true, map, Option, Some, None, IsTrue}
 use Rattle.std.specs.Prelude.{IsSome}
 use Rattle.std.specs.Option.{option_and_then, option_map}
-use Rattle.std.specs.declared.alloc.Global.{Global}
-use Rattle.std.specs.declared.vec.Vec.{Vec}
 use Rattle.std.proofs.lemmas.Option.{same_Some}
 use Rattle.cell_addr.specs.declared.place.Block.{Block}
 use Rattle.needs_order.specs.Needs as plain
@@ -16,16 +14,17 @@ use Rattle.dep_graph.specs.Graph.{AreSame}
 use Rattle.dep_graph.specs.Needs as needs
 use Rattle.dep_graph.specs.Nodes.{has}
 use Rattle.dep_graph.specs.Shifted.{AreShifted, node_after}
+use Rattle.dep_graph.specs.declared.files.Files.{Files}
 use Rattle.dep_graph.specs.declared.net.Net.{Net}
 use Rattle.dep_graph.specs.declared.node.Node.{Node}
 use Rattle.dep_graph.specs.declared.node.Node.TheVariants.{Range}
 use Rattle.dep_graph.specs.declared.table.NodeTable.{NodeTable}
 use Rattle.dep_graph.specs.internal.Files.{HoldsBlock}
-use Rattle.dep_graph.specs.internal.Filings.{filing_of}
 use Rattle.dep_graph.specs.internal.Keys.{key_of}
 use Rattle.dep_graph.specs.internal.Nets.{Grows, links_in}
-use Rattle.dep_graph.specs.internal.Numbers.{IsAlive, count_of, found_at, is_range, key_place, linked, node_at, place_of}
-use Rattle.dep_graph.specs.internal.ShiftedNumbers.{AreFilingsUnder, AreRefiled, AreTargets, after_at, is_linked}
+use Rattle.dep_graph.specs.internal.Numbers.{IsAlive, found_at, is_range, key_place, linked, node_at, place_of}
+use Rattle.dep_graph.specs.internal.ShiftedNumbers.{AreAllRefiled, AreFilingsUnder, AreTargets, after_at, is_linked}
+use Rattle.dep_graph.proofs.Adding.{holds_same}
 use Rattle.dep_graph.proofs.Growing.{grown_links}
 use Rattle.dep_graph.proofs.Numbers.{alive_inside, alive_is, alive_number, at_place, found_place, key_found, place_found}
 use Rattle.dep_graph.proofs.Places.{has_map, map_has}
@@ -118,23 +117,22 @@ module _ (s : Shift) (lines : PlaceLines) (net : Net) (target_of : ℕ → Optio
     all_shifted a b = (came a b, λ link. goes a b link.0 link.1 link.2 link.3 link.4)
 
     -- the range that a used one becomes is filed
-    pub used_filed : (current : Vec (Option ℕ) Global) (i : ℕ) → AreRefiled s net target_of i current → ((n : ℕ) → n < count_of net.nodes → n < i) → (a n : ℕ) → plain.has n (needs_of links a) ≡ true
-        → (b : Block) → found_at after n ≡ Some (Range b) → IsSome (filing_of current n)
-    used_filed current i refiled low a n h b range =
+    pub used_filed : (filing : ℕ → Option ℕ) → AreAllRefiled s net target_of filing → (a n : ℕ) → plain.has n (needs_of links a) ≡ true → (b : Block) → found_at after n ≡ Some (Range b) → IsSome (filing n)
+    used_filed filing refiled a n h b range =
         let (k, m, from, there, to) = (redirected a n).0 h in
         let linked_m : is_linked net m ≡ true = used_linked net k m there in
         let (y, moves_y, found_y) = target_node m n linked_m to in
         let is : y ≡ Range b = same_Some y (Range b) (sym found_y ∙ range) in
-        refiled m n b (low m (alive_inside net.nodes m (linked_alive net m linked_m))) (used_by net k m there, to, moves_to (node_after s) (found_at net.nodes m) (node_at net.nodes m) (linked_alive net m linked_m) ∙ (moves_y ∙ ap Some is))
+        refiled m n b (used_by net k m there, to, moves_to (node_after s) (found_at net.nodes m) (node_at net.nodes m) (linked_alive net m linked_m) ∙ (moves_y ∙ ap Some is))
 
 -- the filings after the operation are those of ranges
-pub filings_after : (lines : PlaceLines) (net : Net) (current : Vec (Option ℕ) Global) → AreFilingsUnder lines net current → (n f : ℕ) → filing_of current n ≡ Some f
-    → (is_range (found_at (by_lines lines net.nodes) n) ≡ true) × ((b : Block) → found_at (by_lines lines net.nodes) n ≡ Some (Range b) → HoldsBlock lines net.files f b)
-filings_after lines net current under n f e =
+pub filings_after : (lines : PlaceLines) (net : Net) (filing : ℕ → Option ℕ) (files : Files) → AreFilingsUnder lines net filing → files.index ≡ net.files.index → (n f : ℕ) → filing n ≡ Some f
+    → (is_range (found_at (by_lines lines net.nodes) n) ≡ true) × ((b : Block) → found_at (by_lines lines net.nodes) n ≡ Some (Range b) → HoldsBlock lines files f b)
+filings_after lines net filing files under index n f e =
     let (owner, low, range) = under n f e in
     let (block, stands, holds) = range in
     let found : found_at (by_lines lines net.nodes) n ≡ Some (Range block) = key_found lines net.nodes.keys.keys n (Range block) net.nodes.narrow stands in
-    (ap is_range found, λ b at. subst (HoldsBlock lines net.files f) (one_range block b (same_Some (Range block) (Range b) (sym found ∙ at))) holds)
+    (ap is_range found, λ b at. holds_same lines net.files files f b index (subst (HoldsBlock lines net.files f) (one_range block b (same_Some (Range block) (Range b) (sym found ∙ at))) holds))
   where
     one_range : (a b : Block) → Range a ≡ Range b → a ≡ b
     one_range a b e = cc

@@ -4,6 +4,7 @@ pub mod Keys
 pub mod Filings
 pub mod Files
 pub mod Numbers
+pub mod Touches
 pub mod Nets
 pub mod Arrows
 pub mod Walked

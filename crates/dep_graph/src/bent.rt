@@ -1,62 +1,71 @@
 // Which nodes a structural operation bends.
-ghost use Rattle.std.specs.Prelude.{◌↔◌, ◌<◌, true, IsTrue, IfOk, OnOk};
-ghost use Rattle.needs_order.specs.Needs as plain;
+ghost use Rattle.std.specs.Prelude.{◌↔◌, ◌<◌, IsTrue, IfOk, OnOk};
 ghost use Rattle.shift_core.specs.Sound.{IsSound};
 ghost use Rattle.dep_graph.specs.Bent.{AreBent, Bends};
 ghost use Rattle.dep_graph.specs.Graph.{links_of};
 ghost use Rattle.dep_graph.specs.Nodes.{items_of};
-ghost use Rattle.dep_graph.specs.internal.BentNumbers.{IsBentAt, PushesBent};
+ghost use Rattle.dep_graph.specs.internal.BentNumbers.{AddsBentUsers, AreBentUsers};
 ghost use Rattle.dep_graph.specs.internal.Numbers.{count_of, node_at};
+ghost use Rattle.dep_graph.specs.internal.Touches.{AddsAll, AreInside};
 
 use crate::graph::Graph;
 use crate::net::Net;
 use crate::node::Node;
 use crate::nodes::Nodes;
+use indexmap::IndexSet;
+use near_hash::NearHash;
 use shift_core::{Shift, is_bent, is_cut, moved_place};
 use std::alloc::AllocError;
 
 impl Graph {
     /// Each node, once, that is linked to a cell that the operation loses, or to a range that it loses, whose size it
-    /// changes, in which it displaces lines, or which it cuts at the sheet's end. Costs about the number of all nodes and
-    /// links. Errs for want of memory.
+    /// changes, in which it displaces lines, or which it cuts at the sheet's end. Costs a search for each run of the lines
+    /// that the operation loses or displaces, and for each node that it touches, or that isn't inside its sheet, about the
+    /// number of its users. Errs for want of memory.
     pub fn bent(&self, s: &Shift) -> Result<Nodes, AllocError>
         requires { IsSound s.now }
         ensures { IfOk result (λ nodes. AreBent s.now (links_of self.now) (items_of nodes)) }
     {
-        let mut nodes = Nodes::new(self.net.alloc)?;
-        'nodes: for number in 0..self.net.nodes.len() {
-            self.net.push_bent(&mut nodes, s, number)?;
-        }
-        Ok(nodes)
+        let found = self.net.touched(s)?;
+        let users = self.net.bent_users(s, found.as_slice())?;
+        let none = IndexSet::new(self.net.alloc);
+        self.net.named(&none, users.as_slice())
     }
 }
 
 impl Net {
-    // Adds the node of a number where it is linked to one that the operation bends.
-    fn push_bent(&self, nodes: &mut Nodes, s: &Shift, number: usize) -> Result<(), AllocError>
+    // The numbers of the nodes that are linked to one of these that the operation bends.
+    fn bent_users(
+        &self,
+        s: &Shift,
+        found: &[usize],
+    ) -> Result<IndexSet<usize, NearHash>, AllocError>
         requires sound { IsSound s.now }
-        requires number { number < count_of self.now.nodes }
-        ensures { OnOk result (PushesBent s.now self.now number (items_of nodes.old) (items_of nodes.new)) }
+        requires inside { AreInside self.now.nodes found.now }
+        ensures { IfOk result (λ users. AreBentUsers s.now self.now found.now users.keys) }
     {
-        if self.is_bent(s, number) {
-            self.push_node(nodes, number)
-        } else {
-            Ok(())
+        let mut users = IndexSet::with_hasher(self.alloc, NearHash::new());
+        'numbers: for number in found {
+            self.add_bent_users(&mut users, s, *number)?;
         }
+        Ok(users)
     }
 
-    // Whether the node of a number is linked to one that the operation bends.
-    fn is_bent(&self, s: &Shift, number: usize) -> bool
+    // Adds the numbers of the nodes that are linked to that of a number, where the operation bends it.
+    fn add_bent_users(
+        &self,
+        users: &mut IndexSet<usize, NearHash>,
+        s: &Shift,
+        number: usize,
+    ) -> Result<(), AllocError>
         requires sound { IsSound s.now }
         requires number { number < count_of self.now.nodes }
-        ensures { IsTrue result ↔ IsBentAt s.now self.now number }
+        ensures { OnOk result (AddsBentUsers s.now self.now number users.old.keys users.new.keys) }
     {
-        'numbers: for need in self.links.needs(number) {
-            if self.bends(s, *need) {
-                return true;
-            }
+        if !self.bends(s, number) {
+            return Ok(());
         }
-        false
+        add_all(users, &self.links.users(number)?)
     }
 
     // Whether the operation bends the node of a number.
@@ -70,6 +79,16 @@ impl Net {
             None => false,
         }
     }
+}
+
+// Adds the numbers.
+fn add_all(numbers: &mut IndexSet<usize, NearHash>, more: &[usize]) -> Result<(), AllocError>
+    ensures { OnOk result (AddsAll more.now numbers.old.keys numbers.new.keys) }
+{
+    'numbers: for number in more {
+        numbers.insert(*number)?;
+    }
+    Ok(())
 }
 
 // Whether the operation bends the node.

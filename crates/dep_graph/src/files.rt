@@ -3,13 +3,15 @@ ghost use Rattle.std.specs.Prelude.{◌≡◌, ◌↔◌, ◌==◌, ◌<◌, ◌
 ghost use Rattle.std.specs.List.{filter_map};
 ghost use Rattle.std.specs.Option.{option_to_list};
 ghost use Rattle.std.specs.declared.ops.Range.{Range};
+ghost use Rattle.node_links.specs.Redirect.{is_among};
 ghost use Rattle.block_index.specs.Index.{filed_in, finds, slot_count};
-ghost use Rattle.dep_graph.specs.internal.Filings.{filing_of, owner_at};
+ghost use Rattle.dep_graph.specs.internal.Filings.{filing_of, filing_then, owner_at};
 
 use block_index::BlockIndex;
 use cell_addr::{Axis, Block};
 use place_lines::PlaceLines;
 use std::alloc::{AllocError, Global};
+use std::collections::BTreeMap;
 use std::ops::Range;
 
 // Ranges under the slots of their cells.
@@ -171,6 +173,51 @@ impl Files {
     {
         self.current[node] = Some(filing);
     }
+
+    // The filing of a node where few have another than the present one, or none.
+    pub(crate) fn filing_then(
+        &self,
+        filings: &BTreeMap<usize, Option<usize>>,
+        node: usize,
+    ) -> Option<usize>
+        ensures { result ≡ filing_then filings.now self.now.current node }
+    {
+        match filings.get(&node) {
+            Some(filing) => *filing,
+            None => self.filing(node),
+        }
+    }
+
+    // Makes these the present filings of few nodes. Takes no memory.
+    pub(crate) fn put_few(&mut self, filings: &BTreeMap<usize, Option<usize>>)
+        requires inside { (n : ℕ) → is_among filings.now n ≡ true → n < length self.old.current.items }
+        requires owners { (n f : ℕ) → filing_then filings.now self.old.current n ≡ Some f → owner_at self.old.owners f ≡ Some n }
+        ensures count { length self.new.current.items ≡ length self.old.current.items }
+        ensures kept { (n : ℕ) → filing_of self.new.current n ≡ filing_then filings.now self.old.current n }
+        ensures index { self.new.index ≡ self.old.index }
+    {
+        put_filings(&mut self.current, filings);
+    }
+}
+
+// Sets the present filings of few nodes.
+fn put_filings(current: &mut Vec<Option<usize>>, filings: &BTreeMap<usize, Option<usize>>)
+    requires { (n : ℕ) → is_among filings.now n ≡ true → n < length current.old.items }
+    ensures count { length current.new.items ≡ length current.old.items }
+    ensures kept { (n : ℕ) → filing_of current.new n ≡ filing_then filings.now current.old n }
+{
+    'filings: for (node, filing) in filings {
+        put_filing(current, *node, *filing);
+    }
+}
+
+// Sets the present filing of a node.
+fn put_filing(current: &mut Vec<Option<usize>>, node: usize, filing: Option<usize>)
+    requires { node < length current.old.items }
+    ensures count { length current.new.items ≡ length current.old.items }
+    ensures kept { (n : ℕ) → filing_of current.new n ≡ (if n == node then filing else filing_of current.old n) }
+{
+    current[node] = filing;
 }
 
 // Adds the number at the end where there is one.

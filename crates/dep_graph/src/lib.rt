@@ -7,8 +7,8 @@
 //! which the numbers of its lines are cut, and a cell finds the ranges that cover it by its slots. So prefix sums over n rows cost about
 //! n and not the square of n. A structural operation takes the nodes along, and loses some with their links;
 //! [`Graph::bent`] tells beforehand which nodes are linked to one that it doesn't just carry along. Cells and ranges are
-//! kept under the numbers of their lines, which stay while operations move these, so that what an operation only carries
-//! along isn't touched.
+//! kept under the numbers of their lines, which stay while operations move these, so that an operation looks only at what
+//! it touches, and not at what it carries along.
 //!
 //! ```text
 //! let mut graph = Graph::new(alloc)?;
@@ -26,14 +26,17 @@ mod arrows;
 mod bent;
 mod copy;
 mod files;
+mod found;
 mod graph;
 mod key;
 mod laws;
 mod net;
 mod node;
 mod nodes;
+mod refiled;
 mod shifted;
 mod table;
+mod touches;
 mod walk;
 
 pub use graph::Graph;

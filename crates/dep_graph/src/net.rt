@@ -8,11 +8,13 @@ ghost use Rattle.dep_graph.specs.declared.node.Node.{Node};
 ghost use Rattle.dep_graph.specs.declared.node.Node.TheVariants.{Range};
 ghost use Rattle.dep_graph.specs.internal.Keys.{AreKeysOnce, is_narrow, same_key};
 ghost use Rattle.dep_graph.specs.internal.Numbers.{AreFilings, IsAlive, IsFiled, count_of, found_at, key_place, node_at, place_of};
+ghost use Rattle.dep_graph.specs.internal.Touches.{AreIndexed, IsIndexed};
 
 use crate::files::Files;
 use crate::key::Key;
 use crate::node::Node;
 use crate::table::NodeTable;
+use crate::touches::Touches;
 use cell_addr::Block;
 use indexmap::IndexSet;
 use near_hash::NearHash;
@@ -29,11 +31,17 @@ pub(crate) struct Net {
     pub(crate) links: Links,
     // The ranges among them under the slots of their cells.
     pub(crate) files: Files,
+    // What operations find them by.
+    pub(crate) touches: Touches,
+    // About how much was left behind since the net was made: links that were dropped, nodes that operations touched, and
+    // rectangles that they filed.
+    pub(crate) left_behind: usize,
     pub ghost counts: { node_count links ≡ count_of nodes },
     pub ghost rooms: { length files.current.items ≡ count_of nodes },
     pub ghost alive: { (a n : ℕ) → has n (needs_of links a) ≡ true → IsAlive nodes a × IsAlive nodes n },
     pub ghost filed: { AreFilings nodes files },
     pub ghost used: { (a n : ℕ) → has n (needs_of links a) ≡ true → IsFiled nodes files n },
+    pub ghost indexed: { AreIndexed nodes touches },
 }
 
 impl Net {
@@ -50,6 +58,8 @@ impl Net {
             nodes: NodeTable::new(alloc)?,
             links: Links::new(alloc),
             files: Files::new(alloc),
+            touches: Touches::new(alloc),
+            left_behind: 0,
         })
     }
 
@@ -72,6 +82,8 @@ impl Net {
         ensures ok { OnOk result ((n : ℕ) → needs_of self.new.links n ≡ (if n == node then needs.now else needs_of self.old.links n)) }
         ensures err { OnErr result ((n : ℕ) → needs_of self.new.links n ≡ needs_of self.old.links n) }
     {
+        let dropped = self.links.needs(node).len();
+        self.left_behind = self.left_behind.saturating_add(dropped);
         self.links.link(node, needs)
     }
 
@@ -80,7 +92,11 @@ impl Net {
         ensures { AreLinked a [] (links_in self.old) (links_in self.new) }
     {
         match self.nodes.number(a) {
-            Some(node) => self.links.unlink(node),
+            Some(node) => {
+                let dropped = self.links.needs(node).len();
+                self.left_behind = self.left_behind.saturating_add(dropped);
+                self.links.unlink(node);
+            }
             None => (),
         }
     }
@@ -168,14 +184,29 @@ impl Net {
     {
         match self.nodes.keys.get_index_of(&key) {
             Some(number) => Ok(number),
-            None => self.add(key),
+            None => {
+                self.keep_next(key)?;
+                self.add(key)
+            }
         }
+    }
+
+    // Lets operations find a key by the number that the next one gets.
+    fn keep_next(&mut self, key: Key) -> Result<(), AllocError>
+        ensures nodes { self.new.nodes ≡ self.old.nodes }
+        ensures links { self.new.links ≡ self.old.links }
+        ensures files { self.new.files ≡ self.old.files }
+        ensures kept { OnOk result (IsIndexed self.new.nodes.lines self.new.touches (count_of self.new.nodes) key) }
+    {
+        let number = self.nodes.len();
+        self.touches.keep_key(self.nodes.lines(), key, number)
     }
 
     // Adds a key that isn't known, and answers its number.
     fn add(&mut self, key: Key) -> Result<usize, AllocError>
         requires narrow { is_narrow key ≡ true }
         requires new { key_place self.old.nodes key ≡ count_of self.old.nodes }
+        requires kept { IsIndexed self.old.nodes.lines self.old.touches (count_of self.old.nodes) key }
         ensures grown { Grows self.old self.new }
         ensures files { self.new.files.owners ≡ self.old.files.owners }
         ensures place { IfOk result (λ n. n ≡ key_place self.new.nodes key) }

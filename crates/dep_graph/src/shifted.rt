@@ -1,27 +1,27 @@
 // Graphs moved over structural operations.
-ghost use Rattle.std.specs.Prelude.{◌≡◌, ◌==◌, ◌+◌, ◌<◌, ℕ, true, Some, length, slice_get, if◌then◌else◌, IsSome, IsTrue, IfOk, OnOk, OnErr};
+ghost use Rattle.std.specs.Prelude.{◌≡◌, ◌≢◌, ◌<◌, ℕ, true, Some, IfOk, OnOk, OnErr};
+ghost use Rattle.std.specs.List.{AllPairs};
+ghost use Rattle.needs_order.specs.Needs.{has};
 ghost use Rattle.node_links.specs.Redirect.{few_target, is_among};
 ghost use Rattle.place_lines.specs.Moved.{AreMoved};
 ghost use Rattle.shift_core.specs.Form.{form_of};
 ghost use Rattle.shift_core.specs.Sound.{IsSound};
 ghost use Rattle.dep_graph.specs.Graph.{AreSame, links_of};
 ghost use Rattle.dep_graph.specs.Shifted.{AreShifted, node_after};
-ghost use Rattle.dep_graph.specs.declared.node.Node.TheVariants.{Range};
-ghost use Rattle.dep_graph.specs.internal.Files.{FilesOn, HoldsBlock};
-ghost use Rattle.dep_graph.specs.internal.Filings.{filing_of, owner_at};
-ghost use Rattle.dep_graph.specs.internal.Keys.{is_narrow, key_of};
+ghost use Rattle.dep_graph.specs.internal.Keys.{is_narrow};
 ghost use Rattle.dep_graph.specs.internal.Nets.{Grows, links_in};
 ghost use Rattle.dep_graph.specs.internal.Numbers.{count_of, key_place};
-ghost use Rattle.dep_graph.specs.internal.ShiftedNumbers.{AreFilingsUnder, AreRefiled, AreTargets, IsCarriedAt, SetsTarget, after_at, aim_of, block_in, is_linked};
+ghost use Rattle.dep_graph.specs.internal.ShiftedNumbers.{AreTargets, SetsTarget, after_at, aim_of, is_linked};
+ghost use Rattle.dep_graph.specs.internal.Touches.{AddsBetween, AreInside, FindsTouched};
 
 use crate::graph::Graph;
 use crate::key::Key;
 use crate::net::Net;
 use crate::node::Node;
-use cell_addr::Block;
-use node_links::few_target;
+use indexmap::IndexSet;
+use near_hash::NearHash;
 use place_lines::PlaceLines;
-use shift_core::{Shift, is_bent, is_cut, moved_block, moved_place};
+use shift_core::{Shift, moved_block, moved_place};
 use std::alloc::AllocError;
 use std::collections::BTreeMap;
 
@@ -29,11 +29,14 @@ impl Graph {
     /// Moves the nodes over the operation, with their links. A lost node goes with its links. Two ranges that become one
     /// block are one node, with the needs and the users of both. In which order a node's links stand then isn't told. Where
     /// there is no memory, or where the numbers of lines are used up, after more edits than fit a lifetime, all links stay
-    /// as they were. Costs a look at each node, and the runs of lines of all edited sheets, which are copied;
-    /// besides, for each node that the operation loses or bends, that it takes along with moved cells, or that isn't inside
-    /// its sheet, about the number of its slots, of its links and of its users' links. What it only carries along isn't
-    /// touched. Takes memory for each node while it runs. Now and then, where many ranges were bent or many nodes lost
-    /// their links, the graph is made anew, which costs what [`Graph::copied`] does.
+    /// as they were.
+    ///
+    /// Costs the runs of lines of all edited sheets, which are copied, a search for each run of the lines that the
+    /// operation loses or displaces, and for each node that it touches, or that isn't inside its sheet, about the number
+    /// of its slots, of its links and of its users' links. It touches what it loses or bends, and what it takes along with
+    /// moved cells; what it only carries along isn't looked at. Now and then, where more than half of what is kept may
+    /// have been left behind by operations and by links that were replaced, the graph is made anew, which costs what
+    /// [`Graph::copied`] does.
     pub fn shift(&mut self, s: &Shift) -> Result<(), AllocError>
         requires { IsSound s.now }
         ensures ok { OnOk result (AreShifted s.now (links_of self.old) (links_of self.new)) }
@@ -55,29 +58,46 @@ impl Net {
         ensures err { OnErr result (AreSame (links_in self.old) (links_in self.new)) }
     {
         let lines = self.nodes.lines.moved(self.alloc, s)?;
-        let few = self.targets(&lines, s)?;
-        let current = self.refiled(&lines, s, &few)?;
+        let count = self.nodes.len();
+        let filed = self.files.filed;
+        let mut found = self.touched(s)?;
+        let few = self.targets(&lines, s, found.as_slice())?;
+        add_between(&mut found, count, self.nodes.len())?;
+        let filings = self.refiled(&lines, s, &few, found.as_slice())?;
+        self.touches
+            .keep_all(&lines, &self.nodes, found.as_slice())?;
         self.links.redirect_few(&few)?;
         self.nodes.lines = lines;
-        self.files.current = current;
+        self.files.put_few(&filings);
+        let refiled = self.files.filed.saturating_sub(filed);
+        self.left_behind = self
+            .left_behind
+            .saturating_add(found.len())
+            .saturating_add(refiled);
         Ok(())
     }
 
-    // The numbers of what nodes become, each of which is added where it isn't known, for those that become others or none.
+    // The numbers of what the found nodes become, each of which is added where it isn't known, for those that become
+    // others or none.
     fn targets(
         &mut self,
         lines: &PlaceLines,
         s: &Shift,
+        found: &[usize],
     ) -> Result<BTreeMap<usize, Option<usize>>, AllocError>
-        requires { IsSound s.now }
+        requires sound { IsSound s.now }
+        requires moved { AreMoved (form_of s.now) self.old.nodes.lines lines.now }
+        requires found { FindsTouched s.now self.old.nodes found.now }
+        requires inside { AreInside self.old.nodes found.now }
+        requires once { AllPairs (λ a b. a ≢ b) found.now }
         ensures grown { Grows self.old self.new }
         ensures targets { IfOk result (λ few. AreTargets s.now lines.now self.new (few_target few)) }
-        ensures among { IfOk result (λ few. (n : ℕ) → is_among few n ≡ true → n < count_of self.new.nodes) }
+        ensures among { IfOk result (λ few. (n : ℕ) → is_among few n ≡ true → has n found.now ≡ true) }
     {
         let mut few = BTreeMap::new(self.alloc);
-        'numbers: for number in 0..self.nodes.len() {
-            let target = self.target(lines, s, number)?;
-            set_target(&mut few, number, target)?;
+        'numbers: for number in found {
+            let target = self.target(lines, s, *number)?;
+            set_target(&mut few, *number, target)?;
         }
         Ok(few)
     }
@@ -127,162 +147,17 @@ impl Net {
     }
 
     // Where the operation moves the node of a number.
-    fn moved(&self, s: &Shift, number: usize) -> Option<Node>
+    pub(crate) fn moved(&self, s: &Shift, number: usize) -> Option<Node>
         requires { IsSound s.now }
         ensures { result ≡ after_at s.now self.now number }
     {
         moved_node(s, self.nodes.node(number)?)
     }
 
-    // The filings after the operation: each used range is filed where it goes. The present ones stay.
-    fn refiled(
-        &mut self,
-        lines: &PlaceLines,
-        s: &Shift,
-        few: &BTreeMap<usize, Option<usize>>,
-    ) -> Result<Vec<Option<usize>>, AllocError>
-        requires sound { IsSound s.now }
-        requires moved { AreMoved (form_of s.now) self.old.nodes.lines lines.now }
-        requires targets { AreTargets s.now lines.now self.old (few_target few.now) }
-        ensures nodes { self.new.nodes ≡ self.old.nodes }
-        ensures links { self.new.links ≡ self.old.links }
-        ensures files { FilesOn self.old.files self.new.files }
-        ensures count { IfOk result (λ current. length current.items ≡ count_of self.new.nodes) }
-        ensures filings { IfOk result (AreFilingsUnder lines.now self.new) }
-        ensures refiled { IfOk result (AreRefiled s.now self.new (few_target few.now) (count_of self.new.nodes)) }
-    {
-        let mut current = Vec::from_elem(self.alloc, None, self.nodes.len())?;
-        'numbers: for number in 0..self.nodes.len() {
-            self.refile(&mut current, lines, s, few, number)?;
-        }
-        Ok(current)
-    }
-
-    // Files what the node of a number becomes, where that is a used range, unless it is filed.
-    fn refile(
-        &mut self,
-        current: &mut Vec<Option<usize>>,
-        lines: &PlaceLines,
-        s: &Shift,
-        few: &BTreeMap<usize, Option<usize>>,
-        number: usize,
-    ) -> Result<(), AllocError>
-        requires sound { IsSound s.now }
-        requires number { number < count_of self.old.nodes }
-        requires moved { AreMoved (form_of s.now) self.old.nodes.lines lines.now }
-        requires targets { AreTargets s.now lines.now self.old (few_target few.now) }
-        requires count { length current.old.items ≡ count_of self.old.nodes }
-        requires filings { AreFilingsUnder lines.now self.old current.old }
-        requires refiled { AreRefiled s.now self.old (few_target few.now) number current.old }
-        ensures nodes { self.new.nodes ≡ self.old.nodes }
-        ensures links { self.new.links ≡ self.old.links }
-        ensures files { FilesOn self.old.files self.new.files }
-        ensures count { length current.new.items ≡ length current.old.items }
-        ensures filings { AreFilingsUnder lines.now self.new current.new }
-        ensures refiled { OnOk result (AreRefiled s.now self.new (few_target few.now) (number + 1) current.new) }
-    {
-        if !self.is_used(number) {
-            return Ok(());
-        }
-        match few_target(few, number) {
-            Some(target) => match self.moved_range(s, number) {
-                Some(after) => self.refile_range(current, lines, s, number, target, after),
-                None => Ok(()),
-            },
-            None => Ok(()),
-        }
-    }
-
-    // The range that the node of a number becomes; none where it becomes none.
-    fn moved_range(&self, s: &Shift, number: usize) -> Option<Block>
-        requires { IsSound s.now }
-        ensures { result ≡ block_in (after_at s.now self.now number) }
-    {
-        match self.moved(s, number) {
-            Some(Node::Range(block)) => Some(block),
-            _ => None,
-        }
-    }
-
-    // Files the range that the node of a number becomes, under its number then, unless it is filed.
-    fn refile_range(
-        &mut self,
-        current: &mut Vec<Option<usize>>,
-        lines: &PlaceLines,
-        s: &Shift,
-        number: usize,
-        target: usize,
-        after: Block,
-    ) -> Result<(), AllocError>
-        requires sound { IsSound s.now }
-        requires moved { AreMoved (form_of s.now) self.old.nodes.lines lines.now }
-        requires after { after_at s.now self.old number ≡ Some (Range after) }
-        requires target { slice_get self.old.nodes.keys.keys target ≡ Some (key_of lines.now (Range after)) }
-        requires inside { target < length current.old.items }
-        requires filings { AreFilingsUnder lines.now self.old current.old }
-        ensures nodes { self.new.nodes ≡ self.old.nodes }
-        ensures links { self.new.links ≡ self.old.links }
-        ensures files { FilesOn self.old.files self.new.files }
-        ensures count { length current.new.items ≡ length current.old.items }
-        ensures filings { AreFilingsUnder lines.now self.new current.new }
-        ensures kept { (n : ℕ) → IsSome (filing_of current.old n) → IsSome (filing_of current.new n) }
-        ensures filed { OnOk result (IsSome (filing_of current.new target)) }
-    {
-        if current[target].is_some() {
-            return Ok(());
-        }
-        let filing = self.filing_after(lines, s, number, target, after)?;
-        put_filing(current, target, filing);
-        Ok(())
-    }
-
-    // A filing of the range that a range becomes: the present one, where the operation just carries it along.
-    fn filing_after(
-        &mut self,
-        lines: &PlaceLines,
-        s: &Shift,
-        number: usize,
-        target: usize,
-        after: Block,
-    ) -> Result<usize, AllocError>
-        requires sound { IsSound s.now }
-        requires moved { AreMoved (form_of s.now) self.old.nodes.lines lines.now }
-        requires after { after_at s.now self.old number ≡ Some (Range after) }
-        requires target { slice_get self.old.nodes.keys.keys target ≡ Some (key_of lines.now (Range after)) }
-        ensures nodes { self.new.nodes ≡ self.old.nodes }
-        ensures links { self.new.links ≡ self.old.links }
-        ensures files { FilesOn self.old.files self.new.files }
-        ensures owner { IfOk result (λ f. owner_at self.new.files.owners f ≡ Some target) }
-        ensures holds { IfOk result (λ f. HoldsBlock lines.now self.new.files f after) }
-    {
-        if target == number && self.is_carried(s, number) {
-            if let Some(filing) = self.files.filing(number) {
-                return Ok(filing);
-            }
-        }
-        self.files.file(lines, after, target)
-    }
-
-    // Whether the node of a number is a range that the operation just carries along.
-    fn is_carried(&self, s: &Shift, number: usize) -> bool
-        requires { IsSound s.now }
-        ensures { IsTrue result → IsCarriedAt s.now self.now number }
-    {
-        match self.nodes.node(number) {
-            Some(Node::Range(block)) => block.inside() && !is_bent(s, block) && !is_cut(s, block),
-            _ => false,
-        }
-    }
-
-    // Whether less than half of the keys have links, or more than four rectangles were filed for each linked node.
+    // Whether more than half of what is kept may have been left behind.
     fn is_fragmented(&self) -> bool {
-        let mut linked = 0;
-        'numbers: for number in 0..self.nodes.len() {
-            if self.is_linked(number) {
-                linked += 1;
-            }
-        }
-        self.nodes.len() / 2 > linked || self.files.filed / 4 > linked
+        let kept = self.nodes.len().saturating_add(self.files.filed);
+        self.left_behind > kept / 2
     }
 
     // Makes the net anew, with the same links; where there is no memory it stays as it is.
@@ -293,6 +168,20 @@ impl Net {
             *self = net;
         }
     }
+}
+
+// Adds the numbers from the first to before the end.
+fn add_between(
+    numbers: &mut IndexSet<usize, NearHash>,
+    first: usize,
+    end: usize,
+) -> Result<(), AllocError>
+    ensures { OnOk result (AddsBetween first end numbers.old.keys numbers.new.keys) }
+{
+    'numbers: for number in first..end {
+        numbers.insert(number)?;
+    }
+    Ok(())
 }
 
 // Sets the target of a number that has none yet, unless it is its own.
@@ -308,15 +197,6 @@ fn set_target(
         few.insert(number, target)?;
     }
     Ok(())
-}
-
-// Makes a filing the present one of a number.
-fn put_filing(current: &mut Vec<Option<usize>>, number: usize, filing: usize)
-    requires { number < length current.old.items }
-    ensures count { length current.new.items ≡ length current.old.items }
-    ensures kept { (n : ℕ) → filing_of current.new n ≡ (if n == number then Some filing else filing_of current.old n) }
-{
-    current[number] = Some(filing);
 }
 
 // Where the operation moves the node; None where its place or its block is lost.

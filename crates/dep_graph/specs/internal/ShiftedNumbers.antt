@@ -1,10 +1,10 @@
 -- What an operation makes of nodes under numbers: where each goes, and how ranges are filed then.
 use Rattle.std.specs.BTreeMap as tree
-use Rattle.std.specs.Prelude.{◌≡◌, ◌<◌, ◌==◌, ◌||◌, ◌⊎◌, ℕ, Bool, true, Option, Some, None, IsSome, length, nat_lt, slice_get, if◌then◌else◌}
+use Rattle.std.specs.Prelude.{◌≡◌, ◌<◌, ◌==◌, ◌||◌, ◌⊎◌, ℕ, Bool, true, List, Option, Some, None, IsSome, length, nat_lt, slice_get, if◌then◌else◌}
 use Rattle.std.specs.Option.{option_and_then, option_map}
-use Rattle.std.specs.declared.alloc.Global.{Global}
-use Rattle.std.specs.declared.vec.Vec.{Vec}
+use Rattle.std.specs.Ordering.{nat_cmp}
 use Rattle.cell_addr.specs.declared.place.Block.{Block}
+use Rattle.needs_order.specs.Needs.{has}
 use Rattle.node_links.specs.Nodes.{needs_of}
 use Rattle.node_links.specs.Redirect.{few_target, is_among}
 use Rattle.place_lines.specs.declared.lines.PlaceLines.{PlaceLines}
@@ -17,7 +17,7 @@ use Rattle.dep_graph.specs.declared.node.Node.{Node}
 use Rattle.dep_graph.specs.declared.node.Node.TheVariants.{Range}
 use Rattle.dep_graph.specs.internal.Arrows.{is_used}
 use Rattle.dep_graph.specs.internal.Files.{HoldsBlock}
-use Rattle.dep_graph.specs.internal.Filings.{filing_of, owner_at}
+use Rattle.dep_graph.specs.internal.Filings.{owner_at}
 use Rattle.dep_graph.specs.internal.Keys.{key_of}
 use Rattle.dep_graph.specs.internal.Numbers.{count_of, found_at, key_place}
 
@@ -44,9 +44,9 @@ pub record AreTargets (s : Shift) (lines : PlaceLines) (net : Net) (target : ℕ
   pub inside : (n t : ℕ) → n < count_of net.nodes → target n ≡ Some t → t < count_of net.nodes
 
 -- the filings are those of ranges by the lines after the operation
-abbrev pub AreFilingsUnder : PlaceLines → Net → Vec (Option ℕ) Global → Type 0
-AreFilingsUnder lines net current =
-    (n f : ℕ) → filing_of current n ≡ Some f → (owner_at net.files.owners f ≡ Some n)
+abbrev pub AreFilingsUnder : PlaceLines → Net → (ℕ → Option ℕ) → Type 0
+AreFilingsUnder lines net filing =
+    (n f : ℕ) → filing n ≡ Some f → (owner_at net.files.owners f ≡ Some n)
     × (f < length net.files.owners.items)
     × ((b : Block) × (slice_get net.nodes.keys.keys n ≡ Some (key_of lines (Range b))) × HoldsBlock lines net.files f b)
 
@@ -55,10 +55,21 @@ abbrev pub BecomesRange : Shift → Net → (ℕ → Option ℕ) → ℕ → ℕ
 BecomesRange s net target n t after =
     (is_used net n ≡ true) × (target n ≡ Some t) × (after_at s net n ≡ Some (Range after))
 
--- each used range of the numbers below is filed where it goes
-abbrev pub AreRefiled : Shift → Net → (ℕ → Option ℕ) → ℕ → Vec (Option ℕ) Global → Type 0
-AreRefiled s net target i current =
-    (n t : ℕ) (after : Block) → n < i → BecomesRange s net target n t after → IsSome (filing_of current t)
+-- where it is, it is filed where it goes
+abbrev pub IsRefiled : Shift → Net → (ℕ → Option ℕ) → ℕ → (ℕ → Option ℕ) → Type 0
+IsRefiled s net target n filing = (t : ℕ) (after : Block) → BecomesRange s net target n t after → IsSome (filing t)
+
+-- so are all
+abbrev pub AreAllRefiled : Shift → Net → (ℕ → Option ℕ) → (ℕ → Option ℕ) → Type 0
+AreAllRefiled s net target filing = (n : ℕ) → IsRefiled s net target n filing
+
+-- what was filed is so still
+abbrev pub StillFiled : (ℕ → Option ℕ) → (ℕ → Option ℕ) → Type 0
+StillFiled old new = (n : ℕ) → IsSome (old n) → IsSome (new n)
+
+-- just these numbers are there, without filings
+abbrev pub AreUnfiled : List ℕ → tree.BTreeMap ℕ (Option ℕ) → Type 0
+AreUnfiled numbers filings = (n : ℕ) → tree.get nat_cmp filings n ≡ (if has n numbers then Some None else None)
 
 -- the node of the number is a range inside its sheet that the operation neither bends nor cuts
 abbrev pub IsCarriedAt : Shift → Net → ℕ → Type 0

@@ -16,6 +16,7 @@ invariant_of-self-in-Break-1 c = record {
   alive = c.args.self.now.alive;
   filed = filings_on c.args.self.now.nodes c.args.self.now.files c.file.new.self c.args.self.now.filed c.file.ensures.on;
   used = λ a n h b at. subst IsSome (sym (ap (λ v. filing_of v n) c.file.ensures.on.current)) (c.args.self.now.used a n h b at);
+  indexed = c.args.self.now.indexed;
 }
 
 pub keep-requires-clause-node : goal.keep-requires-clause-node
@@ -33,6 +34,7 @@ invariant_of-self-2 c = record {
       (held c.args.self.now.nodes.lines c.file.new.self c.in_ok-filing.filing c.args.block (subst (λ l. (spot : Spot) → (finds_filing c.file.new.self spot c.in_ok-filing.filing ≡ true) ↔ HasSpot l c.args.block spot) c.lines.ensures c.in_ok-filing.ensures.exact));
   used = λ a n h. still_filed c.args.self.now.nodes c.file.new.self c.keep.new.self c.args.number c.in_ok-filing.filing c.keep.ensures.kept n
       (λ b at. subst IsSome (sym (ap (λ v. filing_of v n) c.file.ensures.on.current)) (c.args.self.now.used a n h b at));
+  indexed = c.args.self.now.indexed;
 }
 
 pub returns-clause-grown : goal.returns-clause-grown

@@ -20,6 +20,7 @@ invariant_of-self c = record {
   alive = c.args.self.now.alive;
   filed = filings_on c.args.self.now.nodes c.args.self.now.files c.file.new.self c.args.self.now.filed c.file.ensures.on;
   used = λ a n h b at. subst IsSome (sym (ap (λ v. filing_of v n) c.file.ensures.on.current)) (c.args.self.now.used a n h b at);
+  indexed = c.args.self.now.indexed;
 }
 
 pub returns-clause-holds : goal.returns-clause-holds

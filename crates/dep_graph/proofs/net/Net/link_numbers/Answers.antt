@@ -7,6 +7,9 @@ use Rattle.dep_graph.proofs.Adding.{either_need}
 use Rattle.dep_graph.proofs.Numbers.{alive_inside}
 use Rattle.dep_graph.proofs.net.Net.link_numbers.Goals as goal
 
+pub needs-dropped-requires : goal.needs-dropped-requires
+needs-dropped-requires c = subst (λ k. c.args.node < k) (sym c.args.self.now.counts) (alive_inside c.args.self.now.nodes c.args.node c.requires.node)
+
 pub link-requires-clause-node : goal.link-requires-clause-node
 link-requires-clause-node c = subst (λ k. c.args.node < k) (sym c.args.self.now.counts) (alive_inside c.args.self.now.nodes c.args.node c.requires.node)
 
@@ -26,4 +29,5 @@ invariant_of-self c = record {
       (λ (was : has n (needs_of c.args.self.now.links a) ≡ true). c.args.self.now.used a n was)
       (λ (now : (a ≡ c.args.node) × (has n c.args.needs.now ≡ true)). c.requires.filed n now.1)
       (either_need c.link.result (needs_of c.link.new.self) (needs_of c.args.self.now.links) c.args.node c.args.needs.now c.link.ensures.ok c.link.ensures.err a n h);
+  indexed = c.args.self.now.indexed;
 }

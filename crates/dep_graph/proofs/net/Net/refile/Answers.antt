@@ -1,19 +1,17 @@
-use Rattle.std.proofs.Common.{◌≡◌, ◌∙◌, ap, refl, subst, sym, ◌<◌, Some}
+use Rattle.std.proofs.Common.{◌≡◌, ◌∙◌, ap, subst, sym, Some}
 use Rattle.std.specs.Prelude.{IsSome}
 use Rattle.std.proofs.lemmas.Bool.{false≢true}
 use Rattle.std.proofs.lemmas.Option.{same_Some}
 use Rattle.node_links.specs.Redirect.{few_target}
 use Rattle.dep_graph.specs.declared.node.Node.TheVariants.{Range}
-use Rattle.dep_graph.specs.internal.Filings.{filing_of}
+use Rattle.dep_graph.specs.internal.Filings.{filing_then}
 use Rattle.dep_graph.specs.internal.ShiftedNumbers.{after_at, block_in}
 use Rattle.dep_graph.proofs.Adding.{on_ok}
-use Rattle.dep_graph.proofs.Refiling.{block_is, next_refiled, no_some, target_stands, used_is_linked}
+use Rattle.dep_graph.proofs.Refiling.{block_is, no_some, target_stands, used_is_linked}
 use Rattle.dep_graph.proofs.net.Net.refile.Goals as goal
 
 pub returns-then-not-is_used-clause-refiled : goal.returns-then-not-is_used-clause-refiled
-returns-then-not-is_used-clause-refiled c =
-    next_refiled c.args.s.now c.args.lines.now c.args.self.now c.args.self.now refl refl (few_target c.args.few.now) c.args.number c.args.current.now c.args.current.now c.requires.refiled (λ n h. h)
-    (λ t after becomes. absurd (false≢true (sym c.if-not-is_used.true ∙ (c.is_used.ensures ∙ becomes.0))))
+returns-then-not-is_used-clause-refiled c = λ t after becomes. absurd (false≢true (sym c.if-not-is_used.true ∙ (c.is_used.ensures ∙ becomes.0)))
 
 pub refile_range-requires-clause-after : goal.refile_range-requires-clause-after
 refile_range-requires-clause-after c = block_is (after_at c.args.s.now c.args.self.now c.args.number) c.in-Some-moved_range.after (sym c.moved_range.ensures ∙ c.in-Some-moved_range.is)
@@ -25,25 +23,18 @@ refile_range-requires-clause-target c =
     (sym c.few_target.ensures ∙ c.in-Some.is)
     (block_is (after_at c.args.s.now c.args.self.now c.args.number) c.in-Some-moved_range.after (sym c.moved_range.ensures ∙ c.in-Some-moved_range.is))
 
-pub refile_range-requires-clause-inside : goal.refile_range-requires-clause-inside
-refile_range-requires-clause-inside c =
-    subst (λ k. c.in-Some.target < k) (sym c.requires.count)
-    (c.requires.targets.inside c.args.number c.in-Some.target c.requires.number (sym c.few_target.ensures ∙ c.in-Some.is))
+pub refile_range-requires-clause-low : goal.refile_range-requires-clause-low
+refile_range-requires-clause-low c = c.requires.targets.inside c.args.number c.in-Some.target c.requires.number (sym c.few_target.ensures ∙ c.in-Some.is)
 
 pub returns-in-Some-moved_range-clause-refiled : goal.returns-in-Some-moved_range-clause-refiled
 returns-in-Some-moved_range-clause-refiled c =
     let target : few_target c.args.few.now c.args.number ≡ Some c.in-Some.target = sym c.few_target.ensures ∙ c.in-Some.is in
     on_ok c.refile_range.result _ _ c.refile_range.ensures.filed
-    (λ filed. next_refiled c.args.s.now c.args.lines.now c.args.self.now c.refile_range.new.self c.refile_range.ensures.nodes c.refile_range.ensures.links (few_target c.args.few.now) c.args.number
-    c.args.current.now c.refile_range.new.current c.requires.refiled c.refile_range.ensures.kept
-    (λ t after becomes. subst (λ n. IsSome (filing_of c.refile_range.new.current n)) (same_Some c.in-Some.target t (sym target ∙ becomes.1)) filed))
+    (λ filed t after becomes. subst (λ n. IsSome (filing_then c.refile_range.new.filings c.refile_range.new.self.files.current n)) (same_Some c.in-Some.target t (sym target ∙ becomes.1)) filed)
 
 pub returns-in-None-moved_range-clause-refiled : goal.returns-in-None-moved_range-clause-refiled
 returns-in-None-moved_range-clause-refiled c =
-    next_refiled c.args.s.now c.args.lines.now c.args.self.now c.args.self.now refl refl (few_target c.args.few.now) c.args.number c.args.current.now c.args.current.now c.requires.refiled (λ n h. h)
-    (λ t after becomes. absurd (no_some after (sym (sym c.moved_range.ensures ∙ c.in-None-moved_range.is) ∙ ap block_in becomes.2)))
+    λ t after becomes. absurd (no_some after (sym (sym c.moved_range.ensures ∙ c.in-None-moved_range.is) ∙ ap block_in becomes.2))
 
 pub returns-in-None-clause-refiled : goal.returns-in-None-clause-refiled
-returns-in-None-clause-refiled c =
-    next_refiled c.args.s.now c.args.lines.now c.args.self.now c.args.self.now refl refl (few_target c.args.few.now) c.args.number c.args.current.now c.args.current.now c.requires.refiled (λ n h. h)
-    (λ t after becomes. absurd (no_some t (sym (sym c.few_target.ensures ∙ c.in-None.is) ∙ becomes.1)))
+returns-in-None-clause-refiled c = λ t after becomes. absurd (no_some t (sym (sym c.few_target.ensures ∙ c.in-None.is) ∙ becomes.1))

@@ -18,4 +18,5 @@ invariant_of-self c = record {
   alive = λ a n h. c.args.self.now.alive a n (was_need (needs_of c.unlink.new.self) (needs_of c.args.self.now.links) c.in-Some.node c.unlink.ensures.needs a n h);
   filed = c.args.self.now.filed;
   used = λ a n h. c.args.self.now.used a n (was_need (needs_of c.unlink.new.self) (needs_of c.args.self.now.links) c.in-Some.node c.unlink.ensures.needs a n h);
+  indexed = c.args.self.now.indexed;
 }

@@ -1,0 +1,18 @@
+use Rattle.std.proofs.Common.{subst}
+use Rattle.shift_core.specs.Form.{form_of}
+use Rattle.touch_index.specs.Kept.{FindsBlocks, FindsCells}
+use Rattle.dep_graph.specs.internal.Touches.{AddsKnown}
+use Rattle.dep_graph.proofs.Untouched.{finds_all}
+use Rattle.dep_graph.proofs.net.Net.touched.Goals as goal
+
+pub returns-clause-found : goal.returns-clause-found
+returns-clause-found c =
+    let net = c.args.self.now in
+    let form = form_of c.args.s.now in
+    let touched = c.in_ok-touched.touched.items in
+    let first = c.add_known.new.found.keys in
+    finds_all c.args.s.now net.nodes net.touches touched first c.add_known-2.new.found.keys net.indexed
+    (subst (λ l. FindsCells net.touches.index l form touched) c.lines.ensures c.in_ok-touched.ensures.cells)
+    (subst (λ l. FindsBlocks net.touches.index l form touched) c.lines.ensures c.in_ok-touched.ensures.blocks)
+    (subst (λ l. AddsKnown net.nodes touched l first) c.with_hasher-found.ensures.empty (subst (λ l. AddsKnown net.nodes l c.with_hasher-found.result.keys first) c.deref.ensures.value c.in_ok-add_known.ensures))
+    (subst (λ l. AddsKnown net.nodes l first c.add_known-2.new.found.keys) c.as_slice.ensures.keys c.in_ok-add_known-2.ensures)
