@@ -1,12 +1,12 @@
 -- Values that follow a workbook, with tests of links in place of what the links are. Serves what refreshes them.
-use Rattle.std.proofs.Common.{◌≡◌, ◌∙◌, sym, ap, refl, subst, ℕ, ℤ, Bool, true, false, List, Option, Some, None, is_some, Result, Ok, Err}
-use Rattle.std.specs.Prelude.{IsTrue, OnErr, OnOk, slice_get, ◌↔◌}
-use Rattle.std.proofs.lemmas.Bool.{both_ways, cases_Bool, false≢true, true≢false, false_from_ne_true}
+use Rattle.std.proofs.Common.{◌≡◌, ◌∙◌, sym, ap, refl, ℕ, ℤ, Bool, true, false, List, Option, Some, None, is_some, Result, Ok, Err}
+use Rattle.std.specs.Prelude.{IsTrue, OnErr, OnOk, slice_get}
+use Rattle.std.proofs.lemmas.Bool.{false≢true, false_from_ne_true}
 use Rattle.custom_fn.specs.declared.rule.Rule.{Rule}
 use Rattle.formula_tree.specs.Reference.{sheet_of}
 use Rattle.formula_tree.specs.Term.{Term}
 use Rattle.formula_tree.specs.declared.reference.Corner.{Corner}
-use Rattle.book_values.specs.Names.{Key, Names}
+use Rattle.book_values.specs.Names.{Names}
 use Rattle.book_values.specs.Workbook as book
 use Rattle.book_values.specs.Workbook.{Workbook, home_of, mentions_node, tree_at}
 use Rattle.dep_graph.specs.Nodes.{has}
@@ -60,6 +60,10 @@ module _ (b : Workbook) (words : List (List ℕ)) where
 abbrev pub AreAsking : Workbook → List (List ℕ) → Values → Type 0
 AreAsking b words v = (a : Node) (x : book.Node) (t : Term Corner) → has a (marks_in v) ≡ false → node_at words a ≡ Some x → tree_at b x ≡ Some t → asks_place t ≡ true → asks_in v a ≡ true
 
+-- and each that is known to is a place or a known name
+abbrev pub AreAsked : List (List ℕ) → Values → Type 0
+AreAsked words v = (a : Node) → asks_in v a ≡ true → is_some (node_at words a) ≡ true
+
 -- something is there
 pub there : {X : Type 0} (o : Option X) → is_some o ≡ true → (x : X) × (o ≡ Some x)
 there None h = absurd (false≢true h)
@@ -84,14 +88,15 @@ module _ (b : Workbook) (words : List (List ℕ)) (customs : List (List ℕ × R
     fit = follows.fit;
   }
 
-  pub from_follow : Follow b words customs today (links_in v) (marks_in v) (kept_in v) → AreAsking b words v → Follows b words customs today v
-  from_follow follow asking = record {
+  pub from_follow : Follow b words customs today (links_in v) (marks_in v) (kept_in v) → AreAsking b words v → AreAsked words v → Follows b words customs today v
+  from_follow follow asking asked = record {
     linked = λ a c isnt.
         let both = follow.linked.exact a c (λ h. false≢true (sym isnt ∙ h)) in
         same_tests (has c (links_in v a)) (is_link_at b words a c) (λ h. at_tested b words a c (both.0 h)) (λ h. both.1 (at_holds b words a c h));
     inside = follow.inside;
     asks = asking;
     known = λ a h. ap is_some (follow.known a h).1;
+    asked = asked;
     fit = follow.fit;
   }
 

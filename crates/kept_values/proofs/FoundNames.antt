@@ -21,7 +21,7 @@ use Rattle.book_values.specs.Names.{Key, Names, found, is_found}
 use Rattle.book_values.specs.Workbook as book
 use Rattle.book_values.specs.Workbook.{Workbook}
 use Rattle.book_values.proofs.Keys.{same_key-equal, same_key-self}
-use Rattle.dep_graph.specs.Nodes.{has, same_node}
+use Rattle.dep_graph.specs.Nodes.{has}
 use Rattle.dep_graph.specs.declared.node.Node.{Node}
 use Rattle.dep_graph.specs.declared.node.Node.TheVariants.{Cell, Name, Range}
 use Rattle.dep_graph.proofs.Places.{has-append_cases, has-append_left, has-append_right, has_first, has_one}

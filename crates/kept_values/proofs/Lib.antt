@@ -1,3 +1,5 @@
 pub mod Following
 pub mod FoundNames
 pub mod LinkedAnew
+pub mod TakenAlong
+pub mod Shifted

@@ -62,13 +62,15 @@ is_link_from b words c x = passes (λ t. is_link_of words b.names (sheet_of (hom
 abbrev pub is_link_at : Workbook → List (List ℕ) → Node → Node → Bool
 is_link_at b words a c = passes (is_link_from b words c) (node_at words a)
 
--- they follow the workbook: each node that isn't marked is linked to exactly what its formula is linked to, and known to ask where a
--- reference is where its formula does; and what is kept of each place and each name that reaches no mark is its value
+-- they follow the workbook: each node that isn't marked is linked to exactly what its formula is linked to, and noted to ask where a
+-- reference is where its formula does; what is marked or so noted is a place or a known name; and what is kept of each place and each
+-- name that reaches no mark is its value
 pub record Follows (b : Workbook) (words : List (List ℕ)) (customs : List (List ℕ × Rule)) (today : ℤ) (v : Values) : Type 0 where
   pub linked : (a c : Node) → has a (marks_in v) ≡ false → has c (links_in v a) ≡ is_link_at b words a c
   pub inside : AreLinksInside (links_in v)
   pub asks : (a : Node) (x : book.Node) (t : Term Corner) → has a (marks_in v) ≡ false → node_at words a ≡ Some x → tree_at b x ≡ Some t → asks_place t ≡ true → asks_in v a ≡ true
   pub known : (a : Node) → has a (marks_in v) ≡ true → is_some (node_at words a) ≡ true
+  pub asked : (a : Node) → asks_in v a ≡ true → is_some (node_at words a) ≡ true
   pub fit : FitsMarks b words customs today (marks_in v) (kept_in v)
 
 -- some of the nodes were marked, and no other one

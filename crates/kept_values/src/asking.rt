@@ -1,10 +1,10 @@
 // Formulas that ask where a reference is.
-ghost use Rattle.std.specs.Prelude.{◌≡◌, true, Some, IsTrue, OnOk};
+ghost use Rattle.std.specs.Prelude.{◌≡◌, ◌⊎◌, true, Some, IsTrue, OnOk};
 ghost use Rattle.formula_tree.specs.Reference.{base_of, corner_at};
 ghost use Rattle.formula_tree.specs.Relative.{relative, relative_list};
 ghost use Rattle.formula_tree.specs.StandsFor.{at_home};
 ghost use Rattle.formula_tree.specs.Term.{each_corner_all};
-ghost use Rattle.dep_graph.specs.Nodes.{has};
+ghost use Rattle.dep_graph.specs.Nodes.{has, same_node};
 ghost use Rattle.dep_graph.specs.declared.node.Node.{Node as NodeSeen};
 ghost use Rattle.marked_values.specs.Shifts.{any_asks_place, asks_place};
 ghost use Rattle.kept_values.specs.internal.Asking.{AreNoted, IsNoted};
@@ -15,13 +15,14 @@ use indexmap::IndexSet;
 use recalc_core::{Given, Trees};
 use std::alloc::AllocError;
 
-// Notes which of the nodes have a formula that asks where a reference is.
+// Notes which of the nodes have a formula that asks where a reference is, and no other node.
 pub(crate) fn note_all<T: Trees>(
     trees: &mut T,
     nodes: &[Node],
     asking: &mut IndexSet<Node>,
 ) -> Result<(), AllocError>
     ensures stay { (a : NodeSeen) → has a asking.old.keys ≡ true → has a asking.new.keys ≡ true }
+    ensures only { (a : NodeSeen) → has a asking.new.keys ≡ true → (has a asking.old.keys ≡ true) ⊎ (has a nodes.now ≡ true) }
     ensures noted { OnOk result (AreNoted (T.workbook trees.old) (T.words trees.old) nodes.now (λ a. has a asking.new.keys)) }
     ensures leaves { T.workbook trees.new ≡ T.workbook trees.old }
     ensures words { T.words trees.new ≡ T.words trees.old }
@@ -36,6 +37,7 @@ pub(crate) fn note_all<T: Trees>(
 // Notes the node, if its formula asks.
 fn note<T: Trees>(trees: &mut T, a: Node, asking: &mut IndexSet<Node>) -> Result<(), AllocError>
     ensures stay { (b : NodeSeen) → has b asking.old.keys ≡ true → has b asking.new.keys ≡ true }
+    ensures only { (b : NodeSeen) → has b asking.new.keys ≡ true → (has b asking.old.keys ≡ true) ⊎ (same_node b a ≡ true) }
     ensures noted { OnOk result (IsNoted (T.workbook trees.old) (T.words trees.old) (λ a. has a asking.new.keys) a) }
     ensures leaves { T.workbook trees.new ≡ T.workbook trees.old }
     ensures words { T.words trees.new ≡ T.words trees.old }

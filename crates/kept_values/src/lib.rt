@@ -2,7 +2,8 @@
 //!
 //! [`Values`] follow a workbook that stands behind [`recalc_core::Trees`]. Whoever changes the workbook marks what it touches, and
 //! nothing is linked or worked out before the next read: [`Values::refresh`] links the marked nodes anew and works out what
-//! reaches a mark, once. A second refresh takes no step.
+//! reaches a mark, once. A second refresh takes no step. A structural operation takes links, values and marks along:
+//! [`Values::shifted`].
 //!
 //! ```text
 //! let mut values = Values::new(alloc)?;
@@ -11,12 +12,14 @@
 //! values.mark(Node::Cell(at))?;                                // the cell was changed
 //! values.refresh(&mut session, &registry, day, &mut steps)?;  // links it, and works out what it reaches
 //! values.value(Node::Cell(total))
+//! let mut values = values.shifted(&row_put_first, &[])?;       // a row was put before the first: all stands a row lower
 //! ```
 #![tactic(auto)]
 
 mod asking;
 mod linking;
 mod refreshing;
+mod shifting;
 mod values;
 
 pub use values::Values;

@@ -1,5 +1,5 @@
 // Links, kept values and marks.
-ghost use Rattle.std.specs.Prelude.{◌≡◌, ◌++◌, ◌∷◌, [], IfOk, None, OnErr, OnOk};
+ghost use Rattle.std.specs.Prelude.{◌≡◌, ◌++◌, ◌∷◌, [], false, IfOk, None, OnErr, OnOk};
 ghost use Rattle.std.specs.Option.{option_copied};
 ghost use Rattle.dep_graph.specs.Nodes.{has, items_of};
 ghost use Rattle.dep_graph.specs.declared.node.Node.{Node};
@@ -27,6 +27,7 @@ impl Values {
     pub fn new(alloc: Global) -> Result<Values, AllocError>
         ensures links { IfOk result (λ values. (a : Node) → links_in values a ≡ []) }
         ensures kept { IfOk result (λ values. (a : Node) → kept_in values a ≡ None) }
+        ensures asking { IfOk result (λ values. (a : Node) → asks_in values a ≡ false) }
         ensures marks { IfOk result (λ values. marks_in values ≡ []) }
     {
         Ok(Values {

@@ -56,7 +56,7 @@ area_asks c d (Some b) = refl
 
 module _ (s : Shift) where
   mutual
-    asks_still : (t : Term Corner) → asks_place (rewritten s t) ≡ asks_place t
+    pub asks_still : (t : Term Corner) → asks_place (rewritten s t) ≡ asks_place t
     asks_still (cell c) = cell_asks c (place_after s c.at)
     asks_still (area c d) = area_asks c d (block_after s (block_of c d))
     asks_still (prefix sign t) = asks_still t

@@ -1,8 +1,7 @@
-use Rattle.std.proofs.Common.{◌∙◌, sym, ap, subst, refl, Some}
+use Rattle.std.proofs.Common.{subst, refl, Some}
 use Rattle.kept_values.proofs.Following.{on_ok}
 use Rattle.dep_graph.specs.Nodes.{items_of}
 use Rattle.recalc_core.specs.Given.{IsFound}
-use Rattle.kept_values.specs.internal.Linking.{AddsFound}
 use Rattle.kept_values.proofs.FoundNames.{one_found}
 use Rattle.kept_values.proofs.linking.add_name.Goals as goal
 

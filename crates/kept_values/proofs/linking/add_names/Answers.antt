@@ -1,5 +1,5 @@
 use Rattle.std.proofs.Common.{◌∙◌, sym, ap, refl, subst, take, ◌∷◌, ◌++◌, []}
-use Rattle.std.proofs.lemmas.List.{take_more, take_all}
+use Rattle.std.proofs.lemmas.List.{take_more}
 use Rattle.dep_graph.specs.Nodes.{items_of}
 use Rattle.book_values.specs.Workbook.{Workbook}
 use Rattle.recalc_core.specs.Nodes.{AreNumbered}

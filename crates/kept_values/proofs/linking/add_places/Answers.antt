@@ -1,6 +1,6 @@
 use Rattle.std.proofs.Common.{◌∙◌, sym, ap, take, ◌∷◌, ◌++◌, []}
 use Rattle.std.specs.List.{filter_map}
-use Rattle.std.proofs.lemmas.List.{append_assoc, take_more}
+use Rattle.std.proofs.lemmas.List.{take_more}
 use Rattle.dep_graph.specs.Nodes.{items_of}
 use Rattle.kept_values.specs.internal.Linking.{node_of}
 use Rattle.kept_values.proofs.FoundNames.{some_more}

@@ -1,13 +1,9 @@
-use Rattle.std.proofs.Common.{◌≡◌, ◌∙◌, sym, ap, refl, subst, get_or, List, ℕ}
-use Rattle.std.proofs.lemmas.List.{get_or_default}
+use Rattle.std.proofs.Common.{◌∙◌, sym, refl, subst, get_or, List, ℕ}
 use Rattle.dep_graph.specs.Graph.{links_of}
-use Rattle.dep_graph.specs.Laws.{AreLinksInside}
 use Rattle.dep_graph.specs.declared.node.Node.{Node}
 use Rattle.dep_graph.specs.declared.node.Node.TheVariants.{Cell}
 use Rattle.book_values.specs.Workbook.{Workbook}
 use Rattle.recalc_core.specs.Nodes.{AreNumbered}
-use Rattle.recalc_core.proofs.Recalculated.{on_err}
-use Rattle.marked_values.specs.Marks.{AreLinksBut}
 use Rattle.kept_values.specs.internal.Linking.{IsLinkedAnew}
 use Rattle.kept_values.proofs.LinkedAnew.{all_linked, but_all, inside_on, inside_same, link_on}
 use Rattle.kept_values.proofs.linking.link_all.Goals as goal

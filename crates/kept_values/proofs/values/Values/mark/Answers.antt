@@ -1,6 +1,4 @@
 use Rattle.kept_values.proofs.Following.{on_ok}
-use Rattle.dep_graph.specs.Nodes.{has}
-use Rattle.dep_graph.specs.declared.node.Node.{Node}
 use Rattle.recalc_core.specs.Recalc.{marks_in}
 use Rattle.kept_values.proofs.FoundNames.{marked_more}
 use Rattle.kept_values.proofs.values.Values.mark.Goals as goal

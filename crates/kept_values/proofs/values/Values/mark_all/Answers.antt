@@ -1,8 +1,8 @@
-use Rattle.std.proofs.Common.{◌≡◌, ◌∙◌}
+use Rattle.std.proofs.Common.{◌∙◌}
 use Rattle.dep_graph.specs.declared.node.Node.{Node}
 use Rattle.dep_graph.specs.declared.node.Node.TheVariants.{Cell}
 use Rattle.recalc_core.proofs.Recalculated.{on_err}
-use Rattle.kept_values.specs.Values.{AreMarked, kept_in, marks_in}
+use Rattle.kept_values.specs.Values.{AreMarked, marks_in}
 use Rattle.kept_values.proofs.LinkedAnew.{marked_front, marked_on}
 use Rattle.kept_values.proofs.values.Values.mark_all.Goals as goal
 

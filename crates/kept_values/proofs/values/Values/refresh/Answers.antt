@@ -1,4 +1,4 @@
-use Rattle.std.proofs.Common.{◌≡◌, ◌∙◌, sym, ap, refl, subst, to_z, of_z, w32, ℕ, ℤ, List}
+use Rattle.std.proofs.Common.{◌∙◌, sym, subst, to_z, of_z, w32, ℕ, ℤ, List}
 use Rattle.std.proofs.lemmas.Int.{to_z-of_z}
 use Rattle.dep_graph.specs.Graph.{links_of}
 use Rattle.dep_graph.specs.Nodes.{has}
@@ -11,7 +11,7 @@ use Rattle.marked_values.specs.Marks.{AreLinksBut}
 use Rattle.marked_values.proofs.Fitting.{follow_fits}
 use Rattle.kept_values.specs.internal.Asking.{AreNoted}
 use Rattle.kept_values.proofs.Following.{from_follow, to_follow}
-use Rattle.kept_values.proofs.LinkedAnew.{AreRightOn, IsFitOn, all_asking, linked_marks, recalculated, steps_taken}
+use Rattle.kept_values.proofs.LinkedAnew.{AreRightOn, IsFitOn, all_asked, all_asking, linked_marks, recalculated, steps_taken}
 use Rattle.kept_values.proofs.values.Values.refresh.Goals as goal
 
 pub link_all-requires-clause-but : goal.link_all-requires-clause-but
@@ -30,7 +30,7 @@ returns-in_err-link_all-clause-follows g c =
     let follow = to_follow b words customs c.args.day self c.requires.numbered c.requires.follows in
     from_follow b words customs c.args.day (record { alloc = self.alloc; graph = c.link_all.new.graph; asking = self.asking; recalc = self.recalc })
     (linked_marks b words customs c.args.day (links_of self.graph) (links_of c.link_all.new.graph) (marks_in self.recalc) _ (kept_in self.recalc) follow c.link_all.ensures.but c.link_all.ensures.links (c.items.ensures ∙ c.marks.ensures.list))
-    c.requires.follows.asks
+    c.requires.follows.asks c.requires.follows.asked
 
 pub returns-in_err-note_all-clause-follows : goal.returns-in_err-note_all-clause-follows
 returns-in_err-note_all-clause-follows g c =
@@ -42,6 +42,7 @@ returns-in_err-note_all-clause-follows g c =
     from_follow b words customs c.args.day (record { alloc = self.alloc; graph = c.link_all.new.graph; asking = c.note_all.new.asking; recalc = self.recalc })
     (linked_marks b words customs c.args.day (links_of self.graph) (links_of c.link_all.new.graph) (marks_in self.recalc) _ (kept_in self.recalc) follow c.link_all.ensures.but c.link_all.ensures.links (c.items.ensures ∙ c.marks.ensures.list))
     (λ a x t free at is asks. c.note_all.ensures.stay a (c.requires.follows.asks a x t free at is asks))
+    (all_asked b words (marks_in self.recalc) c.items-2.result.now (λ a. has a self.asking.keys) (λ a. has a c.note_all.new.asking.keys) follow.known (c.items-2.ensures ∙ c.marks-2.ensures.list) c.requires.follows.asked c.note_all.ensures.only)
 
 pub recalculate-requires-clause-fit : goal.recalculate-requires-clause-fit
 recalculate-requires-clause-fit g c =
@@ -84,6 +85,7 @@ returns-clause-follows g c =
     from_follow b words customs c.args.day (record { alloc = c.args.self.now.alloc; graph = c.link_all.new.graph; asking = c.note_all.new.asking; recalc = new })
     (recalculated b words customs c.args.day c.recalculate.result links old (marks_in new) (kept_in new) c.in_ok-link_all.ensures.ok c.link_all.ensures.links follow.known right c.recalculate.ensures.unmarked c.recalculate.ensures.marks fit)
     (λ a x t free at is asks. all_asking b words old (λ a. has a c.args.self.now.asking.keys) (λ a. has a c.note_all.new.asking.keys) c.requires.follows.asks c.note_all.ensures.stay noted a x t at is asks)
+    (all_asked b words old c.items-2.result.now (λ a. has a c.args.self.now.asking.keys) (λ a. has a c.note_all.new.asking.keys) follow.known (c.items-2.ensures ∙ c.marks-2.ensures.list) c.requires.follows.asked c.note_all.ensures.only)
 
 pub returns-clause-most : goal.returns-clause-most
 returns-clause-most g c =

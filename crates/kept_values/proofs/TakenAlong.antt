@@ -1,0 +1,121 @@
+-- Marks that are taken along with a structural operation. Serves what takes values along.
+use Rattle.std.proofs.Common.{◌≡◌, ◌∙◌, sym, ap, refl, subst, ℕ, Bool, true, false, cond, List, [], ◌∷◌, ◌++◌, Option, Some, None, option_map, ◌⊎◌, inl, inr, ⊎_elim}
+use Rattle.std.specs.Prelude.{IsTrue}
+use Rattle.std.proofs.lemmas.Bool.{false≢true}
+use Rattle.cell_addr.specs.declared.place.Place.{Place}
+use Rattle.shift_core.specs.Tables.{place_after}
+use Rattle.shift_core.specs.declared.shift.Shift.{Shift}
+use Rattle.book_values.specs.Workbook as book
+use Rattle.dep_graph.specs.Nodes.{has}
+use Rattle.dep_graph.specs.Shifted.{node_after}
+use Rattle.dep_graph.specs.declared.node.Node.{Node}
+use Rattle.dep_graph.specs.declared.node.Node.TheVariants.{Cell, Name, Range}
+use Rattle.dep_graph.proofs.Places.{has-append_cases, has-append_left, has-append_right, has_first, has_one}
+use Rattle.recalc_core.specs.Laws.{AreKnown}
+use Rattle.recalc_core.specs.Nodes.{node_at}
+use Rattle.recalc_core.specs.Recalc.{with_mark}
+use Rattle.recalc_core.proofs.Bridge.{none_some, same_some}
+use Rattle.marked_values.specs.Shifts.{is_moved_cell}
+use Rattle.kept_values.specs.internal.TakenAlong.{AddsTaken, moved_cell, with_some, with_taken}
+use Rattle.kept_values.proofs.FoundNames.{marked_more}
+
+-- ---- one mark more, if there is one
+
+mark_is : (a c : Node) (marks : List Node) → has c (with_mark a marks) ≡ has c (marks ++ a ∷ [])
+mark_is a c marks = marked_more a marks (with_mark a marks) refl c
+
+mark_stays : (o : Option Node) (c : Node) (marks : List Node) → IsTrue (has c marks) → IsTrue (has c (with_some o marks))
+mark_stays None c marks h = h
+mark_stays (Some a) c marks h = mark_is a c marks ∙ has-append_left c marks (a ∷ []) h
+
+mark_there : (o : Option Node) (c : Node) (marks : List Node) → o ≡ Some c → IsTrue (has c (with_some o marks))
+mark_there None c marks is = absurd (none_some c is)
+mark_there (Some a) c marks is =
+    mark_is a c marks ∙ has-append_right c marks (a ∷ []) (subst (λ n. IsTrue (has c (n ∷ []))) (sym (same_some a c is)) (has_first c []))
+
+mark_cases : (o : Option Node) (c : Node) (marks : List Node) → IsTrue (has c (with_some o marks)) → IsTrue (has c marks) ⊎ (o ≡ Some c)
+mark_cases None c marks h = inl h
+mark_cases (Some a) c marks h = ⊎_elim
+    (λ (before : has c marks ≡ true). inl before)
+    (λ (last : has c (a ∷ []) ≡ true). inr (ap Some (sym (has_one c a last))))
+    (has-append_cases c marks (a ∷ []) (sym (mark_is a c marks) ∙ h))
+
+-- ---- a node that is taken along
+
+module _ (s : Shift) where
+  cell_again : (p : Place) → is_moved_cell s p ≡ true → moved_cell s (Cell p) ≡ Some (Cell p)
+  cell_again p moved = ap (λ t. cond t (Some (Cell p)) None) moved
+
+  same_cell : (a c : Node) → moved_cell s a ≡ Some c → c ≡ a
+  same_cell (Cell p) c is = by (is_moved_cell s p) is
+    where
+      by : (t : Bool) → cond t (Some (Cell p)) None ≡ Some c → c ≡ Cell p
+      by true e = sym (same_some (Cell p) c e)
+      by false e = absurd (none_some c e)
+  same_cell (Name scope word) c is = absurd (none_some c is)
+  same_cell (Range block) c is = absurd (none_some c is)
+
+  -- what a known node becomes is known
+  after_known : (words : List (List ℕ)) (a c : Node) (x : book.Node) → node_at words a ≡ Some x → node_after s a ≡ Some c → (y : book.Node) × (node_at words c ≡ Some y)
+  after_known words (Cell p) c x at goes = by (place_after s p) goes
+    where
+      by : (o : Option Place) → option_map Cell o ≡ Some c → (y : book.Node) × (node_at words c ≡ Some y)
+      by None e = absurd (none_some c e)
+      by (Some q) e = (book.place q, ap (node_at words) (sym (same_some (Cell q) c e)))
+  after_known words (Name scope word) c x at goes = (x, ap (node_at words) (sym (same_some (Name scope word) c goes)) ∙ at)
+  after_known words (Range block) c x at goes = absurd (none_some x at)
+
+  -- ---- lists of them
+
+  pub takes_none : (marks : List Node) → AddsTaken s [] marks marks
+  takes_none marks = record {
+    taken = record { along = λ a after h goes. absurd (false≢true h); stay = λ p moved h. absurd (false≢true h) };
+    stay = λ a h. h;
+    known = λ words nodes before. before;
+  }
+
+  module _ (nodes old now new : List Node) (x : Node) (so_far : AddsTaken s nodes old now) (is : new ≡ with_taken s x now) where
+    still : (c : Node) → IsTrue (has c now) → IsTrue (has c new)
+    still c h = subst (λ ms. IsTrue (has c ms)) (sym is) (mark_stays (moved_cell s x) c (with_some (node_after s x) now) (mark_stays (node_after s x) c now h))
+
+    onto : (c : Node) → node_after s x ≡ Some c → IsTrue (has c new)
+    onto c goes = subst (λ ms. IsTrue (has c ms)) (sym is) (mark_stays (moved_cell s x) c (with_some (node_after s x) now) (mark_there (node_after s x) c now goes))
+
+    again : (p : Place) → is_moved_cell s p ≡ true → Cell p ≡ x → IsTrue (has (Cell p) new)
+    again p moved same =
+        subst (λ ms. IsTrue (has (Cell p) ms)) (sym is)
+        (mark_there (moved_cell s x) (Cell p) (with_some (node_after s x) now) (ap (moved_cell s) (sym same) ∙ cell_again p moved))
+
+    came : (c : Node) → IsTrue (has c new) → IsTrue (has c now) ⊎ ((node_after s x ≡ Some c) ⊎ (c ≡ x))
+    came c h = ⊎_elim
+        (λ (before : has c (with_some (node_after s x) now) ≡ true).
+        ⊎_elim (λ (first : has c now ≡ true). inl first) (λ (goes : node_after s x ≡ Some c). inr (inl goes)) (mark_cases (node_after s x) c now before))
+        (λ (moved : moved_cell s x ≡ Some c). inr (inr (same_cell x c moved)))
+        (mark_cases (moved_cell s x) c (with_some (node_after s x) now) (subst (λ ms. IsTrue (has c ms)) is h))
+
+    pub takes_more : AddsTaken s (nodes ++ x ∷ []) old new
+    takes_more = record {
+      taken = record {
+        along = λ a after h goes. ⊎_elim
+            (λ (front : has a nodes ≡ true). still after (so_far.taken.along a after front goes))
+            (λ (last : has a (x ∷ []) ≡ true). onto after (ap (node_after s) (sym (has_one a x last)) ∙ goes))
+            (has-append_cases a nodes (x ∷ []) h);
+        stay = λ p moved h. ⊎_elim
+            (λ (front : has (Cell p) nodes ≡ true). still (Cell p) (so_far.taken.stay p moved front))
+            (λ (last : has (Cell p) (x ∷ []) ≡ true). again p moved (has_one (Cell p) x last))
+            (has-append_cases (Cell p) nodes (x ∷ []) h);
+      };
+      stay = λ a h. still a (so_far.stay a h);
+      known = λ words known before. all_known words known before;
+    }
+      where
+        all_known : (words : List (List ℕ)) → AreKnown words (nodes ++ x ∷ []) → AreKnown words old → AreKnown words new
+        all_known words known before c h = by (came c h)
+          where
+            here : (y : book.Node) × (node_at words x ≡ Some y)
+            here = known x (has-append_right x nodes (x ∷ []) (has_first x []))
+
+            by : IsTrue (has c now) ⊎ ((node_after s x ≡ Some c) ⊎ (c ≡ x)) → (y : book.Node) × (node_at words c ≡ Some y)
+            by (inl first) = so_far.known words (λ a front. known a (has-append_left a nodes (x ∷ []) front)) before c first
+            by (inr (inl goes)) = let (y, at) = here in after_known words x c y at goes
+            by (inr (inr same)) = let (y, at) = here in (y, ap (node_at words) same ∙ at)

@@ -1,0 +1,137 @@
+// Values that are taken along with a structural operation.
+ghost use Rattle.std.specs.Prelude.{◌≡◌, false, IfOk, OnOk};
+ghost use Rattle.shift_core.specs.Sound.{IsSound};
+ghost use Rattle.dep_graph.specs.Shifted.{node_after};
+ghost use Rattle.dep_graph.specs.declared.node.Node.{Node as NodeSeen};
+ghost use Rattle.recalc_core.specs.Recalc.{kept_in, marks_in};
+ghost use Rattle.marked_values.specs.Shifts.{is_moved_cell};
+ghost use Rattle.kept_values.specs.internal.TakenAlong.{AddsTaken, moved_cell, with_some, with_taken};
+
+use crate::values::Values;
+use cell_addr::Place;
+use dep_graph::Node;
+use indexmap::IndexSet;
+use recalc_core::Recalc;
+use shift_core::{Form, Shift, destination, moved_block, moved_place};
+use std::alloc::AllocError;
+use std::mem;
+
+impl Values {
+    ghost use Rattle.kept_values.specs.Shifted.{FollowsOver};
+    ghost use Rattle.kept_values.specs.Values.{asks_in, kept_in as kept_of, links_in};
+    ghost use Rattle.kept_values.specs.internal.TakenAlong.{HasGathered};
+
+    /// The values after a structural operation: links and values go along with their nodes, so that they follow the workbook
+    /// after it where they followed the one before it. Marked are then the nodes that were, those whose formulas the operation
+    /// bends or that ask where a reference is, and what is touched: each filled cell of a block that the operation moves and
+    /// of where that goes, and each name of a dropped sheet.
+    ///
+    /// Errs for want of memory, and then nothing is kept any more. Costs what [`Graph::bent`](dep_graph::Graph::bent),
+    /// [`Graph::shift`](dep_graph::Graph::shift) and [`Recalc::shift`] do, and a look-up or two for each node that is
+    /// marked then, which each formula is that asks where a reference is.
+    pub fn shifted(mut self, s: &Shift, touched: &[Node]) -> Result<Values, AllocError>
+        requires { IsSound s.now }
+        ensures { IfOk result (λ values. FollowsOver s.now touched.now self values) }
+    {
+        match self.go_along(s, touched) {
+            Ok(()) => Ok(self),
+            Err(error) => Err(error),
+        }
+    }
+
+    // Goes along with the operation; for want of memory only a part does.
+    fn go_along(&mut self, s: &Shift, touched: &[Node]) -> Result<(), AllocError>
+        requires { IsSound s.now }
+        ensures { OnOk result (FollowsOver s.now touched.now self.old self.new) }
+    {
+        self.gather(s, touched)?;
+        let marked = Vec::from_slice(self.alloc, self.recalc.marks().items())?;
+        self.graph.shift(s)?;
+        self.recalc.shift(s)?;
+        take_all_along(&mut self.recalc, s, &marked)
+    }
+
+    // Marks what is touched, what the operation bends and what asks where a reference is, of which none is noted any more.
+    fn gather(&mut self, s: &Shift, touched: &[Node]) -> Result<(), AllocError>
+        requires { IsSound s.now }
+        ensures marks { OnOk result (HasGathered s.now touched.now self.old self.new) }
+        ensures asking { OnOk result ((a : NodeSeen) → asks_in self.new a ≡ false) }
+        ensures links { links_in self.new ≡ links_in self.old }
+        ensures kept { kept_of self.new ≡ kept_of self.old }
+    {
+        let bent = self.graph.bent(s)?;
+        let asking = mem::replace(&mut self.asking, IndexSet::new(self.alloc));
+        self.mark_all(touched)?;
+        self.mark_all(bent.items())?;
+        self.mark_all(asking.as_slice())
+    }
+}
+
+// Marks each of the nodes where the operation takes it, and a cell of a moved block where it was too.
+fn take_all_along(recalc: &mut Recalc, s: &Shift, nodes: &[Node]) -> Result<(), AllocError>
+    requires { IsSound s.now }
+    ensures taken { OnOk result (AddsTaken s.now nodes.now (marks_in recalc.old) (marks_in recalc.new)) }
+    ensures kept { kept_in recalc.new ≡ kept_in recalc.old }
+{
+    'nodes: for node in nodes {
+        take_along(recalc, s, *node)?;
+    }
+    Ok(())
+}
+
+// Marks the node so.
+fn take_along(recalc: &mut Recalc, s: &Shift, a: Node) -> Result<(), AllocError>
+    requires { IsSound s.now }
+    ensures taken { OnOk result (marks_in recalc.new ≡ with_taken s.now a (marks_in recalc.old)) }
+    ensures kept { kept_in recalc.new ≡ kept_in recalc.old }
+{
+    mark_some(recalc, moved_node(s, a))?;
+    mark_some(recalc, moved_cell(s, a))
+}
+
+// Marks the node, if there is one.
+fn mark_some(recalc: &mut Recalc, a: Option<Node>) -> Result<(), AllocError>
+    ensures marked { OnOk result (marks_in recalc.new ≡ with_some a (marks_in recalc.old)) }
+    ensures kept { kept_in recalc.new ≡ kept_in recalc.old }
+{
+    match a {
+        Some(node) => recalc.mark(node),
+        None => Ok(()),
+    }
+}
+
+// Where the operation moves the node; `None` where its place or its block is lost.
+fn moved_node(s: &Shift, a: Node) -> Option<Node>
+    requires { IsSound s.now }
+    ensures { result ≡ node_after s.now a }
+{
+    match a {
+        Node::Cell(at) => Some(Node::Cell(moved_place(s, at)?)),
+        Node::Name { .. } => Some(a),
+        Node::Range(block) => Some(Node::Range(moved_block(s, block)?)),
+    }
+}
+
+// The node, if it is a cell of a block that the operation moves, or of where that goes.
+fn moved_cell(s: &Shift, a: Node) -> Option<Node>
+    requires { IsSound s.now }
+    ensures { result ≡ moved_cell s.now a }
+{
+    match a {
+        Node::Cell(at) => { if is_moved_cell(s, at) { Some(a) } else { None } }
+        Node::Name { .. } => None,
+        Node::Range(_) => None,
+    }
+}
+
+// Whether the place is in a block that the operation moves, or where that goes.
+fn is_moved_cell(s: &Shift, at: Place) -> bool
+    requires { IsSound s.now }
+    ensures { result ≡ is_moved_cell s.now at }
+{
+    match s.form() {
+        Form::Lines { .. } => false,
+        Form::Cells { source, to } => source.holds(at) || destination(source, to).holds(at),
+        Form::Sheet { .. } => false,
+    }
+}
