@@ -1,12 +1,13 @@
 -- Changes that join the frames before and after a call. Serves all calls that change a workbook.
-use Rattle.std.proofs.Common.{◌≡◌, ◌∙◌, sym, ap, arith, ℕ, ◌+◌, nat_lt, true, false, cond, Some, None}
+use Rattle.std.proofs.Common.{◌≡◌, ◌∙◌, sym, ap, subst, arith, ℕ, ◌+◌, nat_lt, true, false, cond, Some, None}
 use Rattle.std.proofs.lemmas.Bool.Decides.{nat_tests}
+use Rattle.std.proofs.lemmas.Option.{none-some, same_Some}
 use Rattle.grid_store.specs.Grid.{with_entries, without_places}
 use Rattle.shift_core.proofs.MovedMaps.{restored_moved}
 use Rattle.shift_core.specs.Maps.{AreInside, lost_entries, moved_map, restored_map}
 use Rattle.shift_core.specs.Sound.{IsSound}
 use Rattle.shift_core.specs.declared.shift.Shift.{Shift}
-use Rattle.kept_book.specs.Change.{AreKnown, Change, HaveSlots, Joins, cells_after, cells_before, names_with, places_of, sheets_with, shift_of}
+use Rattle.kept_book.specs.Change.{AreKnown, Change, HaveSlots, Joins, LeadsBy, cells_after, cells_before, names_with, places_of, sheets_with, shift_of}
 use Rattle.kept_book.specs.Frame.{Frame, Line, Words}
 use Rattle.kept_book.specs.internal.Writing.{AreReplaced}
 use Rattle.kept_book.proofs.Written.{written-back}
@@ -47,6 +48,7 @@ module _ (line : Line) (words : Words) (c : Change) (f g : Frame) (from : c.from
       names = sym names i;
     };
     order = omega (arith, to);
+    operation = λ s is. absurd (none-some s (sym (no-shift line c to) ∙ is));
     returns = returns;
     repeats = repeats;
     known = known;
@@ -56,7 +58,7 @@ module _ (line : Line) (words : Words) (s : Shift) (c : Change) (f g : Frame) (f
     (sound : IsSound s) (inside : AreInside f.cells) (replaced : c.replaced ≡ lost_entries s f.cells) (cells : g.cells ≡ moved_map s f.cells)
     (sheets : sheets_with (λ x. x.1) c.sheets f.sheets ≡ g.sheets) (sheets_back : sheets_with (λ x. x.0) c.sheets g.sheets ≡ f.sheets)
     (names : names_with (λ x. x.1) c.names f.names ≡ g.names) (names_back : names_with (λ x. x.0) c.names g.names ≡ f.names)
-    (returns : HaveSlots (λ x. x.0) c.sheets g.sheets) (repeats : HaveSlots (λ x. x.1) c.sheets f.sheets) (known : AreKnown words c.names) where
+    (returns : HaveSlots (λ x. x.0) c.sheets g.sheets) (repeats : HaveSlots (λ x. x.1) c.sheets f.sheets) (known : AreKnown words c.names) (by : LeadsBy s f g) where
   has-shift : shift_of line c ≡ Some s
   has-shift = one-shift line c s to (ap line from ∙ here)
 
@@ -77,6 +79,7 @@ module _ (line : Line) (words : Words) (s : Shift) (c : Change) (f g : Frame) (f
       names = names i;
     };
     order = omega (arith, to);
+    operation = λ x is. subst (λ y. LeadsBy y f g) (same_Some s x (sym has-shift ∙ is)) by;
     returns = returns;
     repeats = repeats;
     known = known;

@@ -25,9 +25,9 @@ use Rattle.book_values.specs.Names.{Key}
 use Rattle.book_values.specs.Workbook.{scope_sheet}
 use Rattle.book_model.proofs.NameMaps.{get-after}
 use Rattle.book_model.specs.Changes.{rewritten_names, sheets_left, shifted, stays}
+use Rattle.kept_book.specs.Change.{id_stays}
 use Rattle.kept_book.specs.Frame.{At, Frame, IsNamed, Stands, Words, book_at, home_at, named_at, names_seen, numbered_at, stood_at, stood_of, tree_named}
 use Rattle.kept_book.specs.Numbered.{Follows, stood_after}
-use Rattle.kept_book.proofs.NamesLeft.{id_stays}
 use Rattle.kept_book.proofs.NamesSeen.{get-seen, number_of, same_names}
 use Rattle.kept_book.proofs.ShiftedContents.{cells_inside, contents-shifted, stand-shifted}
 

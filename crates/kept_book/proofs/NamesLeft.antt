@@ -15,7 +15,7 @@ use Rattle.name_table.specs.Scopes.{NameMap, in_scope, key_cmp, key_of}
 use Rattle.name_table.specs.declared.key.NameKey.{NameKey}
 use Rattle.shift_core.specs.declared.form.Form.{Form}
 use Rattle.shift_core.specs.declared.form.Form.TheVariants as form
-use Rattle.kept_book.specs.Change.{AreKnown, names_with, with_id}
+use Rattle.kept_book.specs.Change.{AreKnown, id_stays, names_with, with_id}
 use Rattle.kept_book.specs.Frame.{Words}
 use Rattle.kept_book.specs.internal.Dropped.{AreGone, gone, ids_left}
 use Rattle.kept_book.proofs.NamesSeen.{is_id_key, same_id_key}
@@ -99,11 +99,6 @@ module _ (d : ℕ) (k : NameKey) where
 
   pub find-left : (names : NameMap) → find key_cmp k (ids_left (form.Sheet d) names) ≡ cond (same_scope k.scope (Some d)) (option_map went (fin.get names k)) None
   find-left names = find-going (fin.entries names) ∙ ap (λ r. cond (same_scope k.scope (Some d)) (option_map went r) None) (sym (get-entries names k))
-
--- a name stays over an operation unless its sheet is dropped
-abbrev pub id_stays : Form → NameKey → Bool
-id_stays (form.Sheet d) k = not (same_scope k.scope (Some d))
-id_stays _ k = true
 
 after-left : (b : Bool) (r : Option ℕ) → listed_or (λ x. x.1) (cond b (option_map went r) None) r ≡ cond (not b) r None
 after-left true None = refl

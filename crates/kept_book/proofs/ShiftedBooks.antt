@@ -18,13 +18,13 @@ use Rattle.shift_core.specs.Sound.{IsSound}
 use Rattle.shift_core.specs.declared.shift.Shift.{Shift}
 use Rattle.shift_line.specs.Track.{last, pushed, shift_at, with_spare}
 use Rattle.book_model.specs.Changes.{sheets_left, shifted}
-use Rattle.kept_book.specs.Change.{AreKnown, Change, HaveSlots, Joins, names_with, sheets_with}
+use Rattle.kept_book.specs.Change.{AreKnown, Change, HaveSlots, Joins, id_stays, names_with, sheets_with}
 use Rattle.kept_book.specs.Frame.{Frame, Stands, book_at, numbered_at}
 use Rattle.kept_book.specs.Kept.{KeepsUpTo}
 use Rattle.kept_book.specs.internal.Dropped.{PushesOn, ids_left}
 use Rattle.kept_book.proofs.Joining.{shift-joins}
 use Rattle.kept_book.proofs.Moving.{moved-book, moved-stands}
-use Rattle.kept_book.proofs.NamesLeft.{get-left, id_stays, left-back, left-known}
+use Rattle.kept_book.proofs.NamesLeft.{get-left, left-back, left-known}
 use Rattle.kept_book.proofs.ShiftedContents.{cells_inside}
 
 abbrev pub frame_with : Lazy → Grid Cell → Names → Frame
@@ -76,3 +76,4 @@ module _ (s : Shift) (lazy lazy2 : Lazy) (grid grid2 : Grid Cell) (names names2 
     pub shifted-joins : Joins (shift_at lazy2.line) (words_of names2) c (frame_with lazy grid names) (frame_with lazy2 grid2 names2)
     shifted-joins = shift-joins (shift_at lazy2.line) (words_of names2) s c (frame_with lazy grid names) (frame_with lazy2 grid2 names2) start end next-position is-on.here sound
         (cells_inside (numbered_at (at_in lazy) lazy.line.cursor) (cells_of grid) inside) replaced cells sheets_forth sheets_back names_forth names_back returns repeats known
+        (record { position = next-position; sheets = sheets; names = gone })

@@ -1,15 +1,20 @@
 -- What one operation changed: the part of a step by which it is taken back and done again.
 -- Source: this project's own.
-use Rattle.std.specs.Prelude.{◌≡◌, ⊤, ℕ, ◌<◌, ◌≤◌, nat_lt, if◌then◌else◌, List, [], ◌∷◌, length, insert, map, Option, Some, None}
+use Rattle.std.specs.Prelude.{◌≡◌, ⊤, ℕ, ◌+◌, ◌<◌, ◌≤◌, nat_lt, if◌then◌else◌, Bool, true, not, List, [], ◌∷◌, length, insert, map, Option, Some, None}
 use Rattle.std.specs.FinMap as fin
 use Rattle.cell_addr.specs.declared.place.Place.{Place}
+use Rattle.formula_tree.specs.Links.{same_scope}
 use Rattle.grid_store.specs.Grid.{with_entries, without_places}
 use Rattle.grid_store.specs.declared.cell.Cell.{Cell}
 use Rattle.name_table.specs.Scopes as table
 use Rattle.name_table.specs.SheetLists.{CanJoin, left_in}
 use Rattle.name_table.specs.declared.key.NameKey.{NameKey}
+use Rattle.shift_core.specs.Form.{form_of}
 use Rattle.shift_core.specs.Maps.{PlaceMap, moved_map, restored_map}
+use Rattle.shift_core.specs.declared.form.Form.{Form}
+use Rattle.shift_core.specs.declared.form.Form.TheVariants as form
 use Rattle.shift_core.specs.declared.shift.Shift.{Shift}
+use Rattle.book_model.specs.Changes.{sheets_left}
 use Rattle.kept_book.specs.Frame.{Frame, Line, Words}
 
 -- a sheet's place in the list and its name; none where it isn't listed
@@ -85,11 +90,24 @@ abbrev pub AreKnown : Words → List (NameKey × (Option ℕ × Option ℕ)) →
 AreKnown words [] = ⊤
 AreKnown words (c ∷ cs) = (c.0.word < length words) × AreKnown words cs
 
--- a change joins two frames: each is what it makes of the other. What it lists can be put back and done again
+-- a name stays over an operation unless its sheet is dropped
+abbrev pub id_stays : Form → NameKey → Bool
+id_stays (form.Sheet dropped) key = not (same_scope key.scope (Some dropped))
+id_stays _ key = true
+
+-- an operation leads from a frame to one at the next position, with the sheets and the names that it leaves
+pub record LeadsBy (s : Shift) (f g : Frame) : Type 0 where
+  pub position : g.position ≡ f.position + 1
+  pub sheets : g.sheets ≡ sheets_left (form_of s) f.sheets
+  pub names : (key : NameKey) → fin.get g.names key ≡ (if id_stays (form_of s) key then fin.get f.names key else None)
+
+-- a change joins two frames: each is what it makes of the other. What it lists can be put back and done again. Where it has an
+-- operation, it is that operation and nothing else
 pub record Joins (line : Line) (words : Words) (c : Change) (f g : Frame) : Type 0 where
   pub before : back line c g ≡ f
   pub after : forth line c f ≡ g
   pub order : c.from ≤ c.to
+  pub operation : (s : Shift) → shift_of line c ≡ Some s → LeadsBy s f g
   pub returns : HaveSlots (λ x. x.0) c.sheets g.sheets
   pub repeats : HaveSlots (λ x. x.1) c.sheets f.sheets
   pub known : AreKnown words c.names

@@ -12,7 +12,7 @@ use Rattle.lazy_store.specs.Standing.{Standing}
 use Rattle.name_table.proofs.KeyOrder.{key_cmp-IsTotalOrder}
 use Rattle.name_table.specs.declared.key.NameKey.{NameKey}
 use Rattle.kept_book.proofs.Contents.{content_same, get-contents}
-use Rattle.kept_book.specs.Change.{AreKnown, Change, HaveSlots, back, cells_after, cells_before, forth, names_with, shift_of, sheets_with}
+use Rattle.kept_book.specs.Change.{AreKnown, Change, HaveSlots, LeadsBy, back, cells_after, cells_before, forth, names_with, shift_of, sheets_with}
 use Rattle.kept_book.specs.Frame.{Frame, IsNamed, Words, home_at, name_seen, named_at, names_seen, numbered_at, stood_of, tree_named}
 use Rattle.kept_book.specs.Kept.{IsMore}
 use Rattle.kept_book.specs.Stored.{StandsAt, contents_of}
@@ -101,6 +101,7 @@ module _ (among : ℕ → Type 0) (low high : ℕ) (t u : Timeline) (a : Agree a
       record {
         order = led.order;
         same = subst (λ g. SameFrame g f) (sym (forth_same c (back u.line c f) l end ∙ ap (forth t.line c) b)) led.same;
+        operation = λ s is. subst (λ g. LeadsBy s g f) (sym b) (led.operation s (sym (shift_same c l end) ∙ is));
         returns = led.returns;
         repeats = subst (λ g. HaveSlots (λ x. x.1) c.sheets g.sheets) (sym b) led.repeats;
         known = known_more t.words u.words c.names a.words led.known;
@@ -114,6 +115,7 @@ module _ (among : ℕ → Type 0) (low high : ℕ) (t u : Timeline) (a : Agree a
       record {
         order = lead.order;
         same = subst (λ g. SameFrame g f) (sym (back_same c (forth u.line c f) start h ∙ ap (back t.line c) b)) lead.same;
+        operation = λ s is. subst (LeadsBy s f) (sym b) (lead.operation s (sym (shift_same c start h) ∙ is));
         returns = subst (λ g. HaveSlots (λ x. x.0) c.sheets g.sheets) (sym b) lead.returns;
         repeats = lead.repeats;
         known = known_more t.words u.words c.names a.words lead.known;

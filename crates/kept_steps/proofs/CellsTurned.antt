@@ -1,5 +1,5 @@
 -- What steps of cells alone leave of a workbook. Serves undo and redo.
-use Rattle.std.proofs.Common.{◌≡◌, ◌∙◌, sym, ap, subst, refl, ℕ, Bool, true, false, cond, ◌||◌, ◌++◌, List, [], ◌∷◌, map, Option, Some, None, option_map}
+use Rattle.std.proofs.Common.{◌≡◌, ◌∙◌, sym, ap, subst, refl, ℕ, Bool, true, false, cond, ◌||◌, ◌++◌, List, [], ◌∷◌, Option, Some, None, option_map}
 use Rattle.std.proofs.lemmas.Bool.{false≢true}
 use Rattle.std.specs.Cmp.{both_ways}
 use Rattle.std.specs.FinMap as fin
@@ -50,7 +50,7 @@ among-same p [] = refl
 among-same p (q ∷ ps) = (λ i. test-same p q i || among-same p ps i)
 
 -- no entry is found at a place that isn't among theirs
-not-found : (p : Place) (es : List (Place × Cell)) → list_any (same_place p) (places_of es) ≡ false → find_place p es ≡ None
+pub not-found : (p : Place) (es : List (Place × Cell)) → list_any (same_place p) (places_of es) ≡ false → find_place p es ≡ None
 not-found p [] h = refl
 not-found p (e ∷ es) h =
     let n = neither (same_place p e.0) (list_any (same_place p) (places_of es)) h in
@@ -121,11 +121,11 @@ differ t u cs f g at words same = record {
       ∙ sym (get-contents (numbered_at t.at f.position) f.cells p);
 }
 
-first-led : (t : Timeline) (f : Frame) (es : List (List Change)) → ArePast t f es → AllLedHere t (first_step es) f
+pub first-led : (t : Timeline) (f : Frame) (es : List (List Change)) → ArePast t f es → AllLedHere t (first_step es) f
 first-led t f [] past = tt
 first-led t f (e ∷ es) past = past.0
 
-first-lead : (t : Timeline) (f : Frame) (es : List (List Change)) → AreAhead t f es → AllLeadOn t (first_step es) f
+pub first-lead : (t : Timeline) (f : Frame) (es : List (List Change)) → AreAhead t f es → AllLeadOn t (first_step es) f
 first-lead t f [] ahead = tt
 first-lead t f (e ∷ es) ahead = ahead.0
 

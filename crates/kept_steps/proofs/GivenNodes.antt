@@ -1,6 +1,5 @@
 -- What stands at the nodes of a workbook as it is kept, and which of them words find. Serves who works out its values.
-use Rattle.std.proofs.Common.{◌≡◌, ◌≢◌, ◌∙◌, sym, ap, subst, refl, ℕ, Bool, true, false, cond, ◌==◌, List, [], ◌∷◌, Option, Some, None, is_some, option_map, eqb-true, Result, Ok, Err}
-use Rattle.std.proofs.lemmas.Bool.{false≢true}
+use Rattle.std.proofs.Common.{◌≡◌, ◌≢◌, ◌∙◌, sym, ap, subst, refl, ℕ, Bool, true, false, cond, ◌==◌, List, Option, Some, None, is_some, option_map, eqb-true, Result, Ok, Err}
 use Rattle.std.proofs.lemmas.Option.{none-some, same_Some}
 use Rattle.std.specs.FinMap as fin
 use Rattle.std.specs.Option.{option_or}
@@ -18,21 +17,19 @@ use Rattle.name_table.proofs.WordNumbers.{number-spelled}
 use Rattle.name_table.specs.Scopes as table
 use Rattle.name_table.specs.Words.{AreWords, number_in}
 use Rattle.name_table.specs.declared.key.NameKey.{NameKey}
-use Rattle.shift_core.specs.Maps.{PlaceMap}
-use Rattle.book_values.specs.Names.{Key, found, key_of}
+use Rattle.book_values.specs.Names.{found, key_of}
 use Rattle.book_values.specs.Values.{content_value}
 use Rattle.book_values.specs.Workbook as book
 use Rattle.book_values.specs.Workbook.{Workbook, content_tree, home_of, scope_sheet}
 use Rattle.dep_graph.specs.declared.node.Node.TheVariants as node
-use Rattle.kept_book.proofs.Contents.{get-contents}
 use Rattle.kept_book.proofs.FoundNames.{found-none, found-read, get-known, seen-id, tree_in-entries}
 use Rattle.kept_book.proofs.NamesSeen.{number-spells}
 use Rattle.kept_book.proofs.Staying.{word-there}
 use Rattle.kept_book.specs.Formula.{tree_in_scope}
-use Rattle.kept_book.specs.Frame.{At, IsNamed, Words, named_at, names_seen, numbered_at}
+use Rattle.kept_book.specs.Frame.{At, IsNamed, Words, named_at, names_seen}
 use Rattle.kept_book.specs.Kept.{id_of}
 use Rattle.kept_book.specs.Numbered.{Numbered}
-use Rattle.kept_book.specs.Stored.{content_of, contents_of, tree_of}
+use Rattle.kept_book.specs.Stored.{content_of, tree_of}
 use Rattle.recalc_core.specs.Given.{HasGiven, HasGivenAt, IsFound}
 use Rattle.recalc_core.specs.Nodes.{AreNumbered, name_at, node_at, scope_at}
 use Rattle.recalc_core.specs.declared.trees.Given.TheVariants.{Formula, Nothing}

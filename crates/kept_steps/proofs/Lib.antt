@@ -5,12 +5,14 @@ mod Agreeing
 mod Lists
 mod Sessions
 mod Outcomes
-mod Turning
+pub mod Turning
 mod Including
 mod ListedIds
 mod Swept
 mod Settled
 pub mod Unchanged
-mod GivenNodes
+pub mod GivenNodes
 mod ListedNodes
 mod CellsTurned
+mod Operating
+mod OperationsTurned

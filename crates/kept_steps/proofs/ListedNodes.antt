@@ -1,11 +1,11 @@
 -- The nodes of all cells and all names. Serves the list of them.
-use Rattle.std.proofs.Common.{◌≡◌, ◌∙◌, sym, ap, subst, refl, ℕ, Bool, true, false, cond, ◌==◌, ◌&&◌, ◌||◌, ◌<◌, ◌++◌, List, [], ◌∷◌, length, map, Option, Some, None, is_some, option_map, eq-eqb, eqb-true, ⊎_elim}
+use Rattle.std.proofs.Common.{◌≡◌, ◌∙◌, sym, ap, subst, refl, ℕ, Bool, true, false, cond, ◌==◌, ◌||◌, ◌<◌, ◌++◌, List, [], ◌∷◌, length, map, Option, Some, None, is_some, option_map, eqb-true, ⊎_elim}
 use Rattle.std.proofs.lemmas.Bool.{and_parts, false≢true, or_cases, or_left, or_right}
 use Rattle.std.proofs.lemmas.List.Folds.{list_any-append}
 use Rattle.std.proofs.lemmas.Option.{none-some, same_Some}
 use Rattle.std.specs.FinMap as fin
 use Rattle.std.specs.FinMap.{find, get-entries, get-from_entries}
-use Rattle.std.specs.List.{AllByRecursion, list_any}
+use Rattle.std.specs.List.{AllByRecursion}
 use Rattle.std.specs.Ordering.{eq_by_cmp}
 use Rattle.std.specs.Prelude.{slice_get, unwrap_or}
 use Rattle.cell_addr.proofs.Places.{place_cmp-IsTotalOrder}
@@ -29,7 +29,6 @@ use Rattle.kept_book.proofs.Contents.{get-contents}
 use Rattle.kept_book.proofs.NamesSeen.{is_id_key}
 use Rattle.kept_book.proofs.Staying.{word-there}
 use Rattle.kept_book.specs.Frame.{At, IsNamed, Words, named_at, names_seen, numbered_at}
-use Rattle.kept_book.specs.Numbered.{Numbered}
 use Rattle.kept_book.specs.Stored.{content_of, contents_of}
 use Rattle.recalc_core.specs.Kept.{stands}
 use Rattle.recalc_core.specs.Laws.{AreKnown}

@@ -1,6 +1,6 @@
 -- Changes that led to a frame lead on from the frame before them, and the other way round. Serves undo and redo.
 use Rattle.std.proofs.Common.{◌≡◌, ◌∙◌, sym, ap, subst, refl, arith, ◌≤◌, List, [], ◌∷◌, ◌++◌}
-use Rattle.kept_book.specs.Change.{Change, HaveSlots, Joins, back, forth}
+use Rattle.kept_book.specs.Change.{Change, HaveSlots, Joins, LeadsBy, back, forth}
 use Rattle.kept_book.specs.Frame.{Frame}
 use Rattle.kept_book.specs.Walk.{Leads, back_all, forth_all}
 use Rattle.kept_steps.specs.Steps.{AllLeadOn, AllLedHere, LeadsOn, LedHere}
@@ -9,15 +9,16 @@ use Rattle.kept_steps.proofs.Frames.{one_frame, same_frame}
 
 module _ (t : Timeline) where
   joins_here : (c : Change) (f : Frame) → LedHere t c f → Joins t.line t.words c (back t.line c f) f
-  joins_here c f h = record { before = refl; after = one_frame _ _ h.same; order = h.order; returns = h.returns; repeats = h.repeats; known = h.known }
+  joins_here c f h = record { before = refl; after = one_frame _ _ h.same; order = h.order; operation = h.operation; returns = h.returns; repeats = h.repeats; known = h.known }
 
   pub joins_on : (c : Change) (f : Frame) → LeadsOn t c f → Joins t.line t.words c f (forth t.line c f)
-  joins_on c f h = record { before = one_frame _ _ h.same; after = refl; order = h.order; returns = h.returns; repeats = h.repeats; known = h.known }
+  joins_on c f h = record { before = one_frame _ _ h.same; after = refl; order = h.order; operation = h.operation; returns = h.returns; repeats = h.repeats; known = h.known }
 
   pub led : (c : Change) (f g : Frame) → Joins t.line t.words c f g → LedHere t c g
   led c f g j = record {
     order = j.order;
     same = same_frame _ _ (ap (forth t.line c) j.before ∙ j.after);
+    operation = λ s is. subst (λ x. LeadsBy s x g) (sym j.before) (j.operation s is);
     returns = j.returns;
     repeats = subst (λ x. HaveSlots (λ s. s.1) c.sheets x.sheets) (sym j.before) j.repeats;
     known = j.known;
@@ -27,6 +28,7 @@ module _ (t : Timeline) where
   leads c f g j = record {
     order = j.order;
     same = same_frame _ _ (ap (back t.line c) j.after ∙ j.before);
+    operation = λ s is. subst (LeadsBy s f) (sym j.after) (j.operation s is);
     returns = subst (λ x. HaveSlots (λ s. s.0) c.sheets x.sheets) (sym j.after) j.returns;
     repeats = j.repeats;
     known = j.known;

@@ -1,10 +1,11 @@
 -- Steps that led to a frame, and steps that lead on from it. Source: this project's own.
-use Rattle.std.specs.Prelude.{◌≡◌, ◌≤◌, ⊤, List, [], ◌∷◌}
+use Rattle.std.specs.Prelude.{◌≡◌, ◌≤◌, ⊤, List, [], ◌∷◌, Some}
 use Rattle.std.specs.FinMap as fin
 use Rattle.cell_addr.specs.declared.place.Place.{Place}
 use Rattle.name_table.specs.declared.key.NameKey.{NameKey}
+use Rattle.shift_core.specs.declared.shift.Shift.{Shift}
 use Rattle.book_model.specs.Workbook.{Workbook}
-use Rattle.kept_book.specs.Change.{AreKnown, Change, HaveSlots, back, forth}
+use Rattle.kept_book.specs.Change.{AreKnown, Change, HaveSlots, LeadsBy, back, forth, shift_of}
 use Rattle.kept_book.specs.Frame.{Frame}
 use Rattle.kept_book.specs.Walk.{back_all, forth_all}
 use Rattle.kept_steps.specs.Timeline.{StandIn, Timeline, book_in}
@@ -20,6 +21,7 @@ pub record SameFrame (f g : Frame) : Type 0 where
 pub record LedHere (t : Timeline) (c : Change) (f : Frame) : Type 0 where
   pub order : c.from ≤ c.to
   pub same : SameFrame (forth t.line c (back t.line c f)) f
+  pub operation : (s : Shift) → shift_of t.line c ≡ Some s → LeadsBy s (back t.line c f) f
   pub returns : HaveSlots (λ x. x.0) c.sheets f.sheets
   pub repeats : HaveSlots (λ x. x.1) c.sheets (back t.line c f).sheets
   pub known : AreKnown t.words c.names
@@ -28,6 +30,7 @@ pub record LedHere (t : Timeline) (c : Change) (f : Frame) : Type 0 where
 pub record LeadsOn (t : Timeline) (c : Change) (f : Frame) : Type 0 where
   pub order : c.from ≤ c.to
   pub same : SameFrame (back t.line c (forth t.line c f)) f
+  pub operation : (s : Shift) → shift_of t.line c ≡ Some s → LeadsBy s f (forth t.line c f)
   pub returns : HaveSlots (λ x. x.0) c.sheets (forth t.line c f).sheets
   pub repeats : HaveSlots (λ x. x.1) c.sheets f.sheets
   pub known : AreKnown t.words c.names

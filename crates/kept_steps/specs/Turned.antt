@@ -1,11 +1,17 @@
 -- What a step back or forth changes of a session's workbook. Source: this project's own.
-use Rattle.std.specs.Prelude.{◌≡◌, ◌++◌, ⊤, Bool, false, List, [], ◌∷◌}
+use Rattle.std.specs.Prelude.{◌≡◌, ◌++◌, ⊤, Bool, true, false, List, [], ◌∷◌, Option, None, Some, IsSome}
 use Rattle.std.specs.FinMap as fin
 use Rattle.std.specs.List.{list_any}
 use Rattle.cell_addr.specs.Place.{same_place}
 use Rattle.cell_addr.specs.declared.place.Place.{Place}
+use Rattle.grid_store.specs.declared.cell.Cell.{Cell}
+use Rattle.shift_core.specs.Sound.{IsSound}
+use Rattle.shift_core.specs.Tables.{place_after}
+use Rattle.shift_core.specs.declared.shift.Shift.{Shift}
+use Rattle.book_model.specs.Changes.{shifted}
 use Rattle.book_model.specs.Workbook.{Workbook}
-use Rattle.kept_book.specs.Change.{Change, places_of}
+use Rattle.kept_book.specs.Change.{Change, places_of, shift_of}
+use Rattle.kept_book.specs.Frame.{Line}
 use Rattle.kept_steps.specs.Fits.{steps_of}
 use Rattle.kept_steps.specs.declared.session.Session.{Session}
 
@@ -40,3 +46,27 @@ pub record DifferAmong (places : Place → Bool) (b c : Workbook) : Type 0 where
   pub sheets : c.sheets ≡ b.sheets
   pub names : c.names ≡ b.names
   pub cells : (p : Place) → places p ≡ false → fin.get c.cells p ≡ fin.get b.cells p
+
+-- the operation of a step that is one structural operation; none where the step is anything else
+abbrev pub operation_of : Line → List Change → Option Shift
+operation_of line [] = None
+operation_of line (c ∷ []) = shift_of line c
+operation_of line (c ∷ d ∷ cs) = None
+
+-- the operation of the step, where it is one, can be done, and makes the second workbook of the first
+abbrev pub Operates : Line → List Change → Workbook → Workbook → Type 0
+Operates line cs b c = (s : Shift) → operation_of line cs ≡ Some s → IsSound s × (c ≡ shifted s b)
+
+-- one of the changes lists the place as replaced
+abbrev pub is_replaced : List Change → Place → Bool
+is_replaced cs p = list_any (λ c. list_any (same_place p) (places_of c.replaced)) cs
+
+-- each cell of the workbook that the operation of the step loses is listed as replaced
+abbrev pub ListsLost : Line → List Change → Workbook → Type 0
+ListsLost line cs b = (s : Shift) (p : Place) → operation_of line cs ≡ Some s → place_after s p ≡ None → IsSome (fin.get b.cells p) → is_replaced cs p ≡ true
+
+-- what a step of one change lists as replaced; none where the step is anything else
+abbrev pub replaced_of : List Change → Option (List (Place × Cell))
+replaced_of [] = None
+replaced_of (c ∷ []) = Some c.replaced
+replaced_of (c ∷ d ∷ cs) = None

@@ -29,6 +29,7 @@ mod session;
 mod settling;
 mod sweeping;
 mod trees;
+mod turned;
 mod undoing;
 
 pub use entry::Entry;

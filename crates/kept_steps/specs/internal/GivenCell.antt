@@ -1,5 +1,5 @@
 -- What a cell has for a recalculation, where it holds no formula with a tree, and the nodes of cells and names.
-use Rattle.std.specs.Prelude.{ℕ, List, Option, None, Some, unwrap_or}
+use Rattle.std.specs.Prelude.{Option, Some, unwrap_or}
 use Rattle.cell_addr.specs.declared.place.Place.{Place}
 use Rattle.cell_addr.specs.declared.place.TheConstants.{NO_SHEET}
 use Rattle.cell_value.specs.declared.fault.FaultKind.TheVariants as faults

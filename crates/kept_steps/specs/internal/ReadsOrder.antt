@@ -1,5 +1,5 @@
 -- Reads that follow one another leave what one does.
-use Rattle.std.proofs.Common.{◌≡◌, ◌∙◌, sym, subst, refl}
+use Rattle.std.proofs.Common.{◌≡◌, ◌∙◌, subst, refl}
 use Rattle.grid_store.specs.Grid.{cells_of}
 use Rattle.name_table.specs.Listed.{listed}
 use Rattle.name_table.specs.Named.{names_of}

@@ -1,4 +1,4 @@
-use Rattle.std.proofs.Common.{◌∙◌, sym, subst, refl, None, Some}
+use Rattle.std.proofs.Common.{◌∙◌, sym, subst, refl, Some}
 use Rattle.book_model.specs.Answers.{valued}
 use Rattle.dep_graph.specs.declared.node.Node.TheVariants as node
 use Rattle.name_table.specs.Named.{names_of, words_of}

@@ -1,0 +1,82 @@
+// Which operation a step is that can be undone or done again.
+ghost use Rattle.std.specs.Prelude.{◌≡◌, option_map};
+ghost use Rattle.shift_line.specs.Track.{shift_at};
+ghost use Rattle.kept_book.specs.Change.{shift_of};
+ghost use Rattle.kept_book.specs.Kept.{change_of, changes_of, line_of};
+ghost use Rattle.kept_steps.specs.Turned.{operation_of, replaced_of};
+
+use crate::session::Session;
+use cell_addr::Place;
+use grid_store::Cell;
+use kept_book::Part;
+use shift_core::Shift;
+use shift_line::Line;
+
+impl Session {
+    ghost use Rattle.kept_steps.specs.Turned.{to_redo, to_undo};
+
+    /// The structural operation that [`Session::undo`] takes back, where the step is one; `None` for any other step, and where there is
+    /// none.
+    pub fn operation_undone(&self) -> Option<Shift>
+        ensures { result ≡ operation_of (line_of self.now.book) (to_undo self.now) }
+    {
+        let entry = self.steps.done().back()?;
+        operation_of(self.book.lazy.line(), &entry.parts)
+    }
+
+    /// The operation that [`Session::redo`] does again, likewise.
+    pub fn operation_redone(&self) -> Option<Shift>
+        ensures { result ≡ operation_of (line_of self.now.book) (to_redo self.now) }
+    {
+        let entry = self.steps.undone().last()?;
+        operation_of(self.book.lazy.line(), &entry.parts)
+    }
+
+    /// The cells that the step lists as replaced or removed which [`Session::undo`] takes back, with their places before the step;
+    /// `None` where it isn't one change, and where there is none.
+    pub fn cells_removed(&self) -> Option<&[(Place, Cell)]>
+        ensures { option_map (λ cells. cells.now) result ≡ replaced_of (to_undo self.now) }
+    {
+        let entry = self.steps.done().back()?;
+        replaced_of(&entry.parts)
+    }
+
+    /// The cells that the step lists so which [`Session::redo`] does again, likewise.
+    pub fn cells_removed_again(&self) -> Option<&[(Place, Cell)]>
+        ensures { option_map (λ cells. cells.now) result ≡ replaced_of (to_redo self.now) }
+    {
+        let entry = self.steps.undone().last()?;
+        replaced_of(&entry.parts)
+    }
+}
+
+// The cells that a step of one change lists as replaced.
+fn replaced_of(parts: &[Part]) -> Option<&[(Place, Cell)]>
+    ensures { option_map (λ cells. cells.now) result ≡ replaced_of (changes_of parts.now) }
+{
+    match parts {
+        [part] => Some(part.replaced.items()),
+        _ => None,
+    }
+}
+
+// The operation of a step that is one.
+fn operation_of(line: &Line, parts: &[Part]) -> Option<Shift>
+    ensures { result ≡ operation_of (shift_at line.now) (changes_of parts.now) }
+{
+    match parts {
+        [part] => shift_of(line, part),
+        _ => None,
+    }
+}
+
+// The operation of a part that has one.
+fn shift_of(line: &Line, part: &Part) -> Option<Shift>
+    ensures { result ≡ shift_of (shift_at line.now) (change_of part.now) }
+{
+    if part.from < part.to {
+        line.at(part.from)
+    } else {
+        None
+    }
+}
