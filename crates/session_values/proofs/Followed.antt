@@ -1,5 +1,5 @@
 -- What is kept of values follows over changes of cells, and over reads. Serves the laws, and what reads values.
-use Rattle.std.proofs.Common.{◌≡◌, ◌∙◌, sym, ap, refl, subst, ℕ, ℤ, true, false, List, [], ◌++◌, Option, Some, None, is_some, ⊎_elim}
+use Rattle.std.proofs.Common.{◌≡◌, ◌∙◌, sym, ap, refl, subst, ℕ, ℤ, Bool, true, false, List, [], ◌++◌, Option, Some, None, is_some, ⊎_elim}
 use Rattle.std.specs.Prelude.{IsTrue, slice_get}
 use Rattle.std.specs.FinMap as fin
 use Rattle.std.proofs.lemmas.Bool.{cases_Bool, false≢true}
@@ -29,8 +29,8 @@ use Rattle.marked_values.proofs.Alone.{cells_alone}
 use Rattle.marked_values.proofs.Changed.{changes_follow}
 use Rattle.marked_values.proofs.Fitting.{more_marks}
 use Rattle.marked_values.proofs.Linked.{all_marked}
-use Rattle.kept_values.proofs.Following.{AreAsking, from_follow, there, to_follow}
-use Rattle.kept_values.specs.Values.{Follows, kept_in, links_in, marks_in}
+use Rattle.kept_values.proofs.Following.{AreAsked, AreAsking, from_follow, there, to_follow}
+use Rattle.kept_values.specs.Values.{Follows, asks_in, kept_in, links_in, marks_in}
 use Rattle.kept_values.specs.declared.values.Values.{Values}
 use Rattle.session_values.specs.Following.{CellsFollow, FollowsIn, ReadsFollow, book_of, words_in}
 use Rattle.session_values.specs.Touched.{IsTouched}
@@ -63,18 +63,18 @@ module _ (b c : Workbook) (words more : List (List ℕ)) (customs : List (List �
       let (a, known) = numbered.all key (ap is_some (ap (λ ns. tree_in ns key) names ∙ is)) in
       subst (λ n. node_at words n ≡ Some (book.name key)) (one_node more a (Name scope number) (book.name key) now.once (numbers a (book.name key) known) at) known
 
-  touched : (v w : Values) → IsTouched v w → ((q : Place) → ¬ IsTrue (has (Cell q) (marks_in w)) → fin.get b.cells q ≡ fin.get c.cells q) → Follows b words customs today v → Follows c more customs today w
-  touched v w touch cells follows =
+  touched : (places : Place → Bool) (v w : Values) → IsTouched places v w → ((q : Place) → ¬ IsTrue (has (Cell q) (marks_in w)) → fin.get b.cells q ≡ fin.get c.cells q) → Follows b words customs today v → Follows c more customs today w
+  touched places v w touch cells follows =
       from_follow c more customs today w (subst (λ links. Follow c more customs today links (marks_in w) (kept_in w)) (sym touch.links)
       (subst (λ kept. Follow c more customs today (links_in v) (marks_in w) kept) (sym touch.kept)
       (more_marks c more customs today (links_in v) (marks_in v ++ marks_in w) (marks_in w) (kept_in v)
       (changes_follow b c words more customs today (links_in v) (marks_in v) (marks_in w) (kept_in v) (to_follow b words customs today v numbered follows) numbers now (cells_alone b c more (marks_in w) names cells) known)
-      stay known))) asking
+      stay known))) asking asked
     where
       known : AreKnown more (marks_in w)
       known a h = ⊎_elim
           (λ (before : IsTrue (has a (marks_in v))). let (x, at) = there (node_at words a) (follows.known a before) in (x, numbers a x at))
-          (λ (p, is). (book.place p, ap (node_at more) is))
+          (λ (p, is, listed). (book.place p, ap (node_at more) is))
           (touch.only a h)
 
       stay : (a : Node) → IsTrue (has a (marks_in v ++ marks_in w)) → IsTrue (has a (marks_in w))
@@ -102,10 +102,13 @@ module _ (b c : Workbook) (words more : List (List ℕ)) (customs : List (List �
       asking a x t isnt at is asks =
           ap (λ f. f a) touch.asking ∙ follows.asks a x t (free a isnt) (was_known a x t at is) (sym (same_tree a x isnt at) ∙ is) asks
 
+      asked : AreAsked more w
+      asked a h = let (x, at) = there (node_at words a) (follows.asked a (sym (ap (λ f. f a) touch.asking) ∙ h)) in ap is_some (numbers a x at)
+
 pub cells_follow : CellsFollow
-cells_follow b c words more customs today v None numbered now keeps touch names cells follows = tt
-cells_follow b c words more customs today None (Some w) numbered now keeps touch names cells follows = absurd touch
-cells_follow b c words more customs today (Some v) (Some w) numbered now keeps touch names cells follows = touched b c words more customs today numbered now keeps names v w touch cells follows
+cells_follow b c words more customs today places v None numbered now keeps touch names cells follows = tt
+cells_follow b c words more customs today places None (Some w) numbered now keeps touch names cells follows = absurd touch
+cells_follow b c words more customs today places (Some v) (Some w) numbered now keeps touch names cells follows = touched b c words more customs today numbered now keeps names places v w touch cells follows
 
 pub reads_follow : ReadsFollow
 reads_follow s t customs today values reads follows =
@@ -116,12 +119,13 @@ reads_follow s t customs today values reads follows =
     book_in d = valued d.book
 
 -- where nothing is linked and kept, and all that stands is marked
-pub all_follow : (b : Workbook) (words : List (List ℕ)) (customs : List (List ℕ × Rule)) (today : ℤ) (v : Values) (nodes : List Node) → AreNumbered words b.names → ((a : Node) → links_in v a ≡ []) → ((a : Node) → kept_in v a ≡ None)
+pub all_follow : (b : Workbook) (words : List (List ℕ)) (customs : List (List ℕ × Rule)) (today : ℤ) (v : Values) (nodes : List Node) → AreNumbered words b.names → ((a : Node) → links_in v a ≡ []) → ((a : Node) → kept_in v a ≡ None) → ((a : Node) → asks_in v a ≡ false)
     → ((a : Node) → has a (marks_in v) ≡ has a ([] ++ nodes)) → ((a : Node) (x : book.Node) → node_at words a ≡ Some x → stands b x ≡ true → IsTrue (has a nodes)) → AreKnown words nodes → Follows b words customs today v
-all_follow b words customs today v nodes numbered links kept marks all known =
+all_follow b words customs today v nodes numbered links kept asking marks all known =
     from_follow b words customs today v
     (all_marked b words customs today (links_in v) (marks_in v) (kept_in v) numbered links kept (λ a x at standing. marks a ∙ all a x at standing) (λ a h. known a (sym (marks a) ∙ h)))
     (λ a x t isnt at is asks. absurd (false≢true (sym isnt ∙ marks a ∙ all a x at (has_tree x t is))))
+    (λ a asks. absurd (false≢true (sym (asking a) ∙ asks)))
   where
     has_tree : (x : book.Node) (t : Term Corner) → tree_at b x ≡ Some t → stands b x ≡ true
     has_tree (book.place p) t is = by (fin.get b.cells p) refl is

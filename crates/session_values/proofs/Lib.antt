@@ -1,2 +1,4 @@
-pub mod Touching
+pub mod MarkedCells
 pub mod Followed
+pub mod Listed
+pub mod Shifted

@@ -1,2 +1,4 @@
 pub mod Touched
 pub mod Following
+pub mod Shifting
+pub mod internal

@@ -1,20 +1,19 @@
 // Values that are read.
-ghost use Rattle.std.specs.Prelude.{◌≡◌, ℕ, ℤ, IfOk, List, OnOk, ◌+◌, ◌≤◌};
-ghost use Rattle.std.specs.Option.{option_map, unwrap_or};
-ghost use Rattle.cell_value.specs.declared.fault.FaultKind.TheVariants as faults;
-ghost use Rattle.cell_value.specs.declared.scalar.Scalar.TheVariants as scalars;
+ghost use Rattle.std.specs.Prelude.{◌≡◌, ℕ, ℤ, IfOk, List, OnOk, Some, true, false, is_some, ◌≤◌};
 ghost use Rattle.custom_fn.specs.declared.rule.Rule.{Rule};
 ghost use Rattle.formula_tree.specs.Relative.{relative};
 ghost use Rattle.formula_tree.specs.StandsFor.{at_home};
 ghost use Rattle.calc_terms.specs.Meaning.{meaning};
-ghost use Rattle.book_values.specs.Names.{found};
+ghost use Rattle.book_values.specs.Names.{Key, found, tree_in};
 ghost use Rattle.book_values.specs.Values.{value_of, world_of};
 ghost use Rattle.book_values.specs.Workbook as nodes;
 ghost use Rattle.marked_values.specs.Marks.{IsBookInside};
+ghost use Rattle.recalc_core.specs.Nodes.{node_at};
 ghost use Rattle.kept_steps.specs.Reads.{Reads};
 ghost use Rattle.kept_steps.specs.declared.session.Session.{Session as SessionSeen};
 ghost use Rattle.kept_values.specs.Values.{Follows};
-ghost use Rattle.session_values.specs.Following.{AreFollowing, AreShowing, book_of, words_in};
+ghost use Rattle.session_values.specs.Touched.{AreTouched};
+ghost use Rattle.session_values.specs.Following.{AreFollowing, AreShowing, book_of, name_shown, words_in};
 
 use crate::values::SessionValues;
 use calc_eval::Customs;
@@ -73,7 +72,34 @@ impl SessionValues {
         }
     }
 
-    /// What the tree means in a formula at the home, where what is kept is right. Costs its steps.
+    /// What the name shows that the word finds on the sheet, where what is kept is right: `#NAME?`, where it finds none. Costs a
+    /// look-up of the word and one of the name.
+    pub fn named(&self, session: &mut Session, word: &str, sheet: u32) -> Result<Scalar, AllocError>
+        ensures named { (customs : List (List ℕ × Rule)) (today : ℤ) → AreShowing customs today session.old self.now.values → IfOk result (λ scalar. scalar ≡ name_shown (book_of session.old) customs today (found (book_of session.old).names word.now sheet)) }
+        ensures reads { Reads session.old session.new }
+    {
+        let alloc = session.book.alloc;
+        match session.find(word, sheet)? {
+            Some(name) => self.node_shown(alloc, name),
+            None => Ok(Scalar::Fault(FaultKind::Name)),
+        }
+    }
+
+    // What is kept of a name, where what is kept is right.
+    fn node_shown(&self, alloc: Global, name: Node) -> Result<Scalar, AllocError>
+        ensures { (session : SessionSeen) (customs : List (List ℕ × Rule)) (today : ℤ) (key : Key) → AreShowing customs today session self.now.values → is_some (tree_in (book_of session).names key) ≡ true → node_at (words_in session) name ≡ Some (nodes.name key)
+            → IfOk result (λ scalar. scalar ≡ value_of (book_of session) customs today (nodes.name key)) }
+    {
+        let Some(values) = &self.values else {
+            return Ok(Scalar::Empty);
+        };
+        match values.value(name) {
+            Some(scalar) => scalar.copy(alloc),
+            None => Ok(Scalar::Empty),
+        }
+    }
+
+    /// What the tree means in a formula at the home, where what is kept is right; that stays as it is. Costs its steps.
     pub fn tried<C: Customs, L: Ledger>(
         &mut self,
         session: &mut Session,
@@ -84,6 +110,7 @@ impl SessionValues {
         steps: &mut Steps<L>,
     ) -> Result<Scalar, AllocError>
         requires shows { AreShowing (C.customs customs.now) day session.old self.old.values }
+        ensures same { AreTouched (λ p. false) self.old.values self.new.values }
         ensures means { IfOk result (λ scalar. scalar ≡ meaning (world_of (book_of session.old).names day (value_of (book_of session.old) (C.customs customs.now) day)) (C.customs customs.now) home (at_home home (relative tree.now.value))) }
         ensures reads { Reads session.old session.new }
         ensures least { steps.old ≤ steps.new }

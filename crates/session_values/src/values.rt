@@ -1,5 +1,6 @@
 // What is kept of a session's values, as the session changes.
 ghost use Rattle.std.specs.Prelude.{◌≡◌, None, OnOk};
+ghost use Rattle.cell_addr.specs.Place.{same_place};
 ghost use Rattle.session_values.specs.Touched.{AreTouched, IsMarkedIn};
 
 use cell_addr::Place;
@@ -30,7 +31,7 @@ impl SessionValues {
 
     /// Marks a cell that is going to change, where anything is kept. For want of memory all is as it was. Costs a look-up.
     pub fn touch(&mut self, at: Place) -> Result<(), AllocError>
-        ensures touched { AreTouched self.old.values self.new.values }
+        ensures touched { AreTouched (same_place at) self.old.values self.new.values }
         ensures marked { OnOk result (IsMarkedIn self.new.values at) }
     {
         match &mut self.values {

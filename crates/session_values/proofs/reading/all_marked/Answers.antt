@@ -1,4 +1,4 @@
-use Rattle.std.proofs.Common.{◌∙◌, ap, List, ◌++◌}
+use Rattle.std.proofs.Common.{◌∙◌, ap, Bool, List, ◌++◌}
 use Rattle.dep_graph.specs.Needs.{Links}
 use Rattle.dep_graph.specs.Nodes.{has, items_of}
 use Rattle.dep_graph.specs.declared.node.Node.{Node}
@@ -13,5 +13,6 @@ returns c = λ customs today.
     all_follow (book_of s) (words_in s) customs today c.mark_all.new.self (items_of c.in_ok-nodes.nodes) c.names_are_nodes.ensures
     (λ a. ap (λ (f : Links). f a) c.mark_all.ensures.links ∙ c.in_ok-values.ensures.links a)
     (λ a. ap (λ (f : Kept). f a) c.mark_all.ensures.kept ∙ c.in_ok-values.ensures.kept a)
+    (λ a. ap (λ (f : Node → Bool). f a) c.mark_all.ensures.asking ∙ c.in_ok-values.ensures.asking a)
     (λ a. c.in_ok-mark_all.ensures.ok a ∙ ap (λ (ms : List Node). has a (ms ++ c.items.result.now)) c.in_ok-values.ensures.marks ∙ ap (has a) c.items.ensures)
     c.in_ok-nodes.ensures.all c.in_ok-nodes.ensures.known

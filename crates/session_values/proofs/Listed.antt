@@ -1,0 +1,144 @@
+-- Nodes that a structural operation touches, listed. Serves the list of them.
+use Rattle.std.proofs.Common.{◌≡◌, ◌∙◌, sym, ap, refl, subst, ℕ, Bool, true, false, cond, ◌&&◌, ◌||◌, List, [], ◌∷◌, ◌++◌, map, Option, Some, None, is_some, option_map, ⊎_elim}
+use Rattle.std.specs.Prelude.{IsTrue}
+use Rattle.std.specs.FinMap as fin
+use Rattle.std.specs.FinMap.{find, get-entries, get-retain_keys}
+use Rattle.std.specs.Ordering.{eq_by_cmp}
+use Rattle.std.proofs.lemmas.Bool.{false≢true, or_cases, or_left, or_right}
+use Rattle.std.proofs.lemmas.List.Folds.{list_any-append}
+use Rattle.cell_addr.proofs.Places.{place_cmp-IsAntisymmetric}
+use Rattle.cell_addr.specs.Order.{place_cmp}
+use Rattle.cell_addr.specs.Place.{covers}
+use Rattle.cell_addr.specs.declared.place.Block.{Block}
+use Rattle.cell_addr.specs.declared.place.Place.{Place}
+use Rattle.grid_store.specs.Grid.{cells_of, within}
+use Rattle.grid_store.specs.declared.cell.Cell.{Cell}
+use Rattle.shift_core.specs.Carried.{destination}
+use Rattle.shift_core.specs.Form.{form_of}
+use Rattle.shift_core.specs.Maps.{PlaceMap}
+use Rattle.shift_core.specs.declared.form.Form.TheVariants.{Cells}
+use Rattle.shift_core.specs.declared.shift.Shift.{Shift}
+use Rattle.book_model.proofs.Contents.{is_at}
+use Rattle.book_values.specs.Workbook as book
+use Rattle.book_values.specs.Workbook.{scope_sheet}
+use Rattle.dep_graph.specs.Nodes.{has, same_node}
+use Rattle.dep_graph.specs.declared.node.Node.{Node}
+use Rattle.dep_graph.specs.declared.node.Node.TheVariants as node
+use Rattle.dep_graph.specs.internal.Hashed.{own_node, same_nodes}
+use Rattle.dep_graph.proofs.Places.{has-append_cases, has-append_left, has-append_right}
+use Rattle.kept_book.proofs.Contents.{get-contents}
+use Rattle.kept_book.specs.Frame.{numbered_at}
+use Rattle.kept_book.specs.Kept.{at_of}
+use Rattle.kept_book.specs.Stored.{content_of}
+use Rattle.kept_steps.specs.declared.session.Session.{Session}
+use Rattle.recalc_core.specs.Laws.{AreKnown}
+use Rattle.recalc_core.specs.Shifted.{drops_scope}
+use Rattle.marked_values.specs.Shifts.{is_moved_in}
+use Rattle.kept_values.specs.Shifted.{HasTouched}
+use Rattle.session_values.specs.Following.{book_of, words_in}
+use Rattle.session_values.specs.internal.Listed.{cell_node, filled_in, is_name_of, with_named}
+
+-- ---- names of a sheet among nodes
+
+and_none : (m : Bool) → (m && false) ≡ false
+and_none true = refl
+and_none false = refl
+
+pub named_none : (sheet : ℕ) (a : Node) → has a [] ≡ (is_name_of sheet a && has a [])
+named_none sheet a = sym (and_none (is_name_of sheet a))
+
+-- ((l && m) || n) where n holds only where l does
+and_or : (l m n : Bool) → (n ≡ true → l ≡ true) → ((l && m) || n) ≡ (l && (m || n))
+and_or true m n h = refl
+and_or false m true h = absurd (false≢true (h refl))
+and_or false m false h = refl
+
+-- a node of another kind adds none
+and_other : (l m n : Bool) → (n ≡ true → l ≡ false) → (l && m) ≡ (l && (m || n))
+and_other true true n h = refl
+and_other true false true h = absurd (false≢true (sym (h refl)))
+and_other true false false h = refl
+and_other false m n h = refl
+
+or_none : (m : Bool) → (m || false) ≡ m
+or_none true = refl
+or_none false = refl
+
+has_last : (a x : Node) (xs : List Node) → has a (xs ++ x ∷ []) ≡ (has a xs || same_node a x)
+has_last a x xs = list_any-append (same_node a) xs (x ∷ []) ∙ ap (λ t. has a xs || t) (or_none (same_node a x))
+
+pub named_more : (sheet : ℕ) (x : Node) (front names : List Node) → ((a : Node) → has a names ≡ (is_name_of sheet a && has a front)) → (a : Node)
+    → has a (with_named sheet x names) ≡ (is_name_of sheet a && has a (front ++ x ∷ []))
+named_more sheet x front names so_far a = by (is_name_of sheet x) refl
+  where
+    by : (t : Bool) → is_name_of sheet x ≡ t → has a (with_named sheet x names) ≡ (is_name_of sheet a && has a (front ++ x ∷ []))
+    by true e =
+        ap (λ t. has a (cond t (names ++ x ∷ []) names)) e ∙ has_last a x names ∙ ap (λ t. t || same_node a x) (so_far a)
+        ∙ and_or (is_name_of sheet a) (has a front) (same_node a x) (λ same. ap (is_name_of sheet) (same_nodes a x same) ∙ e)
+        ∙ ap (λ t. is_name_of sheet a && t) (sym (has_last a x front))
+    by false e =
+        ap (λ t. has a (cond t (names ++ x ∷ []) names)) e ∙ so_far a
+        ∙ and_other (is_name_of sheet a) (has a front) (same_node a x) (λ same. ap (is_name_of sheet) (same_nodes a x same) ∙ e)
+        ∙ ap (λ t. is_name_of sheet a && t) (sym (has_last a x front))
+
+-- ---- filled cells of a block
+
+some_mapped : {X Y : Type 0} (f : X → Y) (o : Option X) → is_some (option_map f o) ≡ is_some o
+some_mapped f None = refl
+some_mapped f (Some x) = refl
+
+-- a place that has an entry is listed
+cell_listed : (p : Place) (es : List (Place × Cell)) → is_some (find place_cmp p es) ≡ true → has (node.Cell p) (map cell_node es) ≡ true
+cell_listed p [] some = absurd (false≢true some)
+cell_listed p (e ∷ es) some = by (eq_by_cmp place_cmp p e.0) refl some (cell_listed p es)
+  where
+    by : (t : Bool) → eq_by_cmp place_cmp p e.0 ≡ t → is_some (cond t (Some e.1) (find place_cmp p es)) ≡ true
+        → (is_some (find place_cmp p es) ≡ true → has (node.Cell p) (map cell_node es) ≡ true) → has (node.Cell p) (map cell_node (e ∷ es)) ≡ true
+    by true is there later = or_left (same_node (node.Cell p) (cell_node e)) (has (node.Cell p) (map cell_node es)) (ap (λ q. same_node (node.Cell p) (node.Cell q)) (is_at e.0 p is) ∙ own_node (node.Cell p))
+    by false is there later = or_right (same_node (node.Cell p) (cell_node e)) (has (node.Cell p) (map cell_node es)) (later there)
+
+-- the nodes of cells are cells
+no_name : (scope word : ℕ) (es : List (Place × Cell)) → has (node.Name scope word) (map cell_node es) ≡ false
+no_name scope word [] = refl
+no_name scope word (e ∷ es) = no_name scope word es
+
+no_range : (block : Block) (es : List (Place × Cell)) → has (node.Range block) (map cell_node es) ≡ false
+no_range block [] = refl
+no_range block (e ∷ es) = no_range block es
+
+cells_known : (words : List (List ℕ)) (es : List (Place × Cell)) → AreKnown words (map cell_node es)
+cells_known words es (node.Cell p) h = (book.place p, refl)
+cells_known words es (node.Name scope word) h = absurd (false≢true (sym (no_name scope word es) ∙ h))
+cells_known words es (node.Range block) h = absurd (false≢true (sym (no_range block es) ∙ h))
+
+module _ (s : Session) where
+  -- a filled cell of a block is listed
+  filled_listed : (area : Block) (p : Place) → covers area p ≡ true → is_some (fin.get (book_of s).cells p) ≡ true → IsTrue (has (node.Cell p) (filled_in s area))
+  filled_listed area p on there = cell_listed p (fin.entries (within area cells)) (ap is_some (sym (get-entries (within area cells) p) ∙ inside) ∙ held)
+    where
+      cells : PlaceMap Cell
+      cells = cells_of s.book.grid
+
+      held : is_some (fin.get cells p) ≡ true
+      held = sym (ap is_some (get-contents (numbered_at (at_of s.book) s.book.lazy.line.cursor) cells p) ∙ some_mapped (content_of (numbered_at (at_of s.book) s.book.lazy.line.cursor)) (fin.get cells p)) ∙ there
+
+      inside : fin.get (within area cells) p ≡ fin.get cells p
+      inside = get-retain_keys cells (covers area) p (λ q tied. ap (covers area) (sym (place_cmp-IsAntisymmetric p q tied))) ∙ ap (λ t. cond t (fin.get cells p) None) on
+
+  -- ---- what an operation touches
+
+  pub cells_touched : (x : Shift) (source : Block) (to : Place) (nodes : List Node) → form_of x ≡ Cells source to → nodes ≡ filled_in s source ++ filled_in s (destination source to)
+      → HasTouched x (book_of s) (words_in s) nodes
+  cells_touched x source to nodes is listed = record {
+    filled = λ p moved there. subst (λ ns. IsTrue (has (node.Cell p) ns)) (sym listed) (⊎_elim
+        (λ (from : covers source p ≡ true). has-append_left (node.Cell p) (filled_in s source) (filled_in s (destination source to)) (filled_listed source p from there))
+        (λ (onto : covers (destination source to) p ≡ true). has-append_right (node.Cell p) (filled_in s source) (filled_in s (destination source to)) (filled_listed (destination source to) p onto there))
+        (or_cases (covers source p) (covers (destination source to) p) (ap (λ f. is_moved_in f p) (sym is) ∙ moved)));
+    names = λ a key at drops there. absurd (false≢true (ap (λ f. drops_scope f (scope_sheet key.scope)) (sym is) ∙ drops));
+  }
+
+  pub cells_are_known : (one other : Block) (nodes : List Node) → nodes ≡ filled_in s one ++ filled_in s other → AreKnown (words_in s) nodes
+  cells_are_known one other nodes listed a h = ⊎_elim
+      (λ (first : has a (filled_in s one) ≡ true). cells_known (words_in s) (fin.entries (within one (cells_of s.book.grid))) a first)
+      (λ (second : has a (filled_in s other) ≡ true). cells_known (words_in s) (fin.entries (within other (cells_of s.book.grid))) a second)
+      (has-append_cases a (filled_in s one) (filled_in s other) (subst (λ ns. IsTrue (has a ns)) listed h))

@@ -1,0 +1,22 @@
+-- What is kept of values over a structural operation. Source: this project's own.
+use Rattle.std.specs.Prelude.{ℕ, ℤ, List, Option}
+use Rattle.custom_fn.specs.declared.rule.Rule.{Rule}
+use Rattle.shift_core.specs.declared.shift.Shift.{Shift}
+use Rattle.book_values.specs.Workbook.{Workbook}
+use Rattle.dep_graph.specs.declared.node.Node.{Node}
+use Rattle.kept_book.specs.Kept.{IsMore}
+use Rattle.recalc_core.specs.Laws.{AreKnown}
+use Rattle.recalc_core.specs.Nodes.{AreNumbered}
+use Rattle.marked_values.specs.Marks.{IsBookInside}
+use Rattle.marked_values.specs.Shifts.{IsBookAfter}
+use Rattle.kept_values.specs.Shifted.{HasTouched}
+use Rattle.kept_values.specs.declared.values.Values.{Values}
+use Rattle.session_values.specs.Following.{FollowsIn}
+
+-- where what is kept follows a workbook of which the list has what the operation touches, what is kept then follows the workbook after
+-- it, which may have more words
+abbrev pub FollowsShift : Shift → List Node → Option Values → Option Values → Type 0
+FollowsShift s touched old new =
+    (b c : Workbook) (words more : List (List ℕ)) (customs : List (List ℕ × Rule)) (today : ℤ) →
+    IsBookInside b → IsBookAfter s b c → AreNumbered words b.names → AreNumbered more c.names → IsMore words more → HasTouched s b words touched → AreKnown words touched →
+    FollowsIn b words customs today old → FollowsIn c more customs today new

@@ -1,0 +1,28 @@
+-- Nodes of a session's workbook that are listed.
+use Rattle.std.specs.Prelude.{ℕ, ◌==◌, ◌++◌, ◌∷◌, [], Bool, false, if◌then◌else◌, List, map}
+use Rattle.std.specs.FinMap as fin
+use Rattle.cell_addr.specs.declared.place.Block.{Block}
+use Rattle.cell_addr.specs.declared.place.Place.{Place}
+use Rattle.dep_graph.specs.declared.node.Node.{Node}
+use Rattle.dep_graph.specs.declared.node.Node.TheVariants as node
+use Rattle.grid_store.specs.Grid.{cells_of, within}
+use Rattle.grid_store.specs.declared.cell.Cell.{Cell}
+use Rattle.kept_steps.specs.declared.session.Session.{Session}
+
+-- the node of a filled cell
+abbrev pub cell_node : Place × Cell → Node
+cell_node e = node.Cell e.0
+
+-- the filled cells of a block
+abbrev pub filled_in : Session → Block → List Node
+filled_in s area = map cell_node (fin.entries (within area (cells_of s.book.grid)))
+
+-- the node is a name of the sheet
+abbrev pub is_name_of : ℕ → Node → Bool
+is_name_of sheet (node.Cell p) = false
+is_name_of sheet (node.Name scope word) = scope == sheet
+is_name_of sheet (node.Range b) = false
+
+-- the nodes with one more, if it is such a name
+abbrev pub with_named : ℕ → Node → List Node → List Node
+with_named sheet a nodes = if is_name_of sheet a then nodes ++ a ∷ [] else nodes

@@ -1,0 +1,104 @@
+// The nodes that structural operations of a session touch.
+ghost use Rattle.std.specs.Prelude.{◌≡◌, ◌&&◌, ◌++◌, true, IfOk, IsTrue, OnOk, Some, map};
+ghost use Rattle.cell_addr.specs.Place.{IsBlockInside};
+ghost use Rattle.shift_core.specs.Carried as carrying;
+ghost use Rattle.shift_core.specs.Sound.{IsSound};
+ghost use Rattle.book_values.specs.Workbook.{Node as BookNode};
+ghost use Rattle.dep_graph.specs.Nodes.{has, items_of};
+ghost use Rattle.dep_graph.specs.declared.node.Node.{Node as NodeSeen};
+ghost use Rattle.recalc_core.specs.Kept.{stands};
+ghost use Rattle.recalc_core.specs.Laws.{AreKnown};
+ghost use Rattle.recalc_core.specs.Nodes.{node_at};
+ghost use Rattle.kept_values.specs.Shifted.{HasTouched};
+ghost use Rattle.session_values.specs.Following.{book_of, words_in};
+ghost use Rattle.session_values.specs.internal.Listed.{cell_node, filled_in, is_name_of, with_named};
+
+use cell_addr::{Block, Place};
+use dep_graph::{Node, Nodes};
+use grid_store::Cell;
+use kept_steps::Session;
+use shift_core::{Form, Shift, destination};
+use std::alloc::{AllocError, Global};
+
+/// The nodes that a structural operation touches in the session's workbook, beside what links tell: each filled cell of a block
+/// that it moves and of where that goes, and each name of a dropped sheet; none, where it is an operation on lines.
+///
+/// Costs what [`Grid::listed`](grid_store::Grid::listed) does for both blocks; where a sheet is dropped, the number of all
+/// filled cells and of all names.
+pub fn touched_by(session: &Session, s: &Shift) -> Result<Nodes, AllocError>
+    requires { IsSound s.now }
+    ensures touched { IfOk result (λ nodes. HasTouched s.now (book_of session.now) (words_in session.now) (items_of nodes)) }
+    ensures known { IfOk result (λ nodes. AreKnown (words_in session.now) (items_of nodes)) }
+{
+    match s.form() {
+        Form::Lines { .. } => Nodes::new(session.book.alloc),
+        Form::Cells { source, to } => moved_cells(session, source, to),
+        Form::Sheet { sheet } => sheet_names(session, sheet),
+    }
+}
+
+// The filled cells of a block that is moved and of where it goes.
+fn moved_cells(session: &Session, source: Block, to: Place) -> Result<Nodes, AllocError>
+    requires { IsBlockInside (carrying.destination source to) }
+    ensures { IfOk result (λ nodes. items_of nodes ≡ filled_in session.now source ++ filled_in session.now (carrying.destination source to)) }
+{
+    let mut nodes = Nodes::new(session.book.alloc)?;
+    add_filled(session, source, &mut nodes)?;
+    add_filled(session, destination(source, to), &mut nodes)?;
+    Ok(nodes)
+}
+
+// Adds the filled cells of a block.
+fn add_filled(session: &Session, area: Block, nodes: &mut Nodes) -> Result<(), AllocError>
+    ensures { OnOk result (items_of nodes.new ≡ items_of nodes.old ++ filled_in session.now area) }
+{
+    let cells = session.book.grid.listed(area)?;
+    add_cells(cells.items(), nodes)
+}
+
+// Adds the nodes of cells.
+fn add_cells(cells: &[(Place, Cell)], nodes: &mut Nodes) -> Result<(), AllocError>
+    ensures { OnOk result (items_of nodes.new ≡ items_of nodes.old ++ map cell_node cells.now) }
+{
+    'cells: for (at, _) in cells {
+        nodes.push(Node::Cell(*at))?;
+    }
+    Ok(())
+}
+
+// The names of a sheet.
+fn sheet_names(session: &Session, sheet: u32) -> Result<Nodes, AllocError>
+    ensures all { IfOk result (λ names. (a : NodeSeen) (x : BookNode) → node_at (words_in session.now) a ≡ Some x → stands (book_of session.now) x ≡ true → is_name_of sheet a ≡ true → IsTrue (has a (items_of names))) }
+    ensures known { IfOk result (λ names. AreKnown (words_in session.now) (items_of names)) }
+{
+    let nodes = session.nodes()?;
+    named(session.book.alloc, nodes.items(), sheet)
+}
+
+// Those of the nodes that are names of the sheet.
+fn named(alloc: Global, nodes: &[Node], sheet: u32) -> Result<Nodes, AllocError>
+    ensures { IfOk result (λ names. (a : NodeSeen) → has a (items_of names) ≡ (is_name_of sheet a && has a nodes.now)) }
+{
+    let mut names = Nodes::new(alloc)?;
+    'nodes: for node in nodes {
+        add_named(*node, sheet, &mut names)?;
+    }
+    Ok(names)
+}
+
+// Adds the node, if it is a name of the sheet.
+fn add_named(a: Node, sheet: u32, names: &mut Nodes) -> Result<(), AllocError>
+    ensures { OnOk result (items_of names.new ≡ with_named sheet a (items_of names.old)) }
+{
+    match a {
+        Node::Cell(_) => Ok(()),
+        Node::Name { scope, .. } => {
+            if scope == sheet {
+                names.push(a)
+            } else {
+                Ok(())
+            }
+        }
+        Node::Range(_) => Ok(()),
+    }
+}
