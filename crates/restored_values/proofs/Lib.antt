@@ -1,0 +1,5 @@
+pub mod ProbedSpans
+pub mod ProbedBlocks
+pub mod NearBlocks
+pub mod LostLinks
+pub mod Suspected

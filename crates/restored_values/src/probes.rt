@@ -1,0 +1,96 @@
+// The probe of an operation.
+ghost use Rattle.std.specs.Prelude.{◌≡◌};
+ghost use Rattle.shift_core.specs.Lines.{IsSoundEdit};
+ghost use Rattle.shift_core.specs.Opposite.{shift_of};
+ghost use Rattle.shift_core.specs.Sound.{IsSound};
+ghost use Rattle.shift_core.specs.declared.edit.Edit.TheVariants.{Move};
+ghost use Rattle.shift_core.specs.declared.form.Form.TheVariants.{Lines};
+ghost use Rattle.restored_values.specs.Probes as probes;
+
+use cell_addr::Axis;
+use shift_core::{Edit, Form, Shift};
+
+/// The operation that bends, as it stands afterwards, whatever range this one bends and doesn't lose, and else only what is near;
+/// None where this one moves cells or drops a sheet, which bends only what it loses. The probe is never done.
+pub fn probe(s: &Shift) -> Option<Shift>
+    requires { IsSound s.now }
+    ensures { result ≡ probes.probe_of s.now }
+{
+    match s.form() {
+        Form::Lines { sheet, axis, edit } => {
+            Some(on_axis(sheet, axis, edit_probe(axis.limit(), edit)))
+        }
+        Form::Cells { .. } | Form::Sheet { .. } => None,
+    }
+}
+
+// The probe of an edit of `limit` lines.
+fn edit_probe(limit: u32, edit: Edit) -> Edit
+    requires { IsSoundEdit limit edit }
+    ensures { result ≡ probes.edit_probe limit edit }
+{
+    match edit {
+        Edit::Insert { at, .. } => Edit::Insert { at, count: 1 },
+        Edit::Delete { at, .. } => one_moved(at.max(1), at.max(1) - 1),
+        Edit::Move {
+            from,
+            count,
+            before,
+        } => {
+            if from + count < before {
+                one_moved(from.saturating_sub(1), before)
+            } else {
+                one_moved((from + count).min(limit - 1), before)
+            }
+        }
+    }
+}
+
+// The move of one line.
+fn one_moved(from: u32, before: u32) -> Edit
+    ensures { result ≡ Move from 1 before }
+{
+    Edit::Move {
+        from,
+        count: 1,
+        before,
+    }
+}
+
+// The edit of the sheet's lines along the axis, as an operation.
+fn on_axis(sheet: u32, axis: Axis, edit: Edit) -> Shift
+    ensures { result ≡ shift_of (Lines sheet axis edit) }
+{
+    match (axis, edit) {
+        (Axis::Rows, Edit::Insert { at, count }) => Shift::InsertRows { sheet, at, count },
+        (Axis::Rows, Edit::Delete { at, count }) => Shift::DeleteRows { sheet, at, count },
+        (
+            Axis::Rows,
+            Edit::Move {
+                from,
+                count,
+                before,
+            },
+        ) => Shift::MoveRows {
+            sheet,
+            from,
+            count,
+            before,
+        },
+        (Axis::Cols, Edit::Insert { at, count }) => Shift::InsertCols { sheet, at, count },
+        (Axis::Cols, Edit::Delete { at, count }) => Shift::DeleteCols { sheet, at, count },
+        (
+            Axis::Cols,
+            Edit::Move {
+                from,
+                count,
+                before,
+            },
+        ) => Shift::MoveCols {
+            sheet,
+            from,
+            count,
+            before,
+        },
+    }
+}
