@@ -1,5 +1,5 @@
 -- As many workbooks are led to as there are steps. Serves undo, redo and the count of steps.
-use Rattle.std.proofs.Common.{◌≡◌, ◌∙◌, ap, refl, suc, Bool, false, List, [], ◌∷◌, length, map, reverse, Option, Some, None, is_some, is_none}
+use Rattle.std.proofs.Common.{◌≡◌, ◌∙◌, ap, refl, suc, false, List, [], ◌∷◌, length, reverse, Option, Some, None, is_some}
 use Rattle.std.proofs.lemmas.List.{length-map, length-reverse}
 use Rattle.kept_book.specs.Change.{Change}
 use Rattle.kept_book.specs.Frame.{Frame}

@@ -5,7 +5,8 @@ pub mod ReadContents
 pub mod Turning
 pub mod Pushed
 pub mod FilledCells
-pub mod FilledWorkbooks
+pub mod Following
+pub mod TouchedCells
 pub mod GivenExamples
 pub mod Counted
 pub mod Causes

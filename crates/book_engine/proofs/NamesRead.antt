@@ -1,6 +1,5 @@
 -- The names of a table, read one after the other with their words and trees. Serves the values of a workbook and its links.
-use Rattle.std.proofs.Common.{◌≡◌, ◌∙◌, sym, ap, subst, refl, arith, ℕ, zero, suc, ◌<◌, ◌+◌, ◌&&◌, ◌||◌, Bool, true, false, true≢false, cond, List, [], ◌∷◌, ◌++◌, length, get_or, map, take, Option, Some, None, is_some, IsSome, option_map}
-use Rattle.std.proofs.lemmas.Slice.Eq.{bytes_eq-Decides}
+use Rattle.std.proofs.Common.{◌≡◌, ◌∙◌, sym, ap, refl, arith, ℕ, zero, suc, ◌<◌, ◌+◌, ◌&&◌, ◌||◌, Bool, true, false, true≢false, cond, List, [], ◌∷◌, ◌++◌, length, get_or, map, take, Option, Some, None, is_some, IsSome, option_map}
 use Rattle.std.proofs.lemmas.Option.{none-some, same_Some}
 use Rattle.std.proofs.lemmas.List.{map-append, take_more}
 use Rattle.std.proofs.lemmas.List.Elements.{filter_map-append}
@@ -9,24 +8,23 @@ use Rattle.std.specs.FinMap.{find, entries_sorted, get-entries, is_sorted}
 use Rattle.std.specs.FinMap.Entries.{below_all}
 use Rattle.std.specs.List.{cons_option, filter_map, list_any}
 use Rattle.std.specs.Ordering.{eq_by_cmp, is_eq, is_lt, ordering_reverse}
-use Rattle.std.specs.Prelude.{T, option_and_then, slice_get}
+use Rattle.std.specs.Prelude.{T, slice_get}
 use Rattle.std.specs.declared.cmp.Ordering.{Ordering}
 use Rattle.std.specs.declared.cmp.Ordering.TheVariants.{Less, Equal, Greater}
 use Rattle.formula_tree.specs.Term.{Term}
 use Rattle.formula_tree.specs.declared.reference.Corner.{Corner}
 use Rattle.cell_addr.specs.Text.{folded}
 use Rattle.name_table.proofs.KeyOrder as order
-use Rattle.name_table.proofs.WordNumbers.{folded-folded, number-folded, number-spelled, spelled-number}
+use Rattle.name_table.proofs.WordNumbers.{number-spelled, spelled-number}
 use Rattle.name_table.specs.Named.{names_of, words_of}
 use Rattle.name_table.specs.Scopes as table
-use Rattle.name_table.specs.Words.{AreWords, number_in}
+use Rattle.name_table.specs.Words.{AreWords}
 use Rattle.name_table.specs.declared.key.NameKey.{NameKey}
 use Rattle.shift_line.specs.Track.{with_spare}
 use Rattle.book_values.proofs.Keys.{same_key-equal}
-use Rattle.book_values.specs.Names.{Key, key_of, same_key}
-use Rattle.book_model.specs.Names.{NameMap}
-use Rattle.kept_book.proofs.NamesSeen.{get-seen, number_of, same_id_key, spelled-has}
-use Rattle.kept_book.specs.Frame.{Frame, Words, name_seen, named_at, names_seen, tree_named}
+use Rattle.book_values.specs.Names.{Key, same_key}
+use Rattle.kept_book.proofs.NamesSeen.{number_of, same_id_key, spelled-has}
+use Rattle.kept_book.specs.Frame.{Frame, Words, name_seen, named_at, tree_named}
 use Rattle.kept_book.specs.Kept.{IsStanding, SameBook, at_of}
 use Rattle.kept_book.specs.declared.book.Book.{Book}
 use Rattle.book_engine.specs.declared.named.Named.{Named}

@@ -1,5 +1,6 @@
 -- The cells whose formulas mention a place, as filled cells are gone through. Serves the dependents of a cell.
-use Rattle.std.proofs.Common.{◌≡◌, ◌∙◌, sym, ap, refl, ◌&&◌, ◌||◌, Bool, true, false, true≢false, cond, List, [], ◌∷◌, map, Option, Some, None, option_map}
+use Rattle.std.proofs.Common.{◌≡◌, ◌∙◌, sym, ap, refl, arith, ◌<◌, ◌&&◌, ◌||◌, Bool, true, false, true≢false, cond, List, [], ◌∷◌, ◌++◌, length, map, Option, Some, None, option_map}
+use Rattle.std.proofs.lemmas.List.{length-append}
 use Rattle.std.specs.BTreeMap.{is_at}
 use Rattle.std.specs.FinMap as fin
 use Rattle.std.specs.Cmp.{eq_by_cmp_equiv}
@@ -22,6 +23,10 @@ use Rattle.kept_book.specs.Stored.{content_of, contents_of}
 use Rattle.kept_book.proofs.Contents.{get-contents}
 use Rattle.book_engine.specs.internal.Links.{content_mentions, passes}
 use Rattle.book_engine.proofs.SortedKeys.{kept, kept_are}
+
+-- the list without its last entry is shorter
+pub shorter : (left all : List (Place × Cell)) (e : Place × Cell) → all ≡ left ++ e ∷ [] → length left < length all
+shorter left all e same = let long = ap length same in let sum = length-append left (e ∷ []) in omega (arith, long, sum)
 
 -- the place is one of a list's
 abbrev pub stands_in : List (Place × Cell) → Place → Bool

@@ -1,15 +1,12 @@
 -- What a paste of copied cells comes to, where it is accepted and where it wants memory. Serves the paste of a copy.
-use Rattle.std.proofs.Common.{◌≡◌, ◌∙◌, sym, ap, subst, refl, arith, ℕ, ◌<◌, ◌≤◌, Bool, true, false, cond, not, List, Option, Some, None}
+use Rattle.std.proofs.Common.{◌≡◌, ◌∙◌, sym, ap, subst, refl, arith, ℕ, ◌<◌, ◌≤◌, Bool, true, false, cond, List, Option, Some, None}
 use Rattle.std.specs.Prelude.{nat_lt}
 use Rattle.std.proofs.lemmas.Bool.Decides.{nat_tests}
 use Rattle.std.specs.List.{All}
-use Rattle.std.specs.FinMap as fin
 use Rattle.cell_addr.specs.Place.{IsBlockInside}
 use Rattle.cell_addr.specs.declared.place.Block.{Block}
 use Rattle.cell_addr.specs.declared.place.Place.{Place}
-use Rattle.book_cells.specs.Workbook.{Book as Contents}
 use Rattle.clip_board.specs.declared.clip.CopyItem.{CopyItem}
-use Rattle.shift_core.specs.Carried.{destination}
 use Rattle.book_model.proofs.SoundSteps.{next_sound}
 use Rattle.book_model.specs.Changes.{with_copy}
 use Rattle.book_model.specs.Clipboard.{Clipboard, nothing, copied, without_cut}

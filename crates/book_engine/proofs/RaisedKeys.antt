@@ -1,5 +1,5 @@
 -- Maps whose keys are written in another way. Serves the names as links show them.
-use Rattle.std.proofs.Common.{◌≡◌, ◌∙◌, sym, ap, subst, refl, Bool, true, false, cond, ◌&&◌, List, [], ◌∷◌, map, Option, Some, None}
+use Rattle.std.proofs.Common.{◌≡◌, ◌∙◌, sym, ap, refl, Bool, true, false, cond, ◌&&◌, List, [], ◌∷◌, map, Option, Some, None}
 use Rattle.std.specs.Cmp.{IsTotalOrder, both_ways, on_total}
 use Rattle.std.specs.FinMap.{entries, entries-insert, find, from_entries}
 use Rattle.std.specs.FinMap.Entries.{by_order, put}

@@ -1,9 +1,8 @@
 -- A call leads from one sound session to another. Serves the calls of the engine.
-use Rattle.std.proofs.Common.{◌≡◌, ◌∙◌, sym, ap, subst, refl, arith, ℕ, ◌-◌, ◌==◌, Bool, true, false, cond, not, Option, Some, None, is_some, IsSome, Result, Ok, Err}
+use Rattle.std.proofs.Common.{◌≡◌, ◌∙◌, sym, ap, subst, refl, arith, ℕ, ◌==◌, Bool, true, false, cond, not, Option, Some, None, is_some, IsSome, Result, Ok, Err}
+use Rattle.std.proofs.lemmas.Bool.{false≢true}
 use Rattle.std.proofs.lemmas.Bool.Decides.{nat_tests}
 use Rattle.std.specs.FinMap.{get-retain_keys, same_map}
-use Rattle.cell_addr.specs.declared.place.Block.{Block}
-use Rattle.cell_addr.specs.declared.place.TheConstants.{ROWS, COLS}
 use Rattle.cell_addr.proofs.Places.{place_cmp-IsTotalOrder, place_cmp-IsAntisymmetric}
 use Rattle.std.specs.FinMap as fin
 use Rattle.cell_addr.specs.Place.{IsInside, covers}
@@ -19,6 +18,7 @@ use Rattle.book_model.specs.declared.refusal.Refusal.{Refusal}
 use Rattle.book_model.proofs.SoundSteps.{next_sound, refused_same}
 use Rattle.book_engine.specs.declared.stop.Stop.{Stop}
 use Rattle.book_engine.specs.declared.stop.Stop.TheVariants.{Refused, NoMemory}
+use Rattle.book_engine.specs.internal.Touched.{whole_sheet}
 use Rattle.book_engine.specs.internal.Turns.{Turns}
 
 -- the session after a call is sound
@@ -47,17 +47,22 @@ sound_inside d s p some = go (fin.get d.book.cells p) refl some
     go None e some = cc
     go (Some x) e some = (s.book.cells p x e).0
 
--- all places of a sheet
-abbrev pub whole : ℕ → Block
-whole sheet = record { sheet = sheet; top = 0; left = 0; bottom = ROWS - 1; right = COLS - 1 }
+-- a filled cell of a sound session is inside
+pub filled_inside : (d : State) → IsSound d → (p : Place) → is_some (fin.get d.book.cells p) ≡ true → IsInside p
+filled_inside d s p some = sound_inside d s p (is_there (fin.get d.book.cells p) some)
+  where
+    is_there : (o : Option Content) → is_some o ≡ true → IsSome o
+    is_there None h = absurd (false≢true h)
+    is_there (Some x) h = h
 
-covers_same : (sheet : ℕ) (p : Place) → IsInside p → covers (whole sheet) p ≡ (p.sheet == sheet)
+-- the places of a sheet are in it
+pub covers_same : (sheet : ℕ) (p : Place) → IsInside p → covers (whole_sheet sheet) p ≡ (p.sheet == sheet)
 covers_same sheet p i = grind (arith, nat_tests)
 
 -- to empty a whole sheet is to empty its cells
-pub emptied_sheet : (m : Contents) (sheet : ℕ) → AreInside m → fin.retain_keys m (λ p. not (covers (whole sheet) p)) ≡ fin.retain_keys m (λ p. not (p.sheet == sheet))
+pub emptied_sheet : (m : Contents) (sheet : ℕ) → AreInside m → fin.retain_keys m (λ p. not (covers (whole_sheet sheet) p)) ≡ fin.retain_keys m (λ p. not (p.sheet == sheet))
 emptied_sheet m sheet inside = same_map place_cmp-IsTotalOrder place_cmp-IsAntisymmetric _ _ (λ q.
-    get-retain_keys m (λ p. not (covers (whole sheet) p)) q (λ x t. ap (λ r. not (covers (whole sheet) r)) (sym (place_cmp-IsAntisymmetric q x t)))
+    get-retain_keys m (λ p. not (covers (whole_sheet sheet) p)) q (λ x t. ap (λ r. not (covers (whole_sheet sheet) r)) (sym (place_cmp-IsAntisymmetric q x t)))
     ∙ go q (fin.get m q) refl
     ∙ sym (get-retain_keys m (λ p. not (p.sheet == sheet)) q (λ x t. ap (λ r. not (r.sheet == sheet)) (sym (place_cmp-IsAntisymmetric q x t)))))
   where
@@ -67,6 +72,6 @@ emptied_sheet m sheet inside = same_map place_cmp-IsTotalOrder place_cmp-IsAntis
     none false true = refl
     none false false = refl
 
-    go : (q : Place) (r : Option Content) → fin.get m q ≡ r → cond (not (covers (whole sheet) q)) r None ≡ cond (not (q.sheet == sheet)) r None
-    go q None e = none (not (covers (whole sheet) q)) (not (q.sheet == sheet))
+    go : (q : Place) (r : Option Content) → fin.get m q ≡ r → cond (not (covers (whole_sheet sheet) q)) r None ≡ cond (not (q.sheet == sheet)) r None
+    go q None e = none (not (covers (whole_sheet sheet) q)) (not (q.sheet == sheet))
     go q (Some x) e = ap (λ b. cond (not b) (Some x) None) (covers_same sheet q (inside q (ap is_some e)))

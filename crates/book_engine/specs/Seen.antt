@@ -12,6 +12,7 @@ use Rattle.book_model.specs.Sound.{IsSound}
 use Rattle.book_model.specs.Workbook.{State}
 use Rattle.kept_book.specs.Copied.{IsCopied, contents_copied}
 use Rattle.kept_steps.specs.Session as steps
+use Rattle.session_values.specs.Following.{AreFollowing}
 use Rattle.book_engine.specs.declared.parts.Parts.{Parts}
 
 -- the session that the parts of an engine make up, without custom functions, on day 0, where nothing waits to be pasted
@@ -45,3 +46,11 @@ CanPaste clip = ⊤
 -- the parts are those of an engine
 abbrev pub Fits : Parts → Type 0
 Fits p = IsSound (state_of p)
+
+-- what is kept of values follows the session, with these custom functions, on this day
+abbrev pub ValuesFollow : List (List ℕ × Rule) → ℤ → Parts → Type 0
+ValuesFollow customs today p = AreFollowing customs today p.session p.values.values
+
+-- where it followed before, it follows still
+abbrev pub ValuesFollowStill : Parts → Parts → Type 0
+ValuesFollowStill old new = (customs : List (List ℕ × Rule)) (today : ℤ) → ValuesFollow customs today old → ValuesFollow customs today new

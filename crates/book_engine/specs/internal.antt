@@ -5,7 +5,9 @@ pub mod Slots
 pub mod ShownNames
 pub mod Links
 pub mod Pasting
+pub mod Touched
 pub mod Props
 pub mod FormulaProp
 pub mod FitsProp
+pub mod FollowProp
 pub mod WaitingProp

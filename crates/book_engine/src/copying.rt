@@ -17,12 +17,13 @@ ghost use Rattle.book_model.specs.declared.refusal.Refusal.TheVariants as refusa
 ghost use Rattle.kept_book.specs.Copied.{IsCopied, contents_copied};
 ghost use Rattle.kept_steps.specs.Kept.{KeepsInUse};
 ghost use Rattle.book_engine.specs.Engine.{NoAnswer};
-ghost use Rattle.book_engine.specs.Seen.{Fits, clip_of, state_of, with_clipboard};
+ghost use Rattle.book_engine.specs.Seen.{Fits, ValuesFollowStill, clip_of, state_of, with_clipboard};
 ghost use Rattle.book_engine.specs.internal.Pasting.{ArePlaces, place_pasted};
 ghost use Rattle.book_engine.specs.internal.Turns.{IsCause, Reads, Turns};
 
 use crate::checks::ends_outside;
 use crate::parts::Parts;
+use crate::setting::{touch_filled, touch_filled_or_forget};
 use crate::stop::Stop;
 use crate::waiting::Waiting;
 use book_model::{MAX_CELLS, Refusal};
@@ -39,6 +40,7 @@ impl Parts {
         ensures reads { Reads (op.copy area) (λ d w. clip_of w.clip ≡ clipboard.copy_of area d.book.cells) (state_of self.old) result }
         ensures state { state_of self.new ≡ state_of self.old }
         ensures fits { Fits self.new }
+        ensures follow { ValuesFollowStill self.old self.new }
     {
         self.check_clear(area)?;
         let cells = self.session.copied_cells(area)?;
@@ -60,12 +62,16 @@ impl Parts {
         ensures turns { Turns (op.paste at) NoAnswer (with_clipboard (clipboard.copied area (contents_copied cells.now)) (state_of self.old)) (with_clipboard (clipboard.copied area (contents_copied cells.now)) (state_of self.new)) result }
         ensures fits { Fits self.new }
         ensures kept { KeepsInUse self.old.session self.new.session.book.lazy }
+        ensures follow { ValuesFollowStill self.old self.new }
     {
         self.check_paste(area, at)?;
         if self.filled_after(area, cells, at)? > MAX_CELLS {
             return Err(Stop::Refused(Refusal::CellLimit));
         }
+        let there = destination(area, at);
+        touch_filled(&self.session, &mut self.values, there)?;
         self.session.paste(area, cells, at)?;
+        touch_filled_or_forget(&self.session, &mut self.values, there);
         Ok(())
     }
 

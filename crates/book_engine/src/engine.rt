@@ -10,8 +10,9 @@ ghost use Rattle.book_model.specs.Replies.{first_sheet};
 ghost use Rattle.book_model.specs.Sound.{IsLinkInside};
 ghost use Rattle.book_model.specs.Workbook.{State};
 ghost use Rattle.book_model.specs.declared.limits.TheConstants.{MAX_UNDO};
-ghost use Rattle.book_engine.specs.Seen.{Fits};
+ghost use Rattle.book_engine.specs.Seen.{Fits, ValuesFollow};
 ghost use Rattle.book_engine.specs.internal.FitsProp.{fits-prop};
+ghost use Rattle.book_engine.specs.internal.FollowProp.{follow-prop};
 
 use crate::parts::Parts;
 use crate::stop::Stop;
@@ -34,13 +35,20 @@ use undo_book::UndoBook;
 /// A workbook of several sheets, with all calls that change it and ask about it.
 ///
 /// Rows and columns are counted from 0. A call that is refused, or that wants memory, leaves the workbook as it was.
+///
+/// Values are kept from one read to the next. The first read of a value works the whole workbook out. A change of cells, its undo
+/// and its redo mark the cells that they touch, and the next read works out what these reach, each cell and name once, in an order
+/// in which each comes after what it needs; nothing is worked out before that. A structural operation takes along what is kept, and
+/// marks the formulas that it bends or that ask where a reference is. A change of a name, and an undo or redo of more than cells,
+/// give up what is kept, so that the next read works out the whole workbook.
 #[derive(Drop)]
-pub struct Engine<C> {
+pub struct Engine<C: Customs> {
     parts: Parts,
     waiting: Waiting,
     customs: C,
     day: i32,
     ghost fits: { Fits parts } by { fits-prop parts },
+    ghost follow: { ValuesFollow (C.customs customs) day parts } by { follow-prop (C.customs customs) day parts },
 }
 
 #[tactic(auto, unfolding(crate::specs::Engine::StandsFor))]
@@ -408,7 +416,8 @@ impl<C: Customs> Engine<C> {
         Ok(())
     }
 
-    /// What a cell shows. Costs about the whole workbook.
+    /// What a cell shows. Costs a look-up where nothing changed since the last read of a value; else what the changes since then
+    /// reach is worked out first, or the whole workbook where nothing is kept.
     ///
     /// # Errors
     /// `Suspended` where the computation is suspended or a batch is open, `NoSheet`, `Outside`.
@@ -419,7 +428,7 @@ impl<C: Customs> Engine<C> {
     }
 
     /// What a name shows that the word finds on the sheet, in any case of its ASCII letters: the sheet's own, else that of
-    /// the whole workbook. Costs about the whole workbook.
+    /// the whole workbook. Costs what [`Engine::value`] does, and a look-up of the word.
     ///
     /// # Errors
     /// `Suspended`, `NoSheet`, `NoSuchName` where neither scope has the name.
@@ -435,7 +444,8 @@ impl<C: Customs> Engine<C> {
             .name_value(name, sheet, &self.customs, self.day, steps)
     }
 
-    /// What the formula of the text would show in the first cell of the sheet. Costs about the whole workbook.
+    /// What the formula of the text would show in the first cell of the sheet. Nothing of it is kept. Costs what
+    /// [`Engine::value`] does, and the steps of the formula.
     ///
     /// # Errors
     /// `Suspended`, `NoSheet`, `TextLimit` past 8,192 bytes, `BadFormula` where the text is no formula.

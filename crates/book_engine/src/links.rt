@@ -12,7 +12,7 @@ ghost use Rattle.book_model.specs.Answers.{dependents_of, link_of, name_link, pr
 ghost use Rattle.book_model.specs.Operation as op;
 ghost use Rattle.book_model.specs.Sound.{IsLinkInside};
 ghost use Rattle.kept_book.specs.Kept.{KeepsElsewhere};
-ghost use Rattle.book_engine.specs.Seen.{Fits, state_of};
+ghost use Rattle.book_engine.specs.Seen.{Fits, ValuesFollowStill, state_of};
 ghost use Rattle.book_engine.specs.internal.Links.{content_mentions, mentioned, passes, shown_link, shown_needing};
 ghost use Rattle.book_engine.specs.internal.ShownNames.{shown_cmp};
 ghost use Rattle.book_engine.specs.internal.Slots.{slot_of};
@@ -38,6 +38,7 @@ impl Parts {
         ensures fits { Fits self.new }
         ensures inside { IfOk result (λ links. All IsLinkInside links.items) }
         ensures kept { KeepsElsewhere at self.old.session.book self.new.session.book }
+        ensures follow { ValuesFollowStill self.old self.new }
     {
         self.check_place(at)?;
         let links = self.links_from(at)?;
@@ -50,6 +51,7 @@ impl Parts {
         ensures turns { Turns (op.dependents at) (λ d links. links.items ≡ dependents_of d at) (state_of self.old) (state_of self.new) result }
         ensures fits { Fits self.new }
         ensures inside { IfOk result (λ links. All IsLinkInside links.items) }
+        ensures follow { ValuesFollowStill self.old self.new }
     {
         self.check_place(at)?;
         let links = self.links_to(at)?;
@@ -61,6 +63,7 @@ impl Parts {
         ensures links { IfOk result (λ links. links.items ≡ precedents_of (state_of self.old) at) }
         ensures state { state_of self.new ≡ state_of self.old }
         ensures kept { KeepsElsewhere at self.old.session.book self.new.session.book }
+        ensures follow { ValuesFollowStill self.old self.new }
     {
         let mentions = self.mentioned(at)?;
         let links = self.links_of(at.sheet, mentions.as_slice())?;
@@ -68,10 +71,12 @@ impl Parts {
     }
 
     // What the formula of a cell mentions, if it holds one.
+    #[tactic(auto, using(crate::proofs::Following::follow_reads))]
     fn mentioned(&mut self, at: Place) -> Result<Vec<Mention>, AllocError>
         ensures mentions { IfOk result (λ list. list.items ≡ mentioned (nodes.content_tree (fin.get (state_of self.old).book.cells at))) }
         ensures state { state_of self.new ≡ state_of self.old }
         ensures kept { KeepsElsewhere at self.old.session.book self.new.session.book }
+        ensures follow { ValuesFollowStill self.old self.new }
     {
         let alloc = self.session.book.alloc;
         match self.session.formula(at)? {
@@ -120,6 +125,7 @@ impl Parts {
     fn links_to(&mut self, at: Place) -> Result<Vec<Link>, AllocError>
         ensures links { IfOk result (λ links. links.items ≡ dependents_of (state_of self.old) at) }
         ensures state { state_of self.new ≡ state_of self.old }
+        ensures follow { ValuesFollowStill self.old self.new }
     {
         let alloc = self.session.book.alloc;
         let cells = self.cells_needing(at)?;
@@ -135,6 +141,7 @@ impl Parts {
     fn cells_needing(&mut self, at: Place) -> Result<BTreeSet<Place>, AllocError>
         ensures needing { IfOk result (λ set. (q : Place) → contains place_cmp set q ≡ passes (content_mentions at) (fin.get (state_of self.old).book.cells q)) }
         ensures state { state_of self.new ≡ state_of self.old }
+        ensures follow { ValuesFollowStill self.old self.new }
     {
         let mut needing = BTreeSet::new(self.session.book.alloc);
         let mut cells = self.session.book.grid.all()?;
@@ -146,9 +153,11 @@ impl Parts {
     }
 
     // The second place, if the formula there mentions the first.
+    #[tactic(auto, using(crate::proofs::Following::follow_reads))]
     fn place_needing(&mut self, at: Place, place: Place) -> Result<Option<Place>, AllocError>
         ensures needing { IfOk result (λ found. found ≡ (if passes (content_mentions at) (fin.get (state_of self.old).book.cells place) then Some place else None)) }
         ensures state { state_of self.new ≡ state_of self.old }
+        ensures follow { ValuesFollowStill self.old self.new }
     {
         match self.session.formula(place)? {
             Some(tree) if mentions(&tree, Home::Cell(place), at) => Ok(Some(place)),

@@ -12,7 +12,7 @@ ghost use Rattle.book_model.specs.Refusals.{first_cause, of_name_text, of_tried_
 ghost use Rattle.kept_book.specs.Formula.{tree_in_scope};
 ghost use Rattle.kept_steps.specs.Kept.{KeepsInUse};
 ghost use Rattle.book_engine.specs.Engine.{NoAnswer};
-ghost use Rattle.book_engine.specs.Seen.{Fits, state_of};
+ghost use Rattle.book_engine.specs.Seen.{Fits, ValuesFollowStill, state_of};
 ghost use Rattle.book_engine.specs.internal.Names.{Reads};
 ghost use Rattle.book_engine.specs.internal.Turns.{Turns};
 
@@ -39,10 +39,12 @@ impl Parts {
         ensures turns { Turns (op.add_name name.now scope text.now) NoAnswer (state_of self.old) (state_of self.new) result }
         ensures fits { Fits self.new }
         ensures kept { KeepsInUse self.old.session self.new.session.book.lazy }
+        ensures follow { ValuesFollowStill self.old self.new }
     {
         self.check_new_name(name, scope)?;
         let Session { pool, book, .. } = &mut self.session;
         let tree = read_name(book.alloc, pool, &book.names, scope, text)?;
+        self.values.forget();
         self.session.name(scope, name, Some(tree))?;
         Ok(())
     }
@@ -58,10 +60,12 @@ impl Parts {
         ensures turns { Turns (op.change_name name.now scope text.now) NoAnswer (state_of self.old) (state_of self.new) result }
         ensures fits { Fits self.new }
         ensures kept { KeepsInUse self.old.session self.new.session.book.lazy }
+        ensures follow { ValuesFollowStill self.old self.new }
     {
         self.check_known_name(name, scope)?;
         let Session { pool, book, .. } = &mut self.session;
         let tree = read_name(book.alloc, pool, &book.names, scope, text)?;
+        self.values.forget();
         self.session.name(scope, name, Some(tree))?;
         Ok(())
     }
@@ -72,8 +76,10 @@ impl Parts {
         ensures turns { Turns (op.remove_name name.now scope) NoAnswer (state_of self.old) (state_of self.new) result }
         ensures fits { Fits self.new }
         ensures kept { KeepsInUse self.old.session self.new.session.book.lazy }
+        ensures follow { ValuesFollowStill self.old self.new }
     {
         self.check_known_name(name, scope)?;
+        self.values.forget();
         self.session.name(scope, name, None)?;
         Ok(())
     }

@@ -1,17 +1,21 @@
-// What an engine keeps of its session.
-ghost use Rattle.std.specs.Prelude.{◌≡◌, ◌≤◌, [], IfOk, pos};
+// What an engine keeps of its session, and of its values.
+ghost use Rattle.std.specs.Prelude.{◌≡◌, ◌≤◌, ℤ, [], IfOk, List, ℕ, pos};
+ghost use Rattle.custom_fn.specs.declared.rule.Rule.{Rule};
 ghost use Rattle.book_model.specs.Given.{CanBegin, given_sheets, session_given};
 ghost use Rattle.book_model.specs.declared.limits.TheConstants.{MAX_UNDO};
-ghost use Rattle.book_engine.specs.Seen.{Fits, state_of};
+ghost use Rattle.book_engine.specs.Seen.{Fits, ValuesFollow, state_of};
 
 use book_model::BookSheet;
 use kept_steps::Session;
+use session_values::SessionValues;
 use std::alloc::{AllocError, Global};
 
-/// The session of an engine: the workbook along its line, with the steps that can be undone and redone.
+/// The session of an engine: the workbook along its line, with the steps that can be undone and redone; and what is kept of the
+/// values of the workbook.
 #[derive(Drop)]
 pub struct Parts {
     pub session: Session,
+    pub values: SessionValues,
 }
 
 impl Parts {
@@ -21,9 +25,11 @@ impl Parts {
         requires limit { limit ≤ MAX_UNDO }
         ensures state { IfOk result (λ parts. state_of parts ≡ session_given limit [] (pos 0) (given_sheets books.now)) }
         ensures fits { IfOk result Fits }
+        ensures follow { IfOk result (λ parts. (customs : List (List ℕ × Rule)) (today : ℤ) → ValuesFollow customs today parts) }
     {
         Ok(Parts {
             session: Session::build(alloc, books, limit)?,
+            values: SessionValues::nothing(),
         })
     }
 }

@@ -1,14 +1,21 @@
 // Cells that are filled and emptied.
+ghost use Rattle.std.specs.Prelude.{◌≡◌, OnOk};
+ghost use Rattle.cell_addr.specs.Place.{covers};
 ghost use Rattle.book_model.specs.Operation as op;
 ghost use Rattle.kept_book.specs.Ids.{KeepsBelow};
 ghost use Rattle.kept_steps.specs.Kept.{KeepsInUse};
 ghost use Rattle.book_engine.specs.Engine.{NoAnswer};
-ghost use Rattle.book_engine.specs.Seen.{Fits, state_of};
+ghost use Rattle.book_engine.specs.Seen.{Fits, ValuesFollowStill, state_of};
+ghost use Rattle.session_values.specs.Touched.{AreTouched, AreTouchedAtMost};
+ghost use Rattle.book_engine.specs.internal.Touched.{AreFilledMarked, whole_sheet};
 ghost use Rattle.book_engine.specs.internal.Turns.{Turns};
 
 use crate::parts::Parts;
 use crate::stop::Stop;
-use cell_addr::{Block, Place};
+use cell_addr::{Block, COLS, Place, ROWS};
+use kept_steps::Session;
+use session_values::SessionValues;
+use std::alloc::AllocError;
 
 impl Parts {
     // Gives a cell the content that a text says.
@@ -17,8 +24,10 @@ impl Parts {
         ensures turns { Turns (op.set at text.now) NoAnswer (state_of self.old) (state_of self.new) result }
         ensures fits { Fits self.new }
         ensures kept { KeepsInUse self.old.session self.new.session.book.lazy }
+        ensures follow { ValuesFollowStill self.old self.new }
     {
         self.check_set(at, text)?;
+        self.values.touch(at)?;
         self.session.fill(at, text)?;
         Ok(())
     }
@@ -29,8 +38,10 @@ impl Parts {
         ensures turns { Turns (op.clear area) NoAnswer (state_of self.old) (state_of self.new) result }
         ensures fits { Fits self.new }
         ensures kept { KeepsBelow self.old.session.book.next_id self.old.session.book.lazy self.new.session.book.lazy }
+        ensures follow { ValuesFollowStill self.old self.new }
     {
         self.check_clear(area)?;
+        touch_filled(&self.session, &mut self.values, area)?;
         self.session.clear(area)?;
         Ok(())
     }
@@ -41,9 +52,48 @@ impl Parts {
         ensures turns { Turns (op.clear_sheet sheet) NoAnswer (state_of self.old) (state_of self.new) result }
         ensures fits { Fits self.new }
         ensures kept { KeepsBelow self.old.session.book.next_id self.old.session.book.lazy self.new.session.book.lazy }
+        ensures follow { ValuesFollowStill self.old self.new }
     {
         self.check_sheet(sheet)?;
+        touch_filled(&self.session, &mut self.values, whole_sheet(sheet))?;
         self.session.clear_sheet(sheet)?;
         Ok(())
+    }
+}
+
+// Marks the filled cells of a block, which are going to change.
+pub(crate) fn touch_filled(
+    session: &Session,
+    values: &mut SessionValues,
+    area: Block,
+) -> Result<(), AllocError>
+    ensures touched { AreTouched (covers area) values.old.values values.new.values }
+    ensures marked { OnOk result (AreFilledMarked area session.now values.new.values) }
+{
+    let filled = session.book.grid.listed_refs(area)?;
+    values.touch_cells(&filled)
+}
+
+// Marks the filled cells of a block, which have changed; where there is no memory for it, nothing is kept any more.
+pub(crate) fn touch_filled_or_forget(session: &Session, values: &mut SessionValues, area: Block)
+    ensures touched { AreTouchedAtMost (covers area) values.old.values values.new.values }
+    ensures marked { AreFilledMarked area session.now values.new.values }
+{
+    match touch_filled(session, values, area) {
+        Ok(()) => {}
+        Err(_) => values.forget(),
+    }
+}
+
+// All places of a sheet.
+fn whole_sheet(sheet: u32) -> Block
+    ensures { result ≡ whole_sheet sheet }
+{
+    Block {
+        sheet,
+        top: 0,
+        left: 0,
+        bottom: ROWS - 1,
+        right: COLS - 1,
     }
 }

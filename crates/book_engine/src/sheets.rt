@@ -3,7 +3,7 @@ ghost use Rattle.std.specs.Prelude.{◌≡◌};
 ghost use Rattle.book_model.specs.Operation as op;
 ghost use Rattle.lazy_store.specs.Store.{KeepsAll};
 ghost use Rattle.book_engine.specs.Engine.{NoAnswer};
-ghost use Rattle.book_engine.specs.Seen.{Fits, state_of};
+ghost use Rattle.book_engine.specs.Seen.{Fits, ValuesFollowStill, state_of};
 ghost use Rattle.book_engine.specs.internal.Turns.{Turns};
 
 use crate::parts::Parts;
@@ -16,6 +16,7 @@ impl Parts {
         ensures turns { Turns (op.add_sheet name.now) (λ d number. number ≡ d.next_sheet) (state_of self.old) (state_of self.new) result }
         ensures fits { Fits self.new }
         ensures kept { KeepsAll self.old.session.book.lazy self.new.session.book.lazy }
+        ensures follow { ValuesFollowStill self.old self.new }
     {
         self.check_add(name)?;
         let number = self.session.add_sheet(name)?;
@@ -28,6 +29,7 @@ impl Parts {
         ensures turns { Turns (op.rename_sheet sheet name.now) NoAnswer (state_of self.old) (state_of self.new) result }
         ensures fits { Fits self.new }
         ensures kept { KeepsAll self.old.session.book.lazy self.new.session.book.lazy }
+        ensures follow { ValuesFollowStill self.old self.new }
     {
         self.check_rename(sheet, name)?;
         self.session.rename_sheet(sheet, name)?;

@@ -3,11 +3,12 @@ ghost use Rattle.std.specs.Prelude.{OnOk};
 ghost use Rattle.book_model.specs.Operation as op;
 ghost use Rattle.kept_steps.specs.Kept.{GoesOn, KeepsAtShift};
 ghost use Rattle.book_engine.specs.Engine.{NoAnswer};
-ghost use Rattle.book_engine.specs.Seen.{Fits, state_of};
+ghost use Rattle.book_engine.specs.Seen.{Fits, ValuesFollowStill, state_of};
 ghost use Rattle.book_engine.specs.internal.Turns.{Turns};
 
 use crate::parts::Parts;
 use crate::stop::Stop;
+use session_values::touched_by;
 use shift_core::Shift;
 
 impl Parts {
@@ -18,9 +19,12 @@ impl Parts {
         ensures fits { Fits self.new }
         ensures line { OnOk result (GoesOn s.now self.old.session self.new.session.book.lazy) }
         ensures kept { KeepsAtShift self.old.session self.new.session.book.lazy }
+        ensures follow { ValuesFollowStill self.old self.new }
     {
         self.check_structural(s)?;
+        let touched = touched_by(&self.session, s)?;
         self.session.structural(s)?;
+        self.values.shift(s, touched.items());
         Ok(())
     }
 }

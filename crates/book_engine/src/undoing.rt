@@ -1,14 +1,19 @@
 // Steps that can be undone and redone, batches of changes, and suspension.
-ghost use Rattle.std.specs.Prelude.{◌≡◌, true, false};
+ghost use Rattle.std.specs.Prelude.{◌≡◌, true, false, OnOk};
 ghost use Rattle.book_model.specs.Operation as op;
 ghost use Rattle.lazy_store.specs.Store.{KeepsAll};
+ghost use Rattle.kept_steps.specs.Turned.{is_listed, to_redo, to_undo};
+ghost use Rattle.session_values.specs.Touched.{AreTouchedAtMost, IsStepMarked};
 ghost use Rattle.book_engine.specs.Engine.{NoAnswer};
-ghost use Rattle.book_engine.specs.Seen.{Fits, state_of};
+ghost use Rattle.book_engine.specs.Seen.{Fits, ValuesFollowStill, state_of};
 ghost use Rattle.book_engine.specs.internal.Turns.{Turns};
 
 use crate::parts::Parts;
 use crate::stop::Stop;
 use book_model::Refusal;
+use kept_steps::Session;
+use session_values::SessionValues;
+use std::alloc::AllocError;
 
 impl Parts {
     // Opens a batch.
@@ -17,6 +22,7 @@ impl Parts {
         ensures turns { Turns op.begin NoAnswer (state_of self.old) (state_of self.new) result }
         ensures fits { Fits self.new }
         ensures kept { KeepsAll self.old.session.book.lazy self.new.session.book.lazy }
+        ensures follow { ValuesFollowStill self.old self.new }
     {
         if self.session.batch.is_some() {
             return Err(Stop::Refused(Refusal::BatchOpen));
@@ -31,6 +37,7 @@ impl Parts {
         ensures turns { Turns op.commit NoAnswer (state_of self.old) (state_of self.new) result }
         ensures fits { Fits self.new }
         ensures kept { KeepsAll self.old.session.book.lazy self.new.session.book.lazy }
+        ensures follow { ValuesFollowStill self.old self.new }
     {
         if self.session.batch.is_none() {
             return Err(Stop::Refused(Refusal::NoBatch));
@@ -45,6 +52,7 @@ impl Parts {
         ensures turns { state_of self.new ≡ record (state_of self.old) { suspended = true } }
         ensures fits { Fits self.new }
         ensures kept { KeepsAll self.old.session.book.lazy self.new.session.book.lazy }
+        ensures follow { ValuesFollowStill self.old self.new }
     {
         self.session.suspend();
     }
@@ -55,6 +63,7 @@ impl Parts {
         ensures turns { state_of self.new ≡ record (state_of self.old) { suspended = false } }
         ensures fits { Fits self.new }
         ensures kept { KeepsAll self.old.session.book.lazy self.new.session.book.lazy }
+        ensures follow { ValuesFollowStill self.old self.new }
     {
         self.session.resume();
     }
@@ -65,6 +74,7 @@ impl Parts {
         ensures turns { Turns op.undo NoAnswer (state_of self.old) (state_of self.new) result }
         ensures fits { Fits self.new }
         ensures kept { KeepsAll self.old.session.book.lazy self.new.session.book.lazy }
+        ensures follow { ValuesFollowStill self.old self.new }
     {
         if self.session.batch.is_some() {
             return Err(Stop::Refused(Refusal::BatchOpen));
@@ -72,6 +82,7 @@ impl Parts {
         if self.session.steps.done().is_empty() {
             return Err(Stop::Refused(Refusal::NothingToUndo));
         }
+        touch_undone(&self.session, &mut self.values)?;
         self.session.undo()?;
         Ok(())
     }
@@ -82,6 +93,7 @@ impl Parts {
         ensures turns { Turns op.redo NoAnswer (state_of self.old) (state_of self.new) result }
         ensures fits { Fits self.new }
         ensures kept { KeepsAll self.old.session.book.lazy self.new.session.book.lazy }
+        ensures follow { ValuesFollowStill self.old self.new }
     {
         if self.session.batch.is_some() {
             return Err(Stop::Refused(Refusal::BatchOpen));
@@ -89,7 +101,30 @@ impl Parts {
         if self.session.steps.undone().is_empty() {
             return Err(Stop::Refused(Refusal::NothingToRedo));
         }
+        touch_redone(&self.session, &mut self.values)?;
         self.session.redo()?;
         Ok(())
+    }
+}
+
+// Marks the cells of the step that is going to be taken back.
+fn touch_undone(session: &Session, values: &mut SessionValues) -> Result<(), AllocError>
+    ensures touched { AreTouchedAtMost (is_listed (to_undo session.now)) values.old.values values.new.values }
+    ensures marked { OnOk result (IsStepMarked (to_undo session.now) values.new.values) }
+{
+    match session.steps.done().back() {
+        Some(step) => values.touch_step(step),
+        None => Ok(()),
+    }
+}
+
+// Marks the cells of the step that is going to be done again.
+fn touch_redone(session: &Session, values: &mut SessionValues) -> Result<(), AllocError>
+    ensures touched { AreTouchedAtMost (is_listed (to_redo session.now)) values.old.values values.new.values }
+    ensures marked { OnOk result (IsStepMarked (to_redo session.now) values.new.values) }
+{
+    match session.steps.undone().last() {
+        Some(step) => values.touch_step(step),
+        None => Ok(()),
     }
 }

@@ -1,9 +1,9 @@
 -- How the parts of a run make the whole of it. Serves the call of the program.
-use Rattle.std.proofs.Common.{◌≡◌, ◌≤◌, ap, arith, refl, ℕ, ℤ, inl, inr, List, [], ◌∷◌, ◌++◌, Option, Some, None, Result, Ok, Err}
+use Rattle.std.proofs.Common.{◌≡◌, ◌≤◌, ap, arith, refl, ℕ, ℤ, inl, inr, List, [], Option, Some, None, Result, Ok, Err}
 use Rattle.std.specs.Prelude.{⊤, ◌⊎◌, string_bytes}
 use Rattle.custom_fn.specs.declared.rule.Rule.{Rule}
 use Rattle.book_files.specs.Folder.{Files}
-use Rattle.book_files.specs.Outside.{AppendsPart, Rose}
+use Rattle.book_files.specs.Outside.{Rose}
 use Rattle.book_model.specs.Given.{GivenSheet}
 use Rattle.command_words.specs.Words.{Said}
 use Rattle.run_inputs.specs.Ends.{ComesTo, EndsOpening}
@@ -14,7 +14,7 @@ use Rattle.run_inputs.specs.declared.ending.Ending.TheVariants as ending
 use Rattle.sheet_cli.specs.Run.{fault_line, outcome_said, script_outcome}
 use Rattle.sheet_cli.specs.declared.ending.Stop.{Stop}
 use Rattle.sheet_cli.specs.declared.ending.Stop.TheVariants as stop
-use Rattle.sheet_cli.specs.internal.Ends.{EndPrinted, EndsScript, Printed, PrintedLine, Runs}
+use Rattle.sheet_cli.specs.internal.Ends.{EndPrinted, Printed, PrintedLine, Runs}
 use Rattle.sheet_cli.proofs.Outcomes.{part-longer}
 
 -- a line that a run was stopped in is a part of what it ends with

@@ -2,6 +2,7 @@
 use Rattle.std.proofs.Common.{◌≡◌, ℕ, List, Result, Ok, Err}
 use Rattle.std.specs.Prelude.{OnErr}
 use Rattle.custom_fn.specs.declared.rule.Rule.{Rule}
+use Rattle.calc_eval.specs.declared.customs.Customs.{Ghosts}
 use Rattle.book_model.specs.Operation.{Operation}
 use Rattle.book_model.specs.Session.{done}
 use Rattle.book_model.specs.Workbook.{State}
@@ -18,16 +19,16 @@ on_err (Ok x) P p = tt
 on_err (Err e) P p = p
 
 -- a call that stopped
-pub stop_keeps : {C X : Type 0} (customs : C → List (List ℕ × Rule)) (op : Operation) (Answers : State → X → Type 0) (old new : Engine C) (s : Stop) → Does customs op Answers old new (Err s) → Keeps customs old new
+pub stop_keeps : {C X : Type 0} {G : Ghosts C} (customs : C → List (List ℕ × Rule)) (op : Operation) (Answers : State → X → Type 0) (old new : Engine C G) (s : Stop) → Does customs op Answers old new (Err s) → Keeps customs old new
 stop_keeps customs op Answers old new (Refused r) did = λ d stands. let now = did d stands in rw now.0 at now.1
 stop_keeps customs op Answers old new NoMemory did = did
 
 -- the same, of what a command asks for
-pub stop_keeps_for : {C X : Type 0} (customs : C → List (List ℕ × Rule)) (c : Command) (Answers : State → X → Type 0) (old new : Engine C) (s : Stop) → DoesFor customs c Answers old new (Err s) → Keeps customs old new
+pub stop_keeps_for : {C X : Type 0} {G : Ghosts C} (customs : C → List (List ℕ × Rule)) (c : Command) (Answers : State → X → Type 0) (old new : Engine C G) (s : Stop) → DoesFor customs c Answers old new (Err s) → Keeps customs old new
 stop_keeps_for customs c Answers old new (Refused r) did = λ d stands. let now = did d stands in rw now.0 at now.1
 stop_keeps_for customs c Answers old new NoMemory did = did
 
 -- a read
-pub read_keeps : {C X : Type 0} (customs : C → List (List ℕ × Rule)) (op : Operation) (Answers : State → X → Type 0) (old new : Engine C) (x : X)
+pub read_keeps : {C X : Type 0} {G : Ghosts C} (customs : C → List (List ℕ × Rule)) (op : Operation) (Answers : State → X → Type 0) (old new : Engine C G) (x : X)
     → ((d : State) → done op d ≡ d) → Does customs op Answers old new (Ok x) → Keeps customs old new
 read_keeps customs op Answers old new x same did = λ d stands. let now = did d stands in rw (now.0, same d) at now.2

@@ -1,9 +1,10 @@
 -- A run over the records of a script, one record at a time: what the call of the program promises rests on this.
-use Rattle.std.proofs.Common.{◌≡◌, ◌∙◌, sym, ap, subst, refl, arith, ℕ, zero, suc, ◌+◌, ◌≤◌, ◌&&◌, Bool, true, false, cond, List, [], ◌∷◌, ◌++◌, length, drop, take, Option, Some, None, Result, Ok, Err, append_assoc}
+use Rattle.std.proofs.Common.{◌≡◌, ◌∙◌, sym, ap, subst, refl, arith, ℕ, zero, suc, ◌+◌, ◌&&◌, Bool, true, false, cond, List, [], ◌∷◌, ◌++◌, length, take, Option, Some, None, Result, Ok, Err, append_assoc}
 use Rattle.std.specs.Prelude.{⊤, IsErrAnd}
 use Rattle.std.proofs.lemmas.List.{append-nil}
 use Rattle.std.specs.Io.KnownBytes.{Appends, Keeps}
 use Rattle.custom_fn.specs.declared.rule.Rule.{Rule}
+use Rattle.calc_eval.specs.declared.customs.Customs.{Ghosts}
 use Rattle.book_files.specs.Outside.{AppendsPart}
 use Rattle.book_files.specs.declared.error.WriteError.{WriteError}
 use Rattle.book_files.specs.declared.error.WriteError.TheVariants as write
@@ -101,23 +102,23 @@ unfolding outcome_from
 outcome-more strict d k fields rest = refl
 
 -- the engine is in a session in which the records that are left, the first of them with this number, complete the whole
-abbrev pub Leads : {C : Type 0} → (C → List (List ℕ × Rule)) → Bool → Engine C → ℕ → List (List (List ℕ)) → Option (List ℕ) → Option (List ℕ) → Outcome → Type 0
+abbrev pub Leads : {C : Type 0} {G : Ghosts C} → (C → List (List ℕ × Rule)) → Bool → Engine C G → ℕ → List (List (List ℕ)) → Option (List ℕ) → Option (List ℕ) → Outcome → Type 0
 Leads customs strict engine k left old now whole = (d : State) × (StandsFor customs engine d × Completes old now (outcome_from strict d k left).0 whole.0 × ((outcome_from strict d k left).1 ≡ whole.1))
 
 -- the outcome of a record that did this and doesn't end the run: its reply, and the rest in the next session
-outcome-goes : {C : Type 0} (customs : C → List (List ℕ × Rule)) (strict : Bool) (said : Result Command ScriptError) (k : ℕ) (before after : Engine C) (d : State) (old new : Option (List ℕ)) (rest : State → Outcome) → AnswersRecord customs strict said k None before after old new → StandsFor customs before d
+outcome-goes : {C : Type 0} {G : Ghosts C} (customs : C → List (List ℕ × Rule)) (strict : Bool) (said : Result Command ScriptError) (k : ℕ) (before after : Engine C G) (d : State) (old new : Option (List ℕ)) (rest : State → Outcome) → AnswersRecord customs strict said k None before after old new → StandsFor customs before d
     → (line : List ℕ) × (next : State) × (Appends old new line × StandsFor customs after next × (record_outcome strict d k said rest ≡ followed_by line (rest next)))
 outcome-goes customs strict (Ok command) k before after d old new rest did stands = let now = did d stands in (reply command d, next_state command d, (now.1, now.2, rw now.0 refl))
 outcome-goes customs strict (Err e) k before after d old new rest did stands = absurd did
 
 -- the outcome of a record that did this and ends the run: its line and its status
-outcome-ends : {C : Type 0} (customs : C → List (List ℕ × Rule)) (strict : Bool) (said : Result Command ScriptError) (k status : ℕ) (before after : Engine C) (d : State) (old new : Option (List ℕ)) (rest : State → Outcome) → AnswersRecord customs strict said k (Some status) before after old new → StandsFor customs before d
+outcome-ends : {C : Type 0} {G : Ghosts C} (customs : C → List (List ℕ × Rule)) (strict : Bool) (said : Result Command ScriptError) (k status : ℕ) (before after : Engine C G) (d : State) (old new : Option (List ℕ)) (rest : State → Outcome) → AnswersRecord customs strict said k (Some status) before after old new → StandsFor customs before d
     → (line : List ℕ) × (Appends old new line × (record_outcome strict d k said rest ≡ (line, status)))
 outcome-ends customs strict (Ok command) k status before after d old new rest did stands = let now = did d stands in (reply command d, (now.1, rw (now.0, now.2) refl))
 outcome-ends customs strict (Err e) k status before after d old new rest did stands = (line_of (record_text k e), (did.0, rw did.1 refl))
 
 -- the outcome of a record of whose line a part was written
-outcome-part : {C : Type 0} (customs : C → List (List ℕ × Rule)) (strict : Bool) (said : Result Command ScriptError) (k : ℕ) (before : Engine C) (d : State) (old new : Option (List ℕ)) (rest : State → Outcome) → AnswersPart customs said k before old new → StandsFor customs before d
+outcome-part : {C : Type 0} {G : Ghosts C} (customs : C → List (List ℕ × Rule)) (strict : Bool) (said : Result Command ScriptError) (k : ℕ) (before : Engine C G) (d : State) (old new : Option (List ℕ)) (rest : State → Outcome) → AnswersPart customs said k before old new → StandsFor customs before d
     → AppendsPart old new (record_outcome strict d k said rest).0
 outcome-part customs strict (Ok command) k before d old new rest part stands = of (strict && is_refused d command)
   where
@@ -127,7 +128,7 @@ outcome-part customs strict (Ok command) k before d old new rest part stands = o
 outcome-part customs strict (Err e) k before d old new rest part stands = part
 
 -- a record that doesn't end the run: what was written and the rest still make the whole
-pub goes_on : {C : Type 0} (customs : C → List (List ℕ × Rule)) (strict : Bool) (old now new : Option (List ℕ)) (before after : Engine C) (k : ℕ) (left rest : List (List (List ℕ))) (fields : List (List ℕ)) (whole : Outcome) → left ≡ fields ∷ rest → AnswersRecord customs strict (command_of fields) k None before after now new
+pub goes_on : {C : Type 0} {G : Ghosts C} (customs : C → List (List ℕ × Rule)) (strict : Bool) (old now new : Option (List ℕ)) (before after : Engine C G) (k : ℕ) (left rest : List (List (List ℕ))) (fields : List (List ℕ)) (whole : Outcome) → left ≡ fields ∷ rest → AnswersRecord customs strict (command_of fields) k None before after now new
     → Leads customs strict before k left old now whole → Leads customs strict after (k + 1) rest old new whole
 goes_on customs strict old now new before after k left rest fields whole is did (d, (stands, written, status)) =
     let g = outcome-goes customs strict (command_of fields) k before after d now new (λ next. outcome_from strict next (k + 1) rest) did stands in
@@ -136,7 +137,7 @@ goes_on customs strict old now new before after k left rest fields whole is did 
     (g.1, (g.2.1, completes-write old now new g.0 (outcome_from strict g.1 (k + 1) rest).0 whole.0 (subst P e written) g.2.0, sym (ap (λ (o : Outcome). o.1) e) ∙ status))
 
 -- a record that ends the run: what was written is the whole
-pub stops : {C : Type 0} (customs : C → List (List ℕ × Rule)) (strict : Bool) (old now new : Option (List ℕ)) (before after : Engine C) (k end : ℕ) (left rest : List (List (List ℕ))) (fields : List (List ℕ)) (whole : Outcome) → left ≡ fields ∷ rest → AnswersRecord customs strict (command_of fields) k (Some end) before after now new
+pub stops : {C : Type 0} {G : Ghosts C} (customs : C → List (List ℕ × Rule)) (strict : Bool) (old now new : Option (List ℕ)) (before after : Engine C G) (k end : ℕ) (left rest : List (List (List ℕ))) (fields : List (List ℕ)) (whole : Outcome) → left ≡ fields ∷ rest → AnswersRecord customs strict (command_of fields) k (Some end) before after now new
     → Leads customs strict before k left old now whole → Appends old new whole.0 × (end ≡ whole.1)
 stops customs strict old now new before after k end left rest fields whole is did (d, (stands, written, status)) =
     let g = outcome-ends customs strict (command_of fields) k end before after d now new (λ next. outcome_from strict next (k + 1) rest) did stands in
@@ -145,7 +146,7 @@ stops customs strict old now new before after k end left rest fields whole is di
     (completes-last old now new g.0 whole.0 (subst P e written) g.1.0, sym (ap (λ (o : Outcome). o.1) e) ∙ status)
 
 -- a record that wasn't answered to its end: what was written is a part of the whole
-pub breaks : {C : Type 0} (customs : C → List (List ℕ × Rule)) (strict : Bool) (old now new : Option (List ℕ)) (before : Engine C) (k : ℕ) (left rest : List (List (List ℕ))) (fields : List (List ℕ)) (whole : Outcome) → left ≡ fields ∷ rest → AnswersPart customs (command_of fields) k before now new
+pub breaks : {C : Type 0} {G : Ghosts C} (customs : C → List (List ℕ × Rule)) (strict : Bool) (old now new : Option (List ℕ)) (before : Engine C G) (k : ℕ) (left rest : List (List (List ℕ))) (fields : List (List ℕ)) (whole : Outcome) → left ≡ fields ∷ rest → AnswersPart customs (command_of fields) k before now new
     → Leads customs strict before k left old now whole → AppendsPart old new whole.0
 breaks customs strict old now new before k left rest fields whole is part (d, (stands, written, status)) =
     let p = outcome-part customs strict (command_of fields) k before d now new (λ next. outcome_from strict next (k + 1) rest) part stands in
@@ -153,7 +154,7 @@ breaks customs strict old now new before k left rest fields whole is part (d, (s
     completes-part old now new (outcome_from strict d k left).0 whole.0 written (subst (λ (o : Outcome). AppendsPart now new o.0) (sym e) p)
 
 -- no record is left: what was written is the whole
-pub ends : {C : Type 0} (customs : C → List (List ℕ × Rule)) (strict : Bool) (old now : Option (List ℕ)) (engine : Engine C) (k : ℕ) (left : List (List (List ℕ))) (whole : Outcome) → left ≡ [] → Leads customs strict engine k left old now whole
+pub ends : {C : Type 0} {G : Ghosts C} (customs : C → List (List ℕ × Rule)) (strict : Bool) (old now : Option (List ℕ)) (engine : Engine C G) (k : ℕ) (left : List (List (List ℕ))) (whole : Outcome) → left ≡ [] → Leads customs strict engine k left old now whole
     → Appends old now whole.0 × (0 ≡ whole.1)
 ends customs strict old now engine k left whole is (d, (stands, written, status)) =
     let e : outcome_from strict d k left ≡ ([], 0) = ap (λ l. outcome_from strict d k l) is ∙ outcome-none strict d k in
@@ -161,7 +162,7 @@ ends customs strict old now engine k left whole is (d, (stands, written, status)
     (completes-end old now whole.0 (subst P e written), sym (ap (λ (o : Outcome). o.1) e) ∙ status)
 
 -- what was written so far is a part of the whole
-pub so_far : {C : Type 0} (customs : C → List (List ℕ × Rule)) (strict : Bool) (old now : Option (List ℕ)) (engine : Engine C) (k : ℕ) (left : List (List (List ℕ))) (whole : Outcome) → Leads customs strict engine k left old now whole → AppendsPart old now whole.0
+pub so_far : {C : Type 0} {G : Ghosts C} (customs : C → List (List ℕ × Rule)) (strict : Bool) (old now : Option (List ℕ)) (engine : Engine C G) (k : ℕ) (left : List (List (List ℕ))) (whole : Outcome) → Leads customs strict engine k left old now whole → AppendsPart old now whole.0
 so_far customs strict old now engine k left whole (d, (stands, written, status)) = completes-so_far old now (outcome_from strict d k left).0 whole.0 written
 
 -- a part was printed before a run was stopped, though not by a fault in reading
@@ -171,10 +172,10 @@ stopped o old new stop.WriteFault other part = part
 stopped o old new stop.NoMemory other part = part
 
 -- nothing of the line of a command, or of a record, was written
-pub no_part : {C : Type 0} (customs : C → List (List ℕ × Rule)) (c : Command) (before : Engine C) (old : Option (List ℕ)) → PartOfCommand customs c before old old
+pub no_part : {C : Type 0} {G : Ghosts C} (customs : C → List (List ℕ × Rule)) (c : Command) (before : Engine C G) (old : Option (List ℕ)) → PartOfCommand customs c before old old
 no_part customs c before old = λ d stands. part-none old (reply c d)
 
-pub nothing_answered : {C : Type 0} (customs : C → List (List ℕ × Rule)) (said : Result Command ScriptError) (k : ℕ) (before : Engine C) (old : Option (List ℕ)) → AnswersPart customs said k before old old
+pub nothing_answered : {C : Type 0} {G : Ghosts C} (customs : C → List (List ℕ × Rule)) (said : Result Command ScriptError) (k : ℕ) (before : Engine C G) (old : Option (List ℕ)) → AnswersPart customs said k before old old
 nothing_answered customs (Ok c) k before old = no_part customs c before old
 nothing_answered customs (Err e) k before old = part-none old (line_of (record_text k e))
 

@@ -1,6 +1,6 @@
 -- How much of its source a run reads. Serves the call of the program.
-use Rattle.std.proofs.Common.{◌≡◌, ◌∙◌, sym, ap, subst, refl, arith, ℕ, ◌+◌, ◌&&◌, inl, inr, Bool, true, false, cond, List, [], ◌∷◌, ◌++◌, length, drop, Option, Some, None, Result, Ok, Err, nat_lt}
-use Rattle.std.specs.Prelude.{⊤, ◌⊎◌, OnOk, is_none, is_ok}
+use Rattle.std.proofs.Common.{◌≡◌, ◌∙◌, sym, ap, subst, refl, arith, ℕ, ◌&&◌, inl, inr, Bool, true, false, cond, List, [], ◌∷◌, ◌++◌, length, drop, Option, Some, None, Result, Ok, Err, nat_lt}
+use Rattle.std.specs.Prelude.{◌⊎◌, OnOk, is_none}
 use Rattle.std.specs.Io.KnownBytes.{Consumes, IsAtEnd}
 use Rattle.std.proofs.lemmas.Bool.{ltb-false}
 use Rattle.std.proofs.lemmas.List.{drop_all}
@@ -10,7 +10,7 @@ use Rattle.book_model.specs.Given.{GivenSheet}
 use Rattle.command_words.specs.Words.{Said}
 use Rattle.run_inputs.specs.Ends.{ComesTo, EndsOpening, TakesScript}
 use Rattle.run_inputs.specs.Opening.{Told, script_told, sheets_told, told_by}
-use Rattle.run_inputs.specs.Outcome.{Outcome, ended, too_long}
+use Rattle.run_inputs.specs.Outcome.{Outcome, too_long}
 use Rattle.run_inputs.specs.declared.ending.Ending.{Ending}
 use Rattle.run_inputs.specs.declared.ending.Ending.TheVariants as ending
 use Rattle.sheet_cli.specs.Run.{Leaves, WasRead, reads_source, source_left}

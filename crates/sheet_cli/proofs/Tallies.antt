@@ -1,14 +1,13 @@
 -- Answers counted one after the other: a summary is that of all. Serves the commands that a run generates.
-use Rattle.std.proofs.Common.{◌≡◌, ◌∙◌, sym, ap, subst, refl, arith, ℕ, suc, ◌+◌, ◌&&◌, Bool, true, false, cond, List, [], ◌∷◌, ◌++◌, length, filter, codes, Option, Some, None}
-use Rattle.std.specs.Fmt.{decimal}
+use Rattle.std.proofs.Common.{◌≡◌, ◌∙◌, sym, ap, subst, refl, arith, ℕ, suc, ◌+◌, ◌&&◌, Bool, true, false, List, [], ◌∷◌, length, filter, Some}
 use Rattle.custom_fn.specs.declared.rule.Rule.{Rule}
+use Rattle.calc_eval.specs.declared.customs.Customs.{Ghosts}
 use Rattle.book_engine.specs.Engine.{StandsFor}
 use Rattle.book_engine.specs.declared.engine.Engine.{Engine}
-use Rattle.book_model.specs.Replies.{line_of, next_state, reply}
+use Rattle.book_model.specs.Replies.{next_state, reply}
 use Rattle.book_model.specs.Workbook.{State}
 use Rattle.book_model.specs.declared.command.Command.{Command}
 use Rattle.sheet_cli.specs.Answering.{Answered, answers_from, bytes_of, first_refusal, is_refused, summary, summary_outcome}
-use Rattle.run_inputs.specs.Outcome.{Outcome}
 use Rattle.sheet_cli.specs.declared.answering.Tally.{Tally}
 use Rattle.sheet_cli.specs.internal.Answers.{Executes}
 use Rattle.sheet_cli.specs.internal.Tallied.{Adds, Completes, one_if, summary_of}
@@ -18,7 +17,7 @@ abbrev pub EndsAlike : Bool → List Answered → List Answered → Type 0
 EndsAlike strict rest all = strict ≡ true → first_refusal rest ≡ first_refusal all
 
 -- the engine is in a session in which the commands that are left complete all answers
-abbrev pub Tallied : {C : Type 0} → (C → List (List ℕ × Rule)) → Bool → Engine C → Tally → List Command → List Answered → Type 0
+abbrev pub Tallied : {C : Type 0} {G : Ghosts C} → (C → List (List ℕ × Rule)) → Bool → Engine C G → Tally → List Command → List Answered → Type 0
 Tallied customs strict engine tally left all = (d : State) × (StandsFor customs engine d × Completes tally (answers_from d left) all × EndsAlike strict (answers_from d left) all)
 
 answers-none : (d : State) → answers_from d [] ≡ []
@@ -29,7 +28,7 @@ answers-more : (d : State) (c : Command) (rest : List Command) → answers_from 
 unfolding answers_from
 answers-more d c rest = refl
 
-pub tallied-start : {C : Type 0} (customs : C → List (List ℕ × Rule)) (strict : Bool) (engine : Engine C) (d : State) (commands : List Command) (t : Tally) → t ≡ record { commands = 0; refused = 0; bytes = 0 } → StandsFor customs engine d → Tallied customs strict engine t commands (answers_from d commands)
+pub tallied-start : {C : Type 0} {G : Ghosts C} (customs : C → List (List ℕ × Rule)) (strict : Bool) (engine : Engine C G) (d : State) (commands : List Command) (t : Tally) → t ≡ record { commands = 0; refused = 0; bytes = 0 } → StandsFor customs engine d → Tallied customs strict engine t commands (answers_from d commands)
 tallied-start customs strict engine d commands t none stands =
     let zero : (n : ℕ) → 0 + n ≡ n = λ n. omega arith in
     rw none (d, (stands, (zero _, zero _, zero _), λ s. refl))
@@ -43,7 +42,7 @@ refusal-after true a rest all passes alike = λ s. rw passes at (alike s)
 refusal-after false a rest all passes alike = λ s. cc
 
 -- one more answer that doesn't end the run
-pub tallied-more : {C : Type 0} (customs : C → List (List ℕ × Rule)) (strict : Bool) (before after : Engine C) (t u : Tally) (c : Command) (line : List ℕ) (refused : Bool) (left rest : List Command) (all : List Answered) → left ≡ c ∷ rest → Executes customs c before after line refused → (strict && refused) ≡ false → Adds line refused t u
+pub tallied-more : {C : Type 0} {G : Ghosts C} (customs : C → List (List ℕ × Rule)) (strict : Bool) (before after : Engine C G) (t u : Tally) (c : Command) (line : List ℕ) (refused : Bool) (left rest : List Command) (all : List Answered) → left ≡ c ∷ rest → Executes customs c before after line refused → (strict && refused) ≡ false → Adds line refused t u
     → Tallied customs strict before t left all → Tallied customs strict after u rest all
 tallied-more customs strict before after t u c line refused left rest all is did passes adds (d, (stands, counts, alike)) =
     let now = did d stands in
@@ -60,7 +59,7 @@ and-both true b h = (refl, h)
 and-both false b h = cc
 
 -- an answer that ends the run
-pub tallied-ends : {C : Type 0} (customs : C → List (List ℕ × Rule)) (strict : Bool) (before after : Engine C) (t : Tally) (c : Command) (line : List ℕ) (refused : Bool) (left rest : List Command) (all : List Answered) → left ≡ c ∷ rest → Executes customs c before after line refused → (strict && refused) ≡ true
+pub tallied-ends : {C : Type 0} {G : Ghosts C} (customs : C → List (List ℕ × Rule)) (strict : Bool) (before after : Engine C G) (t : Tally) (c : Command) (line : List ℕ) (refused : Bool) (left rest : List Command) (all : List Answered) → left ≡ c ∷ rest → Executes customs c before after line refused → (strict && refused) ≡ true
     → Tallied customs strict before t left all → summary_outcome strict all ≡ (line, 1)
 tallied-ends customs strict before after t c line refused left rest all is did last (d, (stands, counts, alike)) =
     let now = did d stands in
@@ -73,7 +72,7 @@ tallied-ends customs strict before after t c line refused left rest all is did l
     rw (both.0, sym found, now.0) refl
 
 -- all answers were counted
-pub tallied-all : {C : Type 0} (customs : C → List (List ℕ × Rule)) (strict : Bool) (engine : Engine C) (t : Tally) (left : List Command) (all : List Answered) → left ≡ [] → Tallied customs strict engine t left all → summary_outcome strict all ≡ (summary_of t, 0)
+pub tallied-all : {C : Type 0} {G : Ghosts C} (customs : C → List (List ℕ × Rule)) (strict : Bool) (engine : Engine C G) (t : Tally) (left : List Command) (all : List Answered) → left ≡ [] → Tallied customs strict engine t left all → summary_outcome strict all ≡ (summary_of t, 0)
 tallied-all customs strict engine t left all is (d, (stands, counts, alike)) =
     let none : answers_from d left ≡ [] = ap (answers_from d) is ∙ answers-none d in
     let counted = subst (λ r. Completes t r all) none counts in

@@ -1,6 +1,6 @@
 -- The whole output and status of a run, from its words, the files that they name and the bytes of its source, and what
 -- is said of a run that doesn't come to its end. Source: this project's own.
-use Rattle.std.specs.Prelude.{◌≡◌, ◌⊎◌, ◌+◌, ◌&&◌, if◌then◌else◌, true, false, ℕ, ℤ, Bool, List, [], ◌∷◌, drop, Option, Some, None, is_none, Result, Ok, Err, is_ok, codes, ⊤}
+use Rattle.std.specs.Prelude.{◌≡◌, ◌⊎◌, ◌+◌, ◌&&◌, if◌then◌else◌, true, false, ℕ, ℤ, Bool, List, [], ◌∷◌, drop, Option, Some, None, is_none, is_ok, codes, ⊤}
 use Rattle.std.specs.Io.KnownBytes.{Appends}
 use Rattle.custom_fn.specs.declared.rule.Rule.{Rule}
 use Rattle.csv.specs.Reading.{records, default_config, strip_bom}

@@ -31,7 +31,7 @@ pub struct Answer {
 
 /// An engine, and the lines that it answers commands by.
 #[derive(Drop)]
-pub struct Session<C> {
+pub struct Session<C: Customs> {
     alloc: Global,
     engine: Engine<C>,
 }

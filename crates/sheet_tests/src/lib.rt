@@ -1,5 +1,5 @@
 //! Tests of what a sheet stands on and of what stands around the program: operations on lines, their list, stable lines, the
-//! grid, names, kept steps, needs and their orders, the values of a book, lists, contents, commands and
+//! grid, names, kept steps, needs and their orders, lists, contents, commands and
 //! their records, files, books, streams and generated lists.
 //!
 //! They stand here since a crate with tests of its own is proved twice.
@@ -7,8 +7,6 @@
 
 #[cfg(test)]
 mod books;
-#[cfg(test)]
-mod calculation;
 #[cfg(test)]
 mod commands;
 #[cfg(test)]

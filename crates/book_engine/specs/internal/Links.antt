@@ -1,5 +1,5 @@
 -- What the steps of finding links answer.
-use Rattle.std.specs.Prelude.{ℕ, Bool, true, false, if◌then◌else◌, List, [], Option, Some, None}
+use Rattle.std.specs.Prelude.{Bool, true, false, if◌then◌else◌, List, [], Option, Some, None}
 use Rattle.cell_addr.specs.Text.{capitals}
 use Rattle.cell_addr.specs.declared.place.Place.{Place}
 use Rattle.book_cells.specs.Workbook.{Content, formula}

@@ -1,6 +1,7 @@
 -- What the answer to one command does, and to one record, and how a failed write stops a run.
 use Rattle.std.specs.Prelude.{◌≡◌, ℕ, ◌&&◌, List, Bool, true, false, Option, Some, None, Result, Ok, Err, ⊤}
 use Rattle.std.specs.Io.KnownBytes.{Appends}
+use Rattle.calc_eval.specs.declared.customs.Customs.{Ghosts}
 use Rattle.book_model.specs.Refusals.{cause}
 use Rattle.book_model.specs.Replies.{line_of, next_state, operation_of, refused_text, reply}
 use Rattle.book_model.specs.Workbook.{State}
@@ -20,16 +21,16 @@ use Rattle.sheet_cli.specs.declared.ending.Stop.TheVariants as stop
 use Rattle.sheet_cli.specs.Answering.{is_refused, record_text}
 
 -- the engine stays in the session that it was in
-abbrev pub Keeps : {C : Type 0} → (C → List (List ℕ × Rule)) → Engine C → Engine C → Type 0
+abbrev pub Keeps : {C : Type 0} {G : Ghosts C} → (C → List (List ℕ × Rule)) → Engine C G → Engine C G → Type 0
 Keeps customs old new = (d : State) → StandsFor customs old d → StandsFor customs new d
 
 -- a command was executed: whichever session the engine was in, this line answers it, it is a refusal or not, and the
 -- engine is in the next one
-abbrev pub Executes : {C : Type 0} → (C → List (List ℕ × Rule)) → Command → Engine C → Engine C → List ℕ → Bool → Type 0
+abbrev pub Executes : {C : Type 0} {G : Ghosts C} → (C → List (List ℕ × Rule)) → Command → Engine C G → Engine C G → List ℕ → Bool → Type 0
 Executes customs c old new line refused = (d : State) → StandsFor customs old d → (line ≡ reply c d) × (refused ≡ is_refused d c) × StandsFor customs new (next_state c d)
 
 -- a call for what a command asks for, whichever session the engine was in
-abbrev pub DoesFor : {C X : Type 0} → (C → List (List ℕ × Rule)) → Command → (State → X → Type 0) → Engine C → Engine C → Result X engine.Stop → Type 0
+abbrev pub DoesFor : {C X : Type 0} {G : Ghosts C} → (C → List (List ℕ × Rule)) → Command → (State → X → Type 0) → Engine C G → Engine C G → Result X engine.Stop → Type 0
 DoesFor customs c Answers old new (Ok x) = (d : State) → StandsFor customs old d → (cause (operation_of d.book c) d ≡ None) × Answers d x × StandsFor customs new (next_state c d)
 DoesFor customs c Answers old new (Err (Refused r)) = (d : State) → StandsFor customs old d → (cause (operation_of d.book c) d ≡ Some r) × StandsFor customs new (next_state c d)
 DoesFor customs c Answers old new (Err NoMemory) = Keeps customs old new
@@ -56,21 +57,21 @@ abbrev pub EndsAt : Bool → State → Command → Bool → Type 0
 EndsAt strict d c ends = (strict && is_refused d c) ≡ ends
 
 -- a command was answered: its line went to the sink, which the run ends with, or goes on from in the next session
-abbrev pub AnswersCommand : {C : Type 0} → (C → List (List ℕ × Rule)) → Bool → Command → Option ℕ → Engine C → Engine C → Option (List ℕ) → Option (List ℕ) → Type 0
+abbrev pub AnswersCommand : {C : Type 0} {G : Ghosts C} → (C → List (List ℕ × Rule)) → Bool → Command → Option ℕ → Engine C G → Engine C G → Option (List ℕ) → Option (List ℕ) → Type 0
 AnswersCommand customs strict c None before after old new = (d : State) → StandsFor customs before d → EndsAt strict d c false × Appends old new (reply c d) × StandsFor customs after (next_state c d)
 AnswersCommand customs strict c (Some status) before after old new = (d : State) → StandsFor customs before d → EndsAt strict d c true × Appends old new (reply c d) × (status ≡ 1)
 
 -- a record was answered: as its command, or by the last line where it is none
-abbrev pub AnswersRecord : {C : Type 0} → (C → List (List ℕ × Rule)) → Bool → Result Command ScriptError → ℕ → Option ℕ → Engine C → Engine C → Option (List ℕ) → Option (List ℕ) → Type 0
+abbrev pub AnswersRecord : {C : Type 0} {G : Ghosts C} → (C → List (List ℕ × Rule)) → Bool → Result Command ScriptError → ℕ → Option ℕ → Engine C G → Engine C G → Option (List ℕ) → Option (List ℕ) → Type 0
 AnswersRecord customs strict (Ok c) k end before after old new = AnswersCommand customs strict c end before after old new
 AnswersRecord customs strict (Err e) k None before after old new = ⊥
 AnswersRecord customs strict (Err e) k (Some status) before after old new = Appends old new (line_of (record_text k e)) × (status ≡ 3)
 
 -- the front of the line that answers a command, or a record, went to the sink
-abbrev pub PartOfCommand : {C : Type 0} → (C → List (List ℕ × Rule)) → Command → Engine C → Option (List ℕ) → Option (List ℕ) → Type 0
+abbrev pub PartOfCommand : {C : Type 0} {G : Ghosts C} → (C → List (List ℕ × Rule)) → Command → Engine C G → Option (List ℕ) → Option (List ℕ) → Type 0
 PartOfCommand customs c before old new = (d : State) → StandsFor customs before d → AppendsPart old new (reply c d)
 
-abbrev pub AnswersPart : {C : Type 0} → (C → List (List ℕ × Rule)) → Result Command ScriptError → ℕ → Engine C → Option (List ℕ) → Option (List ℕ) → Type 0
+abbrev pub AnswersPart : {C : Type 0} {G : Ghosts C} → (C → List (List ℕ × Rule)) → Result Command ScriptError → ℕ → Engine C G → Option (List ℕ) → Option (List ℕ) → Type 0
 AnswersPart customs (Ok c) k before old new = PartOfCommand customs c before old new
 AnswersPart customs (Err e) k before old new = AppendsPart old new (line_of (record_text k e))
 

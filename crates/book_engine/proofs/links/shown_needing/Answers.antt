@@ -1,9 +1,8 @@
-use Rattle.std.proofs.Common.{◌≡◌, ◌∙◌, sym, ap, Some, true, false}
+use Rattle.std.proofs.Common.{◌∙◌, sym, ap, Some, true, false}
 use Rattle.cell_addr.specs.Text.{capitals}
 use Rattle.formula_tree.specs.Relative.{relative}
 use Rattle.formula_tree.specs.StandsFor.{at_home}
 use Rattle.calc_terms.specs.Needs.{mentions}
-use Rattle.kept_book.specs.Formula.{tree_in_scope}
 use Rattle.book_engine.proofs.NeedingNames.{shown-one}
 use Rattle.book_engine.proofs.links.shown_needing.Goals as goal
 

@@ -1,5 +1,5 @@
 -- What was written of the line of a command before a run was stopped.
-use Rattle.std.proofs.Common.{◌≡◌, ◌∙◌, subst, List, ℕ}
+use Rattle.std.proofs.Common.{◌∙◌, subst}
 use Rattle.book_files.specs.Outside.{AppendsPart}
 use Rattle.sheet_cli.specs.internal.Answers.{PartOfCommand}
 use Rattle.sheet_cli.proofs.Executed.{on_err}

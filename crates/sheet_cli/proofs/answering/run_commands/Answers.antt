@@ -1,10 +1,8 @@
 -- Each answer is counted. The summary of all, or the refusal that ends the run, is what is printed.
-use Rattle.std.proofs.Common.{◌≡◌, ◌∙◌, sym, ap, subst, refl, ◌+◌, suc, List, ◌∷◌, drop, add-one, drop-cons}
+use Rattle.std.proofs.Common.{◌≡◌, ◌∙◌, sym, ap, refl, ◌+◌, suc, ◌∷◌, drop, add-one, drop-cons}
 use Rattle.std.proofs.lemmas.List.{drop_all}
 use Rattle.book_model.specs.declared.command.Command.{Command}
-use Rattle.run_inputs.specs.Outcome.{Outcome}
 use Rattle.sheet_cli.specs.Answering.{answers_from, summary_outcome}
-use Rattle.sheet_cli.specs.internal.Ends.{Printed}
 use Rattle.sheet_cli.proofs.Outcomes.{no_memory, part-none}
 use Rattle.sheet_cli.proofs.Tallies.{tallied-all, tallied-ends, tallied-more, tallied-start}
 use Rattle.sheet_cli.proofs.answering.run_commands.Goals as goal

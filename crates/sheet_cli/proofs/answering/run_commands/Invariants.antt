@@ -1,5 +1,5 @@
 -- What was counted, and what is left to count, is all; nothing was written.
-use Rattle.std.proofs.Common.{◌≡◌, ◌≤◌, drop}
+use Rattle.std.proofs.Common.{◌≡◌, drop}
 use Rattle.book_engine.specs.Engine.{StandsFor}
 use Rattle.book_model.specs.Workbook.{State}
 use Rattle.sheet_cli.specs.Answering.{answers_from}

@@ -1,9 +1,8 @@
 -- What words mean decides what a run is told to print.
-use Rattle.std.proofs.Common.{◌∙◌, sym, ap, Some, None, Option, map}
-use Rattle.std.specs.Prelude.{ℤ, string_bytes, ◌⊎◌}
+use Rattle.std.proofs.Common.{ap, Some, Option, map}
+use Rattle.std.specs.Prelude.{string_bytes}
 use Rattle.std.proofs.lemmas.Int.{to_z-of_z}
-use Rattle.book_files.specs.Outside.{Rose}
-use Rattle.command_words.specs.Words.{Said, meaning, seen}
+use Rattle.command_words.specs.Words.{Said, seen}
 use Rattle.run_inputs.specs.Opening.{told_by}
 use Rattle.sheet_cli.specs.Run.{outcome, outcome_meant, usage}
 use Rattle.sheet_cli.proofs.Endings.{printed_runs, runs_alike}

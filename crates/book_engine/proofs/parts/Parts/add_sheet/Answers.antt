@@ -1,9 +1,13 @@
-use Rattle.std.proofs.Common.{◌∙◌, sym, subst}
+use Rattle.std.proofs.Common.{◌∙◌, sym, subst, ap, refl}
 use Rattle.book_model.specs.Operation as op
 use Rattle.book_model.specs.Sound.{IsSound}
 use Rattle.book_engine.specs.Seen.{state_of}
 use Rattle.book_engine.proofs.Turning.{done_sound, next_done}
 use Rattle.book_engine.proofs.SheetNames.{can_join}
+use Rattle.book_model.specs.Answers.{valued}
+use Rattle.book_model.specs.Changes.{with_sheet}
+use Rattle.book_model.specs.Workbook.{State}
+use Rattle.book_engine.proofs.Following.{changed_book, follow_state, follow_values}
 use Rattle.book_engine.proofs.parts.Parts.add_sheet.Goals as goal
 
 pub add_sheet-requires-clause-joins : goal.add_sheet-requires-clause-joins
@@ -19,3 +23,11 @@ returns-clause-turns c =
 
 pub returns-clause-fits : goal.returns-clause-fits
 returns-clause-fits c = done_sound (op.add_sheet c.args.name.now) (state_of c.args.self.now) _ c.in_ok-check_add.ensures c.in_ok-number.ensures.ok c.requires
+
+pub returns-in_err-number-clause-follow : goal.returns-in_err-number-clause-follow
+returns-in_err-number-clause-follow c = follow_state c.args.self.now (record { session = c.add_sheet.new.self; values = c.args.self.now.values }) c.add_sheet.ensures.words refl c.in_err-number.ensures.err
+
+pub returns-clause-follow : goal.returns-clause-follow
+returns-clause-follow c =
+    let d = state_of c.args.self.now in
+    follow_values c.args.self.now (record { session = c.add_sheet.new.self; values = c.args.self.now.values }) c.add_sheet.ensures.words refl (ap (λ (e : State). valued e.book) c.in_ok-number.ensures.ok ∙ ap valued (changed_book (with_sheet c.args.self.now.session.next_sheet c.args.name.now d.book) d))

@@ -11,6 +11,7 @@ use Rattle.book_engine.specs.Engine.{NoAnswer}
 use Rattle.book_engine.specs.Seen.{state_of}
 use Rattle.book_engine.proofs.Causes.{behind, front, reads_turn, scoped}
 use Rattle.book_engine.proofs.Turning.{done_sound, next_refused}
+use Rattle.book_engine.proofs.Following.{follow_none}
 use Rattle.book_engine.proofs.parts.Parts.change_name.Goals as goal
 
 -- what is tested before the text
@@ -42,3 +43,9 @@ returns-clause-fits c =
 
 pub name-requires-clause-scope : goal.name-requires-clause-scope
 name-requires-clause-scope c = scoped (state_of c.args.self.now).book c.args.scope refusals.NoSheet ((not (has_name (state_of c.args.self.now).book (key_of c.args.scope c.args.name.now)), refusals.NoSuchName) ∷ []) c.requires.book.sheets c.in_ok-check_known_name.ensures
+
+pub returns-in_err-name-clause-follow : goal.returns-in_err-name-clause-follow
+returns-in_err-name-clause-follow c = follow_none c.args.self.now (record { session = c.name.new.self; values = c.forget.new.self }) c.forget.ensures
+
+pub returns-clause-follow : goal.returns-clause-follow
+returns-clause-follow c = follow_none c.args.self.now (record { session = c.name.new.self; values = c.forget.new.self }) c.forget.ensures

@@ -1,8 +1,13 @@
-use Rattle.std.proofs.Common.{◌∙◌, sym, subst}
+use Rattle.std.proofs.Common.{◌∙◌, sym, subst, refl}
 use Rattle.book_model.specs.Operation as op
 use Rattle.book_model.specs.Sound.{IsSound}
 use Rattle.book_engine.specs.Seen.{state_of}
 use Rattle.book_engine.proofs.Turning.{done_sound, next_done, sound_inside}
+use Rattle.book_model.specs.Changes.{emptied}
+use Rattle.cell_addr.specs.Place.{covers}
+use Rattle.marked_books.proofs.Contents.{unemptied}
+use Rattle.session_values.proofs.MarkedCells.{at_most}
+use Rattle.book_engine.proofs.Following.{follow_changed, follow_touched}
 use Rattle.book_engine.proofs.parts.Parts.clear.Goals as goal
 
 pub clear-requires : goal.clear-requires
@@ -18,3 +23,15 @@ returns-clause-turns c =
 
 pub returns-clause-fits : goal.returns-clause-fits
 returns-clause-fits c = done_sound (op.clear c.args.area) (state_of c.args.self.now) _ c.in_ok-check_clear.ensures c.in_ok-clear.ensures.ok c.requires
+
+pub returns-in_err-touch_filled-clause-follow : goal.returns-in_err-touch_filled-clause-follow
+returns-in_err-touch_filled-clause-follow c = follow_touched (covers c.args.area) c.args.self.now (record { session = c.args.self.now.session; values = c.touch_filled.new.values }) (λ i w h. h) (at_most (covers c.args.area) c.args.self.now.values.values c.touch_filled.new.values.values c.touch_filled.ensures.touched) refl
+
+pub returns-in_err-clear-clause-follow : goal.returns-in_err-clear-clause-follow
+returns-in_err-clear-clause-follow c = follow_touched (covers c.args.area) c.args.self.now (record { session = c.clear.new.self; values = c.touch_filled.new.values }) c.clear.ensures.words (at_most (covers c.args.area) c.args.self.now.values.values c.touch_filled.new.values.values c.touch_filled.ensures.touched) c.in_err-clear.ensures.err
+
+pub returns-clause-follow : goal.returns-clause-follow
+returns-clause-follow c =
+    let d = state_of c.args.self.now in
+    follow_changed (covers c.args.area) c.args.self.now (record { session = c.clear.new.self; values = c.touch_filled.new.values }) (emptied (covers c.args.area) d.book) c.clear.ensures.words (at_most (covers c.args.area) c.args.self.now.values.values c.touch_filled.new.values.values c.touch_filled.ensures.touched) c.in_ok-clear.ensures.ok refl
+    (λ q out. unemptied (covers c.args.area) d.book q (λ covered there. out (c.in_ok-touch_filled.ensures.marked q covered there)))

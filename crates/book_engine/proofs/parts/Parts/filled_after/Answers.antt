@@ -1,4 +1,4 @@
-use Rattle.std.proofs.Common.{◌≡◌, ◌∙◌, ◌+◌, ◌-◌, ◌≤◌, sym, ap, arith, length}
+use Rattle.std.proofs.Common.{◌≡◌, ◌∙◌, ◌+◌, ◌-◌, sym, ap, arith, length}
 use Rattle.std.specs.FinMap as fin
 use Rattle.std.specs.FinMap.{len-entries}
 use Rattle.std.specs.List.{filter_map}

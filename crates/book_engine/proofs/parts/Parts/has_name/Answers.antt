@@ -1,4 +1,4 @@
-use Rattle.std.proofs.Common.{◌∙◌, sym, ap, is_some, option_map}
+use Rattle.std.proofs.Common.{◌∙◌, sym, ap, is_some}
 use Rattle.std.specs.FinMap as fin
 use Rattle.std.specs.Prelude.{option_and_then}
 use Rattle.name_table.specs.Named.{names_of, words_of}

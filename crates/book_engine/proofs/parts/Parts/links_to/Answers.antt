@@ -21,3 +21,18 @@ returns-clause-links c =
     c.in_ok-push_names.ensures.list
     ∙ ap (λ l. l ++ map shown_link c.in_ok-names.names.keys) (c.in_ok-push_cells.ensures.list ∙ ap (λ l. l ++ map links.Cell c.in_ok-cells.cells.keys) c.new-links.ensures.items ∙ cells)
     ∙ ap (λ l. filter_map (cell_needing at) (fin.entries d.book.cells) ++ l) (names ∙ ap (λ m. filter_map (name_needing at) (by_capitals (fin.entries m))) read)
+
+pub returns-in_err-named-clause-follow : goal.returns-in_err-named-clause-follow
+returns-in_err-named-clause-follow c = λ customs today h. c.named_trees.ensures.follow customs today (c.cells_needing.ensures.follow customs today h)
+
+pub returns-in_err-names-clause-follow : goal.returns-in_err-names-clause-follow
+returns-in_err-names-clause-follow c = λ customs today h. c.named_trees.ensures.follow customs today (c.cells_needing.ensures.follow customs today h)
+
+pub returns-in_err-push_cells-clause-follow : goal.returns-in_err-push_cells-clause-follow
+returns-in_err-push_cells-clause-follow c = λ customs today h. c.named_trees.ensures.follow customs today (c.cells_needing.ensures.follow customs today h)
+
+pub returns-in_err-push_names-clause-follow : goal.returns-in_err-push_names-clause-follow
+returns-in_err-push_names-clause-follow c = λ customs today h. c.named_trees.ensures.follow customs today (c.cells_needing.ensures.follow customs today h)
+
+pub returns-clause-follow : goal.returns-clause-follow
+returns-clause-follow c = λ customs today h. c.named_trees.ensures.follow customs today (c.cells_needing.ensures.follow customs today h)

@@ -4,8 +4,6 @@ use Rattle.std.specs.FinMap as fin
 use Rattle.std.specs.Option.{option_copied}
 use Rattle.cell_addr.specs.Text.{folded}
 use Rattle.name_table.specs.Named.{names_of, words_of}
-use Rattle.formula_tree.specs.Term.{Term}
-use Rattle.formula_tree.specs.declared.reference.Corner.{Corner}
 use Rattle.kept_book.specs.Formula.{tree_in_scope}
 use Rattle.kept_book.specs.Frame.{named_at}
 use Rattle.kept_book.specs.Kept.{at_of}

@@ -1,4 +1,4 @@
-use Rattle.std.proofs.Common.{◌≡◌, ◌∙◌, ◌+◌, ◌<◌, ◌≤◌, sym, ap, subst, arith, is_some, length, map, take, get_or, IsSome, ℕ, List, None}
+use Rattle.std.proofs.Common.{◌≡◌, ◌∙◌, ◌+◌, ◌<◌, ◌≤◌, sym, ap, subst, arith, is_some, length, map, take, get_or, ℕ, List, None}
 use Rattle.std.proofs.lemmas.List.{take_all}
 use Rattle.std.specs.FinMap as fin
 use Rattle.name_table.specs.Named.{names_of, words_of}
@@ -39,6 +39,7 @@ names-preserved c =
     record {
       same = same-book b c.names.self.session.book c.named.new.self.session.book c.names.invariant.same c.in_ok-named.ensures.same;
       state = c.in_ok-named.ensures.state ∙ c.names.invariant.state;
+      follow = λ customs today h. c.in_ok-named.ensures.follow customs today (c.names.invariant.follow customs today h);
       read = subst (λ (l : List (NameKey × ℕ)). map slot_of c.push.new.self.items ≡ map as_slot (seen_in words b.names.words.proper trees (take (i + 1) l))) (sym all)
           (one-more b c.names.self.session.book c.named.new.self.session.book c.args.self.now.session.fits.stand c.names.invariant.same i e inside is c.names.list.items c.push.new.self.items c.in_ok-named.named c.in_ok-push.ensures.items read c.in_ok-named.ensures.named);
     }
@@ -67,3 +68,9 @@ returns-clause-apart c =
     let long : length items ≤ i = omega (arith, c.names-test.false) in
     let read = c.names.invariant.read ∙ ap (λ (l : List (NameKey × ℕ)). map as_slot (seen_in words b.names.words.proper trees l)) (take_all i items long ∙ all) in
     subst (λ l. AreApart (map (λ s. s.0) l)) (sym read) (names-apart words b.names.words.proper trees (names_of b.names))
+
+pub returns-in_err-named-clause-follow : goal.returns-in_err-named-clause-follow
+returns-in_err-named-clause-follow c = λ customs today h. c.named.ensures.follow customs today (c.names.invariant.follow customs today h)
+
+pub returns-in_err-push-clause-follow : goal.returns-in_err-push-clause-follow
+returns-in_err-push-clause-follow c = λ customs today h. c.named.ensures.follow customs today (c.names.invariant.follow customs today h)

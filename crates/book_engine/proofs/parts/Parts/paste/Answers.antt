@@ -1,6 +1,7 @@
-use Rattle.std.proofs.Common.{◌≡◌, ◌∙◌, sym, ap, subst, not, None, Some, refl}
+use Rattle.std.proofs.Common.{◌≡◌, sym, subst, not, None, refl}
 use Rattle.std.specs.Prelude.{nat_lt}
 use Rattle.std.specs.FinMap as fin
+use Rattle.cell_addr.specs.Place.{covers}
 use Rattle.shift_core.specs.Carried.{destination}
 use Rattle.book_model.specs.Changes.{with_copy}
 use Rattle.book_model.specs.Clipboard.{copied}
@@ -11,8 +12,12 @@ use Rattle.book_model.specs.Workbook.{has_sheet}
 use Rattle.book_model.specs.declared.refusal.Refusal.TheVariants.{CellLimit, NoSheet, Outside}
 use Rattle.kept_book.specs.Copied.{contents_copied}
 use Rattle.book_engine.specs.Seen.{state_of, with_clipboard}
-use Rattle.book_engine.proofs.Pasting.{few-enough, pasted-sound, pasted-turns, three-none, three-third, too-many}
-use Rattle.book_engine.proofs.Turning.{next_refused, sound_inside}
+use Rattle.book_engine.proofs.Pasting.{few-enough, pasted-sound, three-none}
+use Rattle.book_engine.proofs.Turning.{sound_inside}
+use Rattle.session_values.proofs.MarkedCells.{at_most}
+use Rattle.session_values.specs.Touched.{AreTouched, AreTouchedAtMost}
+use Rattle.book_engine.specs.internal.Touched.{AreFilledMarked}
+use Rattle.book_engine.proofs.Following.{follow_pasted, follow_touched}
 use Rattle.book_engine.proofs.parts.Parts.paste.Goals as goal
 
 pub paste-requires-clause-inside : goal.paste-requires-clause-inside
@@ -32,4 +37,25 @@ returns-clause-fits c =
     let none : cause (paste c.args.at) (with_clipboard clip d) ≡ None =
     three-none (not (has_sheet d.book c.args.at.sheet)) (is_block_outside (destination c.args.area c.args.at)) (nat_lt 1000000 (fin.len after.cells)) NoSheet Outside CellLimit c.in_ok-check_paste.ensures
     (few-enough c.in_ok-filled_after.field-0 (fin.len after.cells) (sym c.in_ok-filled_after.ensures) c.if-branch-gt-MAX_CELLS.false) in
-    pasted-sound d (state_of (record { session = c.paste.new.self })) c.args.area c.args.cells.now c.args.at c.requires.fits c.requires.block c.requires.copied none c.in_ok-paste.ensures.ok refl
+    pasted-sound d (state_of (record { session = c.paste.new.self; values = c.touch_filled_or_forget.new.values })) c.args.area c.args.cells.now c.args.at c.requires.fits c.requires.block c.requires.copied none c.in_ok-paste.ensures.ok refl
+
+pub returns-in_err-touch_filled-clause-follow : goal.returns-in_err-touch_filled-clause-follow
+returns-in_err-touch_filled-clause-follow c =
+    let there = destination c.args.area c.args.at in
+    follow_touched (covers there) c.args.self.now (record { session = c.args.self.now.session; values = c.touch_filled.new.values }) (λ i w h. h)
+    (at_most (covers there) c.args.self.now.values.values c.touch_filled.new.values.values (subst (λ b. AreTouched (covers b) c.args.self.now.values.values c.touch_filled.new.values.values) c.destination-there.ensures c.touch_filled.ensures.touched)) refl
+
+pub returns-in_err-paste-clause-follow : goal.returns-in_err-paste-clause-follow
+returns-in_err-paste-clause-follow c =
+    let there = destination c.args.area c.args.at in
+    follow_touched (covers there) c.args.self.now (record { session = c.paste.new.self; values = c.touch_filled.new.values }) c.paste.ensures.words
+    (at_most (covers there) c.args.self.now.values.values c.touch_filled.new.values.values (subst (λ b. AreTouched (covers b) c.args.self.now.values.values c.touch_filled.new.values.values) c.destination-there.ensures c.touch_filled.ensures.touched)) c.in_err-paste.ensures.err
+
+pub returns-clause-follow : goal.returns-clause-follow
+returns-clause-follow c =
+    let there = destination c.args.area c.args.at in
+    follow_pasted c.args.area c.args.cells.now c.args.at c.requires.block c.args.self.now (record { session = c.paste.new.self; values = c.touch_filled_or_forget.new.values }) c.touch_filled.new.values.values c.paste.ensures.words c.in_ok-paste.ensures.ok
+    (subst (λ b. AreTouched (covers b) c.args.self.now.values.values c.touch_filled.new.values.values) c.destination-there.ensures c.touch_filled.ensures.touched)
+    (subst (λ b. AreTouchedAtMost (covers b) c.touch_filled.new.values.values c.touch_filled_or_forget.new.values.values) c.destination-there.ensures c.touch_filled_or_forget.ensures.touched)
+    (subst (λ b. AreFilledMarked b c.args.self.now.session c.touch_filled.new.values.values) c.destination-there.ensures c.in_ok-touch_filled.ensures.marked)
+    (subst (λ b. AreFilledMarked b c.paste.new.self c.touch_filled_or_forget.new.values.values) c.destination-there.ensures c.touch_filled_or_forget.ensures.marked)

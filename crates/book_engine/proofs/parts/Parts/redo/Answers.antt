@@ -1,15 +1,18 @@
-use Rattle.std.proofs.Common.{◌≡◌, ◌∙◌, ◌==◌, sym, ap, cond, false, length, Some, None, is_some}
+use Rattle.std.proofs.Common.{◌≡◌, ◌∙◌, ◌==◌, sym, ap, cond, false, length, Some, None, is_some, refl}
 use Rattle.book_model.specs.Operation as op
 use Rattle.book_model.specs.Refusals.{cause}
 use Rattle.book_model.specs.declared.refusal.Refusal.TheVariants.{BatchOpen, NothingToRedo}
 use Rattle.kept_book.specs.Kept.{frame_of}
-use Rattle.kept_steps.specs.Fits.{batch_of, start_of}
+use Rattle.kept_steps.specs.Fits.{batch_of}
 use Rattle.kept_steps.specs.Timeline.{timeline_of}
 use Rattle.book_model.specs.Workbook.{State}
 use Rattle.book_engine.specs.Seen.{state_of}
 use Rattle.book_engine.proofs.Counted.{none_open, steps_ahead}
 use Rattle.book_engine.proofs.NamedSlots.{is_some-map}
 use Rattle.book_engine.proofs.Turning.{done_sound, next_done}
+use Rattle.kept_steps.specs.Turned.{is_listed, to_redo}
+use Rattle.kept_steps.specs.Turned.{to_redo}
+use Rattle.book_engine.proofs.Following.{follow_touched, follow_turned, more_as}
 use Rattle.book_engine.proofs.parts.Parts.redo.Goals as goal
 
 pub redo-requires : goal.redo-requires
@@ -39,3 +42,12 @@ returns-clause-fits c =
     let shut : is_some d.batch ≡ false = sym (is_some-map (batch_of t f) s.batch) ∙ sym c.is_some.ensures ∙ c.if-is_some.false in
     let some : (length d.redo == 0) ≡ false = ap (λ k. k == 0) (steps_ahead t f s.steps.undone ∙ sym (ap length c.undone.ensures.result)) ∙ sym c.is_empty.ensures ∙ c.if-is_empty.false in
     done_sound op.redo d _ (accepted d shut some) c.in_ok-redo.ensures.ok c.requires
+
+pub returns-in_err-touch_redone-clause-follow : goal.returns-in_err-touch_redone-clause-follow
+returns-in_err-touch_redone-clause-follow c = follow_touched (is_listed (to_redo c.args.self.now.session)) c.args.self.now (record { session = c.args.self.now.session; values = c.touch_redone.new.values }) (λ i w h. h) c.touch_redone.ensures.touched refl
+
+pub returns-in_err-redo-clause-follow : goal.returns-in_err-redo-clause-follow
+returns-in_err-redo-clause-follow c = follow_touched (is_listed (to_redo c.args.self.now.session)) c.args.self.now (record { session = c.redo.new.self; values = c.touch_redone.new.values }) (more_as c.redo.ensures.words) c.touch_redone.ensures.touched c.in_err-redo.ensures.err
+
+pub returns-clause-follow : goal.returns-clause-follow
+returns-clause-follow c = follow_turned (to_redo c.args.self.now.session) c.args.self.now (record { session = c.redo.new.self; values = c.touch_redone.new.values }) (more_as c.redo.ensures.words) c.touch_redone.ensures.touched c.in_ok-touch_redone.ensures.marked c.in_ok-redo.ensures.others

@@ -1,4 +1,4 @@
-use Rattle.std.proofs.Common.{◌≡◌, ◌∙◌, ◌==◌, sym, ap, cond, false, length, Some, None, is_some}
+use Rattle.std.proofs.Common.{◌≡◌, ◌∙◌, ◌==◌, sym, ap, cond, false, length, Some, None, is_some, refl}
 use Rattle.book_model.specs.Operation as op
 use Rattle.book_model.specs.Refusals.{cause}
 use Rattle.book_model.specs.declared.refusal.Refusal.TheVariants.{BatchOpen, NothingToUndo}
@@ -10,6 +10,9 @@ use Rattle.book_engine.specs.Seen.{state_of}
 use Rattle.book_engine.proofs.Counted.{none_open, steps_past}
 use Rattle.book_engine.proofs.NamedSlots.{is_some-map}
 use Rattle.book_engine.proofs.Turning.{done_sound, next_done}
+use Rattle.kept_steps.specs.Turned.{is_listed, to_undo}
+use Rattle.kept_steps.specs.Turned.{to_undo}
+use Rattle.book_engine.proofs.Following.{follow_touched, follow_turned, more_as}
 use Rattle.book_engine.proofs.parts.Parts.undo.Goals as goal
 
 pub undo-requires : goal.undo-requires
@@ -39,3 +42,12 @@ returns-clause-fits c =
     let shut : is_some d.batch ≡ false = sym (is_some-map (batch_of t f) s.batch) ∙ sym c.is_some.ensures ∙ c.if-is_some.false in
     let some : (length d.undo == 0) ≡ false = ap (λ k. k == 0) (steps_past t (start_of t s.batch f) s.steps.done ∙ sym (ap length c.done.ensures.result) ∙ sym c.done.result.now.ok.0) ∙ sym c.is_empty.ensures ∙ c.if-is_empty.false in
     done_sound op.undo d _ (accepted d shut some) c.in_ok-undo.ensures.ok c.requires
+
+pub returns-in_err-touch_undone-clause-follow : goal.returns-in_err-touch_undone-clause-follow
+returns-in_err-touch_undone-clause-follow c = follow_touched (is_listed (to_undo c.args.self.now.session)) c.args.self.now (record { session = c.args.self.now.session; values = c.touch_undone.new.values }) (λ i w h. h) c.touch_undone.ensures.touched refl
+
+pub returns-in_err-undo-clause-follow : goal.returns-in_err-undo-clause-follow
+returns-in_err-undo-clause-follow c = follow_touched (is_listed (to_undo c.args.self.now.session)) c.args.self.now (record { session = c.undo.new.self; values = c.touch_undone.new.values }) (more_as c.undo.ensures.words) c.touch_undone.ensures.touched c.in_err-undo.ensures.err
+
+pub returns-clause-follow : goal.returns-clause-follow
+returns-clause-follow c = follow_turned (to_undo c.args.self.now.session) c.args.self.now (record { session = c.undo.new.self; values = c.touch_undone.new.values }) (more_as c.undo.ensures.words) c.touch_undone.ensures.touched c.in_ok-touch_undone.ensures.marked c.in_ok-undo.ensures.others

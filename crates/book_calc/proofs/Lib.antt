@@ -1,9 +1,0 @@
-pub mod NameEntries
-pub mod NumberedCells
-pub mod NumberedNodes
-pub mod NeededNodes
-pub mod FollowedNumbers
-pub mod SettledNodes
-pub mod CoveredEntries
-pub mod FilledEntries
-pub mod NamedValues

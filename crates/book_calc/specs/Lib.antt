@@ -1,4 +1,0 @@
-pub mod Names
-pub mod Book
-pub mod Values
-pub mod internal

@@ -1,0 +1,4 @@
+use Rattle.book_engine.proofs.engine.Engine.precedents.Goals as goal
+
+pub invariant_of-self : goal.invariant_of-self
+invariant_of-self g c = record { fits = c.precedents.ensures.fits; follow = c.precedents.ensures.follow (g.C.Customs.customs c.args.self.now.customs) c.args.self.now.day c.args.self.now.follow }
