@@ -32,7 +32,10 @@ const UNDO_LIMIT: u16 = 20;
 const TODAY: i32 = 45_292;
 
 fn main(rt: HostRuntime) -> ExitCode {
-    let Ok(total) = work_out::<Brand>(rt.alloc(), Blank::new(1)) else {
+    let Ok(registry) = Registry::new(rt.alloc()) else {
+        return ExitCode::FAILURE;
+    };
+    let Ok(total) = work_out::<Registry, Brand>(rt.alloc(), registry, Blank::new(1)) else {
         return ExitCode::FAILURE;
     };
     match print(&rt, total.as_str()) {
@@ -41,13 +44,13 @@ fn main(rt: HostRuntime) -> ExitCode {
     }
 }
 
-// The invoice's total, worked out in a workbook of its own.
-fn work_out<L: Ledger>(alloc: Global, blank: Blank) -> Result<Text, Stop>
+// The invoice's total, worked out in a workbook of its own, whose formulas can call these functions.
+fn work_out<C: Customs, L: Ledger>(alloc: Global, registry: C, blank: Blank) -> Result<Text, Stop>
     requires name { blank.name ≡ L.name }
     requires parts { blank.parts ≡ L.parts }
     requires some { 0 < blank.parts }
 {
-    let mut engine = Engine::build(alloc, &[], UNDO_LIMIT, Registry::new(alloc)?, TODAY)?;
+    let mut engine = Engine::build(alloc, &[], UNDO_LIMIT, registry, TODAY)?;
     total(alloc, &mut engine, &mut Steps::<L>::new(blank))
 }
 
