@@ -1,12 +1,14 @@
 -- What is explored is what is reached, and the places lead where the nodes lead. Serves reach and order.
-use Rattle.std.proofs.Common.{◌≡◌, ◌∙◌, sym, ap, refl, subst, arith, ℕ, ◌<◌, ◌⊎◌, ⊎_elim, true, List, [], length, get_or}
+use Rattle.std.proofs.Common.{◌≡◌, ◌∙◌, sym, ap, refl, subst, arith, ℕ, ◌<◌, ◌-◌, ◌==◌, ◌⊎◌, ⊎_elim, Bool, true, List, [], length, get_or, reverse}
 use Rattle.std.proofs.lemmas.Bool.{cases_order}
-use Rattle.std.proofs.lemmas.List.{get_or_default}
+use Rattle.std.specs.Prelude.{◌↔◌}
+use Rattle.std.proofs.lemmas.List.{get_or-reverse, get_or_default, length-reverse}
+use Rattle.std.proofs.lemmas.List.Sorted.{IsPermutation-reverse, list_any-IsPermutation}
 use Rattle.needs_order.specs.Needs.{has, AreNodes, Needs}
 use Rattle.needs_order.specs.Needs as needs
 use Rattle.needs_order.specs.Needs.LeadsTo.{at_once as needed_once, after as needed_after}
 use Rattle.needs_order.proofs.Lists.{has_at, at_has}
-use Rattle.node_reach.specs.Arrows.{AreReached, LeadsTo}
+use Rattle.node_reach.specs.Arrows.{AreReached, IsReached, LeadsTo}
 use Rattle.node_reach.specs.Arrows.LeadsTo.{at_once, after}
 use Rattle.node_reach.specs.internal.Explored.{AreAt, IsExplored}
 use Rattle.node_reach.proofs.Putting.{has_all_at}
@@ -92,3 +94,13 @@ module _ (count : ℕ) (targets : ℕ → List ℕ) (starts found : List ℕ) (l
   places_lead_to i j i_in j_in led =
       let (k, k_in, stands, there) = places_lead i i_in refl led in
       subst (λ n. needs.LeadsTo lists i n) (one_place k j k_in j_in stands) there
+
+-- and so from the last one to the first
+pub all_reversed : (targets : ℕ → List ℕ) (starts nodes : List ℕ) → AreReached targets starts nodes → AreReached targets starts (reverse nodes)
+all_reversed targets starts nodes (which, once) = (
+  (λ b. subst (λ (t : Bool). (t ≡ true) ↔ IsReached targets starts b) (list_any-IsPermutation (λ k. k == b) nodes (reverse nodes) (IsPermutation-reverse nodes)) (which b)),
+  (λ i j d below inside.
+      let within : j < length nodes = subst (λ n. j < n) (length-reverse nodes) inside in
+      let first : i < length nodes = omega (arith, below, within) in
+      λ same. once (length nodes - 1 - j) (length nodes - 1 - i) d (omega (arith, below, within)) (omega (arith, below, within)) (sym (get_or-reverse nodes j d within) ∙ sym same ∙ get_or-reverse nodes i d first)),
+)

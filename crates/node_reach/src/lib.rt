@@ -9,7 +9,7 @@
 //! With arrows from 0 to 1 and 2, from 2 to 2 and from 3 to 0:
 //!
 //! ```text
-//! reach(alloc, &graph, &[0])?          // 0, 1, 2
+//! reach(alloc, &graph, &[0])?          // 2, 1, 0
 //! let walk = order(alloc, &graph, &[0])?;
 //! walk.nodes                           // 1, 2, 0
 //! walk.on_cycle                        // false, true, false

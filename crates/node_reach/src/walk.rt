@@ -16,8 +16,9 @@ pub struct Walk {
     pub on_cycle: Vec<bool>,
 }
 
-/// The nodes to which arrows lead from the starts, one or more after another, and the starts: each once, and the
-/// starts first. Costs about the number of reached nodes and of their arrows. Errs for want of memory.
+/// The nodes to which arrows lead from the starts, one or more after another, and the starts: each once, those first that
+/// were found last. Whoever goes through them by [`order`] meets what one arrow leads to the other way round, in the order of
+/// the arrows. Costs about the number of reached nodes and of their arrows. Errs for want of memory.
 pub fn reach<A: Arrows>(
     alloc: Global,
     graph: &A,
@@ -27,7 +28,8 @@ pub fn reach<A: Arrows>(
     ensures { IfOk result (λ nodes. AreReached (A.targets graph.now) starts.now nodes.items) }
 {
     let found = explore(alloc, graph, starts)?;
-    let nodes = Vec::from_slice(alloc, found.nodes.as_slice())?;
+    let mut nodes = Vec::from_slice(alloc, found.nodes.as_slice())?;
+    nodes.reverse();
     Ok(nodes)
 }
 

@@ -37,7 +37,7 @@ fn are_ordered(alloc: Global, numbers: &[usize], on_cycle: &[bool]) -> Result<bo
 
 #[test]
 fn halves_are_reached(rt: HostRuntime) -> Result<(), Fail> {
-    assert!(rt; lead_to(rt.alloc(), &[9, 3, 4, 1, 2, 0])?);
+    assert!(rt; lead_to(rt.alloc(), &[0, 2, 1, 4, 3, 9])?);
     let on_cycle = [true, false, false, false, false, false];
     assert!(rt; are_ordered(rt.alloc(), &[0, 1, 2, 4, 9, 3], &on_cycle)?);
     Ok(())
