@@ -13,6 +13,7 @@ pub mod Ordering
 pub mod Copying
 pub mod Untouched
 pub mod Bending
+pub mod Using
 pub mod Targets
 pub mod Refiling
 pub mod Shifting

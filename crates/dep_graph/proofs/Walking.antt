@@ -185,7 +185,7 @@ range_of (Cell q) p h = absurd (false≢true h)
 range_of (Name scope word) p h = absurd (false≢true h)
 
 -- the slots that hold a place
-abbrev spot_slots : Net → Place → List ℕ
+abbrev pub spot_slots : Net → Place → List ℕ
 spot_slots net p = slots_of net.files.index (spot_of net.nodes.lines p).sheet (spot_of net.nodes.lines p).row (spot_of net.nodes.lines p).col
 
 module _ (net : Net) where
@@ -233,19 +233,24 @@ module _ (net : Net) where
 
   -- ---- ranges
 
-  -- what is filed under a slot of a cell needs the cell where it is used
-  cover_need : (p : Place) (s r : ℕ) → plain.has s (spot_slots net p) ≡ true → plain.has r (from_slot net s) ≡ true → (IsAlive net.nodes r) × Needs (links_in net) (node_at net.nodes r) (Cell p)
-  cover_need p s r slot under =
+  -- what is filed under a slot of a cell and used covers the cell
+  pub cover_used : (p : Place) (s r : ℕ) → plain.has s (spot_slots net p) ≡ true → plain.has r (from_slot net s) ≡ true
+      → (IsAlive net.nodes r) × (covers_node (node_at net.nodes r) (Cell p) ≡ true) × IsUsed (links_in net) (node_at net.nodes r)
+  cover_used p s r slot under =
       let (owned, used) = filter_has (is_used net) (under_slot net s) r under in
       let (f, filed, at) = owner_has net.files (filed_in net.files.index s) r owned in
       let (alive, is) = used_node r used in
       let (b, range) = range_is (found_at net.nodes r) (net.filed r f at).0 in
       let found : finds_filing net.files (spot_of net.nodes.lines p) f ≡ true = found_under net.files.index (spot_of net.nodes.lines p).sheet (spot_of net.nodes.lines p).row (spot_of net.nodes.lines p).col s f slot filed in
       let covered : covers b p ≡ true = sym (((net.filed r f at).1 b range).exact p) ∙ found in
-      (alive, inr (subst (λ x. covers_node x (Cell p) ≡ true) (sym (same_Some (node_at net.nodes r) (Range b) (sym alive ∙ range))) covered, is))
+      (alive, subst (λ x. covers_node x (Cell p) ≡ true) (sym (same_Some (node_at net.nodes r) (Range b) (sym alive ∙ range))) covered, is)
+
+  -- so it needs the cell
+  cover_need : (p : Place) (s r : ℕ) → plain.has s (spot_slots net p) ≡ true → plain.has r (from_slot net s) ≡ true → (IsAlive net.nodes r) × Needs (links_in net) (node_at net.nodes r) (Cell p)
+  cover_need p s r slot under = let (alive, covered, is) = cover_used p s r slot under in (alive, inr (covered, is))
 
   -- a used node that covers a cell is filed under a slot of it
-  covered_slot : (a : Node) (p : Place) → covers_node a (Cell p) ≡ true → IsUsed (links_in net) a
+  pub covered_slot : (a : Node) (p : Place) → covers_node a (Cell p) ≡ true → IsUsed (links_in net) a
       → (place_of net.nodes a < node_total net) × ((s : ℕ) × (plain.has s (spot_slots net p) ≡ true) × (plain.has (place_of net.nodes a) (from_slot net s) ≡ true))
   covered_slot a p covers_it (c, h) =
       let (c_in, a_in, listed) = link_user c a h in

@@ -3,6 +3,7 @@ pub mod Needs
 pub mod Walks
 pub mod Graph
 pub mod Bent
+pub mod Users
 pub mod Shifted
 pub mod Laws
 pub mod internal

@@ -10,4 +10,5 @@ pub mod Arrows
 pub mod Walked
 pub mod Copied
 pub mod BentNumbers
+pub mod UserNumbers
 pub mod ShiftedNumbers

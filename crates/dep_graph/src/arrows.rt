@@ -51,7 +51,7 @@ impl Net {
     }
 
     // The used ranges that are filed under a slot.
-    fn from_slot(&self, alloc: Global, slot: usize) -> Result<Vec<usize>, AllocError>
+    pub(crate) fn from_slot(&self, alloc: Global, slot: usize) -> Result<Vec<usize>, AllocError>
         requires { slot < slot_count self.now.files.index }
         ensures { IfOk result (λ found. found.items ≡ from_slot self.now slot) }
     {

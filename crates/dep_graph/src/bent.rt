@@ -82,7 +82,10 @@ impl Net {
 }
 
 // Adds the numbers.
-fn add_all(numbers: &mut IndexSet<usize, NearHash>, more: &[usize]) -> Result<(), AllocError>
+pub(crate) fn add_all(
+    numbers: &mut IndexSet<usize, NearHash>,
+    more: &[usize],
+) -> Result<(), AllocError>
     ensures { OnOk result (AddsAll more.now numbers.old.keys numbers.new.keys) }
 {
     'numbers: for number in more {

@@ -18,6 +18,7 @@
 //! graph.reach(&marks_of_a1)?    // A1, B1, C1, D1 and A1:A9, in some order
 //! graph.order(&those)?          // the same, each after what it needs
 //! graph.on_cycle(d1)?           // false
+//! graph.users(at_a1)?           // B1 and D1: they are linked to A1, or to a range that covers it
 //! graph.shift(&row_put_first)?; // now B2 reads A2, C2 reads B2, and D2 reads the range A2:A10
 //! ```
 #![tactic(auto)]
@@ -37,6 +38,7 @@ mod refiled;
 mod shifted;
 mod table;
 mod touches;
+mod users;
 mod walk;
 
 pub use graph::Graph;

@@ -99,6 +99,18 @@ impl Both {
         Ok(())
     }
 
+    // Compares the nodes that are linked to the node or to a range that covers it, where it is a cell.
+    pub(crate) fn compare_users(&self, node: Node, tally: &mut Tally) -> Result<(), AllocError> {
+        let Node::Cell(at) = node else {
+            return Ok(());
+        };
+        let users = self.graph.users(at)?;
+        let expected = self.plain.linked_over(node)?;
+        tally.users = tally.users.saturating_add(expected.len() as u64);
+        tally.compare(Answer::Users, are_same(users.items(), &expected));
+        Ok(())
+    }
+
     // Compares the nodes that the operation would bend.
     pub(crate) fn compare_bent(&self, s: &Shift, tally: &mut Tally) -> Result<(), AllocError>
         requires { IsSound s.now }

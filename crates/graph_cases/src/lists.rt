@@ -141,6 +141,7 @@ impl List {
         let node = self.node();
         self.both.compare_reach(&marks, &mut self.tally)?;
         self.both.compare_cycle(node, &mut self.tally)?;
+        self.both.compare_users(node, &mut self.tally)?;
         let s = self.draws.shift();
         if sound(&s) {
             self.both.compare_bent(&s, &mut self.tally)?;

@@ -99,6 +99,17 @@ impl Plain {
         Ok(())
     }
 
+    // The nodes that are linked to the cell or to a range that covers it, each once.
+    pub(crate) fn linked_over(&self, cell: Node) -> Result<Vec<Node>, AllocError> {
+        let mut found = Vec::new(self.alloc);
+        'links: for link in &self.links {
+            if link.need == cell || covers(link.need, cell) {
+                add(&mut found, link.user)?;
+            }
+        }
+        Ok(found)
+    }
+
     // The marks and the nodes that need one, directly or through others, each once.
     pub(crate) fn reached(&self, marks: &[Node]) -> Result<Vec<Node>, AllocError> {
         let mut reached = self.users(marks)?;

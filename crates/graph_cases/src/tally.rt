@@ -7,6 +7,7 @@ pub(crate) enum Answer {
     Reach,
     Order,
     OnCycle,
+    Users,
     Bent,
 }
 
@@ -17,6 +18,7 @@ impl Answer {
             Answer::Reach => "reach",
             Answer::Order => "order",
             Answer::OnCycle => "on_cycle",
+            Answer::Users => "users",
             Answer::Bent => "bent",
         }
     }
@@ -53,6 +55,7 @@ pub(crate) struct Tally {
     pub(crate) copies: u64,
     reached: u64,
     on_cycles: u64,
+    pub(crate) users: u64,
     pub(crate) bent: u64,
     comparisons: u64,
     first: Option<Difference>,
@@ -108,8 +111,8 @@ impl Tally {
     fn write_nodes<W: fmt::Write>(&self, f: &mut fmt::Formatter<W>) -> fmt::Result {
         write!(
             f,
-            "{} nodes reached, {} of them on cycles, {} bent; ",
-            self.reached, self.on_cycles, self.bent
+            "{} nodes reached, {} of them on cycles, {} users, {} bent; ",
+            self.reached, self.on_cycles, self.users, self.bent
         )
     }
 }

@@ -81,7 +81,7 @@ pub refers_block : (t : Term Corner) (b : Block) (p : Place) → covers b p ≡ 
 refers_block t b p covered h = mentions-links t p ∙ any_as (same_link (links.Area b)) (is_link_to p) (links_in t) (area_leads b p covered) h
 
 -- the list has a link to the cell, or one to a block that covers it
-abbrev HasWay : Place → List Link → Type 0
+abbrev pub HasWay : Place → List Link → Type 0
 HasWay p ls = (list_any (same_link (links.Cell p)) ls ≡ true) ⊎ ((b : Block) × (covers b p ≡ true) × (list_any (same_link (links.Area b)) ls ≡ true))
 
 later_way : (p : Place) (l : Link) (ls : List Link) → HasWay p ls → HasWay p (l ∷ ls)
@@ -97,7 +97,7 @@ first_way p (links.Area b) ls h = inr (b, h, or_left (same_link (links.Area b) (
     same_block-self c = (same_block-decides c c).1 refl
 first_way p (links.Name scope word) ls h = absurd (false≢true h)
 
-way_to : (p : Place) (ls : List Link) → list_any (is_link_to p) ls ≡ true → HasWay p ls
+pub way_to : (p : Place) (ls : List Link) → list_any (is_link_to p) ls ≡ true → HasWay p ls
 way_to p [] h = absurd (false≢true h)
 way_to p (l ∷ ls) h = ⊎_elim
     (λ (here : is_link_to p l ≡ true). first_way p l ls here)

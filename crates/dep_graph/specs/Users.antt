@@ -1,0 +1,23 @@
+-- Which nodes use a cell: those that are linked to it, or to a range that covers it. Source: this project's own.
+use Rattle.std.specs.Prelude.{◌↔◌, Bool, false, List, IsTrue}
+use Rattle.cell_addr.specs.Place.{covers, same_place}
+use Rattle.cell_addr.specs.declared.place.Place.{Place}
+use Rattle.dep_graph.specs.Needs.{Links}
+use Rattle.dep_graph.specs.Nodes.{has}
+use Rattle.dep_graph.specs.Walks.{IsOnce}
+use Rattle.dep_graph.specs.declared.node.Node.{Node}
+use Rattle.dep_graph.specs.declared.node.Node.TheVariants.{Cell, Name, Range}
+
+-- the node is the cell at a place, or a range that covers it
+abbrev pub is_over : Place → Node → Bool
+is_over p (Cell q) = same_place q p
+is_over p (Name scope word) = false
+is_over p (Range b) = covers b p
+
+-- the node is linked to one that is
+abbrev pub IsUserOf : Place → Links → Node → Type 0
+IsUserOf p links a = (b : Node) × IsTrue (has b (links a)) × IsTrue (is_over p b)
+
+-- exactly those nodes, each once
+abbrev pub AreUsers : Place → Links → List Node → Type 0
+AreUsers p links nodes = ((a : Node) → IsTrue (has a nodes) ↔ IsUserOf p links a) × IsOnce nodes
