@@ -1,4 +1,4 @@
--- Changes of cells and of names leave all other nodes alone. Serves the laws.
+-- Changes of cells leave all other nodes alone. Serves the laws.
 use Rattle.std.proofs.Common.{◌≡◌, ◌∙◌, sym, ap, refl, subst, Bool, true, false, cond, not, [], ◌∷◌, Option, Some, None, is_some, inl, inr}
 use Rattle.std.specs.Prelude.{◌⊎◌, IsTrue}
 use Rattle.std.specs.FinMap as map
@@ -12,21 +12,17 @@ use Rattle.cell_addr.specs.declared.place.Place.{Place}
 use Rattle.cell_addr.proofs.Places.{place_cmp-IsAntisymmetric, place_cmp-IsTotalOrder}
 use Rattle.shift_core.specs.Carried.{destination}
 use Rattle.book_cells.specs.Workbook.{Book as Contents, Content}
-use Rattle.book_values.specs.Names.{Key}
 use Rattle.dep_graph.specs.Nodes.{has}
 use Rattle.dep_graph.specs.declared.node.Node.TheVariants.{Cell}
 use Rattle.dep_graph.proofs.Places.{has_first}
-use Rattle.marked_values.proofs.Alone.{cells_alone, name_alone}
+use Rattle.marked_values.proofs.Alone.{cells_alone}
 use Rattle.book_model.specs.Answers.{valued}
-use Rattle.book_model.specs.Changes.{emptied, placed, with_content, with_copy, with_name}
+use Rattle.book_model.specs.Changes.{emptied, placed, with_content, with_copy}
 use Rattle.book_model.specs.Workbook.{Workbook}
 use Rattle.book_model.specs.Content.{content_given, content_of}
-use Rattle.book_model.specs.Names.{key_cmp, with_tree}
 use Rattle.book_model.proofs.Contents.{is_at}
-use Rattle.book_model.proofs.NameMaps.{get-with}
 use Rattle.book_model.proofs.PastedCells.{get-pasted}
-use Rattle.marked_books.specs.Operations.{EmptyingLeavesAlone, NamingLeavesAlone, PastingLeavesAlone, SettingLeavesAlone, SheetsLeaveAlone}
-use Rattle.marked_books.proofs.NameEntries.{tied_keys, tree_in-entries}
+use Rattle.marked_books.specs.Operations.{EmptyingLeavesAlone, PastingLeavesAlone, SettingLeavesAlone, SheetsLeaveAlone}
 
 -- another place isn't changed
 pub other_place : (at p : Place) (c : Option Content) (cells : Contents) → ¬ (p ≡ at) → map.get cells p ≡ map.get (placed at c cells) p
@@ -78,17 +74,6 @@ unpasted area copy at b p inside out = by (covers (destination area at) p) refl
 pub pasting_leaves_alone : PastingLeavesAlone
 pasting_leaves_alone area copy at b words changed inside marked =
     cells_alone (valued b) (valued (with_copy area copy at b)) words changed refl (λ p out. unpasted area copy at b p inside (λ e there. out (marked p e there)))
-
-pub naming_leaves_alone : NamingLeavesAlone
-naming_leaves_alone key tree b words changed users =
-    name_alone (valued b) (valued (with_name key tree b)) words key changed (record {
-      cells = refl;
-      trees = λ other apart. tree_in-entries b.names other ∙ by other apart (eq_by_cmp key_cmp other key) refl ∙ sym (tree_in-entries (with_tree key tree b.names) other);
-    }) users
-  where
-    by : (other : Key) → ¬ (other ≡ key) → (t : Bool) → eq_by_cmp key_cmp other key ≡ t → map.get b.names other ≡ map.get (with_tree key tree b.names) other
-    by other apart true e = absurd (apart (tied_keys other key e))
-    by other apart false e = sym (get-with key tree b.names other ∙ ap (λ t. cond t tree (map.get b.names other)) e)
 
 pub sheets_leave_alone : SheetsLeaveAlone
 sheets_leave_alone sheet name b = (refl, refl)

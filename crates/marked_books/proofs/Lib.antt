@@ -1,3 +1,4 @@
 pub mod NameEntries
 pub mod Contents
+pub mod Naming
 pub mod Shifting

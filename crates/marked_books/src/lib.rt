@@ -7,6 +7,7 @@
 mod laws;
 
 pub use laws::{
-    accepted_shifts_lead_on, emptying_leaves_alone, naming_leaves_alone, pasting_leaves_alone,
-    sessions_are_inside, setting_leaves_alone, sheets_leave_alone,
+    accepted_shifts_lead_on, adding_leaves_alone, changing_leaves_to_needs, emptying_leaves_alone,
+    naming_leaves_alone, pasting_leaves_alone, removing_leaves_alone, sessions_are_inside,
+    setting_leaves_alone, sheets_leave_alone,
 };

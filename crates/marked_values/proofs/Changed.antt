@@ -1,6 +1,6 @@
--- What a change leaves alone keeps its links, and its value where it reaches nothing else. Serves the law.
+-- What a change leaves alone, or to its needs, keeps its links, and its value where it reaches nothing else. Serves the laws.
 use Rattle.std.proofs.Common.{◌≡◌, ◌∙◌, sym, ap, refl, subst, ℕ, ℤ, Bool, true, false, cond, List, ◌++◌, Option, Some, None, ◌⊎◌, inl, inr}
-use Rattle.std.specs.Prelude.{IsTrue, slice_get}
+use Rattle.std.specs.Prelude.{IsTrue}
 use Rattle.cell_value.specs.declared.scalar.Scalar.{Scalar}
 use Rattle.custom_fn.specs.declared.rule.Rule.{Rule}
 use Rattle.formula_tree.specs.Reference.{sheet_of}
@@ -9,7 +9,6 @@ use Rattle.formula_tree.specs.declared.reference.Corner.{Corner}
 use Rattle.value_network.proofs.Alike.{NeedAlike, cyclic_alike, values_alike}
 use Rattle.value_network.specs.Network.{Network, after, at_once, cyclic}
 use Rattle.book_values.proofs.Networks.{is_network}
-use Rattle.book_values.specs.Names.{Key}
 use Rattle.book_values.specs.Values.{network, value_of}
 use Rattle.book_values.specs.Workbook as book
 use Rattle.book_values.specs.Workbook.{Workbook, home_of, mentions_node, needs, tree_at, tree_needs}
@@ -23,15 +22,15 @@ use Rattle.recalc_core.specs.Kept.{Kept, expected, expected_at, stands}
 use Rattle.recalc_core.specs.Laws.{AreKnown, KeepNumbers}
 use Rattle.recalc_core.specs.Links.{IsLinkAt, IsLinkOf}
 use Rattle.recalc_core.specs.Nodes.{AreNumbered, node_at}
-use Rattle.recalc_core.proofs.Bridge.{mentioned_stands, name_only, none_some, same_some}
-use Rattle.recalc_core.proofs.Linking.{one_node}
+use Rattle.recalc_core.proofs.Bridge.{mentioned_stands, none_some, same_some}
 use Rattle.recalc_core.proofs.Worked.{tree_stands}
-use Rattle.marked_values.specs.Changes.{ChangesFollow, IsLeftAlone, LeavesAlone}
+use Rattle.marked_values.specs.Changes.{ChangesFollow}
 use Rattle.marked_values.specs.Marks.{Follow, Leads, ReachesMark}
-use Rattle.marked_values.proofs.Reaching.{need_reaches, needed_known, unknown_bare}
+use Rattle.marked_values.specs.Rebound.{AloneLeavesToNeeds, IsLeftToNeeds, LeavesToNeeds, NeedsFollow, NeedsOthers}
+use Rattle.marked_values.proofs.Reaching.{known_before, need_reaches, needed_known, unknown_bare}
 
 module _ (b c : Workbook) (words more : List (List ℕ)) (customs : List (List ℕ × Rule)) (today : ℤ) (links : Links) (marks changed : List Node) (kept : Kept)
-    (before : Follow b words customs today links marks kept) (numbers : KeepNumbers words more) (numbered : AreNumbered more c.names) (leaves : LeavesAlone b c more changed) (new_known : AreKnown more changed) where
+    (before : Follow b words customs today links marks kept) (numbers : KeepNumbers words more) (numbered : AreNumbered more c.names) (leaves : LeavesToNeeds b c more changed) (new_known : AreKnown more changed) where
   abbrev all : List Node
   all = marks ++ changed
 
@@ -39,34 +38,25 @@ module _ (b c : Workbook) (words more : List (List ℕ)) (customs : List (List �
 
   -- a node that stood was known
   was_known : (a : Node) (x : book.Node) → node_at more a ≡ Some x → stands b x ≡ true → node_at words a ≡ Some x
-  was_known (Cell p) x at there = at
-  was_known (Range block) x at there = absurd (none_some x at)
-  was_known (Name scope word) (book.place p) at there = absurd (apart (name_only scope (slice_get more word) (book.place p) at))
-    where
-      apart : (key : Key) × (book.place p ≡ book.name key) → ⊥
-      apart (key, e) = cc
-  was_known (Name scope word) (book.name key) at there =
-      let (d, to) = before.linked.numbered.all key there in
-      let same = one_node more d (Name scope word) (book.name key) numbered.once (numbers d (book.name key) to) at in
-      subst (λ n. node_at words n ≡ Some (book.name key)) same to
+  was_known = known_before b words more before.linked.numbered numbers numbered.once
 
   -- ---- links
 
   -- a tree that is left alone mentions the same nodes
-  mentions_same : (x : book.Node) (t : Term Corner) (y : book.Node) → IsLeftAlone b c x → tree_at b x ≡ Some t
+  mentions_same : (x : book.Node) (t : Term Corner) (y : book.Node) → IsLeftToNeeds b c more changed x → tree_at b x ≡ Some t
       → mentions_node b.names (sheet_of (home_of x)) t y ≡ mentions_node c.names (sheet_of (home_of x)) t y
   mentions_same x t y alone is =
-      sym (ap (λ o. tree_needs b.names (sheet_of (home_of x)) o y) is) ∙ alone.alike.needs y
+      sym (ap (λ o. tree_needs b.names (sheet_of (home_of x)) o y) is) ∙ alone.needs y
       ∙ ap (λ o. tree_needs c.names (sheet_of (home_of x)) o y) (alone.tree ∙ is)
 
-  link_forth : (x : book.Node) (t : Term Corner) (d : Node) → IsLeftAlone b c x → tree_at b x ≡ Some t
+  link_forth : (x : book.Node) (t : Term Corner) (d : Node) → IsLeftToNeeds b c more changed x → tree_at b x ≡ Some t
       → IsLinkOf words b.names (sheet_of (home_of x)) t d → IsLinkOf more c.names (sheet_of (home_of x)) t d
   link_forth x t (Cell p) alone is h = h
   link_forth x t (Range block) alone is h = h
   link_forth x t (Name scope word) alone is (key, at, m) =
       (key, numbers (Name scope word) (book.name key) at, sym (mentions_same x t (book.name key) alone is) ∙ m)
 
-  link_back : (x : book.Node) (t : Term Corner) (d : Node) → IsLeftAlone b c x → tree_at b x ≡ Some t
+  link_back : (x : book.Node) (t : Term Corner) (d : Node) → IsLeftToNeeds b c more changed x → tree_at b x ≡ Some t
       → IsLinkOf more c.names (sheet_of (home_of x)) t d → IsLinkOf words b.names (sheet_of (home_of x)) t d
   link_back x t (Cell p) alone is h = h
   link_back x t (Range block) alone is h = h
@@ -108,7 +98,7 @@ module _ (b c : Workbook) (words more : List (List ℕ)) (customs : List (List �
   unmarked : (a : Node) (x : book.Node) → node_at more a ≡ Some x → ¬ ReachesMark c more all x → ¬ IsTrue (has a all)
   unmarked a x at apart marked = apart (a, x, marked, at, inl refl)
 
-  inside_alone : (x : book.Node) → Inside x → IsLeftAlone b c x
+  inside_alone : (x : book.Node) → Inside x → IsLeftToNeeds b c more changed x
   inside_alone x (a, at, apart) = leaves a x at (out_of_changed a (unmarked a x at apart))
 
   closed : (x y : book.Node) → Inside x → needs c x y ≡ true → Inside y
@@ -117,20 +107,25 @@ module _ (b c : Workbook) (words more : List (List ℕ)) (customs : List (List �
       (d, to, λ reach. apart (need_reaches c more all x y need reach))
 
   needs_forth : (x y : book.Node) → Inside x → needs b x y ≡ true → needs c x y ≡ true
-  needs_forth x y inside need = sym ((inside_alone x inside).alike.needs y) ∙ need
+  needs_forth x y inside need = sym ((inside_alone x inside).needs y) ∙ need
+
+  needs_others : (x : book.Node) → Inside x → NeedsOthers b more changed x
+  needs_others x inside y need =
+      let (d, to, apart) = closed x y inside (needs_forth x y inside need) in
+      (d, to, out_of_changed d (unmarked d y to apart))
 
   both_need : NeedAlike one two Inside
   both_need = record {
-    needs_same = λ x y inside. (inside_alone x inside).alike.needs y;
+    needs_same = λ x y inside. (inside_alone x inside).needs y;
     closed = λ x y inside need. closed x y inside (needs_forth x y inside need);
   }
 
   value_same : (x : book.Node) → Inside x → value_of b customs today x ≡ value_of c customs today x
   value_same x inside = values_alike one two Inside (is_network b customs today) (is_network c customs today) (cyclic one) (cyclic two) (λ y h. h) (λ y h. h) both_need refl
-      (λ y here. cyclic_alike one two Inside (is_network b customs today) (is_network c customs today) both_need y here) (λ y shown here. (inside_alone y here).alike.works customs today shown) x inside
+      (λ y here. cyclic_alike one two Inside (is_network b customs today) (is_network c customs today) both_need y here) (λ y shown here. (inside_alone y here).works (needs_others y here) customs today shown) x inside
 
   expected_same : (x : book.Node) → Inside x → expected b customs today x ≡ expected c customs today x
-  expected_same x inside = λ i. cond ((inside_alone x inside).alike.stands i) (Some (value_same x inside i)) None
+  expected_same x inside = λ i. cond ((inside_alone x inside).stands i) (Some (value_same x inside i)) None
 
   leads_over : {x y : book.Node} → Leads b x y → Inside x → Leads c x y
   leads_over (at_once {a = x} {b = y} need) inside = at_once (needs_forth x y inside need)
@@ -156,7 +151,7 @@ module _ (b c : Workbook) (words more : List (List ℕ)) (customs : List (List �
     is_new : (x : book.Node) → node_at more a ≡ Some x → node_at words a ≡ None → kept a ≡ expected c customs today x
     is_new x at none =
         unknown_bare b words marks customs today kept a before.fit plain none
-        ∙ sym (ap (λ t. cond t (Some (value_of c customs today x)) None) (sym ((inside_alone x (a, at, apart x at)).alike.stands) ∙ not_there (stands b x) refl))
+        ∙ sym (ap (λ t. cond t (Some (value_of c customs today x)) None) (sym ((inside_alone x (a, at, apart x at)).stands) ∙ not_there (stands b x) refl))
       where
         not_there : (t : Bool) → stands b x ≡ t → stands b x ≡ false
         not_there false e = e
@@ -186,6 +181,15 @@ module _ (b c : Workbook) (words more : List (List ℕ)) (customs : List (List �
     fit = λ a apart plain. still_right a apart plain;
   }
 
+pub needs_follow : NeedsFollow
+needs_follow b c words more customs today links marks changed kept before numbers numbered leaves known =
+    still_follow b c words more customs today links marks changed kept before numbers numbered leaves known
+
+pub alone_leaves_to_needs : AloneLeavesToNeeds
+alone_leaves_to_needs b c words changed alone a x at out =
+    let left = alone a x at out in
+    record { stands = left.alike.stands; tree = left.tree; needs = left.alike.needs; works = λ others customs today shown. left.alike.works customs today shown }
+
 pub changes_follow : ChangesFollow
 changes_follow b c words more customs today links marks changed kept before numbers numbered leaves known =
-    still_follow b c words more customs today links marks changed kept before numbers numbered leaves known
+    needs_follow b c words more customs today links marks changed kept before numbers numbered (alone_leaves_to_needs b c more changed leaves) known

@@ -3,6 +3,9 @@ pub mod TreeLinks
 pub mod Fitting
 pub mod Alone
 pub mod Changed
+pub mod Finding
+pub mod Rebound
+pub mod NameMarks
 pub mod Linked
 pub mod MovedTrees
 pub mod StillTrees

@@ -1,6 +1,8 @@
 // What holds of links and kept values that follow a workbook, as laws.
 ghost use Rattle.marked_values.specs.Changes.{AllMarkedFollow, CellsAlone, ChangesFollow, FitsFollow, FollowFits, LinkedAnewFits, LinksAreInside, MoreMarksFollow, NameAlone, NodesLinkAnew, RightFollow};
 ghost use Rattle.marked_values.specs.Gathered.{BentAreNoted, RestoredAreMarked, TouchedAreMarked};
+ghost use Rattle.marked_values.specs.NameMarks.{AddedFollow, AddedLeavesAlone, ChangedFollow, ChangedLeavesToNeeds, LinkedOrMarked, RemovedFollow, RemovedLeavesAlone};
+ghost use Rattle.marked_values.specs.Rebound.{AddedIsFound, AloneLeavesToNeeds, ChangedIsFoundAlike, NameLeavesToNeeds, NeedsFollow, ReboundLeavesAlone, RemovedWasFound};
 ghost use Rattle.marked_values.specs.Shifts.{BooksStayInside, ReturnsFollow, ShiftsFollow, ShiftsGoBackFollow};
 
 /// After a change, links and kept values follow where what it didn't leave alone is marked as well.
@@ -21,6 +23,77 @@ pub fn cells_alone()
 /// A change of one name leaves all nodes alone but the name and those whose formulas use its word.
 pub fn name_alone()
     ensures { NameAlone }
+{}
+
+/// What a change leaves alone it leaves to its needs.
+pub fn alone_leaves_to_needs()
+    ensures { AloneLeavesToNeeds }
+{}
+
+/// After a change, links and kept values follow where all to which it didn't come by needs alone is marked as well.
+pub fn needs_follow()
+    ensures { NeedsFollow }
+{}
+
+/// Where a name is there before and after a change of it, each word finds the same.
+pub fn changed_is_found_alike()
+    ensures { ChangedIsFoundAlike }
+{}
+
+/// Where a name is removed, a word finds the same unless it found the name.
+pub fn removed_was_found()
+    ensures { RemovedWasFound }
+{}
+
+/// Where a name is added, a word finds the same unless it finds the name now, having found none, or the workbook's in place of the
+/// sheet's.
+pub fn added_is_found()
+    ensures { AddedIsFound }
+{}
+
+/// A change of one name comes by their needs to all nodes but the name and those for whose formulas its word finds another one.
+pub fn name_leaves_to_needs()
+    ensures { NameLeavesToNeeds }
+{}
+
+/// A name that is added or removed leaves all nodes alone but the name and those for whose formulas its word finds another one.
+pub fn rebound_leaves_alone()
+    ensures { ReboundLeavesAlone }
+{}
+
+/// A formula that is linked to a node is so in the graph, or is marked.
+pub fn linked_or_marked()
+    ensures { LinkedOrMarked }
+{}
+
+/// A name that is removed leaves all nodes alone but its own and those that were linked to it.
+pub fn removed_leaves_alone()
+    ensures { RemovedLeavesAlone }
+{}
+
+/// A name that is added leaves all nodes alone but its own and those for whose formulas its word finds it now.
+pub fn added_leaves_alone()
+    ensures { AddedLeavesAlone }
+{}
+
+/// A name that gets another formula comes by their needs to all nodes but its own.
+pub fn changed_leaves_to_needs()
+    ensures { ChangedLeavesToNeeds }
+{}
+
+/// After a name was removed, links and kept values follow where its node and each that the graph links to it are marked as well.
+pub fn removed_follow()
+    ensures { RemovedFollow }
+{}
+
+/// After a name was added, they follow where its node and each for whose formula its word finds it now are marked as well.
+pub fn added_follow()
+    ensures { AddedFollow }
+{}
+
+/// After a name got another formula, they follow where its node alone is marked as well.
+pub fn changed_follow()
+    ensures { ChangedFollow }
 {}
 
 /// Of a workbook that isn't linked and of which nothing is kept, all that stands is to be marked.

@@ -8,8 +8,11 @@
 mod laws;
 
 pub use laws::{
-    all_marked_follow, bent_are_noted, books_stay_inside, cells_alone, changes_follow, fits_follow,
-    follow_fits, linked_anew_fits, links_are_inside, more_marks_follow, name_alone,
-    nodes_link_anew, restored_are_marked, returns_follow, right_follow, shifts_follow,
+    added_follow, added_is_found, added_leaves_alone, all_marked_follow, alone_leaves_to_needs,
+    bent_are_noted, books_stay_inside, cells_alone, changed_follow, changed_is_found_alike,
+    changed_leaves_to_needs, changes_follow, fits_follow, follow_fits, linked_anew_fits,
+    linked_or_marked, links_are_inside, more_marks_follow, name_alone, name_leaves_to_needs,
+    needs_follow, nodes_link_anew, rebound_leaves_alone, removed_follow, removed_leaves_alone,
+    removed_was_found, restored_are_marked, returns_follow, right_follow, shifts_follow,
     shifts_go_back_follow, touched_are_marked,
 };

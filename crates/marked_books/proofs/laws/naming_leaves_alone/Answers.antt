@@ -1,4 +1,4 @@
-use Rattle.marked_books.proofs.Contents.{naming_leaves_alone}
+use Rattle.marked_books.proofs.Naming.{naming_leaves_alone}
 use Rattle.marked_books.proofs.laws.naming_leaves_alone.Goals as goal
 
 pub returns : goal.returns
