@@ -16,7 +16,8 @@ use Rattle.recalc_core.specs.Links.{IsLinkAt, IsLinkOf}
 use Rattle.recalc_core.specs.Nodes.{AreNumbered, name_at, node_at, scope_at}
 use Rattle.marked_values.specs.Marks.{Follow}
 use Rattle.marked_values.specs.Shifts.{asks_place}
-use Rattle.kept_values.specs.Values.{Follows, asks_in, is_link_at, is_link_from, is_link_of, kept_in, links_in, marks_in, passes}
+use Rattle.restored_values.specs.Suspects.{has_lost}
+use Rattle.kept_values.specs.Values.{AreNoted, Follows, asks_in, is_link_at, is_link_from, is_link_of, kept_in, links_in, loses_in, marks_in, passes}
 use Rattle.kept_values.specs.declared.values.Values.{Values}
 
 -- ---- tests of links
@@ -56,14 +57,6 @@ module _ (b : Workbook) (words : List (List ℕ)) where
 
 -- ---- values that follow
 
--- each node that isn't marked and whose formula asks where a reference is is known to
-abbrev pub AreAsking : Workbook → List (List ℕ) → Values → Type 0
-AreAsking b words v = (a : Node) (x : book.Node) (t : Term Corner) → has a (marks_in v) ≡ false → node_at words a ≡ Some x → tree_at b x ≡ Some t → asks_place t ≡ true → asks_in v a ≡ true
-
--- and each that is known to is a place or a known name
-abbrev pub AreAsked : List (List ℕ) → Values → Type 0
-AreAsked words v = (a : Node) → asks_in v a ≡ true → is_some (node_at words a) ≡ true
-
 -- something is there
 pub there : {X : Type 0} (o : Option X) → is_some o ≡ true → (x : X) × (o ≡ Some x)
 there None h = absurd (false≢true h)
@@ -88,15 +81,16 @@ module _ (b : Workbook) (words : List (List ℕ)) (customs : List (List ℕ × R
     fit = follows.fit;
   }
 
-  pub from_follow : Follow b words customs today (links_in v) (marks_in v) (kept_in v) → AreAsking b words v → AreAsked words v → Follows b words customs today v
-  from_follow follow asking asked = record {
+  pub from_follow : Follow b words customs today (links_in v) (marks_in v) (kept_in v) → AreNoted asks_place b words (marks_in v) (asks_in v) → AreNoted has_lost b words (marks_in v) (loses_in v)
+      → Follows b words customs today v
+  from_follow follow asking losing = record {
     linked = λ a c isnt.
         let both = follow.linked.exact a c (λ h. false≢true (sym isnt ∙ h)) in
         same_tests (has c (links_in v a)) (is_link_at b words a c) (λ h. at_tested b words a c (both.0 h)) (λ h. both.1 (at_holds b words a c h));
     inside = follow.inside;
     asks = asking;
+    loses = losing;
     known = λ a h. ap is_some (follow.known a h).1;
-    asked = asked;
     fit = follow.fit;
   }
 

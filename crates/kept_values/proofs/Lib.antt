@@ -1,5 +1,10 @@
 pub mod Following
 pub mod FoundNames
 pub mod LinkedAnew
+pub mod Noted
+pub mod LinkTests
 pub mod TakenAlong
+pub mod LostBefore
+pub mod Gathered
 pub mod Shifted
+pub mod TakenBack

@@ -1,20 +1,17 @@
 -- Nodes that are linked anew, one after another, and what follows the workbook once they are. Serves what refreshes values.
-use Rattle.std.proofs.Common.{◌≡◌, ◌∙◌, sym, ap, refl, subst, ℕ, ℤ, pos, ◌+◌, ◌<◌, ◌≤◌, Bool, true, false, ◌||◌, List, [], ◌∷◌, ◌++◌, length, take, drop, get_or, Some, is_some, Result, Ok, Err, ◌⊎◌, inl, inr, ⊎_elim, take-append-drop}
+use Rattle.std.proofs.Common.{◌≡◌, ◌∙◌, sym, ap, refl, subst, ℕ, ℤ, pos, ◌+◌, ◌<◌, ◌≤◌, true, false, ◌||◌, List, [], ◌∷◌, ◌++◌, length, take, drop, get_or, Some, Result, Ok, Err, inl, inr, ⊎_elim, take-append-drop}
 use Rattle.std.specs.Prelude.{IsTrue, OnErr, OnOk}
-use Rattle.std.proofs.lemmas.Bool.{or_left}
 use Rattle.std.proofs.lemmas.List.{append_assoc, drop_all, drop_more, take_more}
 use Rattle.std.proofs.lemmas.List.Folds.{list_any-append}
 use Rattle.custom_fn.specs.declared.rule.Rule.{Rule}
 use Rattle.book_values.specs.Workbook as book
-use Rattle.book_values.specs.Workbook.{Workbook, tree_at}
-use Rattle.formula_tree.specs.Term.{Term}
-use Rattle.formula_tree.specs.declared.reference.Corner.{Corner}
+use Rattle.book_values.specs.Workbook.{Workbook}
 use Rattle.dep_graph.specs.Graph.{AreSame}
 use Rattle.dep_graph.specs.Laws.{AreLinksInside}
 use Rattle.dep_graph.specs.Needs.{Links, Reaches}
 use Rattle.dep_graph.specs.Nodes.{has, same_node}
 use Rattle.dep_graph.specs.declared.node.Node.{Node}
-use Rattle.dep_graph.proofs.Places.{has-append_cases, has-append_left, has-append_right, has_at, has_one}
+use Rattle.dep_graph.proofs.Places.{has-append_cases, has-append_left, has-append_right, has_at}
 use Rattle.recalc_core.specs.Kept.{AreRight, IsFit, Kept}
 use Rattle.recalc_core.specs.Laws.{AreKnown}
 use Rattle.recalc_core.specs.Links.{AreLinksOf}
@@ -22,9 +19,7 @@ use Rattle.recalc_core.specs.Nodes.{node_at}
 use Rattle.recalc_core.specs.Steps as plain
 use Rattle.recalc_core.proofs.Bridge.{chains_agree}
 use Rattle.marked_values.specs.Marks.{AreLinksBut, Follow, IsBookInside, ReachesMark}
-use Rattle.marked_values.specs.Shifts.{asks_place}
 use Rattle.kept_values.specs.Values.{AreMarked, TakesSteps}
-use Rattle.kept_values.specs.internal.Asking.{AreNoted, IsNoted}
 use Rattle.kept_values.specs.internal.Linking.{IsLinkedAnew}
 use Rattle.marked_values.proofs.Fitting.{fits_follow, right_follow}
 use Rattle.marked_values.proofs.Linked.{anew_inside, link_anew}
@@ -51,17 +46,6 @@ marked_front nodes old now new i marked is = record {
   only = λ a h. ⊎_elim (λ (before : has a old ≡ true). inl before) (λ (here : has a (take i nodes) ≡ true). inr (in_front a nodes i here))
       (has-append_cases a old (take i nodes) (sym (marked a) ∙ subst (λ ns. IsTrue (has a ns)) is h));
 }
-
--- one node more was noted, if it is
-pub only_on : (nodes : List Node) (i : ℕ) (d : Node) (before now new : Node → Bool) → i < length nodes → ((a : Node) → now a ≡ true → (before a ≡ true) ⊎ (has a (take i nodes) ≡ true))
-    → ((a : Node) → new a ≡ true → (now a ≡ true) ⊎ (same_node a (get_or nodes i d) ≡ true)) → (a : Node) → new a ≡ true → (before a ≡ true) ⊎ (has a (take (i + 1) nodes) ≡ true)
-only_on nodes i d before now new low so_far here a h = ⊎_elim
-    (λ (was : now a ≡ true). ⊎_elim (λ (first : before a ≡ true). inl first) (λ (front : has a (take i nodes) ≡ true). inr (among (has-append_left a (take i nodes) (get_or nodes i d ∷ []) front))) (so_far a was))
-    (λ (same : same_node a (get_or nodes i d) ≡ true). inr (among (has-append_right a (take i nodes) (get_or nodes i d ∷ []) (or_left (same_node a (get_or nodes i d)) false same))))
-    (here a h)
-  where
-    among : has a (take i nodes ++ get_or nodes i d ∷ []) ≡ true → has a (take (i + 1) nodes) ≡ true
-    among is = subst (λ ns. has a ns ≡ true) (sym (take_more nodes i d low)) is
 
 -- values that are right on success, and fit the marks for want of memory
 abbrev pub AreRightOn : {X E : Type 0} → Result X E → Workbook → List (List ℕ) → List (List ℕ × Rule) → ℤ → Kept → Type 0
@@ -109,31 +93,6 @@ module _ (b : Workbook) (words : List (List ℕ)) where
       let (x, at) = known a (has_at nodes i d low) in
       let (needs, exact, linked) = anew x at in
       anew_inside b words a x needs old new inside links at exact linked
-
-  -- each node whose formula asks is known to: it was, or it was marked and is noted
-  pub all_asking : (marks : List Node) (before noted : Node → Bool) → ((a : Node) (x : book.Node) (t : Term Corner) → has a marks ≡ false → node_at words a ≡ Some x → tree_at b x ≡ Some t → asks_place t ≡ true → before a ≡ true)
-      → ((a : Node) → before a ≡ true → noted a ≡ true) → AreNoted b words marks noted → (a : Node) (x : book.Node) (t : Term Corner) → node_at words a ≡ Some x → tree_at b x ≡ Some t → asks_place t ≡ true → noted a ≡ true
-  all_asking marks before noted known stay new a x t at is asks = by (has a marks) refl
-    where
-      by : (m : Bool) → has a marks ≡ m → noted a ≡ true
-      by true e = new a e x t at is asks
-      by false e = stay a (known a x t e at is asks)
-
-  -- one node more is noted, where its formula asks
-  pub noted_on : (nodes : List Node) (i : ℕ) (d : Node) (now new : Node → Bool) → i < length nodes → ((a : Node) → now a ≡ true → new a ≡ true) → IsNoted b words new (get_or nodes i d)
-      → AreNoted b words (take i nodes) now → AreNoted b words (take (i + 1) nodes) new
-  noted_on nodes i d now new low stay here so_far a h x t at is asks = ⊎_elim
-      (λ (front : has a (take i nodes) ≡ true). stay a (so_far a front x t at is asks))
-      (λ (last : has a (get_or nodes i d ∷ []) ≡ true). subst (IsNoted b words new) (sym (has_one a (get_or nodes i d) last)) here x t at is asks)
-      (has-append_cases a (take i nodes) (get_or nodes i d ∷ []) (subst (λ ns. has a ns ≡ true) (take_more nodes i d low) h))
-
-  -- each node that is known to ask is known: it was, or it was marked
-  pub all_asked : (marks nodes : List Node) (before noted : Node → Bool) → AreKnown words marks → nodes ≡ marks → ((a : Node) → before a ≡ true → is_some (node_at words a) ≡ true)
-      → ((a : Node) → noted a ≡ true → (before a ≡ true) ⊎ (has a nodes ≡ true)) → (a : Node) → noted a ≡ true → is_some (node_at words a) ≡ true
-  all_asked marks nodes before noted known same asked only a h = ⊎_elim
-      (λ (was : before a ≡ true). asked a was)
-      (λ (marked : has a nodes ≡ true). let (x, at) = known a (subst (λ ns. IsTrue (has a ns)) same marked) in ap is_some at)
-      (only a h)
 
   module _ (customs : List (List ℕ × Rule)) (today : ℤ) where
     -- the marked nodes are linked, and nothing else changed

@@ -1,22 +1,30 @@
 -- Marks that are taken along with a structural operation. Serves what takes values along.
 use Rattle.std.proofs.Common.{◌≡◌, ◌∙◌, sym, ap, refl, subst, ℕ, Bool, true, false, cond, List, [], ◌∷◌, ◌++◌, Option, Some, None, option_map, ◌⊎◌, inl, inr, ⊎_elim}
-use Rattle.std.specs.Prelude.{IsTrue}
+use Rattle.std.specs.Prelude.{IsTrue, ◌↔◌}
 use Rattle.std.proofs.lemmas.Bool.{false≢true}
 use Rattle.cell_addr.specs.declared.place.Place.{Place}
+use Rattle.shift_core.specs.Form.{form_of}
 use Rattle.shift_core.specs.Tables.{place_after}
 use Rattle.shift_core.specs.declared.shift.Shift.{Shift}
 use Rattle.book_values.specs.Workbook as book
+use Rattle.dep_graph.specs.Laws.{IsNoRange}
+use Rattle.dep_graph.specs.Needs.{Links}
 use Rattle.dep_graph.specs.Nodes.{has}
-use Rattle.dep_graph.specs.Shifted.{node_after}
+use Rattle.dep_graph.specs.Shifted.{AreShifted, node_after}
 use Rattle.dep_graph.specs.declared.node.Node.{Node}
 use Rattle.dep_graph.specs.declared.node.Node.TheVariants.{Cell, Name, Range}
 use Rattle.dep_graph.proofs.Places.{has-append_cases, has-append_left, has-append_right, has_first, has_one}
+use Rattle.recalc_core.specs.Kept.{Kept}
 use Rattle.recalc_core.specs.Laws.{AreKnown}
+use Rattle.recalc_core.specs.Moves.{carried_kept}
 use Rattle.recalc_core.specs.Nodes.{node_at}
 use Rattle.recalc_core.specs.Recalc.{with_mark}
+use Rattle.recalc_core.specs.Shifted.{drops_scope, from_over}
 use Rattle.recalc_core.proofs.Bridge.{none_some, same_some}
 use Rattle.marked_values.specs.Shifts.{is_moved_cell}
-use Rattle.kept_values.specs.internal.TakenAlong.{AddsTaken, moved_cell, with_some, with_taken}
+use Rattle.kept_values.specs.Values.{kept_in, links_in, marks_in}
+use Rattle.kept_values.specs.declared.values.Values.{Values}
+use Rattle.kept_values.specs.internal.TakenAlong.{AddsTaken, AreCarried, AreMoved, moved_cell, with_some, with_taken}
 use Rattle.kept_values.proofs.FoundNames.{marked_more}
 
 -- ---- one mark more, if there is one
@@ -24,16 +32,16 @@ use Rattle.kept_values.proofs.FoundNames.{marked_more}
 mark_is : (a c : Node) (marks : List Node) → has c (with_mark a marks) ≡ has c (marks ++ a ∷ [])
 mark_is a c marks = marked_more a marks (with_mark a marks) refl c
 
-mark_stays : (o : Option Node) (c : Node) (marks : List Node) → IsTrue (has c marks) → IsTrue (has c (with_some o marks))
+pub mark_stays : (o : Option Node) (c : Node) (marks : List Node) → IsTrue (has c marks) → IsTrue (has c (with_some o marks))
 mark_stays None c marks h = h
 mark_stays (Some a) c marks h = mark_is a c marks ∙ has-append_left c marks (a ∷ []) h
 
-mark_there : (o : Option Node) (c : Node) (marks : List Node) → o ≡ Some c → IsTrue (has c (with_some o marks))
+pub mark_there : (o : Option Node) (c : Node) (marks : List Node) → o ≡ Some c → IsTrue (has c (with_some o marks))
 mark_there None c marks is = absurd (none_some c is)
 mark_there (Some a) c marks is =
     mark_is a c marks ∙ has-append_right c marks (a ∷ []) (subst (λ n. IsTrue (has c (n ∷ []))) (sym (same_some a c is)) (has_first c []))
 
-mark_cases : (o : Option Node) (c : Node) (marks : List Node) → IsTrue (has c (with_some o marks)) → IsTrue (has c marks) ⊎ (o ≡ Some c)
+pub mark_cases : (o : Option Node) (c : Node) (marks : List Node) → IsTrue (has c (with_some o marks)) → IsTrue (has c marks) ⊎ (o ≡ Some c)
 mark_cases None c marks h = inl h
 mark_cases (Some a) c marks h = ⊎_elim
     (λ (before : has c marks ≡ true). inl before)
@@ -56,7 +64,7 @@ module _ (s : Shift) where
   same_cell (Range block) c is = absurd (none_some c is)
 
   -- what a known node becomes is known
-  after_known : (words : List (List ℕ)) (a c : Node) (x : book.Node) → node_at words a ≡ Some x → node_after s a ≡ Some c → (y : book.Node) × (node_at words c ≡ Some y)
+  pub after_known : (words : List (List ℕ)) (a c : Node) (x : book.Node) → node_at words a ≡ Some x → node_after s a ≡ Some c → (y : book.Node) × (node_at words c ≡ Some y)
   after_known words (Cell p) c x at goes = by (place_after s p) goes
     where
       by : (o : Option Place) → option_map Cell o ≡ Some c → (y : book.Node) × (node_at words c ≡ Some y)
@@ -119,3 +127,48 @@ module _ (s : Shift) where
             by (inl first) = so_far.known words (λ a front. known a (has-append_left a nodes (x ∷ []) front)) before c first
             by (inr (inl goes)) = let (y, at) = here in after_known words x c y at goes
             by (inr (inr same)) = let (y, at) = here in (y, ap (node_at words) same ∙ at)
+
+  -- ---- nodes that are noted where they go
+
+  -- a list has what the operation makes of another one
+  abbrev pub AreMovedTo : List Node → List Node → Type 0
+  AreMovedTo nodes moved = AreMoved s (λ a. has a nodes) (λ a. has a moved)
+
+  pub moves_none : AreMovedTo [] []
+  moves_none = record { along = λ a after h goes. absurd (false≢true h); from = λ a h. absurd (false≢true h) }
+
+  module _ (nodes now new : List Node) (x : Node) (so_far : AreMovedTo nodes now) (is : new ≡ with_some (node_after s x) now) where
+    pub moves_more : AreMovedTo (nodes ++ x ∷ []) new
+    moves_more = record {
+      along = λ a after h goes. subst (λ ns. IsTrue (has after ns)) (sym is) (⊎_elim
+          (λ (front : has a nodes ≡ true). mark_stays (node_after s x) after now (so_far.along a after front goes))
+          (λ (last : has a (x ∷ []) ≡ true). mark_there (node_after s x) after now (ap (node_after s) (sym (has_one a x last)) ∙ goes))
+          (has-append_cases a nodes (x ∷ []) h));
+      from = λ a h. ⊎_elim
+          (λ (before : has a now ≡ true). let (d, there, goes) = so_far.from a before in (d, has-append_left d nodes (x ∷ []) there, goes))
+          (λ (goes : node_after s x ≡ Some a). (x, has-append_right x nodes (x ∷ []) (has_first x []), goes))
+          (mark_cases (node_after s x) a now (subst (λ ns. IsTrue (has a ns)) is h));
+    }
+
+  -- ---- links, marks and values that go along
+
+  -- a node that comes from a known one is known
+  from_known : (words : List (List ℕ)) (a d : Node) → from_over s a ≡ Some d → (x : book.Node) → node_at words d ≡ Some x → (y : book.Node) × (node_at words a ≡ Some y)
+  from_known words (Cell q) d from x at = (book.place q, refl)
+  from_known words (Name scope word) d from x at = by (drops_scope (form_of s) scope) from
+    where
+      by : (t : Bool) → cond t None (Some (Name scope word)) ≡ Some d → (y : book.Node) × (node_at words (Name scope word) ≡ Some y)
+      by true e = absurd (none_some d e)
+      by false e = (x, ap (node_at words) (same_some (Name scope word) d e) ∙ at)
+  from_known words (Range block) d from x at = absurd (none_some d from)
+
+  pub are_carried : (links : Links) (marks marked gone : List Node) (kept shown : Kept) (w : Values) → marked ≡ marks → AreShifted s links (links_in w) → ((a : Node) → IsNoRange a → shown a ≡ carried_kept (from_over s) kept a) → kept_in w ≡ shown
+      → ((a : Node) → IsTrue (has a gone) ↔ ((d : Node) × IsTrue (has d marks) × (from_over s a ≡ Some d))) → AddsTaken s marked gone (marks_in w) → AreCarried s links marks kept w
+  are_carried links marks marked gone kept shown w same shifted moved still come adds =
+      let taken = subst (λ (ns : List Node). AddsTaken s ns gone (marks_in w)) same adds in
+      record {
+        links = shifted;
+        kept = λ a plain. ap (λ (k : Kept). k a) still ∙ moved a plain;
+        taken = taken.taken;
+        known = λ words known. taken.known words known (λ a h. let (d, is, from) = (come a).0 h in let (x, at) = known d is in from_known words a d from x at);
+      }

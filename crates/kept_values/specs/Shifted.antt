@@ -16,6 +16,7 @@ use Rattle.recalc_core.specs.Nodes.{AreNumbered, node_at}
 use Rattle.recalc_core.specs.Shifted.{drops_scope}
 use Rattle.marked_values.specs.Marks.{IsBookInside}
 use Rattle.marked_values.specs.Shifts.{IsBookAfter, is_moved_cell}
+use Rattle.restored_values.specs.Suspects.{AreRemoved}
 use Rattle.kept_values.specs.Values.{Follows}
 use Rattle.kept_values.specs.declared.values.Values.{Values}
 
@@ -30,3 +31,11 @@ FollowsOver s touched v w =
     (b c : Workbook) (words : List (List ℕ)) (customs : List (List ℕ × Rule)) (today : ℤ) →
     IsBookInside b → IsBookAfter s b c → AreNumbered words b.names → HasTouched s b words touched → AreKnown words touched →
     Follows b words customs today v → Follows c words customs today w
+
+-- where the first values follow the workbook after an operation, and the lists have what taking it back touches there and what it had
+-- removed, the second ones follow the workbook before it
+abbrev pub FollowsBack : Shift → Shift → List Node → List Node → Values → Values → Type 0
+FollowsBack s back touched removed v w =
+    (b c : Workbook) (words : List (List ℕ)) (customs : List (List ℕ × Rule)) (today : ℤ) →
+    IsBookInside b → IsBookAfter s b c → AreNumbered words c.names → HasTouched back c words touched → AreKnown words touched → AreRemoved s b removed → AreKnown words removed →
+    Follows c words customs today v → Follows b words customs today w

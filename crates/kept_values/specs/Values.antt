@@ -24,6 +24,7 @@ use Rattle.recalc_core.specs.Recalc as recalc
 use Rattle.recalc_core.specs.Steps.{node_cost}
 use Rattle.marked_values.specs.Marks.{FitsMarks, ReachesMark}
 use Rattle.marked_values.specs.Shifts.{asks_place}
+use Rattle.restored_values.specs.Suspects.{has_lost}
 use Rattle.kept_values.specs.declared.values.Values.{Values}
 
 -- the nodes that each node is linked to
@@ -40,7 +41,11 @@ marks_in v = recalc.marks_in v.recalc
 
 -- the nodes whose formulas were found to ask where a reference is
 abbrev pub asks_in : Values → Node → Bool
-asks_in v a = has a v.asking.keys
+asks_in v a = has a v.noted.asking.keys
+
+-- the nodes whose formulas were found to have a lost reference
+abbrev pub loses_in : Values → Node → Bool
+loses_in v a = has a v.noted.losing.keys
 
 -- there is one, and it passes a test
 abbrev pub passes : {X : Type 0} → (X → Bool) → Option X → Bool
@@ -62,15 +67,20 @@ is_link_from b words c x = passes (λ t. is_link_of words b.names (sheet_of (hom
 abbrev pub is_link_at : Workbook → List (List ℕ) → Node → Node → Bool
 is_link_at b words a c = passes (is_link_from b words c) (node_at words a)
 
+-- noted is each node that isn't marked and whose formula passes the test, and nothing but places and known names
+pub record AreNoted (test : Term Corner → Bool) (b : Workbook) (words : List (List ℕ)) (marks : List Node) (noted : Node → Bool) : Type 0 where
+  pub all : (a : Node) (x : book.Node) (t : Term Corner) → has a marks ≡ false → node_at words a ≡ Some x → tree_at b x ≡ Some t → test t ≡ true → noted a ≡ true
+  pub known : (a : Node) → noted a ≡ true → is_some (node_at words a) ≡ true
+
 -- they follow the workbook: each node that isn't marked is linked to exactly what its formula is linked to, and noted to ask where a
--- reference is where its formula does; what is marked or so noted is a place or a known name; and what is kept of each place and each
--- name that reaches no mark is its value
+-- reference is where its formula does, and to lose one where its formula has; what is marked or so noted is a place or a known name; and
+-- what is kept of each place and each name that reaches no mark is its value
 pub record Follows (b : Workbook) (words : List (List ℕ)) (customs : List (List ℕ × Rule)) (today : ℤ) (v : Values) : Type 0 where
   pub linked : (a c : Node) → has a (marks_in v) ≡ false → has c (links_in v a) ≡ is_link_at b words a c
   pub inside : AreLinksInside (links_in v)
-  pub asks : (a : Node) (x : book.Node) (t : Term Corner) → has a (marks_in v) ≡ false → node_at words a ≡ Some x → tree_at b x ≡ Some t → asks_place t ≡ true → asks_in v a ≡ true
+  pub asks : AreNoted asks_place b words (marks_in v) (asks_in v)
+  pub loses : AreNoted has_lost b words (marks_in v) (loses_in v)
   pub known : (a : Node) → has a (marks_in v) ≡ true → is_some (node_at words a) ≡ true
-  pub asked : (a : Node) → asks_in v a ≡ true → is_some (node_at words a) ≡ true
   pub fit : FitsMarks b words customs today (marks_in v) (kept_in v)
 
 -- some of the nodes were marked, and no other one

@@ -1,4 +1,4 @@
 -- What only the proofs of bodies need.
 pub mod Linking
-pub mod Asking
+pub mod Noting
 pub mod TakenAlong

@@ -3,7 +3,7 @@
 //! [`Values`] follow a workbook that stands behind [`recalc_core::Trees`]. Whoever changes the workbook marks what it touches, and
 //! nothing is linked or worked out before the next read: [`Values::refresh`] links the marked nodes anew and works out what
 //! reaches a mark, once. A second refresh takes no step. A structural operation takes links, values and marks along:
-//! [`Values::shifted`].
+//! [`Values::shifted`]; and so does its opposite, where it is taken back: [`Values::taken_back`].
 //!
 //! ```text
 //! let mut values = Values::new(alloc)?;
@@ -13,13 +13,17 @@
 //! values.refresh(&mut session, &registry, day, &mut steps)?;  // links it, and works out what it reaches
 //! values.value(Node::Cell(total))
 //! let mut values = values.shifted(&row_put_first, &[])?;       // a row was put before the first: all stands a row lower
+//! let mut values = values.taken_back(&row_put_first, &first_row_deleted, &[], &[])?; // it was taken back
 //! ```
 #![tactic(auto)]
 
 mod asking;
 mod linking;
+mod links;
+mod noting;
 mod refreshing;
 mod shifting;
+mod taken_back;
 mod values;
 
 pub use values::Values;

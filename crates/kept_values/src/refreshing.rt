@@ -11,8 +11,8 @@ ghost use Rattle.recalc_core.specs.Nodes.{AreNumbered};
 ghost use Rattle.recalc_core.specs.Steps.{bare};
 ghost use Rattle.marked_values.specs.Marks.{IsBookInside};
 
-use crate::asking::note_all;
 use crate::linking::link_all;
+use crate::noting::note_all;
 use crate::values::Values;
 use calc_eval::Customs;
 use cell_value::Scalar;
@@ -23,7 +23,7 @@ use std::sync::ledger::Ledger;
 use steps::Steps;
 
 impl Values {
-    ghost use Rattle.kept_values.specs.Values.{Follows, TakesSteps, asks_in, kept_in, links_in, marks_in};
+    ghost use Rattle.kept_values.specs.Values.{Follows, TakesSteps, asks_in, kept_in, links_in, loses_in, marks_in};
 
     /// Brings the values up to date with the workbook that they follow, with these custom functions, on the day of this serial
     /// number: links the marked nodes, and works out all that reaches a mark, each node once.
@@ -56,7 +56,7 @@ impl Values {
             trees,
             self.recalc.marks().items(),
         )?;
-        note_all(trees, self.recalc.marks().items(), &mut self.asking)?;
+        note_all(trees, self.recalc.marks().items(), &mut self.noted)?;
         self.recalc
             .recalculate(&self.graph, trees, customs, day, steps)
     }
@@ -76,6 +76,7 @@ impl Values {
         ensures means { IfOk result (λ value. value ≡ meaning (world_of (T.workbook trees.old).names day (value_of (T.workbook trees.old) (C.customs customs.now) day)) (C.customs customs.now) home (at_home home (relative tree.now.value))) }
         ensures links { links_in self.new ≡ links_in self.old }
         ensures asking { asks_in self.new ≡ asks_in self.old }
+        ensures losing { loses_in self.new ≡ loses_in self.old }
         ensures kept { kept_in self.new ≡ kept_in self.old }
         ensures marks { marks_in self.new ≡ marks_in self.old }
         ensures least { steps.old ≤ steps.new }

@@ -1,11 +1,12 @@
 // Values that are taken along with a structural operation.
 ghost use Rattle.std.specs.Prelude.{◌≡◌, false, IfOk, OnOk};
 ghost use Rattle.shift_core.specs.Sound.{IsSound};
+ghost use Rattle.dep_graph.specs.Nodes.{has};
 ghost use Rattle.dep_graph.specs.Shifted.{node_after};
 ghost use Rattle.dep_graph.specs.declared.node.Node.{Node as NodeSeen};
 ghost use Rattle.recalc_core.specs.Recalc.{kept_in, marks_in};
 ghost use Rattle.marked_values.specs.Shifts.{is_moved_cell};
-ghost use Rattle.kept_values.specs.internal.TakenAlong.{AddsTaken, moved_cell, with_some, with_taken};
+ghost use Rattle.kept_values.specs.internal.TakenAlong.{AddsTaken, AreMoved, moved_cell, with_some, with_taken};
 
 use crate::values::Values;
 use cell_addr::Place;
@@ -13,22 +14,23 @@ use dep_graph::Node;
 use indexmap::IndexSet;
 use recalc_core::Recalc;
 use shift_core::{Form, Shift, destination, moved_block, moved_place};
-use std::alloc::AllocError;
+use std::alloc::{AllocError, Global};
 use std::mem;
 
 impl Values {
     ghost use Rattle.kept_values.specs.Shifted.{FollowsOver};
-    ghost use Rattle.kept_values.specs.Values.{asks_in, kept_in as kept_of, links_in};
-    ghost use Rattle.kept_values.specs.internal.TakenAlong.{HasGathered};
+    ghost use Rattle.kept_values.specs.Values.{asks_in, kept_in as kept_of, links_in, loses_in, marks_in as marks_of};
+    ghost use Rattle.kept_values.specs.internal.TakenAlong.{AreCarried, HasGathered};
 
     /// The values after a structural operation: links and values go along with their nodes, so that they follow the workbook
     /// after it where they followed the one before it. Marked are then the nodes that were, those whose formulas the operation
     /// bends or that ask where a reference is, and what is touched: each filled cell of a block that the operation moves and
-    /// of where that goes, and each name of a dropped sheet.
+    /// of where that goes, and each name of a dropped sheet. A formula that had lost a reference is noted to where it goes, and
+    /// needn't be marked.
     ///
     /// Errs for want of memory, and then nothing is kept any more. Costs what [`Graph::bent`](dep_graph::Graph::bent),
     /// [`Graph::shift`](dep_graph::Graph::shift) and [`Recalc::shift`] do, and a look-up or two for each node that is
-    /// marked then, which each formula is that asks where a reference is.
+    /// marked then, which each formula is that asks where a reference is, and for each formula that had lost one.
     pub fn shifted(mut self, s: &Shift, touched: &[Node]) -> Result<Values, AllocError>
         requires { IsSound s.now }
         ensures { IfOk result (λ values. FollowsOver s.now touched.now self values) }
@@ -44,27 +46,73 @@ impl Values {
         requires { IsSound s.now }
         ensures { OnOk result (FollowsOver s.now touched.now self.old self.new) }
     {
-        self.gather(s, touched)?;
+        let bent = self.graph.bent(s)?;
+        self.gather(touched, bent.items())?;
+        self.move_losing(s)?;
+        self.carry(s)
+    }
+
+    // Marks what is touched, what is bent and what asks where a reference is, of which none is noted any more.
+    pub(crate) fn gather(&mut self, touched: &[Node], bent: &[Node]) -> Result<(), AllocError>
+        ensures marks { OnOk result (HasGathered touched.now bent.now self.old self.new) }
+        ensures asking { OnOk result ((a : NodeSeen) → asks_in self.new a ≡ false) }
+        ensures losing { loses_in self.new ≡ loses_in self.old }
+        ensures links { links_in self.new ≡ links_in self.old }
+        ensures kept { kept_of self.new ≡ kept_of self.old }
+    {
+        let asking = mem::replace(&mut self.noted.asking, IndexSet::new(self.alloc));
+        self.mark_all(touched)?;
+        self.mark_all(bent)?;
+        self.mark_all(asking.as_slice())
+    }
+
+    // Notes the formulas that have lost a reference where the operation takes them.
+    fn move_losing(&mut self, s: &Shift) -> Result<(), AllocError>
+        requires { IsSound s.now }
+        ensures moved { OnOk result (AreMoved s.now (loses_in self.old) (loses_in self.new)) }
+        ensures asking { asks_in self.new ≡ asks_in self.old }
+        ensures links { links_in self.new ≡ links_in self.old }
+        ensures kept { kept_of self.new ≡ kept_of self.old }
+        ensures marks { marks_of self.new ≡ marks_of self.old }
+    {
+        self.noted.losing = moved_nodes(self.alloc, s, self.noted.losing.as_slice())?;
+        Ok(())
+    }
+
+    // Takes links, values and marks along with the operation; for want of memory only some of them.
+    pub(crate) fn carry(&mut self, s: &Shift) -> Result<(), AllocError>
+        requires { IsSound s.now }
+        ensures carried { OnOk result (AreCarried s.now (links_in self.old) (marks_of self.old) (kept_of self.old) self.new) }
+        ensures asking { asks_in self.new ≡ asks_in self.old }
+        ensures losing { loses_in self.new ≡ loses_in self.old }
+    {
         let marked = Vec::from_slice(self.alloc, self.recalc.marks().items())?;
         self.graph.shift(s)?;
         self.recalc.shift(s)?;
         take_all_along(&mut self.recalc, s, &marked)
     }
+}
 
-    // Marks what is touched, what the operation bends and what asks where a reference is, of which none is noted any more.
-    fn gather(&mut self, s: &Shift, touched: &[Node]) -> Result<(), AllocError>
-        requires { IsSound s.now }
-        ensures marks { OnOk result (HasGathered s.now touched.now self.old self.new) }
-        ensures asking { OnOk result ((a : NodeSeen) → asks_in self.new a ≡ false) }
-        ensures links { links_in self.new ≡ links_in self.old }
-        ensures kept { kept_of self.new ≡ kept_of self.old }
-    {
-        let bent = self.graph.bent(s)?;
-        let asking = mem::replace(&mut self.asking, IndexSet::new(self.alloc));
-        self.mark_all(touched)?;
-        self.mark_all(bent.items())?;
-        self.mark_all(asking.as_slice())
+// The nodes where the operation takes them; those that it loses are gone.
+fn moved_nodes(alloc: Global, s: &Shift, nodes: &[Node]) -> Result<IndexSet<Node>, AllocError>
+    requires { IsSound s.now }
+    ensures { IfOk result (λ moved. AreMoved s.now (λ a. has a nodes.now) (λ a. has a moved.keys)) }
+{
+    let mut moved = IndexSet::new(alloc);
+    'nodes: for node in nodes {
+        add_some(moved_node(s, *node), &mut moved)?;
     }
+    Ok(moved)
+}
+
+// Adds the node to the set, if there is one.
+fn add_some(a: Option<Node>, nodes: &mut IndexSet<Node>) -> Result<(), AllocError>
+    ensures { OnOk result (nodes.new.keys ≡ with_some a nodes.old.keys) }
+{
+    if let Some(node) = a {
+        nodes.insert(node)?;
+    }
+    Ok(())
 }
 
 // Marks each of the nodes where the operation takes it, and a cell of a moved block where it was too.

@@ -4,36 +4,37 @@ ghost use Rattle.std.specs.Option.{option_copied};
 ghost use Rattle.dep_graph.specs.Nodes.{has, items_of};
 ghost use Rattle.dep_graph.specs.declared.node.Node.{Node};
 
+use crate::noting::Noted;
 use cell_value::Scalar;
 use dep_graph::{Graph, Node, Nodes};
-use indexmap::IndexSet;
 use recalc_core::Recalc;
 use std::alloc::{AllocError, Global};
 
-/// What is kept of the values of a workbook: the links of its formulas, which of these ask where a reference is, the values of its
-/// cells and names, and the marks of what was touched since they were worked out.
+/// What is kept of the values of a workbook: the links of its formulas, which of these ask where a reference is and which have lost
+/// one, the values of its cells and names, and the marks of what was touched since they were worked out.
 #[derive(Drop)]
 pub struct Values {
     pub(crate) alloc: Global,
     pub(crate) graph: Graph,
-    pub(crate) asking: IndexSet<Node>,
+    pub(crate) noted: Noted,
     pub(crate) recalc: Recalc,
 }
 
 impl Values {
-    ghost use Rattle.kept_values.specs.Values.{AreMarked, asks_in, kept_in, links_in, marks_in};
+    ghost use Rattle.kept_values.specs.Values.{AreMarked, asks_in, kept_in, links_in, loses_in, marks_in};
 
     /// Nothing is linked, nothing is kept, and there are no marks. Errs for want of memory.
     pub fn new(alloc: Global) -> Result<Values, AllocError>
         ensures links { IfOk result (λ values. (a : Node) → links_in values a ≡ []) }
         ensures kept { IfOk result (λ values. (a : Node) → kept_in values a ≡ None) }
         ensures asking { IfOk result (λ values. (a : Node) → asks_in values a ≡ false) }
+        ensures losing { IfOk result (λ values. (a : Node) → loses_in values a ≡ false) }
         ensures marks { IfOk result (λ values. marks_in values ≡ []) }
     {
         Ok(Values {
             alloc,
             graph: Graph::new(alloc)?,
-            asking: IndexSet::new(alloc),
+            noted: Noted::new(alloc),
             recalc: Recalc::new(alloc)?,
         })
     }
@@ -45,6 +46,7 @@ impl Values {
         ensures err { OnErr result (marks_in self.new ≡ marks_in self.old) }
         ensures links { links_in self.new ≡ links_in self.old }
         ensures asking { asks_in self.new ≡ asks_in self.old }
+        ensures losing { loses_in self.new ≡ loses_in self.old }
         ensures kept { kept_in self.new ≡ kept_in self.old }
     {
         self.recalc.mark(a)
@@ -56,6 +58,7 @@ impl Values {
         ensures err { OnErr result (AreMarked nodes.now (marks_in self.old) (marks_in self.new)) }
         ensures links { links_in self.new ≡ links_in self.old }
         ensures asking { asks_in self.new ≡ asks_in self.old }
+        ensures losing { loses_in self.new ≡ loses_in self.old }
         ensures kept { kept_in self.new ≡ kept_in self.old }
     {
         'nodes: for node in nodes {

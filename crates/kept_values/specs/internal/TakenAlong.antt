@@ -1,16 +1,22 @@
 -- Marks that are taken along with a structural operation.
-use Rattle.std.specs.Prelude.{◌≡◌, ◌++◌, ℕ, if◌then◌else◌, List, Option, Some, None, IsTrue}
+use Rattle.std.specs.Prelude.{◌≡◌, ◌++◌, ℕ, Bool, true, if◌then◌else◌, List, Option, Some, None, IsTrue}
 use Rattle.shift_core.specs.declared.shift.Shift.{Shift}
-use Rattle.dep_graph.specs.Bent.{AreBent}
+use Rattle.dep_graph.specs.Bent.{IsBentBy}
+use Rattle.dep_graph.specs.Laws.{IsNoRange}
+use Rattle.dep_graph.specs.Needs.{Links}
 use Rattle.dep_graph.specs.Nodes.{has}
-use Rattle.dep_graph.specs.Shifted.{node_after}
+use Rattle.dep_graph.specs.Shifted.{AreShifted, node_after}
 use Rattle.dep_graph.specs.declared.node.Node.{Node}
 use Rattle.dep_graph.specs.declared.node.Node.TheVariants.{Cell, Name, Range}
+use Rattle.recalc_core.specs.Kept.{Kept}
 use Rattle.recalc_core.specs.Laws.{AreKnown}
+use Rattle.recalc_core.specs.Moves.{carried_kept}
 use Rattle.recalc_core.specs.Recalc.{with_mark}
+use Rattle.recalc_core.specs.Shifted.{from_over}
 use Rattle.marked_values.specs.Gathered.{AreTakenAlong}
 use Rattle.marked_values.specs.Shifts.{is_moved_cell}
-use Rattle.kept_values.specs.Values.{links_in, marks_in}
+use Rattle.restored_values.specs.Probes.{probe_of}
+use Rattle.kept_values.specs.Values.{kept_in, links_in, marks_in}
 use Rattle.kept_values.specs.declared.values.Values.{Values}
 
 -- a cell of a block that the operation moves, or of where that goes
@@ -34,7 +40,23 @@ pub record AddsTaken (s : Shift) (nodes old new : List Node) : Type 0 where
   pub stay : (a : Node) → IsTrue (has a old) → IsTrue (has a new)
   pub known : (words : List (List ℕ)) → AreKnown words nodes → AreKnown words old → AreKnown words new
 
--- marked are what was, what is touched, what the operation bends, and what is noted to ask where a reference is
-abbrev pub HasGathered : Shift → List Node → Values → Values → Type 0
-HasGathered s touched v w =
-    (bent : List Node) × AreBent s (links_in v) bent × ((a : Node) → has a (marks_in w) ≡ has a (((marks_in v ++ touched) ++ bent) ++ v.asking.keys))
+-- the second nodes are what the operation makes of the first ones, and nothing else
+pub record AreMoved (s : Shift) (nodes moved : Node → Bool) : Type 0 where
+  pub along : (a after : Node) → nodes a ≡ true → node_after s a ≡ Some after → moved after ≡ true
+  pub from : (a : Node) → moved a ≡ true → (d : Node) × (nodes d ≡ true) × (node_after s d ≡ Some a)
+
+-- links, marks and kept values went along with the operation
+pub record AreCarried (s : Shift) (old : Links) (marks : List Node) (was : Kept) (w : Values) : Type 0 where
+  pub links : AreShifted s old (links_in w)
+  pub kept : (a : Node) → IsNoRange a → kept_in w a ≡ carried_kept (from_over s) was a
+  pub taken : AreTakenAlong s marks (marks_in w)
+  pub known : (words : List (List ℕ)) → AreKnown words marks → AreKnown words (marks_in w)
+
+-- marked are what was, what is touched, what is bent, and what is noted to ask where a reference is
+abbrev pub HasGathered : List Node → List Node → Values → Values → Type 0
+HasGathered touched bent v w = (a : Node) → has a (marks_in w) ≡ has a (((marks_in v ++ touched) ++ bent) ++ v.noted.asking.keys)
+
+-- the list has each node that is linked to what the operation's probe bends, and only nodes that are linked to something
+pub record AreProbed (s : Shift) (links : Links) (nodes : List Node) : Type 0 where
+  pub all : (probe : Shift) (a : Node) → probe_of s ≡ Some probe → IsBentBy probe links a → IsTrue (has a nodes)
+  pub linked : (a : Node) → IsTrue (has a nodes) → (d : Node) × IsTrue (has d (links a))

@@ -1,16 +1,26 @@
-use Rattle.std.proofs.Common.{◌∙◌}
-use Rattle.recalc_core.specs.Recalc.{kept_in, marks_in}
+use Rattle.std.proofs.Common.{◌∙◌, sym, ap, subst, Bool, List}
+use Rattle.dep_graph.specs.Bent.{AreBent}
+use Rattle.dep_graph.specs.Nodes.{has}
+use Rattle.dep_graph.specs.declared.node.Node.{Node}
+use Rattle.kept_values.specs.Values.{links_in, loses_in}
+use Rattle.kept_values.specs.internal.TakenAlong.{AreMoved}
 use Rattle.kept_values.proofs.Following.{on_ok}
 use Rattle.kept_values.proofs.Shifted.{goes_along}
 use Rattle.kept_values.proofs.values.Values.go_along.Goals as goal
 
 pub returns : goal.returns
 returns c =
-    let m = c.gather.new.self in
-    on_ok c.take_all_along.result _ _
-    (goes_along c.args.s.now c.args.touched.now c.args.self.now m
-    (record { alloc = m.alloc; graph = c.shift.new.self; asking = m.asking; recalc = c.take_all_along.new.recalc })
-    c.deref.result.now (marks_in c.shift-2.new.self) (kept_in c.shift-2.new.self) c.requires c.in_ok-gather.ensures.marks c.in_ok-gather.ensures.asking c.gather.ensures.links c.gather.ensures.kept
-    (c.deref.ensures.value ∙ c.in_ok-marked.ensures.items ∙ c.items.ensures ∙ c.marks.ensures.list)
-    c.in_ok-shift.ensures.ok c.in_ok-shift-2.ensures.kept c.take_all_along.ensures.kept c.in_ok-shift-2.ensures.marks)
-    c.take_all_along.ensures.taken
+    let s = c.args.s.now in
+    let v = c.args.self.now in
+    let m = c.move_losing.new.self in
+    let w = c.carry.new.self in
+    on_ok c.carry.result _ _
+    (λ carried.
+    goes_along s c.args.touched.now c.items.result.now v m w c.requires
+    (subst (λ (ns : List Node). AreBent s (links_in v) ns) (sym c.items.ensures) c.in_ok-bent.ensures)
+    (λ a. ap (λ (ns : List Node). has a ns) c.move_losing.ensures.marks ∙ c.in_ok-gather.ensures.marks a)
+    (c.move_losing.ensures.links ∙ c.gather.ensures.links) (c.move_losing.ensures.kept ∙ c.gather.ensures.kept)
+    (λ a. ap (λ (f : Node → Bool). f a) (c.carry.ensures.asking ∙ c.move_losing.ensures.asking) ∙ c.in_ok-gather.ensures.asking a)
+    (subst (λ (f : Node → Bool). AreMoved s f (loses_in w)) c.gather.ensures.losing
+    (subst (λ (f : Node → Bool). AreMoved s (loses_in c.gather.new.self) f) (sym c.carry.ensures.losing) c.in_ok-move_losing.ensures.moved)) carried)
+    c.carry.ensures.carried

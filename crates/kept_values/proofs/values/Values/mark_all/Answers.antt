@@ -23,5 +23,6 @@ nodes-preserved c =
       marked = marked_on c.args.nodes.now (marks_in c.args.self.now) (marks_in c.nodes.self) (marks_in c.mark.new.self) c.nodes.node-index d c.nodes-test.true c.nodes.invariant.marked c.in_ok-mark.ensures.ok;
       links = c.mark.ensures.links ∙ c.nodes.invariant.links;
       asking = c.mark.ensures.asking ∙ c.nodes.invariant.asking;
+      losing = c.mark.ensures.losing ∙ c.nodes.invariant.losing;
       kept = c.mark.ensures.kept ∙ c.nodes.invariant.kept;
     }

@@ -8,10 +8,13 @@ use Rattle.recalc_core.specs.Kept.{IsFit}
 use Rattle.recalc_core.specs.Recalc.{kept_in, marks_in}
 use Rattle.recalc_core.specs.Steps as plain
 use Rattle.marked_values.specs.Marks.{AreLinksBut}
+use Rattle.marked_values.specs.Shifts.{asks_place}
 use Rattle.marked_values.proofs.Fitting.{follow_fits}
-use Rattle.kept_values.specs.internal.Asking.{AreNoted}
+use Rattle.restored_values.specs.Suspects.{has_lost}
+use Rattle.kept_values.specs.internal.Noting.{AreNotedAmong}
 use Rattle.kept_values.proofs.Following.{from_follow, to_follow}
-use Rattle.kept_values.proofs.LinkedAnew.{AreRightOn, IsFitOn, all_asked, all_asking, linked_marks, recalculated, steps_taken}
+use Rattle.kept_values.proofs.LinkedAnew.{AreRightOn, IsFitOn, linked_marks, recalculated, steps_taken}
+use Rattle.kept_values.proofs.Noted.{all_noted, more_noted}
 use Rattle.kept_values.proofs.values.Values.refresh.Goals as goal
 
 pub link_all-requires-clause-but : goal.link_all-requires-clause-but
@@ -28,9 +31,9 @@ returns-in_err-link_all-clause-follows g c =
     let customs = g.C.Customs.customs c.args.customs.now in
     let self = c.args.self.now in
     let follow = to_follow b words customs c.args.day self c.requires.numbered c.requires.follows in
-    from_follow b words customs c.args.day (record { alloc = self.alloc; graph = c.link_all.new.graph; asking = self.asking; recalc = self.recalc })
+    from_follow b words customs c.args.day (record { alloc = self.alloc; graph = c.link_all.new.graph; noted = self.noted; recalc = self.recalc })
     (linked_marks b words customs c.args.day (links_of self.graph) (links_of c.link_all.new.graph) (marks_in self.recalc) _ (kept_in self.recalc) follow c.link_all.ensures.but c.link_all.ensures.links (c.items.ensures ∙ c.marks.ensures.list))
-    c.requires.follows.asks c.requires.follows.asked
+    c.requires.follows.asks c.requires.follows.loses
 
 pub returns-in_err-note_all-clause-follows : goal.returns-in_err-note_all-clause-follows
 returns-in_err-note_all-clause-follows g c =
@@ -39,10 +42,10 @@ returns-in_err-note_all-clause-follows g c =
     let customs = g.C.Customs.customs c.args.customs.now in
     let self = c.args.self.now in
     let follow = to_follow b words customs c.args.day self c.requires.numbered c.requires.follows in
-    from_follow b words customs c.args.day (record { alloc = self.alloc; graph = c.link_all.new.graph; asking = c.note_all.new.asking; recalc = self.recalc })
+    from_follow b words customs c.args.day (record { alloc = self.alloc; graph = c.link_all.new.graph; noted = c.note_all.new.noted; recalc = self.recalc })
     (linked_marks b words customs c.args.day (links_of self.graph) (links_of c.link_all.new.graph) (marks_in self.recalc) _ (kept_in self.recalc) follow c.link_all.ensures.but c.link_all.ensures.links (c.items.ensures ∙ c.marks.ensures.list))
-    (λ a x t free at is asks. c.note_all.ensures.stay a (c.requires.follows.asks a x t free at is asks))
-    (all_asked b words (marks_in self.recalc) c.items-2.result.now (λ a. has a self.asking.keys) (λ a. has a c.note_all.new.asking.keys) follow.known (c.items-2.ensures ∙ c.marks-2.ensures.list) c.requires.follows.asked c.note_all.ensures.only)
+    (more_noted asks_place b words (marks_in self.recalc) c.items-2.result.now (λ a. has a self.noted.asking.keys) (λ a. has a c.note_all.new.noted.asking.keys) follow.known (c.items-2.ensures ∙ c.marks-2.ensures.list) c.requires.follows.asks c.note_all.ensures.asking)
+    (more_noted has_lost b words (marks_in self.recalc) c.items-2.result.now (λ a. has a self.noted.losing.keys) (λ a. has a c.note_all.new.noted.losing.keys) follow.known (c.items-2.ensures ∙ c.marks-2.ensures.list) c.requires.follows.loses c.note_all.ensures.losing)
 
 pub recalculate-requires-clause-fit : goal.recalculate-requires-clause-fit
 recalculate-requires-clause-fit g c =
@@ -79,13 +82,15 @@ returns-clause-follows g c =
     let fit = subst (λ (d : ℤ). IsFitOn c.recalculate.result b words customs d links (marks_in new) (kept_in new)) day
     (subst (λ (w : Workbook). IsFitOn c.recalculate.result w words customs far links (marks_in new) (kept_in new)) leaves
     (subst (λ (ws : List (List ℕ)). IsFitOn c.recalculate.result (g.T.Trees.workbook c.note_all.new.trees) ws customs far links (marks_in new) (kept_in new)) same c.recalculate.ensures.fit)) in
-    let noted = subst (λ (ms : List Node). AreNoted b words ms (λ a. has a c.note_all.new.asking.keys)) (c.items-2.ensures ∙ c.marks-2.ensures.list)
-    (subst (λ (w : Workbook). AreNoted w words c.items-2.result.now (λ a. has a c.note_all.new.asking.keys)) c.in_ok-link_all.ensures.leaves
-    (subst (λ (ws : List (List ℕ)). AreNoted (g.T.Trees.workbook c.link_all.new.trees) ws c.items-2.result.now (λ a. has a c.note_all.new.asking.keys)) c.in_ok-link_all.ensures.words c.in_ok-note_all.ensures.noted)) in
-    from_follow b words customs c.args.day (record { alloc = c.args.self.now.alloc; graph = c.link_all.new.graph; asking = c.note_all.new.asking; recalc = new })
+    let marked = c.items-2.result.now in
+    let asks = subst (λ (w : Workbook). AreNotedAmong asks_place w words marked (λ a. has a c.note_all.new.noted.asking.keys)) c.in_ok-link_all.ensures.leaves
+    (subst (λ (ws : List (List ℕ)). AreNotedAmong asks_place (g.T.Trees.workbook c.link_all.new.trees) ws marked (λ a. has a c.note_all.new.noted.asking.keys)) c.in_ok-link_all.ensures.words c.in_ok-note_all.ensures.asks) in
+    let loses = subst (λ (w : Workbook). AreNotedAmong has_lost w words marked (λ a. has a c.note_all.new.noted.losing.keys)) c.in_ok-link_all.ensures.leaves
+    (subst (λ (ws : List (List ℕ)). AreNotedAmong has_lost (g.T.Trees.workbook c.link_all.new.trees) ws marked (λ a. has a c.note_all.new.noted.losing.keys)) c.in_ok-link_all.ensures.words c.in_ok-note_all.ensures.loses) in
+    from_follow b words customs c.args.day (record { alloc = c.args.self.now.alloc; graph = c.link_all.new.graph; noted = c.note_all.new.noted; recalc = new })
     (recalculated b words customs c.args.day c.recalculate.result links old (marks_in new) (kept_in new) c.in_ok-link_all.ensures.ok c.link_all.ensures.links follow.known right c.recalculate.ensures.unmarked c.recalculate.ensures.marks fit)
-    (λ a x t free at is asks. all_asking b words old (λ a. has a c.args.self.now.asking.keys) (λ a. has a c.note_all.new.asking.keys) c.requires.follows.asks c.note_all.ensures.stay noted a x t at is asks)
-    (all_asked b words old c.items-2.result.now (λ a. has a c.args.self.now.asking.keys) (λ a. has a c.note_all.new.asking.keys) follow.known (c.items-2.ensures ∙ c.marks-2.ensures.list) c.requires.follows.asked c.note_all.ensures.only)
+    (all_noted asks_place b words old marked (marks_in new) (λ a. has a c.args.self.now.noted.asking.keys) (λ a. has a c.note_all.new.noted.asking.keys) follow.known (c.items-2.ensures ∙ c.marks-2.ensures.list) c.requires.follows.asks c.note_all.ensures.asking asks)
+    (all_noted has_lost b words old marked (marks_in new) (λ a. has a c.args.self.now.noted.losing.keys) (λ a. has a c.note_all.new.noted.losing.keys) follow.known (c.items-2.ensures ∙ c.marks-2.ensures.list) c.requires.follows.loses c.note_all.ensures.losing loses)
 
 pub returns-clause-most : goal.returns-clause-most
 returns-clause-most g c =

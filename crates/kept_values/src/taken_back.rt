@@ -1,0 +1,86 @@
+// Values that are taken along where a structural operation is taken back.
+ghost use Rattle.std.specs.Prelude.{◌≡◌, ◌||◌, false, IfOk, OnOk, Some};
+ghost use Rattle.shift_core.specs.Opposite.{opposite_of};
+ghost use Rattle.shift_core.specs.Sound.{IsSound};
+ghost use Rattle.dep_graph.specs.Nodes.{has, items_of};
+ghost use Rattle.dep_graph.specs.declared.node.Node.{Node as NodeSeen};
+
+use crate::values::Values;
+use dep_graph::{Node, Nodes};
+use indexmap::IndexSet;
+use restored_values::probe;
+use shift_core::Shift;
+use std::alloc::AllocError;
+use std::mem;
+
+impl Values {
+    ghost use Rattle.kept_values.specs.Shifted.{FollowsBack};
+    ghost use Rattle.kept_values.specs.Values.{asks_in, kept_in, links_in, loses_in, marks_in};
+    ghost use Rattle.kept_values.specs.internal.TakenAlong.{AreProbed};
+
+    /// The values before a structural operation, which its opposite takes back: links and values go back with their nodes, so that
+    /// they follow the workbook before it where they followed the one after it. Marked are then the nodes that were, those whose
+    /// formulas the operation's probe bends, or that ask where a reference is or have lost one, and what is touched: each filled
+    /// cell of a block that goes back and of where that goes; and the cells that the operation had removed, which come back.
+    ///
+    /// Errs for want of memory, and then nothing is kept any more. Costs what [`Values::shifted`] does, and a look-up or two for
+    /// each removed cell and for each formula that has lost a reference, all of which are marked then.
+    pub fn taken_back(
+        mut self,
+        s: &Shift,
+        back: &Shift,
+        touched: &[Node],
+        removed: &[Node],
+    ) -> Result<Values, AllocError>
+        requires sound { IsSound s.now }
+        requires opposite { opposite_of s.now ≡ Some back.now }
+        ensures { IfOk result (λ values. FollowsBack s.now back.now touched.now removed.now self values) }
+    {
+        match self.go_back(s, back, touched, removed) {
+            Ok(()) => Ok(self),
+            Err(error) => Err(error),
+        }
+    }
+
+    // Goes along with the opposite; for want of memory only a part does.
+    fn go_back(
+        &mut self,
+        s: &Shift,
+        back: &Shift,
+        touched: &[Node],
+        removed: &[Node],
+    ) -> Result<(), AllocError>
+        requires sound { IsSound s.now }
+        requires opposite { opposite_of s.now ≡ Some back.now }
+        ensures { OnOk result (FollowsBack s.now back.now touched.now removed.now self.old self.new) }
+    {
+        let suspects = self.probed(s)?;
+        self.gather(touched, suspects.items())?;
+        self.gather_losing()?;
+        self.carry(back)?;
+        self.mark_all(removed)
+    }
+
+    // The nodes that are linked to what the operation's probe bends.
+    fn probed(&self, s: &Shift) -> Result<Nodes, AllocError>
+        requires { IsSound s.now }
+        ensures { IfOk result (λ nodes. AreProbed s.now (links_in self.now) (items_of nodes)) }
+    {
+        match probe(s) {
+            Some(probe) => self.graph.bent(&probe),
+            None => Nodes::new(self.alloc),
+        }
+    }
+
+    // Marks what has lost a reference, of which none is noted any more.
+    fn gather_losing(&mut self) -> Result<(), AllocError>
+        ensures marks { OnOk result ((a : NodeSeen) → has a (marks_in self.new) ≡ (has a (marks_in self.old) || loses_in self.old a)) }
+        ensures losing { OnOk result ((a : NodeSeen) → loses_in self.new a ≡ false) }
+        ensures asking { asks_in self.new ≡ asks_in self.old }
+        ensures links { links_in self.new ≡ links_in self.old }
+        ensures kept { kept_in self.new ≡ kept_in self.old }
+    {
+        let losing = mem::replace(&mut self.noted.losing, IndexSet::new(self.alloc));
+        self.mark_all(losing.as_slice())
+    }
+}
