@@ -25,12 +25,14 @@ use Rattle.recalc_core.specs.Nodes.{AreNumbered, name_at, node_at}
 use Rattle.recalc_core.proofs.Bridge.{none_some, same_some}
 use Rattle.recalc_core.proofs.Linking.{one_node}
 use Rattle.marked_values.specs.Marks.{Follow}
+use Rattle.marked_values.specs.Shifts.{asks_place}
+use Rattle.restored_values.specs.Suspects.{has_lost}
 use Rattle.marked_values.proofs.Alone.{cells_alone}
 use Rattle.marked_values.proofs.Changed.{changes_follow}
 use Rattle.marked_values.proofs.Fitting.{more_marks}
 use Rattle.marked_values.proofs.Linked.{all_marked}
-use Rattle.kept_values.proofs.Following.{AreAsked, AreAsking, from_follow, there, to_follow}
-use Rattle.kept_values.specs.Values.{Follows, asks_in, kept_in, links_in, marks_in}
+use Rattle.kept_values.proofs.Following.{from_follow, there, to_follow}
+use Rattle.kept_values.specs.Values.{AreNoted, Follows, asks_in, kept_in, links_in, loses_in, marks_in}
 use Rattle.kept_values.specs.declared.values.Values.{Values}
 use Rattle.session_values.specs.Following.{CellsFollow, FollowsIn, ReadsFollow, book_of, words_in}
 use Rattle.session_values.specs.Touched.{IsTouched}
@@ -69,7 +71,7 @@ module _ (b c : Workbook) (words more : List (List ℕ)) (customs : List (List �
       (subst (λ kept. Follow c more customs today (links_in v) (marks_in w) kept) (sym touch.kept)
       (more_marks c more customs today (links_in v) (marks_in v ++ marks_in w) (marks_in w) (kept_in v)
       (changes_follow b c words more customs today (links_in v) (marks_in v) (marks_in w) (kept_in v) (to_follow b words customs today v numbered follows) numbers now (cells_alone b c more (marks_in w) names cells) known)
-      stay known))) asking asked
+      stay known))) (noted asks_place (asks_in v) (asks_in w) touch.asking follows.asks) (noted has_lost (loses_in v) (loses_in w) touch.losing follows.loses)
     where
       known : AreKnown more (marks_in w)
       known a h = ⊎_elim
@@ -98,12 +100,11 @@ module _ (b c : Workbook) (words more : List (List ℕ)) (customs : List (List �
           no_place (Some word) e = let h = same_some _ _ e in cc
       same_tree (Range r) (book.place q) isnt at = absurd (none_some (book.place q) at)
 
-      asking : AreAsking c more w
-      asking a x t isnt at is asks =
-          ap (λ f. f a) touch.asking ∙ follows.asks a x t (free a isnt) (was_known a x t at is) (sym (same_tree a x isnt at) ∙ is) asks
-
-      asked : AreAsked more w
-      asked a h = let (x, at) = there (node_at words a) (follows.asked a (sym (ap (λ f. f a) touch.asking) ∙ h)) in ap is_some (numbers a x at)
+      noted : (test : Term Corner → Bool) (was now : Node → Bool) → now ≡ was → AreNoted test b words (marks_in v) was → AreNoted test c more (marks_in w) now
+      noted test was now same before = record {
+        all = λ a x t isnt at is passes. ap (λ f. f a) same ∙ before.all a x t (free a isnt) (was_known a x t at is) (sym (same_tree a x isnt at) ∙ is) passes;
+        known = λ a h. let (x, at) = there (node_at words a) (before.known a (sym (ap (λ f. f a) same) ∙ h)) in ap is_some (numbers a x at);
+      }
 
 pub cells_follow : CellsFollow
 cells_follow b c words more customs today places v None numbered now keeps touch names cells follows = tt
@@ -119,13 +120,12 @@ reads_follow s t customs today values reads follows =
     book_in d = valued d.book
 
 -- where nothing is linked and kept, and all that stands is marked
-pub all_follow : (b : Workbook) (words : List (List ℕ)) (customs : List (List ℕ × Rule)) (today : ℤ) (v : Values) (nodes : List Node) → AreNumbered words b.names → ((a : Node) → links_in v a ≡ []) → ((a : Node) → kept_in v a ≡ None) → ((a : Node) → asks_in v a ≡ false)
+pub all_follow : (b : Workbook) (words : List (List ℕ)) (customs : List (List ℕ × Rule)) (today : ℤ) (v : Values) (nodes : List Node) → AreNumbered words b.names → ((a : Node) → links_in v a ≡ []) → ((a : Node) → kept_in v a ≡ None) → ((a : Node) → asks_in v a ≡ false) → ((a : Node) → loses_in v a ≡ false)
     → ((a : Node) → has a (marks_in v) ≡ has a ([] ++ nodes)) → ((a : Node) (x : book.Node) → node_at words a ≡ Some x → stands b x ≡ true → IsTrue (has a nodes)) → AreKnown words nodes → Follows b words customs today v
-all_follow b words customs today v nodes numbered links kept asking marks all known =
+all_follow b words customs today v nodes numbered links kept asking losing marks all known =
     from_follow b words customs today v
     (all_marked b words customs today (links_in v) (marks_in v) (kept_in v) numbered links kept (λ a x at standing. marks a ∙ all a x at standing) (λ a h. known a (sym (marks a) ∙ h)))
-    (λ a x t isnt at is asks. absurd (false≢true (sym isnt ∙ marks a ∙ all a x at (has_tree x t is))))
-    (λ a asks. absurd (false≢true (sym (asking a) ∙ asks)))
+    (none_noted asks_place (asks_in v) asking) (none_noted has_lost (loses_in v) losing)
   where
     has_tree : (x : book.Node) (t : Term Corner) → tree_at b x ≡ Some t → stands b x ≡ true
     has_tree (book.place p) t is = by (fin.get b.cells p) refl is
@@ -134,3 +134,9 @@ all_follow b words customs today v nodes numbered links kept asking marks all kn
         by None e h = absurd (none_some t h)
         by (Some content) e h = ap is_some e
     has_tree (book.name key) t is = ap is_some is
+
+    none_noted : (test : Term Corner → Bool) (noted : Node → Bool) → ((a : Node) → noted a ≡ false) → AreNoted test b words (marks_in v) noted
+    none_noted test noted none = record {
+      all = λ a x t isnt at is passes. absurd (false≢true (sym isnt ∙ marks a ∙ all a x at (has_tree x t is)));
+      known = λ a h. absurd (false≢true (sym (none a) ∙ h));
+    }

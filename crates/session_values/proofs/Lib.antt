@@ -1,4 +1,6 @@
 pub mod MarkedCells
 pub mod Followed
 pub mod Listed
+pub mod MentionedPlaces
 pub mod Shifted
+pub mod Refreshed

@@ -6,9 +6,11 @@ use Rattle.std.specs.FinMap.{find, get-entries, get-retain_keys}
 use Rattle.std.specs.Ordering.{eq_by_cmp}
 use Rattle.std.proofs.lemmas.Bool.{false≢true, or_cases, or_left, or_right}
 use Rattle.std.proofs.lemmas.List.Folds.{list_any-append}
+use Rattle.std.proofs.lemmas.Option.{none-some, same_Some}
+use Rattle.std.specs.List.{list_any}
 use Rattle.cell_addr.proofs.Places.{place_cmp-IsAntisymmetric}
 use Rattle.cell_addr.specs.Order.{place_cmp}
-use Rattle.cell_addr.specs.Place.{covers}
+use Rattle.cell_addr.specs.Place.{covers, same_place}
 use Rattle.cell_addr.specs.declared.place.Block.{Block}
 use Rattle.cell_addr.specs.declared.place.Place.{Place}
 use Rattle.grid_store.specs.Grid.{cells_of, within}
@@ -27,9 +29,11 @@ use Rattle.dep_graph.specs.declared.node.Node.TheVariants as node
 use Rattle.dep_graph.specs.internal.Hashed.{own_node, same_nodes}
 use Rattle.dep_graph.proofs.Places.{has-append_cases, has-append_left, has-append_right}
 use Rattle.kept_book.proofs.Contents.{get-contents}
+use Rattle.kept_book.specs.Change.{Change, places_of}
 use Rattle.kept_book.specs.Frame.{numbered_at}
 use Rattle.kept_book.specs.Kept.{at_of}
 use Rattle.kept_book.specs.Stored.{content_of}
+use Rattle.kept_steps.specs.Turned.{is_replaced, replaced_of}
 use Rattle.kept_steps.specs.declared.session.Session.{Session}
 use Rattle.recalc_core.specs.Laws.{AreKnown}
 use Rattle.recalc_core.specs.Shifted.{drops_scope}
@@ -106,10 +110,20 @@ no_range : (block : Block) (es : List (Place × Cell)) → has (node.Range block
 no_range block [] = refl
 no_range block (e ∷ es) = no_range block es
 
-cells_known : (words : List (List ℕ)) (es : List (Place × Cell)) → AreKnown words (map cell_node es)
+pub cells_known : (words : List (List ℕ)) (es : List (Place × Cell)) → AreKnown words (map cell_node es)
 cells_known words es (node.Cell p) h = (book.place p, refl)
 cells_known words es (node.Name scope word) h = absurd (false≢true (sym (no_name scope word es) ∙ h))
 cells_known words es (node.Range block) h = absurd (false≢true (sym (no_range block es) ∙ h))
+
+-- cells that a step of one change lists as replaced
+all_listed : (p : Place) (es : List (Place × Cell)) → has (node.Cell p) (map cell_node es) ≡ list_any (same_place p) (places_of es)
+all_listed p [] = refl
+all_listed p (e ∷ es) = ap (λ t. same_place p e.0 || t) (all_listed p es)
+
+pub replaced_listed : (changes : List Change) (es : List (Place × Cell)) (p : Place) → replaced_of changes ≡ Some es → is_replaced changes p ≡ true → IsTrue (has (node.Cell p) (map cell_node es))
+replaced_listed [] es p is h = absurd (none-some es is)
+replaced_listed (c ∷ []) es p is h = all_listed p es ∙ ap (λ l. list_any (same_place p) (places_of l)) (sym (same_Some c.replaced es is)) ∙ sym (or_none (list_any (same_place p) (places_of c.replaced))) ∙ h
+replaced_listed (c ∷ d ∷ cs) es p is h = absurd (none-some es is)
 
 module _ (s : Session) where
   -- a filled cell of a block is listed

@@ -1,4 +1,6 @@
 pub mod Touched
 pub mod Following
 pub mod Shifting
+pub mod Refreshed
+pub mod Users
 pub mod internal

@@ -1,4 +1,4 @@
--- What is kept of values over a structural operation. Source: this project's own.
+-- What is kept of values over a structural operation, and where one is taken back. Source: this project's own.
 use Rattle.std.specs.Prelude.{ℕ, ℤ, List, Option}
 use Rattle.custom_fn.specs.declared.rule.Rule.{Rule}
 use Rattle.shift_core.specs.declared.shift.Shift.{Shift}
@@ -9,6 +9,7 @@ use Rattle.recalc_core.specs.Laws.{AreKnown}
 use Rattle.recalc_core.specs.Nodes.{AreNumbered}
 use Rattle.marked_values.specs.Marks.{IsBookInside}
 use Rattle.marked_values.specs.Shifts.{IsBookAfter}
+use Rattle.restored_values.specs.Suspects.{AreRemoved}
 use Rattle.kept_values.specs.Shifted.{HasTouched}
 use Rattle.kept_values.specs.declared.values.Values.{Values}
 use Rattle.session_values.specs.Following.{FollowsIn}
@@ -20,3 +21,11 @@ FollowsShift s touched old new =
     (b c : Workbook) (words more : List (List ℕ)) (customs : List (List ℕ × Rule)) (today : ℤ) →
     IsBookInside b → IsBookAfter s b c → AreNumbered words b.names → AreNumbered more c.names → IsMore words more → HasTouched s b words touched → AreKnown words touched →
     FollowsIn b words customs today old → FollowsIn c more customs today new
+
+-- where what is kept follows the workbook after an operation, and the lists have what taking it back touches there and what it had removed,
+-- what is kept then follows the workbook before it
+abbrev pub FollowsShiftBack : Shift → Shift → List Node → List Node → Option Values → Option Values → Type 0
+FollowsShiftBack s back touched removed old new =
+    (b c : Workbook) (words : List (List ℕ)) (customs : List (List ℕ × Rule)) (today : ℤ) →
+    IsBookInside b → IsBookAfter s b c → AreNumbered words c.names → HasTouched back c words touched → AreKnown words touched → AreRemoved s b removed → AreKnown words removed →
+    FollowsIn c words customs today old → FollowsIn b words customs today new

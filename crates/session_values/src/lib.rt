@@ -3,7 +3,8 @@
 //! [`SessionValues`] stand beside a [`kept_steps::Session`]: nothing is kept at first. The first read links and works out the whole
 //! workbook; after that a change marks the cells that it touches, and the next read works out what these reach. After a change of
 //! which it isn't known what it touches, [`SessionValues::forget`] makes the next read begin anew. A structural operation takes
-//! along what is kept: [`touched_by`] lists what it touches before it is done, [`SessionValues::shift`] follows after it.
+//! along what is kept: [`touched_by`] lists what it touches before it is done, [`SessionValues::shift`] follows after it. Where it
+//! is taken back, [`restored_by`] lists what comes back then, and [`SessionValues::shift_back`] follows.
 //!
 //! ```text
 //! let mut values = SessionValues::nothing();
@@ -20,8 +21,9 @@ mod listing;
 mod reading;
 mod shifting;
 mod touching;
+mod using;
 mod values;
 
 pub use laws::{cells_follow, reads_follow};
-pub use listing::touched_by;
+pub use listing::{restored_by, touched_by};
 pub use values::SessionValues;

@@ -1,14 +1,17 @@
 // The nodes that structural operations of a session touch.
-ghost use Rattle.std.specs.Prelude.{◌≡◌, ◌&&◌, ◌++◌, true, IfOk, IsTrue, OnOk, Some, map};
+ghost use Rattle.std.specs.Prelude.{◌≡◌, ◌&&◌, ◌++◌, ℕ, true, IfOk, IsSome, IsTrue, List, OnOk, Some, map};
 ghost use Rattle.cell_addr.specs.Place.{IsBlockInside};
+ghost use Rattle.cell_addr.specs.declared.place.Place.{Place as PlaceSeen};
 ghost use Rattle.shift_core.specs.Carried as carrying;
 ghost use Rattle.shift_core.specs.Sound.{IsSound};
 ghost use Rattle.book_values.specs.Workbook.{Node as BookNode};
 ghost use Rattle.dep_graph.specs.Nodes.{has, items_of};
 ghost use Rattle.dep_graph.specs.declared.node.Node.{Node as NodeSeen};
+ghost use Rattle.dep_graph.specs.declared.node.Node.TheVariants as kinds;
 ghost use Rattle.recalc_core.specs.Kept.{stands};
 ghost use Rattle.recalc_core.specs.Laws.{AreKnown};
 ghost use Rattle.recalc_core.specs.Nodes.{node_at};
+ghost use Rattle.kept_steps.specs.Turned.{is_replaced, replaced_of, to_undo};
 ghost use Rattle.kept_values.specs.Shifted.{HasTouched};
 ghost use Rattle.session_values.specs.Following.{book_of, words_in};
 ghost use Rattle.session_values.specs.internal.Listed.{cell_node, filled_in, is_name_of, with_named};
@@ -35,6 +38,27 @@ pub fn touched_by(session: &Session, s: &Shift) -> Result<Nodes, AllocError>
         Form::Cells { source, to } => moved_cells(session, source, to),
         Form::Sheet { sheet } => sheet_names(session, sheet),
     }
+}
+
+/// The cells that [`Session::undo`] brings back, where the step is one change: each that the step lists as replaced or removed. None,
+/// where it isn't. Costs their number.
+pub fn restored_by(session: &Session) -> Result<Nodes, AllocError>
+    ensures listed { IfOk result (λ nodes. (p : PlaceSeen) → IsSome (replaced_of (to_undo session.now)) → is_replaced (to_undo session.now) p ≡ true → IsTrue (has (kinds.Cell p) (items_of nodes))) }
+    ensures known { IfOk result (λ nodes. (words : List (List ℕ)) → AreKnown words (items_of nodes)) }
+{
+    match session.cells_removed() {
+        Some(cells) => cell_nodes(session.book.alloc, cells),
+        None => Nodes::new(session.book.alloc),
+    }
+}
+
+// The nodes of cells.
+fn cell_nodes(alloc: Global, cells: &[(Place, Cell)]) -> Result<Nodes, AllocError>
+    ensures { IfOk result (λ nodes. items_of nodes ≡ map cell_node cells.now) }
+{
+    let mut nodes = Nodes::new(alloc)?;
+    add_cells(cells, &mut nodes)?;
+    Ok(nodes)
 }
 
 // The filled cells of a block that is moved and of where it goes.

@@ -1,18 +1,22 @@
 // Values that are read.
-ghost use Rattle.std.specs.Prelude.{◌≡◌, ℕ, ℤ, IfOk, List, OnOk, Some, true, false, is_some, ◌≤◌};
+ghost use Rattle.std.specs.Prelude.{◌≡◌, ℕ, ℤ, IfOk, List, OnOk, Some, true, false, is_some, ◌≤◌, ◌+◌};
 ghost use Rattle.custom_fn.specs.declared.rule.Rule.{Rule};
+ghost use Rattle.formula_tree.specs.Reference.{sheet_of};
 ghost use Rattle.formula_tree.specs.Relative.{relative};
 ghost use Rattle.formula_tree.specs.StandsFor.{at_home};
+ghost use Rattle.calc_terms.specs.Cost.{cost};
 ghost use Rattle.calc_terms.specs.Meaning.{meaning};
 ghost use Rattle.book_values.specs.Names.{Key, found, tree_in};
 ghost use Rattle.book_values.specs.Values.{value_of, world_of};
 ghost use Rattle.book_values.specs.Workbook as nodes;
 ghost use Rattle.marked_values.specs.Marks.{IsBookInside};
 ghost use Rattle.recalc_core.specs.Nodes.{node_at};
+ghost use Rattle.recalc_core.specs.Steps.{bare};
 ghost use Rattle.kept_steps.specs.Reads.{Reads};
 ghost use Rattle.kept_steps.specs.declared.session.Session.{Session as SessionSeen};
 ghost use Rattle.kept_values.specs.Values.{Follows};
 ghost use Rattle.session_values.specs.Touched.{AreTouched};
+ghost use Rattle.session_values.specs.Refreshed.{IsUnmarked, TakesStepsIn};
 ghost use Rattle.session_values.specs.Following.{AreFollowing, AreShowing, book_of, name_shown, words_in};
 
 use crate::values::SessionValues;
@@ -33,8 +37,8 @@ impl SessionValues {
     /// is kept, the whole workbook is linked and worked out; else what was touched is linked anew, and it is worked out with all that
     /// it reaches. Afterwards what is kept of every place and every name is its value.
     ///
-    /// For want of memory what is kept follows the session still. Costs what [`Values::refresh`](kept_values::Values::refresh) does;
-    /// where nothing was kept, that of the whole workbook.
+    /// For want of memory what is kept follows the session still. Each place and each name is worked out once at most. Costs what
+    /// [`Values::refresh`](kept_values::Values::refresh) does; where nothing was kept, that of the whole workbook.
     pub fn refresh<C: Customs, L: Ledger>(
         &mut self,
         session: &mut Session,
@@ -45,9 +49,11 @@ impl SessionValues {
         requires inside { IsBookInside (book_of session.old) }
         requires follows { AreFollowing (C.customs customs.now) day session.old self.old.values }
         ensures shows { OnOk result (AreShowing (C.customs customs.now) day session.new self.new.values) }
+        ensures unmarked { OnOk result (IsUnmarked self.new.values) }
         ensures follows { AreFollowing (C.customs customs.now) day session.new self.new.values }
         ensures reads { Reads session.old session.new }
         ensures least { steps.old ≤ steps.new }
+        ensures most { TakesStepsIn (book_of session.old) (words_in session.old) self.old.values steps.old steps.new }
     {
         session.names_are_nodes();
         let mut values = match self.values.take() {
@@ -114,6 +120,7 @@ impl SessionValues {
         ensures means { IfOk result (λ scalar. scalar ≡ meaning (world_of (book_of session.old).names day (value_of (book_of session.old) (C.customs customs.now) day)) (C.customs customs.now) home (at_home home (relative tree.now.value))) }
         ensures reads { Reads session.old session.new }
         ensures least { steps.old ≤ steps.new }
+        ensures most { steps.new ≤ steps.old + cost (bare (book_of session.old).names) (sheet_of home) (at_home home (relative tree.now.value)) }
     {
         match &mut self.values {
             Some(values) => values.tried(session, tree, home, customs, day, steps),
@@ -123,7 +130,7 @@ impl SessionValues {
 }
 
 // Values of which nothing is linked and kept yet, where all that stands is marked.
-fn all_marked(session: &Session) -> Result<Values, AllocError>
+pub(crate) fn all_marked(session: &Session) -> Result<Values, AllocError>
     ensures { IfOk result (λ values. (customs : List (List ℕ × Rule)) (today : ℤ) → Follows (book_of session.now) (words_in session.now) customs today values) }
 {
     session.names_are_nodes();

@@ -3,9 +3,11 @@ use Rattle.std.proofs.lemmas.Int.{to_z-of_z}
 use Rattle.std.specs.Prelude.{OnOk}
 use Rattle.book_values.specs.Workbook.{Workbook}
 use Rattle.recalc_core.specs.Kept.{AreRight}
-use Rattle.kept_values.specs.Values.{Follows, kept_in}
+use Rattle.kept_values.specs.Values.{Follows, TakesSteps, kept_in, marks_in}
 use Rattle.kept_values.specs.declared.values.Values.{Values}
 use Rattle.session_values.specs.Following.{FollowsIn, book_of, words_in}
+use Rattle.session_values.specs.Refreshed.{TakesStepsIn}
+use Rattle.session_values.proofs.Refreshed.{any_steps}
 use Rattle.session_values.proofs.values.SessionValues.refresh.Goals as goal
 use Rattle.session_values.proofs.values.SessionValues.refresh.Goals.{in-Some, in-None+in_ok-values-in-None}
 
@@ -29,3 +31,15 @@ returns-clause-shows g c =
     let right = subst (λ (d : ℤ). OnOk c.refresh-done.result (AreRight (book_of c.args.session.now) (words_in c.args.session.now) customs d kept)) (to_z-of_z w32 c.args.day c.ranges.day) c.refresh-done.ensures.right in
     subst (λ (b : Workbook). OnOk c.refresh-done.result (AreRight b (words_in c.refresh-done.new.trees) customs c.args.day kept)) (sym c.refresh-done.ensures.leaves)
     (subst (λ (ws : List (List ℕ)). OnOk c.refresh-done.result (AreRight (book_of c.args.session.now) ws customs c.args.day kept)) (sym c.refresh-done.ensures.words) right)
+
+pub returns-clause-most : goal.returns-clause-most
+returns-clause-most g c =
+    let s = c.args.session.now in
+    elim c.match-take.branch [
+      | in-Some w ↦
+          subst (λ (o : Option Values). TakesStepsIn (book_of s) (words_in s) o c.args.steps.now c.refresh-done.new.steps) (sym w.in-Some.is ∙ c.take.ensures.value)
+          (subst (λ (v : Values). TakesSteps (book_of s) (words_in s) (marks_in v) c.args.steps.now c.refresh-done.new.steps) w.values-is c.refresh-done.ensures.most)
+      | in-None+in_ok-values-in-None w ↦
+          subst (λ (o : Option Values). TakesStepsIn (book_of s) (words_in s) o c.args.steps.now c.refresh-done.new.steps) (sym w.in-None.is ∙ c.take.ensures.value)
+          (any_steps (book_of s) (words_in s) (marks_in c.match-take.values) c.args.steps.now c.refresh-done.new.steps c.refresh-done.ensures.most)
+    ]
