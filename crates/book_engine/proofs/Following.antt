@@ -1,7 +1,7 @@
 -- What is kept of values follows a session still. Serves the calls of the engine.
-use Rattle.std.proofs.Common.{◌≡◌, ◌∙◌, sym, ap, subst, refl, Bool, true, false, ℕ, List, Option, Some, None, is_some, ⊎_elim}
+use Rattle.std.proofs.Common.{◌≡◌, ◌∙◌, sym, ap, subst, refl, Bool, true, false, ℕ, List, Option, Some, None, is_some, Result, Ok, Err, ⊎_elim}
 use Rattle.std.specs.FinMap as fin
-use Rattle.std.specs.Prelude.{slice_get}
+use Rattle.std.specs.Prelude.{OnErr, OnOk, slice_get}
 use Rattle.cell_addr.specs.Place.{IsBlockInside, covers}
 use Rattle.cell_addr.specs.declared.place.Block.{Block}
 use Rattle.cell_addr.specs.declared.place.Place.{Place}
@@ -44,7 +44,7 @@ use Rattle.book_engine.specs.internal.Touched.{AreFilledMarked}
 use Rattle.book_engine.specs.declared.parts.Parts.{Parts}
 
 -- each name of a session is a node
-numbered_in : (s : Session) → AreNumbered (words_in s) (book_of s).names
+pub numbered_in : (s : Session) → AreNumbered (words_in s) (book_of s).names
 numbered_in s =
     let b = s.book in
     numbered (at_of b) b.lazy.line.cursor (words_of b.names) b.names.words.proper (names_of b.names) s.fits.stand.names (book_of s) refl
@@ -145,3 +145,9 @@ follow_pasted area items at inside old new between more is first next before aft
     (λ (was : is_some (fin.get b.cells q) ≡ true). out (marked_on there between new.values.values q next (before q covered was)))
     (λ (comes : is_some (fin.get c.cells q) ≡ true). out (after q covered (ap (λ (x : Workbook). is_some (fin.get x.cells q)) same ∙ comes)))
     filled))
+
+-- and where that may want memory
+pub follow_step : {X E : Type 0} (r : Result X E) (changes : List Change) (old new : Parts) → IsMore (words_in old.session) (words_in new.session) → AreTouchedAtMost (is_listed changes) old.values.values new.values.values → IsStepMarked changes new.values.values
+    → OnOk r (AreOfCells changes → DifferAmong (is_listed changes) (state_of old).book (state_of new).book) → OnErr r (state_of new ≡ state_of old) → ValuesFollowStill old new
+follow_step (Ok x) changes old new more touched marked others same = follow_turned changes old new more touched marked others
+follow_step (Err e) changes old new more touched marked others same = follow_touched (is_listed changes) old new more touched same

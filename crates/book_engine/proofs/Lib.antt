@@ -6,6 +6,7 @@ pub mod Turning
 pub mod Pushed
 pub mod FilledCells
 pub mod Following
+pub mod Stepped
 pub mod TouchedCells
 pub mod GivenExamples
 pub mod Counted
@@ -17,3 +18,4 @@ pub mod SortedKeys
 pub mod RaisedKeys
 pub mod NeedingCells
 pub mod NeedingNames
+mod TriedCosts

@@ -1,33 +1,18 @@
--- What a list of slots has under a name, and the name that a word finds. Serves links and the tests of refusals.
-use Rattle.std.proofs.Common.{◌≡◌, ◌∙◌, sym, ap, refl, ℕ, Bool, true, false, cond, ◌||◌, List, [], ◌∷◌, map, Option, Some, None, is_some, option_map}
+-- The name that a word finds. Serves links and the tests of refusals.
+use Rattle.std.proofs.Common.{◌≡◌, ◌∙◌, sym, ap, refl, ℕ, Bool, true, false, cond, List, Option, Some, None, is_some, option_map}
 use Rattle.std.specs.FinMap as fin
-use Rattle.std.specs.FinMap.{get-empty}
-use Rattle.std.specs.List.{list_any}
 use Rattle.std.specs.Ordering.{eq_by_cmp}
 use Rattle.shift_core.proofs.CarriedEntries.{eq_by_cmp-decides}
-use Rattle.book_values.specs.Names.{Key, found, key_of, same_key, tree_in}
-use Rattle.book_model.proofs.NameMaps.{get-with}
+use Rattle.book_values.specs.Names.{Key, found, key_of, tree_in}
 use Rattle.book_model.proofs.NameOrder.{key_cmp-IsAntisymmetric, key_cmp-IsTotalOrder}
 use Rattle.book_model.specs.Names.{NameMap, key_cmp}
-use Rattle.kept_book.proofs.FoundNames.{key-tests, tree_in-entries}
-use Rattle.book_engine.specs.internal.Slots.{Slot, names_under}
+use Rattle.kept_book.proofs.FoundNames.{tree_in-entries}
 
 pub is-key : (a b : Key) → eq_by_cmp key_cmp a b ≡ true → a ≡ b
 is-key a b h = (eq_by_cmp-decides key_cmp-IsTotalOrder key_cmp-IsAntisymmetric a b).0 h
 
 pub key-itself : (a b : Key) → a ≡ b → eq_by_cmp key_cmp a b ≡ true
 key-itself a b h = (eq_by_cmp-decides key_cmp-IsTotalOrder key_cmp-IsAntisymmetric a b).1 h
-
-neither : (a b : Bool) → (a || b) ≡ false → (a ≡ false) × (b ≡ false)
-neither true b h = absurd (cc)
-neither false b h = (refl, h)
-
--- a name that stands apart from slots has no tree in them
-pub get-apart : (slots : List Slot) (k : Key) → list_any (same_key k) (map (λ s. s.0) slots) ≡ false → fin.get (names_under slots) k ≡ None
-get-apart [] k h = get-empty key_cmp k
-get-apart (e ∷ es) k h =
-    let n = neither (same_key k e.0) (list_any (same_key k) (map (λ s. s.0) es)) h in
-    get-with e.0 e.1 (names_under es) k ∙ ap (λ b. cond b e.1 (fin.get (names_under es) k)) (key-tests k e.0 ∙ n.0) ∙ get-apart es k n.1
 
 pub is_some-map : {X Y : Type 0} (f : X → Y) (o : Option X) → is_some o ≡ is_some (option_map f o)
 is_some-map f None = refl

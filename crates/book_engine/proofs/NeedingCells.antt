@@ -1,82 +1,66 @@
--- The cells whose formulas mention a place, as filled cells are gone through. Serves the dependents of a cell.
-use Rattle.std.proofs.Common.{◌≡◌, ◌∙◌, sym, ap, refl, arith, ◌<◌, ◌&&◌, ◌||◌, Bool, true, false, true≢false, cond, List, [], ◌∷◌, ◌++◌, length, map, Option, Some, None, option_map}
-use Rattle.std.proofs.lemmas.List.{length-append}
+-- The cells whose formulas mention a place, among the nodes that use it. Serves the dependents of a cell.
+use Rattle.std.proofs.Common.{◌≡◌, ◌∙◌, sym, ap, subst, refl, ℕ, ◌+◌, ◌<◌, ◌||◌, Bool, true, false, cond, List, ◌∷◌, [], length, get_or, map, take, Option, Some, None}
+use Rattle.std.proofs.lemmas.List.Folds.{list_any_more}
 use Rattle.std.specs.BTreeMap.{is_at}
 use Rattle.std.specs.FinMap as fin
-use Rattle.std.specs.Cmp.{eq_by_cmp_equiv}
-use Rattle.std.specs.FinMap.{find, get, get-from_entries}
-use Rattle.std.specs.List.{filter_map, list_any}
+use Rattle.std.specs.FinMap.{get}
+use Rattle.std.specs.List.{cons_option, filter_map, list_any}
 use Rattle.std.specs.List.Sorted.{IsStrictlySortedBy}
 use Rattle.std.specs.Ordering.{eq_by_cmp}
 use Rattle.cell_addr.specs.Order.{place_cmp}
+use Rattle.cell_addr.specs.Place.{same_place}
 use Rattle.cell_addr.specs.declared.place.Place.{Place}
 use Rattle.cell_addr.proofs.Places.{place_cmp-IsTotalOrder, place_cmp-IsAntisymmetric}
+use Rattle.cell_addr.proofs.SamePlaces.{same_place-equal, same_place-self}
 use Rattle.book_cells.specs.Workbook.{Book as Contents, Content, number, truth, text, formula, unreadable}
 use Rattle.formula_tree.specs.declared.link.Link.TheVariants as links
 use Rattle.calc_terms.specs.Needs.{mentions}
-use Rattle.grid_store.specs.declared.cell.Cell.{Cell}
-use Rattle.shift_core.specs.Maps.{PlaceMap}
+use Rattle.dep_graph.specs.Nodes.{has, same_node}
+use Rattle.dep_graph.specs.declared.node.Node.{Node}
+use Rattle.dep_graph.specs.declared.node.Node.TheVariants.{Cell, Name, Range}
 use Rattle.shift_core.proofs.CarriedEntries.{eq_by_cmp-decides}
+use Rattle.book_values.specs.Workbook.{Workbook, content_tree}
 use Rattle.book_model.specs.Answers.{cell_needing}
-use Rattle.kept_book.specs.Numbered.{Numbered}
-use Rattle.kept_book.specs.Stored.{content_of, contents_of}
-use Rattle.kept_book.proofs.Contents.{get-contents}
-use Rattle.book_engine.specs.internal.Links.{content_mentions, passes}
+use Rattle.session_values.specs.Users.{mentions_at}
+use Rattle.kept_values.specs.Values as values
+use Rattle.book_engine.specs.internal.Links.{content_mentions, passes, place_in}
 use Rattle.book_engine.proofs.SortedKeys.{kept, kept_are}
 
--- the list without its last entry is shorter
-pub shorter : (left all : List (Place × Cell)) (e : Place × Cell) → all ≡ left ++ e ∷ [] → length left < length all
-shorter left all e same = let long = ap length same in let sum = length-append left (e ∷ []) in omega (arith, long, sum)
+or-comm : (a b : Bool) → (a || b) ≡ (b || a)
+or-comm true true = refl
+or-comm true false = refl
+or-comm false true = refl
+or-comm false false = refl
 
--- the place is one of a list's
-abbrev pub stands_in : List (Place × Cell) → Place → Bool
-stands_in es q = list_any (λ e. eq_by_cmp place_cmp q e.0) es
+-- one item more was gone through
+pub any-next : {X : Type 0} (test : X → Bool) (xs : List X) (i : ℕ) (d : X) (here old new : Bool) → i < length xs → here ≡ test (get_or xs i d) → old ≡ list_any test (take i xs) → new ≡ (here || old) → new ≡ list_any test (take (i + 1) xs)
+any-next test xs i d here old new low is was got =
+    got ∙ or-comm here old ∙ (λ j. was j || is j) ∙ sym (list_any_more test xs i d low)
 
--- the formula at the place mentions another
-abbrev pub needs : Place → Contents → Place → Bool
-needs at contents q = passes (content_mentions at) (get contents q)
-
-same_place : (p q : Place) → eq_by_cmp place_cmp p q ≡ true → p ≡ q
-same_place p q h = (eq_by_cmp-decides place_cmp-IsTotalOrder place_cmp-IsAntisymmetric p q).0 h
-
-passes-one : (f : Place → Bool) (m : Bool) (p : Place) → passes f (cond m (Some p) None) ≡ cond m (f p) false
-passes-one f true p = refl
-passes-one f false p = refl
-
-either : (c m p s : Bool) → (c ≡ true → m ≡ p) → (cond m c false || (s && p)) ≡ ((c || s) && p)
-either true true true s h = refl
-either true true false s h = absurd (true≢false (h refl))
-either true false true s h = absurd (true≢false (sym (h refl)))
-either true false false true h = refl
-either true false false false h = refl
-either false true p s h = refl
-either false false p s h = refl
-
--- one cell more was gone through
-pub needs-more : (at : Place) (contents : Contents) (done : List (Place × Cell)) (e : Place × Cell) (q : Place) (found : Option Place) (old new : Bool) → found ≡ cond (needs at contents e.0) (Some e.0) None
-    → old ≡ (stands_in done q && needs at contents q) → new ≡ (passes (λ k. eq_by_cmp place_cmp k q) found || old) → new ≡ (stands_in (e ∷ done) q && needs at contents q)
-needs-more at contents done e q found old new is was got =
-    got ∙ (λ i. passes (λ k. eq_by_cmp place_cmp k q) (is i) || was i)
-    ∙ ap (λ b. b || (stands_in done q && needs at contents q)) (passes-one (λ k. eq_by_cmp place_cmp k q) (needs at contents e.0) e.0 ∙ ap (λ b. cond (needs at contents e.0) b false) ((eq_by_cmp_equiv place_cmp-IsTotalOrder).symm e.0 q))
-    ∙ either (eq_by_cmp place_cmp q e.0) (needs at contents e.0) (needs at contents q) (stands_in done q) (λ h. ap (needs at contents) (sym (same_place q e.0 h)))
-
-not-found : (q : Place) (es : List (Place × Cell)) → stands_in es q ≡ false → find place_cmp q es ≡ None
-not-found q [] h = refl
-not-found q (e ∷ es) h = go (eq_by_cmp place_cmp q e.0) h (not-found q es)
+-- the node is the cell at the place
+pub is-cell : (q : Place) (a : Node) → passes (λ p. eq_by_cmp place_cmp p q) (place_in a) ≡ same_node (Cell q) a
+is-cell q (Cell p) = by (eq_by_cmp place_cmp p q) (same_place q p) refl refl
   where
-    go : (b : Bool) → (b || stands_in es q) ≡ false → (stands_in es q ≡ false → find place_cmp q es ≡ None) → cond b (Some e.1) (find place_cmp q es) ≡ None
-    go true h rest = absurd (true≢false h)
-    go false h rest = rest h
+    by : (s t : Bool) → eq_by_cmp place_cmp p q ≡ s → same_place q p ≡ t → s ≡ t
+    by true true is other = refl
+    by false false is other = refl
+    by true false is other = sym (subst (λ r. same_place q r ≡ true) (sym ((eq_by_cmp-decides place_cmp-IsTotalOrder place_cmp-IsAntisymmetric p q).0 is)) (same_place-self q)) ∙ other
+    by false true is other = sym is ∙ (eq_by_cmp-decides place_cmp-IsTotalOrder place_cmp-IsAntisymmetric p q).1 (sym (same_place-equal q p other))
+is-cell q (Name scope word) = refl
+is-cell q (Range b) = refl
 
--- all cells were gone through
-pub needs-all : (at : Place) (stands : Numbered) (cells : PlaceMap Cell) (done : List (Place × Cell)) (q : Place) → fin.from_entries done ≡ cells
-    → (stands_in done q && needs at (contents_of stands cells) q) ≡ needs at (contents_of stands cells) q
-needs-all at stands cells done q all = go (stands_in done q) refl
-  where
-    go : (b : Bool) → stands_in done q ≡ b → (b && needs at (contents_of stands cells) q) ≡ needs at (contents_of stands cells) q
-    go true h = refl
-    go false h =
-        sym (ap (passes (content_mentions at)) (get-contents stands cells q ∙ ap (option_map (content_of stands)) (ap (λ m. get m q) (sym all) ∙ get-from_entries place_cmp-IsTotalOrder done q ∙ not-found q done h)))
+-- a content is a formula that mentions the place exactly where its tree does
+content-mentions : (at : Place) (o : Option Content) → values.passes (λ t. mentions t at) (content_tree o) ≡ passes (content_mentions at) o
+content-mentions at None = refl
+content-mentions at (Some (number m)) = refl
+content-mentions at (Some (truth b)) = refl
+content-mentions at (Some (text w)) = refl
+content-mentions at (Some (unreadable w)) = refl
+content-mentions at (Some (formula t)) = refl
+
+-- the cells among the nodes that use a place are those whose formulas mention it
+pub cell-mentions : (b : Workbook) (words : List (List ℕ)) (at : Place) (nodes : List Node) → ((a : Node) → has a nodes ≡ mentions_at b words at a) → (q : Place) → has (Cell q) nodes ≡ passes (content_mentions at) (get b.cells q)
+cell-mentions b words at nodes users q = users (Cell q) ∙ content-mentions at (get b.cells q)
 
 -- cells with formulas that mention a place as links
 needing-links : (at : Place) (es : List (Place × Content)) → filter_map (cell_needing at) es ≡ map links.Cell (kept (content_mentions at) es)
@@ -88,7 +72,7 @@ needing-links at ((p, unreadable w) ∷ es) = needing-links at es
 needing-links at ((p, formula t) ∷ es) = go (mentions t at) (needing-links at es)
   where
     go : (b : Bool) → filter_map (cell_needing at) es ≡ map links.Cell (kept (content_mentions at) es)
-        → Rattle.std.specs.List.cons_option (cond b (Some (links.Cell p)) None) (filter_map (cell_needing at) es) ≡ map links.Cell (cond b (p ∷ kept (content_mentions at) es) (kept (content_mentions at) es))
+        → cons_option (cond b (Some (links.Cell p)) None) (filter_map (cell_needing at) es) ≡ map links.Cell (cond b (p ∷ kept (content_mentions at) es) (kept (content_mentions at) es))
     go true h = ap (λ l. links.Cell p ∷ l) h
     go false h = h
 

@@ -1,42 +1,50 @@
 -- The names whose formulas mention a place, in the order in which links show them. Serves the dependents of a cell.
-use Rattle.std.proofs.Common.{◌≡◌, ◌∙◌, sym, ap, refl, arith, ℕ, ◌&&◌, ◌||◌, Bool, true, false, cond, List, [], ◌∷◌, map, Option, Some, None, option_map}
+use Rattle.std.proofs.Common.{◌≡◌, ◌∙◌, sym, ap, subst, refl, arith, ℕ, ◌&&◌, Bool, true, false, true≢false, cond, List, [], ◌∷◌, map, Option, Some, None, is_some, option_map, ⊎_elim}
+use Rattle.std.proofs.lemmas.Bool.{and_from, and_parts, or_cases, or_left, or_right}
+use Rattle.std.proofs.lemmas.Option.{none-some}
 use Rattle.std.specs.BTreeMap.{is_at}
 use Rattle.std.specs.Char.{to_ascii_lowercase, to_ascii_uppercase}
-use Rattle.std.specs.Cmp.{eq_by_cmp_equiv}
 use Rattle.std.specs.Cmp.Lexicographic.{slice_cmp}
 use Rattle.std.specs.FinMap as fin
-use Rattle.std.specs.FinMap.{IsAntisymmetric, get-empty, get-entries, get-from_entries, nat_cmp-IsAntisymmetric, slice_cmp-IsAntisymmetric}
-use Rattle.std.specs.List.{AllByRecursion, cons_option, filter_map, list_any}
+use Rattle.std.specs.FinMap.{IsAntisymmetric, get-entries, get-from_entries, nat_cmp-IsAntisymmetric, slice_cmp-IsAntisymmetric}
+use Rattle.std.specs.List.{cons_option, filter_map, list_any}
 use Rattle.std.specs.List.Sorted.{IsStrictlySortedBy}
 use Rattle.std.specs.Option.{option_cmp}
 use Rattle.std.specs.Ordering.{eq_by_cmp, nat_cmp, ordering_then}
+use Rattle.std.specs.Prelude.{slice_get}
 use Rattle.std.specs.declared.cmp.Ordering.{Ordering}
 use Rattle.std.specs.declared.cmp.Ordering.TheVariants.{Less, Equal, Greater}
 use Rattle.std.proofs.lemmas.Bool.Decides.{nat_tests}
+use Rattle.book_cells.specs.Workbook.{Book as Contents}
 use Rattle.cell_addr.specs.Text.{capitals, folded}
 use Rattle.cell_addr.specs.declared.place.Place.{Place}
 use Rattle.formula_tree.specs.Term.{Term}
 use Rattle.formula_tree.specs.declared.link.Link.TheVariants as links
 use Rattle.formula_tree.specs.declared.reference.Corner.{Corner}
 use Rattle.calc_terms.specs.Needs.{mentions}
+use Rattle.dep_graph.proofs.Places.{has_cases, has_first, has_later}
+use Rattle.dep_graph.specs.Nodes.{has}
+use Rattle.dep_graph.specs.declared.node.Node.{Node}
+use Rattle.dep_graph.specs.declared.node.Node.TheVariants as node
 use Rattle.shift_core.proofs.CarriedEntries.{eq_by_cmp-decides}
-use Rattle.kept_book.specs.Formula.{tree_in_scope}
+use Rattle.name_table.specs.Words.{AreWords}
 use Rattle.book_values.specs.Names.{Key, key_of}
+use Rattle.book_values.specs.Workbook as book
+use Rattle.book_values.specs.Workbook.{Workbook, tree_at}
 use Rattle.book_model.specs.Answers.{by_capitals, name_link, name_needing}
 use Rattle.book_model.specs.Names.{NameMap, key_cmp}
-use Rattle.book_model.proofs.NameMaps.{changed_names, get-with}
-use Rattle.book_engine.specs.declared.named.Named.{Named}
+use Rattle.kept_book.proofs.FoundNames.{tree_in-entries}
+use Rattle.kept_values.proofs.Following.{same_tests}
+use Rattle.recalc_core.specs.Nodes.{AreNumbered, name_at, node_at, scope_at}
+use Rattle.session_values.proofs.MentionedPlaces.{mentions_holds, mentions_is}
+use Rattle.session_values.specs.Users.{mentions_at}
 use Rattle.book_engine.specs.declared.shown_name.ShownName.{ShownName}
-use Rattle.book_engine.specs.internal.Links.{passes, shown_link, shown_name, shown_needing}
+use Rattle.book_engine.specs.internal.Links.{is_shown_at, name_shown, passes, shown_link, shown_name}
 use Rattle.book_engine.specs.internal.ShownNames.{shown_cmp, shown_cmp-IsTotalOrder}
-use Rattle.book_engine.specs.internal.Slots.{AreApart, Slot, names_under, slot_of}
-use Rattle.book_engine.proofs.NamedSlots.{get-apart, is-key, key-itself}
-use Rattle.book_engine.proofs.RaisedKeys.{all_found, entries-raised, find-raised, raised, tests-part}
+use Rattle.book_engine.proofs.NamedSlots.{is-key, key-itself}
+use Rattle.book_engine.proofs.NamesRead.{small-word}
+use Rattle.book_engine.proofs.RaisedKeys.{all_found, entries-raised, find-raised, raised}
 use Rattle.book_engine.proofs.SortedKeys.{kept, kept_are}
-
--- the name of the slot is shown so, and its formula mentions the place
-abbrev pub is_shown : Place → ShownName → Slot → Bool
-is_shown at q slot = passes (λ n. eq_by_cmp shown_cmp n q) (shown_needing at slot)
 
 small : (c : ℕ) → to_ascii_lowercase (to_ascii_uppercase c) ≡ to_ascii_lowercase c
 small c = grind (arith, nat_tests)
@@ -86,18 +94,6 @@ IsSmall k = key_shown (shown_name k) ≡ k
 key-small : (scope : Option ℕ) (word : List ℕ) → IsSmall (key_of scope word)
 key-small scope word = ap (λ w. record { scope = scope; word = w }) (ap folded (capitals-folded word) ∙ folded-capitals word)
 
-keys-small : (es : List Named) → AllByRecursion (λ slot. IsSmall slot.0) (map slot_of es)
-keys-small [] = tt
-keys-small (e ∷ es) = (key-small e.scope e.word, keys-small es)
-
-names-small : (slots : List Slot) → AllByRecursion (λ slot. IsSmall slot.0) slots → (key : Key) (t : Term Corner) → fin.get (names_under slots) key ≡ Some t → IsSmall key
-names-small [] small key t e = absurd (none (sym (get-empty key_cmp key) ∙ e))
-  where
-    none : ◌≡◌ {A = Option (Term Corner)} None (Some t) → ⊥
-    none e = cc
-names-small (slot ∷ slots) small key t e =
-    changed_names (λ k t. IsSmall k) slot.0 slot.1 (names_under slots) (λ t h. small.0) (names-small slots small.1) key t e
-
 keys-decide : (x y : Key) → (eq_by_cmp key_cmp x y ≡ true → x ≡ y) × (x ≡ y → eq_by_cmp key_cmp x y ≡ true)
 keys-decide x y = (is-key x y, key-itself x y)
 
@@ -110,40 +106,6 @@ module _ (at : Place) (q : ShownName) where
 
   abbrev written : Bool
   written = eq_by_cmp shown_cmp q (shown_name (key_shown q))
-
-  first-name : (v b c : Bool) (slot : Slot) → needs slot.1 ≡ v → eq_by_cmp shown_cmp (shown_name slot.0) q ≡ (b && c) → is_shown at q slot ≡ (v && (b && c))
-  first-name true b c slot h t = rw h t
-  first-name false b c slot h t = rw h refl
-
-  either : (v b c r : Bool) → (c ≡ true → r ≡ false) → ((v && (b && c)) || (b && r)) ≡ (b && cond c v r)
-  either true true true r h = refl
-  either true true false r h = refl
-  either true false c r h = refl
-  either false true true r h = h refl
-  either false true false r h = refl
-  either false false c r h = refl
-
-  needs-one : (c : Bool) (x y : Option (Term Corner)) → cond c (needs x) (needs y) ≡ needs (cond c x y)
-  needs-one true x y = refl
-  needs-one false x y = refl
-
-  -- names are shown so exactly where the one of its key needs the place
-  pub shown-among : (slots : List Slot) → AreApart (map (λ s. s.0) slots) → AllByRecursion (λ slot. IsSmall slot.0) slots
-      → list_any (is_shown at q) slots ≡ (written && needs (fin.get (names_under slots) (key_shown q)))
-  shown-among [] apart small = nothing written ∙ ap (λ r. written && needs r) (sym (get-empty key_cmp (key_shown q)))
-    where
-      nothing : (b : Bool) → false ≡ (b && false)
-      nothing true = refl
-      nothing false = refl
-  shown-among (slot ∷ slots) apart small =
-      let c = eq_by_cmp key_cmp (key_shown q) slot.0 in
-      let old = fin.get (names_under slots) (key_shown q) in
-      let test : eq_by_cmp shown_cmp (shown_name slot.0) q ≡ (written && c) =
-      (eq_by_cmp_equiv shown_cmp-IsTotalOrder).symm (shown_name slot.0) q ∙ tests-part key_cmp shown_cmp keys-decide shown-decide shown_name key_shown q slot.0 small.0 in
-      (λ i. first-name (needs slot.1) written c slot refl test i || shown-among slots apart.1 small.1 i)
-      ∙ either (needs slot.1) written c (needs old) (λ h. ap needs (ap (fin.get (names_under slots)) (is-key (key_shown q) slot.0 h) ∙ get-apart slots slot.0 apart.0))
-      ∙ ap (λ b. written && b) (needs-one c slot.1 old)
-      ∙ ap (λ r. written && needs r) (sym (get-with slot.0 slot.1 (names_under slots) (key_shown q)))
 
   needs-written : (b : Bool) (r : Option (Term Corner)) → (b && needs r) ≡ needs (cond b r None)
   needs-written true r = refl
@@ -171,22 +133,98 @@ needing-links at (e ∷ es) = go (mentions e.1 at) (needing-links at es)
     go false h = h
 
 -- shown names in order that are those of the names whose formulas mention a place
-pub names-listed : (at : Place) (es : List Named) (ns : List ShownName) → AreApart (map (λ s. s.0) (map slot_of es)) → IsStrictlySortedBy shown_cmp ns
-    → ((q : ShownName) → list_any (is_at (shown_cmp q)) ns ≡ list_any (is_shown at q) (map slot_of es))
-    → map shown_link ns ≡ filter_map (name_needing at) (by_capitals (fin.entries (names_under (map slot_of es))))
-names-listed at es ns apart up h =
-    let slots = map slot_of es in
-    let m = names_under slots in
-    let small = keys-small es in
+names-listed : (at : Place) (m : NameMap) (ns : List ShownName) → ((key : Key) (t : Term Corner) → fin.get m key ≡ Some t → IsSmall key) → IsStrictlySortedBy shown_cmp ns
+    → ((q : ShownName) → list_any (is_at (shown_cmp q)) ns ≡ (written at q && needs at q (fin.get m (key_shown q)))) → map shown_link ns ≡ filter_map (name_needing at) (by_capitals (fin.entries m))
+names-listed at m ns small up h =
     sym (needing-links at (by_capitals (fin.entries m))
     ∙ ap (λ l. map shown_link (kept (λ t. mentions t at) l)) (entries-raised shown_cmp-IsTotalOrder shown_name (fin.entries m))
     ∙ ap (map shown_link) (kept_are shown_cmp-IsTotalOrder shown_cmp-IsAntisymmetric (λ t. mentions t at) (fin.from_entries {R = shown_cmp} (raised shown_cmp shown_name (fin.entries m))) ns up
-    (λ q. h q ∙ shown-among at q slots apart small ∙ shown-get at q m (names-small slots small))))
+    (λ q. h q ∙ shown-get at q m small)))
+
+-- ---- names among nodes
+
+none-true : (o : Option ShownName) (test : ShownName → Bool) → o ≡ None → passes test o ≡ true → ⊥
+none-true o test e h = true≢false (sym h ∙ ap (passes test) e)
+
+any-where : (test : Node → Bool) (nodes : List Node) → list_any test nodes ≡ true → (a : Node) × (has a nodes ≡ true) × (test a ≡ true)
+any-where test [] h = absurd (true≢false (sym h))
+any-where test (a ∷ nodes) h = ⊎_elim
+    (λ (here : test a ≡ true). (a, has_first a nodes, here))
+    (λ (later : list_any test nodes ≡ true). let (c, there, is) = any-where test nodes later in (c, has_later c a nodes there, is))
+    (or_cases (test a) (list_any test nodes) h)
+
+any-has : (test : Node → Bool) (a : Node) (nodes : List Node) → has a nodes ≡ true → test a ≡ true → list_any test nodes ≡ true
+any-has test a [] h is = absurd (true≢false (sym h))
+any-has test a (c ∷ nodes) h is = ⊎_elim
+    (λ (same : a ≡ c). or_left (test c) (list_any test nodes) (ap test (sym same) ∙ is))
+    (λ (later : has a nodes ≡ true). or_right (test c) (list_any test nodes) (any-has test a nodes later is))
+    (has_cases a c nodes h)
+
+module _ (m : NameMap) (cells : Contents) (words : List (List ℕ)) (proper : AreWords words) (numbered : AreNumbered words (fin.entries m)) where
+  abbrev b : Workbook
+  b = record { cells = cells; names = fin.entries m }
+
+  -- the key of a name has its word in small letters
+  node-small : (a : Node) (key : Key) → node_at words a ≡ Some (book.name key) → IsSmall key
+  node-small (node.Cell p) key at = absurd (apart at)
+    where
+      apart : Some (book.place p) ≡ Some (book.name key) → ⊥
+      apart e = cc
+  node-small (node.Range block) key at = absurd (none-some (book.name key) at)
+  node-small (node.Name scope number) key at = by (slice_get words number) refl at
+    where
+      by : (o : Option (List ℕ)) → slice_get words number ≡ o → name_at scope o ≡ Some (book.name key) → IsSmall key
+      by None e h = absurd (none-some (book.name key) h)
+      by (Some w) e h =
+          let is : record { scope = scope_at scope; word = w } ≡ key = same_name (record { scope = scope_at scope; word = w }) key h in
+          subst IsSmall is (ap (λ v. record { scope = scope_at scope; word = v }) (folded-capitals w ∙ small-word words w number proper e))
+        where
+          same_name : (k l : Key) → Some (book.name k) ≡ Some (book.name l) → k ≡ l
+          same_name k l e = cc
+
+  all-small : (key : Key) (t : Term Corner) → fin.get m key ≡ Some t → IsSmall key
+  all-small key t is = let (a, at) = numbered.all key (ap is_some (tree_in-entries m key ∙ is)) in node-small a key at
+
+  module _ (at : Place) (nodes : List Node) (users : (a : Node) → has a nodes ≡ mentions_at b words at a) (q : ShownName) where
+    -- a node that is shown so, and whose formula mentions the place
+    forth : (a : Node) → mentions_at b words at a ≡ true → is_shown_at words q a ≡ true → (written at q && needs at q (fin.get m (key_shown q))) ≡ true
+    forth a uses shown =
+        let (x, t, known, is, h) = mentions_holds b words at a uses in
+        by x t known is h (sym (ap (λ o. passes (λ n. eq_by_cmp shown_cmp n q) (name_shown o)) known) ∙ shown)
+      where
+        by : (x : book.Node) (t : Term Corner) → node_at words a ≡ Some x → tree_at b x ≡ Some t → mentions t at ≡ true → passes (λ n. eq_by_cmp shown_cmp n q) (name_shown (Some x)) ≡ true
+            → (written at q && needs at q (fin.get m (key_shown q))) ≡ true
+        by (book.place p) t known is h named = absurd (true≢false (sym named))
+        by (book.name key) t known is h named =
+            let same : shown_name key ≡ q = (shown-decide (shown_name key) q).0 named in
+            let low : key_shown q ≡ key = ap key_shown (sym same) ∙ node-small a key known in
+            and_from (written at q) (needs at q (fin.get m (key_shown q)))
+            ((shown-decide q (shown_name (key_shown q))).1 (sym same ∙ ap shown_name (sym low)))
+            (ap (needs at q) (ap (fin.get m) low ∙ sym (tree_in-entries m key) ∙ is) ∙ h)
+
+    back : written at q ≡ true → needs at q (fin.get m (key_shown q)) ≡ true → list_any (is_shown_at words q) nodes ≡ true
+    back wrote needed = by (fin.get m (key_shown q)) refl needed
+      where
+        by : (o : Option (Term Corner)) → fin.get m (key_shown q) ≡ o → needs at q o ≡ true → list_any (is_shown_at words q) nodes ≡ true
+        by None is h = absurd (true≢false (sym h))
+        by (Some t) is h =
+            let tree : tree_at b (book.name (key_shown q)) ≡ Some t = tree_in-entries m (key_shown q) ∙ is in
+            let (a, known) = numbered.all (key_shown q) (ap is_some tree) in
+            any-has (is_shown_at words q) a nodes (users a ∙ mentions_is b words at a (book.name (key_shown q)) t known tree ∙ h)
+            (ap (λ o. passes (λ n. eq_by_cmp shown_cmp n q) (name_shown o)) known
+            ∙ (shown-decide (shown_name (key_shown q)) q).1 (sym ((shown-decide q (shown_name (key_shown q))).0 wrote)))
+
+    -- a name is shown so among the nodes that use the place exactly where the formula of its key mentions it
+    shown-mentions : list_any (is_shown_at words q) nodes ≡ (written at q && needs at q (fin.get m (key_shown q)))
+    shown-mentions = same_tests (list_any (is_shown_at words q) nodes) (written at q && needs at q (fin.get m (key_shown q)))
+        (λ h. let (a, there, shown) = any-where (is_shown_at words q) nodes h in forth a (sym (users a) ∙ there) shown)
+        (λ h. let (wrote, needed) = and_parts (written at q) (needs at q (fin.get m (key_shown q))) h in back wrote needed)
+
+  -- shown names in order that are those among the nodes that use a place
+  pub among-listed : (at : Place) (nodes : List Node) (ns : List ShownName) → ((a : Node) → has a nodes ≡ mentions_at b words at a) → IsStrictlySortedBy shown_cmp ns
+      → ((q : ShownName) → list_any (is_at (shown_cmp q)) ns ≡ list_any (is_shown_at words q) nodes) → map shown_link ns ≡ filter_map (name_needing at) (by_capitals (fin.entries m))
+  among-listed at nodes ns users up h = names-listed at m ns all-small up (λ q. h q ∙ shown-mentions at nodes users q)
 
 -- a name that a word finds as a link, and one that it doesn't find
 pub found-link : (scope : Option ℕ) (word : List ℕ) (found : Option Key) → Some (key_of scope word) ≡ found → Some (links.Name scope (capitals word)) ≡ option_map name_link found
 found-link scope word found e = ap (λ w. Some (links.Name scope w)) (sym (capitals-folded word)) ∙ ap (option_map name_link) e
-
--- a name is shown where its formula mentions the place
-pub shown-one : (at : Place) (n : Named) (b : Bool) → mentions (tree_in_scope n.scope n.tree) at ≡ b → cond b (Some (record { scope = n.scope; word = capitals n.word })) None ≡ shown_needing at (slot_of n)
-shown-one at n b needed = λ i. cond (sym needed i) (Some (record { scope = n.scope; word = sym (capitals-folded n.word) i })) None

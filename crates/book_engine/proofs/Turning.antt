@@ -18,7 +18,7 @@ use Rattle.book_model.specs.declared.refusal.Refusal.{Refusal}
 use Rattle.book_model.proofs.SoundSteps.{next_sound, refused_same}
 use Rattle.book_engine.specs.declared.stop.Stop.{Stop}
 use Rattle.book_engine.specs.declared.stop.Stop.TheVariants.{Refused, NoMemory}
-use Rattle.book_engine.specs.internal.Touched.{whole_sheet}
+use Rattle.book_engine.specs.Kept.{whole_sheet}
 use Rattle.book_engine.specs.internal.Turns.{Turns}
 
 -- the session after a call is sound

@@ -1,11 +1,18 @@
--- What an engine keeps of its formulas. Source: this project's own.
-use Rattle.std.specs.Prelude.{ℕ, Option}
+-- What an engine keeps of its formulas and of values. Source: this project's own.
+use Rattle.std.specs.Prelude.{◌≡◌, ◌+◌, ◌-◌, ◌≤◌, ℕ, Bool, List, Option, Some, None}
+use Rattle.cell_addr.specs.declared.place.Block.{Block}
 use Rattle.cell_addr.specs.declared.place.Place.{Place}
+use Rattle.cell_addr.specs.declared.place.TheConstants.{COLS, ROWS}
 use Rattle.clip_board.specs.declared.clip.Clip.{Clip}
 use Rattle.clip_board.specs.declared.clip.Clip.TheVariants as clips
 use Rattle.formula_tree.specs.Term.{Term}
+use Rattle.formula_tree.specs.declared.reference.Corner.{Corner}
 use Rattle.formula_tree.specs.declared.reference.Home.{Home}
 use Rattle.formula_tree.specs.declared.reference.Ref.{Ref}
+use Rattle.calc_terms.specs.Cost.{cost}
+use Rattle.book_model.specs.Content.{tree_given}
+use Rattle.book_values.specs.Workbook.{Workbook}
+use Rattle.recalc_core.specs.Steps.{bare}
 use Rattle.kept_book.specs.Ids.{KeepsBelow}
 use Rattle.kept_book.specs.Kept as book
 use Rattle.kept_book.specs.declared.book.Book.{Book}
@@ -14,7 +21,13 @@ use Rattle.kept_steps.specs.declared.session.Session.{Session}
 use Rattle.lazy_store.specs.Store as store
 use Rattle.shift_core.specs.declared.shift.Shift.{Shift}
 use Rattle.calc_eval.specs.declared.customs.Customs.{Ghosts}
+use Rattle.kept_values.specs.declared.values.Values.{Values}
+use Rattle.session_values.specs.Following.{book_of, words_in}
+use Rattle.session_values.specs.Refreshed.{TakesStepsIn}
+use Rattle.session_values.specs.Touched.{AreTouched, AreTouchedAtMost}
+use Rattle.book_engine.specs.Seen.{state_of}
 use Rattle.book_engine.specs.declared.engine.Engine.{Engine}
+use Rattle.book_engine.specs.declared.parts.Parts.{Parts}
 
 -- the session of an engine
 abbrev pub session_kept : {C : Type 0} {G : Ghosts C} → Engine C G → Session
@@ -58,3 +71,44 @@ KeepsElsewhere p old new = book.KeepsElsewhere p (book_kept old) (book_kept new)
 abbrev pub KeepsAtPaste : {C : Type 0} {G : Ghosts C} → Clip → Engine C G → Engine C G → Type 0
 KeepsAtPaste (clips.Cut area) old new = KeepsAtShift old new
 KeepsAtPaste clip old new = KeepsInUse old new
+
+-- what is kept of values, if anything is
+abbrev pub values_kept : {C : Type 0} {G : Ghosts C} → Engine C G → Option Values
+values_kept e = e.parts.values.values
+
+-- all places of a sheet
+abbrev pub whole_sheet : ℕ → Block
+whole_sheet sheet = record { sheet = sheet; top = 0; left = 0; bottom = ROWS - 1; right = COLS - 1 }
+
+-- what is kept of values stays as it was
+abbrev pub KeepsValues : {C : Type 0} {G : Ghosts C} → Engine C G → Engine C G → Type 0
+KeepsValues old new = values_kept new ≡ values_kept old
+
+-- so, but that cells of these places may be marked
+abbrev pub MarksCells : {C : Type 0} {G : Ghosts C} → (Place → Bool) → Engine C G → Engine C G → Type 0
+MarksCells places old new = AreTouched places (values_kept old) (values_kept new)
+
+-- so, or nothing is kept any more
+abbrev pub MarksCellsAtMost : {C : Type 0} {G : Ghosts C} → (Place → Bool) → Engine C G → Engine C G → Type 0
+MarksCellsAtMost places old new = AreTouchedAtMost places (values_kept old) (values_kept new)
+
+-- a read of a value: only what is marked, or what its needs lead to, is worked out, each at most once; where nothing is kept, each place
+-- and each name at most once
+abbrev pub WorksOutIn : Parts → ℕ → ℕ → Type 0
+WorksOutIn p old new = TakesStepsIn (book_of p.session) (words_in p.session) p.values.values old new
+
+-- what a formula costs that is tried on a sheet, if there is one
+abbrev pub tried_cost : Workbook → ℕ → Option (Term Corner) → ℕ
+tried_cost b sheet (Some t) = cost (bare b.names) sheet t
+tried_cost b sheet None = 0
+
+-- a formula that is tried: as a read of a value, and then what the formula costs
+abbrev pub TriesOutIn : Parts → ℕ → List ℕ → ℕ → ℕ → Type 0
+TriesOutIn p sheet text old new = (middle : ℕ) × WorksOutIn p old middle × (new ≤ middle + tried_cost (book_of p.session) sheet (tree_given (state_of p).book.sheets sheet text))
+
+-- and so in an engine
+abbrev pub WorksOut : {C : Type 0} {G : Ghosts C} → Engine C G → ℕ → ℕ → Type 0
+WorksOut e = WorksOutIn e.parts
+
+abbrev pub TriesOut : {C : Type 0} {G : Ghosts C} → Engine C G → ℕ → List ℕ → ℕ → ℕ → Type 0
+TriesOut e = TriesOutIn e.parts

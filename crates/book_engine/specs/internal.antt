@@ -1,7 +1,6 @@
 -- What only the proofs of bodies need.
 pub mod Turns
 pub mod Names
-pub mod Slots
 pub mod ShownNames
 pub mod Links
 pub mod Pasting

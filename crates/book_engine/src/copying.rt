@@ -5,7 +5,7 @@ ghost use Rattle.std.specs.FinMap as map;
 ghost use Rattle.std.specs.List.{All, cons_option, filter_map};
 ghost use Rattle.cell_addr.specs.Order.{place_cmp};
 ghost use Rattle.cell_addr.specs.declared.place.Place.{Place as PlaceSeen};
-ghost use Rattle.cell_addr.specs.Place.{IsBlockInside};
+ghost use Rattle.cell_addr.specs.Place.{IsBlockInside, covers};
 ghost use Rattle.shift_core.specs.Carried as carrying;
 ghost use Rattle.book_model.specs.Changes.{with_copy};
 ghost use Rattle.book_model.specs.Clipboard as clipboard;
@@ -16,6 +16,7 @@ ghost use Rattle.book_model.specs.declared.limits.TheConstants.{MAX_CELLS};
 ghost use Rattle.book_model.specs.declared.refusal.Refusal.TheVariants as refusals;
 ghost use Rattle.kept_book.specs.Copied.{IsCopied, contents_copied};
 ghost use Rattle.kept_steps.specs.Kept.{KeepsInUse};
+ghost use Rattle.session_values.specs.Touched.{AreTouchedAtMost};
 ghost use Rattle.book_engine.specs.Engine.{NoAnswer};
 ghost use Rattle.book_engine.specs.Seen.{Fits, ValuesFollowStill, clip_of, state_of, with_clipboard};
 ghost use Rattle.book_engine.specs.internal.Pasting.{ArePlaces, place_pasted};
@@ -41,6 +42,7 @@ impl Parts {
         ensures state { state_of self.new ≡ state_of self.old }
         ensures fits { Fits self.new }
         ensures follow { ValuesFollowStill self.old self.new }
+        ensures values { self.new.values ≡ self.old.values }
     {
         self.check_clear(area)?;
         let cells = self.session.copied_cells(area)?;
@@ -63,6 +65,7 @@ impl Parts {
         ensures fits { Fits self.new }
         ensures kept { KeepsInUse self.old.session self.new.session.book.lazy }
         ensures follow { ValuesFollowStill self.old self.new }
+        ensures touched { AreTouchedAtMost (covers (carrying.destination area at)) self.old.values.values self.new.values.values }
     {
         self.check_paste(area, at)?;
         if self.filled_after(area, cells, at)? > MAX_CELLS {

@@ -1,5 +1,6 @@
 // The engine, and its calls.
 ghost use Rattle.std.specs.Prelude.{◌≡◌, ◌≤◌, All, IfOk, OnOk, length, option_map};
+ghost use Rattle.cell_addr.specs.Place.{covers, same_place};
 ghost use Rattle.cell_addr.specs.Sheets.{id_in, name_in};
 ghost use Rattle.shift_core.specs.declared.shift.Shift.TheVariants as shifts;
 ghost use Rattle.formula_tree.specs.Relative.{relative};
@@ -11,6 +12,7 @@ ghost use Rattle.book_model.specs.Sound.{IsLinkInside};
 ghost use Rattle.book_model.specs.Workbook.{State};
 ghost use Rattle.book_model.specs.declared.limits.TheConstants.{MAX_UNDO};
 ghost use Rattle.book_engine.specs.Seen.{Fits, ValuesFollow};
+ghost use Rattle.session_values.specs.Refreshed.{IsUnmarked};
 ghost use Rattle.book_engine.specs.internal.FitsProp.{fits-prop};
 ghost use Rattle.book_engine.specs.internal.FollowProp.{follow-prop};
 
@@ -54,7 +56,7 @@ pub struct Engine<C: Customs> {
 #[tactic(auto, unfolding(crate::specs::Engine::StandsFor))]
 impl<C: Customs> Engine<C> {
     ghost use Rattle.book_engine.specs.Engine.{Does, DoesAlways, NoAnswer, StandsFor};
-    ghost use Rattle.book_engine.specs.Kept.{GoesOn, KeepsAll, KeepsAtPaste, KeepsAtShift, KeepsEarlier, KeepsElsewhere, KeepsInUse, book_kept, stored_by};
+    ghost use Rattle.book_engine.specs.Kept.{GoesOn, KeepsAll, KeepsAtPaste, KeepsAtShift, KeepsEarlier, KeepsElsewhere, KeepsInUse, KeepsValues, MarksCells, TriesOut, WorksOut, book_kept, stored_by, values_kept, whole_sheet};
 
     /// The engine of a workbook with these sheets, numbered from 0 in their order, and these texts in their cells. All
     /// formulas are read when all sheets are there. At most `limit` steps can be undone, which is at most 1,000. Formulas
@@ -88,6 +90,7 @@ impl<C: Customs> Engine<C> {
     pub fn set(&mut self, at: Place, text: &str) -> Result<(), Stop>
         ensures does { Does C.customs (op.set at text.now) NoAnswer self.old self.new result }
         ensures kept { KeepsInUse self.old self.new }
+        ensures marks { MarksCells (same_place at) self.old self.new }
     {
         self.parts.set(at, text)?;
         self.waiting.clear_cut();
@@ -101,6 +104,7 @@ impl<C: Customs> Engine<C> {
     pub fn clear(&mut self, area: Block) -> Result<(), Stop>
         ensures does { Does C.customs (op.clear area) NoAnswer self.old self.new result }
         ensures kept { KeepsEarlier self.old self.new }
+        ensures marks { MarksCells (covers area) self.old self.new }
     {
         self.parts.clear(area)?;
         self.waiting.clear_cut();
@@ -216,6 +220,7 @@ impl<C: Customs> Engine<C> {
     pub fn add_sheet(&mut self, name: &str) -> Result<u32, Stop>
         ensures does { Does C.customs (op.add_sheet name.now) (λ d number. number ≡ d.next_sheet) self.old self.new result }
         ensures kept { KeepsAll self.old self.new }
+        ensures values { KeepsValues self.old self.new }
     {
         let number = self.parts.add_sheet(name)?;
         self.waiting.clear_cut();
@@ -241,6 +246,7 @@ impl<C: Customs> Engine<C> {
     pub fn rename_sheet(&mut self, sheet: u32, name: &str) -> Result<(), Stop>
         ensures does { Does C.customs (op.rename_sheet sheet name.now) NoAnswer self.old self.new result }
         ensures kept { KeepsAll self.old self.new }
+        ensures values { KeepsValues self.old self.new }
     {
         self.parts.rename_sheet(sheet, name)?;
         self.waiting.clear_cut();
@@ -254,6 +260,7 @@ impl<C: Customs> Engine<C> {
     pub fn clear_sheet(&mut self, sheet: u32) -> Result<(), Stop>
         ensures does { Does C.customs (op.clear_sheet sheet) NoAnswer self.old self.new result }
         ensures kept { KeepsEarlier self.old self.new }
+        ensures marks { MarksCells (covers (whole_sheet sheet)) self.old self.new }
     {
         self.parts.clear_sheet(sheet)?;
         self.waiting.clear_cut();
@@ -310,7 +317,8 @@ impl<C: Customs> Engine<C> {
     /// # Errors
     /// `NoSheet`, `Outside` where the block isn't within the limits of a sheet.
     pub fn copy(&mut self, area: Block) -> Result<(), Stop>
-        ensures { Does C.customs (op.copy area) NoAnswer self.old self.new result }
+        ensures does { Does C.customs (op.copy area) NoAnswer self.old self.new result }
+        ensures values { KeepsValues self.old self.new }
     {
         self.waiting = self.parts.copied(area)?;
         Ok(())
@@ -321,6 +329,7 @@ impl<C: Customs> Engine<C> {
     pub fn cut(&mut self, area: Block) -> Result<(), Stop>
         ensures does { Does C.customs (op.cut area) NoAnswer self.old self.new result }
         ensures kept { KeepsAll self.old self.new }
+        ensures values { KeepsValues self.old self.new }
     {
         self.parts.check_clear(area)?;
         self.waiting = Waiting::cut(area);
@@ -356,6 +365,7 @@ impl<C: Customs> Engine<C> {
     pub fn begin(&mut self) -> Result<(), Stop>
         ensures does { Does C.customs op.begin NoAnswer self.old self.new result }
         ensures kept { KeepsAll self.old self.new }
+        ensures values { KeepsValues self.old self.new }
     {
         self.parts.begin()
     }
@@ -367,6 +377,7 @@ impl<C: Customs> Engine<C> {
     pub fn commit(&mut self) -> Result<(), Stop>
         ensures does { Does C.customs op.commit NoAnswer self.old self.new result }
         ensures kept { KeepsAll self.old self.new }
+        ensures values { KeepsValues self.old self.new }
     {
         self.parts.commit()
     }
@@ -375,6 +386,7 @@ impl<C: Customs> Engine<C> {
     pub fn suspend(&mut self)
         ensures does { DoesAlways C.customs op.suspend self.old self.new }
         ensures kept { KeepsAll self.old self.new }
+        ensures values { KeepsValues self.old self.new }
     {
         self.parts.suspend();
     }
@@ -383,6 +395,7 @@ impl<C: Customs> Engine<C> {
     pub fn resume(&mut self)
         ensures does { DoesAlways C.customs op.resume self.old self.new }
         ensures kept { KeepsAll self.old self.new }
+        ensures values { KeepsValues self.old self.new }
     {
         self.parts.resume();
     }
@@ -422,7 +435,10 @@ impl<C: Customs> Engine<C> {
     /// # Errors
     /// `Suspended` where the computation is suspended or a batch is open, `NoSheet`, `Outside`.
     pub fn value<L: Ledger>(&mut self, at: Place, steps: &mut Steps<L>) -> Result<Scalar, Stop>
-        ensures { Does C.customs (op.value at) (λ d scalar. scalar ≡ value_of d at) self.old self.new result }
+        ensures does { Does C.customs (op.value at) (λ d scalar. scalar ≡ value_of d at) self.old self.new result }
+        ensures unmarked { OnOk result (IsUnmarked (values_kept self.new)) }
+        ensures least { steps.old ≤ steps.new }
+        ensures most { WorksOut self.old steps.old steps.new }
     {
         self.parts.value(at, &self.customs, self.day, steps)
     }
@@ -438,7 +454,10 @@ impl<C: Customs> Engine<C> {
         sheet: u32,
         steps: &mut Steps<L>,
     ) -> Result<Scalar, Stop>
-        ensures { Does C.customs (op.name_value name.now sheet) (λ d scalar. scalar ≡ name_value_of d name.now sheet) self.old self.new result }
+        ensures does { Does C.customs (op.name_value name.now sheet) (λ d scalar. scalar ≡ name_value_of d name.now sheet) self.old self.new result }
+        ensures unmarked { OnOk result (IsUnmarked (values_kept self.new)) }
+        ensures least { steps.old ≤ steps.new }
+        ensures most { WorksOut self.old steps.old steps.new }
     {
         self.parts
             .name_value(name, sheet, &self.customs, self.day, steps)
@@ -455,7 +474,10 @@ impl<C: Customs> Engine<C> {
         text: &str,
         steps: &mut Steps<L>,
     ) -> Result<Scalar, Stop>
-        ensures { Does C.customs (op.try_formula sheet text.now) (λ d scalar. scalar ≡ tried_value d sheet text.now) self.old self.new result }
+        ensures does { Does C.customs (op.try_formula sheet text.now) (λ d scalar. scalar ≡ tried_value d sheet text.now) self.old self.new result }
+        ensures unmarked { OnOk result (IsUnmarked (values_kept self.new)) }
+        ensures least { steps.old ≤ steps.new }
+        ensures most { TriesOut self.old sheet text.now steps.old steps.new }
     {
         self.parts
             .try_formula(sheet, text, &self.customs, self.day, steps)
@@ -468,6 +490,7 @@ impl<C: Customs> Engine<C> {
     pub fn formula(&mut self, at: Place) -> Result<Option<Text>, Stop>
         ensures does { Does C.customs (op.formula at) (λ d text. text ≡ formula_of d at) self.old self.new result }
         ensures kept { KeepsElsewhere at self.old self.new }
+        ensures values { KeepsValues self.old self.new }
     {
         self.parts.formula(at)
     }
@@ -479,6 +502,7 @@ impl<C: Customs> Engine<C> {
     pub fn content(&mut self, at: Place) -> Result<Text, Stop>
         ensures does { Does C.customs (op.content at) (λ d text. text ≡ content_text d at) self.old self.new result }
         ensures kept { KeepsElsewhere at self.old self.new }
+        ensures values { KeepsValues self.old self.new }
     {
         self.parts.content(at)
     }
@@ -493,13 +517,15 @@ impl<C: Customs> Engine<C> {
         ensures does { Does C.customs (op.precedents at) (λ d links. links.items ≡ precedents_of d at) self.old self.new result }
         ensures inside { IfOk result (λ links. All IsLinkInside links.items) }
         ensures kept { KeepsElsewhere at self.old self.new }
+        ensures values { KeepsValues self.old self.new }
     {
         self.parts.precedents(at)
     }
 
     /// The cells and then the names whose formulas need a cell by a reference or a range of their own: cells by the number
     /// of their sheet, row and column, names of the whole workbook before those of each sheet, by the bytes of their words
-    /// in capitals. Costs about the nodes of all formulas.
+    /// in capitals. Costs the sorting of its answer, about the number of links to the cell and to the ranges that cover it,
+    /// and the links of the formulas that changed since a value was read; where no values are kept, those of all formulas.
     ///
     /// # Errors
     /// `NoSheet`, `Outside`.

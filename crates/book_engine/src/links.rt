@@ -1,32 +1,37 @@
 // The links of formulas: what a cell's formula needs, and which formulas need a cell.
-ghost use Rattle.std.specs.Prelude.{◌≡◌, ◌++◌, ◌||◌, IfOk, None, OnOk, Some, if◌then◌else◌, map, option_map};
+ghost use Rattle.std.specs.Prelude.{◌≡◌, ◌++◌, ◌||◌, ℕ, ℤ, IfOk, List, OnOk, map, option_map};
 ghost use Rattle.std.specs.BTreeSet.{IsOrdered, contains};
 ghost use Rattle.std.specs.FinMap as fin;
 ghost use Rattle.std.specs.List.{All, cons_option, filter_map, list_any};
 ghost use Rattle.std.specs.Ordering.{eq_by_cmp};
 ghost use Rattle.cell_addr.specs.Order.{place_cmp};
+ghost use Rattle.custom_fn.specs.declared.rule.Rule.{Rule};
 ghost use Rattle.formula_tree.specs.declared.link.Link.TheVariants as links;
+ghost use Rattle.name_table.specs.Named.{words_of};
 ghost use Rattle.book_values.specs.Names.{found, key_of};
 ghost use Rattle.book_values.specs.Workbook as nodes;
 ghost use Rattle.book_model.specs.Answers.{dependents_of, link_of, name_link, precedents_of};
 ghost use Rattle.book_model.specs.Operation as op;
 ghost use Rattle.book_model.specs.Sound.{IsLinkInside};
+ghost use Rattle.dep_graph.specs.Nodes.{has, items_of};
+ghost use Rattle.dep_graph.specs.declared.node.Node.TheVariants.{Cell};
 ghost use Rattle.kept_book.specs.Kept.{KeepsElsewhere};
-ghost use Rattle.book_engine.specs.Seen.{Fits, ValuesFollowStill, state_of};
-ghost use Rattle.book_engine.specs.internal.Links.{content_mentions, mentioned, passes, shown_link, shown_needing};
+ghost use Rattle.kept_steps.specs.Reads.{Reads};
+ghost use Rattle.recalc_core.specs.Nodes.{scope_at};
+ghost use Rattle.session_values.specs.Following.{book_of, words_in};
+ghost use Rattle.session_values.specs.Users.{AreUsersIn};
+ghost use Rattle.book_engine.specs.Seen.{Fits, ValuesFollow, ValuesFollowStill, state_of};
+ghost use Rattle.book_engine.specs.internal.Links.{is_shown_at, mentioned, passes, place_in, shown_at, shown_link};
 ghost use Rattle.book_engine.specs.internal.ShownNames.{shown_cmp};
-ghost use Rattle.book_engine.specs.internal.Slots.{slot_of};
 ghost use Rattle.book_engine.specs.internal.Turns.{Turns};
 
-use crate::named::Named;
 use crate::parts::Parts;
-use crate::reading::next_place;
 use crate::shown_name::ShownName;
 use crate::stop::Stop;
-use calc_terms::mentions;
-use cell_addr::{Place, capitals};
+use cell_addr::{NO_SHEET, Place, capitals};
+use dep_graph::{Node, Nodes};
 use formula_tree::{Home, Link, Mention, mentions_of};
-use kept_book::home_in;
+use name_table::Names;
 use std::alloc::{AllocError, Global};
 use std::collections::BTreeSet;
 
@@ -39,6 +44,7 @@ impl Parts {
         ensures inside { IfOk result (λ links. All IsLinkInside links.items) }
         ensures kept { KeepsElsewhere at self.old.session.book self.new.session.book }
         ensures follow { ValuesFollowStill self.old self.new }
+        ensures values { self.new.values ≡ self.old.values }
     {
         self.check_place(at)?;
         let links = self.links_from(at)?;
@@ -47,7 +53,8 @@ impl Parts {
 
     // The cells and then the names whose formulas need a cell themselves, each in order.
     pub(crate) fn dependents(&mut self, at: Place) -> Result<Vec<Link>, Stop>
-        requires { Fits self.old }
+        requires fits { Fits self.old }
+        requires follow { (customs : List (List ℕ × Rule)) × (today : ℤ) × ValuesFollow customs today self.old }
         ensures turns { Turns (op.dependents at) (λ d links. links.items ≡ dependents_of d at) (state_of self.old) (state_of self.new) result }
         ensures fits { Fits self.new }
         ensures inside { IfOk result (λ links. All IsLinkInside links.items) }
@@ -64,6 +71,7 @@ impl Parts {
         ensures state { state_of self.new ≡ state_of self.old }
         ensures kept { KeepsElsewhere at self.old.session.book self.new.session.book }
         ensures follow { ValuesFollowStill self.old self.new }
+        ensures values { self.new.values ≡ self.old.values }
     {
         let mentions = self.mentioned(at)?;
         let links = self.links_of(at.sheet, mentions.as_slice())?;
@@ -77,6 +85,7 @@ impl Parts {
         ensures state { state_of self.new ≡ state_of self.old }
         ensures kept { KeepsElsewhere at self.old.session.book self.new.session.book }
         ensures follow { ValuesFollowStill self.old self.new }
+        ensures values { self.new.values ≡ self.old.values }
     {
         let alloc = self.session.book.alloc;
         match self.session.formula(at)? {
@@ -123,77 +132,100 @@ impl Parts {
 
     // The cells and then the names whose formulas mention a place.
     fn links_to(&mut self, at: Place) -> Result<Vec<Link>, AllocError>
+        requires fits { Fits self.old }
+        requires follow { (customs : List (List ℕ × Rule)) × (today : ℤ) × ValuesFollow customs today self.old }
         ensures links { IfOk result (λ links. links.items ≡ dependents_of (state_of self.old) at) }
         ensures state { state_of self.new ≡ state_of self.old }
         ensures follow { ValuesFollowStill self.old self.new }
     {
+        let users = self.users(at)?;
         let alloc = self.session.book.alloc;
-        let cells = self.cells_needing(at)?;
-        let named = self.named_trees()?;
-        let names = names_needing(alloc, &named, at)?;
+        let cells = cells_among(alloc, users.items())?;
+        let names = names_among(alloc, &self.session.book.names, users.items())?;
         let mut links = Vec::new(alloc);
         push_cells(&mut links, &cells)?;
         push_names(alloc, &mut links, &names)?;
         Ok(links)
     }
 
-    // The cells whose formulas mention a place.
-    fn cells_needing(&mut self, at: Place) -> Result<BTreeSet<Place>, AllocError>
-        ensures needing { IfOk result (λ set. (q : Place) → contains place_cmp set q ≡ passes (content_mentions at) (fin.get (state_of self.old).book.cells q)) }
-        ensures state { state_of self.new ≡ state_of self.old }
+    // The nodes whose formulas mention a place.
+    fn users(&mut self, at: Place) -> Result<Nodes, AllocError>
+        requires fits { Fits self.old }
+        requires follow { (customs : List (List ℕ × Rule)) × (today : ℤ) × ValuesFollow customs today self.old }
+        ensures users { IfOk result (λ nodes. AreUsersIn (book_of self.old.session) (words_in self.old.session) at (items_of nodes)) }
+        ensures reads { Reads self.old.session self.new.session }
         ensures follow { ValuesFollowStill self.old self.new }
     {
-        let mut needing = BTreeSet::new(self.session.book.alloc);
-        let mut cells = self.session.book.grid.all()?;
-        while let Some(place) = next_place(&mut cells) {
-            let found = self.place_needing(at, place)?;
-            add(&mut needing, found)?;
-        }
-        Ok(needing)
-    }
-
-    // The second place, if the formula there mentions the first.
-    #[tactic(auto, using(crate::proofs::Following::follow_reads))]
-    fn place_needing(&mut self, at: Place, place: Place) -> Result<Option<Place>, AllocError>
-        ensures needing { IfOk result (λ found. found ≡ (if passes (content_mentions at) (fin.get (state_of self.old).book.cells place) then Some place else None)) }
-        ensures state { state_of self.new ≡ state_of self.old }
-        ensures follow { ValuesFollowStill self.old self.new }
-    {
-        match self.session.formula(place)? {
-            Some(tree) if mentions(&tree, Home::Cell(place), at) => Ok(Some(place)),
-            _ => Ok(None),
-        }
+        let Parts { session, values } = self;
+        values.users(session, at)
     }
 }
 
-// The names whose formulas mention a place, as links show them.
-fn names_needing(
+// The cells among the nodes.
+fn cells_among(alloc: Global, nodes: &[Node]) -> Result<BTreeSet<Place>, AllocError>
+    ensures { IfOk result (λ set. (q : Place) → contains place_cmp set q ≡ has (Cell q) nodes.now) }
+{
+    let mut cells = BTreeSet::new(alloc);
+    'nodes: for node in nodes {
+        add(&mut cells, place_in(*node))?;
+    }
+    Ok(cells)
+}
+
+// The place of the node, if it is a cell.
+fn place_in(a: Node) -> Option<Place>
+    ensures { result ≡ place_in a }
+{
+    match a {
+        Node::Cell(at) => Some(at),
+        Node::Name { .. } | Node::Range(_) => None,
+    }
+}
+
+// The names among the nodes, as links show them.
+fn names_among(
     alloc: Global,
-    named: &[Named],
-    at: Place,
+    names: &Names,
+    nodes: &[Node],
 ) -> Result<BTreeSet<ShownName>, AllocError>
-    ensures { IfOk result (λ set. (q : ShownName) → contains shown_cmp set q ≡ list_any (λ slot. passes (λ n. eq_by_cmp shown_cmp n q) (shown_needing at slot)) (map slot_of named.now)) }
+    ensures { IfOk result (λ set. (q : ShownName) → contains shown_cmp set q ≡ list_any (is_shown_at (words_of names.now) q) nodes.now) }
 {
-    let mut names = BTreeSet::new(alloc);
-    'names: for name in named {
-        let shown = shown_needing(alloc, name, at)?;
-        add(&mut names, shown)?;
+    let mut shown_names = BTreeSet::new(alloc);
+    'nodes: for node in nodes {
+        let shown = shown_at(alloc, names, *node)?;
+        add(&mut shown_names, shown)?;
     }
-    Ok(names)
+    Ok(shown_names)
 }
 
-// The name as links show it, if its formula mentions the place.
-fn shown_needing(alloc: Global, named: &Named, at: Place) -> Result<Option<ShownName>, AllocError>
-    ensures { IfOk result (λ name. name ≡ shown_needing at (slot_of named.now)) }
+// The node as links show it, if it is a name.
+fn shown_at(alloc: Global, names: &Names, a: Node) -> Result<Option<ShownName>, AllocError>
+    ensures { IfOk result (λ name. name ≡ shown_at (words_of names.now) a) }
 {
-    if !mentions(&named.tree, home_in(named.scope), at) {
-        return Ok(None);
+    match a {
+        Node::Name { scope, word } => match names.spelling(word) {
+            Some(spelling) => {
+                let word = capitals(alloc, spelling.as_str())?;
+                Ok(Some(ShownName {
+                    scope: scope_at(scope),
+                    word,
+                }))
+            }
+            None => Ok(None),
+        },
+        Node::Cell(_) | Node::Range(_) => Ok(None),
     }
-    let word = capitals(alloc, named.word.as_str())?;
-    Ok(Some(ShownName {
-        scope: named.scope,
-        word,
-    }))
+}
+
+// The scope of this number: a sheet, or the whole workbook.
+fn scope_at(number: u32) -> Option<u32>
+    ensures { result ≡ scope_at number }
+{
+    if number == NO_SHEET {
+        None
+    } else {
+        Some(number)
+    }
 }
 
 // Puts a key into a set, if there is one.

@@ -1,6 +1,5 @@
 // What cells show and hold.
-ghost use Rattle.std.specs.Prelude.{◌≡◌, ◌++◌, ◌∷◌, [], None, false, IfOk, MatchOption, OnOk, option_copied, option_map};
-ghost use Rattle.grid_store.specs.Grid.{items_of};
+ghost use Rattle.std.specs.Prelude.{◌≡◌, ◌≤◌, None, false, IfOk, OnOk, option_copied, option_map};
 ghost use Rattle.std.specs.FinMap as fin;
 ghost use Rattle.book_values.specs.Workbook.{content_tree};
 ghost use Rattle.book_model.specs.Answers.{content_text, first_cell, formula_of, name_value_of, tried_value, value_of};
@@ -11,6 +10,8 @@ ghost use Rattle.kept_book.specs.Frame.{numbered_at};
 ghost use Rattle.kept_book.specs.Kept.{KeepsElsewhere, at_of};
 ghost use Rattle.kept_book.specs.Stored.{content_of};
 ghost use Rattle.session_values.specs.Following.{AreShowing};
+ghost use Rattle.session_values.specs.Refreshed.{IsUnmarked};
+ghost use Rattle.book_engine.specs.Kept.{TriesOutIn, WorksOutIn};
 ghost use Rattle.book_engine.specs.Seen.{Fits, ValuesFollow, ValuesFollowStill, state_of, with_rules};
 ghost use Rattle.book_engine.specs.internal.Links.{holds_formula};
 ghost use Rattle.book_engine.specs.internal.Turns.{Turns};
@@ -24,7 +25,7 @@ use cell_addr::{Place, Text};
 use cell_value::Scalar;
 use formula_print::print;
 use formula_tree::Home;
-use grid_store::{Cell, CellList};
+use grid_store::Cell;
 use kept_steps::Session;
 use std::alloc::AllocError;
 use std::sync::ledger::Ledger;
@@ -44,6 +45,9 @@ impl Parts {
         ensures turns { Turns (op.value at) (λ d scalar. scalar ≡ value_of d at) (with_rules (C.customs customs.now) day (state_of self.old)) (with_rules (C.customs customs.now) day (state_of self.new)) result }
         ensures fits { Fits self.new }
         ensures follow { ValuesFollow (C.customs customs.now) day self.new }
+        ensures unmarked { OnOk result (IsUnmarked self.new.values.values) }
+        ensures least { steps.old ≤ steps.new }
+        ensures most { WorksOutIn self.old steps.old steps.new }
     {
         self.check_value(at)?;
         self.refresh(customs, day, steps)?;
@@ -65,6 +69,9 @@ impl Parts {
         ensures turns { Turns (op.name_value name.now sheet) (λ d scalar. scalar ≡ name_value_of d name.now sheet) (with_rules (C.customs customs.now) day (state_of self.old)) (with_rules (C.customs customs.now) day (state_of self.new)) result }
         ensures fits { Fits self.new }
         ensures follow { ValuesFollow (C.customs customs.now) day self.new }
+        ensures unmarked { OnOk result (IsUnmarked self.new.values.values) }
+        ensures least { steps.old ≤ steps.new }
+        ensures most { WorksOutIn self.old steps.old steps.new }
     {
         self.check_name_value(name, sheet)?;
         self.refresh(customs, day, steps)?;
@@ -87,6 +94,9 @@ impl Parts {
         ensures turns { Turns (op.try_formula sheet text.now) (λ d scalar. scalar ≡ tried_value d sheet text.now) (with_rules (C.customs customs.now) day (state_of self.old)) (with_rules (C.customs customs.now) day (state_of self.new)) result }
         ensures fits { Fits self.new }
         ensures follow { ValuesFollow (C.customs customs.now) day self.new }
+        ensures unmarked { OnOk result (IsUnmarked self.new.values.values) }
+        ensures least { steps.old ≤ steps.new }
+        ensures most { TriesOutIn self.old sheet text.now steps.old steps.new }
     {
         self.check_on_sheet(sheet)?;
         let home = Home::Cell(first_cell(sheet));
@@ -110,6 +120,9 @@ impl Parts {
         ensures shows { OnOk result (AreShowing (C.customs customs.now) day self.new.session self.new.values.values) }
         ensures state { state_of self.new ≡ state_of self.old }
         ensures follow { ValuesFollow (C.customs customs.now) day self.new }
+        ensures unmarked { OnOk result (IsUnmarked self.new.values.values) }
+        ensures least { steps.old ≤ steps.new }
+        ensures most { WorksOutIn self.old steps.old steps.new }
     {
         let Parts { session, values } = self;
         values.refresh(session, customs, day, steps)
@@ -122,6 +135,7 @@ impl Parts {
         ensures fits { Fits self.new }
         ensures kept { KeepsElsewhere at self.old.session.book self.new.session.book }
         ensures follow { ValuesFollowStill self.old self.new }
+        ensures values { self.new.values ≡ self.old.values }
     {
         self.check_place(at)?;
         let text = self.formula_text(at)?;
@@ -135,6 +149,7 @@ impl Parts {
         ensures fits { Fits self.new }
         ensures kept { KeepsElsewhere at self.old.session.book self.new.session.book }
         ensures follow { ValuesFollowStill self.old self.new }
+        ensures values { self.new.values ≡ self.old.values }
     {
         self.check_place(at)?;
         let text = self.content_text(at)?;
@@ -149,6 +164,7 @@ impl Parts {
         ensures state { state_of self.new ≡ state_of self.old }
         ensures kept { KeepsElsewhere at self.old.session.book self.new.session.book }
         ensures follow { ValuesFollowStill self.old self.new }
+        ensures values { self.new.values ≡ self.old.values }
     {
         let Some(tree) = self.session.formula(at)? else {
             return self.unreadable_text(at);
@@ -186,6 +202,7 @@ impl Parts {
         ensures state { state_of self.new ≡ state_of self.old }
         ensures kept { KeepsElsewhere at self.old.session.book self.new.session.book }
         ensures follow { ValuesFollowStill self.old self.new }
+        ensures values { self.new.values ≡ self.old.values }
     {
         let Some(tree) = self.session.formula(at)? else {
             return self.plain_text(at);
@@ -217,14 +234,6 @@ impl Parts {
             Some(Cell::Broken(text)) => text.copy(alloc),
         }
     }
-}
-
-// Takes the last cell off the list, and answers its place.
-pub(crate) fn next_place(cells: &mut CellList<Cell>) -> Option<Place>
-    ensures { MatchOption result (items_of cells.old ≡ []) (λ at. (cell : _) × (items_of cells.old ≡ items_of cells.new ++ (at, cell) ∷ [])) }
-{
-    let (at, _) = cells.pop()?;
-    Some(at)
 }
 
 // The first cell of the sheet.

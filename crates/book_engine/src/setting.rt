@@ -1,13 +1,14 @@
 // Cells that are filled and emptied.
 ghost use Rattle.std.specs.Prelude.{◌≡◌, OnOk};
-ghost use Rattle.cell_addr.specs.Place.{covers};
+ghost use Rattle.cell_addr.specs.Place.{covers, same_place};
 ghost use Rattle.book_model.specs.Operation as op;
 ghost use Rattle.kept_book.specs.Ids.{KeepsBelow};
 ghost use Rattle.kept_steps.specs.Kept.{KeepsInUse};
 ghost use Rattle.book_engine.specs.Engine.{NoAnswer};
 ghost use Rattle.book_engine.specs.Seen.{Fits, ValuesFollowStill, state_of};
 ghost use Rattle.session_values.specs.Touched.{AreTouched, AreTouchedAtMost};
-ghost use Rattle.book_engine.specs.internal.Touched.{AreFilledMarked, whole_sheet};
+ghost use Rattle.book_engine.specs.Kept.{whole_sheet};
+ghost use Rattle.book_engine.specs.internal.Touched.{AreFilledMarked};
 ghost use Rattle.book_engine.specs.internal.Turns.{Turns};
 
 use crate::parts::Parts;
@@ -25,6 +26,7 @@ impl Parts {
         ensures fits { Fits self.new }
         ensures kept { KeepsInUse self.old.session self.new.session.book.lazy }
         ensures follow { ValuesFollowStill self.old self.new }
+        ensures touched { AreTouched (same_place at) self.old.values.values self.new.values.values }
     {
         self.check_set(at, text)?;
         self.values.touch(at)?;
@@ -39,6 +41,7 @@ impl Parts {
         ensures fits { Fits self.new }
         ensures kept { KeepsBelow self.old.session.book.next_id self.old.session.book.lazy self.new.session.book.lazy }
         ensures follow { ValuesFollowStill self.old self.new }
+        ensures touched { AreTouched (covers area) self.old.values.values self.new.values.values }
     {
         self.check_clear(area)?;
         touch_filled(&self.session, &mut self.values, area)?;
@@ -53,6 +56,7 @@ impl Parts {
         ensures fits { Fits self.new }
         ensures kept { KeepsBelow self.old.session.book.next_id self.old.session.book.lazy self.new.session.book.lazy }
         ensures follow { ValuesFollowStill self.old self.new }
+        ensures touched { AreTouched (covers (whole_sheet sheet)) self.old.values.values self.new.values.values }
     {
         self.check_sheet(sheet)?;
         touch_filled(&self.session, &mut self.values, whole_sheet(sheet))?;

@@ -17,6 +17,7 @@ impl Parts {
         ensures fits { Fits self.new }
         ensures kept { KeepsAll self.old.session.book.lazy self.new.session.book.lazy }
         ensures follow { ValuesFollowStill self.old self.new }
+        ensures values { self.new.values ≡ self.old.values }
     {
         self.check_add(name)?;
         let number = self.session.add_sheet(name)?;
@@ -30,6 +31,7 @@ impl Parts {
         ensures fits { Fits self.new }
         ensures kept { KeepsAll self.old.session.book.lazy self.new.session.book.lazy }
         ensures follow { ValuesFollowStill self.old self.new }
+        ensures values { self.new.values ≡ self.old.values }
     {
         self.check_rename(sheet, name)?;
         self.session.rename_sheet(sheet, name)?;

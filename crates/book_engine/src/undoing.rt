@@ -1,9 +1,7 @@
 // Steps that can be undone and redone, batches of changes, and suspension.
-ghost use Rattle.std.specs.Prelude.{◌≡◌, true, false, OnOk};
+ghost use Rattle.std.specs.Prelude.{◌≡◌, true, false};
 ghost use Rattle.book_model.specs.Operation as op;
 ghost use Rattle.lazy_store.specs.Store.{KeepsAll};
-ghost use Rattle.kept_steps.specs.Turned.{is_listed, to_redo, to_undo};
-ghost use Rattle.session_values.specs.Touched.{AreTouchedAtMost, IsStepMarked};
 ghost use Rattle.book_engine.specs.Engine.{NoAnswer};
 ghost use Rattle.book_engine.specs.Seen.{Fits, ValuesFollowStill, state_of};
 ghost use Rattle.book_engine.specs.internal.Turns.{Turns};
@@ -11,9 +9,6 @@ ghost use Rattle.book_engine.specs.internal.Turns.{Turns};
 use crate::parts::Parts;
 use crate::stop::Stop;
 use book_model::Refusal;
-use kept_steps::Session;
-use session_values::SessionValues;
-use std::alloc::AllocError;
 
 impl Parts {
     // Opens a batch.
@@ -23,6 +18,7 @@ impl Parts {
         ensures fits { Fits self.new }
         ensures kept { KeepsAll self.old.session.book.lazy self.new.session.book.lazy }
         ensures follow { ValuesFollowStill self.old self.new }
+        ensures values { self.new.values ≡ self.old.values }
     {
         if self.session.batch.is_some() {
             return Err(Stop::Refused(Refusal::BatchOpen));
@@ -38,6 +34,7 @@ impl Parts {
         ensures fits { Fits self.new }
         ensures kept { KeepsAll self.old.session.book.lazy self.new.session.book.lazy }
         ensures follow { ValuesFollowStill self.old self.new }
+        ensures values { self.new.values ≡ self.old.values }
     {
         if self.session.batch.is_none() {
             return Err(Stop::Refused(Refusal::NoBatch));
@@ -53,6 +50,7 @@ impl Parts {
         ensures fits { Fits self.new }
         ensures kept { KeepsAll self.old.session.book.lazy self.new.session.book.lazy }
         ensures follow { ValuesFollowStill self.old self.new }
+        ensures values { self.new.values ≡ self.old.values }
     {
         self.session.suspend();
     }
@@ -64,6 +62,7 @@ impl Parts {
         ensures fits { Fits self.new }
         ensures kept { KeepsAll self.old.session.book.lazy self.new.session.book.lazy }
         ensures follow { ValuesFollowStill self.old self.new }
+        ensures values { self.new.values ≡ self.old.values }
     {
         self.session.resume();
     }
@@ -82,8 +81,7 @@ impl Parts {
         if self.session.steps.done().is_empty() {
             return Err(Stop::Refused(Refusal::NothingToUndo));
         }
-        touch_undone(&self.session, &mut self.values)?;
-        self.session.undo()?;
+        self.step_back()?;
         Ok(())
     }
 
@@ -101,30 +99,7 @@ impl Parts {
         if self.session.steps.undone().is_empty() {
             return Err(Stop::Refused(Refusal::NothingToRedo));
         }
-        touch_redone(&self.session, &mut self.values)?;
-        self.session.redo()?;
+        self.step_forth()?;
         Ok(())
-    }
-}
-
-// Marks the cells of the step that is going to be taken back.
-fn touch_undone(session: &Session, values: &mut SessionValues) -> Result<(), AllocError>
-    ensures touched { AreTouchedAtMost (is_listed (to_undo session.now)) values.old.values values.new.values }
-    ensures marked { OnOk result (IsStepMarked (to_undo session.now) values.new.values) }
-{
-    match session.steps.done().back() {
-        Some(step) => values.touch_step(step),
-        None => Ok(()),
-    }
-}
-
-// Marks the cells of the step that is going to be done again.
-fn touch_redone(session: &Session, values: &mut SessionValues) -> Result<(), AllocError>
-    ensures touched { AreTouchedAtMost (is_listed (to_redo session.now)) values.old.values values.new.values }
-    ensures marked { OnOk result (IsStepMarked (to_redo session.now) values.new.values) }
-{
-    match session.steps.undone().last() {
-        Some(step) => values.touch_step(step),
-        None => Ok(()),
     }
 }

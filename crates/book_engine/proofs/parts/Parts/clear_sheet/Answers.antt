@@ -3,7 +3,8 @@ use Rattle.book_model.specs.Operation as op
 use Rattle.book_model.specs.Sound.{IsSound}
 use Rattle.book_engine.specs.Seen.{state_of}
 use Rattle.book_engine.proofs.Turning.{covers_same, done_sound, filled_inside, next_done, sound_inside}
-use Rattle.book_engine.specs.internal.Touched.{AreFilledMarked, whole_sheet}
+use Rattle.book_engine.specs.Kept.{whole_sheet}
+use Rattle.book_engine.specs.internal.Touched.{AreFilledMarked}
 use Rattle.book_model.specs.Changes.{emptied}
 use Rattle.cell_addr.specs.Place.{covers}
 use Rattle.cell_addr.specs.declared.place.Place.{Place}

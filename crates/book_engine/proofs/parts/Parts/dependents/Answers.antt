@@ -7,4 +7,4 @@ use Rattle.book_engine.specs.Seen.{state_of}
 use Rattle.book_engine.proofs.parts.Parts.dependents.Goals as goal
 
 pub returns-clause-inside : goal.returns-clause-inside
-returns-clause-inside c = subst (All IsLinkInside) (sym c.in_ok-links.ensures.links) (dependents_inside (state_of c.args.self.now) c.args.at c.requires)
+returns-clause-inside c = subst (All IsLinkInside) (sym c.in_ok-links.ensures.links) (dependents_inside (state_of c.args.self.now) c.args.at c.requires.fits)

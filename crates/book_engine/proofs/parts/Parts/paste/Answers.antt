@@ -14,7 +14,7 @@ use Rattle.kept_book.specs.Copied.{contents_copied}
 use Rattle.book_engine.specs.Seen.{state_of, with_clipboard}
 use Rattle.book_engine.proofs.Pasting.{few-enough, pasted-sound, three-none}
 use Rattle.book_engine.proofs.Turning.{sound_inside}
-use Rattle.session_values.proofs.MarkedCells.{at_most}
+use Rattle.session_values.proofs.MarkedCells.{at_most, at_most_on}
 use Rattle.session_values.specs.Touched.{AreTouched, AreTouchedAtMost}
 use Rattle.book_engine.specs.internal.Touched.{AreFilledMarked}
 use Rattle.book_engine.proofs.Following.{follow_pasted, follow_touched}
@@ -59,3 +59,13 @@ returns-clause-follow c =
     (subst (λ b. AreTouchedAtMost (covers b) c.touch_filled.new.values.values c.touch_filled_or_forget.new.values.values) c.destination-there.ensures c.touch_filled_or_forget.ensures.touched)
     (subst (λ b. AreFilledMarked b c.args.self.now.session c.touch_filled.new.values.values) c.destination-there.ensures c.in_ok-touch_filled.ensures.marked)
     (subst (λ b. AreFilledMarked b c.paste.new.self c.touch_filled_or_forget.new.values.values) c.destination-there.ensures c.touch_filled_or_forget.ensures.marked)
+
+pub returns-clause-touched : goal.returns-clause-touched
+returns-clause-touched c =
+    let there = covers (destination c.args.area c.args.at) in
+    let old = c.args.self.now.values.values in
+    let between = c.touch_filled.new.values.values in
+    let new = c.touch_filled_or_forget.new.values.values in
+    at_most_on there old between new
+    (at_most there old between (subst (λ b. AreTouched (covers b) old between) c.destination-there.ensures c.touch_filled.ensures.touched))
+    (subst (λ b. AreTouchedAtMost (covers b) between new) c.destination-there.ensures c.touch_filled_or_forget.ensures.touched)

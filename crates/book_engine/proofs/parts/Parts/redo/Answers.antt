@@ -1,4 +1,4 @@
-use Rattle.std.proofs.Common.{◌≡◌, ◌∙◌, ◌==◌, sym, ap, cond, false, length, Some, None, is_some, refl}
+use Rattle.std.proofs.Common.{◌≡◌, ◌∙◌, ◌==◌, sym, ap, cond, false, length, Some, None, is_some}
 use Rattle.book_model.specs.Operation as op
 use Rattle.book_model.specs.Refusals.{cause}
 use Rattle.book_model.specs.declared.refusal.Refusal.TheVariants.{BatchOpen, NothingToRedo}
@@ -10,17 +10,14 @@ use Rattle.book_engine.specs.Seen.{state_of}
 use Rattle.book_engine.proofs.Counted.{none_open, steps_ahead}
 use Rattle.book_engine.proofs.NamedSlots.{is_some-map}
 use Rattle.book_engine.proofs.Turning.{done_sound, next_done}
-use Rattle.kept_steps.specs.Turned.{is_listed, to_redo}
-use Rattle.kept_steps.specs.Turned.{to_redo}
-use Rattle.book_engine.proofs.Following.{follow_touched, follow_turned, more_as}
 use Rattle.book_engine.proofs.parts.Parts.redo.Goals as goal
-
-pub redo-requires : goal.redo-requires
-redo-requires c = record { closed = none_open c.args.self.now.session.batch (sym c.is_some.ensures ∙ c.if-is_some.false) }
 
 -- where no batch is open and there is a step, it is accepted
 accepted : (d : State) → is_some d.batch ≡ false → (length d.redo == 0) ≡ false → cause op.redo d ≡ None
 accepted d shut some = ap (λ x. cond x (Some BatchOpen) (cond (length d.redo == 0) (Some NothingToRedo) None)) shut ∙ ap (λ x. cond x (Some NothingToRedo) None) some
+
+pub step_forth-requires-clause-closed : goal.step_forth-requires-clause-closed
+step_forth-requires-clause-closed c = none_open c.args.self.now.session.batch (sym c.is_some.ensures ∙ c.if-is_some.false)
 
 pub returns-clause-turns : goal.returns-clause-turns
 returns-clause-turns c =
@@ -31,7 +28,7 @@ returns-clause-turns c =
     let shut : is_some d.batch ≡ false = sym (is_some-map (batch_of t f) s.batch) ∙ sym c.is_some.ensures ∙ c.if-is_some.false in
     let some : (length d.redo == 0) ≡ false = ap (λ k. k == 0) (steps_ahead t f s.steps.undone ∙ sym (ap length c.undone.ensures.result)) ∙ sym c.is_empty.ensures ∙ c.if-is_empty.false in
     let none = accepted d shut some in
-    (none, tt, c.in_ok-redo.ensures.ok ∙ sym (next_done op.redo d none))
+    (none, tt, c.in_ok-step_forth.ensures.ok ∙ sym (next_done op.redo d none))
 
 pub returns-clause-fits : goal.returns-clause-fits
 returns-clause-fits c =
@@ -41,13 +38,4 @@ returns-clause-fits c =
     let d = state_of c.args.self.now in
     let shut : is_some d.batch ≡ false = sym (is_some-map (batch_of t f) s.batch) ∙ sym c.is_some.ensures ∙ c.if-is_some.false in
     let some : (length d.redo == 0) ≡ false = ap (λ k. k == 0) (steps_ahead t f s.steps.undone ∙ sym (ap length c.undone.ensures.result)) ∙ sym c.is_empty.ensures ∙ c.if-is_empty.false in
-    done_sound op.redo d _ (accepted d shut some) c.in_ok-redo.ensures.ok c.requires
-
-pub returns-in_err-touch_redone-clause-follow : goal.returns-in_err-touch_redone-clause-follow
-returns-in_err-touch_redone-clause-follow c = follow_touched (is_listed (to_redo c.args.self.now.session)) c.args.self.now (record { session = c.args.self.now.session; values = c.touch_redone.new.values }) (λ i w h. h) c.touch_redone.ensures.touched refl
-
-pub returns-in_err-redo-clause-follow : goal.returns-in_err-redo-clause-follow
-returns-in_err-redo-clause-follow c = follow_touched (is_listed (to_redo c.args.self.now.session)) c.args.self.now (record { session = c.redo.new.self; values = c.touch_redone.new.values }) (more_as c.redo.ensures.words) c.touch_redone.ensures.touched c.in_err-redo.ensures.err
-
-pub returns-clause-follow : goal.returns-clause-follow
-returns-clause-follow c = follow_turned (to_redo c.args.self.now.session) c.args.self.now (record { session = c.redo.new.self; values = c.touch_redone.new.values }) (more_as c.redo.ensures.words) c.touch_redone.ensures.touched c.in_ok-touch_redone.ensures.marked c.in_ok-redo.ensures.others
+    done_sound op.redo d _ (accepted d shut some) c.in_ok-step_forth.ensures.ok c.requires

@@ -10,10 +10,10 @@ pub returns-in-Ok-clause-err : goal.returns-in-Ok-clause-err
 returns-in-Ok-clause-err g c =
     let name = c.as_str.result.now in
     let sheet = c.id-sheet.result in
-    on_err _ _ (read_keeps {X = Scalar} g.C.Customs.customs (op.name_value name sheet) (λ d scalar. scalar ≡ name_value_of d name sheet) c.args.self.now.engine c.name_value.new.self c.in-Ok.scalar (λ d. refl) c.in-Ok.ensures)
+    on_err _ _ (read_keeps {X = Scalar} g.C.Customs.customs (op.name_value name sheet) (λ d scalar. scalar ≡ name_value_of d name sheet) c.args.self.now.engine c.name_value.new.self c.in-Ok.scalar (λ d. refl) c.in-Ok.ensures.does)
 
 pub returns-in-Err-clause-err : goal.returns-in-Err-clause-err
 returns-in-Err-clause-err g c =
     let name = c.as_str.result.now in
     let sheet = c.id-sheet.result in
-    on_err _ _ (stop_keeps {X = Scalar} g.C.Customs.customs (op.name_value name sheet) (λ d scalar. scalar ≡ name_value_of d name sheet) c.args.self.now.engine c.name_value.new.self c.in-Err.stop c.in-Err.ensures)
+    on_err _ _ (stop_keeps {X = Scalar} g.C.Customs.customs (op.name_value name sheet) (λ d scalar. scalar ≡ name_value_of d name sheet) c.args.self.now.engine c.name_value.new.self c.in-Err.stop c.in-Err.ensures.does)

@@ -1,0 +1,13 @@
+use Rattle.std.proofs.Common.{refl}
+use Rattle.kept_steps.specs.Turned.{is_listed, to_redo}
+use Rattle.book_engine.proofs.Following.{follow_step, follow_touched, more_as}
+use Rattle.book_engine.proofs.parts.Parts.cells_forth.Goals as goal
+
+pub returns-in_err-touch_redone-clause-follow : goal.returns-in_err-touch_redone-clause-follow
+returns-in_err-touch_redone-clause-follow c =
+    follow_touched (is_listed (to_redo c.args.self.now.session)) c.args.self.now (record { session = c.args.self.now.session; values = c.touch_redone.new.values }) (λ i w h. h) c.touch_redone.ensures.touched refl
+
+pub returns-clause-follow : goal.returns-clause-follow
+returns-clause-follow c =
+    follow_step c.redo.result (to_redo c.args.self.now.session) c.args.self.now (record { session = c.redo.new.self; values = c.touch_redone.new.values }) (more_as c.redo.ensures.words) c.touch_redone.ensures.touched c.in_ok-touch_redone.ensures.marked
+    c.redo.ensures.others c.redo.ensures.err

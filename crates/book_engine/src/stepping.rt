@@ -1,0 +1,149 @@
+// Steps back and forth, along which goes what is kept of values.
+ghost use Rattle.std.specs.Prelude.{◌≡◌, false, IfSome, None, OnErr, OnOk, Some};
+ghost use Rattle.cell_addr.specs.declared.place.TheConstants.{NO_SHEET as no_sheet};
+ghost use Rattle.book_model.specs.Operation as op;
+ghost use Rattle.book_model.specs.Refusals.{cause};
+ghost use Rattle.book_model.specs.Session.{done};
+ghost use Rattle.kept_book.specs.Kept.{line_of};
+ghost use Rattle.kept_steps.specs.Turned.{is_listed, operation_of, to_redo, to_undo};
+ghost use Rattle.lazy_store.specs.Store.{KeepsAll};
+ghost use Rattle.recalc_core.specs.Shifted.{drops_scope};
+ghost use Rattle.session_values.specs.Touched.{AreTouchedAtMost, IsStepMarked};
+ghost use Rattle.shift_core.specs.Form.{form_of};
+ghost use Rattle.shift_core.specs.Opposite.{opposite_of};
+ghost use Rattle.shift_core.specs.Sound.{IsSound};
+ghost use Rattle.book_engine.specs.Seen.{Fits, ValuesFollowStill, state_of};
+
+use crate::parts::Parts;
+use kept_steps::Session;
+use session_values::{SessionValues, restored_by, touched_by};
+use shift_core::Shift;
+use std::alloc::AllocError;
+
+impl Parts {
+    // Takes the newest step back. What is kept of values goes along, where the step is one structural operation that has an
+    // opposite, or changes of cells alone; else nothing is kept any more.
+    pub(crate) fn step_back(&mut self) -> Result<(), AllocError>
+        requires fits { Fits self.old }
+        requires closed { self.old.session.batch ≡ None }
+        requires accepted { cause op.undo (state_of self.old) ≡ None }
+        ensures ok { OnOk result (state_of self.new ≡ done op.undo (state_of self.old)) }
+        ensures err { OnErr result (state_of self.new ≡ state_of self.old) }
+        ensures kept { KeepsAll self.old.session.book.lazy self.new.session.book.lazy }
+        ensures follow { ValuesFollowStill self.old self.new }
+    {
+        match with_opposite(self.session.operation_undone()) {
+            Some((s, back)) => self.operation_back(&s, &back),
+            None => self.cells_back(),
+        }
+    }
+
+    // Takes a step back that is this operation.
+    fn operation_back(&mut self, s: &Shift, back: &Shift) -> Result<(), AllocError>
+        requires fits { Fits self.old }
+        requires closed { self.old.session.batch ≡ None }
+        requires accepted { cause op.undo (state_of self.old) ≡ None }
+        requires operation { operation_of (line_of self.old.session.book) (to_undo self.old.session) ≡ Some s.now }
+        requires opposite { opposite_of s.now ≡ Some back.now }
+        ensures ok { OnOk result (state_of self.new ≡ done op.undo (state_of self.old)) }
+        ensures err { OnErr result (state_of self.new ≡ state_of self.old) }
+        ensures kept { KeepsAll self.old.session.book.lazy self.new.session.book.lazy }
+        ensures follow { ValuesFollowStill self.old self.new }
+    {
+        let touched = touched_by(&self.session, back)?;
+        let restored = restored_by(&self.session)?;
+        self.session.undo()?;
+        self.values
+            .shift_back(s, back, touched.items(), restored.items());
+        Ok(())
+    }
+
+    // Takes a step back that may be anything else.
+    fn cells_back(&mut self) -> Result<(), AllocError>
+        requires { self.old.session.batch ≡ None }
+        ensures ok { OnOk result (state_of self.new ≡ done op.undo (state_of self.old)) }
+        ensures err { OnErr result (state_of self.new ≡ state_of self.old) }
+        ensures kept { KeepsAll self.old.session.book.lazy self.new.session.book.lazy }
+        ensures follow { ValuesFollowStill self.old self.new }
+    {
+        touch_undone(&self.session, &mut self.values)?;
+        self.session.undo()
+    }
+
+    // Does the step again that was taken back last, likewise.
+    pub(crate) fn step_forth(&mut self) -> Result<(), AllocError>
+        requires fits { Fits self.old }
+        requires closed { self.old.session.batch ≡ None }
+        ensures ok { OnOk result (state_of self.new ≡ done op.redo (state_of self.old)) }
+        ensures err { OnErr result (state_of self.new ≡ state_of self.old) }
+        ensures kept { KeepsAll self.old.session.book.lazy self.new.session.book.lazy }
+        ensures follow { ValuesFollowStill self.old self.new }
+    {
+        match with_opposite(self.session.operation_redone()) {
+            Some((s, _)) => self.operation_forth(&s),
+            None => self.cells_forth(),
+        }
+    }
+
+    // Does a step again that is this operation.
+    fn operation_forth(&mut self, s: &Shift) -> Result<(), AllocError>
+        requires fits { Fits self.old }
+        requires closed { self.old.session.batch ≡ None }
+        requires operation { operation_of (line_of self.old.session.book) (to_redo self.old.session) ≡ Some s.now }
+        requires names { drops_scope (form_of s.now) no_sheet ≡ false }
+        ensures ok { OnOk result (state_of self.new ≡ done op.redo (state_of self.old)) }
+        ensures err { OnErr result (state_of self.new ≡ state_of self.old) }
+        ensures kept { KeepsAll self.old.session.book.lazy self.new.session.book.lazy }
+        ensures follow { ValuesFollowStill self.old self.new }
+    {
+        let touched = touched_by(&self.session, s)?;
+        self.session.redo()?;
+        self.values.shift(s, touched.items());
+        Ok(())
+    }
+
+    // Does a step again that may be anything else.
+    fn cells_forth(&mut self) -> Result<(), AllocError>
+        requires { self.old.session.batch ≡ None }
+        ensures ok { OnOk result (state_of self.new ≡ done op.redo (state_of self.old)) }
+        ensures err { OnErr result (state_of self.new ≡ state_of self.old) }
+        ensures kept { KeepsAll self.old.session.book.lazy self.new.session.book.lazy }
+        ensures follow { ValuesFollowStill self.old self.new }
+    {
+        touch_redone(&self.session, &mut self.values)?;
+        self.session.redo()
+    }
+}
+
+// The operation, with the one that takes it back; `None` where there is none, or none takes it back.
+fn with_opposite(s: Option<Shift>) -> Option<(Shift, Shift)>
+    requires { IfSome s IsSound }
+    ensures operation { IfSome result (λ both. s ≡ Some both.0) }
+    ensures opposite { IfSome result (λ both. opposite_of both.0 ≡ Some both.1) }
+{
+    let s = s?;
+    let back = s.opposite()?;
+    Some((s, back))
+}
+
+// Marks the cells of the step that is going to be taken back.
+fn touch_undone(session: &Session, values: &mut SessionValues) -> Result<(), AllocError>
+    ensures touched { AreTouchedAtMost (is_listed (to_undo session.now)) values.old.values values.new.values }
+    ensures marked { OnOk result (IsStepMarked (to_undo session.now) values.new.values) }
+{
+    match session.steps.done().back() {
+        Some(step) => values.touch_step(step),
+        None => Ok(()),
+    }
+}
+
+// Marks the cells of the step that is going to be done again.
+fn touch_redone(session: &Session, values: &mut SessionValues) -> Result<(), AllocError>
+    ensures touched { AreTouchedAtMost (is_listed (to_redo session.now)) values.old.values values.new.values }
+    ensures marked { OnOk result (IsStepMarked (to_redo session.now) values.new.values) }
+{
+    match session.steps.undone().last() {
+        Some(step) => values.touch_step(step),
+        None => Ok(()),
+    }
+}
