@@ -6,6 +6,7 @@ ghost use Rattle.std.specs.Prelude.{◌≤◌};
 ghost use Rattle.book_model.specs.declared.limits.TheConstants.{MAX_UNDO};
 
 mod cells;
+mod counted;
 mod groups;
 mod no_customs;
 
@@ -13,6 +14,7 @@ use book_engine::{Engine, Stop};
 use book_model::{BookCell, BookCells, BookSheet};
 use cell_addr::Text;
 use cells::reads;
+use counted::formulas_are_worked_out_once;
 use groups::kept;
 use no_customs::NoCustoms;
 use std::alloc::Global;
@@ -24,6 +26,7 @@ use std::process::ExitCode;
 enum Group {
     Given,
     Limit,
+    Counted,
     Over(Calls),
 }
 
@@ -45,9 +48,10 @@ enum Calls {
 }
 
 impl Group {
-    const ALL: [(Group, &'static str); 12] = [
+    const ALL: [(Group, &'static str); 13] = [
         (Group::Given, "begins with given sheets"),
         (Group::Limit, "steps are kept up to the limit"),
+        (Group::Counted, "formulas are worked out once"),
         (Group::Over(Calls::Sheets), "sheets come and go"),
         (Group::Over(Calls::Rows), "formulas follow rows"),
         (
@@ -68,6 +72,7 @@ impl Group {
         match self {
             Group::Given => begins_with_given_sheets(alloc),
             Group::Limit => steps_are_kept_up_to_the_limit(alloc),
+            Group::Counted => formulas_are_worked_out_once(alloc),
             Group::Over(calls) => held(alloc, 20, calls),
         }
     }

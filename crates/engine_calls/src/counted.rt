@@ -1,0 +1,125 @@
+// Evaluations of formulas, counted by a custom function of which each call is counted.
+ghost use Rattle.std.specs.Prelude.{◌≡◌, ◌<◌, ◌∷◌, [], codes};
+ghost use Rattle.custom_fn.specs.Rule.{rule_value};
+ghost use Rattle.engine_calls.specs.Counted as rules;
+
+use super::cells::place;
+use book_engine::{Engine, Stop};
+use calc_eval::Customs;
+use cell_addr::same_folded;
+use cell_value::{FaultKind, Scalar};
+use fix_num::Fixed;
+use std::alloc::{AllocError, Global};
+use std::cell::Cell;
+use std::marker::Brand;
+use std::rc::Rc;
+use std::sync::ledger::{Blank, Ledger};
+use steps::Steps;
+
+// How many formulas call the function.
+const FORMULAS: u32 = 1_000;
+
+// How often functions were called.
+type Calls = Rc<Cell<u64>>;
+
+// A custom function of which each call is counted.
+#[derive(Drop)]
+pub(crate) struct Counting {
+    calls: Calls,
+}
+
+impl Customs for Counting {
+    ghost customs = { λ _. (codes "COUNTED", rules.counted) ∷ [] };
+
+    fn has(&self, word: &str) -> bool {
+        same_folded("COUNTED", word)
+    }
+
+    fn answer(&self, word: &str, value: &Scalar) -> Option<Scalar> {
+        if !same_folded("COUNTED", word) {
+            return None;
+        }
+        self.calls.set(self.calls.get().wrapping_add(1));
+        Some(counted(value))
+    }
+}
+
+// A formula is worked out once, and again where what it needs changed. Inserted rows work out none that they don't bend; neither
+// does the undo of that, nor another name of the sheet.
+pub(crate) fn formulas_are_worked_out_once(alloc: Global) -> Result<bool, Stop> {
+    let calls = no_calls(alloc)?;
+    let customs = Counting {
+        calls: calls.clone()?,
+    };
+    counts::<Counting, Brand>(alloc, customs, &calls, Blank::new(1))
+}
+
+// In a sheet with numbers in the first column, and beside each a formula that calls the function of it.
+fn counts<C: Customs, L: Ledger>(
+    alloc: Global,
+    customs: C,
+    calls: &Calls,
+    blank: Blank,
+) -> Result<bool, Stop>
+    requires name { blank.name ≡ L.name }
+    requires parts { blank.parts ≡ L.parts }
+    requires some { 0 < blank.parts }
+{
+    let mut steps = Steps::<L>::new(blank);
+    let mut engine = Engine::build(alloc, &[], 20, customs, 0)?;
+    fill(alloc, &mut engine)?;
+    let all = count_after(&mut engine, 0, calls, &mut steps)?;
+    engine.set(place(499, 0), "2")?;
+    let one = count_after(&mut engine, 499, calls, &mut steps)?;
+    engine.insert_rows(0, 499, 1)?;
+    let moved = count_after(&mut engine, 0, calls, &mut steps)?;
+    engine.undo()?;
+    let back = count_after(&mut engine, 0, calls, &mut steps)?;
+    engine.rename_sheet(0, "Other")?;
+    let renamed = count_after(&mut engine, 0, calls, &mut steps)?;
+    Ok(all == 1_000 && one == 1_001 && moved == 1_001 && back == 1_001 && renamed == 1_001)
+}
+
+// Gives the cells of a new sheet their numbers and formulas.
+fn fill<C: Customs>(alloc: Global, engine: &mut Engine<C>) -> Result<(), Stop> {
+    engine.add_sheet("Plan")?;
+    for row in 0..FORMULAS {
+        engine.set(place(row, 0), "1")?;
+        let formula = format!(in alloc; "=COUNTED(A{})", u64::from(row) + 1)?;
+        engine.set(place(row, 1), formula.as_str())?;
+    }
+    Ok(())
+}
+
+// How often the function was called once the formula of a row was read.
+fn count_after<C: Customs, L: Ledger>(
+    engine: &mut Engine<C>,
+    row: u32,
+    calls: &Calls,
+    steps: &mut Steps<L>,
+) -> Result<u64, Stop> {
+    engine.value(place(row, 1), steps)?;
+    Ok(calls.get())
+}
+
+// No call yet.
+fn no_calls(alloc: Global) -> Result<Calls, AllocError> {
+    let calls = Rc::new(alloc, Cell::new(0_u64))?;
+    Ok(calls)
+}
+
+// What the function answers: 1 of a number from 0 on, `#N/A` of one below, and a fault of what is no number.
+fn counted(x: &Scalar) -> Scalar
+    ensures { result ≡ rule_value rules.counted x.now }
+{
+    match x.as_number() {
+        Ok(number) => {
+            if number.is_negative() {
+                Scalar::Fault(FaultKind::Na)
+            } else {
+                Scalar::Number(Fixed::ONE)
+            }
+        }
+        Err(fault) => Scalar::Fault(fault),
+    }
+}
