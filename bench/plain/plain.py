@@ -55,8 +55,8 @@ def read_words(words):
     return int(limit), "--strict" in options, name, "--generate" in options, books
 
 
-def run(words, write):
-    """Does what the words say, and answers the status."""
+def run(words, read, write):
+    """Does what the words say, and answers the status. `read` gives standard input."""
     try:
         for word in words:
             word.encode()
@@ -75,7 +75,7 @@ def run(words, write):
             session.add_sheet("Sheet1")
             session.done.clear()
         if name is None:
-            data = files.within_limit(sys.stdin.buffer.read(files.FILE_BYTES + 1))
+            data = files.within_limit(read())
         else:
             data = files.content("script", name)
     except files.Ends as end:
@@ -88,7 +88,10 @@ def main():
     def write(line):
         sys.stdout.buffer.write(line.encode() + b"\n")
 
-    status = run(sys.argv[1:], write)
+    def read():
+        return sys.stdin.buffer.read(files.FILE_BYTES + 1)
+
+    status = run(sys.argv[1:], read, write)
     sys.stdout.buffer.flush()
     return status
 
