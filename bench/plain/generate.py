@@ -25,6 +25,33 @@ LITERALS = (
     "#N/A", "#DIV/0!", "#VALUE!", "12.345678", "-0.5", "6", "40", '"TRUE"', '"<=2"', '"="', '"ab"',
 )
 
+# The kinds of the functions' arguments as docs/FORMULAS.md has them; the last one may be repeated.
+KINDS = {
+    "LL": "SUM AVERAGE MIN MAX COUNT COUNTA PRODUCT AND OR XOR",
+    "R": "COUNTBLANK ROW COLUMN ROWS COLUMNS",
+    "RAR": "SUMIF COUNTIF",
+    "NN": "ABS SIGN INT ROUND ROUNDUP ROUNDDOWN TRUNC MOD QUOTIENT POWER ISEVEN ISODD POSTAGE LEVY",
+    "ARN": "MATCH",
+    "ARNB": "VLOOKUP HLOOKUP",
+    "RNN": "INDEX",
+    "NA": "CHOOSE",
+    "TNN": "LEN LEFT RIGHT MID REPT VALUE",
+    "TT": "CONCATENATE TRIM EXACT",
+    "TTN": "FIND",
+    "TTTN": "SUBSTITUTE",
+    "DNN": "DATE",
+    "DN": "YEAR MONTH DAY WEEKDAY EDATE EOMONTH",
+    "DD": "DAYS",
+    "BAA": "IF NOT",
+    "AA": "ISERROR ISERR ISNA ISNUMBER ISTEXT ISLOGICAL ISBLANK IFERROR IFNA TRUE FALSE NA TODAY",
+}
+KINDS = {word: kinds for kinds, words in KINDS.items() for word in words.split()}
+DAYS = ("0", "1", "59", "60", "61", "366", "45292", "45322", "45351", "2958465", "2958466", "1900",
+        "2024", "1899", "9999", "45351.9", "-1", "36525", "12", "13")
+COUNTS = ("0", "1", "2", "3", "-1", "2.9", "-2", "6", "0.5", "40", "-3.2", "1.21", "1999", "-1.987", "2.5")
+TEXT_LITERALS = ('""', '"a"', '"ab"', '"abcb"', '"  a  b "', '"é€b"', '"aaa"', '"aa"', '"b"', "1.50",
+                 "TRUE", '"-.5"', '"AB"', '"a\t b"')
+
 
 @dataclass
 class Case:
@@ -65,15 +92,16 @@ class Maker:
         return letters.lower() if self.one_in(20) else letters
 
     def sheet(self):
-        if self.one_in(2):
+        choice = self.draw.random()
+        if choice < 0.6:
             return "Sheet1"
-        return self.draw.choice(self.sheets)
+        return self.draw.choice(self.sheets[1:3] if choice < 0.85 else self.sheets)
 
     def front(self, often):
         return "" if self.draw.random() >= often else quoted_sheet(self.sheet()) + "!"
 
     def often(self):
-        return {"sheets": 0.5, "mixed": 0.3, "names": 0.3}.get(self.mode, 0.1)
+        return {"sheets": 0.4, "mixed": 0.2, "names": 0.2}.get(self.mode, 0.05)
 
     def place(self):
         return f"{self.front(self.often())}{self.letters()}{self.row()}"
@@ -81,7 +109,12 @@ class Maker:
     def block(self):
         if self.one_in(3):
             return self.place()
-        return f"{self.place()}:{self.letters()}{self.row()}"
+        if self.one_in(10):
+            return f"{self.place()}:{self.letters()}{self.row()}"
+        row, col = self.draw.randint(1, 5), self.draw.randint(1, 4)
+        last_row, last_col = row + self.draw.randint(0, 2), col + self.draw.randint(0, 1)
+        return (f"{self.front(self.often())}{grammar.column_letters(col)}{row}"
+                f":{grammar.column_letters(last_col)}{last_row}")
 
     # Formulas.
 
@@ -131,11 +164,23 @@ class Maker:
         count = self.draw.randint(least, least + 2 if most is None else most)
         if self.one_in(30):
             count = self.draw.randint(0, 5)
+        kinds = KINDS[word]
         if word in ("MIN", "MAX", "IF", "SUM") and self.one_in(2):
             word = self.draw.choice((word.lower(), word.capitalize()))
-        return f"{word}({','.join(self.argument(depth - 1) for _ in range(count))})"
+        return f"{word}({','.join(self.argument(kinds[min(at, len(kinds) - 1)], depth - 1) for at in range(count))})"
 
-    def argument(self, depth):
+    def argument(self, kind, depth):
+        choice = self.draw.random()
+        if choice < 0.65:
+            if kind == "R" or kind == "L" and self.one_in(2):
+                return self.area()
+            if kind in "ND" and not self.one_in(4):
+                return self.draw.choice(DAYS if kind == "D" else COUNTS)
+            if kind == "T" and not self.one_in(3):
+                return self.draw.choice(TEXT_LITERALS)
+            if kind == "B" and self.one_in(2):
+                return self.draw.choice(("TRUE", "FALSE", "1=1", "0"))
+            return self.reference()
         choice = self.draw.random()
         if choice < 0.35:
             return self.area()
@@ -193,11 +238,11 @@ class Maker:
 
     def weights(self):
         plain = {
-            "set": 30, "value": 10, "formula": 6, "content": 3, "precedents": 2, "dependents": 2,
-            "try": 3, "clear": 3, "insert-rows": 2, "delete-rows": 2, "move-rows": 2,
+            "set": 50, "value": 6, "formula": 4, "content": 2, "precedents": 2, "dependents": 2,
+            "try": 3, "clear": 0.7, "insert-rows": 2, "delete-rows": 2, "move-rows": 2,
             "insert-cols": 2, "delete-cols": 2, "move-cols": 2, "move-block": 3, "copy": 2,
             "cut": 2, "paste": 3, "undo": 3, "redo": 2, "add-sheet": 1, "add-name": 1,
-            "name-value": 1, "begin": 0.5, "commit": 1, "suspend": 0.1, "resume": 0.3,
+            "name-value": 1, "begin": 0.5, "commit": 2, "suspend": 0.1, "resume": 0.5,
             "rename-sheet": 0.3, "drop-sheet": 0.2, "clear-sheet": 0.2, "change-name": 0.5,
             "remove-name": 0.3,
         }
@@ -217,8 +262,9 @@ class Maker:
         axis = word.split("-")[-1]
         line = self.letters if axis == "cols" else lambda: str(self.row())
         if word in ("set", "try"):
-            front = self.place() if word == "set" else self.sheet()
-            return [front, self.formula() if word == "try" else self.text()]
+            if word == "try":
+                return [self.sheet() if self.one_in(8) else "Sheet1", self.formula()]
+            return [self.place(), self.text()]
         if word in ("clear", "copy", "cut"):
             return [self.block()]
         if word.startswith(("insert-", "delete-")):
@@ -252,11 +298,21 @@ class Maker:
         end = self.draw.choice(("\n", "\n", "\n", "\r\n", "\r", "\n\n")) if self.one_in(10) else "\n"
         return (",".join(out) + end).encode()
 
+    def filling(self):
+        """Records that fill some cells."""
+        for row in range(1, 6):
+            for col in "ABCD":
+                if not self.one_in(4):
+                    choice = self.draw.random()
+                    text = str(self.draw.randint(0, 9)) if choice < 0.4 else self.formula()
+                    place = self.front(self.often()) + f"{col}{row}"
+                    yield self.record(["set", place, text if choice < 0.8 else self.text()])
+
     def readout(self):
         """Records that read all that the other commands may have touched."""
-        for sheet in ("Sheet1", "Stock", "My Plan"):
-            for row in range(1, 8):
-                for col in "ABCDE":
+        for sheet in ("Sheet1", *self.sheets[1:3]):
+            for row in range(1, 7):
+                for col in "ABCD":
                     place = f"{quoted_sheet(sheet)}!{col}{row}"
                     for word in ("value", "content"):
                         yield self.record([word, place])
@@ -314,8 +370,8 @@ class Maker:
         case = Case()
         if self.mode in ("malformed", "mixed", "undo"):
             self.words(case)
-        if self.mode in ("sheets", "names", "mixed"):
-            case.records += [self.record(["add-sheet", name]) for name in ("Stock", "My Plan")]
+        case.records += [self.record(["add-sheet", name]) for name in self.sheets[1:3]]
+        case.records += self.filling()
         weights = self.weights()
         for word in self.draw.choices(list(weights), list(weights.values()), k=commands):
             case.records.append(self.record([word] + self.fields(word)))
