@@ -1,5 +1,6 @@
 """The functions. Each gets the formula that calls it and its arguments as trees."""
 
+import calendar
 import datetime
 
 import numbers
@@ -208,11 +209,10 @@ def criterion(value):
     return holds
 
 
-def cells(formula, area):
-    """Each place of the area, as a row and a column from 0, with its value."""
-    for row in range(area.rows):
-        for col in range(area.cols):
-            yield row, col, formula.evaluation.at(area, row, col)
+def offsets(formula, area):
+    """The filled places of an area, as rows and columns from 0."""
+    places = formula.evaluation.filled(area)
+    return [(row - area.row, col - area.col) for _, row, col in places]
 
 
 @function("SUMIF", 2, 3)
@@ -223,8 +223,8 @@ def sum_if(formula, tested, asked, summed=None):
     if (added.rows, added.cols) != (area.rows, area.cols):
         return values.VALUE
     result = 0
-    for row, col, value in cells(formula, area):
-        if holds(value):
+    for row, col in offsets(formula, added):
+        if holds(formula.evaluation.at(area, row, col)):
             other = values.no_fault(formula.evaluation.at(added, row, col))
             if isinstance(other, Number):
                 result = values.number(result + other.millionths).millionths
@@ -235,7 +235,9 @@ def sum_if(formula, tested, asked, summed=None):
 def count_if(formula, tested, asked):
     area = block(formula, tested)
     holds = criterion(formula.value(asked))
-    return values.whole(sum(holds(value) for _, _, value in cells(formula, area)))
+    found = filled(formula, area)
+    empty = area.rows * area.cols - len(found)
+    return values.whole(sum(map(holds, found)) + empty * holds(NOTHING))
 
 
 # Numbers.
@@ -599,7 +601,7 @@ def months_on(found, months):
 
 def last_of(first):
     """The last day of a month, by its first."""
-    return (first.replace(day=28) + datetime.timedelta(4)).replace(day=1) - datetime.timedelta(1)
+    return first.replace(day=calendar.monthrange(first.year, first.month)[1])
 
 
 @function("EDATE", 2, 2)

@@ -305,7 +305,7 @@ class Maker:
                 if not self.one_in(4):
                     choice = self.draw.random()
                     text = str(self.draw.randint(0, 9)) if choice < 0.4 else self.formula()
-                    place = self.front(self.often()) + f"{col}{row}"
+                    place = self.front(0.3) + f"{col}{row}"
                     yield self.record(["set", place, text if choice < 0.8 else self.text()])
 
     def readout(self):
