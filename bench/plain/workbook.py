@@ -281,6 +281,7 @@ class Session:
         self.suspended = False
         self.clipboard = None
         self.last_sheet = 0
+        self.values = None
 
     # Steps.
 
@@ -540,7 +541,11 @@ class Session:
         check(not self.suspended and self.batch is None, "Suspended")
 
     def evaluation(self):
-        return Evaluation(self.book, self.today)
+        """The values of the workbook as it is; a workbook that was asked before is a new one only
+        after a change."""
+        if self.values is None or self.values.book is not self.book:
+            self.values = Evaluation(self.book, self.today)
+        return self.values
 
     def value(self, at):
         self.check_evaluation()
