@@ -1,0 +1,100 @@
+"""The plain machine for `sheetrun`: the same words, the script on standard input or in a file."""
+
+import datetime
+import re
+import sys
+
+import files
+import script
+from functions import DAY_ZERO
+from workbook import Session
+
+USAGE = ("usage: sheetrun [--undo-limit N] [--strict] [--script FILE] [--generate N]"
+         " [BOOK.csv ...]")
+WITH_ARGUMENT = ("--undo-limit", "--script", "--generate")
+
+
+class NoMeaning(Exception):
+    """The words say nothing that can be done."""
+
+
+def must(holds):
+    if not holds:
+        raise NoMeaning
+
+
+def read_words(words):
+    """The options by their word, and the books."""
+    options, books = {}, []
+    words = list(words)
+    while words:
+        word = words.pop(0)
+        if word == "--":
+            books += words
+            break
+        if not word.startswith("-"):
+            books.append(word)
+            continue
+        option, equals, argument = word.partition("=")
+        must(option not in options)
+        if option in WITH_ARGUMENT:
+            must(equals or words)
+            options[option] = argument if equals else words.pop(0)
+        else:
+            must(word == "--strict")
+            options[word] = True
+    must(not any(book.startswith("-") for book in books))
+    limit = options.get("--undo-limit", "20")
+    must(re.fullmatch("[0-9]{1,4}", limit) and int(limit) <= 1000)
+    name = options.get("--script")
+    must(name is None or name and not name.startswith("-"))
+    if "--generate" in options:
+        generated = options["--generate"]
+        must(re.fullmatch("[0-9]{1,5}", generated) and 1 <= int(generated) <= 10000)
+        must(not books and name is None)
+    return int(limit), "--strict" in options, name, "--generate" in options, books
+
+
+def run(words, read, write):
+    """Does what the words say, and answers the status. `read` gives standard input."""
+    try:
+        for word in words:
+            word.encode()
+        limit, strict, name, generate, books = read_words(words)
+    except (NoMeaning, UnicodeEncodeError):
+        write(USAGE)
+        return 2
+    if generate:
+        sys.exit("the plain machine generates no commands")
+    today = datetime.datetime.now(datetime.timezone.utc).date().toordinal() - DAY_ZERO
+    session = Session(limit, today)
+    try:
+        if books:
+            files.add_books(session, books)
+        else:
+            session.add_sheet("Sheet1")
+            session.done.clear()
+        if name is None:
+            data = files.within_limit(read())
+        else:
+            data = files.content("script", name)
+    except files.Ends as end:
+        write(script.line(end.line))
+        return end.status
+    return script.run(session, data, strict, write)
+
+
+def main():
+    def write(line):
+        sys.stdout.buffer.write(line.encode() + b"\n")
+
+    def read():
+        return sys.stdin.buffer.read(files.FILE_BYTES + 1)
+
+    status = run(sys.argv[1:], read, write)
+    sys.stdout.buffer.flush()
+    return status
+
+
+if __name__ == "__main__":
+    sys.exit(main())
