@@ -518,7 +518,8 @@ def substitute(formula, tree, old, new, which=None):
 
 @function("VALUE", 1, 1)
 def value_of(formula, tree):
-    return Number(number(formula, tree))
+    found = numbers.spelled(text(formula, tree))
+    return values.VALUE if found is None else Number(found)
 
 
 # Days: 1 is 1899-12-31, and 45292 is 2024-01-01.
@@ -553,7 +554,9 @@ def serial_of(year, month, day_):
 @function("DATE", 3, 3)
 def date(formula, year, month, day_):
     year, month, day_ = (integer(formula, tree) for tree in (year, month, day_))
-    return values.whole(serial_of(year, month, day_))
+    if not 0 <= year <= 9999:
+        return values.NUM
+    return values.whole(serial_of(year + 1900 if year < 1900 else year, month, day_))
 
 
 @function("YEAR", 1, 1)
@@ -574,20 +577,20 @@ def day_of_month(formula, tree):
 @function("WEEKDAY", 1, 2)
 def weekday(formula, tree, kind=None):
     found = day(formula, tree)
-    kind = 1 if kind is None else integer(formula, kind)
-    if kind == 1:
+    kind = numbers.ONE if kind is None else number(formula, kind)
+    if kind == numbers.ONE:
         return values.whole(found.isoweekday() % 7 + 1)
-    if kind == 2:
+    if kind == 2 * numbers.ONE:
         return values.whole(found.isoweekday())
-    if kind == 3:
+    if kind == 3 * numbers.ONE:
         return values.whole(found.weekday())
     return values.NUM
 
 
 @function("DAYS", 2, 2)
 def days(formula, end, start):
-    end = integer(formula, end)
-    return values.whole(end - integer(formula, start))
+    later, earlier = (day(formula, tree).toordinal() for tree in (end, start))
+    return values.whole(later - earlier)
 
 
 def months_on(found, months):
@@ -751,6 +754,8 @@ def postage(formula, weight):
 @function("LEVY", 1, 1)
 def levy(formula, amount):
     found = number(formula, amount)
+    if found < 0:
+        return values.NUM
     low, high = 1000 * numbers.ONE, 5000 * numbers.ONE
     hundredths = (
         10 * min(found, low) + 20 * max(min(found, high) - low, 0) + 25 * max(found - high, 0)

@@ -195,6 +195,8 @@ def no_blank(text, at):
 def run(token, following):
     """What a run of letters, digits, `_`, `.` and `$` is, before this character."""
     if following == "(":
+        if "$" in token:
+            raise NoTree
         return ("word", token)
     corner = address(token)
     if corner:

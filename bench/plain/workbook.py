@@ -426,7 +426,7 @@ class Session:
         book = self.book.copy()
         book.sheets += ((self.last_sheet, name),)
         self.change(book)
-        return self.last_sheet
+        return self.last_sheet - 1
 
     def drop_sheet(self, name):
         sheet = self.sheet(name)
