@@ -71,3 +71,15 @@ first-fails false r rest e = absurd (none-some r (sym e))
 pub scoped : (b : Workbook) (scope : Option ℕ) (r : Refusal) (cs : List Cause) → AreSheets b.sheets → first_cause ((not (has_scope b scope), r) ∷ cs) ≡ None → scope ≢ Some NO_SHEET
 scoped b scope r cs sheets none same =
     false≢true (sym (none-listed b.sheets sheets.1) ∙ sym (ap (has_scope b) same) ∙ first-fails (has_scope b scope) r (first_cause cs) none)
+
+-- where neither of two causes holds, what the second one misses is there
+pub second_holds : (g h : Bool) (r s : Refusal) → first_cause ((not g, r) ∷ (not h, s) ∷ []) ≡ None → h ≡ true
+second_holds true h r s e = first-fails h s None e
+second_holds false h r s e = absurd (none-some r (sym e))
+
+-- where none of three causes holds, what the third one finds isn't there
+pub third_misses : (g h : Bool) (m : Bool) (r s t : Refusal) → first_cause ((g, r) ∷ (h, s) ∷ (m, t) ∷ []) ≡ None → m ≡ false
+third_misses true h m r s t e = absurd (none-some r (sym e))
+third_misses false true m r s t e = absurd (none-some s (sym e))
+third_misses false false true r s t e = absurd (none-some t (sym e))
+third_misses false false false r s t e = refl

@@ -7,21 +7,26 @@ use Rattle.cell_addr.specs.declared.place.Block.{Block}
 use Rattle.cell_addr.specs.declared.place.Place.{Place}
 use Rattle.clip_board.specs.declared.clip.CopyItem.{CopyItem}
 use Rattle.shift_core.specs.Carried.{destination}
+use Rattle.formula_tree.specs.Term.{Term}
+use Rattle.formula_tree.specs.declared.reference.Corner.{Corner}
 use Rattle.shift_core.specs.declared.shift.Shift.{Shift}
 use Rattle.name_table.specs.Named.{names_of, words_of}
+use Rattle.book_values.specs.Names.{Key, tree_in}
 use Rattle.book_values.specs.Workbook as values
 use Rattle.book_model.specs.Answers.{valued}
-use Rattle.book_model.specs.Changes.{shifted, with_copy}
+use Rattle.book_model.specs.Changes.{shifted, with_copy, with_name}
 use Rattle.book_model.specs.Operation.{structural}
 use Rattle.book_model.specs.Refusals.{cause}
 use Rattle.book_model.specs.Session.{changed, changed_in}
 use Rattle.book_model.specs.Sound.{IsSound}
-use Rattle.book_model.specs.Workbook.{Batch, State, Workbook}
+use Rattle.book_model.specs.Workbook.{Batch, State, Workbook, has_name}
 use Rattle.dep_graph.specs.declared.node.Node.{Node}
+use Rattle.recalc_core.specs.Edits.{DifferInName}
 use Rattle.recalc_core.specs.Laws.{AreKnown}
 use Rattle.recalc_core.specs.Nodes.{AreNumbered}
 use Rattle.marked_values.specs.Shifts.{IsBookAfter}
 use Rattle.marked_books.proofs.Contents.{unpasted}
+use Rattle.marked_books.proofs.Naming.{named_differ, named_now, stood}
 use Rattle.marked_books.proofs.Shifting.{accepted_shifts_lead_on, sessions_are_inside}
 use Rattle.kept_values.specs.Shifted.{HasTouched}
 use Rattle.kept_values.specs.declared.values.Values.{Values}
@@ -35,6 +40,7 @@ use Rattle.kept_steps.specs.Timeline.{book_in, timeline_of}
 use Rattle.kept_steps.specs.Turned.{AreOfCells, DifferAmong, is_listed}
 use Rattle.kept_steps.specs.declared.session.Session.{Session}
 use Rattle.session_values.specs.Following.{FollowsIn, book_of, words_in}
+use Rattle.session_values.specs.Naming.{FollowsName}
 use Rattle.session_values.specs.Shifting.{FollowsShift}
 use Rattle.session_values.specs.Touched.{AreTouched, AreTouchedAtMost, IsMarkedIn, IsStepMarked}
 use Rattle.session_values.proofs.Followed.{cells_follow}
@@ -151,3 +157,14 @@ pub follow_step : {X E : Type 0} (r : Result X E) (changes : List Change) (old n
     → OnOk r (AreOfCells changes → DifferAmong (is_listed changes) (state_of old).book (state_of new).book) → OnErr r (state_of new ≡ state_of old) → ValuesFollowStill old new
 follow_step (Ok x) changes old new more touched marked others same = follow_turned changes old new more touched marked others
 follow_step (Err e) changes old new more touched marked others same = follow_touched (is_listed changes) old new more touched same
+
+-- over a change of a name: it is added, has another formula, or is gone
+pub follow_named : (key : Key) (had : Bool) (o : Option (Term Corner)) (old new : Parts) → IsMore (words_in old.session) (words_in new.session) → state_of new ≡ changed (with_name key o (state_of old).book) (state_of old)
+    → has_name (state_of old).book key ≡ had → FollowsName key new.session had (is_some o) old.values.values new.values.values → ValuesFollowStill old new
+follow_named key had o old new more is was over customs today follows =
+    let b = (state_of old).book in
+    let c = with_name key o b in
+    let same : (state_of new).book ≡ c = ap (λ (d : State). d.book) is ∙ changed_book c (state_of old) in
+    over (book_of old.session) (words_in old.session) customs today (numbered_in old.session) (numbered_in new.session) more
+    (subst (λ (x : Workbook). DifferInName (valued b) (valued x) key) (sym same) (named_differ key o b)) (stood key b had was)
+    (ap (λ (x : Workbook). is_some (tree_in (valued x).names key)) same ∙ ap is_some (named_now key o b)) follows

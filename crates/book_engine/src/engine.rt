@@ -38,11 +38,13 @@ use undo_book::UndoBook;
 ///
 /// Rows and columns are counted from 0. A call that is refused, or that wants memory, leaves the workbook as it was.
 ///
-/// Values are kept from one read to the next. The first read of a value works the whole workbook out. A change of cells, its undo
-/// and its redo mark the cells that they touch, and the next read works out what these reach, each cell and name once, in an order
-/// in which each comes after what it needs; nothing is worked out before that. A structural operation takes along what is kept, and
-/// marks the formulas that it bends or that ask where a reference is. A change of a name, and an undo or redo of more than cells,
-/// give up what is kept, so that the next read works out the whole workbook.
+/// Values are kept from one read to the next. The first read of a value works the whole workbook out. A change marks what it
+/// touches, and the next read works out what the marks reach, each cell and name once, in an order in which each comes after what it
+/// needs; nothing is worked out before that. A change of cells and a paste mark these cells; a structural operation takes along what
+/// is kept, and marks the formulas that it bends or that ask where a reference is; a name that gets another formula is marked, with
+/// one that is removed each formula that used it, and with one that is added each formula with a word that found none. Undo and redo
+/// of changes of cells mark these, and of one structural operation they take back or along what is kept; after those of anything
+/// else, and of a dropped sheet, the next read works the whole workbook out.
 #[derive(Drop)]
 pub struct Engine<C: Customs> {
     parts: Parts,

@@ -44,8 +44,8 @@ impl Parts {
         self.check_new_name(name, scope)?;
         let Session { pool, book, .. } = &mut self.session;
         let tree = read_name(book.alloc, pool, &book.names, scope, text)?;
-        self.values.forget();
         self.session.name(scope, name, Some(tree))?;
+        self.values.name_added(&self.session, scope, name);
         Ok(())
     }
 
@@ -65,8 +65,8 @@ impl Parts {
         self.check_known_name(name, scope)?;
         let Session { pool, book, .. } = &mut self.session;
         let tree = read_name(book.alloc, pool, &book.names, scope, text)?;
-        self.values.forget();
         self.session.name(scope, name, Some(tree))?;
+        self.values.name_changed(&self.session, scope, name);
         Ok(())
     }
 
@@ -79,8 +79,8 @@ impl Parts {
         ensures follow { ValuesFollowStill self.old self.new }
     {
         self.check_known_name(name, scope)?;
-        self.values.forget();
         self.session.name(scope, name, None)?;
+        self.values.name_removed(&self.session, scope, name);
         Ok(())
     }
 }

@@ -23,8 +23,9 @@ impl Parts {
     {
         self.check_structural(s)?;
         let touched = touched_by(&self.session, s)?;
+        let values = self.values.shifted(s, touched.items())?;
         self.session.structural(s)?;
-        self.values.shift(s, touched.items());
+        self.values = values;
         Ok(())
     }
 }

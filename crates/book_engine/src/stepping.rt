@@ -52,9 +52,11 @@ impl Parts {
     {
         let touched = touched_by(&self.session, back)?;
         let restored = restored_by(&self.session)?;
+        let values = self
+            .values
+            .shifted_back(s, back, touched.items(), restored.items())?;
         self.session.undo()?;
-        self.values
-            .shift_back(s, back, touched.items(), restored.items());
+        self.values = values;
         Ok(())
     }
 
@@ -97,8 +99,9 @@ impl Parts {
         ensures follow { ValuesFollowStill self.old self.new }
     {
         let touched = touched_by(&self.session, s)?;
+        let values = self.values.shifted(s, touched.items())?;
         self.session.redo()?;
-        self.values.shift(s, touched.items());
+        self.values = values;
         Ok(())
     }
 

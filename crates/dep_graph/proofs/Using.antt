@@ -9,7 +9,7 @@ use Rattle.needs_order.specs.Needs as plain
 use Rattle.needs_order.proofs.Lists as lists
 use Rattle.node_links.specs.Nodes.{needs_of, users_of}
 use Rattle.dep_graph.specs.Nodes.{covers_node, has}
-use Rattle.dep_graph.specs.Users.{AreUsers, IsUserOf, is_over}
+use Rattle.dep_graph.specs.Users.{AreLinkedTo, AreUsers, IsUserOf, is_over}
 use Rattle.dep_graph.specs.declared.net.Net.{Net}
 use Rattle.dep_graph.specs.declared.node.Node.{Node}
 use Rattle.dep_graph.specs.declared.node.Node.TheVariants.{Cell, Name, Range}
@@ -59,6 +59,19 @@ module _ (net : Net) where
 
   own_high : (a : Node) → node_total net ≤ place_of net.nodes a → own_number net a ≡ []
   own_high a h = ap (λ t. cond t (place_of net.nodes a ∷ []) []) (ge_false (place_of net.nodes a) (node_total net) h)
+
+  -- the own number of a node, where it has one, is that of the node
+  own_only : (a : Node) (m : ℕ) → plain.has m (own_number net a) ≡ true → IsAlive net.nodes m × (node_at net.nodes m ≡ a)
+  own_only a m h = ⊎_elim
+      (λ (low : place_of net.nodes a < node_total net).
+      let same : place_of net.nodes a ≡ m = ⊎_elim (λ (same : place_of net.nodes a ≡ m). same) (λ (none : false ≡ true). absurd (false≢true none)) (lists.has_cases m (place_of net.nodes a) [] (subst (λ l. plain.has m l ≡ true) (own_low a low) h)) in
+      subst (λ k. IsAlive net.nodes k × (node_at net.nodes k ≡ a)) same (alive_place net.nodes a low, at_place net.nodes a low))
+      (λ (past : node_total net ≤ place_of net.nodes a). absurd (false≢true (subst (λ l. plain.has m l ≡ true) (own_high a past) h)))
+      (cases_lt (place_of net.nodes a) (node_total net))
+
+  -- so it is the number of a key
+  pub own_inside : (a : Node) (m : ℕ) → plain.has m (own_number net a) ≡ true → m < count_of net.nodes
+  own_inside a m h = alive_inside net.nodes m (own_only a m h).0
 
   -- the numbers over a cell have nodes that are
   over_only : (p : Place) (m : ℕ) → plain.has m (numbers_over net p) ≡ true → IsAlive net.nodes m × (is_over p (node_at net.nodes m) ≡ true)
@@ -145,6 +158,32 @@ module _ (net : Net) where
     where
       alive : (n : ℕ) → plain.has n users ≡ true → IsAlive net.nodes n
       alive n h = let (m, low, listed) = (are n).0 h in (net.alive n m listed).0
+
+      mapped : nodes ≡ map (node_at net.nodes) users
+      mapped = is ∙ found_all net.nodes users alive
+
+  -- the nodes of the users of a node's own number are those that are linked to it
+  pub own_users : (a : Node) (users : List ℕ) (nodes : List Node) → AreUsersOf net (own_number net a) users → AllPairs (λ n m. n ≢ m) users → nodes ≡ filter_map (found_at net.nodes) users
+      → AreLinkedTo a (links_in net) nodes
+  own_users a users nodes are once is = (
+    λ b. (
+      λ h.
+          let (n, there, at) = map_has (node_at net.nodes) users b (subst (λ l. has b l ≡ true) mapped h) in
+          let (m, own, listed) = (are n).0 there in
+          let place : place_of net.nodes b ≡ n = place_is net.nodes b n (alive n there) at in
+          subst (λ x. has x (links_in net b) ≡ true) (own_only a m own).1
+          (subst (λ k. has (node_at net.nodes m) (map (node_at net.nodes) (needs_of net.links k)) ≡ true) (sym place) (has_map (node_at net.nodes) (needs_of net.links n) m listed)),
+      λ (link : IsTrue (has a (links_in net b))).
+          let (b_in, a_in, listed) = link_user net b a link in
+          let own : plain.has (place_of net.nodes a) (own_number net a) ≡ true = subst (λ l. plain.has (place_of net.nodes a) l ≡ true) (sym (own_low a a_in)) (lists.has_first (place_of net.nodes a) []) in
+          let user : plain.has (place_of net.nodes b) users ≡ true = (are (place_of net.nodes b)).1 (place_of net.nodes a, own, listed) in
+          subst (λ l. has b l ≡ true) (sym mapped) (subst (λ x. has x (map (node_at net.nodes) users) ≡ true) (at_place net.nodes b b_in) (has_map (node_at net.nodes) users (place_of net.nodes b) user)),
+    ),
+    subst (AllPairs (λ n m. n ≢ m)) (sym mapped) (once_map net.nodes users once alive),
+  )
+    where
+      alive : (n : ℕ) → plain.has n users ≡ true → IsAlive net.nodes n
+      alive n h = let (m, own, listed) = (are n).0 h in (net.alive n m listed).0
 
       mapped : nodes ≡ map (node_at net.nodes) users
       mapped = is ∙ found_all net.nodes users alive

@@ -21,3 +21,7 @@ IsUserOf p links a = (b : Node) × IsTrue (has b (links a)) × IsTrue (is_over p
 -- exactly those nodes, each once
 abbrev pub AreUsers : Place → Links → List Node → Type 0
 AreUsers p links nodes = ((a : Node) → IsTrue (has a nodes) ↔ IsUserOf p links a) × IsOnce nodes
+
+-- exactly the nodes that are linked to this one, each once
+abbrev pub AreLinkedTo : Node → Links → List Node → Type 0
+AreLinkedTo a links nodes = ((b : Node) → IsTrue (has b nodes) ↔ IsTrue (has a (links b))) × IsOnce nodes

@@ -5,7 +5,7 @@ ghost use Rattle.needs_order.specs.Needs.{has};
 ghost use Rattle.block_index.specs.Index.{slot_count};
 ghost use Rattle.dep_graph.specs.Graph.{links_of};
 ghost use Rattle.dep_graph.specs.Nodes.{items_of};
-ghost use Rattle.dep_graph.specs.Users.{AreUsers};
+ghost use Rattle.dep_graph.specs.Users.{AreLinkedTo, AreUsers};
 ghost use Rattle.dep_graph.specs.internal.Arrows.{from_slot};
 ghost use Rattle.dep_graph.specs.internal.Touches.{AreInside};
 ghost use Rattle.dep_graph.specs.internal.UserNumbers.{AreUsersOf, numbers_over, own_number};
@@ -29,6 +29,17 @@ impl Graph {
     {
         let over = self.net.numbers_over(at)?;
         let users = self.net.users_of(&over)?;
+        let none = IndexSet::new(self.net.alloc);
+        self.net.named(&none, users.as_slice())
+    }
+
+    /// Each node, once, that is linked to the node itself. Costs about the number of links to it. Errs for want of memory.
+    pub fn linked_to(&self, a: Node) -> Result<Nodes, AllocError>
+        ensures { IfOk result (λ nodes. AreLinkedTo a (links_of self.now) (items_of nodes)) }
+    {
+        let mut own = Vec::new(self.net.alloc);
+        self.net.add_own(&mut own, a)?;
+        let users = self.net.users_of(&own)?;
         let none = IndexSet::new(self.net.alloc);
         self.net.named(&none, users.as_slice())
     }

@@ -45,7 +45,7 @@ impl Customs for Counting {
 }
 
 // A formula is worked out once, and again where what it needs changed. Inserted rows work out none that they don't bend; neither
-// does the undo of that, nor another name of the sheet.
+// does the undo of that, nor another name of the sheet. A name works out what uses it, and a moved row what it bends.
 pub(crate) fn formulas_are_worked_out_once(alloc: Global) -> Result<bool, Stop> {
     let calls = no_calls(alloc)?;
     let customs = Counting {
@@ -77,7 +77,45 @@ fn counts<C: Customs, L: Ledger>(
     let back = count_after(&mut engine, 0, calls, &mut steps)?;
     engine.rename_sheet(0, "Other")?;
     let renamed = count_after(&mut engine, 0, calls, &mut steps)?;
-    Ok(all == 1_000 && one == 1_001 && moved == 1_001 && back == 1_001 && renamed == 1_001)
+    let names = counts_users(&mut engine, calls, &mut steps)?;
+    let rows = counts_bent(&mut engine, calls, &mut steps)?;
+    let stay = moved == 1_001 && back == 1_001 && renamed == 1_001;
+    Ok(all == 1_000 && one == 1_001 && stay && names && rows)
+}
+
+// Then a name that nothing uses, and one formula that uses it, while it gets another formula, is removed, and comes again.
+fn counts_users<C: Customs, L: Ledger>(
+    engine: &mut Engine<C>,
+    calls: &Calls,
+    steps: &mut Steps<L>,
+) -> Result<bool, Stop> {
+    engine.add_name("Rate", None, "=Other!$A$1")?;
+    let unused = count_after(engine, 0, calls, steps)?;
+    engine.set(place(0, 2), "=COUNTED(A1)+Rate")?;
+    let used = count_after(engine, 0, calls, steps)?;
+    engine.change_name("Rate", None, "=Other!$A$2")?;
+    let changed = count_after(engine, 0, calls, steps)?;
+    engine.remove_name("Rate", None)?;
+    let removed = count_after(engine, 0, calls, steps)?;
+    engine.add_name("Rate", None, "=Other!$A$3")?;
+    let again = count_after(engine, 0, calls, steps)?;
+    let in_use = used == 1_002 && changed == 1_003;
+    Ok(unused == 1_001 && in_use && removed == 1_004 && again == 1_005)
+}
+
+// Then one formula with a sum over rows among which one moves, and goes back.
+fn counts_bent<C: Customs, L: Ledger>(
+    engine: &mut Engine<C>,
+    calls: &Calls,
+    steps: &mut Steps<L>,
+) -> Result<bool, Stop> {
+    engine.set(place(0, 3), "=COUNTED(SUM(A5:A30))")?;
+    let summed = count_after(engine, 0, calls, steps)?;
+    engine.move_rows(0, 10, 1, 20)?;
+    let moved = count_after(engine, 0, calls, steps)?;
+    engine.undo()?;
+    let back = count_after(engine, 0, calls, steps)?;
+    Ok(summed == 1_006 && moved == 1_007 && back == 1_008)
 }
 
 // Gives the cells of a new sheet their numbers and formulas.

@@ -17,7 +17,7 @@ use Rattle.recalc_core.specs.Nodes.{AreNumbered, name_at, node_at, scope_at}
 use Rattle.marked_values.specs.Marks.{Follow}
 use Rattle.marked_values.specs.Shifts.{asks_place}
 use Rattle.restored_values.specs.Suspects.{has_lost}
-use Rattle.kept_values.specs.Values.{AreNoted, Follows, asks_in, is_link_at, is_link_from, is_link_of, kept_in, links_in, loses_in, marks_in, passes}
+use Rattle.kept_values.specs.Values.{AreNoted, Follows, asks_in, is_link_at, is_link_from, is_link_of, kept_in, links_in, loses_in, marks_in, passes, seeks_at, seeks_in}
 use Rattle.kept_values.specs.declared.values.Values.{Values}
 
 -- ---- tests of links
@@ -81,15 +81,16 @@ module _ (b : Workbook) (words : List (List ℕ)) (customs : List (List ℕ × R
     fit = follows.fit;
   }
 
-  pub from_follow : Follow b words customs today (links_in v) (marks_in v) (kept_in v) → AreNoted asks_place b words (marks_in v) (asks_in v) → AreNoted has_lost b words (marks_in v) (loses_in v)
-      → Follows b words customs today v
-  from_follow follow asking losing = record {
+  pub from_follow : Follow b words customs today (links_in v) (marks_in v) (kept_in v) → AreNoted (λ x. asks_place) b words (marks_in v) (asks_in v) → AreNoted (λ x. has_lost) b words (marks_in v) (loses_in v)
+      → AreNoted (seeks_at b) b words (marks_in v) (seeks_in v) → Follows b words customs today v
+  from_follow follow asking losing seeking = record {
     linked = λ a c isnt.
         let both = follow.linked.exact a c (λ h. false≢true (sym isnt ∙ h)) in
         same_tests (has c (links_in v a)) (is_link_at b words a c) (λ h. at_tested b words a c (both.0 h)) (λ h. both.1 (at_holds b words a c h));
     inside = follow.inside;
     asks = asking;
     loses = losing;
+    seeks = seeking;
     known = λ a h. ap is_some (follow.known a h).1;
     fit = follow.fit;
   }

@@ -89,7 +89,7 @@ any_from test alike (x ∷ xs) word listed holds = ⊎_elim
     (or_cases (same_name word x) (list_any (same_name word) xs) listed)
 
 -- what a test says of one of words that are the same it says of each, so that each once is as good as all
-any_once : (test : List ℕ → Bool) → ((v w : List ℕ) → same_name v w ≡ true → test v ≡ test w) → (all asked : List (List ℕ)) → asked ≡ once same_name all → list_any test asked ≡ list_any test all
+pub any_once : (test : List ℕ → Bool) → ((v w : List ℕ) → same_name v w ≡ true → test v ≡ test w) → (all asked : List (List ℕ)) → asked ≡ once same_name all → list_any test asked ≡ list_any test all
 any_once test alike all asked is = same_tests (list_any test asked) (list_any test all) forth back
   where
     forth : list_any test asked ≡ true → list_any test all ≡ true

@@ -18,7 +18,7 @@ use Rattle.recalc_core.specs.Nodes.{AreNumbered, node_at}
 use Rattle.marked_values.specs.Gathered.{AreTakenAlong}
 use Rattle.marked_values.specs.Marks.{Follow}
 use Rattle.marked_values.specs.Shifts.{asks_place}
-use Rattle.kept_values.specs.Values.{Follows, kept_in, links_in, marks_in}
+use Rattle.kept_values.specs.Values.{Follows, asks_in, kept_in, links_in, marks_in}
 use Rattle.kept_values.specs.declared.values.Values.{Values}
 use Rattle.kept_values.specs.internal.TakenAlong.{HasGathered}
 use Rattle.kept_values.proofs.Following.{there, to_follow}
@@ -31,6 +31,17 @@ pub all_gathered : (old one two three touched bent asking : List Node) → ((a :
     → ((a : Node) → has a three ≡ has a (two ++ asking)) → (a : Node) → has a three ≡ has a (((old ++ touched) ++ bent) ++ asking)
 all_gathered old one two three touched bent asking first second third a =
     third a ∙ also a two ((old ++ touched) ++ bent) asking (second a ∙ also a one (old ++ touched) bent (first a))
+
+-- what was gathered was marked, touched or bent, or asks where a reference is
+pub gathered_cases : (v m : Values) (touched bent : List Node) → HasGathered touched bent v m → (a : Node) → IsTrue (has a (marks_in m))
+    → IsTrue (has a (marks_in v)) ⊎ (IsTrue (has a touched) ⊎ (IsTrue (has a bent) ⊎ (asks_in v a ≡ true)))
+gathered_cases v m touched bent gathered a h = ⊎_elim
+    (λ (front : has a ((marks_in v ++ touched) ++ bent) ≡ true). ⊎_elim
+    (λ (first : has a (marks_in v ++ touched) ≡ true). ⊎_elim (λ (mark : has a (marks_in v) ≡ true). inl mark) (λ (is : has a touched ≡ true). inr (inl is)) (has-append_cases a (marks_in v) touched first))
+    (λ (is : has a bent ≡ true). inr (inr (inl is)))
+    (has-append_cases a (marks_in v ++ touched) bent front))
+    (λ (asks : has a v.noted.asking.keys ≡ true). inr (inr (inr asks)))
+    (has-append_cases a ((marks_in v ++ touched) ++ bent) v.noted.asking.keys (sym (gathered a) ∙ h))
 
 -- what an operation takes of one list it takes of another one with the same nodes and more
 pub fewer_taken : (s : Shift) (some all more : List Node) → ((a : Node) → IsTrue (has a some) → IsTrue (has a all)) → AreTakenAlong s all more → AreTakenAlong s some more

@@ -10,7 +10,7 @@ use Rattle.formula_tree.specs.declared.node.Node.{Node as TreeNode}
 use Rattle.std.specs.declared.alloc.Global.{Global}
 use Rattle.std.specs.declared.rc.Rc.{Rc}
 use Rattle.book_values.specs.Workbook as book
-use Rattle.book_values.specs.Workbook.{Workbook, tree_at}
+use Rattle.book_values.specs.Workbook.{Workbook, home_of, tree_at}
 use Rattle.formula_tree.specs.Term.{Term}
 use Rattle.formula_tree.specs.declared.reference.Corner.{Corner}
 use Rattle.dep_graph.specs.Nodes.{has, same_node}
@@ -55,14 +55,14 @@ pub adds_front : (nodes : List Node) (i : ℕ) (d : Node) (before now new : Node
     → ((a : Node) → new a ≡ true → (now a ≡ true) ⊎ (same_node a (get_or nodes i d) ≡ true)) → AddsNoted nodes before new
 adds_front nodes i d before now new low so_far stay here = all_added nodes (i + 1) before new (adds_on nodes i d before now new low so_far stay here)
 
-module _ (test : Term Corner → Bool) (b : Workbook) (words : List (List ℕ)) where
+module _ (test : book.Node → Term Corner → Bool) (b : Workbook) (words : List (List ℕ)) where
   -- ---- what the workbook asks to be noted
 
   -- a formula that is given is noted, where it passes
-  pub formula_noted : (noted : Node → Bool) (a : Node) (tree : Rc TreeNode Global) (home : Home) (given : Given) → IsGiven b words a given → given ≡ Formula tree home → (test (at_home home (relative tree.value)) ≡ true → noted a ≡ true) → IsNoted test b words noted a
+  pub formula_noted : (noted : Node → Bool) (a : Node) (tree : Rc TreeNode Global) (home : Home) (given : Given) → IsGiven b words a given → given ≡ Formula tree home → ((x : book.Node) → home ≡ home_of x → test x (at_home home (relative tree.value)) ≡ true → noted a ≡ true) → IsNoted test b words noted a
   formula_noted noted a tree home given has_it same there x t at is passes =
       let has_tree = subst (λ o. HasGivenAt b o (Formula tree home)) at (subst (IsGiven b words a) same has_it) in
-      there (ap test (same_some (at_home home (relative tree.value)) t (sym has_tree.1 ∙ is)) ∙ passes)
+      there x has_tree.0 (ap (test x) (same_some (at_home home (relative tree.value)) t (sym has_tree.1 ∙ is)) ∙ passes)
 
   pub none_noted : (noted : Node → Bool) → AreNotedAmong test b words [] noted
   none_noted noted a h x t at is passes = absurd (false≢true h)
@@ -93,6 +93,6 @@ module _ (test : Term Corner → Bool) (b : Workbook) (words : List (List ℕ)) 
     known = (more_noted marks nodes before noted known same was more).known;
   }
     where
-      by : (a : Node) (x : book.Node) (t : Term Corner) → node_at words a ≡ Some x → tree_at b x ≡ Some t → test t ≡ true → (m : Bool) → has a marks ≡ m → noted a ≡ true
+      by : (a : Node) (x : book.Node) (t : Term Corner) → node_at words a ≡ Some x → tree_at b x ≡ Some t → test x t ≡ true → (m : Bool) → has a marks ≡ m → noted a ≡ true
       by a x t at is passes true e = among a (subst (λ ns. IsTrue (has a ns)) (sym same) e) x t at is passes
       by a x t at is passes false e = more.stay a (was.all a x t e at is passes)

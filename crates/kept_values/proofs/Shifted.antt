@@ -1,5 +1,5 @@
 -- Values that went along with a structural operation follow the workbook after it. Serves what takes values along.
-use Rattle.std.proofs.Common.{◌≡◌, ◌∙◌, sym, ap, subst, ℕ, ℤ, true, false, List, Some, None, is_some, option_map, ◌⊎◌, inl, inr}
+use Rattle.std.proofs.Common.{◌≡◌, ◌∙◌, sym, ap, subst, ℕ, ℤ, Bool, true, false, List, Some, None, is_some, option_map, ◌⊎◌, inl, inr}
 use Rattle.std.specs.Prelude.{IsTrue, MatchOption, ⊤}
 use Rattle.std.proofs.lemmas.Bool.{cases_Bool, false≢true, false_from_ne_true}
 use Rattle.cell_addr.specs.declared.place.Block.{Block}
@@ -18,7 +18,7 @@ use Rattle.tree_rewrite.specs.Rewritten.{rewritten}
 use Rattle.book_values.specs.Names.{Key, tree_in}
 use Rattle.book_values.specs.Workbook as book
 use Rattle.book_values.specs.Workbook.{Workbook, scope_sheet, tree_at}
-use Rattle.dep_graph.specs.Bent.{AreBent, Bends}
+use Rattle.dep_graph.specs.Bent.{AreBent, Bends, IsBentBy}
 use Rattle.dep_graph.specs.Needs.{Links}
 use Rattle.dep_graph.specs.Nodes.{has}
 use Rattle.dep_graph.specs.declared.node.Node.{Node}
@@ -32,23 +32,25 @@ use Rattle.recalc_core.proofs.Bridge.{same_some}
 use Rattle.recalc_core.proofs.Worked.{no_range, tree_stands}
 use Rattle.marked_values.specs.Gathered.{AreTouched}
 use Rattle.marked_values.specs.Marks.{Follow, IsBookInside}
-use Rattle.marked_values.specs.Shifts.{AreMarksAfter, IsBookAfter, asks_place}
+use Rattle.marked_values.specs.Shifts.{AreMarksAfter, IsBookAfter, asks_place, is_moved_cell}
 use Rattle.marked_values.proofs.AfterShift.{shifts_follow}
+use Rattle.marked_values.proofs.Alone.{place_node}
 use Rattle.marked_values.proofs.MovedTrees.{HasLink, by_links}
 use Rattle.marked_values.proofs.Origins.{Comes, comes, node_from, was_at}
 use Rattle.marked_values.proofs.PairValues.{tree_was}
-use Rattle.marked_values.proofs.Pairs.{pair_tree, some_mapped}
+use Rattle.marked_values.proofs.Pairs.{IsSettled, Pair, pair_finds, pair_tree, some_mapped}
 use Rattle.marked_values.proofs.Restored.{asks_still}
 use Rattle.marked_values.proofs.Touched.{touched_are_marked}
 use Rattle.restored_values.specs.Suspects.{has_lost}
-use Rattle.kept_values.specs.Shifted.{FollowsOver, HasTouched}
-use Rattle.kept_values.specs.Values.{Follows, asks_in, kept_in, links_in, loses_in, marks_in}
+use Rattle.kept_values.specs.Shifted.{FollowsOver, HasTouched, MarksOver}
+use Rattle.kept_values.specs.Values.{Follows, asks_in, kept_in, links_in, loses_in, marks_in, seeks_at, seeks_in}
 use Rattle.kept_values.specs.declared.values.Values.{Values}
 use Rattle.kept_values.specs.internal.TakenAlong.{AreCarried, AreMoved, HasGathered}
 use Rattle.kept_values.proofs.Following.{from_follow, there}
 use Rattle.kept_values.proofs.Gathered as gathering
-use Rattle.kept_values.proofs.Gathered.{with_marks}
+use Rattle.kept_values.proofs.Gathered.{gathered_cases, with_marks}
 use Rattle.kept_values.proofs.LostBefore.{lost_same}
+use Rattle.kept_values.proofs.SeekingNames.{filled_after, still_seeks}
 use Rattle.kept_values.proofs.TakenAlong.{after_known}
 
 -- ---- the names that are left are nodes
@@ -78,7 +80,7 @@ IsThere s (links.Name scope word) = ⊤
 module _ (s : Shift) (b c : Workbook) (words : List (List ℕ)) (customs : List (List ℕ × Rule)) (today : ℤ) (v m w : Values) (touched bent : List Node)
     (sound : IsSound s) (inside : IsBookInside b) (over : IsBookAfter s b c) (numbered : AreNumbered words b.names) (has_touched : HasTouched s b words touched) (touched_known : AreKnown words touched)
     (follows : Follows b words customs today v) (are_bent : AreBent s (links_in v) bent) (gathered : HasGathered touched bent v m) (carried : AreCarried s (links_in v) (marks_in m) (kept_in v) w)
-    (none_asks : (a : Node) → asks_in w a ≡ false) (moved : AreMoved s (loses_in v) (loses_in w)) where
+    (none_asks : (a : Node) → asks_in w a ≡ false) (moved : AreMoved s (loses_in v) (loses_in w)) (sought : AreMoved s (seeks_in v) (seeks_in w)) where
   linked : (a : Node) → IsTrue (has a bent) → (d : Node) × IsTrue (has d (links_in v a))
   linked a h = let (d, link, bends) = (are_bent.0 a).0 h in (d, link)
 
@@ -124,7 +126,7 @@ module _ (s : Shift) (b c : Workbook) (words : List (List ℕ)) (customs : List 
   -- a formula of the workbook after it was one before
   module _ (a : Node) (x : book.Node) (u : Term Corner) (at : node_at words a ≡ Some x) (is : tree_at c x ≡ Some u) where
     abbrev Was : Type 0
-    Was = (was : Node) × (y : book.Node) × (t : Term Corner) × (from_over s a ≡ Some was) × (node_at words was ≡ Some y) × (tree_at b y ≡ Some t) × (u ≡ rewritten s t)
+    Was = (was : Node) × (y : book.Node) × (t : Term Corner) × (from_over s a ≡ Some was) × (node_at words was ≡ Some y) × (tree_at b y ≡ Some t) × (u ≡ rewritten s t) × Pair s y x
 
     formula_was : Was
     formula_was = by (comes s sound b c over x)
@@ -135,16 +137,16 @@ module _ (s : Shift) (b c : Workbook) (words : List (List ℕ)) (customs : List 
             let rewrites = pair_tree s b c over y x pair in
             let (t, tree) = tree_was s (tree_at b y) u (sym rewrites ∙ is) in
             let (was, from, origin) = node_from s sound words a y x (no_range words a x at) at pair in
-            (was, y, t, from, origin, tree, same_some u (rewritten s t) (sym is ∙ rewrites ∙ ap (option_map (rewritten s)) tree))
+            (was, y, t, from, origin, tree, same_some u (rewritten s t) (sym is ∙ rewrites ∙ ap (option_map (rewritten s)) tree), pair)
 
     -- each formula that asks is marked
     asks_marked : asks_place u ≡ true → IsTrue (has a (marks_in w))
-    asks_marked asks = let (was, y, t, from, origin, tree, same) = formula_was in marks.asking was a y t origin tree (sym (asks_still s t) ∙ ap asks_place (sym same) ∙ asks) from
+    asks_marked asks = let (was, y, t, from, origin, tree, same, pair) = formula_was in marks.asking was a y t origin tree (sym (asks_still s t) ∙ ap asks_place (sym same) ∙ asks) from
 
     -- each formula with a lost reference that isn't marked had lost one before
     loses_noted : has a (marks_in w) ≡ false → has_lost u ≡ true → loses_in w a ≡ true
     loses_noted isnt lost =
-        let (was, y, t, from, origin, tree, same) = formula_was in
+        let (was, y, t, from, origin, tree, same, pair) = formula_was in
         let goes = (was_at s sound a was from).0 in
         let out : has was (marks_in v) ≡ false = false_from_ne_true (has was (marks_in v)) (λ mark. false≢true (sym isnt ∙ carried.taken.along was a (of_marks was mark) goes)) in
         let plain : asks_place t ≡ false = false_from_ne_true (asks_place t) (λ asks. false≢true (sym isnt ∙ marks.asking was a y t origin tree asks from)) in
@@ -159,20 +161,44 @@ module _ (s : Shift) (b c : Workbook) (words : List (List ℕ)) (customs : List 
             unbent was (Range d) from ((before.linked.exact was (Range d) (λ mark. false≢true (sym out ∙ mark))).1 (y, t, origin, tree, link)) (inl (lost_bends s d gone))
         each was y t from origin tree out (links.Name scope word) link = tt
 
+    settled : (z : book.Node) → node_at words a ≡ Some z → tree_at c z ≡ Some u → has a (marks_in w) ≡ false → IsSettled s z
+    settled (book.place q) to tree isnt = false_from_ne_true (is_moved_cell s q) (λ is_moved. false≢true (sym isnt ∙ subst (λ n. IsTrue (has n (marks_in w))) (sym (place_node words a q to)) (marks.moved q is_moved (filled_after b c q u tree))))
+    settled (book.name key) to tree isnt = tt
+
+    -- each formula with a word that finds no name, that isn't marked, had one before
+    seeks_noted : has a (marks_in w) ≡ false → seeks_at c x u ≡ true → seeks_in w a ≡ true
+    seeks_noted isnt seek =
+        let (was, y, t, from, origin, tree, same, pair) = formula_was in
+        let goes = (was_at s sound a was from).0 in
+        let out : has was (marks_in v) ≡ false = false_from_ne_true (has was (marks_in v)) (λ mark. false≢true (sym isnt ∙ carried.taken.along was a (of_marks was mark) goes)) in
+        let finds = pair_finds s b c over y x pair (settled x at is isnt) in
+        sought.along was a (follows.seeks.all was y t out origin tree (sym (still_seeks s b c over y x t finds) ∙ ap (seeks_at c x) (sym same) ∙ seek)) goes
+
   -- what is noted was a known node, and is one
-  noted_known : (a : Node) → loses_in w a ≡ true → is_some (node_at words a) ≡ true
-  noted_known a h =
-      let (d, is, goes) = moved.from a h in
-      let (x, at) = there (node_at words d) (follows.loses.known d is) in
+  noted_known : (was now : Node → Bool) → AreMoved s was now → ((d : Node) → was d ≡ true → is_some (node_at words d) ≡ true) → (a : Node) → now a ≡ true → is_some (node_at words a) ≡ true
+  noted_known was now goes_with all a h =
+      let (d, is, goes) = goes_with.from a h in
+      let (x, at) = there (node_at words d) (all d is) in
       ap is_some (after_known s words d a x at goes).1
 
   pub follows_after : Follows c words customs today w
   follows_after = from_follow c words customs today w after_it
       (record { all = λ a x t isnt at is asks. absurd (false≢true (sym isnt ∙ asks_marked a x t at is asks)); known = λ a asks. absurd (false≢true (sym (none_asks a) ∙ asks)) })
-      (record { all = λ a x t isnt at is lost. loses_noted a x t at is isnt lost; known = noted_known })
+      (record { all = λ a x t isnt at is lost. loses_noted a x t at is isnt lost; known = noted_known (loses_in v) (loses_in w) moved follows.loses.known })
+      (record { all = λ a x t isnt at is seek. seeks_noted a x t at is isnt seek; known = noted_known (seeks_in v) (seeks_in w) sought follows.seeks.known })
 
 pub goes_along : (s : Shift) (touched bent : List Node) (v m w : Values) → IsSound s → AreBent s (links_in v) bent → HasGathered touched bent v m → links_in m ≡ links_in v → kept_in m ≡ kept_in v
-    → ((a : Node) → asks_in w a ≡ false) → AreMoved s (loses_in v) (loses_in w) → AreCarried s (links_in m) (marks_in m) (kept_in m) w → FollowsOver s touched v w
-goes_along s touched bent v m w sound are_bent gathered links kept none moved carried b c words customs today inside over numbered has_touched known follows =
+    → ((a : Node) → asks_in w a ≡ false) → AreMoved s (loses_in v) (loses_in w) → AreMoved s (seeks_in v) (seeks_in w) → AreCarried s (links_in m) (marks_in m) (kept_in m) w → FollowsOver s touched v w
+goes_along s touched bent v m w sound are_bent gathered links kept none moved sought carried b c words customs today inside over numbered has_touched known follows =
     follows_after s b c words customs today v m w touched bent sound inside over numbered has_touched known follows are_bent gathered
-    (subst (λ (l : Links). AreCarried s l (marks_in m) (kept_in v) w) links (subst (λ (k : Kept). AreCarried s (links_in m) (marks_in m) k w) kept carried)) none moved
+    (subst (λ (l : Links). AreCarried s l (marks_in m) (kept_in v) w) links (subst (λ (k : Kept). AreCarried s (links_in m) (marks_in m) k w) kept carried)) none moved sought
+
+-- and what is marked then
+pub marks_over : (s : Shift) (touched bent : List Node) (v m w : Values) → AreBent s (links_in v) bent → HasGathered touched bent v m → AreCarried s (links_in m) (marks_in m) (kept_in m) w → MarksOver s touched v w
+marks_over s touched bent v m w are gathered carried a h = let (b, there, comes) = carried.from a h in (b, comes, by b (gathered_cases v m touched bent gathered b there))
+  where
+    by : (b : Node) → IsTrue (has b (marks_in v)) ⊎ (IsTrue (has b touched) ⊎ (IsTrue (has b bent) ⊎ (asks_in v b ≡ true))) → IsTrue (has b (marks_in v)) ⊎ (IsTrue (has b touched) ⊎ (IsBentBy s (links_in v) b ⊎ (asks_in v b ≡ true)))
+    by b (inl mark) = inl mark
+    by b (inr (inl is)) = inr (inl is)
+    by b (inr (inr (inl is))) = inr (inr (inl ((are.0 b).0 is)))
+    by b (inr (inr (inr asks))) = inr (inr (inr asks))

@@ -4,6 +4,7 @@ use Rattle.std.specs.Prelude.{IsTrue, ◌↔◌}
 use Rattle.std.proofs.lemmas.Bool.{false≢true}
 use Rattle.cell_addr.specs.declared.place.Place.{Place}
 use Rattle.shift_core.specs.Form.{form_of}
+use Rattle.shift_core.specs.Sound.{IsSound}
 use Rattle.shift_core.specs.Tables.{place_after}
 use Rattle.shift_core.specs.declared.shift.Shift.{Shift}
 use Rattle.book_values.specs.Workbook as book
@@ -22,9 +23,11 @@ use Rattle.recalc_core.specs.Recalc.{with_mark}
 use Rattle.recalc_core.specs.Shifted.{drops_scope, from_over}
 use Rattle.recalc_core.proofs.Bridge.{none_some, same_some}
 use Rattle.marked_values.specs.Shifts.{is_moved_cell}
+use Rattle.marked_values.proofs.Origins.{was_at}
 use Rattle.kept_values.specs.Values.{kept_in, links_in, marks_in}
 use Rattle.kept_values.specs.declared.values.Values.{Values}
-use Rattle.kept_values.specs.internal.TakenAlong.{AddsTaken, AreCarried, AreMoved, moved_cell, with_some, with_taken}
+use Rattle.kept_values.specs.Shifted.{ComesFrom, moved_cell}
+use Rattle.kept_values.specs.internal.TakenAlong.{AddsTaken, AreCarried, AreMoved, with_some, with_taken}
 use Rattle.kept_values.proofs.FoundNames.{marked_more}
 
 -- ---- one mark more, if there is one
@@ -79,6 +82,7 @@ module _ (s : Shift) where
   takes_none marks = record {
     taken = record { along = λ a after h goes. absurd (false≢true h); stay = λ p moved h. absurd (false≢true h) };
     stay = λ a h. h;
+    from = λ a h. inl h;
     known = λ words nodes before. before;
   }
 
@@ -94,12 +98,20 @@ module _ (s : Shift) where
         subst (λ ms. IsTrue (has (Cell p) ms)) (sym is)
         (mark_there (moved_cell s x) (Cell p) (with_some (node_after s x) now) (ap (moved_cell s) (sym same) ∙ cell_again p moved))
 
-    came : (c : Node) → IsTrue (has c new) → IsTrue (has c now) ⊎ ((node_after s x ≡ Some c) ⊎ (c ≡ x))
-    came c h = ⊎_elim
+    came_from : (c : Node) → IsTrue (has c new) → IsTrue (has c now) ⊎ ComesFrom s x c
+    came_from c h = ⊎_elim
         (λ (before : has c (with_some (node_after s x) now) ≡ true).
         ⊎_elim (λ (first : has c now ≡ true). inl first) (λ (goes : node_after s x ≡ Some c). inr (inl goes)) (mark_cases (node_after s x) c now before))
-        (λ (moved : moved_cell s x ≡ Some c). inr (inr (same_cell x c moved)))
+        (λ (moved : moved_cell s x ≡ Some c). inr (inr moved))
         (mark_cases (moved_cell s x) c (with_some (node_after s x) now) (subst (λ ms. IsTrue (has c ms)) is h))
+
+    came : (c : Node) → IsTrue (has c new) → IsTrue (has c now) ⊎ ((node_after s x ≡ Some c) ⊎ (c ≡ x))
+    came c h = by (came_from c h)
+      where
+        by : IsTrue (has c now) ⊎ ComesFrom s x c → IsTrue (has c now) ⊎ ((node_after s x ≡ Some c) ⊎ (c ≡ x))
+        by (inl first) = inl first
+        by (inr (inl goes)) = inr (inl goes)
+        by (inr (inr moved)) = inr (inr (same_cell x c moved))
 
     pub takes_more : AddsTaken s (nodes ++ x ∷ []) old new
     takes_more = record {
@@ -114,9 +126,17 @@ module _ (s : Shift) where
             (has-append_cases (Cell p) nodes (x ∷ []) h);
       };
       stay = λ a h. still a (so_far.stay a h);
+      from = λ a h. from_some a (came_from a h);
       known = λ words known before. all_known words known before;
     }
       where
+        from_some : (a : Node) → IsTrue (has a now) ⊎ ComesFrom s x a → IsTrue (has a old) ⊎ ((b : Node) × IsTrue (has b (nodes ++ x ∷ [])) × ComesFrom s b a)
+        from_some a (inl first) = ⊎_elim
+            (λ (was : IsTrue (has a old)). inl was)
+            (λ (b, there, comes). inr (b, has-append_left b nodes (x ∷ []) there, comes))
+            (so_far.from a first)
+        from_some a (inr comes) = inr (x, has-append_right x nodes (x ∷ []) (has_first x []), comes)
+
         all_known : (words : List (List ℕ)) → AreKnown words (nodes ++ x ∷ []) → AreKnown words old → AreKnown words new
         all_known words known before c h = by (came c h)
           where
@@ -162,13 +182,18 @@ module _ (s : Shift) where
       by false e = (x, ap (node_at words) (same_some (Name scope word) d e) ∙ at)
   from_known words (Range block) d from x at = absurd (none_some d from)
 
-  pub are_carried : (links : Links) (marks marked gone : List Node) (kept shown : Kept) (w : Values) → marked ≡ marks → AreShifted s links (links_in w) → ((a : Node) → IsNoRange a → shown a ≡ carried_kept (from_over s) kept a) → kept_in w ≡ shown
+  pub are_carried : IsSound s → (links : Links) (marks marked gone : List Node) (kept shown : Kept) (w : Values) → marked ≡ marks → AreShifted s links (links_in w) → ((a : Node) → IsNoRange a → shown a ≡ carried_kept (from_over s) kept a) → kept_in w ≡ shown
       → ((a : Node) → IsTrue (has a gone) ↔ ((d : Node) × IsTrue (has d marks) × (from_over s a ≡ Some d))) → AddsTaken s marked gone (marks_in w) → AreCarried s links marks kept w
-  are_carried links marks marked gone kept shown w same shifted moved still come adds =
+  are_carried sound links marks marked gone kept shown w same shifted moved still come adds =
       let taken = subst (λ (ns : List Node). AddsTaken s ns gone (marks_in w)) same adds in
       record {
         links = shifted;
         kept = λ a plain. ap (λ (k : Kept). k a) still ∙ moved a plain;
         taken = taken.taken;
+        from = λ a h. by a (adds.from a h);
         known = λ words known. taken.known words known (λ a h. let (d, is, from) = (come a).0 h in let (x, at) = known d is in from_known words a d from x at);
       }
+    where
+      by : (a : Node) → IsTrue (has a gone) ⊎ ((b : Node) × IsTrue (has b marked) × ComesFrom s b a) → (b : Node) × IsTrue (has b marks) × ComesFrom s b a
+      by a (inl left) = let (d, is, from) = (come a).0 left in (d, is, inl (was_at s sound a d from).0)
+      by a (inr (b, is, comes)) = (b, subst (λ (ns : List Node). IsTrue (has b ns)) same is, comes)

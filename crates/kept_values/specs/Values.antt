@@ -1,13 +1,14 @@
 -- What values that follow a workbook stand for. Source: this project's own.
 use Rattle.std.specs.Prelude.{◌≡◌, ◌⊎◌, ◌+◌, ◌≤◌, ℕ, ℤ, Bool, true, false, List, Option, Some, None, is_some, IsTrue}
 use Rattle.std.specs.List.{list_any, sum_by}
-use Rattle.formula_tree.specs.Links.{same_link}
+use Rattle.std.specs.Option.{is_none}
+use Rattle.formula_tree.specs.Links.{names_in, same_link}
 use Rattle.formula_tree.specs.Links.{links_in as links_in_tree}
 use Rattle.formula_tree.specs.Reference.{sheet_of}
 use Rattle.formula_tree.specs.Term.{Term}
 use Rattle.formula_tree.specs.declared.link.Link.TheVariants as links
 use Rattle.formula_tree.specs.declared.reference.Corner.{Corner}
-use Rattle.book_values.specs.Names.{Names}
+use Rattle.book_values.specs.Names.{Names, found}
 use Rattle.custom_fn.specs.declared.rule.Rule.{Rule}
 use Rattle.book_values.specs.Workbook as book
 use Rattle.book_values.specs.Workbook.{Workbook, home_of, tree_at}
@@ -47,6 +48,18 @@ asks_in v a = has a v.noted.asking.keys
 abbrev pub loses_in : Values → Node → Bool
 loses_in v a = has a v.noted.losing.keys
 
+-- the nodes whose formulas were found to use a word that finds no name
+abbrev pub seeks_in : Values → Node → Bool
+seeks_in v a = has a v.noted.seeking.keys
+
+-- a word of a formula finds no name on the sheet
+abbrev pub seeks : Names → ℕ → Term Corner → Bool
+seeks names sheet t = list_any (λ word. is_none (found names word sheet)) (names_in t)
+
+-- a word of the formula of a place or a name does not
+abbrev pub seeks_at : Workbook → book.Node → Term Corner → Bool
+seeks_at b x t = seeks b.names (sheet_of (home_of x)) t
+
 -- there is one, and it passes a test
 abbrev pub passes : {X : Type 0} → (X → Bool) → Option X → Bool
 passes test None = false
@@ -68,18 +81,19 @@ abbrev pub is_link_at : Workbook → List (List ℕ) → Node → Node → Bool
 is_link_at b words a c = passes (is_link_from b words c) (node_at words a)
 
 -- noted is each node that isn't marked and whose formula passes the test, and nothing but places and known names
-pub record AreNoted (test : Term Corner → Bool) (b : Workbook) (words : List (List ℕ)) (marks : List Node) (noted : Node → Bool) : Type 0 where
-  pub all : (a : Node) (x : book.Node) (t : Term Corner) → has a marks ≡ false → node_at words a ≡ Some x → tree_at b x ≡ Some t → test t ≡ true → noted a ≡ true
+pub record AreNoted (test : book.Node → Term Corner → Bool) (b : Workbook) (words : List (List ℕ)) (marks : List Node) (noted : Node → Bool) : Type 0 where
+  pub all : (a : Node) (x : book.Node) (t : Term Corner) → has a marks ≡ false → node_at words a ≡ Some x → tree_at b x ≡ Some t → test x t ≡ true → noted a ≡ true
   pub known : (a : Node) → noted a ≡ true → is_some (node_at words a) ≡ true
 
 -- they follow the workbook: each node that isn't marked is linked to exactly what its formula is linked to, and noted to ask where a
--- reference is where its formula does, and to lose one where its formula has; what is marked or so noted is a place or a known name; and
--- what is kept of each place and each name that reaches no mark is its value
+-- reference is where its formula does, to lose one where its formula has, and to seek a name where a word of it finds none; what is
+-- marked or so noted is a place or a known name; and what is kept of each place and each name that reaches no mark is its value
 pub record Follows (b : Workbook) (words : List (List ℕ)) (customs : List (List ℕ × Rule)) (today : ℤ) (v : Values) : Type 0 where
   pub linked : (a c : Node) → has a (marks_in v) ≡ false → has c (links_in v a) ≡ is_link_at b words a c
   pub inside : AreLinksInside (links_in v)
-  pub asks : AreNoted asks_place b words (marks_in v) (asks_in v)
-  pub loses : AreNoted has_lost b words (marks_in v) (loses_in v)
+  pub asks : AreNoted (λ x. asks_place) b words (marks_in v) (asks_in v)
+  pub loses : AreNoted (λ x. has_lost) b words (marks_in v) (loses_in v)
+  pub seeks : AreNoted (seeks_at b) b words (marks_in v) (seeks_in v)
   pub known : (a : Node) → has a (marks_in v) ≡ true → is_some (node_at words a) ≡ true
   pub fit : FitsMarks b words customs today (marks_in v) (kept_in v)
 

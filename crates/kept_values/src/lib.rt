@@ -22,6 +22,7 @@ mod linking;
 mod links;
 mod noting;
 mod refreshing;
+mod seeking;
 mod shifting;
 mod taken_back;
 mod values;

@@ -2,7 +2,7 @@
 ghost use Rattle.std.specs.Prelude.{◌≡◌, ℕ, ℤ, IfOk, List, OnOk};
 ghost use Rattle.custom_fn.specs.declared.rule.Rule.{Rule};
 ghost use Rattle.dep_graph.specs.Nodes.{has, items_of};
-ghost use Rattle.dep_graph.specs.Users.{AreUsers};
+ghost use Rattle.dep_graph.specs.Users.{AreLinkedTo, AreUsers};
 ghost use Rattle.dep_graph.specs.declared.node.Node.{Node as NodeSeen};
 ghost use Rattle.recalc_core.specs.Nodes.{AreNumbered};
 ghost use Rattle.marked_values.specs.Marks.{IsBookInside};
@@ -10,12 +10,12 @@ ghost use Rattle.marked_values.specs.Marks.{IsBookInside};
 use crate::linking::link_all;
 use crate::values::Values;
 use cell_addr::Place;
-use dep_graph::Nodes;
+use dep_graph::{Node, Nodes};
 use recalc_core::Trees;
 use std::alloc::AllocError;
 
 impl Values {
-    ghost use Rattle.kept_values.specs.Values.{Follows, asks_in, is_link_at, kept_in, links_in, loses_in, marks_in};
+    ghost use Rattle.kept_values.specs.Values.{Follows, asks_in, is_link_at, kept_in, links_in, loses_in, marks_in, seeks_in};
 
     /// Links the marked nodes anew, and works out nothing: each node is then linked to exactly what its formula in the workbook that
     /// the values follow is linked to.
@@ -30,6 +30,7 @@ impl Values {
         ensures marks { marks_in self.new ≡ marks_in self.old }
         ensures asking { asks_in self.new ≡ asks_in self.old }
         ensures losing { loses_in self.new ≡ loses_in self.old }
+        ensures seeking { seeks_in self.new ≡ seeks_in self.old }
         ensures kept { kept_in self.new ≡ kept_in self.old }
         ensures follows { (customs : List (List ℕ × Rule)) (today : ℤ) → Follows (T.workbook trees.old) (T.words trees.old) customs today self.old → Follows (T.workbook trees.old) (T.words trees.old) customs today self.new }
         ensures leaves { T.workbook trees.new ≡ T.workbook trees.old }
@@ -50,5 +51,13 @@ impl Values {
         ensures { IfOk result (λ nodes. AreUsers at (links_in self.now) (items_of nodes)) }
     {
         self.graph.users(at)
+    }
+
+    /// Each node, once, that is linked to the node itself. Costs what [`Graph::linked_to`](dep_graph::Graph::linked_to) does. Errs for
+    /// want of memory.
+    pub fn linked_to(&self, a: Node) -> Result<Nodes, AllocError>
+        ensures { IfOk result (λ nodes. AreLinkedTo a (links_in self.now) (items_of nodes)) }
+    {
+        self.graph.linked_to(a)
     }
 }

@@ -23,7 +23,7 @@ use std::sync::ledger::Ledger;
 use steps::Steps;
 
 impl Values {
-    ghost use Rattle.kept_values.specs.Values.{Follows, TakesSteps, asks_in, kept_in, links_in, loses_in, marks_in};
+    ghost use Rattle.kept_values.specs.Values.{Follows, TakesSteps, asks_in, kept_in, links_in, loses_in, marks_in, seeks_in};
 
     /// Brings the values up to date with the workbook that they follow, with these custom functions, on the day of this serial
     /// number: links the marked nodes, and works out all that reaches a mark, each node once.
@@ -56,7 +56,12 @@ impl Values {
             trees,
             self.recalc.marks().items(),
         )?;
-        note_all(trees, self.recalc.marks().items(), &mut self.noted)?;
+        note_all(
+            self.alloc,
+            trees,
+            self.recalc.marks().items(),
+            &mut self.noted,
+        )?;
         self.recalc
             .recalculate(&self.graph, trees, customs, day, steps)
     }
@@ -77,6 +82,7 @@ impl Values {
         ensures links { links_in self.new ≡ links_in self.old }
         ensures asking { asks_in self.new ≡ asks_in self.old }
         ensures losing { loses_in self.new ≡ loses_in self.old }
+        ensures seeking { seeks_in self.new ≡ seeks_in self.old }
         ensures kept { kept_in self.new ≡ kept_in self.old }
         ensures marks { marks_in self.new ≡ marks_in self.old }
         ensures least { steps.old ≤ steps.new }

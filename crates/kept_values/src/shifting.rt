@@ -6,7 +6,8 @@ ghost use Rattle.dep_graph.specs.Shifted.{node_after};
 ghost use Rattle.dep_graph.specs.declared.node.Node.{Node as NodeSeen};
 ghost use Rattle.recalc_core.specs.Recalc.{kept_in, marks_in};
 ghost use Rattle.marked_values.specs.Shifts.{is_moved_cell};
-ghost use Rattle.kept_values.specs.internal.TakenAlong.{AddsTaken, AreMoved, moved_cell, with_some, with_taken};
+ghost use Rattle.kept_values.specs.Shifted.{moved_cell};
+ghost use Rattle.kept_values.specs.internal.TakenAlong.{AddsTaken, AreMoved, with_some, with_taken};
 
 use crate::values::Values;
 use cell_addr::Place;
@@ -18,22 +19,23 @@ use std::alloc::{AllocError, Global};
 use std::mem;
 
 impl Values {
-    ghost use Rattle.kept_values.specs.Shifted.{FollowsOver};
-    ghost use Rattle.kept_values.specs.Values.{asks_in, kept_in as kept_of, links_in, loses_in, marks_in as marks_of};
+    ghost use Rattle.kept_values.specs.Shifted.{FollowsOver, MarksOver};
+    ghost use Rattle.kept_values.specs.Values.{asks_in, kept_in as kept_of, links_in, loses_in, marks_in as marks_of, seeks_in};
     ghost use Rattle.kept_values.specs.internal.TakenAlong.{AreCarried, HasGathered};
 
     /// The values after a structural operation: links and values go along with their nodes, so that they follow the workbook
     /// after it where they followed the one before it. Marked are then the nodes that were, those whose formulas the operation
     /// bends or that ask where a reference is, and what is touched: each filled cell of a block that the operation moves and
-    /// of where that goes, and each name of a dropped sheet. A formula that had lost a reference is noted to where it goes, and
-    /// needn't be marked.
+    /// of where that goes, and each name of a dropped sheet. A formula that had lost a reference, or uses a word that finds no
+    /// name, is noted to where it goes, and needn't be marked.
     ///
     /// Errs for want of memory, and then nothing is kept any more. Costs what [`Graph::bent`](dep_graph::Graph::bent),
     /// [`Graph::shift`](dep_graph::Graph::shift) and [`Recalc::shift`] do, and a look-up or two for each node that is
     /// marked then, which each formula is that asks where a reference is, and for each formula that had lost one.
     pub fn shifted(mut self, s: &Shift, touched: &[Node]) -> Result<Values, AllocError>
         requires { IsSound s.now }
-        ensures { IfOk result (λ values. FollowsOver s.now touched.now self values) }
+        ensures follows { IfOk result (λ values. FollowsOver s.now touched.now self values) }
+        ensures marks { IfOk result (λ values. MarksOver s.now touched.now self values) }
     {
         match self.go_along(s, touched) {
             Ok(()) => Ok(self),
@@ -44,11 +46,13 @@ impl Values {
     // Goes along with the operation; for want of memory only a part does.
     fn go_along(&mut self, s: &Shift, touched: &[Node]) -> Result<(), AllocError>
         requires { IsSound s.now }
-        ensures { OnOk result (FollowsOver s.now touched.now self.old self.new) }
+        ensures follows { OnOk result (FollowsOver s.now touched.now self.old self.new) }
+        ensures marks { OnOk result (MarksOver s.now touched.now self.old self.new) }
     {
         let bent = self.graph.bent(s)?;
         self.gather(touched, bent.items())?;
         self.move_losing(s)?;
+        self.move_seeking(s)?;
         self.carry(s)
     }
 
@@ -57,6 +61,7 @@ impl Values {
         ensures marks { OnOk result (HasGathered touched.now bent.now self.old self.new) }
         ensures asking { OnOk result ((a : NodeSeen) → asks_in self.new a ≡ false) }
         ensures losing { loses_in self.new ≡ loses_in self.old }
+        ensures seeking { seeks_in self.new ≡ seeks_in self.old }
         ensures links { links_in self.new ≡ links_in self.old }
         ensures kept { kept_of self.new ≡ kept_of self.old }
     {
@@ -71,11 +76,26 @@ impl Values {
         requires { IsSound s.now }
         ensures moved { OnOk result (AreMoved s.now (loses_in self.old) (loses_in self.new)) }
         ensures asking { asks_in self.new ≡ asks_in self.old }
+        ensures seeking { seeks_in self.new ≡ seeks_in self.old }
         ensures links { links_in self.new ≡ links_in self.old }
         ensures kept { kept_of self.new ≡ kept_of self.old }
         ensures marks { marks_of self.new ≡ marks_of self.old }
     {
         self.noted.losing = moved_nodes(self.alloc, s, self.noted.losing.as_slice())?;
+        Ok(())
+    }
+
+    // Notes the formulas with a word that finds no name where the operation takes them.
+    pub(crate) fn move_seeking(&mut self, s: &Shift) -> Result<(), AllocError>
+        requires { IsSound s.now }
+        ensures moved { OnOk result (AreMoved s.now (seeks_in self.old) (seeks_in self.new)) }
+        ensures asking { asks_in self.new ≡ asks_in self.old }
+        ensures losing { loses_in self.new ≡ loses_in self.old }
+        ensures links { links_in self.new ≡ links_in self.old }
+        ensures kept { kept_of self.new ≡ kept_of self.old }
+        ensures marks { marks_of self.new ≡ marks_of self.old }
+    {
+        self.noted.seeking = moved_nodes(self.alloc, s, self.noted.seeking.as_slice())?;
         Ok(())
     }
 
@@ -85,6 +105,7 @@ impl Values {
         ensures carried { OnOk result (AreCarried s.now (links_in self.old) (marks_of self.old) (kept_of self.old) self.new) }
         ensures asking { asks_in self.new ≡ asks_in self.old }
         ensures losing { loses_in self.new ≡ loses_in self.old }
+        ensures seeking { seeks_in self.new ≡ seeks_in self.old }
     {
         let marked = Vec::from_slice(self.alloc, self.recalc.marks().items())?;
         self.graph.shift(s)?;

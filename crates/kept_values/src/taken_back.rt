@@ -14,8 +14,8 @@ use std::alloc::AllocError;
 use std::mem;
 
 impl Values {
-    ghost use Rattle.kept_values.specs.Shifted.{FollowsBack};
-    ghost use Rattle.kept_values.specs.Values.{asks_in, kept_in, links_in, loses_in, marks_in};
+    ghost use Rattle.kept_values.specs.Shifted.{FollowsBack, MarksBack};
+    ghost use Rattle.kept_values.specs.Values.{asks_in, kept_in, links_in, loses_in, marks_in, seeks_in};
     ghost use Rattle.kept_values.specs.internal.TakenAlong.{AreProbed};
 
     /// The values before a structural operation, which its opposite takes back: links and values go back with their nodes, so that
@@ -34,7 +34,8 @@ impl Values {
     ) -> Result<Values, AllocError>
         requires sound { IsSound s.now }
         requires opposite { opposite_of s.now ≡ Some back.now }
-        ensures { IfOk result (λ values. FollowsBack s.now back.now touched.now removed.now self values) }
+        ensures follows { IfOk result (λ values. FollowsBack s.now back.now touched.now removed.now self values) }
+        ensures marks { IfOk result (λ values. MarksBack s.now back.now touched.now removed.now self values) }
     {
         match self.go_back(s, back, touched, removed) {
             Ok(()) => Ok(self),
@@ -52,11 +53,13 @@ impl Values {
     ) -> Result<(), AllocError>
         requires sound { IsSound s.now }
         requires opposite { opposite_of s.now ≡ Some back.now }
-        ensures { OnOk result (FollowsBack s.now back.now touched.now removed.now self.old self.new) }
+        ensures follows { OnOk result (FollowsBack s.now back.now touched.now removed.now self.old self.new) }
+        ensures marks { OnOk result (MarksBack s.now back.now touched.now removed.now self.old self.new) }
     {
         let suspects = self.probed(s)?;
         self.gather(touched, suspects.items())?;
         self.gather_losing()?;
+        self.move_seeking(back)?;
         self.carry(back)?;
         self.mark_all(removed)
     }
@@ -77,10 +80,25 @@ impl Values {
         ensures marks { OnOk result ((a : NodeSeen) → has a (marks_in self.new) ≡ (has a (marks_in self.old) || loses_in self.old a)) }
         ensures losing { OnOk result ((a : NodeSeen) → loses_in self.new a ≡ false) }
         ensures asking { asks_in self.new ≡ asks_in self.old }
+        ensures seeking { seeks_in self.new ≡ seeks_in self.old }
         ensures links { links_in self.new ≡ links_in self.old }
         ensures kept { kept_in self.new ≡ kept_in self.old }
     {
         let losing = mem::replace(&mut self.noted.losing, IndexSet::new(self.alloc));
         self.mark_all(losing.as_slice())
+    }
+
+    /// Marks each node whose formula uses a word that finds no name, of which none is noted any more. For want of memory some are
+    /// marked, and the values are of no more use. Costs a look-up for each.
+    pub fn mark_seeking(&mut self) -> Result<(), AllocError>
+        ensures marks { OnOk result ((a : NodeSeen) → has a (marks_in self.new) ≡ (has a (marks_in self.old) || seeks_in self.old a)) }
+        ensures seeking { OnOk result ((a : NodeSeen) → seeks_in self.new a ≡ false) }
+        ensures asking { asks_in self.new ≡ asks_in self.old }
+        ensures losing { loses_in self.new ≡ loses_in self.old }
+        ensures links { links_in self.new ≡ links_in self.old }
+        ensures kept { kept_in self.new ≡ kept_in self.old }
+    {
+        let seeking = mem::replace(&mut self.noted.seeking, IndexSet::new(self.alloc));
+        self.mark_all(seeking.as_slice())
     }
 }

@@ -10,8 +10,8 @@ use dep_graph::{Graph, Node, Nodes};
 use recalc_core::Recalc;
 use std::alloc::{AllocError, Global};
 
-/// What is kept of the values of a workbook: the links of its formulas, which of these ask where a reference is and which have lost
-/// one, the values of its cells and names, and the marks of what was touched since they were worked out.
+/// What is kept of the values of a workbook: the links of its formulas, which of these ask where a reference is, which have lost one
+/// and which use a word that finds no name, the values of its cells and names, and the marks of what was touched since they were worked out.
 #[derive(Drop)]
 pub struct Values {
     pub(crate) alloc: Global,
@@ -21,7 +21,7 @@ pub struct Values {
 }
 
 impl Values {
-    ghost use Rattle.kept_values.specs.Values.{AreMarked, asks_in, kept_in, links_in, loses_in, marks_in};
+    ghost use Rattle.kept_values.specs.Values.{AreMarked, asks_in, kept_in, links_in, loses_in, marks_in, seeks_in};
 
     /// Nothing is linked, nothing is kept, and there are no marks. Errs for want of memory.
     pub fn new(alloc: Global) -> Result<Values, AllocError>
@@ -29,6 +29,7 @@ impl Values {
         ensures kept { IfOk result (λ values. (a : Node) → kept_in values a ≡ None) }
         ensures asking { IfOk result (λ values. (a : Node) → asks_in values a ≡ false) }
         ensures losing { IfOk result (λ values. (a : Node) → loses_in values a ≡ false) }
+        ensures seeking { IfOk result (λ values. (a : Node) → seeks_in values a ≡ false) }
         ensures marks { IfOk result (λ values. marks_in values ≡ []) }
     {
         Ok(Values {
@@ -47,6 +48,7 @@ impl Values {
         ensures links { links_in self.new ≡ links_in self.old }
         ensures asking { asks_in self.new ≡ asks_in self.old }
         ensures losing { loses_in self.new ≡ loses_in self.old }
+        ensures seeking { seeks_in self.new ≡ seeks_in self.old }
         ensures kept { kept_in self.new ≡ kept_in self.old }
     {
         self.recalc.mark(a)
@@ -59,6 +61,7 @@ impl Values {
         ensures links { links_in self.new ≡ links_in self.old }
         ensures asking { asks_in self.new ≡ asks_in self.old }
         ensures losing { loses_in self.new ≡ loses_in self.old }
+        ensures seeking { seeks_in self.new ≡ seeks_in self.old }
         ensures kept { kept_in self.new ≡ kept_in self.old }
     {
         'nodes: for node in nodes {

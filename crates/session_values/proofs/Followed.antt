@@ -5,11 +5,12 @@ use Rattle.std.specs.FinMap as fin
 use Rattle.std.proofs.lemmas.Bool.{cases_Bool, false≢true}
 use Rattle.cell_addr.specs.declared.place.Place.{Place}
 use Rattle.custom_fn.specs.declared.rule.Rule.{Rule}
+use Rattle.formula_tree.specs.Reference.{sheet_of}
 use Rattle.formula_tree.specs.Term.{Term}
 use Rattle.formula_tree.specs.declared.reference.Corner.{Corner}
 use Rattle.book_values.specs.Names.{tree_in}
 use Rattle.book_values.specs.Workbook as book
-use Rattle.book_values.specs.Workbook.{Workbook, content_tree, tree_at}
+use Rattle.book_values.specs.Workbook.{Workbook, content_tree, home_of, tree_at}
 use Rattle.dep_graph.specs.Nodes.{has}
 use Rattle.dep_graph.specs.declared.node.Node.{Node}
 use Rattle.dep_graph.specs.declared.node.Node.TheVariants.{Cell, Name, Range}
@@ -32,13 +33,13 @@ use Rattle.marked_values.proofs.Changed.{changes_follow}
 use Rattle.marked_values.proofs.Fitting.{more_marks}
 use Rattle.marked_values.proofs.Linked.{all_marked}
 use Rattle.kept_values.proofs.Following.{from_follow, there, to_follow}
-use Rattle.kept_values.specs.Values.{AreNoted, Follows, asks_in, kept_in, links_in, loses_in, marks_in}
+use Rattle.kept_values.specs.Values.{AreNoted, Follows, asks_in, kept_in, links_in, loses_in, marks_in, seeks, seeks_at, seeks_in}
 use Rattle.kept_values.specs.declared.values.Values.{Values}
 use Rattle.session_values.specs.Following.{CellsFollow, FollowsIn, ReadsFollow, book_of, words_in}
 use Rattle.session_values.specs.Touched.{IsTouched}
 
 -- words that keep their numbers keep the nodes of names
-keep_numbers : (words more : List (List ℕ)) → IsMore words more → KeepNumbers words more
+pub keep_numbers : (words more : List (List ℕ)) → IsMore words more → KeepNumbers words more
 keep_numbers words more keeps (Cell p) x at = at
 keep_numbers words more keeps (Range b) x at = absurd (none_some x at)
 keep_numbers words more keeps (Name scope number) x at = by (slice_get words number) refl
@@ -71,7 +72,8 @@ module _ (b c : Workbook) (words more : List (List ℕ)) (customs : List (List �
       (subst (λ kept. Follow c more customs today (links_in v) (marks_in w) kept) (sym touch.kept)
       (more_marks c more customs today (links_in v) (marks_in v ++ marks_in w) (marks_in w) (kept_in v)
       (changes_follow b c words more customs today (links_in v) (marks_in v) (marks_in w) (kept_in v) (to_follow b words customs today v numbered follows) numbers now (cells_alone b c more (marks_in w) names cells) known)
-      stay known))) (noted asks_place (asks_in v) (asks_in w) touch.asking follows.asks) (noted has_lost (loses_in v) (loses_in w) touch.losing follows.loses)
+      stay known))) (noted (λ x. asks_place) (λ x. asks_place) (λ x t h. h) (asks_in v) (asks_in w) touch.asking follows.asks) (noted (λ x. has_lost) (λ x. has_lost) (λ x t h. h) (loses_in v) (loses_in w) touch.losing follows.loses)
+      (noted (seeks_at b) (seeks_at c) (λ x t h. ap (λ ns. seeks ns (sheet_of (home_of x)) t) names ∙ h) (seeks_in v) (seeks_in w) touch.seeking follows.seeks)
     where
       known : AreKnown more (marks_in w)
       known a h = ⊎_elim
@@ -100,9 +102,9 @@ module _ (b c : Workbook) (words more : List (List ℕ)) (customs : List (List �
           no_place (Some word) e = let h = same_some _ _ e in cc
       same_tree (Range r) (book.place q) isnt at = absurd (none_some (book.place q) at)
 
-      noted : (test : Term Corner → Bool) (was now : Node → Bool) → now ≡ was → AreNoted test b words (marks_in v) was → AreNoted test c more (marks_in w) now
-      noted test was now same before = record {
-        all = λ a x t isnt at is passes. ap (λ f. f a) same ∙ before.all a x t (free a isnt) (was_known a x t at is) (sym (same_tree a x isnt at) ∙ is) passes;
+      noted : (first test : book.Node → Term Corner → Bool) → ((x : book.Node) (t : Term Corner) → test x t ≡ true → first x t ≡ true) → (was now : Node → Bool) → now ≡ was → AreNoted first b words (marks_in v) was → AreNoted test c more (marks_in w) now
+      noted first test as_before was now same before = record {
+        all = λ a x t isnt at is passes. ap (λ f. f a) same ∙ before.all a x t (free a isnt) (was_known a x t at is) (sym (same_tree a x isnt at) ∙ is) (as_before x t passes);
         known = λ a h. let (x, at) = there (node_at words a) (before.known a (sym (ap (λ f. f a) same) ∙ h)) in ap is_some (numbers a x at);
       }
 
@@ -120,12 +122,12 @@ reads_follow s t customs today values reads follows =
     book_in d = valued d.book
 
 -- where nothing is linked and kept, and all that stands is marked
-pub all_follow : (b : Workbook) (words : List (List ℕ)) (customs : List (List ℕ × Rule)) (today : ℤ) (v : Values) (nodes : List Node) → AreNumbered words b.names → ((a : Node) → links_in v a ≡ []) → ((a : Node) → kept_in v a ≡ None) → ((a : Node) → asks_in v a ≡ false) → ((a : Node) → loses_in v a ≡ false)
+pub all_follow : (b : Workbook) (words : List (List ℕ)) (customs : List (List ℕ × Rule)) (today : ℤ) (v : Values) (nodes : List Node) → AreNumbered words b.names → ((a : Node) → links_in v a ≡ []) → ((a : Node) → kept_in v a ≡ None) → ((a : Node) → asks_in v a ≡ false) → ((a : Node) → loses_in v a ≡ false) → ((a : Node) → seeks_in v a ≡ false)
     → ((a : Node) → has a (marks_in v) ≡ has a ([] ++ nodes)) → ((a : Node) (x : book.Node) → node_at words a ≡ Some x → stands b x ≡ true → IsTrue (has a nodes)) → AreKnown words nodes → Follows b words customs today v
-all_follow b words customs today v nodes numbered links kept asking losing marks all known =
+all_follow b words customs today v nodes numbered links kept asking losing seeking marks all known =
     from_follow b words customs today v
     (all_marked b words customs today (links_in v) (marks_in v) (kept_in v) numbered links kept (λ a x at standing. marks a ∙ all a x at standing) (λ a h. known a (sym (marks a) ∙ h)))
-    (none_noted asks_place (asks_in v) asking) (none_noted has_lost (loses_in v) losing)
+    (none_noted (λ x. asks_place) (asks_in v) asking) (none_noted (λ x. has_lost) (loses_in v) losing) (none_noted (seeks_at b) (seeks_in v) seeking)
   where
     has_tree : (x : book.Node) (t : Term Corner) → tree_at b x ≡ Some t → stands b x ≡ true
     has_tree (book.place p) t is = by (fin.get b.cells p) refl is
@@ -135,7 +137,7 @@ all_follow b words customs today v nodes numbered links kept asking losing marks
         by (Some content) e h = ap is_some e
     has_tree (book.name key) t is = ap is_some is
 
-    none_noted : (test : Term Corner → Bool) (noted : Node → Bool) → ((a : Node) → noted a ≡ false) → AreNoted test b words (marks_in v) noted
+    none_noted : (test : book.Node → Term Corner → Bool) (noted : Node → Bool) → ((a : Node) → noted a ≡ false) → AreNoted test b words (marks_in v) noted
     none_noted test noted none = record {
       all = λ a x t isnt at is passes. absurd (false≢true (sym isnt ∙ marks a ∙ all a x at (has_tree x t is)));
       known = λ a h. absurd (false≢true (sym (none a) ∙ h));

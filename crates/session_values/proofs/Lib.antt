@@ -3,4 +3,5 @@ pub mod Followed
 pub mod Listed
 pub mod MentionedPlaces
 pub mod Shifted
+pub mod Named
 pub mod Refreshed

@@ -1,14 +1,16 @@
 -- Nodes that a structural operation touches, listed. Serves the list of them.
-use Rattle.std.proofs.Common.{◌≡◌, ◌∙◌, sym, ap, refl, subst, ℕ, Bool, true, false, cond, ◌&&◌, ◌||◌, List, [], ◌∷◌, ◌++◌, map, Option, Some, None, is_some, option_map, ⊎_elim}
+use Rattle.std.proofs.Common.{◌≡◌, ◌∙◌, sym, ap, refl, subst, ℕ, Bool, true, false, cond, ◌&&◌, ◌||◌, List, [], ◌∷◌, ◌++◌, map, Option, Some, None, is_some, option_map, ◌⊎◌, inl, inr, ⊎_elim}
 use Rattle.std.specs.Prelude.{IsTrue}
 use Rattle.std.specs.FinMap as fin
 use Rattle.std.specs.FinMap.{find, get-entries, get-retain_keys}
 use Rattle.std.specs.Ordering.{eq_by_cmp}
+use Rattle.std.proofs.lemmas.Cmp.{eq_by_cmp_equiv}
 use Rattle.std.proofs.lemmas.Bool.{false≢true, or_cases, or_left, or_right}
 use Rattle.std.proofs.lemmas.List.Folds.{list_any-append}
 use Rattle.std.proofs.lemmas.Option.{none-some, same_Some}
 use Rattle.std.specs.List.{list_any}
-use Rattle.cell_addr.proofs.Places.{place_cmp-IsAntisymmetric}
+use Rattle.cell_addr.proofs.Places.{place_cmp-IsAntisymmetric, place_cmp-IsTotalOrder}
+use Rattle.cell_addr.proofs.SamePlaces.{same_place-equal}
 use Rattle.cell_addr.specs.Order.{place_cmp}
 use Rattle.cell_addr.specs.Place.{covers, same_place}
 use Rattle.cell_addr.specs.declared.place.Block.{Block}
@@ -18,7 +20,7 @@ use Rattle.grid_store.specs.declared.cell.Cell.{Cell}
 use Rattle.shift_core.specs.Carried.{destination}
 use Rattle.shift_core.specs.Form.{form_of}
 use Rattle.shift_core.specs.Maps.{PlaceMap}
-use Rattle.shift_core.specs.declared.form.Form.TheVariants.{Cells}
+use Rattle.shift_core.specs.declared.form.Form.TheVariants.{Cells, Sheet}
 use Rattle.shift_core.specs.declared.shift.Shift.{Shift}
 use Rattle.book_model.proofs.Contents.{is_at}
 use Rattle.book_values.specs.Workbook as book
@@ -38,8 +40,9 @@ use Rattle.kept_steps.specs.declared.session.Session.{Session}
 use Rattle.recalc_core.specs.Laws.{AreKnown}
 use Rattle.recalc_core.specs.Shifted.{drops_scope}
 use Rattle.marked_values.specs.Shifts.{is_moved_in}
-use Rattle.kept_values.specs.Shifted.{HasTouched}
+use Rattle.kept_values.specs.Shifted.{HasTouched, may_touch}
 use Rattle.session_values.specs.Following.{book_of, words_in}
+use Rattle.session_values.specs.Shifting.{is_replaced_cell}
 use Rattle.session_values.specs.internal.Listed.{cell_node, filled_in, is_name_of, with_named}
 
 -- ---- names of a sheet among nodes
@@ -101,6 +104,20 @@ cell_listed p (e ∷ es) some = by (eq_by_cmp place_cmp p e.0) refl some (cell_l
     by true is there later = or_left (same_node (node.Cell p) (cell_node e)) (has (node.Cell p) (map cell_node es)) (ap (λ q. same_node (node.Cell p) (node.Cell q)) (is_at e.0 p is) ∙ own_node (node.Cell p))
     by false is there later = or_right (same_node (node.Cell p) (cell_node e)) (has (node.Cell p) (map cell_node es)) (later there)
 
+-- and a listed place has an entry
+cell_there : (p : Place) (es : List (Place × Cell)) → has (node.Cell p) (map cell_node es) ≡ true → is_some (find place_cmp p es) ≡ true
+cell_there p [] h = absurd (false≢true h)
+cell_there p (e ∷ es) h = by (eq_by_cmp place_cmp p e.0) refl (cell_there p es)
+  where
+    by : (t : Bool) → eq_by_cmp place_cmp p e.0 ≡ t → (has (node.Cell p) (map cell_node es) ≡ true → is_some (find place_cmp p es) ≡ true) → is_some (find place_cmp p (e ∷ es)) ≡ true
+    by true is later = ap (λ t. is_some (cond t (Some e.1) (find place_cmp p es))) is
+    by false is later =
+        ap (λ t. is_some (cond t (Some e.1) (find place_cmp p es))) is
+        ∙ ⊎_elim
+        (λ (same : same_place p e.0 ≡ true). absurd (false≢true (sym is ∙ subst (λ q. eq_by_cmp place_cmp p q ≡ true) (same_place-equal p e.0 same) ((eq_by_cmp_equiv place_cmp-IsTotalOrder).refl p))))
+        (λ (rest : has (node.Cell p) (map cell_node es) ≡ true). later rest)
+        (or_cases (same_place p e.0) (has (node.Cell p) (map cell_node es)) h)
+
 -- the nodes of cells are cells
 no_name : (scope word : ℕ) (es : List (Place × Cell)) → has (node.Name scope word) (map cell_node es) ≡ false
 no_name scope word [] = refl
@@ -125,6 +142,13 @@ replaced_listed [] es p is h = absurd (none-some es is)
 replaced_listed (c ∷ []) es p is h = all_listed p es ∙ ap (λ l. list_any (same_place p) (places_of l)) (sym (same_Some c.replaced es is)) ∙ sym (or_none (list_any (same_place p) (places_of c.replaced))) ∙ h
 replaced_listed (c ∷ d ∷ cs) es p is h = absurd (none-some es is)
 
+pub replaced_only : (changes : List Change) (es : List (Place × Cell)) → replaced_of changes ≡ Some es → (a : Node) → IsTrue (has a (map cell_node es)) → is_replaced_cell changes a ≡ true
+replaced_only [] es is a h = absurd (none-some es is)
+replaced_only (c ∷ []) es is (node.Cell p) h = or_none (list_any (same_place p) (places_of c.replaced)) ∙ ap (λ l. list_any (same_place p) (places_of l)) (same_Some c.replaced es is) ∙ sym (all_listed p es) ∙ h
+replaced_only (c ∷ []) es is (node.Name scope word) h = absurd (false≢true (sym (no_name scope word es) ∙ h))
+replaced_only (c ∷ []) es is (node.Range block) h = absurd (false≢true (sym (no_range block es) ∙ h))
+replaced_only (c ∷ d ∷ cs) es is a h = absurd (none-some es is)
+
 module _ (s : Session) where
   -- a filled cell of a block is listed
   filled_listed : (area : Block) (p : Place) → covers area p ≡ true → is_some (fin.get (book_of s).cells p) ≡ true → IsTrue (has (node.Cell p) (filled_in s area))
@@ -138,6 +162,20 @@ module _ (s : Session) where
 
       inside : fin.get (within area cells) p ≡ fin.get cells p
       inside = get-retain_keys cells (covers area) p (λ q tied. ap (covers area) (sym (place_cmp-IsAntisymmetric p q tied))) ∙ ap (λ t. cond t (fin.get cells p) None) on
+
+  -- and what is listed is a cell of the block
+  listed_within : (area : Block) (p : Place) → IsTrue (has (node.Cell p) (filled_in s area)) → covers area p ≡ true
+  listed_within area p h = by (covers area p) refl
+    where
+      cells : PlaceMap Cell
+      cells = cells_of s.book.grid
+
+      held : is_some (fin.get (within area cells) p) ≡ true
+      held = ap is_some (get-entries (within area cells) p) ∙ cell_there p (fin.entries (within area cells)) h
+
+      by : (t : Bool) → covers area p ≡ t → covers area p ≡ true
+      by true on = on
+      by false out = absurd (false≢true (sym (ap is_some (get-retain_keys cells (covers area) p (λ q tied. ap (covers area) (sym (place_cmp-IsAntisymmetric p q tied))) ∙ ap (λ t. cond t (fin.get cells p) None) out)) ∙ held))
 
   -- ---- what an operation touches
 
@@ -156,3 +194,24 @@ module _ (s : Session) where
       (λ (first : has a (filled_in s one) ≡ true). cells_known (words_in s) (fin.entries (within one (cells_of s.book.grid))) a first)
       (λ (second : has a (filled_in s other) ≡ true). cells_known (words_in s) (fin.entries (within other (cells_of s.book.grid))) a second)
       (has-append_cases a (filled_in s one) (filled_in s other) (subst (λ ns. IsTrue (has a ns)) listed h))
+
+  -- it may touch no other nodes
+  pub cells_only : (x : Shift) (source : Block) (to : Place) (nodes : List Node) → form_of x ≡ Cells source to → nodes ≡ filled_in s source ++ filled_in s (destination source to)
+      → (a : Node) → IsTrue (has a nodes) → may_touch x a ≡ true
+  cells_only x source to nodes is listed a h = by a (has-append_cases a (filled_in s source) (filled_in s (destination source to)) (subst (λ ns. IsTrue (has a ns)) listed h))
+    where
+      by : (a : Node) → (has a (filled_in s source) ≡ true) ⊎ (has a (filled_in s (destination source to)) ≡ true) → may_touch x a ≡ true
+      by (node.Cell p) (inl from) = ap (λ f. is_moved_in f p) is ∙ or_left (covers source p) (covers (destination source to) p) (listed_within source p from)
+      by (node.Cell p) (inr onto) = ap (λ f. is_moved_in f p) is ∙ or_right (covers source p) (covers (destination source to) p) (listed_within (destination source to) p onto)
+      by (node.Name scope word) (inl from) = absurd (false≢true (sym (no_name scope word (fin.entries (within source (cells_of s.book.grid)))) ∙ from))
+      by (node.Name scope word) (inr onto) = absurd (false≢true (sym (no_name scope word (fin.entries (within (destination source to) (cells_of s.book.grid)))) ∙ onto))
+      by (node.Range block) (inl from) = absurd (false≢true (sym (no_range block (fin.entries (within source (cells_of s.book.grid)))) ∙ from))
+      by (node.Range block) (inr onto) = absurd (false≢true (sym (no_range block (fin.entries (within (destination source to) (cells_of s.book.grid)))) ∙ onto))
+
+pub names_only : (x : Shift) (sheet : ℕ) (nodes : List Node) → form_of x ≡ Sheet sheet → ((a : Node) → IsTrue (has a nodes) → is_name_of sheet a ≡ true) → (a : Node) → IsTrue (has a nodes) → may_touch x a ≡ true
+names_only x sheet nodes is only a h = by a (only a h)
+  where
+    by : (a : Node) → is_name_of sheet a ≡ true → may_touch x a ≡ true
+    by (node.Cell p) e = absurd (false≢true e)
+    by (node.Name scope word) e = ap (λ f. drops_scope f scope) is ∙ e
+    by (node.Range block) e = absurd (false≢true e)

@@ -17,25 +17,27 @@ use Rattle.kept_book.specs.Change.{Change, places_of}
 use Rattle.kept_book.specs.Kept.{change_of, changes_of}
 use Rattle.kept_book.specs.declared.part.Part.{Part}
 use Rattle.kept_steps.specs.Turned.{AreOfCells, IsOfCells, is_listed}
-use Rattle.kept_values.specs.Values.{asks_in, kept_in, links_in, loses_in, marks_in}
+use Rattle.kept_values.specs.Values.{asks_in, kept_in, links_in, loses_in, marks_in, seeks_in}
 use Rattle.kept_values.specs.declared.values.Values.{Values}
 use Rattle.session_values.specs.Touched.{AreMarkedIn, AreTouched, AreTouchedAtMost, IsMarkedIn, IsStepMarked, IsTouched, is_place_of}
 
-pub cell_touched : {X E : Type 0} (r : Result X E) (v w : Values) (p : Place) → links_in w ≡ links_in v → asks_in w ≡ asks_in v → loses_in w ≡ loses_in v → kept_in w ≡ kept_in v
+pub cell_touched : {X E : Type 0} (r : Result X E) (v w : Values) (p : Place) → links_in w ≡ links_in v → asks_in w ≡ asks_in v → loses_in w ≡ loses_in v → seeks_in w ≡ seeks_in v → kept_in w ≡ kept_in v
     → OnOk r ((c : Node) → has c (marks_in w) ≡ has c (marks_in v ++ Cell p ∷ [])) → OnErr r (marks_in w ≡ marks_in v) → IsTouched (same_place p) v w
-cell_touched (Ok x) v w p links asking losing kept marked same = record {
+cell_touched (Ok x) v w p links asking losing seeking kept marked same = record {
   links = links;
   asking = asking;
   losing = losing;
+  seeking = seeking;
   kept = kept;
   stay = λ a h. marked a ∙ has-append_left a (marks_in v) (Cell p ∷ []) h;
   only = λ a h. ⊎_elim (λ (before : has a (marks_in v) ≡ true). inl before) (λ (here : has a (Cell p ∷ []) ≡ true). inr (p, has_one a (Cell p) here, same_place-self p))
       (has-append_cases a (marks_in v) (Cell p ∷ []) (sym (marked a) ∙ h));
 }
-cell_touched (Err e) v w p links asking losing kept marked same = record {
+cell_touched (Err e) v w p links asking losing seeking kept marked same = record {
   links = links;
   asking = asking;
   losing = losing;
+  seeking = seeking;
   kept = kept;
   stay = λ a h. subst (λ (ns : List Node). IsTrue (has a ns)) (sym same) h;
   only = λ a h. inl (subst (λ (ns : List Node). IsTrue (has a ns)) same h);
@@ -48,14 +50,15 @@ cell_marked (Err e) v w p marked = tt
 -- nothing is touched
 pub untouched : (places : Place → Bool) (v : Option Values) → AreTouched places v v
 untouched places None = tt
-untouched places (Some v) = record { links = refl; asking = refl; losing = refl; kept = refl; stay = λ a h. h; only = λ a h. inl h }
+untouched places (Some v) = record { links = refl; asking = refl; losing = refl; seeking = refl; kept = refl; stay = λ a h. h; only = λ a h. inl h }
 
 -- nothing was touched where all is the same
-pub same_touched : (places : Place → Bool) (v w : Values) → links_in w ≡ links_in v → asks_in w ≡ asks_in v → loses_in w ≡ loses_in v → kept_in w ≡ kept_in v → marks_in w ≡ marks_in v → IsTouched places v w
-same_touched places v w links asking losing kept marks = record {
+pub same_touched : (places : Place → Bool) (v w : Values) → links_in w ≡ links_in v → asks_in w ≡ asks_in v → loses_in w ≡ loses_in v → seeks_in w ≡ seeks_in v → kept_in w ≡ kept_in v → marks_in w ≡ marks_in v → IsTouched places v w
+same_touched places v w links asking losing seeking kept marks = record {
   links = links;
   asking = asking;
   losing = losing;
+  seeking = seeking;
   kept = kept;
   stay = λ a h. subst (λ (ns : List Node). IsTrue (has a ns)) (sym marks) h;
   only = λ a h. inl (subst (λ (ns : List Node). IsTrue (has a ns)) marks h);
@@ -71,6 +74,7 @@ touched_on places (Some u) (Some v) (Some w) first next = record {
   links = next.links ∙ first.links;
   asking = next.asking ∙ first.asking;
   losing = next.losing ∙ first.losing;
+  seeking = next.seeking ∙ first.seeking;
   kept = next.kept ∙ first.kept;
   stay = λ a h. next.stay a (first.stay a h);
   only = λ a h. ⊎_elim (λ (before : has a (marks_in v) ≡ true). first.only a before) (λ here. inr here) (next.only a h);
@@ -85,6 +89,7 @@ touched_within few many (Some v) (Some w) within touched = record {
   links = touched.links;
   asking = touched.asking;
   losing = touched.losing;
+  seeking = touched.seeking;
   kept = touched.kept;
   stay = touched.stay;
   only = λ a h. ⊎_elim (λ (before : has a (marks_in v) ≡ true). inl before) (λ (p, is, there). inr (p, is, within p there)) (touched.only a h);

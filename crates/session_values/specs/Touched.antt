@@ -8,7 +8,7 @@ use Rattle.dep_graph.specs.declared.node.Node.{Node}
 use Rattle.dep_graph.specs.declared.node.Node.TheVariants.{Cell}
 use Rattle.kept_book.specs.Change.{Change}
 use Rattle.kept_steps.specs.Turned.{AreOfCells, is_listed}
-use Rattle.kept_values.specs.Values.{asks_in, kept_in, links_in, loses_in, marks_in}
+use Rattle.kept_values.specs.Values.{asks_in, kept_in, links_in, loses_in, marks_in, seeks_in}
 use Rattle.kept_values.specs.declared.values.Values.{Values}
 
 -- more cells of these places may be marked, and nothing else changed
@@ -16,6 +16,7 @@ pub record IsTouched (places : Place → Bool) (v w : Values) : Type 0 where
   pub links : links_in w ≡ links_in v
   pub asking : asks_in w ≡ asks_in v
   pub losing : loses_in w ≡ loses_in v
+  pub seeking : seeks_in w ≡ seeks_in v
   pub kept : kept_in w ≡ kept_in v
   pub stay : (a : Node) → IsTrue (has a (marks_in v)) → IsTrue (has a (marks_in w))
   pub only : (a : Node) → IsTrue (has a (marks_in w)) → IsTrue (has a (marks_in v)) ⊎ ((p : Place) × (a ≡ Cell p) × (places p ≡ true))

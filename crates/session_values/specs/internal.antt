@@ -1,2 +1,3 @@
 -- What only the proofs of bodies need.
 pub mod Listed
+pub mod Marked

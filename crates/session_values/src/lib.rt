@@ -18,6 +18,7 @@
 
 mod laws;
 mod listing;
+mod naming;
 mod reading;
 mod shifting;
 mod touching;

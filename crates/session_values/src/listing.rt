@@ -12,8 +12,9 @@ ghost use Rattle.recalc_core.specs.Kept.{stands};
 ghost use Rattle.recalc_core.specs.Laws.{AreKnown};
 ghost use Rattle.recalc_core.specs.Nodes.{node_at};
 ghost use Rattle.kept_steps.specs.Turned.{is_replaced, replaced_of, to_undo};
-ghost use Rattle.kept_values.specs.Shifted.{HasTouched};
+ghost use Rattle.kept_values.specs.Shifted.{HasTouched, may_touch};
 ghost use Rattle.session_values.specs.Following.{book_of, words_in};
+ghost use Rattle.session_values.specs.Shifting.{is_replaced_cell};
 ghost use Rattle.session_values.specs.internal.Listed.{cell_node, filled_in, is_name_of, with_named};
 
 use cell_addr::{Block, Place};
@@ -32,6 +33,7 @@ pub fn touched_by(session: &Session, s: &Shift) -> Result<Nodes, AllocError>
     requires { IsSound s.now }
     ensures touched { IfOk result (λ nodes. HasTouched s.now (book_of session.now) (words_in session.now) (items_of nodes)) }
     ensures known { IfOk result (λ nodes. AreKnown (words_in session.now) (items_of nodes)) }
+    ensures only { IfOk result (λ nodes. (a : NodeSeen) → IsTrue (has a (items_of nodes)) → may_touch s.now a ≡ true) }
 {
     match s.form() {
         Form::Lines { .. } => Nodes::new(session.book.alloc),
@@ -45,6 +47,7 @@ pub fn touched_by(session: &Session, s: &Shift) -> Result<Nodes, AllocError>
 pub fn restored_by(session: &Session) -> Result<Nodes, AllocError>
     ensures listed { IfOk result (λ nodes. (p : PlaceSeen) → IsSome (replaced_of (to_undo session.now)) → is_replaced (to_undo session.now) p ≡ true → IsTrue (has (kinds.Cell p) (items_of nodes))) }
     ensures known { IfOk result (λ nodes. (words : List (List ℕ)) → AreKnown words (items_of nodes)) }
+    ensures only { IfOk result (λ nodes. (a : NodeSeen) → IsTrue (has a (items_of nodes)) → is_replaced_cell (to_undo session.now) a ≡ true) }
 {
     match session.cells_removed() {
         Some(cells) => cell_nodes(session.book.alloc, cells),
@@ -94,6 +97,7 @@ fn add_cells(cells: &[(Place, Cell)], nodes: &mut Nodes) -> Result<(), AllocErro
 fn sheet_names(session: &Session, sheet: u32) -> Result<Nodes, AllocError>
     ensures all { IfOk result (λ names. (a : NodeSeen) (x : BookNode) → node_at (words_in session.now) a ≡ Some x → stands (book_of session.now) x ≡ true → is_name_of sheet a ≡ true → IsTrue (has a (items_of names))) }
     ensures known { IfOk result (λ names. AreKnown (words_in session.now) (items_of names)) }
+    ensures only { IfOk result (λ names. (a : NodeSeen) → IsTrue (has a (items_of names)) → is_name_of sheet a ≡ true) }
 {
     let nodes = session.nodes()?;
     named(session.book.alloc, nodes.items(), sheet)

@@ -9,11 +9,11 @@ use Rattle.dep_graph.specs.declared.node.Node.{Node}
 use Rattle.recalc_core.specs.Nodes.{node_at}
 
 -- where the node's formula passes, the node is noted
-abbrev pub IsNoted : (Term Corner → Bool) → Workbook → List (List ℕ) → (Node → Bool) → Node → Type 0
-IsNoted test b words noted a = (x : book.Node) (t : Term Corner) → node_at words a ≡ Some x → tree_at b x ≡ Some t → test t ≡ true → noted a ≡ true
+abbrev pub IsNoted : (book.Node → Term Corner → Bool) → Workbook → List (List ℕ) → (Node → Bool) → Node → Type 0
+IsNoted test b words noted a = (x : book.Node) (t : Term Corner) → node_at words a ≡ Some x → tree_at b x ≡ Some t → test x t ≡ true → noted a ≡ true
 
 -- so is each of the nodes
-abbrev pub AreNotedAmong : (Term Corner → Bool) → Workbook → List (List ℕ) → List Node → (Node → Bool) → Type 0
+abbrev pub AreNotedAmong : (book.Node → Term Corner → Bool) → Workbook → List (List ℕ) → List Node → (Node → Bool) → Type 0
 AreNotedAmong test b words nodes noted = (a : Node) → IsTrue (has a nodes) → IsNoted test b words noted a
 
 -- some of the nodes were noted, and no other one

@@ -1,5 +1,5 @@
 -- Marks that are taken along with a structural operation.
-use Rattle.std.specs.Prelude.{◌≡◌, ◌++◌, ℕ, Bool, true, if◌then◌else◌, List, Option, Some, None, IsTrue}
+use Rattle.std.specs.Prelude.{◌≡◌, ◌++◌, ◌⊎◌, ℕ, Bool, true, if◌then◌else◌, List, Option, Some, None, IsTrue}
 use Rattle.shift_core.specs.declared.shift.Shift.{Shift}
 use Rattle.dep_graph.specs.Bent.{IsBentBy}
 use Rattle.dep_graph.specs.Laws.{IsNoRange}
@@ -16,14 +16,9 @@ use Rattle.recalc_core.specs.Shifted.{from_over}
 use Rattle.marked_values.specs.Gathered.{AreTakenAlong}
 use Rattle.marked_values.specs.Shifts.{is_moved_cell}
 use Rattle.restored_values.specs.Probes.{probe_of}
+use Rattle.kept_values.specs.Shifted.{ComesFrom, IsProbedBy, moved_cell}
 use Rattle.kept_values.specs.Values.{kept_in, links_in, marks_in}
 use Rattle.kept_values.specs.declared.values.Values.{Values}
-
--- a cell of a block that the operation moves, or of where that goes
-abbrev pub moved_cell : Shift → Node → Option Node
-moved_cell s (Cell p) = if is_moved_cell s p then Some (Cell p) else None
-moved_cell s (Name scope word) = None
-moved_cell s (Range b) = None
 
 -- the marks with one more, if there is one
 abbrev pub with_some : Option Node → List Node → List Node
@@ -34,10 +29,11 @@ with_some None marks = marks
 abbrev pub with_taken : Shift → Node → List Node → List Node
 with_taken s a marks = with_some (moved_cell s a) (with_some (node_after s a) marks)
 
--- so each of the nodes is marked; what was marked stays so, and where all was known all is
+-- so each of the nodes is marked, and nothing else but what was marked, which stays so; and where all was known all is
 pub record AddsTaken (s : Shift) (nodes old new : List Node) : Type 0 where
   pub taken : AreTakenAlong s nodes new
   pub stay : (a : Node) → IsTrue (has a old) → IsTrue (has a new)
+  pub from : (a : Node) → IsTrue (has a new) → IsTrue (has a old) ⊎ ((b : Node) × IsTrue (has b nodes) × ComesFrom s b a)
   pub known : (words : List (List ℕ)) → AreKnown words nodes → AreKnown words old → AreKnown words new
 
 -- the second nodes are what the operation makes of the first ones, and nothing else
@@ -50,13 +46,15 @@ pub record AreCarried (s : Shift) (old : Links) (marks : List Node) (was : Kept)
   pub links : AreShifted s old (links_in w)
   pub kept : (a : Node) → IsNoRange a → kept_in w a ≡ carried_kept (from_over s) was a
   pub taken : AreTakenAlong s marks (marks_in w)
+  pub from : (a : Node) → IsTrue (has a (marks_in w)) → (b : Node) × IsTrue (has b marks) × ComesFrom s b a
   pub known : (words : List (List ℕ)) → AreKnown words marks → AreKnown words (marks_in w)
 
 -- marked are what was, what is touched, what is bent, and what is noted to ask where a reference is
 abbrev pub HasGathered : List Node → List Node → Values → Values → Type 0
 HasGathered touched bent v w = (a : Node) → has a (marks_in w) ≡ has a (((marks_in v ++ touched) ++ bent) ++ v.noted.asking.keys)
 
--- the list has each node that is linked to what the operation's probe bends, and only nodes that are linked to something
+-- the list has each node that is linked to what the operation's probe bends, and no other one, and these are linked to something
 pub record AreProbed (s : Shift) (links : Links) (nodes : List Node) : Type 0 where
   pub all : (probe : Shift) (a : Node) → probe_of s ≡ Some probe → IsBentBy probe links a → IsTrue (has a nodes)
+  pub only : (a : Node) → IsTrue (has a nodes) → IsProbedBy s links a
   pub linked : (a : Node) → IsTrue (has a nodes) → (d : Node) × IsTrue (has d (links a))

@@ -5,6 +5,7 @@ use Rattle.dep_graph.specs.declared.node.Node.{Node}
 use Rattle.dep_graph.specs.declared.node.Node.TheVariants.{Cell}
 use Rattle.marked_values.specs.Shifts.{asks_place}
 use Rattle.restored_values.specs.Suspects.{has_lost}
+use Rattle.kept_values.specs.Values.{seeks_at}
 use Rattle.kept_values.specs.internal.Noting.{IsNoted}
 use Rattle.kept_values.proofs.Noted.{adds_front, adds_none, adds_on, all_added, none_noted, noted_on}
 use Rattle.kept_values.proofs.noting.note_all.Goals as goal
@@ -16,8 +17,10 @@ nodes-init g c =
     record {
       asking = adds_none (λ n. has n c.args.noted.now.asking.keys);
       losing = adds_none (λ n. has n c.args.noted.now.losing.keys);
-      asks = none_noted asks_place b words (λ n. has n c.args.noted.now.asking.keys);
-      loses = none_noted has_lost b words (λ n. has n c.args.noted.now.losing.keys);
+      seeking = adds_none (λ n. has n c.args.noted.now.seeking.keys);
+      asks = none_noted (λ x. asks_place) b words (λ n. has n c.args.noted.now.asking.keys);
+      loses = none_noted (λ x. has_lost) b words (λ n. has n c.args.noted.now.losing.keys);
+      seeks = none_noted (seeks_at b) b words (λ n. has n c.args.noted.now.seeking.keys);
       leaves = refl;
       words = refl;
       reads = g.T.Trees.laws.none c.args.trees.now;
@@ -35,6 +38,12 @@ returns-in_err-note-clause-losing g c =
     adds_front c.args.nodes.now c.nodes.node-index d (λ n. has n c.args.noted.now.losing.keys) (λ n. has n c.nodes.noted.losing.keys) (λ n. has n c.note.new.noted.losing.keys) c.nodes-test.true
     c.nodes.invariant.losing c.note.ensures.losing_stay c.note.ensures.losing_only
 
+pub returns-in_err-note-clause-seeking : goal.returns-in_err-note-clause-seeking
+returns-in_err-note-clause-seeking g c =
+    let d : Node = Cell (record { sheet = 0; row = 0; col = 0 }) in
+    adds_front c.args.nodes.now c.nodes.node-index d (λ n. has n c.args.noted.now.seeking.keys) (λ n. has n c.nodes.noted.seeking.keys) (λ n. has n c.note.new.noted.seeking.keys) c.nodes-test.true
+    c.nodes.invariant.seeking c.note.ensures.seeking_stay c.note.ensures.seeking_only
+
 pub nodes-preserved : goal.nodes-preserved
 nodes-preserved g c =
     let b = g.T.Trees.workbook c.args.trees.now in
@@ -47,15 +56,21 @@ nodes-preserved g c =
     let asking_new = λ (n : Node). has n c.note.new.noted.asking.keys in
     let losing_now = λ (n : Node). has n c.nodes.noted.losing.keys in
     let losing_new = λ (n : Node). has n c.note.new.noted.losing.keys in
+    let seeking_now = λ (n : Node). has n c.nodes.noted.seeking.keys in
+    let seeking_new = λ (n : Node). has n c.note.new.noted.seeking.keys in
     record {
       asking = adds_on nodes i d (λ n. has n c.args.noted.now.asking.keys) asking_now asking_new c.nodes-test.true c.nodes.invariant.asking c.note.ensures.asking_stay c.note.ensures.asking_only;
       losing = adds_on nodes i d (λ n. has n c.args.noted.now.losing.keys) losing_now losing_new c.nodes-test.true c.nodes.invariant.losing c.note.ensures.losing_stay c.note.ensures.losing_only;
-      asks = noted_on asks_place b words nodes i d asking_now asking_new c.nodes-test.true c.note.ensures.asking_stay
-          (subst (λ (w : Workbook). IsNoted asks_place w words asking_new a) c.nodes.invariant.leaves
-          (subst (λ (ws : List (List ℕ)). IsNoted asks_place (g.T.Trees.workbook c.nodes.trees) ws asking_new a) c.nodes.invariant.words c.in_ok-note.ensures.asks)) c.nodes.invariant.asks;
-      loses = noted_on has_lost b words nodes i d losing_now losing_new c.nodes-test.true c.note.ensures.losing_stay
-          (subst (λ (w : Workbook). IsNoted has_lost w words losing_new a) c.nodes.invariant.leaves
-          (subst (λ (ws : List (List ℕ)). IsNoted has_lost (g.T.Trees.workbook c.nodes.trees) ws losing_new a) c.nodes.invariant.words c.in_ok-note.ensures.loses)) c.nodes.invariant.loses;
+      seeking = adds_on nodes i d (λ n. has n c.args.noted.now.seeking.keys) seeking_now seeking_new c.nodes-test.true c.nodes.invariant.seeking c.note.ensures.seeking_stay c.note.ensures.seeking_only;
+      asks = noted_on (λ x. asks_place) b words nodes i d asking_now asking_new c.nodes-test.true c.note.ensures.asking_stay
+          (subst (λ (w : Workbook). IsNoted (λ x. asks_place) w words asking_new a) c.nodes.invariant.leaves
+          (subst (λ (ws : List (List ℕ)). IsNoted (λ x. asks_place) (g.T.Trees.workbook c.nodes.trees) ws asking_new a) c.nodes.invariant.words c.in_ok-note.ensures.asks)) c.nodes.invariant.asks;
+      loses = noted_on (λ x. has_lost) b words nodes i d losing_now losing_new c.nodes-test.true c.note.ensures.losing_stay
+          (subst (λ (w : Workbook). IsNoted (λ x. has_lost) w words losing_new a) c.nodes.invariant.leaves
+          (subst (λ (ws : List (List ℕ)). IsNoted (λ x. has_lost) (g.T.Trees.workbook c.nodes.trees) ws losing_new a) c.nodes.invariant.words c.in_ok-note.ensures.loses)) c.nodes.invariant.loses;
+      seeks = noted_on (seeks_at b) b words nodes i d seeking_now seeking_new c.nodes-test.true c.note.ensures.seeking_stay
+          (subst (λ (w : Workbook). IsNoted (seeks_at w) w words seeking_new a) c.nodes.invariant.leaves
+          (subst (λ (ws : List (List ℕ)). IsNoted (seeks_at (g.T.Trees.workbook c.nodes.trees)) (g.T.Trees.workbook c.nodes.trees) ws seeking_new a) c.nodes.invariant.words c.in_ok-note.ensures.seeks)) c.nodes.invariant.seeks;
       leaves = c.note.ensures.leaves ∙ c.nodes.invariant.leaves;
       words = c.note.ensures.words ∙ c.nodes.invariant.words;
       reads = g.T.Trees.laws.both _ _ _ c.nodes.invariant.reads c.note.ensures.reads;
@@ -66,3 +81,6 @@ returns-clause-asking g c = all_added c.args.nodes.now c.nodes.node-index (λ n.
 
 pub returns-clause-losing : goal.returns-clause-losing
 returns-clause-losing g c = all_added c.args.nodes.now c.nodes.node-index (λ n. has n c.args.noted.now.losing.keys) (λ n. has n c.nodes.noted.losing.keys) c.nodes.invariant.losing
+
+pub returns-clause-seeking : goal.returns-clause-seeking
+returns-clause-seeking g c = all_added c.args.nodes.now c.nodes.node-index (λ n. has n c.args.noted.now.seeking.keys) (λ n. has n c.nodes.noted.seeking.keys) c.nodes.invariant.seeking

@@ -6,7 +6,7 @@ use Rattle.dep_graph.specs.declared.node.Node.{Node}
 use Rattle.dep_graph.specs.declared.node.Node.TheVariants as node
 use Rattle.kept_steps.specs.Turned.{to_undo}
 use Rattle.recalc_core.specs.Laws.{AreKnown}
-use Rattle.session_values.proofs.Listed.{cells_known, replaced_listed}
+use Rattle.session_values.proofs.Listed.{cells_known, replaced_listed, replaced_only}
 use Rattle.session_values.proofs.listing.restored_by.Goals as goal
 
 pub returns-in-Some-clause-listed : goal.returns-in-Some-clause-listed
@@ -16,3 +16,9 @@ returns-in-Some-clause-listed c = IfOk-weaker c.cell_nodes.result _ _
 
 pub returns-in-Some-clause-known : goal.returns-in-Some-clause-known
 returns-in-Some-clause-known c = IfOk-weaker c.cell_nodes.result _ _ (λ nodes are words. subst (λ (ns : List Node). AreKnown words ns) (sym are) (cells_known words c.in-Some.cells.now)) c.cell_nodes.ensures
+
+pub returns-in-Some-clause-only : goal.returns-in-Some-clause-only
+returns-in-Some-clause-only c = IfOk-weaker c.cell_nodes.result _ _
+    (λ nodes are a h.
+    replaced_only (to_undo c.args.session.now) c.in-Some.cells.now (sym c.cells_removed.ensures ∙ ap (option_map (λ cells. cells.now)) c.in-Some.is) a (subst (λ (ns : List Node). IsTrue (has a ns)) are h))
+    c.cell_nodes.ensures

@@ -18,3 +18,6 @@ returns-clause-known c = IfOk-weaker c.named.result _ _
     (λ names are a h.
     c.in_ok-nodes.ensures.known a (subst (λ (ns : List Node). IsTrue (has a ns)) c.items.ensures (and_parts (is_name_of c.args.sheet a) (has a c.items.result.now) (sym (are a) ∙ h)).1))
     c.named.ensures
+
+pub returns-clause-only : goal.returns-clause-only
+returns-clause-only c = IfOk-weaker c.named.result _ _ (λ names are a h. (and_parts (is_name_of c.args.sheet a) (has a c.items.result.now) (sym (are a) ∙ h)).0) c.named.ensures

@@ -1,4 +1,4 @@
-use Rattle.std.proofs.Common.{◌∙◌, sym, ap, not, ◌∷◌, [], List, ℕ, Option}
+use Rattle.std.proofs.Common.{◌∙◌, sym, ap, refl, not, ◌∷◌, [], List, ℕ, true, Option, Some, option_map}
 use Rattle.std.proofs.lemmas.Result.{err_from_is_err_and}
 use Rattle.book_values.specs.Names.{key_of}
 use Rattle.book_model.specs.Changes.{name_tree, with_name}
@@ -7,11 +7,12 @@ use Rattle.book_model.specs.Refusals.{Cause, of_name_text}
 use Rattle.book_model.specs.Session.{changed}
 use Rattle.book_model.specs.Workbook.{State, has_name, has_scope}
 use Rattle.book_model.specs.declared.refusal.Refusal.TheVariants as refusals
+use Rattle.kept_book.specs.Formula.{tree_in_scope}
 use Rattle.book_engine.specs.Engine.{NoAnswer}
 use Rattle.book_engine.specs.Seen.{state_of}
-use Rattle.book_engine.proofs.Causes.{behind, front, reads_turn, scoped}
+use Rattle.book_engine.proofs.Causes.{behind, front, reads_turn, scoped, second_holds}
 use Rattle.book_engine.proofs.Turning.{done_sound, next_refused}
-use Rattle.book_engine.proofs.Following.{follow_none}
+use Rattle.book_engine.proofs.Following.{follow_named, follow_state}
 use Rattle.book_engine.proofs.parts.Parts.change_name.Goals as goal
 
 -- what is tested before the text
@@ -44,8 +45,15 @@ returns-clause-fits c =
 pub name-requires-clause-scope : goal.name-requires-clause-scope
 name-requires-clause-scope c = scoped (state_of c.args.self.now).book c.args.scope refusals.NoSheet ((not (has_name (state_of c.args.self.now).book (key_of c.args.scope c.args.name.now)), refusals.NoSuchName) ∷ []) c.requires.book.sheets c.in_ok-check_known_name.ensures
 
+pub name_changed-requires : goal.name_changed-requires
+name_changed-requires c = scoped (state_of c.args.self.now).book c.args.scope refusals.NoSheet ((not (has_name (state_of c.args.self.now).book (key_of c.args.scope c.args.name.now)), refusals.NoSuchName) ∷ []) c.requires.book.sheets c.in_ok-check_known_name.ensures
+
 pub returns-in_err-name-clause-follow : goal.returns-in_err-name-clause-follow
-returns-in_err-name-clause-follow c = follow_none c.args.self.now (record { session = c.name.new.self; values = c.forget.new.self }) c.forget.ensures
+returns-in_err-name-clause-follow c = follow_state c.args.self.now (record { session = c.name.new.self; values = c.args.self.now.values }) c.name.ensures.words refl c.in_err-name.ensures.err
 
 pub returns-clause-follow : goal.returns-clause-follow
-returns-clause-follow c = follow_none c.args.self.now (record { session = c.name.new.self; values = c.forget.new.self }) c.forget.ensures
+returns-clause-follow c =
+    let b = (state_of c.args.self.now).book in
+    let key = key_of c.args.scope c.args.name.now in
+    follow_named key true (option_map (tree_in_scope c.args.scope) (Some c.in_ok-tree.tree)) c.args.self.now (record { session = c.name.new.self; values = c.name_changed.new.self }) c.name.ensures.words c.in_ok-name.ensures.ok
+    (second_holds (has_scope b c.args.scope) (has_name b key) refusals.NoSheet refusals.NoSuchName c.in_ok-check_known_name.ensures) c.name_changed.ensures.follows

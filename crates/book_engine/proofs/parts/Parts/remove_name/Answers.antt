@@ -1,12 +1,12 @@
-use Rattle.std.proofs.Common.{not, ◌∷◌, []}
+use Rattle.std.proofs.Common.{refl, true, not, ◌∷◌, [], None}
 use Rattle.book_values.specs.Names.{key_of}
-use Rattle.book_model.specs.Workbook.{has_name}
+use Rattle.book_model.specs.Workbook.{has_name, has_scope}
 use Rattle.book_model.specs.declared.refusal.Refusal.TheVariants as refusals
 use Rattle.book_model.specs.Operation as op
 use Rattle.book_engine.specs.Seen.{state_of}
-use Rattle.book_engine.proofs.Causes.{scoped}
+use Rattle.book_engine.proofs.Causes.{scoped, second_holds}
 use Rattle.book_engine.proofs.Turning.{done_sound}
-use Rattle.book_engine.proofs.Following.{follow_none}
+use Rattle.book_engine.proofs.Following.{follow_named, follow_state}
 use Rattle.book_engine.proofs.parts.Parts.remove_name.Goals as goal
 
 pub returns-clause-fits : goal.returns-clause-fits
@@ -15,8 +15,15 @@ returns-clause-fits c = done_sound (op.remove_name c.args.name.now c.args.scope)
 pub name-requires-clause-scope : goal.name-requires-clause-scope
 name-requires-clause-scope c = scoped (state_of c.args.self.now).book c.args.scope refusals.NoSheet ((not (has_name (state_of c.args.self.now).book (key_of c.args.scope c.args.name.now)), refusals.NoSuchName) ∷ []) c.requires.book.sheets c.in_ok-check_known_name.ensures
 
+pub name_removed-requires : goal.name_removed-requires
+name_removed-requires c = scoped (state_of c.args.self.now).book c.args.scope refusals.NoSheet ((not (has_name (state_of c.args.self.now).book (key_of c.args.scope c.args.name.now)), refusals.NoSuchName) ∷ []) c.requires.book.sheets c.in_ok-check_known_name.ensures
+
 pub returns-in_err-name-clause-follow : goal.returns-in_err-name-clause-follow
-returns-in_err-name-clause-follow c = follow_none c.args.self.now (record { session = c.name.new.self; values = c.forget.new.self }) c.forget.ensures
+returns-in_err-name-clause-follow c = follow_state c.args.self.now (record { session = c.name.new.self; values = c.args.self.now.values }) c.name.ensures.words refl c.in_err-name.ensures.err
 
 pub returns-clause-follow : goal.returns-clause-follow
-returns-clause-follow c = follow_none c.args.self.now (record { session = c.name.new.self; values = c.forget.new.self }) c.forget.ensures
+returns-clause-follow c =
+    let b = (state_of c.args.self.now).book in
+    let key = key_of c.args.scope c.args.name.now in
+    follow_named key true None c.args.self.now (record { session = c.name.new.self; values = c.name_removed.new.self }) c.name.ensures.words c.in_ok-name.ensures.ok
+    (second_holds (has_scope b c.args.scope) (has_name b key) refusals.NoSheet refusals.NoSuchName c.in_ok-check_known_name.ensures) c.name_removed.ensures.follows

@@ -1,15 +1,17 @@
-use Rattle.std.proofs.Common.{◌∙◌, sym, subst, List, refl}
+use Rattle.std.proofs.Common.{◌≡◌, ◌∙◌, sym, subst, true, List}
+use Rattle.std.specs.Prelude.{IsTrue}
 use Rattle.book_model.specs.Operation as op
 use Rattle.book_model.specs.Sound.{IsSound}
 use Rattle.book_engine.specs.Seen.{state_of}
 use Rattle.book_engine.proofs.Turning.{done_sound, next_done, sound_inside}
 use Rattle.shift_core.specs.Form.{form_of}
 use Rattle.book_model.proofs.Accepted.{sound_form}
+use Rattle.dep_graph.specs.Nodes.{has}
 use Rattle.dep_graph.specs.declared.node.Node.{Node}
-use Rattle.kept_values.specs.Shifted.{HasTouched}
+use Rattle.kept_values.specs.Shifted.{HasTouched, may_touch}
 use Rattle.recalc_core.specs.Laws.{AreKnown}
 use Rattle.session_values.specs.Following.{book_of, words_in}
-use Rattle.book_engine.proofs.Following.{follow_shift, follow_state}
+use Rattle.book_engine.proofs.Following.{follow_none, follow_shift}
 use Rattle.book_engine.proofs.parts.Parts.structural.Goals as goal
 
 pub structural-requires-clause-sound : goal.structural-requires-clause-sound
@@ -30,13 +32,16 @@ pub returns-clause-fits : goal.returns-clause-fits
 returns-clause-fits c = done_sound (op.structural c.args.s.now) (state_of c.args.self.now) _ c.in_ok-check_structural.ensures c.in_ok-structural.ensures.ok c.requires
 
 pub returns-in_err-structural-clause-follow : goal.returns-in_err-structural-clause-follow
-returns-in_err-structural-clause-follow c = follow_state c.args.self.now (record { session = c.structural.new.self; values = c.args.self.now.values }) c.structural.ensures.words refl c.in_err-structural.ensures.err
+returns-in_err-structural-clause-follow c = follow_none c.args.self.now (record { session = c.structural.new.self; values = c.shifted.new.self }) c.shifted.ensures.taken
+
+pub returns-in_err-values-clause-follow : goal.returns-in_err-values-clause-follow
+returns-in_err-values-clause-follow c = follow_none c.args.self.now (record { session = c.args.self.now.session; values = c.shifted.new.self }) c.shifted.ensures.taken
 
 pub returns-clause-follow : goal.returns-clause-follow
 returns-clause-follow c =
-    follow_shift c.args.s.now c.args.self.now (record { session = c.structural.new.self; values = c.shift.new.self }) c.items.result.now c.requires c.in_ok-check_structural.ensures c.in_ok-structural.ensures.ok c.structural.ensures.words
+    follow_shift c.args.s.now c.args.self.now (record { session = c.structural.new.self; values = c.in_ok-values.values }) c.items.result.now c.requires c.in_ok-check_structural.ensures c.in_ok-structural.ensures.ok c.structural.ensures.words
     (subst (λ (ns : List Node). HasTouched c.args.s.now (book_of c.args.self.now.session) (words_in c.args.self.now.session) ns) (sym c.items.ensures) c.in_ok-touched.ensures.touched)
-    (subst (λ (ns : List Node). AreKnown (words_in c.args.self.now.session) ns) (sym c.items.ensures) c.in_ok-touched.ensures.known) c.shift.ensures
+    (subst (λ (ns : List Node). AreKnown (words_in c.args.self.now.session) ns) (sym c.items.ensures) c.in_ok-touched.ensures.known) c.in_ok-values.ensures.follows
 
-pub shift-requires : goal.shift-requires
-shift-requires c = (sound_form (state_of c.args.self.now) (form_of c.args.s.now) c.in_ok-check_structural.ensures).0
+pub shifted-requires : goal.shifted-requires
+shifted-requires c = (sound_form (state_of c.args.self.now) (form_of c.args.s.now) c.in_ok-check_structural.ensures).0

@@ -9,7 +9,7 @@ pub returns-clause-carried : goal.returns-clause-carried
 returns-clause-carried c =
     let v = c.args.self.now in
     on_ok c.take_all_along.result _ _
-    (are_carried c.args.s.now (links_of v.graph) (marks_in v.recalc) c.deref.result.now (marks_in c.shift-2.new.self) (kept_in v.recalc) (kept_in c.shift-2.new.self)
+    (are_carried c.args.s.now c.requires (links_of v.graph) (marks_in v.recalc) c.deref.result.now (marks_in c.shift-2.new.self) (kept_in v.recalc) (kept_in c.shift-2.new.self)
     (record { alloc = v.alloc; graph = c.shift.new.self; noted = v.noted; recalc = c.take_all_along.new.recalc })
     (c.deref.ensures.value ∙ c.in_ok-marked.ensures.items ∙ c.items.ensures ∙ c.marks.ensures.list)
     c.in_ok-shift.ensures.ok c.in_ok-shift-2.ensures.kept c.take_all_along.ensures.kept c.in_ok-shift-2.ensures.marks)

@@ -35,3 +35,9 @@ returns-clause-losing c = c.mark_all-3.ensures.losing ∙ c.mark_all-2.ensures.l
 
 pub returns-clause-kept : goal.returns-clause-kept
 returns-clause-kept c = c.mark_all-3.ensures.kept ∙ c.mark_all-2.ensures.kept ∙ c.mark_all.ensures.kept
+
+pub returns-in_err-mark_all-2-clause-seeking : goal.returns-in_err-mark_all-2-clause-seeking
+returns-in_err-mark_all-2-clause-seeking c = c.mark_all-2.ensures.seeking ∙ c.mark_all.ensures.seeking
+
+pub returns-clause-seeking : goal.returns-clause-seeking
+returns-clause-seeking c = c.mark_all-3.ensures.seeking ∙ c.mark_all-2.ensures.seeking ∙ c.mark_all.ensures.seeking

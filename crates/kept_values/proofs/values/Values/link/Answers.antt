@@ -28,4 +28,4 @@ returns-clause-follows g c = λ customs today follows.
     let follow = to_follow b words customs today self c.requires.numbered follows in
     from_follow b words customs today (record { alloc = self.alloc; graph = c.link_all.new.graph; noted = self.noted; recalc = self.recalc })
     (linked_marks b words customs today (links_of self.graph) (links_of c.link_all.new.graph) (marks_in self.recalc) _ (kept_in self.recalc) follow c.link_all.ensures.but c.link_all.ensures.links (c.items.ensures ∙ c.marks.ensures.list))
-    follows.asks follows.loses
+    follows.asks follows.loses follows.seeks

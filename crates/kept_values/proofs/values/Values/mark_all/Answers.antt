@@ -24,5 +24,6 @@ nodes-preserved c =
       links = c.mark.ensures.links ∙ c.nodes.invariant.links;
       asking = c.mark.ensures.asking ∙ c.nodes.invariant.asking;
       losing = c.mark.ensures.losing ∙ c.nodes.invariant.losing;
+      seeking = c.mark.ensures.seeking ∙ c.nodes.invariant.seeking;
       kept = c.mark.ensures.kept ∙ c.nodes.invariant.kept;
     }

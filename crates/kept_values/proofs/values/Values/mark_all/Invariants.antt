@@ -1,7 +1,7 @@
 use Rattle.std.proofs.Common.{◌≡◌, ◌++◌, take}
 use Rattle.dep_graph.specs.Nodes.{has}
 use Rattle.dep_graph.specs.declared.node.Node.{Node}
-use Rattle.kept_values.specs.Values.{asks_in, kept_in, links_in, loses_in, marks_in}
+use Rattle.kept_values.specs.Values.{asks_in, kept_in, links_in, loses_in, marks_in, seeks_in}
 use Rattle.kept_values.proofs.values.Values.mark_all.Given as goal
 
 -- the nodes so far were marked
@@ -11,5 +11,6 @@ invariant-nodes l = record {
   links : links_in l.self ≡ links_in l.fn.self;
   asking : asks_in l.self ≡ asks_in l.fn.self;
   losing : loses_in l.self ≡ loses_in l.fn.self;
+  seeking : seeks_in l.self ≡ seeks_in l.fn.self;
   kept : kept_in l.self ≡ kept_in l.fn.self;
 }

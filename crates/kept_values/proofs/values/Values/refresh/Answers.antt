@@ -11,6 +11,7 @@ use Rattle.marked_values.specs.Marks.{AreLinksBut}
 use Rattle.marked_values.specs.Shifts.{asks_place}
 use Rattle.marked_values.proofs.Fitting.{follow_fits}
 use Rattle.restored_values.specs.Suspects.{has_lost}
+use Rattle.kept_values.specs.Values.{seeks_at}
 use Rattle.kept_values.specs.internal.Noting.{AreNotedAmong}
 use Rattle.kept_values.proofs.Following.{from_follow, to_follow}
 use Rattle.kept_values.proofs.LinkedAnew.{AreRightOn, IsFitOn, linked_marks, recalculated, steps_taken}
@@ -33,7 +34,7 @@ returns-in_err-link_all-clause-follows g c =
     let follow = to_follow b words customs c.args.day self c.requires.numbered c.requires.follows in
     from_follow b words customs c.args.day (record { alloc = self.alloc; graph = c.link_all.new.graph; noted = self.noted; recalc = self.recalc })
     (linked_marks b words customs c.args.day (links_of self.graph) (links_of c.link_all.new.graph) (marks_in self.recalc) _ (kept_in self.recalc) follow c.link_all.ensures.but c.link_all.ensures.links (c.items.ensures ∙ c.marks.ensures.list))
-    c.requires.follows.asks c.requires.follows.loses
+    c.requires.follows.asks c.requires.follows.loses c.requires.follows.seeks
 
 pub returns-in_err-note_all-clause-follows : goal.returns-in_err-note_all-clause-follows
 returns-in_err-note_all-clause-follows g c =
@@ -44,8 +45,9 @@ returns-in_err-note_all-clause-follows g c =
     let follow = to_follow b words customs c.args.day self c.requires.numbered c.requires.follows in
     from_follow b words customs c.args.day (record { alloc = self.alloc; graph = c.link_all.new.graph; noted = c.note_all.new.noted; recalc = self.recalc })
     (linked_marks b words customs c.args.day (links_of self.graph) (links_of c.link_all.new.graph) (marks_in self.recalc) _ (kept_in self.recalc) follow c.link_all.ensures.but c.link_all.ensures.links (c.items.ensures ∙ c.marks.ensures.list))
-    (more_noted asks_place b words (marks_in self.recalc) c.items-2.result.now (λ a. has a self.noted.asking.keys) (λ a. has a c.note_all.new.noted.asking.keys) follow.known (c.items-2.ensures ∙ c.marks-2.ensures.list) c.requires.follows.asks c.note_all.ensures.asking)
-    (more_noted has_lost b words (marks_in self.recalc) c.items-2.result.now (λ a. has a self.noted.losing.keys) (λ a. has a c.note_all.new.noted.losing.keys) follow.known (c.items-2.ensures ∙ c.marks-2.ensures.list) c.requires.follows.loses c.note_all.ensures.losing)
+    (more_noted (λ x. asks_place) b words (marks_in self.recalc) c.items-2.result.now (λ a. has a self.noted.asking.keys) (λ a. has a c.note_all.new.noted.asking.keys) follow.known (c.items-2.ensures ∙ c.marks-2.ensures.list) c.requires.follows.asks c.note_all.ensures.asking)
+    (more_noted (λ x. has_lost) b words (marks_in self.recalc) c.items-2.result.now (λ a. has a self.noted.losing.keys) (λ a. has a c.note_all.new.noted.losing.keys) follow.known (c.items-2.ensures ∙ c.marks-2.ensures.list) c.requires.follows.loses c.note_all.ensures.losing)
+    (more_noted (seeks_at b) b words (marks_in self.recalc) c.items-2.result.now (λ a. has a self.noted.seeking.keys) (λ a. has a c.note_all.new.noted.seeking.keys) follow.known (c.items-2.ensures ∙ c.marks-2.ensures.list) c.requires.follows.seeks c.note_all.ensures.seeking)
 
 pub recalculate-requires-clause-fit : goal.recalculate-requires-clause-fit
 recalculate-requires-clause-fit g c =
@@ -83,14 +85,17 @@ returns-clause-follows g c =
     (subst (λ (w : Workbook). IsFitOn c.recalculate.result w words customs far links (marks_in new) (kept_in new)) leaves
     (subst (λ (ws : List (List ℕ)). IsFitOn c.recalculate.result (g.T.Trees.workbook c.note_all.new.trees) ws customs far links (marks_in new) (kept_in new)) same c.recalculate.ensures.fit)) in
     let marked = c.items-2.result.now in
-    let asks = subst (λ (w : Workbook). AreNotedAmong asks_place w words marked (λ a. has a c.note_all.new.noted.asking.keys)) c.in_ok-link_all.ensures.leaves
-    (subst (λ (ws : List (List ℕ)). AreNotedAmong asks_place (g.T.Trees.workbook c.link_all.new.trees) ws marked (λ a. has a c.note_all.new.noted.asking.keys)) c.in_ok-link_all.ensures.words c.in_ok-note_all.ensures.asks) in
-    let loses = subst (λ (w : Workbook). AreNotedAmong has_lost w words marked (λ a. has a c.note_all.new.noted.losing.keys)) c.in_ok-link_all.ensures.leaves
-    (subst (λ (ws : List (List ℕ)). AreNotedAmong has_lost (g.T.Trees.workbook c.link_all.new.trees) ws marked (λ a. has a c.note_all.new.noted.losing.keys)) c.in_ok-link_all.ensures.words c.in_ok-note_all.ensures.loses) in
+    let asks = subst (λ (w : Workbook). AreNotedAmong (λ x. asks_place) w words marked (λ a. has a c.note_all.new.noted.asking.keys)) c.in_ok-link_all.ensures.leaves
+    (subst (λ (ws : List (List ℕ)). AreNotedAmong (λ x. asks_place) (g.T.Trees.workbook c.link_all.new.trees) ws marked (λ a. has a c.note_all.new.noted.asking.keys)) c.in_ok-link_all.ensures.words c.in_ok-note_all.ensures.asks) in
+    let loses = subst (λ (w : Workbook). AreNotedAmong (λ x. has_lost) w words marked (λ a. has a c.note_all.new.noted.losing.keys)) c.in_ok-link_all.ensures.leaves
+    (subst (λ (ws : List (List ℕ)). AreNotedAmong (λ x. has_lost) (g.T.Trees.workbook c.link_all.new.trees) ws marked (λ a. has a c.note_all.new.noted.losing.keys)) c.in_ok-link_all.ensures.words c.in_ok-note_all.ensures.loses) in
+    let seeks = subst (λ (w : Workbook). AreNotedAmong (seeks_at w) w words marked (λ a. has a c.note_all.new.noted.seeking.keys)) c.in_ok-link_all.ensures.leaves
+    (subst (λ (ws : List (List ℕ)). AreNotedAmong (seeks_at (g.T.Trees.workbook c.link_all.new.trees)) (g.T.Trees.workbook c.link_all.new.trees) ws marked (λ a. has a c.note_all.new.noted.seeking.keys)) c.in_ok-link_all.ensures.words c.in_ok-note_all.ensures.seeks) in
     from_follow b words customs c.args.day (record { alloc = c.args.self.now.alloc; graph = c.link_all.new.graph; noted = c.note_all.new.noted; recalc = new })
     (recalculated b words customs c.args.day c.recalculate.result links old (marks_in new) (kept_in new) c.in_ok-link_all.ensures.ok c.link_all.ensures.links follow.known right c.recalculate.ensures.unmarked c.recalculate.ensures.marks fit)
-    (all_noted asks_place b words old marked (marks_in new) (λ a. has a c.args.self.now.noted.asking.keys) (λ a. has a c.note_all.new.noted.asking.keys) follow.known (c.items-2.ensures ∙ c.marks-2.ensures.list) c.requires.follows.asks c.note_all.ensures.asking asks)
-    (all_noted has_lost b words old marked (marks_in new) (λ a. has a c.args.self.now.noted.losing.keys) (λ a. has a c.note_all.new.noted.losing.keys) follow.known (c.items-2.ensures ∙ c.marks-2.ensures.list) c.requires.follows.loses c.note_all.ensures.losing loses)
+    (all_noted (λ x. asks_place) b words old marked (marks_in new) (λ a. has a c.args.self.now.noted.asking.keys) (λ a. has a c.note_all.new.noted.asking.keys) follow.known (c.items-2.ensures ∙ c.marks-2.ensures.list) c.requires.follows.asks c.note_all.ensures.asking asks)
+    (all_noted (λ x. has_lost) b words old marked (marks_in new) (λ a. has a c.args.self.now.noted.losing.keys) (λ a. has a c.note_all.new.noted.losing.keys) follow.known (c.items-2.ensures ∙ c.marks-2.ensures.list) c.requires.follows.loses c.note_all.ensures.losing loses)
+    (all_noted (seeks_at b) b words old marked (marks_in new) (λ a. has a c.args.self.now.noted.seeking.keys) (λ a. has a c.note_all.new.noted.seeking.keys) follow.known (c.items-2.ensures ∙ c.marks-2.ensures.list) c.requires.follows.seeks c.note_all.ensures.seeking seeks)
 
 pub returns-clause-most : goal.returns-clause-most
 returns-clause-most g c =

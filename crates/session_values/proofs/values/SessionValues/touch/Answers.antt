@@ -8,4 +8,4 @@ use Rattle.session_values.proofs.values.SessionValues.touch.Goals as goal
 pub returns-in-Some-clause-touched : goal.returns-in-Some-clause-touched
 returns-in-Some-clause-touched c =
     subst (λ (o : Option Values). AreTouched (same_place c.args.at) o (Some c.mark.new.self)) (sym c.in-Some.is)
-    (cell_touched c.mark.result c.in-Some.values c.mark.new.self c.args.at c.mark.ensures.links c.mark.ensures.asking c.mark.ensures.losing c.mark.ensures.kept c.mark.ensures.ok c.mark.ensures.err)
+    (cell_touched c.mark.result c.in-Some.values c.mark.new.self c.args.at c.mark.ensures.links c.mark.ensures.asking c.mark.ensures.losing c.mark.ensures.seeking c.mark.ensures.kept c.mark.ensures.ok c.mark.ensures.err)

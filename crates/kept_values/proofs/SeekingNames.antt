@@ -1,0 +1,62 @@
+-- Words that find no name, of formulas and over operations. Serves what notes them, and what takes values along.
+use Rattle.std.proofs.Common.{◌≡◌, ◌∙◌, sym, ap, ◌&&◌, Bool, true, false, cond, List, [], ◌∷◌, ◌++◌, take, get_or, length, ◌<◌, ◌+◌, ◌||◌, ℕ, Option, Some, None}
+use Rattle.std.specs.FinMap as map
+use Rattle.std.specs.List.{list_any}
+use Rattle.std.specs.Option.{is_none}
+use Rattle.std.proofs.lemmas.Bool.{and_parts, false≢true, false_from_ne_true}
+use Rattle.std.proofs.lemmas.List.{take_more}
+use Rattle.std.proofs.lemmas.List.Folds.{list_any-append}
+use Rattle.cell_addr.specs.Sheets.{same_name}
+use Rattle.cell_addr.specs.declared.place.Place.{Place}
+use Rattle.formula_tree.specs.Links.{names_in, once}
+use Rattle.formula_tree.specs.Reference.{sheet_of}
+use Rattle.formula_tree.specs.Term.{Term}
+use Rattle.formula_tree.specs.declared.reference.Corner.{Corner}
+use Rattle.shift_core.specs.Tables.{block_after, place_after}
+use Rattle.shift_core.specs.declared.shift.Shift.{Shift}
+use Rattle.tree_rewrite.specs.Rewritten.{rewritten}
+use Rattle.carried_terms.proofs.Needs.{names_stay}
+use Rattle.carried_books.specs.Moved.{is_bare}
+use Rattle.book_cells.specs.Workbook.{Content}
+use Rattle.book_values.specs.Names.{Names, found}
+use Rattle.book_values.specs.Workbook as book
+use Rattle.book_values.specs.Workbook.{Workbook, content_tree, home_of, tree_at}
+use Rattle.recalc_core.proofs.Bridge.{none_some}
+use Rattle.recalc_core.proofs.ReadNames.{found_alike}
+use Rattle.marked_values.specs.Shifts.{IsBookAfter}
+use Rattle.marked_values.proofs.Pairs.{FindsSame}
+use Rattle.kept_values.specs.Values.{seeks, seeks_at}
+use Rattle.kept_values.proofs.FoundNames.{any_once}
+
+-- each word once is as good as all
+pub seeks_once : (names : Names) (sheet : ℕ) (t : Term Corner) (asked : List (List ℕ)) → asked ≡ once same_name (names_in t) → list_any (λ word. is_none (found names word sheet)) asked ≡ seeks names sheet t
+seeks_once names sheet t asked is = any_once (λ word. is_none (found names word sheet)) (λ v w same. ap is_none (found_alike names v w sheet same)) (names_in t) asked is
+
+-- words that find what they found seek what they sought
+pub still_seeks : (s : Shift) (b c : Workbook) (over : IsBookAfter s b c) (x z : book.Node) (t : Term Corner) → FindsSame s b c over x z → seeks_at c z (rewritten s t) ≡ seeks_at b x t
+still_seeks s b c over x z t finds =
+    ap (list_any (λ w. is_none (found c.names w (sheet_of (home_of z))))) (names_stay (place_after s) (block_after s) (λ p. false) t) ∙ (λ i. list_any (λ w. is_none (finds w i)) (names_in t))
+
+none_there : (o : Option Content) → is_none o ≡ true → o ≡ None
+none_there None h = λ i. None
+none_there (Some x) h = absurd (false≢true h)
+
+-- where a formula is, it isn't bare
+pub filled_after : (b c : Workbook) (q : Place) (u : Term Corner) → tree_at c (book.place q) ≡ Some u → is_bare b c q ≡ false
+filled_after b c q u is = false_from_ne_true (is_bare b c q) (λ bare.
+    none_some u (sym (ap content_tree (none_there (map.get c.cells q) (and_parts (is_none (map.get b.cells q)) (is_none (map.get c.cells q)) bare).1)) ∙ is))
+
+pub filled_before : (b c : Workbook) (p : Place) (t : Term Corner) → tree_at b (book.place p) ≡ Some t → is_bare b c p ≡ false
+filled_before b c p t is = false_from_ne_true (is_bare b c p) (λ bare.
+    none_some t (sym (ap content_tree (none_there (map.get b.cells p) (and_parts (is_none (map.get b.cells p)) (is_none (map.get c.cells p)) bare).0)) ∙ is))
+
+-- one word more
+pub any_more : (test : List ℕ → Bool) (words : List (List ℕ)) (i : ℕ) (word : List ℕ) (one now : Bool) → take (i + 1) words ≡ take i words ++ word ∷ [] → one ≡ test word → now ≡ list_any test (take i words) → (one || now) ≡ list_any test (take (i + 1) words)
+any_more test words i word one now more first so_far =
+    ap (λ o. o || now) first ∙ ap (λ n. test word || n) so_far ∙ turned (test word) (list_any test (take i words)) ∙ sym (ap (list_any test) more ∙ list_any-append test (take i words) (word ∷ []))
+  where
+    turned : (m n : Bool) → (m || n) ≡ (n || (m || false))
+    turned true true = λ i. true
+    turned true false = λ i. true
+    turned false true = λ i. true
+    turned false false = λ i. false

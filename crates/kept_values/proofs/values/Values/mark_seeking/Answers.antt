@@ -1,0 +1,20 @@
+use Rattle.std.proofs.Common.{◌∙◌, ap, Bool, List, ◌++◌}
+use Rattle.std.proofs.lemmas.List.Folds.{list_any-append}
+use Rattle.dep_graph.specs.Nodes.{has, same_node}
+use Rattle.dep_graph.specs.declared.node.Node.{Node}
+use Rattle.kept_values.specs.Values.{marks_in}
+use Rattle.kept_values.proofs.Following.{on_ok}
+use Rattle.kept_values.proofs.values.Values.mark_seeking.Goals as goal
+
+pub returns-clause-marks : goal.returns-clause-marks
+returns-clause-marks c =
+    let v = c.args.self.now in
+    on_ok c.mark_all.result _ _
+    (λ marked a.
+    marked a ∙ ap (λ (ns : List Node). has a (marks_in v ++ ns)) (c.as_slice.ensures.keys ∙ (λ i. (c.replace-seeking.ensures.value i).keys)) ∙ list_any-append (same_node a) (marks_in v) v.noted.seeking.keys)
+    c.mark_all.ensures.ok
+
+pub returns-clause-seeking : goal.returns-clause-seeking
+returns-clause-seeking c = on_ok c.mark_all.result _ _
+    (λ marked a. ap (λ (f : Node → Bool). f a) c.mark_all.ensures.seeking ∙ (λ i. has a (c.replace-seeking.ensures.after i).keys) ∙ ap (has a) c.new.ensures.empty)
+    c.mark_all.ensures.ok

@@ -1,0 +1,355 @@
+-- What is kept of values follows over a change of one name. Serves the calls that take it along.
+use Rattle.std.proofs.Common.{◌≡◌, ◌∙◌, sym, ap, refl, subst, ℕ, ℤ, ◌||◌, Bool, true, false, List, [], ◌∷◌, ◌++◌, Option, Some, None, is_some, Result, Ok, Err, ◌⊎◌, inl, inr, ⊎_elim, append_assoc}
+use Rattle.std.specs.Prelude.{IfSome, IsTrue, OnOk, bytes_eq, pos}
+use Rattle.cell_addr.specs.Text.{folded}
+use Rattle.name_table.proofs.WordNumbers.{folded-folded}
+use Rattle.recalc_core.proofs.ReadNames.{found_alike}
+use Rattle.marked_values.specs.NameMarks.{is_scope_for}
+use Rattle.std.specs.List.{list_any}
+use Rattle.std.specs.Option.{is_none}
+use Rattle.std.proofs.lemmas.Bool.{cases_Bool, false≢true, or_cases, or_left, or_right}
+use Rattle.std.proofs.lemmas.List.Folds.{list_any-append}
+use Rattle.custom_fn.specs.declared.rule.Rule.{Rule}
+use Rattle.formula_tree.specs.Links.{names_in}
+use Rattle.formula_tree.specs.Reference.{sheet_of}
+use Rattle.formula_tree.specs.Term.{Term}
+use Rattle.formula_tree.specs.declared.reference.Corner.{Corner}
+use Rattle.book_values.proofs.Keys.{same_key-self}
+use Rattle.book_values.specs.Names.{Key, found, is_found, key_of, tree_in}
+use Rattle.book_values.specs.Workbook as book
+use Rattle.book_values.specs.Workbook.{Workbook, home_of, tree_at}
+use Rattle.dep_graph.specs.Nodes.{has, same_node}
+use Rattle.dep_graph.specs.Users.{AreLinkedTo}
+use Rattle.dep_graph.specs.declared.node.Node.{Node}
+use Rattle.dep_graph.specs.declared.node.Node.TheVariants.{Cell, Name, Range}
+use Rattle.dep_graph.proofs.Places.{has-append_cases, has-append_left, has-append_right, has_first, has_one}
+use Rattle.kept_book.specs.Kept.{IsMore}
+use Rattle.kept_steps.specs.declared.session.Session.{Session}
+use Rattle.recalc_core.specs.Edits.{DifferInName, UsesWord}
+use Rattle.recalc_core.specs.Links.{IsLinkOf}
+use Rattle.recalc_core.specs.Laws.{AreKnown, KeepNumbers}
+use Rattle.recalc_core.specs.Nodes.{AreNumbered, node_at}
+use Rattle.recalc_core.proofs.Bridge.{none_some}
+use Rattle.recalc_core.proofs.Linking.{one_node}
+use Rattle.recalc_core.proofs.Worked.{tree_stands}
+use Rattle.marked_values.specs.Marks.{Follow}
+use Rattle.marked_values.specs.Shifts.{asks_place}
+use Rattle.marked_values.proofs.Finding.{added_is_found, changed_is_found_alike, removed_was_found}
+use Rattle.marked_values.proofs.NameMarks.{added_follow, changed_follow, removed_follow}
+use Rattle.marked_values.proofs.Reaching.{known_before}
+use Rattle.restored_values.specs.Suspects.{has_lost}
+use Rattle.kept_values.specs.Values.{AreNoted, Follows, asks_in, kept_in, links_in, loses_in, marks_in, seeks_at, seeks_in}
+use Rattle.kept_values.specs.declared.values.Values.{Values}
+use Rattle.kept_values.proofs.Following.{from_follow, there, to_follow}
+use Rattle.session_values.specs.Following.{book_of, words_in}
+use Rattle.session_values.specs.Naming.{FollowsAddition, FollowsChange, FollowsRemoval, IsLinkedIn, IsMarkedFor, IsNameIn, MarksAddition, MarksChange, MarksRemoval}
+use Rattle.session_values.specs.internal.Marked.{HasMarked, HasMarkedLinked, HasSought, HaveMarked, HaveSought}
+use Rattle.session_values.proofs.Followed.{keep_numbers}
+
+-- what passes one test passes one of two others
+any_either : (p q r : List ℕ → Bool) → ((w : List ℕ) → p w ≡ true → (q w ≡ true) ⊎ (r w ≡ true)) → (ws : List (List ℕ)) → list_any p ws ≡ true → (list_any q ws ≡ true) ⊎ (list_any r ws ≡ true)
+any_either p q r each [] h = absurd (false≢true h)
+any_either p q r each (w ∷ ws) h = ⊎_elim
+    (λ (first : p w ≡ true). ⊎_elim (λ (one : q w ≡ true). inl (or_left (q w) (list_any q ws) one)) (λ (other : r w ≡ true). inr (or_left (r w) (list_any r ws) other)) (each w first))
+    (λ (rest : list_any p ws ≡ true). ⊎_elim (λ (one : list_any q ws ≡ true). inl (or_right (q w) (list_any q ws) one)) (λ (other : list_any r ws ≡ true). inr (or_right (r w) (list_any r ws) other)) (any_either p q r each ws rest))
+    (or_cases (p w) (list_any p ws) h)
+
+-- what the graph links to something is known, or is marked
+linked_is_known : (b : Workbook) (words : List (List ℕ)) (customs : List (List ℕ × Rule)) (today : ℤ) (v : Values) → Follow b words customs today (links_in v) (marks_in v) (kept_in v) → (a d : Node) → IsTrue (has d (links_in v a))
+    → (x : book.Node) × (node_at words a ≡ Some x)
+linked_is_known b words customs today v before a d link = ⊎_elim
+    (λ (old : has a (marks_in v) ≡ true). before.known a old)
+    (λ (out : has a (marks_in v) ≡ false). let (x, t, is, tree, to) = (before.linked.exact a d (λ mark. false≢true (sym out ∙ mark))).0 link in (x, is))
+    (cases_Bool (has a (marks_in v)))
+
+module _ (b c : Workbook) (words more : List (List ℕ)) (customs : List (List ℕ × Rule)) (today : ℤ) (key : Key) (n : Node) (v w : Values) (nodes : List Node)
+    (numbered : AreNumbered words b.names) (now : AreNumbered more c.names) (keeps : IsMore words more) (differ : DifferInName b c key) (at : node_at more n ≡ Some (book.name key))
+    (marked : HaveMarked nodes v w) (itself : IsTrue (has n nodes)) (follows : Follows b words customs today v) where
+  numbers : KeepNumbers words more
+  numbers = keep_numbers words more keeps
+
+  before : Follow b words customs today (links_in v) (marks_in v) (kept_in v)
+  before = to_follow b words customs today v numbered follows
+
+  stay : (a : Node) → IsTrue (has a (marks_in v)) → IsTrue (has a (marks_in w))
+  stay a h = marked.marks a ∙ has-append_left a (marks_in v) nodes h
+
+  added : (a : Node) → IsTrue (has a nodes) → IsTrue (has a (marks_in w))
+  added a h = marked.marks a ∙ has-append_right a (marks_in v) nodes h
+
+  -- what is marked was, or is one of the nodes
+  known : AreKnown more nodes → AreKnown more (marks_in w)
+  known nodes_known a h = ⊎_elim
+      (λ (old : has a (marks_in v) ≡ true). let (x, is) = before.known a old in (x, numbers a x is))
+      (λ (new : has a nodes ≡ true). nodes_known a new)
+      (has-append_cases a (marks_in v) nodes (sym (marked.marks a) ∙ h))
+
+  free : (a : Node) → has a (marks_in w) ≡ false → has a (marks_in v) ≡ false
+  free a isnt = ⊎_elim (λ (old : has a (marks_in v) ≡ true). absurd (false≢true (sym isnt ∙ stay a old))) (λ (is : has a (marks_in v) ≡ false). is) (cases_Bool (has a (marks_in v)))
+
+  -- a node that isn't marked has the formula that it had
+  same_tree : (a : Node) (x : book.Node) → has a (marks_in w) ≡ false → node_at more a ≡ Some x → tree_at b x ≡ tree_at c x
+  same_tree a (book.place p) isnt is = ap (λ cells. tree_at (record { cells = cells; names = b.names }) (book.place p)) differ.cells
+  same_tree a (book.name other) isnt is = differ.trees other (λ same. false≢true (sym isnt ∙ added a (subst (λ m. IsTrue (has m nodes)) (sym (one a (is ∙ ap (λ k. Some (book.name k)) same))) itself)))
+    where
+      one : (a : Node) → node_at more a ≡ Some (book.name key) → a ≡ n
+      one a to = one_node more a n (book.name key) now.once to at
+
+  noted : (first test : book.Node → Term Corner → Bool) → ((a : Node) (x : book.Node) (t : Term Corner) → has a (marks_in w) ≡ false → node_at more a ≡ Some x → tree_at b x ≡ Some t → test x t ≡ true → first x t ≡ true)
+      → (was is : Node → Bool) → is ≡ was → AreNoted first b words (marks_in v) was → AreNoted test c more (marks_in w) is
+  noted first test as_before was is same all = record {
+    all = λ a x t isnt to tree passes.
+        let had = same_tree a x isnt to ∙ tree in
+        ap (λ f. f a) same ∙ all.all a x t (free a isnt) (known_before b words more numbered numbers now.once a x to (tree_stands b [] (pos 0) x t had)) had (as_before a x t isnt to had passes);
+    known = λ a h. let (x, to) = there (node_at words a) (all.known a (sym (ap (λ f. f a) same) ∙ h)) in ap is_some (numbers a x to);
+  }
+
+  still : Follow c more customs today (links_in v) (marks_in w) (kept_in v)
+      → ((a : Node) (x : book.Node) (t : Term Corner) → has a (marks_in w) ≡ false → node_at more a ≡ Some x → tree_at b x ≡ Some t → seeks_at c x t ≡ true → seeks_at b x t ≡ true) → Follows c more customs today w
+  still follow seek_before = from_follow c more customs today w
+      (subst (λ links. Follow c more customs today links (marks_in w) (kept_in w)) (sym marked.links) (subst (λ kept. Follow c more customs today (links_in v) (marks_in w) kept) (sym marked.kept) follow))
+      (noted (λ x. asks_place) (λ x. asks_place) (λ a x t isnt to is h. h) (asks_in v) (asks_in w) marked.asking follows.asks)
+      (noted (λ x. has_lost) (λ x. has_lost) (λ a x t isnt to is h. h) (loses_in v) (loses_in w) marked.losing follows.loses)
+      (noted (seeks_at b) (seeks_at c) seek_before (seeks_in v) (seeks_in w) marked.seeking follows.seeks)
+
+  pub change_follows : AreKnown more nodes → is_some (tree_in b.names key) ≡ true → is_some (tree_in c.names key) ≡ true → Follows c more customs today w
+  change_follows nodes_known had has_it = still
+      (changed_follow b c words more customs today (links_in v) (marks_in v) (marks_in w) (kept_in v) n key before numbers now differ had has_it at stay (added n itself) (known nodes_known))
+      (λ a x t isnt to is seek. (λ i. list_any (λ word. is_none (changed_is_found_alike b c key word (sheet_of (home_of x)) differ had has_it i)) (names_in t)) ∙ seek)
+
+  -- what the graph links to something is known, or is marked
+  pub linked_known : (a d : Node) → IsTrue (has d (links_in v a)) → (x : book.Node) × (node_at more a ≡ Some x)
+  linked_known a d link = let (x, is) = linked_is_known b words customs today v before a d link in (x, numbers a x is)
+
+  pub removal_follows : ((a : Node) → IsTrue (has n (links_in v a)) → IsTrue (has a nodes)) → AreKnown more nodes → is_some (tree_in b.names key) ≡ true → is_some (tree_in c.names key) ≡ false → Follows c more customs today w
+  removal_follows linked nodes_known had gone = still
+      (removed_follow b c words more customs today (links_in v) (marks_in v) (marks_in w) (kept_in v) n key before numbers now differ gone at
+      (record {
+        stay = stay;
+        itself = added n itself;
+        users = λ a link. added a (linked a link);
+      })
+      (known nodes_known))
+      sought_before
+    where
+      -- a word that found the name was linked to it
+      sought_before : (a : Node) (x : book.Node) (t : Term Corner) → has a (marks_in w) ≡ false → node_at more a ≡ Some x → tree_at b x ≡ Some t → seeks_at c x t ≡ true → seeks_at b x t ≡ true
+      sought_before a x t isnt to is seek = ⊎_elim (λ (before_too : seeks_at b x t ≡ true). before_too)
+          (λ (used : list_any (λ word. is_found (found b.names word (sheet_of (home_of x))) key) (names_in t) ≡ true).
+          let known_a = known_before b words more numbered numbers now.once a x to (tree_stands b [] (pos 0) x t is) in
+          let known_n = known_before b words more numbered numbers now.once n (book.name key) at had in
+          let link = (before.linked.exact a n (λ mark. false≢true (sym (free a isnt) ∙ mark))).1 (x, t, known_a, is, link_of n known_n used) in
+          absurd (false≢true (sym isnt ∙ added a (linked a link))))
+          (any_either (λ word. is_none (found c.names word (sheet_of (home_of x)))) (λ word. is_none (found b.names word (sheet_of (home_of x)))) (λ word. is_found (found b.names word (sheet_of (home_of x))) key)
+          (λ word none. ⊎_elim
+          (λ (same : found b.names word (sheet_of (home_of x)) ≡ found c.names word (sheet_of (home_of x))). inl (ap is_none same ∙ none))
+          (λ (it : found b.names word (sheet_of (home_of x)) ≡ Some key). inr (ap (λ o. is_found o key) it ∙ same_key-self key))
+          (removed_was_found b c key word (sheet_of (home_of x)) differ gone)) (names_in t) seek)
+        where
+          link_of : (m : Node) → node_at words m ≡ Some (book.name key) → list_any (λ word. is_found (found b.names word (sheet_of (home_of x))) key) (names_in t) ≡ true → IsLinkOf words b.names (sheet_of (home_of x)) t m
+          link_of (Cell p) it used = absurd (cc)
+          link_of (Range r) it used = absurd (none_some (book.name key) it)
+          link_of (Name scope word) it used = (key, it, used)
+
+module _ (b c : Workbook) (words more : List (List ℕ)) (customs : List (List ℕ × Rule)) (today : ℤ) (key : Key) (n m : Node) (v w : Values)
+    (numbered : AreNumbered words b.names) (now : AreNumbered more c.names) (keeps : IsMore words more) (differ : DifferInName b c key) (at : node_at more n ≡ Some (book.name key))
+    (whole : node_at more m ≡ Some (book.name (key_of None key.word))) (fresh : is_some (tree_in b.names key) ≡ false) (spelt : folded key.word ≡ key.word) (sought : HaveSought n m v w) (follows : Follows b words customs today v) where
+  all_numbers : KeepNumbers words more
+  all_numbers = keep_numbers words more keeps
+
+  was : Follow b words customs today (links_in v) (marks_in v) (kept_in v)
+  was = to_follow b words customs today v numbered follows
+
+  was_free : (a : Node) → has a (marks_in w) ≡ false → has a (marks_in v) ≡ false
+  was_free a isnt = ⊎_elim (λ (old : has a (marks_in v) ≡ true). absurd (false≢true (sym isnt ∙ sought.stay a old))) (λ (is : has a (marks_in v) ≡ false). is) (cases_Bool (has a (marks_in v)))
+
+  had_tree : (a : Node) (x : book.Node) → has a (marks_in w) ≡ false → node_at more a ≡ Some x → tree_at b x ≡ tree_at c x
+  had_tree a (book.place p) isnt is = ap (λ cells. tree_at (record { cells = cells; names = b.names }) (book.place p)) differ.cells
+  had_tree a (book.name other) isnt is = differ.trees other (λ same. false≢true (sym isnt ∙ subst (λ m. IsTrue (has m (marks_in w))) (sym (one a (is ∙ ap (λ k. Some (book.name k)) same))) sought.itself))
+    where
+      one : (a : Node) → node_at more a ≡ Some (book.name key) → a ≡ n
+      one a to = one_node more a n (book.name key) now.once to at
+
+  -- a formula with a word that finds no name is marked
+  seeking_marked : (a : Node) (x : book.Node) (t : Term Corner) → node_at more a ≡ Some x → tree_at b x ≡ Some t → seeks_at b x t ≡ true → IsTrue (has a (marks_in w))
+  seeking_marked a x t to is seek = ⊎_elim
+      (λ (old : has a (marks_in v) ≡ true). sought.stay a old)
+      (λ (out : has a (marks_in v) ≡ false). sought.sought a (follows.seeks.all a x t out (known_before b words more numbered all_numbers now.once a x to (tree_stands b [] (pos 0) x t is)) is seek))
+      (cases_Bool (has a (marks_in v)))
+
+  -- so is one that uses the word of the name where that finds none
+  finding : (a : Node) (x : book.Node) (t : Term Corner) → node_at more a ≡ Some x → tree_at b x ≡ Some t → UsesWord t key.word → found b.names key.word (sheet_of (home_of x)) ≡ None → is_scope_for key.scope (sheet_of (home_of x)) ≡ true → IsTrue (has a (marks_in w))
+  finding a x t to is uses none within = seeking_marked a x t to is (⊎_elim (λ (h : seeks_at b x t ≡ true). h) (λ (h : list_any (λ word. false) (names_in t) ≡ true). absurd (none_passes (names_in t) h))
+      (any_either (λ word. bytes_eq (folded word) key.word) (λ word. is_none (found b.names word (sheet_of (home_of x)))) (λ word. false)
+      (λ word same. inl (ap is_none (found_alike b.names word key.word (sheet_of (home_of x)) (ap (bytes_eq (folded word)) spelt ∙ same) ∙ none))) (names_in t) uses))
+    where
+      none_passes : (ws : List (List ℕ)) → list_any (λ word. false) ws ≡ true → ⊥
+      none_passes [] h = false≢true h
+      none_passes (word ∷ ws) h = none_passes ws h
+
+  marks_known : AreKnown more (marks_in w)
+  marks_known a h = by (sought.only a h)
+    where
+      by : IsTrue (has a (marks_in v)) ⊎ ((seeks_in v a ≡ true) ⊎ (IsTrue (has m (links_in v a)) ⊎ (a ≡ n))) → (x : book.Node) × (node_at more a ≡ Some x)
+      by (inl old) = let (x, is) = was.known a old in (x, all_numbers a x is)
+      by (inr (inl seek)) = let (x, is) = there (node_at words a) (follows.seeks.known a seek) in (x, all_numbers a x is)
+      by (inr (inr (inl link))) = let (x, is) = linked_is_known b words customs today v was a m link in (x, all_numbers a x is)
+      by (inr (inr (inr same))) = (book.name key, ap (node_at more) same ∙ at)
+
+  still_noted : (test : Term Corner → Bool) (first is : Node → Bool) → is ≡ first → AreNoted (λ x. test) b words (marks_in v) first → AreNoted (λ x. test) c more (marks_in w) is
+  still_noted test first is same all = record {
+    all = λ a x t isnt to tree passes.
+        let had = had_tree a x isnt to ∙ tree in
+        ap (λ f. f a) same ∙ all.all a x t (was_free a isnt) (known_before b words more numbered all_numbers now.once a x to (tree_stands b [] (pos 0) x t had)) had passes;
+    known = λ a h. let (x, to) = there (node_at words a) (all.known a (sym (ap (λ f. f a) same) ∙ h)) in ap is_some (all_numbers a x to);
+  }
+
+  -- and where a word finds none now, it found none before
+  sought_too : (a : Node) (x : book.Node) (t : Term Corner) → has a (marks_in w) ≡ false → node_at more a ≡ Some x → tree_at c x ≡ Some t → seeks_at c x t ≡ true → ⊥
+  sought_too a x t isnt to tree seek =
+      let had = had_tree a x isnt to ∙ tree in
+      false≢true (sym isnt ∙ seeking_marked a x t to had (⊎_elim (λ (h : seeks_at b x t ≡ true). h) (λ (h : seeks_at b x t ≡ true). h)
+      (any_either (λ word. is_none (found c.names word (sheet_of (home_of x)))) (λ word. is_none (found b.names word (sheet_of (home_of x)))) (λ word. is_none (found b.names word (sheet_of (home_of x))))
+      (λ word none. ⊎_elim
+      (λ (same : found b.names word (sheet_of (home_of x)) ≡ found c.names word (sheet_of (home_of x))). inl (ap is_none same ∙ none))
+      (λ (now_it, way). absurd (false≢true (sym (ap is_none now_it) ∙ none)))
+      (added_is_found b c key word (sheet_of (home_of x)) differ fresh)) (names_in t) seek)))
+
+  pub addition_follows : Follows c more customs today w
+  addition_follows =
+      let follow = added_follow b c words more customs today (links_in v) (marks_in v) (marks_in w) (kept_in v) n key was all_numbers now differ fresh at
+      (record { stay = sought.stay; itself = sought.itself; finding = finding; hidden = λ a d x to own at_whole link. sought.linked a (subst (λ e. IsTrue (has e (links_in v a))) (one_node more d m (book.name (key_of None key.word)) now.once at_whole whole) link) }) marks_known in
+      from_follow c more customs today w
+      (subst (λ links. Follow c more customs today links (marks_in w) (kept_in w)) (sym sought.links) (subst (λ kept. Follow c more customs today (links_in v) (marks_in w) kept) (sym sought.kept) follow))
+      (still_noted asks_place (asks_in v) (asks_in w) sought.asking follows.asks) (still_noted has_lost (loses_in v) (loses_in w) sought.losing follows.loses)
+      (record { all = λ a x t isnt to tree seek. absurd (sought_too a x t isnt to tree seek); known = λ a h. absurd (false≢true (sym (sought.none a) ∙ h)) })
+
+-- where it is marked with what uses a word that finds no name, and what is linked to the whole workbook's name
+pub follows_addition : (scope : Option ℕ) (word : List ℕ) (s : Session) (name whole : Option Node) (v : Values) (new : Option Values) → IfSome name (λ n. node_at (words_in s) n ≡ Some (book.name (key_of scope word)))
+    → IfSome whole (λ m. node_at (words_in s) m ≡ Some (book.name (key_of None word))) → IfSome new (λ w. HasSought name whole v w) → FollowsAddition (key_of scope word) s (Some v) new × MarksAddition scope word s (Some v) new
+follows_addition scope word s name whole v None at over marked = (λ b words customs today numbered now keeps differ fresh has_it follows. tt, tt)
+follows_addition scope word s None whole v (Some w) at over marked = absurd marked
+follows_addition scope word s (Some n) None v (Some w) at over marked = absurd marked
+follows_addition scope word s (Some n) (Some m) v (Some w) at over marked = (
+  λ b words customs today numbered now keeps differ fresh has_it follows.
+      addition_follows b (book_of s) words (words_in s) customs today (key_of scope word) n m v w numbered now keeps differ at (over ∙ ap (λ (f : List ℕ). Some (book.name (record { scope = None; word = f }))) (sym (folded-folded word))) fresh (folded-folded word) marked follows,
+  record {
+    links = marked.links;
+    asking = marked.asking;
+    losing = marked.losing;
+    kept = marked.kept;
+    stay = marked.stay;
+    only = λ a h. by a (marked.only a h);
+  },
+)
+  where
+    by : (a : Node) → IsTrue (has a (marks_in v)) ⊎ ((seeks_in v a ≡ true) ⊎ (IsTrue (has m (links_in v a)) ⊎ (a ≡ n)))
+        → IsTrue (has a (marks_in v)) ⊎ (IsNameIn s (key_of scope word) a ⊎ ((seeks_in v a ≡ true) ⊎ IsLinkedIn s (key_of None word) v a))
+    by a (inl old) = inl old
+    by a (inr (inl seek)) = inr (inr (inl seek))
+    by a (inr (inr (inl link))) = inr (inr (inr (m, over, link)))
+    by a (inr (inr (inr same))) = inr (inl (ap (node_at (words_in s)) same ∙ at))
+
+-- where nodes of which something holds were marked, they may be
+marks_for : (which : Node → Type 0) (nodes : List Node) (v w : Values) → HaveMarked nodes v w → ((a : Node) → IsTrue (has a nodes) → which a) → IsMarkedFor which v w
+marks_for which nodes v w marked each = record {
+  links = marked.links;
+  asking = marked.asking;
+  losing = marked.losing;
+  kept = marked.kept;
+  stay = λ a h. marked.marks a ∙ has-append_left a (marks_in v) nodes h;
+  only = λ a h. ⊎_elim (λ (old : has a (marks_in v) ≡ true). inl old) (λ (new : has a nodes ≡ true). inr (each a new)) (has-append_cases a (marks_in v) nodes (sym (marked.marks a) ∙ h));
+}
+
+-- where the name is marked alone
+pub follows_change : (key : Key) (s : Session) (name : Option Node) (v : Values) (new : Option Values) → IfSome name (λ n. node_at (words_in s) n ≡ Some (book.name key)) → IfSome new (λ w. HasMarked name v w)
+    → FollowsChange key s (Some v) new × MarksChange key s (Some v) new
+follows_change key s name v None at marked = (λ b words customs today numbered now keeps differ had has_it follows. tt, tt)
+follows_change key s None v (Some w) at marked = absurd marked
+follows_change key s (Some n) v (Some w) at marked = (
+  λ b words customs today numbered now keeps differ had has_it follows.
+      change_follows b (book_of s) words (words_in s) customs today key n v w (n ∷ []) numbered now keeps differ at marked (has_first n []) follows (λ a h. (book.name key, is a h)) had has_it,
+  marks_for (IsNameIn s key) (n ∷ []) v w marked is,
+)
+  where
+    is : (a : Node) → IsTrue (has a (n ∷ [])) → node_at (words_in s) a ≡ Some (book.name key)
+    is a h = ap (node_at (words_in s)) (has_one a n h) ∙ at
+
+-- where what is linked to it is marked too
+pub follows_removal : (key : Key) (s : Session) (name : Option Node) (v : Values) (new : Option Values) → IfSome name (λ n. node_at (words_in s) n ≡ Some (book.name key)) → IfSome new (λ w. HasMarkedLinked name v w)
+    → FollowsRemoval key s (Some v) new × MarksRemoval key s (Some v) new
+follows_removal key s name v None at marked = (λ b words customs today numbered now keeps differ had gone follows. tt, tt)
+follows_removal key s None v (Some w) at marked = absurd marked
+follows_removal key s (Some n) v (Some w) at marked =
+    let (nodes, linked, have) = marked in (
+      λ b words customs today numbered now keeps differ had gone follows.
+          removal_follows b (book_of s) words (words_in s) customs today key n v w (nodes ++ n ∷ []) numbered now keeps differ at have (has-append_right n nodes (n ∷ []) (has_first n [])) follows
+          (λ a link. has-append_left a nodes (n ∷ []) ((linked.0 a).1 link))
+          (λ a h. ⊎_elim
+          (λ (one : has a nodes ≡ true). linked_known b (book_of s) words (words_in s) customs today key n v w (nodes ++ n ∷ []) numbered now keeps differ at have (has-append_right n nodes (n ∷ []) (has_first n [])) follows a n ((linked.0 a).0 one))
+          (λ (last : has a (n ∷ []) ≡ true). (book.name key, itself a last))
+          (has-append_cases a nodes (n ∷ []) h)) had gone,
+      marks_for (λ a. IsNameIn s key a ⊎ IsLinkedIn s key v a) (nodes ++ n ∷ []) v w have (λ a h. ⊎_elim
+          (λ (one : has a nodes ≡ true). inr (n, at, (linked.0 a).0 one))
+          (λ (last : has a (n ∷ []) ≡ true). inl (itself a last))
+          (has-append_cases a nodes (n ∷ []) h)),
+    )
+  where
+    itself : (a : Node) → IsTrue (has a (n ∷ [])) → node_at (words_in s) a ≡ Some (book.name key)
+    itself a h = ap (node_at (words_in s)) (has_one a n h) ∙ at
+
+-- ---- what is marked
+
+pub have_marked : {X E : Type 0} (r : Result X E) (v w : Values) (nodes : List Node) → links_in w ≡ links_in v → asks_in w ≡ asks_in v → loses_in w ≡ loses_in v → seeks_in w ≡ seeks_in v → kept_in w ≡ kept_in v
+    → OnOk r ((a : Node) → has a (marks_in w) ≡ has a (marks_in v ++ nodes)) → OnOk r (HaveMarked nodes v w)
+have_marked (Ok x) v w nodes links asking losing seeking kept marks = record { links = links; asking = asking; losing = losing; seeking = seeking; kept = kept; marks = marks }
+have_marked (Err e) v w nodes links asking losing seeking kept marks = tt
+
+-- one node after a list of them
+marked_after : (n : Node) (nodes was middle is : List Node) → ((a : Node) → has a middle ≡ has a (was ++ nodes)) → ((a : Node) → has a is ≡ has a (middle ++ n ∷ [])) → (a : Node) → has a is ≡ has a (was ++ (nodes ++ n ∷ []))
+marked_after n nodes was middle is first then a =
+    then a ∙ list_any-append (same_node a) middle (n ∷ []) ∙ ap (λ t. t || has a (n ∷ [])) (first a) ∙ sym (list_any-append (same_node a) (was ++ nodes) (n ∷ []))
+    ∙ ap (has a) (append_assoc was nodes (n ∷ []))
+
+pub have_linked : {X E : Type 0} (r : Result X E) (n : Node) (v u w : Values) (nodes shown : List Node) → AreLinkedTo n (links_in v) nodes → shown ≡ nodes → HaveMarked shown v u → OnOk r (HaveMarked (n ∷ []) u w) → OnOk r (HasMarkedLinked (Some n) v w)
+have_linked (Err e) n v u w nodes shown linked same first marked = tt
+have_linked (Ok x) n v u w nodes shown linked same first marked = (
+  nodes,
+  linked,
+  record {
+    links = marked.links ∙ first.links;
+    asking = marked.asking ∙ first.asking;
+    losing = marked.losing ∙ first.losing;
+    seeking = marked.seeking ∙ first.seeking;
+    kept = marked.kept ∙ first.kept;
+    marks = marked_after n nodes (marks_in v) (marks_in u) (marks_in w) (λ a. first.marks a ∙ ap (λ ns. has a (marks_in v ++ ns)) same) marked.marks;
+  },
+)
+
+pub have_sought : {X E : Type 0} (r : Result X E) (n whole : Node) (v u x w : Values) (nodes shown : List Node) → AreLinkedTo whole (links_in v) nodes → shown ≡ nodes → ((a : Node) → has a (marks_in u) ≡ (has a (marks_in v) || seeks_in v a)) → ((a : Node) → seeks_in u a ≡ false)
+    → links_in u ≡ links_in v → asks_in u ≡ asks_in v → loses_in u ≡ loses_in v → kept_in u ≡ kept_in v → HaveMarked shown u x → OnOk r (HaveMarked (n ∷ []) x w) → OnOk r (HasSought (Some n) (Some whole) v w)
+have_sought (Err e) n whole v u x w nodes shown linked same first none links asking losing kept second third = tt
+have_sought (Ok o) n whole v u x w nodes shown linked same first none links asking losing kept second third = record {
+  links = third.links ∙ second.links ∙ links;
+  asking = third.asking ∙ second.asking ∙ asking;
+  losing = third.losing ∙ second.losing ∙ losing;
+  kept = third.kept ∙ second.kept ∙ kept;
+  none = λ a. ap (λ (f : Node → Bool). f a) (third.seeking ∙ second.seeking) ∙ none a;
+  stay = λ a h. marks a ∙ has-append_left a (marks_in u) more (first a ∙ or_left (has a (marks_in v)) (seeks_in v a) h);
+  sought = λ a h. marks a ∙ has-append_left a (marks_in u) more (first a ∙ or_right (has a (marks_in v)) (seeks_in v a) h);
+  linked = λ a link. marks a ∙ has-append_right a (marks_in u) more (has-append_left a nodes (n ∷ []) ((linked.0 a).1 link));
+  itself = marks n ∙ has-append_right n (marks_in u) more (has-append_right n nodes (n ∷ []) (has_first n []));
+  only = λ a h. ⊎_elim
+      (λ (old : has a (marks_in u) ≡ true). ⊎_elim (λ (is : has a (marks_in v) ≡ true). inl is) (λ (seek : seeks_in v a ≡ true). inr (inl seek)) (or_cases (has a (marks_in v)) (seeks_in v a) (sym (first a) ∙ old)))
+      (λ (last : has a more ≡ true). ⊎_elim
+      (λ (one : has a nodes ≡ true). inr (inr (inl ((linked.0 a).0 one))))
+      (λ (it : has a (n ∷ []) ≡ true). inr (inr (inr (has_one a n it))))
+      (has-append_cases a nodes (n ∷ []) last))
+      (has-append_cases a (marks_in u) more (sym (marks a) ∙ h));
+}
+  where
+    more : List Node
+    more = nodes ++ n ∷ []
+
+    marks : (a : Node) → has a (marks_in w) ≡ has a (marks_in u ++ more)
+    marks = marked_after n nodes (marks_in u) (marks_in x) (marks_in w) (λ a. second.marks a ∙ ap (λ ns. has a (marks_in u ++ ns)) same) third.marks

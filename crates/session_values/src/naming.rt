@@ -1,0 +1,130 @@
+// What is kept of a session's values over a change of a name.
+ghost use Rattle.std.specs.Prelude.{◌≡◌, ◌≢◌, IfSome, None, OnOk, Some};
+ghost use Rattle.cell_addr.specs.declared.place.TheConstants.{NO_SHEET as no_sheet};
+ghost use Rattle.book_values.specs.Names.{key_of};
+ghost use Rattle.book_values.specs.Workbook as nodes;
+ghost use Rattle.recalc_core.specs.Nodes.{node_at};
+ghost use Rattle.session_values.specs.Following.{words_in};
+ghost use Rattle.session_values.specs.Naming.{FollowsAddition, FollowsChange, FollowsRemoval, MarksAddition, MarksChange, MarksRemoval};
+ghost use Rattle.session_values.specs.internal.Marked.{HasMarked, HasMarkedLinked, HasSought};
+
+use crate::values::SessionValues;
+use cell_addr::NO_SHEET;
+use dep_graph::Node;
+use kept_steps::Session;
+use kept_values::Values;
+use std::alloc::AllocError;
+
+impl SessionValues {
+    /// Takes what is kept along with a name of the scope that got another formula, after the session's call: marks the name alone.
+    /// What followed the workbook before follows the one after it.
+    ///
+    /// Where there is no memory for it, nothing is kept any more. Costs a look-up or two.
+    pub fn name_changed(&mut self, session: &Session, scope: Option<u32>, word: &str)
+        requires { scope ≢ Some no_sheet }
+        ensures follows { FollowsChange (key_of scope word.now) session.now self.old.values self.new.values }
+        ensures marks { MarksChange (key_of scope word.now) session.now self.old.values self.new.values }
+    {
+        self.values = match self.values.take() {
+            Some(values) => name_marked(values, node_of(session, scope, word)),
+            None => None,
+        };
+    }
+
+    /// Takes what is kept along with a name of the scope that was added, after the session's call: marks the name, each formula
+    /// with a word that found no name, and each that is linked to the whole workbook's name of the word, which a sheet's own name
+    /// hides on its sheet. What followed the workbook before follows the one after it.
+    ///
+    /// Where there is no memory for it, nothing is kept any more. Costs a look-up for each such formula.
+    pub fn name_added(&mut self, session: &Session, scope: Option<u32>, word: &str)
+        requires { scope ≢ Some no_sheet }
+        ensures follows { FollowsAddition (key_of scope word.now) session.now self.old.values self.new.values }
+        ensures marks { MarksAddition scope word.now session.now self.old.values self.new.values }
+    {
+        self.values = match self.values.take() {
+            Some(values) => sought_marked(
+                values,
+                node_of(session, scope, word),
+                node_of(session, None, word),
+            ),
+            None => None,
+        };
+    }
+
+    /// Takes what is kept along with a name of the scope that was removed, after the session's call: marks the name, and each
+    /// formula that is linked to it. What followed the workbook before follows the one after it.
+    ///
+    /// Where there is no memory for it, nothing is kept any more. Costs a look-up for each such formula.
+    pub fn name_removed(&mut self, session: &Session, scope: Option<u32>, word: &str)
+        requires { scope ≢ Some no_sheet }
+        ensures follows { FollowsRemoval (key_of scope word.now) session.now self.old.values self.new.values }
+        ensures marks { MarksRemoval (key_of scope word.now) session.now self.old.values self.new.values }
+    {
+        self.values = match self.values.take() {
+            Some(values) => linked_marked(values, node_of(session, scope, word)),
+            None => None,
+        };
+    }
+}
+
+// The node of the scope's name of the word; `None` where the session's names have no such word.
+fn node_of(session: &Session, scope: Option<u32>, word: &str) -> Option<Node>
+    requires { scope ≢ Some no_sheet }
+    ensures { IfSome result (λ n. node_at (words_in session.now) n ≡ Some (nodes.name (key_of scope word.now))) }
+{
+    let word = session.book.names.known(word)?;
+    Some(Node::Name {
+        scope: scope.unwrap_or(NO_SHEET),
+        word,
+    })
+}
+
+// The values where the node is marked, if there is one and there is memory for it.
+fn name_marked(mut values: Values, name: Option<Node>) -> Option<Values>
+    ensures { IfSome result (λ marked. HasMarked name values marked) }
+{
+    match values.mark(name?) {
+        Ok(()) => Some(values),
+        Err(_) => None,
+    }
+}
+
+// The values where the node and each that is linked to it is marked, likewise.
+fn linked_marked(mut values: Values, name: Option<Node>) -> Option<Values>
+    ensures { IfSome result (λ marked. HasMarkedLinked name values marked) }
+{
+    match mark_linked(&mut values, name?) {
+        Ok(()) => Some(values),
+        Err(_) => None,
+    }
+}
+
+// Marks the node and each that is linked to it.
+fn mark_linked(values: &mut Values, name: Node) -> Result<(), AllocError>
+    ensures { OnOk result (HasMarkedLinked (Some name) values.old values.new) }
+{
+    let linked = values.linked_to(name)?;
+    values.mark_all(linked.items())?;
+    values.mark(name)
+}
+
+// The values where the first node, each that is linked to the second one, and each formula with a word that finds no name is marked,
+// likewise.
+fn sought_marked(mut values: Values, name: Option<Node>, whole: Option<Node>) -> Option<Values>
+    ensures { IfSome result (λ marked. HasSought name whole values marked) }
+{
+    match mark_sought(&mut values, name?, whole?) {
+        Ok(()) => Some(values),
+        Err(_) => None,
+    }
+}
+
+// Marks these.
+fn mark_sought(values: &mut Values, name: Node, whole: Node) -> Result<(), AllocError>
+    ensures { OnOk result (HasSought (Some name) (Some whole) values.old values.new) }
+{
+    let linked = values.linked_to(whole)?;
+    values.mark_seeking()?;
+    values.mark_all(linked.items())?;
+    values.mark(name)
+}
