@@ -1,4 +1,5 @@
-"""Holds the plain machine against the examples that stand in docs/FORMULAS.md."""
+"""Holds the plain machine against the examples that stand in docs/FORMULAS.md and on the page of
+functions."""
 
 import re
 import sys
@@ -7,7 +8,9 @@ from pathlib import Path
 import script
 from workbook import Session
 
-PAGE = Path(__file__).parents[2] / "docs" / "FORMULAS.md"
+TOP = Path(__file__).parents[2]
+PAGE = TOP / "docs" / "FORMULAS.md"
+FUNCTIONS = TOP / "crates" / "function_cases" / "data" / "FUNCTIONS.md"
 # The cells of the page's examples, and its day.
 CELLS = "set,A1,1\nset,B1,5\nset,C1,9\nset,A2,x\nset,B2,y\nset,C2,z\n"
 TODAY = 45351
@@ -23,6 +26,12 @@ def rows(page, heading):
         elif table:
             break
     return table[2:]
+
+
+def calls(page):
+    """The rows of all tables whose first cell is a call between backticks, and their values."""
+    found = re.findall(r"^\| `(=.*?)` \| (.*?) \|", page, re.MULTILINE)
+    return [(example, value.strip("`")) for example, value in found]
 
 
 def reply(text, command):
@@ -46,6 +55,8 @@ def main():
         cases.append(("", example.strip("`"), "formula", text))
     for example, _, value in rows(page, "## Grammar"):
         cases.append(("", example.strip("`"), "value", value.split(":")[0]))
+    for example, value in calls(FUNCTIONS.read_text()):
+        cases.append((CELLS, example, "value", value))
     for before, formula, command, wanted in cases:
         text = before + 'set,Z9,"' + formula.replace('"', '""') + '"\n'
         got = reply(text, [command, "Z9"])

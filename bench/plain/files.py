@@ -23,11 +23,19 @@ def content(kind, name):
     try:
         with open(name, "rb") as file:
             data = file.read(FILE_BYTES + 1)
-    except (FileNotFoundError, NotADirectoryError):
+    except FileNotFoundError:
         raise Ends(4, f"{kind} {name}: missing") from None
     except (OSError, ValueError):
         raise Ends(5, "read fault") from None
     return within_limit(data)
+
+
+def standard_input(read):
+    """The bytes that `read` gives."""
+    try:
+        return within_limit(read())
+    except OSError:
+        raise Ends(5, "read fault") from None
 
 
 def within_limit(data):
@@ -64,10 +72,10 @@ def add_books(session, names):
         book.sheets += ((session.last_sheet, title),)
         for row, record in enumerate(records(data), 1):
             for col, field in enumerate(record, 1):
-                if not field:
-                    continue
                 must(row <= ROWS, "too many rows")
                 must(col <= COLUMNS, "too many columns")
+                if not field:
+                    continue
                 must(len(field) <= workbook.TEXT_BYTES, "field too long")
                 filled += 1
                 must(filled <= workbook.CELLS, "too many cells")

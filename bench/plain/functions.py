@@ -1,8 +1,7 @@
-"""The functions. Each gets the formula that calls it and its arguments as trees."""
+"""The functions. Each gets the formula that calls it and its arguments as trees, and reads them
+all, from the left, before it tests what they are."""
 
-import calendar
-import datetime
-
+import days
 import numbers
 import values
 from values import NOTHING, Fault, Number, Stop, Text, Truth
@@ -87,6 +86,13 @@ def filled(formula, area):
     return formula.evaluation.filled_values(area)
 
 
+def whole_from(found, least):
+    """A whole number that was read, where it isn't below the least one."""
+    if found < least:
+        raise Stop(values.VALUE)
+    return found
+
+
 def all_numbers(formula, arguments):
     """The numbers of a list: those in blocks, and what single values are as numbers."""
     found = []
@@ -101,20 +107,12 @@ def all_numbers(formula, arguments):
     return found
 
 
-def total(millionths):
-    """The sum, each step in range."""
-    sum_ = 0
-    for one in millionths:
-        sum_ = values.number(sum_ + one).millionths
-    return sum_
-
-
 # Sums and counts.
 
 
 @function("SUM", 1, None)
 def sum_(formula, *arguments):
-    return Number(total(all_numbers(formula, arguments)))
+    return values.number(sum(all_numbers(formula, arguments)))
 
 
 @function("AVERAGE", 1, None)
@@ -122,7 +120,7 @@ def average(formula, *arguments):
     found = all_numbers(formula, arguments)
     if not found:
         return values.DIV
-    return values.number(numbers.nearest(total(found), len(found)))
+    return values.number(numbers.nearest(sum(found), len(found)))
 
 
 @function("MIN", 1, None)
@@ -159,14 +157,14 @@ def count_all(formula, *arguments):
         if is_area(argument):
             counted += sum(v is not NOTHING for v in filled(formula, argument))
         else:
-            counted += 1
+            counted += argument is not NOTHING
     return values.whole(counted)
 
 
 @function("COUNTBLANK", 1, 1)
 def count_blank(formula, tree):
     area = block(formula, tree)
-    kept = sum(v is not NOTHING and v != Text("") for v in filled(formula, area))
+    kept = sum(v is not NOTHING for v in filled(formula, area))
     return values.whole(area.rows * area.cols - kept)
 
 
@@ -183,30 +181,37 @@ def product(formula, *arguments):
 
 def criterion(value):
     """What a value asks of another one, as a function that tells whether it is so."""
-    values.no_fault(value)
     mark, wanted = "=", value
+    if value is NOTHING:
+        wanted = Number(0)
     if isinstance(value, Text):
         mark = next((m for m in ("<=", ">=", "<>", "<", ">", "=") if value.text.startswith(m)), "")
         rest = value.text[len(mark):]
         mark = mark or "="
-        spelled, true = numbers.spelled(rest), values.truth_spelled(rest)
-        if spelled is not None:
-            wanted = Number(spelled)
-        elif true is not None:
-            wanted = Truth(true)
-        else:
-            wanted = Text(rest)
+        spelled = numbers.spelled(rest)
+        wanted = Text(rest) if spelled is None else Number(spelled)
+
+    def equals(other):
+        if other is NOTHING:
+            return wanted == Text("")
+        return type(other) is type(wanted) and values.compare(other, wanted) == 0
 
     def holds(other):
-        if other is NOTHING or isinstance(other, Fault) or type(other) is not type(wanted):
-            return mark == "<>"
+        if isinstance(other, Fault):
+            return False
+        if mark in ("=", "<>"):
+            return equals(other) == (mark == "=")
+        if type(other) is not type(wanted):
+            return False
         order = values.compare(other, wanted)
-        return {
-            "=": order == 0, "<>": order != 0, "<": order < 0,
-            ">": order > 0, "<=": order <= 0, ">=": order >= 0,
-        }[mark]
+        return {"<": order < 0, ">": order > 0, "<=": order <= 0, ">=": order >= 0}[mark]
 
     return holds
+
+
+def asked_for(formula, tree):
+    """What a criterion as an argument asks."""
+    return criterion(values.no_fault(formula.value(tree)))
 
 
 def offsets(formula, area):
@@ -218,7 +223,7 @@ def offsets(formula, area):
 @function("SUMIF", 2, 3)
 def sum_if(formula, tested, asked, summed=None):
     area = block(formula, tested)
-    holds = criterion(formula.value(asked))
+    holds = asked_for(formula, asked)
     added = area if summed is None else block(formula, summed)
     if (added.rows, added.cols) != (area.rows, area.cols):
         return values.VALUE
@@ -227,14 +232,14 @@ def sum_if(formula, tested, asked, summed=None):
         if holds(formula.evaluation.at(area, row, col)):
             other = values.no_fault(formula.evaluation.at(added, row, col))
             if isinstance(other, Number):
-                result = values.number(result + other.millionths).millionths
-    return Number(result)
+                result += other.millionths
+    return values.number(result)
 
 
 @function("COUNTIF", 2, 2)
 def count_if(formula, tested, asked):
     area = block(formula, tested)
-    holds = criterion(formula.value(asked))
+    holds = asked_for(formula, asked)
     found = filled(formula, area)
     empty = area.rows * area.cols - len(found)
     return values.whole(sum(map(holds, found)) + empty * holds(NOTHING))
@@ -368,12 +373,14 @@ def wanted_value(formula, tree):
 def match(formula, tree, where, kind=None):
     wanted = wanted_value(formula, tree)
     area = block(formula, where)
-    kind = 1 if kind is None else number(formula, kind)
+    kind = numbers.ONE if kind is None else number(formula, kind)
     if area.rows == 1:
         line = row_of(formula, area, 0)
     elif area.cols == 1:
         line = column_of(formula, area, 0)
     else:
+        return values.VALUE
+    if kind not in (-numbers.ONE, 0, numbers.ONE):
         return values.NA
     return values.whole(position(wanted, line, kind) + 1)
 
@@ -416,10 +423,11 @@ def index(formula, where, row, col=None):
         row, col = 1, row
     else:
         col = 1
-    if row < 1 or col < 1:
-        return values.VALUE
-    if row > area.rows or col > area.cols:
-        return values.REF
+    for at, size in ((row, area.rows), (col, area.cols)):
+        if at < 1:
+            return values.VALUE
+        if at > size:
+            return values.REF
     return formula.evaluation.at(area, row - 1, col - 1)
 
 
@@ -434,13 +442,6 @@ def choose(formula, which, *arguments):
 # Texts.
 
 
-def how_many(formula, tree, least):
-    found = integer(formula, tree)
-    if found < least:
-        raise Stop(values.VALUE)
-    return found
-
-
 @function("LEN", 1, 1)
 def length(formula, tree):
     return values.whole(len(text(formula, tree)))
@@ -449,21 +450,23 @@ def length(formula, tree):
 @function("LEFT", 1, 2)
 def left(formula, tree, count_=None):
     found = text(formula, tree)
-    return Text(found[:1 if count_ is None else how_many(formula, count_, 0)])
+    kept = 1 if count_ is None else integer(formula, count_)
+    return Text(found[:whole_from(kept, 0)])
 
 
 @function("RIGHT", 1, 2)
 def right(formula, tree, count_=None):
     found = text(formula, tree)
-    kept = 1 if count_ is None else how_many(formula, count_, 0)
-    return Text(found[max(len(found) - kept, 0):])
+    kept = 1 if count_ is None else integer(formula, count_)
+    return Text(found[max(len(found) - whole_from(kept, 0), 0):])
 
 
 @function("MID", 3, 3)
 def middle(formula, tree, start, count_):
     found = text(formula, tree)
-    start = how_many(formula, start, 1)
-    return Text(found[start - 1:start - 1 + how_many(formula, count_, 0)])
+    start, count_ = integer(formula, start), integer(formula, count_)
+    start = whole_from(start, 1) - 1
+    return Text(found[start:start + whole_from(count_, 0)])
 
 
 @function("CONCATENATE", 1, None)
@@ -479,7 +482,7 @@ def trim(formula, tree):
 @function("REPT", 2, 2)
 def repeat(formula, tree, count_):
     found = text(formula, tree)
-    times = how_many(formula, count_, 0)
+    times = whole_from(integer(formula, count_), 0)
     if len(found.encode()) * times > values.TEXT_BYTES:
         return values.VALUE
     return Text(found * times if found else "")
@@ -495,8 +498,8 @@ def exact(formula, one, other):
 def find(formula, wanted, within, start=None):
     wanted = text(formula, wanted)
     within = text(formula, within)
-    start = 1 if start is None else how_many(formula, start, 1)
-    at = within.find(wanted, start - 1)
+    start = 1 if start is None else integer(formula, start)
+    at = within.find(wanted, whole_from(start, 1) - 1)
     return values.VALUE if at < 0 else values.whole(at + 1)
 
 
@@ -505,7 +508,7 @@ def substitute(formula, tree, old, new, which=None):
     found, old, new = text(formula, tree), text(formula, old), text(formula, new)
     if which is None:
         return values.text(found.replace(old, new) if old else found)
-    which = how_many(formula, which, 1)
+    which = whole_from(integer(formula, which), 1)
     at = -1
     if old:
         parts = found.split(old)
@@ -522,62 +525,33 @@ def value_of(formula, tree):
     return values.VALUE if found is None else Number(found)
 
 
-# Days: 1 is 1899-12-31, and 45292 is 2024-01-01.
-
-DAY_ZERO = datetime.date(1899, 12, 30).toordinal()
-
-
-def day_of(serial):
-    try:
-        if serial < 0:
-            raise ValueError
-        return datetime.date.fromordinal(DAY_ZERO + serial)
-    except (ValueError, OverflowError):
-        raise Stop(values.NUM) from None
-
-
-def day(formula, tree):
-    return day_of(integer(formula, tree))
-
-
-def serial_of(year, month, day_):
-    """The serial number of a day; months and days may lie outside of the year and the month."""
-    year, month = year + (month - 1) // 12, (month - 1) % 12 + 1
-    try:
-        serial = datetime.date(year, month, 1).toordinal() - DAY_ZERO + day_ - 1
-    except (ValueError, OverflowError):
-        raise Stop(values.NUM) from None
-    day_of(serial)
-    return serial
+# Days.
 
 
 @function("DATE", 3, 3)
-def date(formula, year, month, day_):
-    year, month, day_ = (integer(formula, tree) for tree in (year, month, day_))
+def date(formula, year, month, day):
+    year, month, day = (integer(formula, tree) for tree in (year, month, day))
     if not 0 <= year <= 9999:
         return values.NUM
-    return values.whole(serial_of(year + 1900 if year < 1900 else year, month, day_))
+    return days.shown(days.serial(year + 1900 if year < 1900 else year, month, day))
 
 
-@function("YEAR", 1, 1)
-def year_of(formula, tree):
-    return values.whole(day(formula, tree).year)
+def part_of_day(word, part):
+    @function(word, 1, 1)
+    def body(formula, tree):
+        return values.whole(part(days.day(integer(formula, tree))))
 
 
-@function("MONTH", 1, 1)
-def month_of(formula, tree):
-    return values.whole(day(formula, tree).month)
-
-
-@function("DAY", 1, 1)
-def day_of_month(formula, tree):
-    return values.whole(day(formula, tree).day)
+part_of_day("YEAR", lambda day: day.year)
+part_of_day("MONTH", lambda day: day.month)
+part_of_day("DAY", lambda day: day.day)
 
 
 @function("WEEKDAY", 1, 2)
 def weekday(formula, tree, kind=None):
-    found = day(formula, tree)
+    found = integer(formula, tree)
     kind = numbers.ONE if kind is None else number(formula, kind)
+    found = days.day(found)
     if kind == numbers.ONE:
         return values.whole(found.isoweekday() % 7 + 1)
     if kind == 2 * numbers.ONE:
@@ -588,38 +562,27 @@ def weekday(formula, tree, kind=None):
 
 
 @function("DAYS", 2, 2)
-def days(formula, end, start):
-    later, earlier = (day(formula, tree).toordinal() for tree in (end, start))
-    return values.whole(later - earlier)
-
-
-def months_on(found, months):
-    """The first of the month that lies so many months further on."""
-    month = found.year * 12 + found.month - 1 + months
-    try:
-        return datetime.date(month // 12, month % 12 + 1, 1)
-    except (ValueError, OverflowError):
-        raise Stop(values.NUM) from None
-
-
-def last_of(first):
-    """The last day of a month, by its first."""
-    return first.replace(day=calendar.monthrange(first.year, first.month)[1])
+def days_between(formula, end, start):
+    end, start = integer(formula, end), integer(formula, start)
+    days.day(end)
+    days.day(start)
+    return values.whole(end - start)
 
 
 @function("EDATE", 2, 2)
 def same_day(formula, start, months):
-    found = day(formula, start)
-    first = months_on(found, integer(formula, months))
-    result = first.replace(day=min(found.day, last_of(first).day))
-    return values.whole(serial_of(result.year, result.month, result.day))
+    start, months = integer(formula, start), integer(formula, months)
+    found = days.day(start)
+    month = found.month + months
+    last = days.last_of(found.year, month)
+    return days.shown(min(days.serial(found.year, month, found.day), last))
 
 
 @function("EOMONTH", 2, 2)
 def month_end(formula, start, months):
-    found = day(formula, start)
-    result = last_of(months_on(found, integer(formula, months)))
-    return values.whole(serial_of(result.year, result.month, result.day))
+    start, months = integer(formula, start), integer(formula, months)
+    found = days.day(start)
+    return days.shown(days.last_of(found.year, found.month + months))
 
 
 @function("TODAY", 0, 0)

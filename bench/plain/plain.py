@@ -1,12 +1,13 @@
 """The plain machine for `sheetrun`: the same words, the script on standard input or in a file."""
 
 import datetime
+import os
 import re
 import sys
 
 import files
 import script
-from functions import DAY_ZERO
+from days import DAY_ZERO
 from workbook import Session
 
 USAGE = ("usage: sheetrun [--undo-limit N] [--strict] [--script FILE] [--generate N]"
@@ -16,6 +17,10 @@ WITH_ARGUMENT = ("--undo-limit", "--script", "--generate")
 
 class NoMeaning(Exception):
     """The words say nothing that can be done."""
+
+
+class NoOutput(Exception):
+    """Standard output can't be written."""
 
 
 def must(holds):
@@ -56,7 +61,23 @@ def read_words(words):
 
 
 def run(words, read, write):
-    """Does what the words say, and answers the status. `read` gives standard input."""
+    """Does what the words say, and answers the status. `read` gives standard input, and `write`
+    writes a line; both may raise OSError."""
+
+    def write_or_end(line):
+        try:
+            write(line)
+        except OSError:
+            raise NoOutput from None
+
+    try:
+        return answered(words, read, write_or_end)
+    except NoOutput:
+        return 6
+
+
+def answered(words, read, write):
+    """The same, where what is written ends it with NoOutput, if it must."""
     try:
         for word in words:
             word.encode()
@@ -75,7 +96,7 @@ def run(words, read, write):
             session.add_sheet("Sheet1")
             session.done.clear()
         if name is None:
-            data = files.within_limit(read())
+            data = files.standard_input(read)
         else:
             data = files.content("script", name)
     except files.Ends as end:
@@ -86,14 +107,15 @@ def run(words, read, write):
 
 def main():
     def write(line):
-        sys.stdout.buffer.write(line.encode() + b"\n")
+        data = line.encode() + b"\n"
+        while data:
+            data = data[os.write(1, data):]
 
     def read():
-        return sys.stdin.buffer.read(files.FILE_BYTES + 1)
+        with open(0, "rb", closefd=False) as stdin:
+            return stdin.read(files.FILE_BYTES + 1)
 
-    status = run(sys.argv[1:], read, write)
-    sys.stdout.buffer.flush()
-    return status
+    return run(sys.argv[1:], read, write)
 
 
 if __name__ == "__main__":

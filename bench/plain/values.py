@@ -1,5 +1,6 @@
 """Values: nothing, numbers, texts, truth values and faults; what they are as others, and their order."""
 
+import string
 from dataclasses import dataclass
 
 import numbers
@@ -66,14 +67,18 @@ def text(characters):
     return Text(characters)
 
 
+CAPITALS, SMALL = string.ascii_uppercase, string.ascii_lowercase
+TO_SMALL, TO_CAPITAL = str.maketrans(CAPITALS, SMALL), str.maketrans(SMALL, CAPITALS)
+
+
 def small(characters):
     """The text with its ASCII capitals as small letters."""
-    return "".join(chr(ord(c) + 32) if "A" <= c <= "Z" else c for c in characters)
+    return characters.translate(TO_SMALL)
 
 
 def capital(characters):
     """The text with its small ASCII letters as capitals."""
-    return "".join(chr(ord(c) - 32) if "a" <= c <= "z" else c for c in characters)
+    return characters.translate(TO_CAPITAL)
 
 
 def truth_spelled(characters):

@@ -48,7 +48,7 @@ class Span:
 
 
 def sheet_name_is_valid(name):
-    controls = any(ord(c) < 32 or 127 <= ord(c) < 160 for c in name)
+    controls = any(ord(c) < 32 or ord(c) == 127 for c in name)
     return 1 <= len(name.encode()) <= SHEET_NAME_BYTES and not controls
 
 
