@@ -1,5 +1,6 @@
 pub mod Seen
 pub mod Engine
 pub mod Kept
+pub mod TakenApart
 pub mod Calls
 pub mod internal

@@ -5,6 +5,7 @@ pub mod ShownNames
 pub mod Links
 pub mod Pasting
 pub mod Touched
+pub mod Opposites
 pub mod Props
 pub mod FormulaProp
 pub mod FitsProp

@@ -1,8 +1,9 @@
 // The engine, and its calls.
-ghost use Rattle.std.specs.Prelude.{◌≡◌, ◌≤◌, All, IfOk, OnOk, length, option_map};
+ghost use Rattle.std.specs.Prelude.{◌≡◌, ◌≤◌, All, IfOk, OnErr, OnOk, length, option_map};
 ghost use Rattle.cell_addr.specs.Place.{covers, same_place};
 ghost use Rattle.cell_addr.specs.Sheets.{id_in, name_in};
 ghost use Rattle.shift_core.specs.declared.shift.Shift.TheVariants as shifts;
+ghost use Rattle.dep_graph.specs.Nodes.{items_of};
 ghost use Rattle.formula_tree.specs.Relative.{relative};
 ghost use Rattle.book_model.specs.Answers.{content_text, dependents_of, formula_of, name_value_of, precedents_of, tried_value, value_of};
 ghost use Rattle.book_model.specs.Given.{CanBegin, given_sheets, session_given};
@@ -24,6 +25,7 @@ use calc_eval::Customs;
 use cell_addr::{Block, Place, SheetNames, Text};
 use cell_value::Scalar;
 use clip_board::Clip;
+use dep_graph::Nodes;
 use formula_tree::Link;
 use kept_steps::Entry;
 use lazy_store::Stored;
@@ -41,16 +43,17 @@ use undo_book::UndoBook;
 /// Values are kept from one read to the next. The first read of a value works the whole workbook out. A change marks what it
 /// touches, and the next read works out what the marks reach, each cell and name once, in an order in which each comes after what it
 /// needs; nothing is worked out before that. A change of cells and a paste mark these cells; a structural operation takes along what
-/// is kept, and marks the formulas that it bends or that ask where a reference is; a name that gets another formula is marked, with
-/// one that is removed each formula that used it, and with one that is added each formula with a word that found none. Undo and redo
-/// of changes of cells mark these, and of one structural operation they take back or along what is kept; after those of anything
-/// else, and of a dropped sheet, the next read works the whole workbook out.
+/// is kept, and marks the formulas that it bends or that ask where a reference is, the cells of a moved block and of where it goes,
+/// and the names of a dropped sheet; a name that gets another formula is marked, with one that is removed each formula that used it,
+/// and with one that is added each formula with a word that found none. Undo and redo of changes of cells mark these, and of one
+/// structural operation they take back or along what is kept; after those of anything else, and of a dropped sheet, the next read
+/// works the whole workbook out. Each call says by a clause, `marks`, `left` or `values`, which marks there are after it.
 #[derive(Drop)]
 pub struct Engine<C: Customs> {
-    parts: Parts,
-    waiting: Waiting,
-    customs: C,
-    day: i32,
+    pub(crate) parts: Parts,
+    pub(crate) waiting: Waiting,
+    pub(crate) customs: C,
+    pub(crate) day: i32,
     ghost fits: { Fits parts } by { fits-prop parts },
     ghost follow: { ValuesFollow (C.customs customs) day parts } by { follow-prop (C.customs customs) day parts },
 }
@@ -58,7 +61,7 @@ pub struct Engine<C: Customs> {
 #[tactic(auto, unfolding(crate::specs::Engine::StandsFor))]
 impl<C: Customs> Engine<C> {
     ghost use Rattle.book_engine.specs.Engine.{Does, DoesAlways, NoAnswer, StandsFor};
-    ghost use Rattle.book_engine.specs.Kept.{GoesOn, KeepsAll, KeepsAtPaste, KeepsAtShift, KeepsEarlier, KeepsElsewhere, KeepsInUse, KeepsValues, MarksCells, TriesOut, WorksOut, book_kept, stored_by, values_kept, whole_sheet};
+    ghost use Rattle.book_engine.specs.Kept.{GoesOn, KeepsAll, KeepsAtPaste, KeepsAtShift, KeepsEarlier, KeepsElsewhere, KeepsInUse, KeepsLine, KeepsValues, LeavesLine, MarksCells, MarksNameAdded, MarksNameChanged, MarksNameRemoved, MarksOperation, MarksPaste, MarksRedone, MarksUndone, TriesOut, WorksOut, book_kept, marks_kept, stored_by, values_kept, whole_sheet};
 
     /// The engine of a workbook with these sheets, numbered from 0 in their order, and these texts in their cells. All
     /// formulas are read when all sheets are there. At most `limit` steps can be undone, which is at most 1,000. Formulas
@@ -117,7 +120,9 @@ impl<C: Customs> Engine<C> {
     fn structural(&mut self, s: Shift) -> Result<(), Stop>
         ensures does { Does C.customs (op.structural s) NoAnswer self.old self.new result }
         ensures line { OnOk result (GoesOn s self.old self.new) }
+        ensures line_err { LeavesLine result self.old self.new }
         ensures kept { KeepsAtShift self.old self.new }
+        ensures marks { OnOk result (MarksOperation s self.old self.new) }
     {
         self.parts.structural(&s)?;
         self.waiting.clear_cut();
@@ -132,7 +137,9 @@ impl<C: Customs> Engine<C> {
     pub fn insert_rows(&mut self, sheet: u32, at: u32, count: u32) -> Result<(), Stop>
         ensures does { Does C.customs (op.structural (shifts.InsertRows sheet at count)) NoAnswer self.old self.new result }
         ensures line { OnOk result (GoesOn (shifts.InsertRows sheet at count) self.old self.new) }
+        ensures line_err { LeavesLine result self.old self.new }
         ensures kept { KeepsAtShift self.old self.new }
+        ensures marks { OnOk result (MarksOperation (shifts.InsertRows sheet at count) self.old self.new) }
     {
         self.structural(Shift::InsertRows { sheet, at, count })
     }
@@ -144,7 +151,9 @@ impl<C: Customs> Engine<C> {
     pub fn delete_rows(&mut self, sheet: u32, at: u32, count: u32) -> Result<(), Stop>
         ensures does { Does C.customs (op.structural (shifts.DeleteRows sheet at count)) NoAnswer self.old self.new result }
         ensures line { OnOk result (GoesOn (shifts.DeleteRows sheet at count) self.old self.new) }
+        ensures line_err { LeavesLine result self.old self.new }
         ensures kept { KeepsAtShift self.old self.new }
+        ensures marks { OnOk result (MarksOperation (shifts.DeleteRows sheet at count) self.old self.new) }
     {
         self.structural(Shift::DeleteRows { sheet, at, count })
     }
@@ -153,7 +162,9 @@ impl<C: Customs> Engine<C> {
     pub fn insert_cols(&mut self, sheet: u32, at: u32, count: u32) -> Result<(), Stop>
         ensures does { Does C.customs (op.structural (shifts.InsertCols sheet at count)) NoAnswer self.old self.new result }
         ensures line { OnOk result (GoesOn (shifts.InsertCols sheet at count) self.old self.new) }
+        ensures line_err { LeavesLine result self.old self.new }
         ensures kept { KeepsAtShift self.old self.new }
+        ensures marks { OnOk result (MarksOperation (shifts.InsertCols sheet at count) self.old self.new) }
     {
         self.structural(Shift::InsertCols { sheet, at, count })
     }
@@ -162,7 +173,9 @@ impl<C: Customs> Engine<C> {
     pub fn delete_cols(&mut self, sheet: u32, at: u32, count: u32) -> Result<(), Stop>
         ensures does { Does C.customs (op.structural (shifts.DeleteCols sheet at count)) NoAnswer self.old self.new result }
         ensures line { OnOk result (GoesOn (shifts.DeleteCols sheet at count) self.old self.new) }
+        ensures line_err { LeavesLine result self.old self.new }
         ensures kept { KeepsAtShift self.old self.new }
+        ensures marks { OnOk result (MarksOperation (shifts.DeleteCols sheet at count) self.old self.new) }
     {
         self.structural(Shift::DeleteCols { sheet, at, count })
     }
@@ -175,7 +188,9 @@ impl<C: Customs> Engine<C> {
     pub fn move_rows(&mut self, sheet: u32, from: u32, count: u32, before: u32) -> Result<(), Stop>
         ensures does { Does C.customs (op.structural (shifts.MoveRows sheet from count before)) NoAnswer self.old self.new result }
         ensures line { OnOk result (GoesOn (shifts.MoveRows sheet from count before) self.old self.new) }
+        ensures line_err { LeavesLine result self.old self.new }
         ensures kept { KeepsAtShift self.old self.new }
+        ensures marks { OnOk result (MarksOperation (shifts.MoveRows sheet from count before) self.old self.new) }
     {
         self.structural(Shift::MoveRows {
             sheet,
@@ -190,7 +205,9 @@ impl<C: Customs> Engine<C> {
     pub fn move_cols(&mut self, sheet: u32, from: u32, count: u32, before: u32) -> Result<(), Stop>
         ensures does { Does C.customs (op.structural (shifts.MoveCols sheet from count before)) NoAnswer self.old self.new result }
         ensures line { OnOk result (GoesOn (shifts.MoveCols sheet from count before) self.old self.new) }
+        ensures line_err { LeavesLine result self.old self.new }
         ensures kept { KeepsAtShift self.old self.new }
+        ensures marks { OnOk result (MarksOperation (shifts.MoveCols sheet from count before) self.old self.new) }
     {
         self.structural(Shift::MoveCols {
             sheet,
@@ -209,7 +226,9 @@ impl<C: Customs> Engine<C> {
     pub fn move_block(&mut self, source: Block, to: Place) -> Result<(), Stop>
         ensures does { Does C.customs (op.structural (shifts.MoveBlock source to)) NoAnswer self.old self.new result }
         ensures line { OnOk result (GoesOn (shifts.MoveBlock source to) self.old self.new) }
+        ensures line_err { LeavesLine result self.old self.new }
         ensures kept { KeepsAtShift self.old self.new }
+        ensures marks { OnOk result (MarksOperation (shifts.MoveBlock source to) self.old self.new) }
     {
         self.structural(Shift::MoveBlock { source, to })
     }
@@ -236,7 +255,9 @@ impl<C: Customs> Engine<C> {
     pub fn drop_sheet(&mut self, sheet: u32) -> Result<(), Stop>
         ensures does { Does C.customs (op.structural (shifts.DropSheet sheet)) NoAnswer self.old self.new result }
         ensures line { OnOk result (GoesOn (shifts.DropSheet sheet) self.old self.new) }
+        ensures line_err { LeavesLine result self.old self.new }
         ensures kept { KeepsAtShift self.old self.new }
+        ensures marks { OnOk result (MarksOperation (shifts.DropSheet sheet) self.old self.new) }
     {
         self.structural(Shift::DropSheet { sheet })
     }
@@ -270,7 +291,8 @@ impl<C: Customs> Engine<C> {
     }
 
     /// Adds a name with the formula of the text: in the scope of a sheet, or of the whole workbook where there is none. Every
-    /// reference of it has both `$`, and in a name of the whole workbook its sheet.
+    /// reference of it has both `$`, and in a name of the whole workbook its sheet. Marks the name, each formula with a word that
+    /// found no name, and each that used the whole workbook's name of the word; or nothing is kept any more.
     ///
     /// # Errors
     /// `NoSheet` for a scope that doesn't exist, `NameInvalid` where the word isn't of the form of a name
@@ -280,13 +302,15 @@ impl<C: Customs> Engine<C> {
     pub fn add_name(&mut self, name: &str, scope: Option<u32>, text: &str) -> Result<(), Stop>
         ensures does { Does C.customs (op.add_name name.now scope text.now) NoAnswer self.old self.new result }
         ensures kept { KeepsInUse self.old self.new }
+        ensures marks { OnOk result (MarksNameAdded scope name.now self.old self.new) }
+        ensures left { OnErr result (KeepsValues self.old self.new) }
     {
         self.parts.add_name(name, scope, text)?;
         self.waiting.clear_cut();
         Ok(())
     }
 
-    /// Gives a name of the scope another formula.
+    /// Gives a name of the scope another formula. Marks the name alone; or nothing is kept any more.
     ///
     /// # Errors
     /// `NoSheet`, `NoSuchName` where the scope hasn't the name, and `TextLimit`, `BadFormula` and `RelativeAddress` as for
@@ -294,19 +318,23 @@ impl<C: Customs> Engine<C> {
     pub fn change_name(&mut self, name: &str, scope: Option<u32>, text: &str) -> Result<(), Stop>
         ensures does { Does C.customs (op.change_name name.now scope text.now) NoAnswer self.old self.new result }
         ensures kept { KeepsInUse self.old self.new }
+        ensures marks { OnOk result (MarksNameChanged scope name.now self.old self.new) }
+        ensures left { OnErr result (KeepsValues self.old self.new) }
     {
         self.parts.change_name(name, scope, text)?;
         self.waiting.clear_cut();
         Ok(())
     }
 
-    /// Takes a name of the scope away.
+    /// Takes a name of the scope away. Marks the name, and each formula that used it; or nothing is kept any more.
     ///
     /// # Errors
     /// `NoSheet`, `NoSuchName`.
     pub fn remove_name(&mut self, name: &str, scope: Option<u32>) -> Result<(), Stop>
         ensures does { Does C.customs (op.remove_name name.now scope) NoAnswer self.old self.new result }
         ensures kept { KeepsInUse self.old self.new }
+        ensures marks { OnOk result (MarksNameRemoved scope name.now self.old self.new) }
+        ensures left { OnErr result (KeepsValues self.old self.new) }
     {
         self.parts.remove_name(name, scope)?;
         self.waiting.clear_cut();
@@ -340,8 +368,8 @@ impl<C: Customs> Engine<C> {
 
     /// Pastes what waits, its first cell at a place. After a copy each cell of the block there holds what the copied one
     /// held, or nothing, and formulas are as far from what they name as before; after a cut the block is moved, and nothing
-    /// waits then. Costs the copied cells and the filled ones of the block there, each with the logarithm of the number of filled
-    /// cells.
+    /// waits then. Marks cells of the block there, or keeps nothing any more; after a cut marks what [`Engine::move_block`] does.
+    /// Costs the copied cells and the filled ones of the block there, each with the logarithm of the number of filled cells.
     ///
     /// # Errors
     /// `NothingToPaste`; then after a copy `NoSheet`, `Outside` where the block there isn't within the limits of a sheet,
@@ -349,6 +377,7 @@ impl<C: Customs> Engine<C> {
     pub fn paste(&mut self, at: Place) -> Result<(), Stop>
         ensures does { Does C.customs (op.paste at) NoAnswer self.old self.new result }
         ensures kept { KeepsAtPaste self.old.waiting.clip self.old self.new }
+        ensures marks { OnOk result (MarksPaste self.old.waiting.clip at self.old self.new) }
     {
         if let Some(source) = self.waiting.cut_area() {
             return self.move_block(source, at);
@@ -406,11 +435,17 @@ impl<C: Customs> Engine<C> {
     /// the step changed and the lines that its operations edited; a step that changed names or sheets copies their table once,
     /// and one of several operations of which one is structural the cells.
     ///
+    /// Where the step is one structural operation, what is kept of values goes back with it: marked are the cells that come back, the
+    /// formulas that it may have bent, those that ask where a reference is or have lost one, and the cells of a block that goes back
+    /// and of where that goes. Where it changed cells alone, these are marked; after any other step nothing is kept any more.
+    ///
     /// # Errors
     /// `BatchOpen`, `NothingToUndo`.
     pub fn undo(&mut self) -> Result<(), Stop>
         ensures does { Does C.customs op.undo NoAnswer self.old self.new result }
+        ensures line_err { OnErr result (KeepsLine self.old self.new) }
         ensures kept { KeepsAll self.old self.new }
+        ensures marks { OnOk result (MarksUndone self.old self.new) }
     {
         self.parts.undo()?;
         self.waiting.clear_cut();
@@ -418,13 +453,16 @@ impl<C: Customs> Engine<C> {
     }
 
     /// Goes forward again to the whole workbook from after the step that was undone last; a change ends that. Costs what
-    /// [`Engine::undo`] does.
+    /// [`Engine::undo`] does. Where the step is one structural operation that has an opposite, marks what that call does; where it
+    /// changed cells alone, these; after any other step nothing is kept any more.
     ///
     /// # Errors
     /// `BatchOpen`, `NothingToRedo`.
     pub fn redo(&mut self) -> Result<(), Stop>
         ensures does { Does C.customs op.redo NoAnswer self.old self.new result }
+        ensures line_err { OnErr result (KeepsLine self.old self.new) }
         ensures kept { KeepsAll self.old self.new }
+        ensures marks { OnOk result (MarksRedone self.old self.new) }
     {
         self.parts.redo()?;
         self.waiting.clear_cut();
@@ -438,6 +476,7 @@ impl<C: Customs> Engine<C> {
     /// `Suspended` where the computation is suspended or a batch is open, `NoSheet`, `Outside`.
     pub fn value<L: Ledger>(&mut self, at: Place, steps: &mut Steps<L>) -> Result<Scalar, Stop>
         ensures does { Does C.customs (op.value at) (λ d scalar. scalar ≡ value_of d at) self.old self.new result }
+        ensures line { KeepsLine self.old self.new }
         ensures unmarked { OnOk result (IsUnmarked (values_kept self.new)) }
         ensures least { steps.old ≤ steps.new }
         ensures most { WorksOut self.old steps.old steps.new }
@@ -457,6 +496,7 @@ impl<C: Customs> Engine<C> {
         steps: &mut Steps<L>,
     ) -> Result<Scalar, Stop>
         ensures does { Does C.customs (op.name_value name.now sheet) (λ d scalar. scalar ≡ name_value_of d name.now sheet) self.old self.new result }
+        ensures line { KeepsLine self.old self.new }
         ensures unmarked { OnOk result (IsUnmarked (values_kept self.new)) }
         ensures least { steps.old ≤ steps.new }
         ensures most { WorksOut self.old steps.old steps.new }
@@ -477,6 +517,7 @@ impl<C: Customs> Engine<C> {
         steps: &mut Steps<L>,
     ) -> Result<Scalar, Stop>
         ensures does { Does C.customs (op.try_formula sheet text.now) (λ d scalar. scalar ≡ tried_value d sheet text.now) self.old self.new result }
+        ensures line { KeepsLine self.old self.new }
         ensures unmarked { OnOk result (IsUnmarked (values_kept self.new)) }
         ensures least { steps.old ≤ steps.new }
         ensures most { TriesOut self.old sheet text.now steps.old steps.new }
@@ -491,6 +532,7 @@ impl<C: Customs> Engine<C> {
     /// `NoSheet`, `Outside`.
     pub fn formula(&mut self, at: Place) -> Result<Option<Text>, Stop>
         ensures does { Does C.customs (op.formula at) (λ d text. text ≡ formula_of d at) self.old self.new result }
+        ensures line { KeepsLine self.old self.new }
         ensures kept { KeepsElsewhere at self.old self.new }
         ensures values { KeepsValues self.old self.new }
     {
@@ -503,6 +545,7 @@ impl<C: Customs> Engine<C> {
     /// `NoSheet`, `Outside`.
     pub fn content(&mut self, at: Place) -> Result<Text, Stop>
         ensures does { Does C.customs (op.content at) (λ d text. text ≡ content_text d at) self.old self.new result }
+        ensures line { KeepsLine self.old self.new }
         ensures kept { KeepsElsewhere at self.old self.new }
         ensures values { KeepsValues self.old self.new }
     {
@@ -517,6 +560,7 @@ impl<C: Customs> Engine<C> {
     /// `NoSheet`, `Outside`.
     pub fn precedents(&mut self, at: Place) -> Result<Vec<Link>, Stop>
         ensures does { Does C.customs (op.precedents at) (λ d links. links.items ≡ precedents_of d at) self.old self.new result }
+        ensures line { KeepsLine self.old self.new }
         ensures inside { IfOk result (λ links. All IsLinkInside links.items) }
         ensures kept { KeepsElsewhere at self.old self.new }
         ensures values { KeepsValues self.old self.new }
@@ -533,6 +577,7 @@ impl<C: Customs> Engine<C> {
     /// `NoSheet`, `Outside`.
     pub fn dependents(&mut self, at: Place) -> Result<Vec<Link>, Stop>
         ensures does { Does C.customs (op.dependents at) (λ d links. links.items ≡ dependents_of d at) self.old self.new result }
+        ensures line { KeepsLine self.old self.new }
         ensures inside { IfOk result (λ links. All IsLinkInside links.items) }
     {
         self.parts.dependents(at)
@@ -581,5 +626,14 @@ impl<C: Customs> Engine<C> {
         ensures { result.now ≡ (book_kept self.now).lazy.line }
     {
         self.parts.session.book.lazy.line()
+    }
+
+    /// The marks: what was touched since the kept values were worked out, each cell and name once. `None` where nothing is kept, so
+    /// that the next read of a value works the whole workbook out.
+    pub fn marks(&self) -> Option<&Nodes>
+        ensures { option_map (λ nodes. items_of nodes.now) result ≡ marks_kept self.now }
+    {
+        let values = self.parts.values.values.as_ref()?;
+        Some(values.marks())
     }
 }

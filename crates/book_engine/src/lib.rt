@@ -10,6 +10,9 @@
 //! engine.insert_rows(sheet, 1, 1)?;
 //! engine.formula(a1)?       // =B3*2
 //! ```
+//!
+//! [`EngineParts`] are all that an engine consists of: [`Engine::parts`] takes it apart into them, [`Engine::joined`] makes it of
+//! them again.
 #![tactic(auto)]
 
 mod absolute;
@@ -27,9 +30,11 @@ mod shifting;
 mod shown_name;
 mod stepping;
 mod stop;
+mod taken_apart;
 mod undoing;
 mod waiting;
 
 pub use engine::Engine;
 pub use kept_steps::Entry;
 pub use stop::Stop;
+pub use taken_apart::EngineParts;

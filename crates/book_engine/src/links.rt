@@ -43,6 +43,7 @@ impl Parts {
         ensures fits { Fits self.new }
         ensures inside { IfOk result (λ links. All IsLinkInside links.items) }
         ensures kept { KeepsElsewhere at self.old.session.book self.new.session.book }
+        ensures line { self.new.session.book.lazy.line ≡ self.old.session.book.lazy.line }
         ensures follow { ValuesFollowStill self.old self.new }
         ensures values { self.new.values ≡ self.old.values }
     {
@@ -58,6 +59,7 @@ impl Parts {
         ensures turns { Turns (op.dependents at) (λ d links. links.items ≡ dependents_of d at) (state_of self.old) (state_of self.new) result }
         ensures fits { Fits self.new }
         ensures inside { IfOk result (λ links. All IsLinkInside links.items) }
+        ensures line { self.new.session.book.lazy.line ≡ self.old.session.book.lazy.line }
         ensures follow { ValuesFollowStill self.old self.new }
     {
         self.check_place(at)?;
@@ -70,6 +72,7 @@ impl Parts {
         ensures links { IfOk result (λ links. links.items ≡ precedents_of (state_of self.old) at) }
         ensures state { state_of self.new ≡ state_of self.old }
         ensures kept { KeepsElsewhere at self.old.session.book self.new.session.book }
+        ensures line { self.new.session.book.lazy.line ≡ self.old.session.book.lazy.line }
         ensures follow { ValuesFollowStill self.old self.new }
         ensures values { self.new.values ≡ self.old.values }
     {
@@ -84,6 +87,7 @@ impl Parts {
         ensures mentions { IfOk result (λ list. list.items ≡ mentioned (nodes.content_tree (fin.get (state_of self.old).book.cells at))) }
         ensures state { state_of self.new ≡ state_of self.old }
         ensures kept { KeepsElsewhere at self.old.session.book self.new.session.book }
+        ensures line { self.new.session.book.lazy.line ≡ self.old.session.book.lazy.line }
         ensures follow { ValuesFollowStill self.old self.new }
         ensures values { self.new.values ≡ self.old.values }
     {
@@ -136,6 +140,7 @@ impl Parts {
         requires follow { (customs : List (List ℕ × Rule)) × (today : ℤ) × ValuesFollow customs today self.old }
         ensures links { IfOk result (λ links. links.items ≡ dependents_of (state_of self.old) at) }
         ensures state { state_of self.new ≡ state_of self.old }
+        ensures line { self.new.session.book.lazy.line ≡ self.old.session.book.lazy.line }
         ensures follow { ValuesFollowStill self.old self.new }
     {
         let users = self.users(at)?;

@@ -1,5 +1,6 @@
 // Named expressions that are added, changed and removed.
-ghost use Rattle.std.specs.Prelude.{◌≡◌, Some};
+ghost use Rattle.std.specs.Prelude.{◌≡◌, OnErr, OnOk, Some};
+ghost use Rattle.book_values.specs.Names.{key_of};
 ghost use Rattle.name_table.specs.Listed.{listed};
 ghost use Rattle.formula_tree.specs.Proper.{IsProper};
 ghost use Rattle.formula_tree.specs.Reference.{IsHomeInside, sheet_of};
@@ -11,6 +12,7 @@ ghost use Rattle.book_model.specs.Operation as op;
 ghost use Rattle.book_model.specs.Refusals.{first_cause, of_name_text, of_tried_text};
 ghost use Rattle.kept_book.specs.Formula.{tree_in_scope};
 ghost use Rattle.kept_steps.specs.Kept.{KeepsInUse};
+ghost use Rattle.session_values.specs.Naming.{MarksAddition, MarksChange, MarksRemoval};
 ghost use Rattle.book_engine.specs.Engine.{NoAnswer};
 ghost use Rattle.book_engine.specs.Seen.{Fits, ValuesFollowStill, state_of};
 ghost use Rattle.book_engine.specs.internal.Names.{Reads};
@@ -40,6 +42,8 @@ impl Parts {
         ensures fits { Fits self.new }
         ensures kept { KeepsInUse self.old.session self.new.session.book.lazy }
         ensures follow { ValuesFollowStill self.old self.new }
+        ensures marks { OnOk result (MarksAddition scope name.now self.new.session self.old.values.values self.new.values.values) }
+        ensures left { OnErr result (self.new.values ≡ self.old.values) }
     {
         self.check_new_name(name, scope)?;
         let Session { pool, book, .. } = &mut self.session;
@@ -61,6 +65,8 @@ impl Parts {
         ensures fits { Fits self.new }
         ensures kept { KeepsInUse self.old.session self.new.session.book.lazy }
         ensures follow { ValuesFollowStill self.old self.new }
+        ensures marks { OnOk result (MarksChange (key_of scope name.now) self.new.session self.old.values.values self.new.values.values) }
+        ensures left { OnErr result (self.new.values ≡ self.old.values) }
     {
         self.check_known_name(name, scope)?;
         let Session { pool, book, .. } = &mut self.session;
@@ -77,6 +83,8 @@ impl Parts {
         ensures fits { Fits self.new }
         ensures kept { KeepsInUse self.old.session self.new.session.book.lazy }
         ensures follow { ValuesFollowStill self.old self.new }
+        ensures marks { OnOk result (MarksRemoval (key_of scope name.now) self.new.session self.old.values.values self.new.values.values) }
+        ensures left { OnErr result (self.new.values ≡ self.old.values) }
     {
         self.check_known_name(name, scope)?;
         self.session.name(scope, name, None)?;

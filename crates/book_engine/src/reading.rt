@@ -44,6 +44,7 @@ impl Parts {
         requires follow { ValuesFollow (C.customs customs.now) day self.old }
         ensures turns { Turns (op.value at) (λ d scalar. scalar ≡ value_of d at) (with_rules (C.customs customs.now) day (state_of self.old)) (with_rules (C.customs customs.now) day (state_of self.new)) result }
         ensures fits { Fits self.new }
+        ensures line { self.new.session.book.lazy.line ≡ self.old.session.book.lazy.line }
         ensures follow { ValuesFollow (C.customs customs.now) day self.new }
         ensures unmarked { OnOk result (IsUnmarked self.new.values.values) }
         ensures least { steps.old ≤ steps.new }
@@ -68,6 +69,7 @@ impl Parts {
         requires follow { ValuesFollow (C.customs customs.now) day self.old }
         ensures turns { Turns (op.name_value name.now sheet) (λ d scalar. scalar ≡ name_value_of d name.now sheet) (with_rules (C.customs customs.now) day (state_of self.old)) (with_rules (C.customs customs.now) day (state_of self.new)) result }
         ensures fits { Fits self.new }
+        ensures line { self.new.session.book.lazy.line ≡ self.old.session.book.lazy.line }
         ensures follow { ValuesFollow (C.customs customs.now) day self.new }
         ensures unmarked { OnOk result (IsUnmarked self.new.values.values) }
         ensures least { steps.old ≤ steps.new }
@@ -93,6 +95,7 @@ impl Parts {
         requires follow { ValuesFollow (C.customs customs.now) day self.old }
         ensures turns { Turns (op.try_formula sheet text.now) (λ d scalar. scalar ≡ tried_value d sheet text.now) (with_rules (C.customs customs.now) day (state_of self.old)) (with_rules (C.customs customs.now) day (state_of self.new)) result }
         ensures fits { Fits self.new }
+        ensures line { self.new.session.book.lazy.line ≡ self.old.session.book.lazy.line }
         ensures follow { ValuesFollow (C.customs customs.now) day self.new }
         ensures unmarked { OnOk result (IsUnmarked self.new.values.values) }
         ensures least { steps.old ≤ steps.new }
@@ -119,6 +122,7 @@ impl Parts {
         requires follow { ValuesFollow (C.customs customs.now) day self.old }
         ensures shows { OnOk result (AreShowing (C.customs customs.now) day self.new.session self.new.values.values) }
         ensures state { state_of self.new ≡ state_of self.old }
+        ensures line { self.new.session.book.lazy.line ≡ self.old.session.book.lazy.line }
         ensures follow { ValuesFollow (C.customs customs.now) day self.new }
         ensures unmarked { OnOk result (IsUnmarked self.new.values.values) }
         ensures least { steps.old ≤ steps.new }
@@ -134,6 +138,7 @@ impl Parts {
         ensures turns { Turns (op.formula at) (λ d text. text ≡ formula_of d at) (state_of self.old) (state_of self.new) result }
         ensures fits { Fits self.new }
         ensures kept { KeepsElsewhere at self.old.session.book self.new.session.book }
+        ensures line { self.new.session.book.lazy.line ≡ self.old.session.book.lazy.line }
         ensures follow { ValuesFollowStill self.old self.new }
         ensures values { self.new.values ≡ self.old.values }
     {
@@ -148,6 +153,7 @@ impl Parts {
         ensures turns { Turns (op.content at) (λ d text. text ≡ content_text d at) (state_of self.old) (state_of self.new) result }
         ensures fits { Fits self.new }
         ensures kept { KeepsElsewhere at self.old.session.book self.new.session.book }
+        ensures line { self.new.session.book.lazy.line ≡ self.old.session.book.lazy.line }
         ensures follow { ValuesFollowStill self.old self.new }
         ensures values { self.new.values ≡ self.old.values }
     {
@@ -163,6 +169,7 @@ impl Parts {
         ensures text { IfOk result (λ text. text ≡ formula_of (state_of self.old) at) }
         ensures state { state_of self.new ≡ state_of self.old }
         ensures kept { KeepsElsewhere at self.old.session.book self.new.session.book }
+        ensures line { self.new.session.book.lazy.line ≡ self.old.session.book.lazy.line }
         ensures follow { ValuesFollowStill self.old self.new }
         ensures values { self.new.values ≡ self.old.values }
     {
@@ -201,6 +208,7 @@ impl Parts {
         ensures text { IfOk result (λ text. text ≡ content_text (state_of self.old) at) }
         ensures state { state_of self.new ≡ state_of self.old }
         ensures kept { KeepsElsewhere at self.old.session.book self.new.session.book }
+        ensures line { self.new.session.book.lazy.line ≡ self.old.session.book.lazy.line }
         ensures follow { ValuesFollowStill self.old self.new }
         ensures values { self.new.values ≡ self.old.values }
     {

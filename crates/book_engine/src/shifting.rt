@@ -1,8 +1,9 @@
 // Structural operations.
-ghost use Rattle.std.specs.Prelude.{OnOk};
+ghost use Rattle.std.specs.Prelude.{◌≡◌, OnOk};
 ghost use Rattle.book_model.specs.Operation as op;
 ghost use Rattle.kept_steps.specs.Kept.{GoesOn, KeepsAtShift};
 ghost use Rattle.book_engine.specs.Engine.{NoAnswer};
+ghost use Rattle.book_engine.specs.Kept.{LeavesLineIn, MarksAlong};
 ghost use Rattle.book_engine.specs.Seen.{Fits, ValuesFollowStill, state_of};
 ghost use Rattle.book_engine.specs.internal.Turns.{Turns};
 
@@ -18,8 +19,10 @@ impl Parts {
         ensures turns { Turns (op.structural s.now) NoAnswer (state_of self.old) (state_of self.new) result }
         ensures fits { Fits self.new }
         ensures line { OnOk result (GoesOn s.now self.old.session self.new.session.book.lazy) }
+        ensures line_err { LeavesLineIn result self.old.session self.new.session }
         ensures kept { KeepsAtShift self.old.session self.new.session.book.lazy }
         ensures follow { ValuesFollowStill self.old self.new }
+        ensures marks { OnOk result (MarksAlong s.now self.old.values.values self.new.values.values) }
     {
         self.check_structural(s)?;
         let touched = touched_by(&self.session, s)?;

@@ -5,14 +5,16 @@ ghost use Rattle.book_model.specs.Operation as op;
 ghost use Rattle.book_model.specs.Refusals.{cause};
 ghost use Rattle.book_model.specs.Session.{done};
 ghost use Rattle.kept_book.specs.Kept.{line_of};
-ghost use Rattle.kept_steps.specs.Turned.{is_listed, operation_of, to_redo, to_undo};
+ghost use Rattle.kept_steps.specs.Turned.{AreOfCells, is_listed, operation_of, to_redo, to_undo};
 ghost use Rattle.lazy_store.specs.Store.{KeepsAll};
 ghost use Rattle.recalc_core.specs.Shifted.{drops_scope};
-ghost use Rattle.session_values.specs.Touched.{AreTouchedAtMost, IsStepMarked};
+ghost use Rattle.session_values.specs.Touched.{AreTouched, AreTouchedAtMost, IsStepMarked};
 ghost use Rattle.shift_core.specs.Form.{form_of};
 ghost use Rattle.shift_core.specs.Opposite.{opposite_of};
 ghost use Rattle.shift_core.specs.Sound.{IsSound};
+ghost use Rattle.book_engine.specs.Kept.{KeepsLineIn, MarksAlong, MarksRedoneIn, MarksReturned, MarksUndoneIn};
 ghost use Rattle.book_engine.specs.Seen.{Fits, ValuesFollowStill, state_of};
+ghost use Rattle.book_engine.specs.internal.Opposites.{with_opposite_of};
 
 use crate::parts::Parts;
 use kept_steps::Session;
@@ -29,8 +31,10 @@ impl Parts {
         requires accepted { cause op.undo (state_of self.old) ≡ None }
         ensures ok { OnOk result (state_of self.new ≡ done op.undo (state_of self.old)) }
         ensures err { OnErr result (state_of self.new ≡ state_of self.old) }
+        ensures line_err { OnErr result (KeepsLineIn self.old.session self.new.session) }
         ensures kept { KeepsAll self.old.session.book.lazy self.new.session.book.lazy }
         ensures follow { ValuesFollowStill self.old self.new }
+        ensures marks { OnOk result (MarksUndoneIn self.old.session self.old.values.values self.new.values.values) }
     {
         match with_opposite(self.session.operation_undone()) {
             Some((s, back)) => self.operation_back(&s, &back),
@@ -47,8 +51,10 @@ impl Parts {
         requires opposite { opposite_of s.now ≡ Some back.now }
         ensures ok { OnOk result (state_of self.new ≡ done op.undo (state_of self.old)) }
         ensures err { OnErr result (state_of self.new ≡ state_of self.old) }
+        ensures line_err { OnErr result (KeepsLineIn self.old.session self.new.session) }
         ensures kept { KeepsAll self.old.session.book.lazy self.new.session.book.lazy }
         ensures follow { ValuesFollowStill self.old self.new }
+        ensures marks { OnOk result (MarksReturned s.now back.now (to_undo self.old.session) self.old.values.values self.new.values.values) }
     {
         let touched = touched_by(&self.session, back)?;
         let restored = restored_by(&self.session)?;
@@ -65,8 +71,10 @@ impl Parts {
         requires { self.old.session.batch ≡ None }
         ensures ok { OnOk result (state_of self.new ≡ done op.undo (state_of self.old)) }
         ensures err { OnErr result (state_of self.new ≡ state_of self.old) }
+        ensures line_err { OnErr result (KeepsLineIn self.old.session self.new.session) }
         ensures kept { KeepsAll self.old.session.book.lazy self.new.session.book.lazy }
         ensures follow { ValuesFollowStill self.old self.new }
+        ensures marks { AreOfCells (to_undo self.old.session) → AreTouched (is_listed (to_undo self.old.session)) self.old.values.values self.new.values.values }
     {
         touch_undone(&self.session, &mut self.values)?;
         self.session.undo()
@@ -78,8 +86,10 @@ impl Parts {
         requires closed { self.old.session.batch ≡ None }
         ensures ok { OnOk result (state_of self.new ≡ done op.redo (state_of self.old)) }
         ensures err { OnErr result (state_of self.new ≡ state_of self.old) }
+        ensures line_err { OnErr result (KeepsLineIn self.old.session self.new.session) }
         ensures kept { KeepsAll self.old.session.book.lazy self.new.session.book.lazy }
         ensures follow { ValuesFollowStill self.old self.new }
+        ensures marks { OnOk result (MarksRedoneIn self.old.session self.old.values.values self.new.values.values) }
     {
         match with_opposite(self.session.operation_redone()) {
             Some((s, _)) => self.operation_forth(&s),
@@ -95,8 +105,10 @@ impl Parts {
         requires names { drops_scope (form_of s.now) no_sheet ≡ false }
         ensures ok { OnOk result (state_of self.new ≡ done op.redo (state_of self.old)) }
         ensures err { OnErr result (state_of self.new ≡ state_of self.old) }
+        ensures line_err { OnErr result (KeepsLineIn self.old.session self.new.session) }
         ensures kept { KeepsAll self.old.session.book.lazy self.new.session.book.lazy }
         ensures follow { ValuesFollowStill self.old self.new }
+        ensures marks { OnOk result (MarksAlong s.now self.old.values.values self.new.values.values) }
     {
         let touched = touched_by(&self.session, s)?;
         let values = self.values.shifted(s, touched.items())?;
@@ -110,8 +122,10 @@ impl Parts {
         requires { self.old.session.batch ≡ None }
         ensures ok { OnOk result (state_of self.new ≡ done op.redo (state_of self.old)) }
         ensures err { OnErr result (state_of self.new ≡ state_of self.old) }
+        ensures line_err { OnErr result (KeepsLineIn self.old.session self.new.session) }
         ensures kept { KeepsAll self.old.session.book.lazy self.new.session.book.lazy }
         ensures follow { ValuesFollowStill self.old self.new }
+        ensures marks { AreOfCells (to_redo self.old.session) → AreTouched (is_listed (to_redo self.old.session)) self.old.values.values self.new.values.values }
     {
         touch_redone(&self.session, &mut self.values)?;
         self.session.redo()
@@ -121,6 +135,7 @@ impl Parts {
 // The operation, with the one that takes it back; `None` where there is none, or none takes it back.
 fn with_opposite(s: Option<Shift>) -> Option<(Shift, Shift)>
     requires { IfSome s IsSound }
+    ensures both { result ≡ with_opposite_of s }
     ensures operation { IfSome result (λ both. s ≡ Some both.0) }
     ensures opposite { IfSome result (λ both. opposite_of both.0 ≡ Some both.1) }
 {
@@ -132,6 +147,7 @@ fn with_opposite(s: Option<Shift>) -> Option<(Shift, Shift)>
 // Marks the cells of the step that is going to be taken back.
 fn touch_undone(session: &Session, values: &mut SessionValues) -> Result<(), AllocError>
     ensures touched { AreTouchedAtMost (is_listed (to_undo session.now)) values.old.values values.new.values }
+    ensures cells { AreOfCells (to_undo session.now) → AreTouched (is_listed (to_undo session.now)) values.old.values values.new.values }
     ensures marked { OnOk result (IsStepMarked (to_undo session.now) values.new.values) }
 {
     match session.steps.done().back() {
@@ -143,6 +159,7 @@ fn touch_undone(session: &Session, values: &mut SessionValues) -> Result<(), All
 // Marks the cells of the step that is going to be done again.
 fn touch_redone(session: &Session, values: &mut SessionValues) -> Result<(), AllocError>
     ensures touched { AreTouchedAtMost (is_listed (to_redo session.now)) values.old.values values.new.values }
+    ensures cells { AreOfCells (to_redo session.now) → AreTouched (is_listed (to_redo session.now)) values.old.values values.new.values }
     ensures marked { OnOk result (IsStepMarked (to_redo session.now) values.new.values) }
 {
     match session.steps.undone().last() {

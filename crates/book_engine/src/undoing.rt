@@ -1,8 +1,9 @@
 // Steps that can be undone and redone, batches of changes, and suspension.
-ghost use Rattle.std.specs.Prelude.{◌≡◌, true, false};
+ghost use Rattle.std.specs.Prelude.{◌≡◌, true, false, OnErr, OnOk};
 ghost use Rattle.book_model.specs.Operation as op;
 ghost use Rattle.lazy_store.specs.Store.{KeepsAll};
 ghost use Rattle.book_engine.specs.Engine.{NoAnswer};
+ghost use Rattle.book_engine.specs.Kept.{KeepsLineIn, MarksRedoneIn, MarksUndoneIn};
 ghost use Rattle.book_engine.specs.Seen.{Fits, ValuesFollowStill, state_of};
 ghost use Rattle.book_engine.specs.internal.Turns.{Turns};
 
@@ -71,9 +72,11 @@ impl Parts {
     pub(crate) fn undo(&mut self) -> Result<(), Stop>
         requires { Fits self.old }
         ensures turns { Turns op.undo NoAnswer (state_of self.old) (state_of self.new) result }
+        ensures line_err { OnErr result (KeepsLineIn self.old.session self.new.session) }
         ensures fits { Fits self.new }
         ensures kept { KeepsAll self.old.session.book.lazy self.new.session.book.lazy }
         ensures follow { ValuesFollowStill self.old self.new }
+        ensures marks { OnOk result (MarksUndoneIn self.old.session self.old.values.values self.new.values.values) }
     {
         if self.session.batch.is_some() {
             return Err(Stop::Refused(Refusal::BatchOpen));
@@ -89,9 +92,11 @@ impl Parts {
     pub(crate) fn redo(&mut self) -> Result<(), Stop>
         requires { Fits self.old }
         ensures turns { Turns op.redo NoAnswer (state_of self.old) (state_of self.new) result }
+        ensures line_err { OnErr result (KeepsLineIn self.old.session self.new.session) }
         ensures fits { Fits self.new }
         ensures kept { KeepsAll self.old.session.book.lazy self.new.session.book.lazy }
         ensures follow { ValuesFollowStill self.old self.new }
+        ensures marks { OnOk result (MarksRedoneIn self.old.session self.old.values.values self.new.values.values) }
     {
         if self.session.batch.is_some() {
             return Err(Stop::Refused(Refusal::BatchOpen));

@@ -1,3 +1,6 @@
+use Rattle.std.proofs.Common.{ap}
+use Rattle.std.proofs.lemmas.Result.{err_from_is_err_and}
+use Rattle.session_values.specs.declared.values.SessionValues.{SessionValues}
 use Rattle.book_engine.proofs.engine.Engine.add_name.Goals as goal
 
 pub invariant_of-self : goal.invariant_of-self
@@ -5,3 +8,12 @@ invariant_of-self g c = record { fits = c.add_name.ensures.fits; follow = c.add_
 
 pub invariant_of-self-2 : goal.invariant_of-self-2
 invariant_of-self-2 g c = record { fits = c.add_name.ensures.fits; follow = c.add_name.ensures.follow (g.C.Customs.customs c.args.self.now.customs) c.args.self.now.day c.args.self.now.follow }
+
+pub returns-clause-marks : goal.returns-clause-marks
+returns-clause-marks g c = c.in_ok-add_name.ensures.marks
+
+pub returns-in_err-add_name-clause-marks : goal.returns-in_err-add_name-clause-marks
+returns-in_err-add_name-clause-marks g c = rw (err_from_is_err_and c.from_residual.result c.from_residual.ensures.1).1 tt
+
+pub returns-in_err-add_name-clause-left : goal.returns-in_err-add_name-clause-left
+returns-in_err-add_name-clause-left g c = rw (err_from_is_err_and c.from_residual.result c.from_residual.ensures.1).1 (ap (λ (v : SessionValues). v.values) c.in_err-add_name.ensures.left)

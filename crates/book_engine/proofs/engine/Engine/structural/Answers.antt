@@ -1,3 +1,4 @@
+use Rattle.std.proofs.lemmas.Result.{err_from_is_err_and}
 use Rattle.book_engine.proofs.engine.Engine.structural.Goals as goal
 
 pub invariant_of-self : goal.invariant_of-self
@@ -5,3 +6,12 @@ invariant_of-self g c = record { fits = c.structural.ensures.fits; follow = c.st
 
 pub invariant_of-self-2 : goal.invariant_of-self-2
 invariant_of-self-2 g c = record { fits = c.structural.ensures.fits; follow = c.structural.ensures.follow (g.C.Customs.customs c.args.self.now.customs) c.args.self.now.day c.args.self.now.follow }
+
+pub returns-clause-marks : goal.returns-clause-marks
+returns-clause-marks g c = c.in_ok-structural.ensures.marks
+
+pub returns-in_err-structural-clause-marks : goal.returns-in_err-structural-clause-marks
+returns-in_err-structural-clause-marks g c = rw (err_from_is_err_and c.from_residual.result c.from_residual.ensures.1).1 tt
+
+pub returns-in_err-structural-clause-line_err : goal.returns-in_err-structural-clause-line_err
+returns-in_err-structural-clause-line_err g c = let p = err_from_is_err_and c.from_residual.result c.from_residual.ensures.1 in rw (p.1, p.2) c.in_err-structural.ensures.line_err

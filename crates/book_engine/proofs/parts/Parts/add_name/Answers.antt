@@ -58,3 +58,24 @@ returns-clause-follow c =
     let key = key_of c.args.scope c.args.name.now in
     follow_named key false (option_map (tree_in_scope c.args.scope) (Some c.in_ok-tree.tree)) c.args.self.now (record { session = c.name.new.self; values = c.name_added.new.self }) c.name.ensures.words c.in_ok-name.ensures.ok
     (third_misses (not (has_scope b c.args.scope)) (not (is_name c.args.name.now)) (has_name b key) refusals.NoSheet refusals.NameInvalid refusals.NameTaken c.in_ok-check_new_name.ensures) c.name_added.ensures.follows
+
+pub returns-clause-marks : goal.returns-clause-marks
+returns-clause-marks c = c.name_added.ensures.marks
+
+pub returns-in_err-check_new_name-clause-marks : goal.returns-in_err-check_new_name-clause-marks
+returns-in_err-check_new_name-clause-marks c = rw (err_from_is_err_and c.from_residual.result c.from_residual.ensures.1).1 tt
+
+pub returns-in_err-check_new_name-clause-left : goal.returns-in_err-check_new_name-clause-left
+returns-in_err-check_new_name-clause-left c = rw (err_from_is_err_and c.from_residual.result c.from_residual.ensures.1).1 refl
+
+pub returns-in_err-tree-clause-marks : goal.returns-in_err-tree-clause-marks
+returns-in_err-tree-clause-marks c = rw (err_from_is_err_and c.from_residual-in_err-tree.result c.from_residual-in_err-tree.ensures.1).1 tt
+
+pub returns-in_err-tree-clause-left : goal.returns-in_err-tree-clause-left
+returns-in_err-tree-clause-left c = rw (err_from_is_err_and c.from_residual-in_err-tree.result c.from_residual-in_err-tree.ensures.1).1 refl
+
+pub returns-in_err-name-clause-marks : goal.returns-in_err-name-clause-marks
+returns-in_err-name-clause-marks c = rw (err_from_is_err_and c.from_residual-in_err-name.result c.from_residual-in_err-name.ensures.1).1 tt
+
+pub returns-in_err-name-clause-left : goal.returns-in_err-name-clause-left
+returns-in_err-name-clause-left c = rw (err_from_is_err_and c.from_residual-in_err-name.result c.from_residual-in_err-name.ensures.1).1 refl

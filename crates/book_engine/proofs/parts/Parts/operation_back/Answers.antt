@@ -1,5 +1,6 @@
-use Rattle.std.proofs.Common.{◌≡◌, sym, subst, true, List}
+use Rattle.std.proofs.Common.{◌≡◌, sym, subst, true, List, refl}
 use Rattle.std.specs.Prelude.{IsTrue}
+use Rattle.std.proofs.lemmas.Result.{err_from_is_err_and}
 use Rattle.book_model.specs.Operation as op
 use Rattle.dep_graph.specs.Nodes.{has, items_of}
 use Rattle.dep_graph.specs.declared.node.Node.{Node}
@@ -44,3 +45,36 @@ returns-clause-follow c =
     (subst (λ (ns : List Node). AreKnown (words_in x) ns) (sym c.items.ensures) c.in_ok-touched.ensures.known)
     (subst (λ (ns : List Node). AreRemoved s (book_of c.undo.new.self) ns) (sym c.items-2.ensures) (are_removed x (state_of new) s (items_of c.in_ok-restored.restored) c.requires.operation c.in_ok-undo.ensures.lost c.in_ok-restored.ensures.listed))
     (subst (λ (ns : List Node). AreKnown (words_in x) ns) (sym c.items-2.ensures) (c.in_ok-restored.ensures.known (words_in x))) c.in_ok-values.ensures.follows
+
+pub returns-clause-marks : goal.returns-clause-marks
+returns-clause-marks c = record {
+  touched = c.items.result.now;
+  removed = c.items-2.result.now;
+  only = subst (λ (ns : List Node). (a : Node) → IsTrue (has a ns) → may_touch c.args.back.now a ≡ true) (sym c.items.ensures) c.in_ok-touched.ensures.only;
+  replaced = subst (λ (ns : List Node). (a : Node) → IsTrue (has a ns) → is_replaced_cell (to_undo c.args.self.now.session) a ≡ true) (sym c.items-2.ensures) c.in_ok-restored.ensures.only;
+  marks = c.in_ok-values.ensures.marks;
+}
+
+pub returns-in_err-touched-clause-marks : goal.returns-in_err-touched-clause-marks
+returns-in_err-touched-clause-marks c = rw (err_from_is_err_and c.from_residual.result c.from_residual.ensures.1).1 tt
+
+pub returns-in_err-touched-clause-line_err : goal.returns-in_err-touched-clause-line_err
+returns-in_err-touched-clause-line_err c = rw (err_from_is_err_and c.from_residual.result c.from_residual.ensures.1).1 refl
+
+pub returns-in_err-restored-clause-marks : goal.returns-in_err-restored-clause-marks
+returns-in_err-restored-clause-marks c = rw (err_from_is_err_and c.from_residual-in_err-restored.result c.from_residual-in_err-restored.ensures.1).1 tt
+
+pub returns-in_err-restored-clause-line_err : goal.returns-in_err-restored-clause-line_err
+returns-in_err-restored-clause-line_err c = rw (err_from_is_err_and c.from_residual-in_err-restored.result c.from_residual-in_err-restored.ensures.1).1 refl
+
+pub returns-in_err-values-clause-marks : goal.returns-in_err-values-clause-marks
+returns-in_err-values-clause-marks c = rw (err_from_is_err_and c.from_residual-in_err-values.result c.from_residual-in_err-values.ensures.1).1 tt
+
+pub returns-in_err-values-clause-line_err : goal.returns-in_err-values-clause-line_err
+returns-in_err-values-clause-line_err c = rw (err_from_is_err_and c.from_residual-in_err-values.result c.from_residual-in_err-values.ensures.1).1 refl
+
+pub returns-in_err-undo-clause-marks : goal.returns-in_err-undo-clause-marks
+returns-in_err-undo-clause-marks c = rw (err_from_is_err_and c.from_residual-in_err-undo.result c.from_residual-in_err-undo.ensures.1).1 tt
+
+pub returns-in_err-undo-clause-line_err : goal.returns-in_err-undo-clause-line_err
+returns-in_err-undo-clause-line_err c = rw (err_from_is_err_and c.from_residual-in_err-undo.result c.from_residual-in_err-undo.ensures.1).1 c.in_err-undo.ensures.line_err

@@ -1,5 +1,6 @@
-use Rattle.std.proofs.Common.{◌≡◌, sym, subst, true, List}
+use Rattle.std.proofs.Common.{◌≡◌, sym, subst, true, List, refl}
 use Rattle.std.specs.Prelude.{IsTrue}
+use Rattle.std.proofs.lemmas.Result.{err_from_is_err_and}
 use Rattle.dep_graph.specs.Nodes.{has}
 use Rattle.dep_graph.specs.declared.node.Node.{Node}
 use Rattle.recalc_core.specs.Laws.{AreKnown}
@@ -30,3 +31,28 @@ returns-clause-follow c =
     follow_forth s old (record { session = c.redo.new.self; values = c.in_ok-values.values }) c.items.result.now c.requires.fits c.requires.operation c.requires.names c.in_ok-redo.ensures.operation (more_as c.redo.ensures.words)
     (subst (λ (ns : List Node). HasTouched s (book_of x) (words_in x) ns) (sym c.items.ensures) c.in_ok-touched.ensures.touched)
     (subst (λ (ns : List Node). AreKnown (words_in x) ns) (sym c.items.ensures) c.in_ok-touched.ensures.known) c.in_ok-values.ensures.follows
+
+pub returns-clause-marks : goal.returns-clause-marks
+returns-clause-marks c = record {
+  touched = c.items.result.now;
+  only = subst (λ (ns : List Node). (a : Node) → IsTrue (has a ns) → may_touch c.args.s.now a ≡ true) (sym c.items.ensures) c.in_ok-touched.ensures.only;
+  marks = c.in_ok-values.ensures.marks;
+}
+
+pub returns-in_err-touched-clause-marks : goal.returns-in_err-touched-clause-marks
+returns-in_err-touched-clause-marks c = rw (err_from_is_err_and c.from_residual.result c.from_residual.ensures.1).1 tt
+
+pub returns-in_err-touched-clause-line_err : goal.returns-in_err-touched-clause-line_err
+returns-in_err-touched-clause-line_err c = rw (err_from_is_err_and c.from_residual.result c.from_residual.ensures.1).1 refl
+
+pub returns-in_err-values-clause-marks : goal.returns-in_err-values-clause-marks
+returns-in_err-values-clause-marks c = rw (err_from_is_err_and c.from_residual-in_err-values.result c.from_residual-in_err-values.ensures.1).1 tt
+
+pub returns-in_err-values-clause-line_err : goal.returns-in_err-values-clause-line_err
+returns-in_err-values-clause-line_err c = rw (err_from_is_err_and c.from_residual-in_err-values.result c.from_residual-in_err-values.ensures.1).1 refl
+
+pub returns-in_err-redo-clause-marks : goal.returns-in_err-redo-clause-marks
+returns-in_err-redo-clause-marks c = rw (err_from_is_err_and c.from_residual-in_err-redo.result c.from_residual-in_err-redo.ensures.1).1 tt
+
+pub returns-in_err-redo-clause-line_err : goal.returns-in_err-redo-clause-line_err
+returns-in_err-redo-clause-line_err c = rw (err_from_is_err_and c.from_residual-in_err-redo.result c.from_residual-in_err-redo.ensures.1).1 c.in_err-redo.ensures.line_err

@@ -1,4 +1,5 @@
 use Rattle.std.proofs.Common.{◌≡◌, ◌∙◌, ◌==◌, sym, ap, cond, false, length, Some, None, is_some}
+use Rattle.std.proofs.lemmas.Result.{err_from_is_err_and}
 use Rattle.book_model.specs.Operation as op
 use Rattle.book_model.specs.Refusals.{cause}
 use Rattle.book_model.specs.declared.refusal.Refusal.TheVariants.{BatchOpen, NothingToRedo}
@@ -39,3 +40,12 @@ returns-clause-fits c =
     let shut : is_some d.batch ≡ false = sym (is_some-map (batch_of t f) s.batch) ∙ sym c.is_some.ensures ∙ c.if-is_some.false in
     let some : (length d.redo == 0) ≡ false = ap (λ k. k == 0) (steps_ahead t f s.steps.undone ∙ sym (ap length c.undone.ensures.result)) ∙ sym c.is_empty.ensures ∙ c.if-is_empty.false in
     done_sound op.redo d _ (accepted d shut some) c.in_ok-step_forth.ensures.ok c.requires
+
+pub returns-clause-marks : goal.returns-clause-marks
+returns-clause-marks c = c.in_ok-step_forth.ensures.marks
+
+pub returns-in_err-step_forth-clause-marks : goal.returns-in_err-step_forth-clause-marks
+returns-in_err-step_forth-clause-marks c = rw (err_from_is_err_and c.from_residual.result c.from_residual.ensures.1).1 tt
+
+pub returns-in_err-step_forth-clause-line_err : goal.returns-in_err-step_forth-clause-line_err
+returns-in_err-step_forth-clause-line_err c = rw (err_from_is_err_and c.from_residual.result c.from_residual.ensures.1).1 c.in_err-step_forth.ensures.line_err

@@ -1,4 +1,5 @@
 use Rattle.std.proofs.Common.{refl, true, not, ◌∷◌, [], None}
+use Rattle.std.proofs.lemmas.Result.{err_from_is_err_and}
 use Rattle.book_values.specs.Names.{key_of}
 use Rattle.book_model.specs.Workbook.{has_name, has_scope}
 use Rattle.book_model.specs.declared.refusal.Refusal.TheVariants as refusals
@@ -27,3 +28,18 @@ returns-clause-follow c =
     let key = key_of c.args.scope c.args.name.now in
     follow_named key true None c.args.self.now (record { session = c.name.new.self; values = c.name_removed.new.self }) c.name.ensures.words c.in_ok-name.ensures.ok
     (second_holds (has_scope b c.args.scope) (has_name b key) refusals.NoSheet refusals.NoSuchName c.in_ok-check_known_name.ensures) c.name_removed.ensures.follows
+
+pub returns-clause-marks : goal.returns-clause-marks
+returns-clause-marks c = c.name_removed.ensures.marks
+
+pub returns-in_err-check_known_name-clause-marks : goal.returns-in_err-check_known_name-clause-marks
+returns-in_err-check_known_name-clause-marks c = rw (err_from_is_err_and c.from_residual.result c.from_residual.ensures.1).1 tt
+
+pub returns-in_err-check_known_name-clause-left : goal.returns-in_err-check_known_name-clause-left
+returns-in_err-check_known_name-clause-left c = rw (err_from_is_err_and c.from_residual.result c.from_residual.ensures.1).1 refl
+
+pub returns-in_err-name-clause-marks : goal.returns-in_err-name-clause-marks
+returns-in_err-name-clause-marks c = rw (err_from_is_err_and c.from_residual-in_err-name.result c.from_residual-in_err-name.ensures.1).1 tt
+
+pub returns-in_err-name-clause-left : goal.returns-in_err-name-clause-left
+returns-in_err-name-clause-left c = rw (err_from_is_err_and c.from_residual-in_err-name.result c.from_residual-in_err-name.ensures.1).1 refl

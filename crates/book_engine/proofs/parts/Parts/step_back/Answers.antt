@@ -1,6 +1,12 @@
-use Rattle.std.proofs.Common.{◌∙◌, sym}
+use Rattle.std.proofs.Common.{◌∙◌, sym, ap}
+use Rattle.shift_core.specs.declared.shift.Shift.{Shift}
+use Rattle.kept_book.specs.Kept.{line_of}
 use Rattle.kept_steps.specs.Turned.{to_undo}
+use Rattle.kept_values.proofs.Following.{on_ok}
+use Rattle.book_engine.specs.Kept.{MarksReturned, MarksUndoneIn}
+use Rattle.book_engine.specs.internal.Opposites.{with_opposite_of}
 use Rattle.book_engine.proofs.Stepped.{sound_if_some}
+use Rattle.book_engine.proofs.TurnedMarks.{all_ok, marked_along, marked_cells}
 use Rattle.book_engine.proofs.parts.Parts.step_back.Goals as goal
 
 pub with_opposite-requires : goal.with_opposite-requires
@@ -8,3 +14,20 @@ with_opposite-requires c = sound_if_some c.args.self.now.session (to_undo c.args
 
 pub operation_back-requires-clause-operation : goal.operation_back-requires-clause-operation
 operation_back-requires-clause-operation c = sym c.operation_undone.ensures ∙ c.in-Some.ensures.operation
+
+pub returns-in-Some-clause-marks : goal.returns-in-Some-clause-marks
+returns-in-Some-clause-marks c =
+    let x = c.args.self.now.session in
+    let old = c.args.self.now.values.values in
+    let new = c.operation_back.new.self.values.values in
+    on_ok c.operation_back.result (MarksReturned c.in-Some.s c.in-Some.back (to_undo x) old new) (MarksUndoneIn x old new)
+    (marked_along (line_of x.book) (to_undo x) (λ (s back : Shift). MarksReturned s back (to_undo x) old new) old new c.in-Some.s c.in-Some.back (sym c.operation_undone.ensures ∙ c.in-Some.ensures.operation) c.in-Some.ensures.opposite)
+    c.operation_back.ensures.marks
+
+pub returns-in-None-clause-marks : goal.returns-in-None-clause-marks
+returns-in-None-clause-marks c =
+    let x = c.args.self.now.session in
+    let old = c.args.self.now.values.values in
+    let new = c.cells_back.new.self.values.values in
+    all_ok c.cells_back.result
+    (marked_cells (line_of x.book) (to_undo x) (λ (s back : Shift). MarksReturned s back (to_undo x) old new) old new (c.in-None.ensures.both ∙ ap with_opposite_of c.operation_undone.ensures) c.cells_back.ensures.marks)

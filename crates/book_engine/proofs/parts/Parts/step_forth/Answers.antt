@@ -1,8 +1,14 @@
-use Rattle.std.proofs.Common.{◌∙◌, sym}
+use Rattle.std.proofs.Common.{◌∙◌, sym, ap}
 use Rattle.cell_addr.specs.declared.place.TheConstants.{NO_SHEET}
+use Rattle.shift_core.specs.declared.shift.Shift.{Shift}
 use Rattle.marked_values.proofs.GoingBack.{keeps}
+use Rattle.kept_book.specs.Kept.{line_of}
 use Rattle.kept_steps.specs.Turned.{to_redo}
+use Rattle.kept_values.proofs.Following.{on_ok}
+use Rattle.book_engine.specs.Kept.{MarksAlong, MarksRedoneIn}
+use Rattle.book_engine.specs.internal.Opposites.{with_opposite_of}
 use Rattle.book_engine.proofs.Stepped.{operation_sound, sound_if_some}
+use Rattle.book_engine.proofs.TurnedMarks.{all_ok, marked_along, marked_cells}
 use Rattle.book_engine.proofs.parts.Parts.step_forth.Goals as goal
 
 pub with_opposite-requires : goal.with_opposite-requires
@@ -16,3 +22,20 @@ operation_forth-requires-clause-names c =
     let x = c.args.self.now.session in
     let is = sym c.operation_redone.ensures ∙ c.in-Some.ensures.operation in
     (keeps c.in-Some.s _ (operation_sound x (to_redo x) c.in-Some.s is) c.in-Some.ensures.opposite NO_SHEET).0
+
+pub returns-in-Some-clause-marks : goal.returns-in-Some-clause-marks
+returns-in-Some-clause-marks c =
+    let x = c.args.self.now.session in
+    let old = c.args.self.now.values.values in
+    let new = c.operation_forth.new.self.values.values in
+    on_ok c.operation_forth.result (MarksAlong c.in-Some.s old new) (MarksRedoneIn x old new)
+    (marked_along (line_of x.book) (to_redo x) (λ (s back : Shift). MarksAlong s old new) old new c.in-Some.s _ (sym c.operation_redone.ensures ∙ c.in-Some.ensures.operation) c.in-Some.ensures.opposite)
+    c.operation_forth.ensures.marks
+
+pub returns-in-None-clause-marks : goal.returns-in-None-clause-marks
+returns-in-None-clause-marks c =
+    let x = c.args.self.now.session in
+    let old = c.args.self.now.values.values in
+    let new = c.cells_forth.new.self.values.values in
+    all_ok c.cells_forth.result
+    (marked_cells (line_of x.book) (to_redo x) (λ (s back : Shift). MarksAlong s old new) old new (c.in-None.ensures.both ∙ ap with_opposite_of c.operation_redone.ensures) c.cells_forth.ensures.marks)

@@ -1,5 +1,6 @@
-use Rattle.std.proofs.Common.{◌≡◌, ◌∙◌, sym, subst, true, List}
+use Rattle.std.proofs.Common.{◌≡◌, ◌∙◌, sym, subst, refl, inl, true, List}
 use Rattle.std.specs.Prelude.{IsTrue}
+use Rattle.std.proofs.lemmas.Result.{err_from_is_err_and}
 use Rattle.book_model.specs.Operation as op
 use Rattle.book_model.specs.Sound.{IsSound}
 use Rattle.book_engine.specs.Seen.{state_of}
@@ -45,3 +46,34 @@ returns-clause-follow c =
 
 pub shifted-requires : goal.shifted-requires
 shifted-requires c = (sound_form (state_of c.args.self.now) (form_of c.args.s.now) c.in_ok-check_structural.ensures).0
+
+pub returns-clause-marks : goal.returns-clause-marks
+returns-clause-marks c = record {
+  touched = c.items.result.now;
+  only = subst (λ (ns : List Node). (a : Node) → IsTrue (has a ns) → may_touch c.args.s.now a ≡ true) (sym c.items.ensures) c.in_ok-touched.ensures.only;
+  marks = c.in_ok-values.ensures.marks;
+}
+
+pub returns-in_err-check_structural-clause-marks : goal.returns-in_err-check_structural-clause-marks
+returns-in_err-check_structural-clause-marks c = rw (err_from_is_err_and c.from_residual.result c.from_residual.ensures.1).1 tt
+
+pub returns-in_err-check_structural-clause-line_err : goal.returns-in_err-check_structural-clause-line_err
+returns-in_err-check_structural-clause-line_err c = let p = err_from_is_err_and c.from_residual.result c.from_residual.ensures.1 in rw (p.1, p.2) refl
+
+pub returns-in_err-touched-clause-marks : goal.returns-in_err-touched-clause-marks
+returns-in_err-touched-clause-marks c = rw (err_from_is_err_and c.from_residual-in_err-touched.result c.from_residual-in_err-touched.ensures.1).1 tt
+
+pub returns-in_err-touched-clause-line_err : goal.returns-in_err-touched-clause-line_err
+returns-in_err-touched-clause-line_err c = let p = err_from_is_err_and c.from_residual-in_err-touched.result c.from_residual-in_err-touched.ensures.1 in rw (p.1, p.2) (inl refl)
+
+pub returns-in_err-values-clause-marks : goal.returns-in_err-values-clause-marks
+returns-in_err-values-clause-marks c = rw (err_from_is_err_and c.from_residual-in_err-values.result c.from_residual-in_err-values.ensures.1).1 tt
+
+pub returns-in_err-values-clause-line_err : goal.returns-in_err-values-clause-line_err
+returns-in_err-values-clause-line_err c = let p = err_from_is_err_and c.from_residual-in_err-values.result c.from_residual-in_err-values.ensures.1 in rw (p.1, p.2) (inl refl)
+
+pub returns-in_err-structural-clause-marks : goal.returns-in_err-structural-clause-marks
+returns-in_err-structural-clause-marks c = rw (err_from_is_err_and c.from_residual-in_err-structural.result c.from_residual-in_err-structural.ensures.1).1 tt
+
+pub returns-in_err-structural-clause-line_err : goal.returns-in_err-structural-clause-line_err
+returns-in_err-structural-clause-line_err c = let p = err_from_is_err_and c.from_residual-in_err-structural.result c.from_residual-in_err-structural.ensures.1 in rw (p.1, p.2) c.in_err-structural.ensures.line_err

@@ -1,0 +1,5 @@
+use Rattle.book_engine.proofs.KeptLine.{line_kept}
+use Rattle.book_engine.proofs.engine.Engine.name_value.Goals as goal
+
+pub returns-clause-line : goal.returns-clause-line
+returns-clause-line g c = line_kept c.args.self.now.parts.session.book.lazy.line c.name_value.new.self.session.book.lazy.line c.name_value.ensures.line
