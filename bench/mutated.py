@@ -137,7 +137,11 @@ def generated_input(draw):
         first = draw.randrange(len(records) + 1)
         records = records[first:first + draw.choice((10, 50, 300))]
     words = tuple(os.fsencode(word) for word in case.words)
-    return Input(words, b"".join(records), dict(case.files))
+    text = b"".join(records)
+    if draw.random() < 0.98:
+        # A sum over a whole sheet is slow.
+        text = re.sub(rb"ZZ(?=[YZ]\$?[0-9])", b"Z", text)
+    return Input(words, text, dict(case.files))
 
 
 class Mutator:
