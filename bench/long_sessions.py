@@ -12,7 +12,8 @@ What comes next is drawn by the plain machine's own workbook (bench/plain), so t
 that the program has to print. A session is drawn by its seed alone: that of the first is S (1), and each later one's is one more. For
 each session it prints the limit, the commands, the operations of each kind, the longest way that undo had at once, and the seconds of
 both; where the program prints something else, the first line that differs, and the script up to there is kept in a folder of DIR
-(long_sessions_kept in the folder for temporary files). Status 1 where a session differs.
+(long_sessions_kept in the folder for temporary files). Status 1 where a session differs. The plain machine took 12 to 18 s of the
+processor for each of the first four sessions, on a busy machine.
 """
 import argparse
 import os
