@@ -21,8 +21,8 @@ use std::alloc::{AllocError, Global};
 
 impl PlaceLines {
     /// The lines after an operation: those of an edited sheet as [`LineTable::edited`] renews them, all others as they
-    /// were. Costs the number of runs of lines of all edited sheets, which are copied, also where the operation edits no
-    /// lines. Errs for want of memory, and where the numbers of lines are used up, after more edits than fit a lifetime.
+    /// were, whose runs both share. Costs what that edit does, and a count for each edited sheet. Errs for want of memory,
+    /// and where the numbers of lines are used up, after more edits than fit a lifetime.
     pub fn moved(&self, alloc: Global, s: &Shift) -> Result<PlaceLines, AllocError>
         requires { IsSound s.now }
         ensures { IfOk result (AreMoved (form_of s.now) self.now) }
@@ -99,12 +99,5 @@ fn renewed(table: &LineTable, alloc: Global, edit: Edit) -> Result<LineTable, Al
 fn has_low_lines(table: &LineTable) -> bool
     ensures { IsTrue result → HasLowLines table.now }
 {
-    let mut at = 0;
-    'walk: while let Some(run) = table.run_from(at) {
-        if PAST < run.to + run.count {
-            return false;
-        }
-        at += run.count as u32;
-    }
-    true
+    table.next() <= PAST
 }

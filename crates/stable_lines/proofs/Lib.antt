@@ -1,5 +1,10 @@
 pub mod TableLemmas
 pub mod Compositions
+pub mod Seeking
 pub mod Inverses
+pub mod Reading
+pub mod Leading
 pub mod Turning
+pub mod Leveling
+pub mod TableLevels
 pub mod EditTurns

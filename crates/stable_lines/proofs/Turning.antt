@@ -17,13 +17,22 @@ swaps_some t x i lt = grind (arith, nat_tests)
 pub swaps_within : (t : Turn) (x y : ℕ) → IsTurn t → image (swaps t) x ≡ Some y → y < t.end
 swaps_within t x y i h = grind (arith, nat_tests)
 
-whole_keeps : (limit x : ℕ) → x < limit → image (whole limit ∷ []) x ≡ Some x
+pub whole_keeps : (limit x : ℕ) → x < limit → image (whole limit ∷ []) x ≡ Some x
 whole_keeps limit x lt = grind (arith, nat_tests)
 
 whole_within : (limit x y : ℕ) → image (whole limit ∷ []) x ≡ Some y → x < limit
 whole_within limit x y h = grind (arith, nat_tests)
 
-whole_table : (limit : ℕ) → limit < 4294967296 → is_table 0 (whole limit ∷ []) ≡ true
+pub whole_ends_there : (limit x : ℕ) → limit ≤ x → image (whole limit ∷ []) x ≡ None
+whole_ends_there limit x le = grind (arith, nat_tests)
+
+whole_some : (limit p : ℕ) → p < limit → is_some (image (whole limit ∷ []) p) ≡ true
+whole_some limit p lt = grind (arith, nat_tests)
+
+whole_below : (limit p l : ℕ) → image (whole limit ∷ []) p ≡ Some l → l < limit
+whole_below limit p l h = grind (arith, nat_tests)
+
+pub whole_table : (limit : ℕ) → limit < 4294967296 → is_table 0 (whole limit ∷ []) ≡ true
 whole_table limit lt = grind (arith, nat_tests)
 
 whole_ends : (limit : ℕ) → end_by limit (whole limit ∷ []) ≡ true
@@ -35,7 +44,7 @@ one_table low r le fit = table_whole low r [] le fit refl
 one_ends : (end : ℕ) (r : Run) → r.from + r.count ≤ end → end_by end (r ∷ []) ≡ true
 one_ends end r le = grind (arith, nat_tests)
 
--- what is owed of the new lines and positions
+-- what is owed of lines and positions
 pub record AreLines (limit next : ℕ) (lines positions : List Run) : Type 0 where
   pub lines_are_table : is_table 0 lines ≡ true
   pub lines_end : end_by limit lines ≡ true
@@ -46,7 +55,20 @@ pub record AreLines (limit next : ℕ) (lines positions : List Run) : Type 0 whe
   pub within : (p l : ℕ) → image lines p ≡ Some l → p < limit
   pub below : (p l : ℕ) → image lines p ≡ Some l → l < next
 
-some_then : (f g : ℕ → Option ℕ) (x z : ℕ) (r : Option ℕ) → f x ≡ r → option_and_then g r ≡ Some z → (y : ℕ) × (f x ≡ Some y) × (g y ≡ Some z)
+-- the positions of a sheet as its lines
+pub whole_lines : (limit n : ℕ) → limit < 4294967296 → n ≡ limit → AreLines limit n (whole limit ∷ []) (whole limit ∷ [])
+whole_lines limit n narrow e = record {
+  lines_are_table = whole_table limit narrow;
+  lines_end = whole_ends limit;
+  positions_are_table = whole_table limit narrow;
+  positions_end = subst (λ x. end_by x (whole limit ∷ []) ≡ true) (sym e) (whole_ends limit);
+  inverse = whole_inverse limit;
+  filled = whole_some limit;
+  within = λ p l h. whole_within limit p l h;
+  below = λ p l h. let lt = whole_below limit p l h in omega arith;
+}
+
+pub some_then : (f g : ℕ → Option ℕ) (x z : ℕ) (r : Option ℕ) → f x ≡ r → option_and_then g r ≡ Some z → (y : ℕ) × (f x ≡ Some y) × (g y ≡ Some z)
 some_then f g x z None e h = cc
 some_then f g x z (Some y) e h = (y, e, h)
 
@@ -169,17 +191,11 @@ module _ (limit next room : ℕ) (lines positions : List Run) (t : Turn) (old : 
     below = new_below;
   }
 
-  pub longer_fits : are_fit longer ≡ true
-  longer_fits = table_fits 0 longer longer_table
-
   pub longer_back_fits : are_fit longer_back ≡ true
   longer_back_fits = table_fits 0 longer_back longer_back_table
 
   pub back_fits : are_fit back ≡ true
   back_fits = table_fits 0 back back_table
-
-  pub forth_fits : are_fit forth ≡ true
-  forth_fits = table_fits 0 forth forth_table
 
   -- the same of lists that are equal to these
   pub owed : (n : ℕ) (made made_back : List Run) → n ≡ next + room → made ≡ newer → made_back ≡ newer_back → AreLines limit n made made_back

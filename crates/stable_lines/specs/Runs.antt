@@ -2,6 +2,12 @@
 use Rattle.std.specs.Prelude.{◌≡◌, ℕ, ◌+◌, ◌-◌, ◌↔◌, Bool, ◌&&◌, nat_le, nat_lt, if◌then◌else◌, List, [], ◌∷◌, Option, Some, None}
 use Rattle.stable_lines.specs.declared.run.Run.{Run}
 
+-- a table in levels: the runs that all of them come to, those of the near level, and those of the farther ones
+pub record Leveled : Type 0 where
+  pub items : List Run
+  pub near : List Run
+  pub far : List (List Run)
+
 -- the number is one of those that the run takes
 abbrev pub holds : Run → ℕ → Bool
 holds r x = nat_le r.from x && nat_lt x (r.from + r.count)

@@ -2,3 +2,5 @@
 pub mod Tables
 pub mod Turns
 pub mod Turned
+pub mod Levels
+pub mod Deepened

@@ -1,5 +1,5 @@
 // Runs: numbers in a row that stand for others in a row.
-ghost use Rattle.std.specs.Prelude.{◌≡◌, ◌++◌, ◌∷◌, [], true, MatchOption, IfSome, option_map, ◌+◌, ◌-◌};
+ghost use Rattle.std.specs.Prelude.{◌≡◌, ◌++◌, ◌∷◌, [], true, MatchOption, IfSome, option_map, ◌+◌, ◌-◌, ◌≤◌, length};
 ghost use Rattle.stable_lines.specs.Runs.{image};
 ghost use Rattle.stable_lines.specs.internal.Tables.{IsFound, is_table, run_with};
 
@@ -40,4 +40,26 @@ fn halved(runs: &[Run]) -> Option<(&[Run], Run, &[Run])>
         [run, behind @ ..] => Some((front, *run, behind)),
         [] => None,
     }
+}
+
+// The run that stands so far from the front, with those before and behind it; None where there are no more.
+pub(crate) fn parted(runs: &[Run], at: usize) -> Option<(&[Run], Run, &[Run])>
+    requires { at ≤ length runs.now }
+    ensures parts { IfSome result (λ parts. runs.now ≡ parts.0.now ++ (parts.1 ∷ parts.2.now)) }
+    ensures at { IfSome result (λ parts. length runs.now ≡ at + 1 + length parts.2.now) }
+{
+    let (front, back) = runs.split_at(at);
+    match back {
+        [run, behind @ ..] => Some((front, *run, behind)),
+        [] => None,
+    }
+}
+
+// Where the table takes the number.
+pub(crate) fn image(table: &[Run], number: u64) -> Option<u64>
+    requires { is_table 0 table.now ≡ true }
+    ensures { result ≡ image table.now number }
+{
+    let run = run_with(table, number)?;
+    Some(run.to + (number - run.from))
 }
