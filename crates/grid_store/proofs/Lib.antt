@@ -1,5 +1,6 @@
 pub mod KeyOrder
 pub mod KeyPlaces
+pub mod TurnedKeys
 pub mod Views
 pub mod Listings
 pub mod PlaceMaps
@@ -12,3 +13,5 @@ pub mod Fills
 pub mod CarriedCells
 pub mod Exchanges
 pub mod SameKeys
+pub mod ColumnKeys
+pub mod LinesRenewed

@@ -69,7 +69,7 @@ on_lines rows cols area lines q k lines_at c key low high =
     (sym (key_sheet rows cols q k key) ∙ sym c.0, omega arith, omega arith)
 
 -- the key of a place in the block is on the line of its column
-in_lines : (rows cols : SheetLines) (area : Block) (row : ℕ) (lines : Run) (q : Place) (k : CellKey) → AreLinesAt (table_of cols area.sheet) lines → Covers area q → key_at rows cols q ≡ Some k → k.row ≡ row → lines.from ≤ q.col → q.col < lines.from + lines.count
+pub in_lines : (rows cols : SheetLines) (area : Block) (row : ℕ) (lines : Run) (q : Place) (k : CellKey) → AreLinesAt (table_of cols area.sheet) lines → Covers area q → key_at rows cols q ≡ Some k → k.row ≡ row → lines.from ≤ q.col → q.col < lines.from + lines.count
     → IsIn area.sheet row lines k
 in_lines rows cols area row lines q k lines_at c key on low high =
     let line : line_at (table_of cols q.sheet) q.col ≡ Some k.col = key_col rows cols q k key in
@@ -78,11 +78,24 @@ in_lines rows cols area row lines q k lines_at c key on low high =
     let col : k.col ≡ lines.to + (q.col - lines.from) = same_Some k.col _ (sym line ∙ ap (λ s. line_at (table_of cols s) q.col) (sym c.0) ∙ at) in
     (sym (key_sheet rows cols q k key) ∙ sym c.0, on, omega arith, omega arith)
 
-same_place_test : (p q : Place) → (is_at (place_cmp p) q ≡ true) → p ≡ q
+pub same_place_test : (p q : Place) → (is_at (place_cmp p) q ≡ true) → p ≡ q
 same_place_test p q h = (eq_by_cmp-decides place_cmp-IsTotalOrder place_cmp-IsAntisymmetric p q).0 h
 
 same_key_test : (k l : CellKey) → (is_at (key_cmp k) l ≡ true) → k ≡ l
 same_key_test k l h = (eq_by_cmp-decides key_cmp-IsTotalOrder key_cmp-IsAntisymmetric k l).0 h
+
+-- what is found once a cell is added
+pub added_cell : {X : Type 0} (rows cols : SheetLines) (es : List (CellKey × X)) (area : Block) (found : BTreeMap Place (Bor X)) (at q : Place) (cell c : X) (b : Bool) → is_at (place_cmp at) q ≡ b → covers area at ≡ true → map.get (seen rows cols es) at ≡ Some cell
+    → (look found q ≡ Some c → (covers area q ≡ true) × (map.get (seen rows cols es) q ≡ Some c)) → cond b (Some cell) (look found q) ≡ Some c
+    → (covers area q ≡ true) × (map.get (seen rows cols es) q ≡ Some c)
+added_cell rows cols es area found at q cell c true same there here others h =
+    let e = same_place_test at q same in
+    (ap (covers area) (sym e) ∙ there, ap (map.get (seen rows cols es)) (sym e) ∙ here ∙ h)
+added_cell rows cols es area found at q cell c false same there here others h = others h
+
+pub still_or : {X : Type 0} (b : Bool) (c : X) (r : Option X) → IsSome r → IsSome (cond b (Some c) r)
+still_or true c r h = refl
+still_or false c r h = h
 
 module _ {X : Type 0} (rows cols : SheetLines) (es : List (CellKey × X)) (area : Block) (row : ℕ) (lines : Run) (before : BTreeMap Place (Bor X)) where
   -- the first of what is left is not in the block
@@ -104,18 +117,6 @@ module _ {X : Type 0} (rows cols : SheetLines) (es : List (CellKey × X)) (area 
   }
 
   -- the first of what is left is added
-  added_cell : (found : BTreeMap Place (Bor X)) (at q : Place) (cell c : X) (b : Bool) → is_at (place_cmp at) q ≡ b → covers area at ≡ true → map.get (seen rows cols es) at ≡ Some cell
-      → (look found q ≡ Some c → (covers area q ≡ true) × (map.get (seen rows cols es) q ≡ Some c)) → cond b (Some cell) (look found q) ≡ Some c
-      → (covers area q ≡ true) × (map.get (seen rows cols es) q ≡ Some c)
-  added_cell found at q cell c true same there here others h =
-      let e = same_place_test at q same in
-      (ap (covers area) (sym e) ∙ there, ap (map.get (seen rows cols es)) (sym e) ∙ here ∙ h)
-  added_cell found at q cell c false same there here others h = others h
-
-  still_or : (b : Bool) (c : X) (r : Option X) → IsSome r → IsSome (cond b (Some c) r)
-  still_or true c r h = refl
-  still_or false c r h = h
-
   added_pending : (found new : BTreeMap Place (Bor X)) (e : CellKey × X) (rest : List (CellKey × X)) (at : Place) (k : CellKey) (q : Place) (b : Bool) → is_at (key_cmp k) e.0 ≡ b → place_at rows cols e.0 ≡ Some at
       → IsAdded found at e.1 new → place_at rows cols k ≡ Some q → IsSome (cond b (Some e.1) (kept rest k)) → IsSome (look new q) ⊎ IsSome (kept rest k)
   added_pending found new e rest at k q true same here added there some =
@@ -127,7 +128,7 @@ module _ {X : Type 0} (rows cols : SheetLines) (es : List (CellKey × X)) (area 
   pub take_up : (found new : BTreeMap Place (Bor X)) (e : CellKey × X) (rest : List (CellKey × X)) (at : Place) → Progress rows cols es area row lines before found (e ∷ rest)
       → place_at rows cols e.0 ≡ Some at → covers area at ≡ true → IsAdded found at e.1 new → Progress rows cols es area row lines before new rest
   take_up found new e rest at p here there added = record {
-    cells = λ q c h. added_cell found at q e.1 c (is_at (place_cmp at) q) refl there (get-seen_at rows cols es at e.0 (key_of_place rows cols e.0 at here) ∙ p.entries.0) (p.cells q c) (sym (added q) ∙ h);
+    cells = λ q c h. added_cell rows cols es area found at q e.1 c (is_at (place_cmp at) q) refl there (get-seen_at rows cols es at e.0 (key_of_place rows cols e.0 at here) ∙ p.entries.0) (p.cells q c) (sym (added q) ∙ h);
     still = λ q some. subst IsSome (sym (added q)) (still_or (is_at (place_cmp at) q) e.1 (look found q) (p.still q some));
     entries = p.entries.1;
     pending = λ k q some on at' in_area. elim (p.pending k q some on at' in_area) [
@@ -145,7 +146,7 @@ module _ {X : Type 0} (rows cols : SheetLines) (es : List (CellKey × X)) (area 
         | inr h ↦ cc
       ]
 
-both : (a b : Bool) → a ≡ true → b ≡ false → (a && not b) ≡ true
+pub both : (a b : Bool) → a ≡ true → b ≡ false → (a && not b) ≡ true
 both true false e f = refl
 both true true e f = cc
 both false b e f = cc

@@ -4,3 +4,4 @@ pub mod Lists
 pub mod Ways
 pub mod Renewal
 pub mod Exchange
+pub mod Turned

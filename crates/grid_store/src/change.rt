@@ -17,7 +17,7 @@ use crate::list::CellList;
 use crate::way::{Way, lost_lines};
 use cell_addr::{Axis, Block, COLS, ROWS};
 use shift_core::Edit;
-use stable_lines::LineTable;
+use stable_lines::{LineTable, SheetLines};
 use std::alloc::AllocError;
 
 impl<V: Duplicate> Grid<V> {
@@ -64,13 +64,20 @@ impl<V: Duplicate> Grid<V> {
         requires { IsSoundEdit (limit_of axis) edit }
         ensures { IfOk result (AreRenewed (line_goes (turned way) (limit_of axis) edit) (table_of (along axis self.now.rows self.now.cols) sheet)) }
     {
-        let lines = match axis {
+        let table = self.lines(axis).table(sheet);
+        match way {
+            Way::Forth => table.edited(self.alloc, edit),
+            Way::Back => table.unedited(self.alloc, edit),
+        }
+    }
+
+    // The lines of all sheets along the axis.
+    fn lines(&self, axis: Axis) -> &SheetLines
+        ensures { result.now ≡ along axis self.now.rows self.now.cols }
+    {
+        match axis {
             Axis::Rows => &self.rows,
             Axis::Cols => &self.cols,
-        };
-        match way {
-            Way::Forth => lines.table(sheet).edited(self.alloc, edit),
-            Way::Back => lines.table(sheet).unedited(self.alloc, edit),
         }
     }
 

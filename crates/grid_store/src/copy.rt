@@ -17,7 +17,7 @@ impl<V: Duplicate> Grid<V> {
     {
         Ok(Grid {
             alloc: self.alloc,
-            cells: copied_cells(self.alloc, &self.cells)?,
+            cells: self.cells.copied(self.alloc)?,
             rows: self.rows.copied()?,
             cols: self.cols.copied()?,
         })
@@ -25,7 +25,7 @@ impl<V: Duplicate> Grid<V> {
 }
 
 // Copies of the cells under the same keys.
-fn copied_cells<V: Duplicate>(
+pub(crate) fn copied_cells<V: Duplicate>(
     alloc: Global,
     cells: &BTreeMap<CellKey, V>,
 ) -> Result<BTreeMap<CellKey, V>, AllocError>

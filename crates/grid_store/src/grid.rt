@@ -5,17 +5,17 @@ ghost use Rattle.cell_addr.specs.declared.place.TheConstants.{COLS, ROWS};
 ghost use Rattle.grid_store.specs.Keys.{key_cmp, place_at};
 ghost use Rattle.grid_store.specs.declared.key.CellKey.{CellKey};
 
+use crate::cells::Cells;
 use crate::key::CellKey;
 use cell_addr::{Axis, COLS, Place, ROWS};
 use stable_lines::SheetLines;
 use std::alloc::{AllocError, Global};
-use std::collections::BTreeMap;
 
 /// The filled cells of a workbook: a finite map from places to what they hold.
 #[derive(Drop)]
 pub struct Grid<V> {
     pub(crate) alloc: Global,
-    pub(crate) cells: BTreeMap<CellKey, V>,
+    pub(crate) cells: Cells<V>,
     pub(crate) rows: SheetLines,
     pub(crate) cols: SheetLines,
     pub ghost rows_limit: { rows.plain.limit ≡ ROWS },
@@ -36,7 +36,7 @@ impl<V: Drop> Grid<V> {
     {
         Ok(Grid {
             alloc,
-            cells: BTreeMap::new(alloc),
+            cells: Cells::new(alloc),
             rows: SheetLines::new(alloc, ROWS)?,
             cols: SheetLines::new(alloc, COLS)?,
         })
@@ -73,18 +73,18 @@ impl<V: Drop> Grid<V> {
         ensures { option_copied result ≡ map.get (cells_of self.now) at }
     {
         let key = self.key(at)?;
-        self.cells.get(&key)
+        self.cells.by_rows().get(&key)
     }
 
     /// How many cells are filled.
     pub fn filled(&self) -> u64
         ensures { result ≡ map.len (cells_of self.now) }
     {
-        self.cells.len() as u64
+        self.cells.by_rows().len() as u64
     }
 
     /// Fills the cell at the place, and answers what it held. At a filled place this takes no memory. For want of memory the
-    /// grid is as it was.
+    /// grid is as it was. Costs the logarithm of the number of filled cells, in each of two orders.
     pub fn put(&mut self, at: Place, cell: V) -> Result<Option<V>, AllocError>
         requires { IsInside at }
         ensures before { IfOk result (λ before. before ≡ map.get (cells_of self.old) at) }
@@ -96,7 +96,7 @@ impl<V: Drop> Grid<V> {
         let Some(key) = self.key(at) else {
             return Err(AllocError);
         };
-        Ok(self.cells.insert(key, cell)?)
+        self.cells.insert(key, cell)
     }
 
     /// Empties the cell at the place, and answers what it held. Takes no memory.

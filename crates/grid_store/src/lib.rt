@@ -2,8 +2,9 @@
 //!
 //! A [`Grid`] stands for a finite map from places to what cells hold: [`Cell`]s, or any values of which equal ones can be made
 //! ([`Duplicate`]). It keeps each cell under the lines of its row and its column, which stay as other rows and columns are
-//! inserted, deleted or moved. So such an operation costs the number of cells that it loses, and not that of all cells, and a
-//! block is listed by what is filled in its rows.
+//! inserted, deleted or moved. So such an operation costs the number of cells that it loses, and not that of all cells. A block
+//! is listed by what is filled in its rows; whole columns by what is filled in them, since the keys stand in a second order too,
+//! by columns.
 //!
 //! ```text
 //! grid.put(at, Cell::Number(n))?;
@@ -13,8 +14,10 @@
 #![tactic(auto)]
 
 mod cell;
+mod cells;
 mod change;
 mod clearing;
+mod columns;
 mod copy;
 mod duplicate;
 mod exchange;

@@ -7,6 +7,7 @@ ghost use Rattle.stable_lines.specs.Sheets.{table_of};
 ghost use Rattle.grid_store.specs.Grid.{cells_of, items_of, seen_items, within};
 ghost use Rattle.grid_store.specs.internal.Listing.{AreCellsOf, AreLinesAt, HasCols, HasLines, HasRows, IsAdded, KeepsNone, StillHas};
 
+use crate::columns::is_of_columns;
 use crate::duplicate::Duplicate;
 use crate::grid::Grid;
 use crate::key::CellKey;
@@ -30,7 +31,7 @@ impl<V: Duplicate> Grid<V> {
         ensures { IfOk result (λ list. map.from_entries (items_of list) ≡ cells_of self.now) }
     {
         let mut list = CellList::new(self.alloc)?;
-        for (key, cell) in &self.cells {
+        for (key, cell) in self.cells.by_rows() {
             if let Some(at) = self.place(*key) {
                 let cell = cell.duplicate(self.alloc)?;
                 list.push(at, cell)?;
@@ -42,7 +43,8 @@ impl<V: Duplicate> Grid<V> {
 
 impl<V: Drop> Grid<V> {
     /// The filled cells of the block, row by row. Costs about their number and that of its rows that hold any cell, these as often
-    /// as the lines of its columns stand in runs; not the number of its rows, nor of the cells beside it.
+    /// as the lines of its columns stand in runs; not the number of its rows, nor of the cells beside it. Whole columns, but not
+    /// all of a sheet, cost the runs of their lines and each of their cells the logarithm of the number of filled cells.
     pub fn listed_refs(&self, area: Block) -> Result<Vec<(Place, &V)>, AllocError>
         ensures { IfOk result (λ list. seen_items list.items ≡ map.entries (within area (cells_of self.now))) }
     {
@@ -51,8 +53,25 @@ impl<V: Drop> Grid<V> {
         in_order(self.alloc, found)
     }
 
-    // Finds the filled cells of the block, by its runs of rows whose lines follow one another.
+    // Finds the filled cells of the block, by its columns or by its rows.
     fn find<'a>(&'a self, area: Block, found: &mut BTreeMap<Place, &'a V>) -> Result<(), AllocError>
+        requires { IsEmpty found.old }
+        ensures cells { OnOk result (AreCellsOf area (cells_of self.now) found.new) }
+        ensures rows { OnOk result (HasRows area (cells_of self.now) 0 (area.bottom + 1) found.new) }
+    {
+        if is_of_columns(area) {
+            self.find_by_cols(area, found)
+        } else {
+            self.find_by_rows(area, found)
+        }
+    }
+
+    // Finds the filled cells of the block, by its runs of rows whose lines follow one another.
+    fn find_by_rows<'a>(
+        &'a self,
+        area: Block,
+        found: &mut BTreeMap<Place, &'a V>,
+    ) -> Result<(), AllocError>
         requires { IsEmpty found.old }
         ensures cells { OnOk result (AreCellsOf area (cells_of self.now) found.new) }
         ensures rows { OnOk result (HasRows area (cells_of self.now) 0 (area.bottom + 1) found.new) }
@@ -144,7 +163,7 @@ impl<V: Drop> Grid<V> {
             row,
             col: lines.to + lines.count,
         };
-        for (key, cell) in self.cells.range(first..end) {
+        for (key, cell) in self.cells.by_rows().range(first..end) {
             if let Some(at) = self.place(*key) {
                 if area.holds(at) {
                     add(found, at, cell)?;
@@ -153,6 +172,7 @@ impl<V: Drop> Grid<V> {
         }
         Ok(())
     }
+
     // The first of the sheet's lines of rows, from `row` to before `end`, that holds a cell.
     pub(crate) fn filled_line(&self, sheet: u32, row: u64, end: u64) -> Option<u64>
         requires { row ≤ end }
@@ -166,7 +186,7 @@ impl<V: Drop> Grid<V> {
             row: end,
             col: 0,
         };
-        match self.cells.range(first..end).next() {
+        match self.cells.by_rows().range(first..end).next() {
             Some((key, _cell)) => Some(key.row),
             None => None,
         }
@@ -174,7 +194,11 @@ impl<V: Drop> Grid<V> {
 }
 
 // Adds the cell.
-fn add<'a, V>(found: &mut BTreeMap<Place, &'a V>, at: Place, cell: &'a V) -> Result<(), AllocError>
+pub(crate) fn add<'a, V>(
+    found: &mut BTreeMap<Place, &'a V>,
+    at: Place,
+    cell: &'a V,
+) -> Result<(), AllocError>
     ensures { OnOk result (IsAdded found.old at cell.now found.new) }
 {
     found.insert(at, cell)?;

@@ -21,8 +21,9 @@ use std::alloc::{AllocError, Global};
 impl<V: Duplicate> Grid<V> {
     /// Does the operation: each cell goes where its place goes. The cells whose places are lost are handed out with those places, row by row.
     ///
-    /// An insert, a deletion or a move of rows or columns costs the number of runs of rows that follow one another and what it
-    /// loses; a dropped sheet costs its cells; a move of a block those of its two blocks. For want of memory the grid is as it was.
+    /// An insert, a deletion or a move of rows or columns costs the number of runs of its lines that follow one another, and each
+    /// cell that it loses the logarithm of the number of filled cells; a dropped sheet costs its cells; a move of a block those of
+    /// its two blocks. For want of memory the grid is as it was.
     pub fn apply(&mut self, s: &Shift) -> Result<CellList<V>, AllocError>
         requires { IsSound s.now }
         ensures moved { OnOk result (cells_of self.new ≡ moved_map s.now (cells_of self.old)) }

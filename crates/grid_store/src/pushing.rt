@@ -9,6 +9,7 @@ ghost use Rattle.grid_store.specs.internal.Listing.{AreLinesAt, HasNone, LacksCo
 ghost use Rattle.grid_store.specs.internal.Ways.{form_goes};
 
 use crate::change::whole;
+use crate::columns::is_of_columns;
 use crate::grid::Grid;
 use crate::key::CellKey;
 use crate::way::{Way, lost_lines};
@@ -17,8 +18,8 @@ use shift_core::{Edit, Form, Shift};
 use stable_lines::Run;
 
 impl<V: Drop> Grid<V> {
-    /// Whether the operation is an insert of rows or columns that pushes a filled cell off the sheet. Takes no memory; costs about
-    /// the number of rows that hold any cell among those that are looked through.
+    /// Whether the operation is an insert of rows or columns that pushes a filled cell off the sheet. Takes no memory; costs the
+    /// number of runs of the last lines, as many as are put in, and the logarithm of the number of filled cells.
     pub fn pushed_off(&self, s: &Shift) -> bool
         ensures { IsTrue result ↔ PushesEntryOff s.now (cells_of self.now) }
     {
@@ -42,8 +43,19 @@ impl<V: Drop> Grid<V> {
         }
     }
 
-    // Whether a cell of the block is filled.
+    // Whether a cell of the block is filled, by its columns or by its rows.
     fn has_any(&self, area: Block) -> bool
+        ensures { IsTrue result ↔ HasAny area (cells_of self.now) }
+    {
+        if is_of_columns(area) {
+            self.has_any_by_cols(area)
+        } else {
+            self.has_any_by_rows(area)
+        }
+    }
+
+    // Whether a cell of the block is filled, by its runs of rows whose lines follow one another.
+    fn has_any_by_rows(&self, area: Block) -> bool
         ensures { IsTrue result ↔ HasAny area (cells_of self.now) }
     {
         let table = self.rows.table(area.sheet);
@@ -117,7 +129,7 @@ impl<V: Drop> Grid<V> {
             row,
             col: lines.to + lines.count,
         };
-        for (key, _cell) in self.cells.range(first..end) {
+        for (key, _cell) in self.cells.by_rows().range(first..end) {
             if let Some(at) = self.place(*key) {
                 if area.holds(at) {
                     return true;

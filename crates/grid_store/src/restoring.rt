@@ -13,6 +13,7 @@ ghost use Rattle.grid_store.specs.declared.way.Way.TheVariants.{Back};
 ghost use Rattle.grid_store.specs.internal.Lists.{AreEachInside};
 ghost use Rattle.grid_store.specs.internal.Ways.{carried_map, form_goes};
 
+use crate::cells::Cells;
 use crate::duplicate::Duplicate;
 use crate::grid::Grid;
 use crate::list::CellList;
@@ -20,7 +21,6 @@ use crate::way::Way;
 use cell_addr::Axis;
 use shift_core::Edit;
 use std::alloc::AllocError;
-use std::collections::BTreeMap;
 use std::mem;
 
 impl<V: Duplicate> Grid<V> {
@@ -68,7 +68,7 @@ impl<V: Duplicate> Grid<V> {
     {
         let rows = self.rows.copied()?;
         let cols = self.cols.copied()?;
-        let cells = mem::replace(&mut self.cells, BTreeMap::new(self.alloc));
+        let cells = mem::replace(&mut self.cells, Cells::new(self.alloc));
         let mut next = Grid {
             alloc: self.alloc,
             cells,

@@ -41,6 +41,15 @@ AreLinesAt t r = (i : ℕ) → i < r.count → line_at t (r.from + i) ≡ Some (
 abbrev pub IsAdded : {X : Type 0} → BTreeMap Place (Bor X) → Place → X → BTreeMap Place (Bor X) → Type 0
 IsAdded old at cell new = (q : Place) → look new q ≡ (if is_at (place_cmp at) q then Some cell else look old q)
 
+-- the block's cells of the columns from `low` to before `high` are found
+abbrev pub HasColumns : {X : Type 0} → Block → PlaceMap X → ℕ → ℕ → BTreeMap Place (Bor X) → Type 0
+HasColumns area m low high found =
+    (q : Place) → covers area q ≡ true → IsSome (map.get m q) → low ≤ q.col → q.col < high → IsSome (look found q)
+
+-- the map has nothing in the block's columns from `low` to before `high`
+abbrev pub LacksColumns : {X : Type 0} → Block → PlaceMap X → ℕ → ℕ → Type 0
+LacksColumns area m low high = (q : Place) → covers area q ≡ true → IsSome (map.get m q) → low ≤ q.col → q.col < high → ⊥
+
 -- the map has nothing in the block's rows from `low` to before `high`
 abbrev pub HasNone : {X : Type 0} → Block → PlaceMap X → ℕ → ℕ → Type 0
 HasNone area m low high = (q : Place) → covers area q ≡ true → IsSome (map.get m q) → low ≤ q.row → q.row < high → ⊥

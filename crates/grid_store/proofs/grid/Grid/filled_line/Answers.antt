@@ -4,11 +4,11 @@ use Rattle.grid_store.proofs.grid.Grid.filled_line.Goals as goal
 
 pub returns-in-Some-clause-within : goal.returns-in-Some-clause-within
 returns-in-Some-clause-within _ c =
-    let found = first_row c.args.self.now.cells c.args.sheet c.args.row c.args.end (c.in-Some.key.now, c.in-Some._cell.now) c.next.new.self c.range.result c.in-Some.ensures.steps (c.range.ensures.in_range tt) in (found.0, found.1)
+    let found = first_row c.by_rows.result.now c.args.sheet c.args.row c.args.end (c.in-Some.key.now, c.in-Some._cell.now) c.next.new.self c.range.result c.in-Some.ensures.steps (c.range.ensures.in_range tt) in (found.0, found.1)
 
 pub returns-in-Some-clause-before : goal.returns-in-Some-clause-before
 returns-in-Some-clause-before _ c =
-    (first_row c.args.self.now.cells c.args.sheet c.args.row c.args.end (c.in-Some.key.now, c.in-Some._cell.now) c.next.new.self c.range.result c.in-Some.ensures.steps (c.range.ensures.in_range tt)).2
+    rw (← c.by_rows.ensures) ((first_row c.by_rows.result.now c.args.sheet c.args.row c.args.end (c.in-Some.key.now, c.in-Some._cell.now) c.next.new.self c.range.result c.in-Some.ensures.steps (c.range.ensures.in_range tt)).2)
 
 pub returns-in-None-clause-none : goal.returns-in-None-clause-none
-returns-in-None-clause-none _ c = no_row c.args.self.now.cells c.args.sheet c.args.row c.args.end c.range.result c.in-None.ensures.steps.0 (c.range.ensures.in_range tt)
+returns-in-None-clause-none _ c = rw (← c.by_rows.ensures) (no_row c.by_rows.result.now c.args.sheet c.args.row c.args.end c.range.result c.in-None.ensures.steps.0 (c.range.ensures.in_range tt))

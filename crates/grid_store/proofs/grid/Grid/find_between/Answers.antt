@@ -8,8 +8,9 @@ use Rattle.grid_store.proofs.grid.Grid.find_between.Goals as goal
 pub loop-key-init : goal.loop-key-init
 loop-key-init _ c =
     let g = c.args.self.now in
-    begun g.rows g.cols g.cells c.args.area c.args.row c.args.lines c.args.found.now c.range-key-items.result c.into_iter-key-iterator.result c.requires.cells
-    c.into_iter-key-iterator.ensures.into_iter_gives (c.range-key-items.ensures.between tt) (c.range-key-items.ensures.in_range tt).0
+    rw (← c.by_rows.ensures)
+    (begun g.rows g.cols c.by_rows.result.now c.args.area c.args.row c.args.lines c.args.found.now c.range-key-items.result c.into_iter-key-iterator.result (rw c.by_rows.ensures c.requires.cells)
+    c.into_iter-key-iterator.ensures.into_iter_gives (c.range-key-items.ensures.between tt) (c.range-key-items.ensures.in_range tt).0)
 
 pub loop-key-preserved-in-Continue-1 : goal.loop-key-preserved-in-Continue-1
 loop-key-preserved-in-Continue-1 _ c =

@@ -8,7 +8,9 @@ use Rattle.grid_store.proofs.grid.Grid.has_any_between.Goals as goal
 pub loop-key-init : goal.loop-key-init
 loop-key-init _ c =
     let g = c.args.self.now in
-    search_begun g.rows g.cols g.cells c.args.area c.args.row c.args.lines c.range-key-items.result c.into_iter-key-iterator.result c.into_iter-key-iterator.ensures.into_iter_gives (c.range-key-items.ensures.between tt) (c.range-key-items.ensures.in_range tt).0
+    rw (← c.by_rows.ensures)
+    (search_begun g.rows g.cols c.by_rows.result.now c.args.area c.args.row c.args.lines c.range-key-items.result c.into_iter-key-iterator.result c.into_iter-key-iterator.ensures.into_iter_gives (c.range-key-items.ensures.between tt)
+    (c.range-key-items.ensures.in_range tt).0)
 
 pub loop-key-preserved-else-holds : goal.loop-key-preserved-else-holds
 loop-key-preserved-else-holds _ c =

@@ -1,12 +1,12 @@
 -- The cells come back to the lines that stayed.
-use Rattle.std.proofs.Common.{◌≡◌, ◌∙◌, ap, subst, IsSome}
+use Rattle.std.proofs.Common.{◌≡◌, ◌∙◌, sym, ap, subst, IsSome}
 use Rattle.std.specs.FinMap as map
 use Rattle.shift_core.specs.declared.form.Form.TheVariants.{Lines}
 use Rattle.grid_store.specs.Grid.{cells_of, items_of, with_entries}
 use Rattle.grid_store.specs.declared.way.Way.TheVariants.{Back}
 use Rattle.grid_store.specs.internal.Ways.{carried_map, form_goes}
 use Rattle.grid_store.proofs.SameKeys.{same_seen}
-use Rattle.grid_store.proofs.Unchanged.{seen_unchanged}
+use Rattle.grid_store.proofs.Unchanged.{place_unchanged, seen_unchanged}
 use Rattle.grid_store.proofs.Views.{kept, seen}
 use Rattle.grid_store.proofs.grid.Grid.restore_in_place.Goals as goal
 
@@ -19,6 +19,18 @@ turn_back-requires-clause-kept _ c = λ p some.
     ap (λ cells. seen rows.rows cols.cols cells.entries) c.replace-cells.ensures.value
     ∙ seen_unchanged g.rows g.cols rows.rows cols.cols rows.ensures.unchanged cols.ensures.unchanged g.cells.entries in
     c.requires.kept p (subst (λ m. IsSome (map.get m p)) same some)
+
+pub invariant_of-next : goal.invariant_of-next
+invariant_of-next _ c =
+    let g = c.args.self.now in
+    let rows = c.in_ok-rows in
+    let cols = c.in_ok-cols in record {
+      rows_limit = rows.ensures.limit ∙ g.rows_limit;
+      cols_limit = cols.ensures.limit ∙ g.cols_limit;
+      standing = λ k some.
+          subst IsSome (sym (place_unchanged g.rows g.cols rows.rows cols.cols rows.ensures.unchanged cols.ensures.unchanged k))
+          (g.standing k (subst IsSome (ap (λ cells. kept cells.entries k) c.replace-cells.ensures.value) some));
+    }
 
 pub invariant_of-self-in-Err : goal.invariant_of-self-in-Err
 invariant_of-self-in-Err _ c =

@@ -1,7 +1,7 @@
 use Rattle.std.proofs.Common.{◌<◌, arith}
 use Rattle.stable_lines.specs.Sheets.{table_of}
 use Rattle.grid_store.proofs.Listings.{seen_below}
-use Rattle.grid_store.proofs.grid.Grid.find.Goals as goal
+use Rattle.grid_store.proofs.grid.Grid.find_by_rows.Goals as goal
 
 pub returns-in_default-clause-rows : goal.returns-in_default-clause-rows
 returns-in_default-clause-rows _ c = λ q there some low high.

@@ -1,7 +1,7 @@
 use Rattle.std.proofs.Common.{◌<◌, arith}
 use Rattle.stable_lines.specs.Sheets.{table_of}
 use Rattle.grid_store.proofs.Listings.{seen_below}
-use Rattle.grid_store.proofs.grid.Grid.has_any.Goals as goal
+use Rattle.grid_store.proofs.grid.Grid.has_any_by_rows.Goals as goal
 
 pub returns-in_default : goal.returns-in_default
 returns-in_default _ c =

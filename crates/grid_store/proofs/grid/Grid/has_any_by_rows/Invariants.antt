@@ -1,7 +1,7 @@
 use Rattle.std.proofs.Common.{◌+◌, ◌-◌}
 use Rattle.grid_store.specs.Grid.{cells_of}
 use Rattle.grid_store.specs.internal.Listing.{HasNone}
-use Rattle.grid_store.proofs.grid.Grid.has_any.Given as goal
+use Rattle.grid_store.proofs.grid.Grid.has_any_by_rows.Given as goal
 
 abbrev pub invariant-loop-row : goal.invariant-loop-row
 invariant-loop-row _ l = HasNone l.area (cells_of l.self) 0 l.row

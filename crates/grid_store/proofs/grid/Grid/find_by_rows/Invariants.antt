@@ -1,7 +1,7 @@
 use Rattle.std.proofs.Common.{◌+◌, ◌-◌}
 use Rattle.grid_store.specs.Grid.{cells_of}
 use Rattle.grid_store.specs.internal.Listing.{AreCellsOf, HasRows}
-use Rattle.grid_store.proofs.grid.Grid.find.Given as goal
+use Rattle.grid_store.proofs.grid.Grid.find_by_rows.Given as goal
 
 abbrev pub invariant-loop-row : goal.invariant-loop-row
 invariant-loop-row _ l = record {
