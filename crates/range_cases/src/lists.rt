@@ -11,9 +11,17 @@ use std::fmt;
 use std::sync::ledger::Ledger;
 use steps::Steps;
 
-// How many calls a list has, and how many summaries a growing block and a rolling one have.
+// How many calls a list has.
 const CALLS: u32 = 400;
 
+// How many lists are drawn at each corner, and how many long ones besides, of so many calls: over these, tables of lines are merged.
+const LISTS: u64 = 12;
+
+const LONG_LISTS: u64 = 2;
+
+const LONG_CALLS: u32 = 2_000;
+
+// How many summaries a growing block and a rolling one have.
 const GROWTH: u32 = 8;
 
 const ROLLS: u32 = 6;
@@ -57,15 +65,15 @@ struct List {
     tally: Tally,
 }
 
-// What comes of so many lists, whose places are drawn near a corner.
+// What comes of lists whose places are drawn near a corner.
 pub(crate) fn lists<L: Ledger>(
     alloc: Global,
     corner: Corner,
-    seeds: u64,
     steps: &mut Steps<L>,
 ) -> Result<Tally, AllocError> {
     let mut tally = Tally::default();
-    'seeds: for seed in 0..seeds {
+    'seeds: for seed in 0..LISTS + LONG_LISTS {
+        let calls = if seed < LISTS { CALLS } else { LONG_CALLS };
         let mut list = List {
             alloc,
             both: Both::new(alloc)?,
@@ -73,16 +81,16 @@ pub(crate) fn lists<L: Ledger>(
             draws: Draws::new(seed, corner),
             tally,
         };
-        list.run(steps)?;
+        list.run(calls, steps)?;
         tally = list.tally;
     }
     Ok(tally)
 }
 
 impl List {
-    // Makes all calls of the list.
-    fn run<L: Ledger>(&mut self, steps: &mut Steps<L>) -> Result<(), AllocError> {
-        'calls: for _ in 0..CALLS {
+    // Makes so many calls.
+    fn run<L: Ledger>(&mut self, calls: u32, steps: &mut Steps<L>) -> Result<(), AllocError> {
+        'calls: for _ in 0..calls {
             self.call(steps)?;
         }
         Ok(())

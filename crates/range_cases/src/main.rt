@@ -21,9 +21,6 @@ use std::process::ExitCode;
 use std::sync::ledger::{Blank, Ledger};
 use steps::Steps;
 
-// How many lists are drawn at each corner.
-const LISTS: u64 = 12;
-
 fn main(rt: HostRuntime) -> ExitCode {
     match run::<Brand>(&rt, Blank::new(1)) {
         Ok(true) => ExitCode::SUCCESS,
@@ -65,7 +62,7 @@ fn calls_hold<L: Ledger>(rt: &HostRuntime, steps: &mut Steps<L>) -> io::Result<b
 fn lists_agree<L: Ledger>(rt: &HostRuntime, steps: &mut Steps<L>) -> io::Result<bool> {
     let mut all = true;
     'corners: for corner in Corner::ALL {
-        let tally = lists(rt.alloc(), corner, LISTS, steps)?;
+        let tally = lists(rt.alloc(), corner, steps)?;
         println!(rt; "lists at {corner}: {tally}")?;
         all = all && tally.differ == 0;
     }

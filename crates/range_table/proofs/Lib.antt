@@ -1,8 +1,11 @@
 pub mod Sums
 pub mod Orders
-pub mod Maps
-pub mod Found
+pub mod Numbers
+pub mod Growing
+pub mod GivingUp
 pub mod Rows
 pub mod Staying
-pub mod Passing
 pub mod Moving
+pub mod Changing
+pub mod Taking
+pub mod Finding

@@ -1,12 +1,9 @@
 -- Kept summaries taken along with structural operations. Serves `shift` and its law.
-use Rattle.std.proofs.Common.{◌≡◌, ◌∙◌, sym, ap, refl, subst, arith, ℕ, ◌+◌, ◌-◌, ◌<◌, ◌⊎◌, inl, inr, Bool, true, false, ◌&&◌, List, [], ◌∷◌, ◌++◌, Option, Some, None, MatchOption, IsSome, is_some}
+use Rattle.std.proofs.Common.{◌≡◌, ◌∙◌, sym, ap, refl, subst, arith, ℕ, ◌+◌, ◌-◌, ◌<◌, ◌⊎◌, inl, inr, Bool, true, false, ◌&&◌, Option, Some, None, MatchOption, IsSome, is_some}
 use Rattle.std.specs.Bool.{⊤}
-use Rattle.std.specs.FinMap.{empty, get, get-empty, insert}
+use Rattle.std.specs.FinMap.{empty, get, get-empty}
 use Rattle.std.specs.Option.{IfSome}
-use Rattle.std.specs.List.Sorted.{IsStrictlySortedBy}
-use Rattle.std.specs.Map.{keys_of}
 use Rattle.std.proofs.lemmas.Bool.{and_parts, cases_eq}
-use Rattle.std.proofs.lemmas.List.{append-nil}
 use Rattle.std.proofs.lemmas.Option.{same_Some}
 use Rattle.cell_addr.specs.Place.{CoverOne, Covers, CoversAllOf, IsBlockInside, covers}
 use Rattle.cell_addr.specs.declared.place.Block.{Block}
@@ -27,18 +24,13 @@ use Rattle.shift_core.proofs.UnbentBlocks.{unbent_keeps, unbent_returns}
 use Rattle.range_table.specs.Blocks.{BlockMap, block_cmp}
 use Rattle.range_table.specs.Cells.{fold, height, width}
 use Rattle.range_table.specs.Laws.{KeptBlocksTakeTheirCells}
-use Rattle.range_table.specs.Shifted.{AreMoved, GivesUpBlock, KeepsBlock, TakesValues, TearsBlock}
+use Rattle.range_table.specs.Shifted.{AreMoved, KeepsBlock, TakesValues, TearsBlock}
 use Rattle.range_table.specs.Table.{AreFolds}
-use Rattle.range_table.specs.declared.key.BlockKey.{BlockKey}
-use Rattle.range_table.specs.internal.Keys.{block_of, kept_for, key_cmp, map_of}
-use Rattle.range_table.specs.internal.Moved.{TakesOne}
-use Rattle.range_table.proofs.Maps.{get-inserted, get-map_of, get-other, split-inserted}
-use Rattle.range_table.proofs.Passing.{absent_before, append_one, kept_front, map_of-next}
 use Rattle.range_table.proofs.Staying.{folds_apart}
 
 -- ---- a block that keeps its summary takes its cells along
 
-covered_in : (source b : Block) (p : Place) → contains source b ≡ true → Covers b p → Covers source p
+pub covered_in : (source b : Block) (p : Place) → contains source b ≡ true → Covers b p → Covers source p
 covered_in source b p h c =
     let w = and_parts (covers source (first_place b)) (covers source (last_place b)) h in
     let first = Covers-from_covers source (first_place b) w.0 in
@@ -49,7 +41,7 @@ both : (s t : Bool) → s ≡ true → t ≡ true → (s && t) ≡ true
 both true t h k = k
 both false t h k = h
 
-contains-all : (source b : Block) → IsBlockInside b → CoversAllOf source b → contains source b ≡ true
+pub contains-all : (source b : Block) → IsBlockInside b → CoversAllOf source b → contains source b ≡ true
 contains-all source b i all =
     both (covers source (first_place b)) (covers source (last_place b))
     (covers-from_Covers source (first_place b) (all (first_place b) (refl, omega arith, omega arith, omega arith, omega arith)))
@@ -144,89 +136,16 @@ shifted_right s before now old new sound inside moved takes right after x is =
     let (b, (keeps, had)) = (moved after x).0 is in
     right b x had ∙ fold_along s before now b after sound (inside b (ap is_some had)) keeps takes
 
--- ---- one kept summary after another
-
 -- no two blocks that keep their summaries move to one
-one_origin : (s : Shift) (b other after : Block) → IsSound s → IsBlockInside b → IsBlockInside other → KeepsBlock s b after → KeepsBlock s other after → b ≡ other
+pub one_origin : (s : Shift) (b other after : Block) → IsSound s → IsBlockInside b → IsBlockInside other → KeepsBlock s b after → KeepsBlock s other after → b ≡ other
 one_origin s b other after sound i j (kept, h) (kept_too, k) =
     same_Some b other
     (sym (unbent_returns (form_of s) b after sound i (λ bent. kept (inl bent)) (λ cut. kept (inr (inl cut))) h)
     ∙ unbent_returns (form_of s) other after sound j (λ bent. kept_too (inl bent)) (λ cut. kept_too (inr (inl cut))) k)
 
-module _ (s : Shift) (old new next : BlockMap Summary) (b : Block) (x : Summary) (sound : IsSound s) (i : IsBlockInside b) (inside : (c : Block) → IsSome (get old c) → IsBlockInside c)
-    (none : get old b ≡ None) (moved : AreMoved s old new) where
-  abbrev Origin : Block → Summary → Type 0
-  Origin after y = (c : Block) × (KeepsBlock s c after × (get (insert old b x) c ≡ Some y))
-
-  -- a block that was kept before is kept beside one more
-  before-too : (c : Block) (y : Summary) → get old c ≡ Some y → get (insert old b x) c ≡ Some y
-  before-too c y had = get-other old b c x y (λ e. let there = sym none ∙ ap (get old) (sym e) ∙ had in cc) had
-
-  origin_before : (after : Block) (y : Summary) → get new after ≡ Some y → Origin after y
-  origin_before after y is = let (c, (keeps, had)) = (moved after y).0 is in (c, (keeps, before-too c y had))
-
-  more_given_up : GivesUpBlock s b → next ≡ new → AreMoved s (insert old b x) next
-  more_given_up gone same after y = (
-    λ is. origin_before after y (ap (λ m. get m after) (sym same) ∙ is),
-    λ (c, (keeps, had)). ap (λ m. get m after) same ∙ elim (split-inserted old b c x y had) [
-      | inl w ↦ absurd (keeps.0 (subst (GivesUpBlock s) (sym w.0) gone))
-      | inr w ↦ (moved after y).1 (c, (keeps, w))
-    ],
-  )
-
-  more_kept : (here : Block) → KeepsBlock s b here → next ≡ insert new here x → AreMoved s (insert old b x) next
-  more_kept here keeps same after y = (
-    λ is. elim (split-inserted new here after x y (ap (λ m. get m after) (sym same) ∙ is)) [
-      | inl w ↦ (b, (subst (KeepsBlock s b) (sym w.0) keeps, get-inserted old b x ∙ ap (λ z. Some z) w.1))
-      | inr w ↦ origin_before after y w
-    ],
-    λ (c, (keeps_too, had)). ap (λ m. get m after) same ∙ elim (split-inserted old b c x y had) [
-      | inl w ↦
-          let there : after ≡ here = same_Some after here (sym keeps_too.1 ∙ ap (block_after s) w.0 ∙ keeps.1) in
-          ap (get (insert new here x)) there ∙ get-inserted new here x ∙ ap (λ z. Some z) w.1
-      | inr w ↦
-          get-other new here after x y
-          (λ e.
-          let one = one_origin s c b after sound (inside c (ap is_some w)) i keeps_too (subst (KeepsBlock s b) (sym e) keeps) in
-          let there = sym none ∙ ap (get old) (sym one) ∙ w in
-          cc)
-          ((moved after y).1 (c, (keeps_too, w)))
-    ],
-  )
-
-  -- the summary of one block more is taken along
-  pub moved_more : TakesOne s b x new next → AreMoved s (insert old b x) next
-  moved_more takes = elim takes [
-    | inl w ↦ more_kept w.0 w.1.0 w.1.1
-    | inr w ↦ more_given_up w.0 w.1
-  ]
-
--- so far the entries gone by are taken along
-pub record IsTaken (s : Shift) (all rest new : List (BlockKey × Summary)) : Type 0 where
-  pub done : List (BlockKey × Summary)
-  pub parts : done ++ rest ≡ all
-  pub moved : AreMoved s (map_of done) (map_of new)
-
-nothing_moved : (s : Shift) (none : BlockMap Summary) → none ≡ empty → AreMoved s empty none
-nothing_moved s none same after x = (
-  λ is. let gone = sym (get-empty block_cmp after) ∙ ap (λ (m : BlockMap Summary). get m after) (sym same) ∙ is in absurd (cc),
+-- where nothing is kept, nothing is taken along
+pub nothing_moved : (s : Shift) → AreMoved s empty empty
+nothing_moved s after x = (
+  λ is. let gone = sym (get-empty block_cmp after) ∙ is in absurd (cc),
   λ (b, (keeps, had)). let gone = sym (get-empty block_cmp b) ∙ had in absurd (cc),
 )
-
-pub taken_first : (s : Shift) (all moved : List (BlockKey × Summary)) → map_of moved ≡ empty → IsTaken s all all moved
-taken_first s all moved same = record { done = []; parts = refl; moved = nothing_moved s (map_of moved) same }
-
-pub taken_all : (s : Shift) (all moved : List (BlockKey × Summary)) → IsTaken s all [] moved → AreMoved s (map_of all) (map_of moved)
-taken_all s all moved t = subst (λ es. AreMoved s (map_of es) (map_of moved)) (sym (append-nil t.done) ∙ t.parts) t.moved
-
-pub taken_next : (s : Shift) (all : List (BlockKey × Summary)) (e : BlockKey × Summary) (rest moved next : List (BlockKey × Summary)) → IsSound s → IsStrictlySortedBy key_cmp (keys_of all)
-    → ((c : Block) → IsSome (kept_for all c) → IsBlockInside c) → IsBlockInside (block_of e.0) → IsTaken s all (e ∷ rest) moved → TakesOne s (block_of e.0) e.1 (map_of moved) (map_of next) → IsTaken s all rest next
-taken_next s all e rest moved next sound sorted inside here t takes = record {
-  done = t.done ++ e ∷ [];
-  parts = append_one t.done e rest ∙ t.parts;
-  moved = subst (λ m. AreMoved s m (map_of next)) (sym (map_of-next all t.done e rest sorted t.parts))
-      (moved_more s (map_of t.done) (map_of moved) (map_of next) (block_of e.0) e.1 sound here
-      (λ c some. inside c (subst (λ es. IsSome (kept_for es c)) t.parts (kept_front c t.done (e ∷ rest) (subst IsSome (get-map_of t.done c) some))))
-      (get-map_of t.done (block_of e.0) ∙ absent_before t.done e rest (subst (λ es. IsStrictlySortedBy key_cmp (keys_of es)) (sym t.parts) sorted))
-      t.moved takes);
-}

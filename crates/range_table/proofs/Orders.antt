@@ -1,4 +1,4 @@
--- The orders of blocks, of their keys and of keys of slots are total, and equal ones alone tie. Serves the maps.
+-- The order of blocks is total, and equal ones alone tie. Serves the maps.
 use Rattle.std.proofs.Common.{◌≡◌, refl}
 use Rattle.std.specs.declared.cmp.Ordering.{Ordering}
 use Rattle.std.specs.declared.cmp.Ordering.TheVariants.{Less, Equal, Greater}
@@ -6,12 +6,8 @@ use Rattle.std.specs.Ordering.{nat_cmp, ordering_then}
 use Rattle.std.specs.Cmp.{IsTotalOrder, nat_cmp_total}
 use Rattle.std.proofs.lemmas.Cmp.{then_total, on_total}
 use Rattle.std.specs.FinMap.{IsAntisymmetric, nat_cmp-IsAntisymmetric}
-use Rattle.block_slots.specs.declared.segment.Segment.{Segment}
-use Rattle.block_slots.specs.declared.slot.Slot.{Slot}
 use Rattle.cell_addr.specs.declared.place.Block.{Block}
 use Rattle.range_table.specs.Blocks.{block_cmp}
-use Rattle.range_table.specs.declared.lists.SlotKey.{SlotKey}
-use Rattle.range_table.specs.internal.Index.{segment_cmp, slot_cmp, slot_key_cmp}
 
 first-equal : (a b : Ordering) → ordering_then a b ≡ Equal → a ≡ Equal
 first-equal Less b e = cc
@@ -44,30 +40,3 @@ block_cmp-IsAntisymmetric x y e =
     let bottom = nat_cmp-IsAntisymmetric x.bottom y.bottom (first-equal (nat_cmp x.bottom y.bottom) (nat_cmp x.right y.right) ends) in
     let right = nat_cmp-IsAntisymmetric x.right y.right (second-equal (nat_cmp x.bottom y.bottom) (nat_cmp x.right y.right) ends) in
     λ i. record { sheet = sheet i; top = top i; left = left i; bottom = bottom i; right = right i }
-
-segment_cmp-IsTotalOrder : IsTotalOrder segment_cmp
-segment_cmp-IsTotalOrder = then_total (on_total (λ (s : Segment). s.level) nat_cmp_total) (on_total (λ (s : Segment). s.index) nat_cmp_total)
-
-segment_cmp-IsAntisymmetric : IsAntisymmetric segment_cmp
-segment_cmp-IsAntisymmetric x y e =
-    let level = nat_cmp-IsAntisymmetric x.level y.level (first-equal (nat_cmp x.level y.level) (nat_cmp x.index y.index) e) in
-    let index = nat_cmp-IsAntisymmetric x.index y.index (second-equal (nat_cmp x.level y.level) (nat_cmp x.index y.index) e) in
-    λ i. record { level = level i; index = index i }
-
-slot_cmp-IsTotalOrder : IsTotalOrder slot_cmp
-slot_cmp-IsTotalOrder = then_total (on_total (λ (s : Slot). s.rows) segment_cmp-IsTotalOrder) (on_total (λ (s : Slot). s.cols) segment_cmp-IsTotalOrder)
-
-slot_cmp-IsAntisymmetric : IsAntisymmetric slot_cmp
-slot_cmp-IsAntisymmetric x y e =
-    let rows = segment_cmp-IsAntisymmetric x.rows y.rows (first-equal (segment_cmp x.rows y.rows) (segment_cmp x.cols y.cols) e) in
-    let cols = segment_cmp-IsAntisymmetric x.cols y.cols (second-equal (segment_cmp x.rows y.rows) (segment_cmp x.cols y.cols) e) in
-    λ i. record { rows = rows i; cols = cols i }
-
-pub slot_key_cmp-IsTotalOrder : IsTotalOrder slot_key_cmp
-slot_key_cmp-IsTotalOrder = then_total (on_total (λ (k : SlotKey). k.sheet) nat_cmp_total) (on_total (λ (k : SlotKey). k.slot) slot_cmp-IsTotalOrder)
-
-pub slot_key_cmp-IsAntisymmetric : IsAntisymmetric slot_key_cmp
-slot_key_cmp-IsAntisymmetric x y e =
-    let sheet = nat_cmp-IsAntisymmetric x.sheet y.sheet (first-equal (nat_cmp x.sheet y.sheet) (slot_cmp x.slot y.slot) e) in
-    let slot = slot_cmp-IsAntisymmetric x.slot y.slot (second-equal (nat_cmp x.sheet y.sheet) (slot_cmp x.slot y.slot) e) in
-    λ i. record { sheet = sheet i; slot = slot i }

@@ -4,7 +4,9 @@
 //! have values, as [`Cells`] tells them, and keeps it. Where that of the block without its last row is kept, only the last
 //! row is merged, so prefix sums over n rows cost n cells and not their square. [`Ranges::touch`] gives up the summaries
 //! whose blocks hold a cell that gets another value; these are found by slots, with no scan of all blocks.
-//! [`Ranges::shift`] takes the summaries along with a structural operation.
+//! [`Ranges::shift`] takes the summaries along with a structural operation. They are kept by the numbers of the lines of
+//! their blocks ([`place_lines`]), which stay while operations move these, so that it looks only at the blocks that the
+//! operation touches ([`touch_index`]).
 //!
 //! ```text
 //! let mut ranges = Ranges::new(alloc)?;
@@ -15,13 +17,18 @@
 #![tactic(auto)]
 
 mod cells;
+mod changes;
+mod copy;
+mod fate;
+mod files;
+mod giving_up;
 mod kept;
-mod key;
 mod laws;
-mod lists;
 mod ranges;
 mod shifting;
+mod state;
 mod summing;
+mod table;
 
 pub use cell_value::Summary;
 pub use cells::Cells;

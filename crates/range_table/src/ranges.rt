@@ -15,12 +15,14 @@ use steps::Steps;
 /// moves cells by a structural operation takes the summaries along by [`Ranges::shift`]; then each kept one is right.
 #[derive(Drop)]
 pub struct Ranges {
-    kept: Kept,
+    alloc: Global,
+    // None as long as nothing was kept.
+    kept: Option<Box<Kept>>,
     merged: u64,
 }
 
 impl Ranges {
-    ghost use Rattle.std.specs.Prelude.{◌≡◌, ◌+◌, IfOk, OnOk, OnErr, IsOk};
+    ghost use Rattle.std.specs.Prelude.{◌≡◌, ◌+◌, IfOk, OnOk, OnErr, IsOk, IsSome};
     ghost use Rattle.std.specs.FinMap as map;
     ghost use Rattle.cell_addr.specs.Place.{IsBlockInside};
     ghost use Rattle.cell_addr.specs.declared.place.Place.{Place};
@@ -39,7 +41,8 @@ impl Ranges {
         ensures ok { IsOk result }
     {
         Ok(Ranges {
-            kept: Kept::new(alloc),
+            alloc,
+            kept: None,
             merged: 0,
         })
     }
@@ -51,19 +54,28 @@ impl Ranges {
         self.merged
     }
 
-    /// Gives up each kept summary whose block holds the place, and no other. Takes no memory. Costs a look-up for each size
-    /// of slots in use, and the number of the blocks, of those kept at some time, that hold the place.
+    /// Gives up each kept summary whose block holds the place, and no other. Costs a look-up for each size of slots in use,
+    /// and the number of the blocks, of those kept at some time, that hold the place. Where there is no memory for the list
+    /// of these slots it costs the number of all blocks that were kept at some time.
     pub fn touch(&mut self, at: Place)
         ensures { table_of self.new ≡ touched at (table_of self.old) }
     {
-        self.kept.give_up(at);
+        match &mut self.kept {
+            Some(kept) => kept.give_up(at),
+            None => (),
+        }
     }
 
     /// Takes the kept summaries along with a structural operation: each moves with its block. Given up are those of a block
     /// that the operation bends, cuts at the sheet's end, or takes some but not all cells out of or puts cells over. So a
     /// block that keeps its summary has the same cells after the operation, and where each cell takes its value along, a
-    /// kept summary that was right is right. For want of memory all is as it was. Costs the number of the kept summaries, and
-    /// that of the slots of the blocks that keep theirs.
+    /// kept summary that was right is right. Where there is no memory, or where the numbers of lines are used up, after more
+    /// edits than fit a lifetime, all is as it was.
+    ///
+    /// Costs the runs of lines of all edited sheets, which are copied, a search for each run of the lines that the operation
+    /// loses or displaces, and what it finds: the blocks that it bends, cuts, tears or takes along, of those kept at some
+    /// time; for each that it takes along the number of its slots. What it only carries along isn't looked at. Now and then,
+    /// where operations may have left behind more than is kept, all is made anew, which costs what [`Ranges::copied`] does.
     pub fn shift(&mut self, s: &Shift) -> Result<(), AllocError>
         requires { IsSound s.now }
         ensures moved { OnOk result (AreMoved s.now (table_of self.old).kept (table_of self.new).kept) }
@@ -71,8 +83,10 @@ impl Ranges {
         ensures merged { (table_of self.new).merged ≡ (table_of self.old).merged }
         ensures err { OnErr result (table_of self.new ≡ table_of self.old) }
     {
-        self.kept = self.kept.shifted(s)?;
-        Ok(())
+        match &mut self.kept {
+            Some(kept) => kept.shift_and_renew(s),
+            None => Ok(()),
+        }
     }
 
     /// What the numbers of the block's cells come to, where each kept summary is that of its block. The summary is kept
@@ -95,9 +109,26 @@ impl Ranges {
         ensures err { OnErr result (table_of self.new ≡ table_of self.old) }
         ensures err_steps { OnErr result (steps.new ≡ steps.old) }
     {
-        let merged = self.kept.summary(b, cells, steps)?;
-        self.merged = self.merged.saturating_add(merged.cells);
-        Ok(merged.summary)
+        self.begin()?;
+        match &mut self.kept {
+            Some(kept) => {
+                let merged = kept.summary(b, cells, steps)?;
+                self.merged = self.merged.saturating_add(merged.cells);
+                Ok(merged.summary)
+            }
+            None => unreachable!(),
+        }
+    }
+
+    // Makes room for the first summary.
+    fn begin(&mut self) -> Result<(), AllocError>
+        ensures same { table_of self.new ≡ table_of self.old }
+        ensures some { OnOk result (IsSome self.new.kept) }
+    {
+        if self.kept.is_none() {
+            self.kept = Some(Box::new(self.alloc, Kept::new(self.alloc)?)?);
+        }
+        Ok(())
     }
 
     /// Equal kept summaries, and the same count of merged cells. Costs the number of the summaries, and that of the slots of
@@ -105,8 +136,13 @@ impl Ranges {
     pub fn copied(&self) -> Result<Ranges, AllocError>
         ensures { IfOk result (λ copy. table_of copy ≡ table_of self.now) }
     {
+        let kept = match &self.kept {
+            Some(kept) => Some(Box::new(self.alloc, kept.copied()?)?),
+            None => None,
+        };
         Ok(Ranges {
-            kept: self.kept.copied()?,
+            alloc: self.alloc,
+            kept,
             merged: self.merged,
         })
     }

@@ -1,99 +1,150 @@
 // Kept summaries taken along with structural operations.
-ghost use Rattle.std.specs.Prelude.{◌≡◌, ◌↔◌, IsTrue, IsNone, IfSome, OnErr};
+ghost use Rattle.std.specs.Prelude.{◌≡◌, ◌++◌, ◌∷◌, ℕ, List, [], false, IfOk, OnOk, OnErr, IfSome, IsNone};
 ghost use Rattle.cell_addr.specs.Place.{IsBlockInside};
-ghost use Rattle.cell_value.specs.Summary.{IsBounded};
-ghost use Rattle.shift_core.specs.Bent.{IsBent, IsCut};
-ghost use Rattle.shift_core.specs.Carried as carried;
-ghost use Rattle.shift_core.specs.Form.{form_of};
 ghost use Rattle.shift_core.specs.Sound.{IsSound};
-ghost use Rattle.range_table.specs.Shifted.{GivesUpBlock, KeepsBlock, TearsBlock};
 
+use crate::changes::Changes;
+use crate::fate::{Fate, fate_of};
 use crate::kept::Kept;
-use cell_addr::{Block, Place};
-use cell_value::Summary;
-use shift_core::{Shift, is_bent, is_cut, moved_block};
+use cell_addr::Block;
+use place_lines::PlaceLines;
+use shift_core::Shift;
 use std::alloc::AllocError;
 
 impl Kept {
-    ghost use Rattle.std.specs.Prelude.{IfOk, OnOk};
-    ghost use Rattle.range_table.specs.Shifted.{AreMoved};
-    ghost use Rattle.range_table.specs.internal.Keys.{map_of};
-    ghost use Rattle.range_table.specs.internal.Moved.{TakesOne};
+    ghost use Rattle.cell_addr.specs.declared.place.Place.{Place};
+    ghost use Rattle.cell_value.specs.declared.scalar.Scalar.{Scalar};
+    ghost use Rattle.range_table.specs.Shifted.{AreMoved, TakesValues};
+    ghost use Rattle.range_table.specs.Table.{AreFolds};
+    ghost use Rattle.range_table.specs.internal.Files.{FindsGivenUp};
+    ghost use Rattle.range_table.specs.internal.Kept.{Grows, map_of};
+    ghost use Rattle.range_table.specs.internal.Shifting.{AreChanges, TakesTo};
+    ghost use Rattle.range_table.specs.internal.States.{is_found};
+    ghost use Rattle.range_table.specs.internal.Tables.{IsUnder, known};
 
-    // The summaries after the operation. Costs their number, and that of the slots of those that are kept on.
-    #[tactic(auto, using(crate::proofs::Moving::taken_first))]
-    pub(crate) fn shifted(&self, s: &Shift) -> Result<Kept, AllocError>
+    // Moves the summaries over the operation. Costs what the operation touches, and the runs of lines, which are copied.
+    fn shift(&mut self, s: &Shift) -> Result<(), AllocError>
         requires { IsSound s.now }
-        ensures { IfOk result (λ moved. AreMoved s.now (map_of self.now.summaries.entries) (map_of moved.summaries.entries)) }
+        ensures ok { OnOk result (AreMoved s.now (map_of self.old) (map_of self.new)) }
+        ensures err { OnErr result (map_of self.new ≡ map_of self.old) }
     {
-        let mut moved = Kept::new(self.lists.alloc);
-        for (key, summary) in &self.summaries {
-            moved.take_one(s, key.block(), *summary)?;
-        }
-        Ok(moved)
+        let lines = self.table.lines.moved(self.alloc, s)?;
+        let found = self.files.touched(&self.table.lines, s)?;
+        let changes = self.changes(&lines, s, &found)?;
+        let left = changes.left.len().saturating_add(RUNS);
+        self.left_behind = self.left_behind.saturating_add(left);
+        self.table.change(&changes);
+        self.table.set_lines(lines);
+        Ok(())
     }
 
-    // Keeps the summary of a block for the block that it moves to, unless the operation gives it up.
-    fn take_one(&mut self, s: &Shift, b: Block, summary: Summary) -> Result<(), AllocError>
-        requires sound { IsSound s.now }
-        requires inside { IsBlockInside b }
-        requires bounded { IsBounded summary }
-        ensures { OnOk result (TakesOne s.now b summary (map_of self.old.summaries.entries) (map_of self.new.summaries.entries)) }
+    // Does so, and makes all anew where much was left behind.
+    pub(crate) fn shift_and_renew(&mut self, s: &Shift) -> Result<(), AllocError>
+        requires { IsSound s.now }
+        ensures ok { OnOk result (AreMoved s.now (map_of self.old) (map_of self.new)) }
+        ensures right { OnOk result ((before after : Place → Scalar) → TakesValues s.now before after → AreFolds before (map_of self.old) → AreFolds after (map_of self.new)) }
+        ensures err { OnErr result (map_of self.new ≡ map_of self.old) }
     {
-        match kept_on(s, b) {
-            Some(after) => self.keep(after, summary),
+        self.shift(s)?;
+        self.renew_worn();
+        Ok(())
+    }
+
+    // What the operation makes of the found numbers. The numbers of blocks to which it takes others along are added, and
+    // these blocks are filed where they stand then; what is kept stays.
+    fn changes(
+        &mut self,
+        lines: &PlaceLines,
+        s: &Shift,
+        found: &[usize],
+    ) -> Result<Changes, AllocError>
+        requires sound { IsSound s.now }
+        ensures grown { Grows self.old self.new }
+        ensures changes { IfOk result (AreChanges s.now lines.now self.new found.now) }
+    {
+        let mut changes = Changes::new(self.alloc);
+        'numbers: for number in found {
+            self.change_one(&mut changes, lines, s, *number)?;
+        }
+        Ok(changes)
+    }
+
+    // What the operation makes of a number.
+    fn change_one(
+        &mut self,
+        changes: &mut Changes,
+        lines: &PlaceLines,
+        s: &Shift,
+        number: usize,
+    ) -> Result<(), AllocError>
+        requires { IsSound s.now }
+        ensures grown { Grows self.old self.new }
+        ensures changed { OnOk result ((gone : List ℕ) → AreChanges s.now lines.now self.old gone changes.old → AreChanges s.now lines.now self.new (gone ++ number ∷ []) changes.new) }
+    {
+        match self.found_block(number) {
+            Some(block) => self.change_block(changes, lines, s, number, block),
             None => Ok(()),
         }
     }
-}
 
-// Where the block moves, unless the operation gives up what is kept for it.
-fn kept_on(s: &Shift, b: Block) -> Option<Block>
-    requires sound { IsSound s.now }
-    requires inside { IsBlockInside b }
-    ensures kept { IfSome result (KeepsBlock s.now b) }
-    ensures inside { IfSome result IsBlockInside }
-    ensures given_up { IsNone result → GivesUpBlock s.now b }
-{
-    if gives_up(s, b) {
-        None
-    } else {
-        moved_block(s, b)
-    }
-}
-
-// Whether the operation gives up what is kept for the block.
-fn gives_up(s: &Shift, b: Block) -> bool
-    requires { IsSound s.now }
-    ensures { IsTrue result ↔ GivesUpBlock s.now b }
-{
-    is_bent(s, b) || is_cut(s, b) || tears(s, b)
-}
-
-// Whether the operation moves cells out of the block or over it, and not the whole block.
-fn tears(s: &Shift, b: Block) -> bool
-    requires { IsSound s.now }
-    ensures { IsTrue result ↔ TearsBlock (form_of s.now) b }
-{
-    match *s {
-        Shift::MoveBlock { source, to } => {
-            !source.contains(b) && (b.meets(source) || b.meets(destination(source, to)))
+    // The block of a number of which something is known.
+    fn found_block(&self, number: usize) -> Option<Block>
+        ensures some { IfSome result (λ b. IsUnder self.now.table number b × IsBlockInside b) }
+        ensures none { IsNone result → is_found (known self.now.table number) ≡ false }
+    {
+        if self.table.state(number).is_found() {
+            self.table.block(number)
+        } else {
+            None
         }
-        _ => false,
+    }
+
+    // What the operation makes of the number of a block.
+    fn change_block(
+        &mut self,
+        changes: &mut Changes,
+        lines: &PlaceLines,
+        s: &Shift,
+        number: usize,
+        block: Block,
+    ) -> Result<(), AllocError>
+        requires sound { IsSound s.now }
+        requires under { IsUnder self.old.table number block }
+        requires inside { IsBlockInside block }
+        ensures grown { Grows self.old self.new }
+        ensures changed { OnOk result ((gone : List ℕ) → AreChanges s.now lines.now self.old gone changes.old → AreChanges s.now lines.now self.new (gone ++ number ∷ []) changes.new) }
+    {
+        match fate_of(s, block) {
+            Fate::Stays => Ok(()),
+            Fate::Moves(after) => {
+                self.take(changes, lines, number, after)?;
+                changes.leave(number)
+            }
+            Fate::Ends => changes.leave(number),
+        }
+    }
+
+    // Takes what is kept under a number along to the block that its block becomes.
+    fn take(
+        &mut self,
+        changes: &mut Changes,
+        lines: &PlaceLines,
+        number: usize,
+        after: Block,
+    ) -> Result<(), AllocError>
+        requires { IsBlockInside after }
+        ensures grown { Grows self.old self.new }
+        ensures left { changes.new.left ≡ changes.old.left }
+        ensures taken { OnOk result (TakesTo lines.now number after self.new changes.old changes.new) }
+    {
+        if let Some(summary) = self.table.state(number).summary() {
+            let arrival = self.table.know(lines.area(after))?;
+            self.files.file(lines, after, arrival)?;
+            changes.arrive(arrival, summary)?;
+        }
+        Ok(())
     }
 }
 
-// The block of the size of `source` that begins at `to`.
-fn destination(source: Block, to: Place) -> Block
-    requires source_inside { IsBlockInside source }
-    requires inside { IsBlockInside (carried.destination source to) }
-    ensures { result ≡ carried.destination source to }
-{
-    Block {
-        sheet: to.sheet,
-        top: to.row,
-        left: to.col,
-        bottom: to.row + (source.bottom - source.top),
-        right: to.col + (source.right - source.left),
-    }
-}
+// About how many runs of lines an edit adds.
+const RUNS: usize = 2;

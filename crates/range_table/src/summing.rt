@@ -25,7 +25,7 @@ impl Kept {
     ghost use Rattle.std.specs.Prelude.{IfOk, OnOk, OnErr};
     ghost use Rattle.std.specs.FinMap as map;
     ghost use Rattle.range_table.specs.Table.{AreFolds, begun, cells_to_merge};
-    ghost use Rattle.range_table.specs.internal.Keys.{map_of};
+    ghost use Rattle.range_table.specs.internal.Kept.{map_of};
 
     // The summary of the block, which is kept from now on. For want of memory
     // all is as it was, and no cell was merged.
@@ -36,13 +36,13 @@ impl Kept {
         steps: &mut Steps<L>,
     ) -> Result<Merged, AllocError>
         requires inside { IsBlockInside b }
-        requires right { AreFolds (C.values cells.now) (map_of self.old.summaries.entries) }
+        requires right { AreFolds (C.values cells.now) (map_of self.old) }
         ensures fold { IfOk result (λ merged. merged.summary ≡ fold (C.values cells.now) b) }
         ensures bounded { IfOk result (λ merged. IsBounded merged.summary) }
-        ensures merged { IfOk result (λ merged. merged.cells ≡ cells_to_merge (map_of self.old.summaries.entries) b) }
-        ensures kept { OnOk result (map_of self.new.summaries.entries ≡ map.insert (map_of self.old.summaries.entries) b (fold (C.values cells.now) b)) }
-        ensures steps { OnOk result (steps.new ≡ steps.old + cells_to_merge (map_of self.old.summaries.entries) b) }
-        ensures err { OnErr result (map_of self.new.summaries.entries ≡ map_of self.old.summaries.entries) }
+        ensures merged { IfOk result (λ merged. merged.cells ≡ cells_to_merge (map_of self.old) b) }
+        ensures kept { OnOk result (map_of self.new ≡ map.insert (map_of self.old) b (fold (C.values cells.now) b)) }
+        ensures steps { OnOk result (steps.new ≡ steps.old + cells_to_merge (map_of self.old) b) }
+        ensures err { OnErr result (map_of self.new ≡ map_of self.old) }
         ensures err_steps { OnErr result (steps.new ≡ steps.old) }
     {
         match self.get(b) {
@@ -59,25 +59,25 @@ impl Kept {
         steps: &mut Steps<L>,
     ) -> Result<Merged, AllocError>
         requires inside { IsBlockInside b }
-        requires right { AreFolds (C.values cells.now) (map_of self.old.summaries.entries) }
+        requires right { AreFolds (C.values cells.now) (map_of self.old) }
         ensures fold { IfOk result (λ merged. merged.summary ≡ fold (C.values cells.now) b) }
         ensures bounded { IfOk result (λ merged. IsBounded merged.summary) }
-        ensures merged { IfOk result (λ merged. merged.cells ≡ cells_left b (begun (map_of self.old.summaries.entries) b)) }
-        ensures kept { OnOk result (map_of self.new.summaries.entries ≡ map.insert (map_of self.old.summaries.entries) b (fold (C.values cells.now) b)) }
-        ensures steps { OnOk result (steps.new ≡ steps.old + cells_left b (begun (map_of self.old.summaries.entries) b)) }
-        ensures err { OnErr result (map_of self.new.summaries.entries ≡ map_of self.old.summaries.entries) }
+        ensures merged { IfOk result (λ merged. merged.cells ≡ cells_left b (begun (map_of self.old) b)) }
+        ensures kept { OnOk result (map_of self.new ≡ map.insert (map_of self.old) b (fold (C.values cells.now) b)) }
+        ensures steps { OnOk result (steps.new ≡ steps.old + cells_left b (begun (map_of self.old) b)) }
+        ensures err { OnErr result (map_of self.new ≡ map_of self.old) }
         ensures err_steps { OnErr result (steps.new ≡ steps.old) }
     {
         let begun = self.begun(b);
-        self.keep(b, Summary::new())?;
+        let number = self.know(b)?;
         let merged = going_on(begun, b, cells, steps);
-        self.replace(b, merged.summary);
+        self.put(b, number, merged.summary);
         Ok(merged)
     }
 
     // The summary that is kept for the block without its last row.
     fn begun(&self, b: Block) -> Option<Summary>
-        ensures begun { result ≡ begun (map_of self.now.summaries.entries) b }
+        ensures begun { result ≡ begun (map_of self.now) b }
         ensures bounded { IfSome result IsBounded }
     {
         self.get(without_last_row(b)?)

@@ -1,4 +1,5 @@
 pub mod Touched
 pub mod Kept
+pub mod Handed
 pub mod Laws
 pub mod internal

@@ -1,10 +1,11 @@
 // Cells and blocks under numbers.
-ghost use Rattle.std.specs.Prelude.{◌≡◌, ℕ, true, false, OnOk};
+ghost use Rattle.std.specs.Prelude.{◌≡◌, ℕ, true, false, IsTrue, OnOk};
 ghost use Rattle.cell_addr.specs.Place.{IsBlockInside};
 ghost use Rattle.cell_addr.specs.declared.axis.Axis.{Axis};
 ghost use Rattle.cell_addr.specs.declared.place.Block.{Block};
-ghost use Rattle.place_lines.specs.Spots.{spot_of};
+ghost use Rattle.place_lines.specs.Spots.{number_of, spot_of, table_along};
 ghost use Rattle.place_lines.specs.declared.spot.Spot.{Spot};
+ghost use Rattle.shift_core.specs.Form.{IsWithin};
 ghost use Rattle.touch_index.specs.internal.Points.{FilesRuns, FindsStill};
 
 use crate::points::Points;
@@ -31,7 +32,7 @@ pub struct TouchIndex {
 }
 
 impl TouchIndex {
-    ghost use Rattle.touch_index.specs.Kept.{GoesOver, Grows, KeepsBlock, KeepsCell, begins_at, keeps_cell};
+    ghost use Rattle.touch_index.specs.Kept.{GoesOver, Grows, KeepsBlock, KeepsCell, begins_at, goes_on, keeps_cell};
     ghost use Rattle.place_lines.specs.declared.lines.PlaceLines.{PlaceLines};
 
     /// Nothing is kept.
@@ -103,10 +104,26 @@ impl TouchIndex {
             first: span.first + 1,
             last: span.last,
         };
-        let runs = lines.runs(self.alloc, axis, block.sheet, later)?;
+        self.add_span(lines, axis, block.sheet, later, number)
+    }
+
+    // Keeps lines of a sheet along the axis, each as one of a block that doesn't begin there.
+    pub(crate) fn add_span(
+        &mut self,
+        lines: &PlaceLines,
+        axis: Axis,
+        sheet: u32,
+        span: Span,
+        number: usize,
+    ) -> Result<(), AllocError>
+        ensures grown { Grows self.old self.new }
+        ensures firsts { self.new.firsts ≡ self.old.firsts }
+        ensures added { OnOk result ((position : ℕ) → IsWithin span position → IsTrue (goes_on axis self.new sheet (number_of (table_along axis lines.now sheet) position) number)) }
+    {
+        let runs = lines.runs(self.alloc, axis, sheet, span)?;
         match axis {
-            Axis::Rows => file_runs(&mut self.rows, block.sheet, &runs, number),
-            Axis::Cols => file_runs(&mut self.cols, block.sheet, &runs, number),
+            Axis::Rows => file_runs(&mut self.rows, sheet, &runs, number),
+            Axis::Cols => file_runs(&mut self.cols, sheet, &runs, number),
         }
     }
 }

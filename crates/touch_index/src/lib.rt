@@ -5,7 +5,8 @@
 //! displaces lines in it, cuts it at the sheet's end, or takes it along with moved cells. Cells and blocks are kept by the
 //! numbers of their lines ([`place_lines`]), which stay while operations move these: what isn't touched need not be told of
 //! an operation. So what is to be done for an operation can be done for the touched ones alone, which [`TouchIndex`] finds
-//! without a look at the others.
+//! without a look at the others. A touched block whose corners keep their lines is *handed on*: only the lines that an insert
+//! puts in between are new to it.
 //!
 //! Three rows of a sheet, A1:A3, are a block under the number 7. A row put before row 1 (counted from 0) makes it larger,
 //! and one put before row 5 doesn't touch it:
@@ -20,6 +21,7 @@
 #![tactic(auto)]
 
 mod band;
+mod handed;
 mod index;
 mod laws;
 mod meeting;
@@ -27,5 +29,9 @@ mod point;
 mod points;
 mod touched;
 
+pub use handed::{fresh_part, hands_on};
 pub use index::TouchIndex;
-pub use laws::{kept_blocks_stay, kept_cells_stay, untouched_blocks_stay, untouched_cells_stay};
+pub use laws::{
+    blocks_are_handed_on, kept_blocks_stay, kept_cells_stay, untouched_blocks_stay,
+    untouched_cells_stay,
+};

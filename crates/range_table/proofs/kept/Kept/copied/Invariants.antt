@@ -1,8 +1,9 @@
-use Rattle.std.specs.BTreeMap.{IsOrdered}
-use Rattle.range_table.specs.internal.Keys.{key_cmp}
-use Rattle.range_table.proofs.Passing.{IsCopied}
+use Rattle.std.proofs.Common.{◌≡◌}
+use Rattle.std.specs.FinMap.{from_entries}
+use Rattle.range_table.specs.internal.Kept.{map_of}
+use Rattle.range_table.specs.internal.Tables.{kept_below}
 use Rattle.range_table.proofs.kept.Kept.copied.Given as goal
 
--- the entries gone by are copied
-abbrev pub invariant-loop-key : goal.invariant-loop-key
-invariant-loop-key l = record { copied : IsCopied l.self.summaries.entries l.key-iterator l.copy.summaries.entries; ordered : IsOrdered key_cmp l.self.summaries }
+-- what is kept under the numbers gone by is kept in the copy
+abbrev pub invariant-numbers : goal.invariant-numbers
+invariant-numbers l = map_of l.copy ≡ from_entries (kept_below l.self.table l.number)

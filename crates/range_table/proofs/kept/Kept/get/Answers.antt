@@ -1,15 +1,18 @@
-use Rattle.std.proofs.Common.{◌∙◌, sym, ap}
-use Rattle.std.specs.BTreeMap.{is_at}
-use Rattle.std.specs.Map.{lookup}
-use Rattle.cell_value.specs.Summary.{IsBounded}
-use Rattle.range_table.specs.internal.Keys.{key_cmp}
-use Rattle.range_table.proofs.Maps.{found_as, get-map_of}
+use Rattle.std.proofs.Common.{◌≡◌, ◌∙◌, ap, false, refl, Some, subst}
+use Rattle.std.specs.Prelude.{slice_get}
+use Rattle.std.specs.List.{list_any}
+use Rattle.place_lines.specs.declared.area.Area.{Area}
+use Rattle.range_table.specs.internal.States.{same_area, summary_in}
+use Rattle.range_table.proofs.Numbers.{its_summary, no_summary}
 use Rattle.range_table.proofs.kept.Kept.get.Goals as goal
 
-pub returns-clause-kept : goal.returns-clause-kept
-returns-clause-kept c =
-    let es = c.args.self.now.summaries.entries in
-    c.copied.ensures ∙ c.get.ensures.value ∙ ap (λ k. lookup (is_at (key_cmp k)) es) c.of.ensures ∙ sym (get-map_of es c.args.b)
+pub returns-in-Some-clause-kept : goal.returns-in-Some-clause-kept
+returns-in-Some-clause-kept c =
+    let k = c.args.self.now in
+    c.summary.ensures ∙ (ap summary_in c.state.ensures
+    ∙ its_summary k.table k.files c.args.b c.in-Some.number k.stands k.found (subst (λ (a : Area). slice_get k.table.keys.keys c.in-Some.number ≡ Some a) c.area.ensures c.in-Some.ensures.found))
 
-pub returns-clause-bounded : goal.returns-clause-bounded
-returns-clause-bounded c = found_as IsBounded c.args.self.now.summaries.entries c.args.b c.copied.result (returns-clause-kept c) c.args.self.now.bounded
+pub returns-in-None-clause-kept : goal.returns-in-None-clause-kept
+returns-in-None-clause-kept c =
+    let k = c.args.self.now in
+    no_summary k.table k.files c.args.b k.stands k.found (subst (λ (a : Area). list_any (same_area a) k.table.keys.keys ≡ false) c.area.ensures (c.in-None.ensures.absent refl))

@@ -1,5 +1,0 @@
-use Rattle.range_table.proofs.Moving.{inside_after}
-use Rattle.range_table.proofs.shifting.kept_on.Goals as goal
-
-pub returns-else-gives_up-clause-inside : goal.returns-else-gives_up-clause-inside
-returns-else-gives_up-clause-inside c = inside_after c.args.s.now c.args.b c.moved_block.result c.moved_block.ensures c.requires.sound c.requires.inside
