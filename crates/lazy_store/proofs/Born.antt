@@ -1,6 +1,6 @@
 -- Formulas by the positions at which they were born. Serves the calls that take formulas back before the line is cut, and drop
 -- those that were born beyond the cut or are named no more.
-use Rattle.std.proofs.Common.{◌≡◌, ◌≢◌, ◌∙◌, sym, ap, refl, subst, arith, ℕ, ◌<◌, ◌≤◌, ◌⊎◌, inl, inr, ⊎_elim, Bool, true, false, true≢false, ◌&&◌, cond, if◌then◌else◌, nat_eq, nat_le, nat_lt, eqb-true, le-ltb, lt-ltb, filter, Option, Some, None, option_map, option_and_then}
+use Rattle.std.proofs.Common.{◌≡◌, ◌≢◌, ◌∙◌, sym, ap, refl, subst, arith, ℕ, ◌<◌, ◌≤◌, ⊎_elim, Bool, true, false, true≢false, ◌&&◌, if◌then◌else◌, nat_eq, nat_le, nat_lt, le-ltb, lt-ltb, Option, Some, None, option_map, option_and_then}
 use Rattle.std.proofs.lemmas.Bool.{cases_lt, le-leb, leb-false, leb-true, lt-leb, ltb-true}
 use Rattle.std.proofs.lemmas.Map.Entries.{option_filter}
 use Rattle.std.proofs.lemmas.Option.{none-some, same_Some}
@@ -14,7 +14,7 @@ use Rattle.lazy_store.specs.declared.holder.Holder.{Holder}
 use Rattle.lazy_store.specs.declared.holders.Side.TheVariants.{Returning}
 use Rattle.lazy_store.specs.internal.Sweeps.{Sweeps, at_under, holder_born_by, is_off}
 use Rattle.lazy_store.proofs.Histories.{at-below, at-is}
-use Rattle.lazy_store.proofs.Stores.{StandBehind, all-within}
+use Rattle.lazy_store.proofs.Stores.{StandBehind}
 use Rattle.lazy_store.proofs.Tables.{mapped-some}
 
 -- ---- one formula

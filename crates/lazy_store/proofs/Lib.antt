@@ -9,3 +9,4 @@ pub mod Facts
 pub mod Changes
 pub mod Positions
 pub mod Born
+pub mod Runs

@@ -14,7 +14,7 @@ use Rattle.lazy_store.specs.internal.Steps.{GoesBack, GoesOn}
 use Rattle.lazy_store.proofs.Histories.{back-over}
 
 -- what is saved over the operation of a position is saved at that position
-saved-at : (line : Track) (k : ℕ) (s : Shift) (x : Standing) (saved : Option (Term Ref)) → shift_at line k ≡ Some s → IsSavedOver s x saved → IsSavedAt line k x saved
+pub saved-at : (line : Track) (k : ℕ) (s : Shift) (x : Standing) (saved : Option (Term Ref)) → shift_at line k ≡ Some s → IsSavedOver s x saved → IsSavedAt line k x saved
 saved-at line k s x saved is h = subst (λ o. MatchOption o ⊥ (λ t. IsSavedOver t x saved)) (sym is) h
 
 module _ (line : Track) (low high : ℕ) (f : ℕ → Standing) (h g : Kept) (s : Shift) where

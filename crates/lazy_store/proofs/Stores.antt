@@ -1,7 +1,7 @@
 -- Tables of holders whose line gets one more operation, or loses the oldest ones. Serves the promises on cutting and
 -- settling.
-use Rattle.std.proofs.Common.{◌≡◌, ◌≢◌, ◌∙◌, sym, ap, refl, subst, arith, ℕ, ◌+◌, ◌-◌, ◌<◌, ◌≤◌, ◌⊎◌, inl, inr, le-ltb, nat_eq, true, false, Result, Ok, Err, Option, Some, None, option_map, option_and_then}
-use Rattle.std.proofs.lemmas.Bool.{ltb-false, ltb-true}
+use Rattle.std.proofs.Common.{◌≡◌, ◌∙◌, sym, ap, refl, subst, arith, ℕ, ◌+◌, ◌-◌, ◌<◌, ◌≤◌, ◌⊎◌, inl, inr, le-ltb, nat_eq, false, Result, Ok, Err, Option, Some, None, option_map, option_and_then}
+use Rattle.std.proofs.lemmas.Bool.{ltb-false}
 use Rattle.std.specs.HashMap as hash
 use Rattle.std.specs.HashMap.{HashMap}
 use Rattle.std.specs.Prelude.{OnErr, OnOk}

@@ -1,14 +1,16 @@
 // One formula, and its steps along the line.
 ghost use Rattle.std.specs.BTreeMap.{IsEmpty, IsLowerBound, get};
 ghost use Rattle.std.specs.Ordering.{nat_cmp};
-ghost use Rattle.std.specs.Prelude.{◌≡◌, ◌≢◌, ℕ, ◌+◌, ◌≤◌, ◌<◌, ◌-◌, None, Some, IfOk, IfSome, OnOk, OnErr};
+ghost use Rattle.std.specs.Prelude.{◌≡◌, ◌≢◌, ℕ, ◌+◌, ◌≤◌, ◌<◌, ◌-◌, None, Some, IfOk, IfSome, OnOk, OnErr, length};
 ghost use Rattle.formula_tree.specs.Pooled.{held};
 ghost use Rattle.shift_core.specs.Sound.{IsSound};
+ghost use Rattle.run_walk.specs.Run.{AreSound, home_over};
 ghost use Rattle.shift_line.specs.Track.{last};
 ghost use Rattle.tree_rewrite.specs.Rewritten.{home_after, home_before};
 
 use crate::homes::home_before;
 use formula_tree::{Home, Pool, Tree};
+use run_walk::{forward_over, free_run};
 use shift_core::Shift;
 use shift_line::Line;
 use std::alloc::{AllocError, Global};
@@ -33,7 +35,7 @@ impl Holder {
     ghost use Rattle.lazy_store.specs.Holders.{IsFront, kept_of};
     ghost use Rattle.lazy_store.specs.Kept.{IsCoherent, IsSoundLine, at, fresh, standing, standing_at};
     ghost use Rattle.lazy_store.specs.Standing.{IsFit, before};
-    ghost use Rattle.lazy_store.specs.internal.Steps.{CutsOff, GoesAlong, GoesBack, GoesOn, Saves, Takes};
+    ghost use Rattle.lazy_store.specs.internal.Steps.{CutsOff, GoesAlong, GoesBack, GoesOn, GoesOver, Saves, Takes};
     ghost use Rattle.formula_tree.specs.Relative.{relative};
 
     // A live formula that comes at this position.
@@ -67,6 +69,12 @@ impl Holder {
         ensures pool { IsFront (held pool.old) (held pool.new) }
     {
         'forward: while self.position < position {
+            let pending = line.run_from(self.position, position);
+            let free = free_run(&self.tree, self.home, pending);
+            if free > 0 {
+                self.go_over(alloc, pool, &pending[..free])?;
+                continue;
+            }
             let Some(s) = line.at(self.position) else {
                 unreachable!()
             };
@@ -78,6 +86,23 @@ impl Holder {
             };
             self.go_back(alloc, pool, &s)?;
         }
+        Ok(())
+    }
+
+    // Takes the formula over operations from its position on, all at once. They are to lose nothing of it.
+    fn go_over(&mut self, alloc: Global, pool: &mut Pool, run: &[Shift]) -> Result<(), AllocError>
+        requires sound { AreSound run.now }
+        requires room { self.old.position + length run.now ≤ u64.MAX }
+        requires fit { IsFit (standing (kept_of self.old)) }
+        requires kept { home_over run.now self.old.home ≢ None }
+        ensures ok { OnOk result (GoesOver run.now (kept_of self.old) (kept_of self.new)) }
+        ensures err { OnErr result (kept_of self.new ≡ kept_of self.old) }
+        ensures pool { IsFront (held pool.old) (held pool.new) }
+    {
+        let (tree, home) = forward_over(alloc, pool, &self.tree, self.home, run)?;
+        self.tree = tree;
+        self.home = home;
+        self.position += run.len() as u64;
         Ok(())
     }
 

@@ -193,8 +193,9 @@ impl Lazy {
 
     /// Takes a live formula to the cursor, over the operations between, and answers its tree there. The formula has a
     /// standing at the cursor. No formula's standings change, and no other formula is touched; the pool may get trees. For
-    /// want of memory the formula may have come part of the way. Costs the operations between, each about the nodes of
-    /// the tree.
+    /// want of memory the formula may have come part of the way. Costs the operations between: forward each about the
+    /// references of the tree, with one new tree for all that lose nothing of it one after the other, and one for each
+    /// that does; back each about the nodes of the tree.
     pub fn read(&mut self, pool: &mut Pool, id: u64) -> Result<Tree, AllocError>
         requires live { live_in self.old id ≡ Some true }
         requires there { at_in self.old id self.old.line.cursor ≢ None }
@@ -316,7 +317,7 @@ impl Lazy {
     /// and the saved trees before it. The position is from the line's first to the cursor, and each formula that is kept as
     /// of one before has a standing there. Standings from the position on stay; so does the place of a formula that is kept
     /// as of the position or a later one. Where there is no memory line and standings stay as they were. Costs the number
-    /// of formulas, and for each the operations that it is taken over.
+    /// of formulas, and for each the operations that it is taken over, as [`Lazy::read`] does.
     pub fn settle(&mut self, pool: &mut Pool, position: u64) -> Result<(), AllocError>
         requires first { self.old.line.first ≤ position }
         requires cursor { position ≤ self.old.line.cursor }

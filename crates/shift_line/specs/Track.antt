@@ -1,5 +1,5 @@
 -- The line of a session's structural operations, as callers see it. Source: this project's own.
-use Rattle.std.specs.Prelude.{ℕ, ◌+◌, ◌-◌, nat_le, if◌then◌else◌, List, ◌∷◌, [], ◌++◌, length, take, drop, slice_get, Option, None}
+use Rattle.std.specs.Prelude.{◌≡◌, ℕ, ◌+◌, ◌-◌, nat_le, if◌then◌else◌, List, ◌∷◌, [], ◌++◌, length, take, drop, slice_get, Option, Some, None}
 use Rattle.shift_core.specs.declared.shift.Shift.{Shift}
 
 -- the operations kept, in order: the first one leads from the position `first` to the next. Positions number all
@@ -18,6 +18,11 @@ last t = t.first + length t.shifts
 -- the operation that leads from the position to the next one
 abbrev pub shift_at : Track → ℕ → Option Shift
 shift_at t k = if nat_le t.first k then slice_get t.shifts (k - t.first) else None
+
+-- the operations lead, one after the other, from the position on
+abbrev pub IsRun : Track → ℕ → List Shift → Type 0
+IsRun t k [] = Unit {0}
+IsRun t k (s ∷ run) = (shift_at t k ≡ Some s) × IsRun t (k + 1) run
 
 -- the operations in front of the cursor
 abbrev pub passed : Track → List Shift

@@ -1,7 +1,7 @@
 // The line of operations, with its cursor.
 ghost use Rattle.std.specs.Prelude.{◌≡◌, ℕ, ◌+◌, ◌-◌, ◌<◌, ◌≤◌, ◌^◌, [], drop, min, max, length, MatchOption, Some, IfOk, OnOk, OnErr, IsOk};
 ghost use Rattle.std.specs.VecDeque.{deque_capacity};
-ghost use Rattle.shift_line.specs.Track.{last, shift_at, pushed, forgotten, with_spare};
+ghost use Rattle.shift_line.specs.Track.{IsRun, last, shift_at, pushed, forgotten, with_spare};
 
 use shift_core::Shift;
 use std::alloc::{AllocError, Global};
@@ -80,6 +80,26 @@ impl Line {
         }
         let index = usize::try_from(position - self.first).ok()?;
         self.shifts.get(index).copied()
+    }
+
+    /// The operations from one position up to another one, in order: as many as lie side by side, which is at least one
+    /// where one is kept there. Costs the same however many there are.
+    pub fn run_from(&self, from: u64, to: u64) -> &[Shift]
+        ensures run { IsRun self.now from result.now }
+        ensures within { length result.now ≤ to - from }
+        ensures some { self.now.first ≤ from → from < to → from < last self.now → 0 < length result.now }
+    {
+        let (front, back) = self.shifts.as_slices();
+        let end = to.min(self.last());
+        if from < self.first || end <= from {
+            return &front[..0];
+        }
+        let (start, end) = ((from - self.first) as usize, (end - self.first) as usize);
+        if start < front.len() {
+            &front[start..end.min(front.len())]
+        } else {
+            &back[start - front.len()..end - front.len()]
+        }
     }
 
     /// How many operations more fit without memory.

@@ -1,5 +1,6 @@
 -- What the steps of a holder along the line do to what it keeps.
-use Rattle.std.specs.Prelude.{◌≡◌, ◌≢◌, ℕ, ◌+◌, ◌<◌, ◌≤◌, Some, None}
+use Rattle.std.specs.Prelude.{◌≡◌, ◌≢◌, ℕ, ◌+◌, ◌<◌, ◌≤◌, List, length, Some, None}
+use Rattle.run_walk.specs.Run.{home_over, tree_over}
 use Rattle.shift_core.specs.declared.shift.Shift.{Shift}
 use Rattle.shift_line.specs.Track.{Track}
 use Rattle.lazy_store.specs.Kept.{Kept, IsCoherent, at, standing}
@@ -24,7 +25,16 @@ pub record GoesOn (s : Shift) (old new : Kept) : Type 0 where
   pub birth : new.birth ≡ old.birth
   pub live : new.live ≡ old.live
 
--- and back over it
+-- over a run of operations, with the tree that they make one after the other; nothing is saved
+pub record GoesOver (run : List Shift) (old new : Kept) : Type 0 where
+  pub position : new.position ≡ old.position + length run
+  pub home : home_over run old.home ≡ Some new.home
+  pub tree : (standing new).tree ≡ tree_over run (standing old).tree
+  pub saved : (k : ℕ) → new.saved k ≡ old.saved k
+  pub birth : new.birth ≡ old.birth
+  pub live : new.live ≡ old.live
+
+-- and back over one operation
 pub record GoesBack (s : Shift) (old new : Kept) : Type 0 where
   pub position : old.position ≡ new.position + 1
   pub here : before s (old.saved new.position) (standing old) ≡ Some (standing new)

@@ -1,4 +1,4 @@
-use Rattle.std.proofs.Common.{◌≡◌, ◌<◌, ◌≤◌, ℕ, arith, subst, sym, Some, option_map}
+use Rattle.std.proofs.Common.{◌≡◌, ◌<◌, ℕ, arith, subst, sym, Some, option_map}
 use Rattle.std.proofs.lemmas.Result.{on_ok_weaker}
 use Rattle.lazy_store.specs.Holders.{kept_under}
 use Rattle.lazy_store.specs.Kept.{Kept}

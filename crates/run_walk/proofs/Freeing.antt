@@ -1,0 +1,146 @@
+-- Trees of which a run of operations loses nothing. Serves the look ahead over a run.
+use Rattle.std.proofs.Common.{◌≡◌, ◌≢◌, ◌∙◌, sym, ap, refl, subst, arith, ℕ, zero, suc, ◌+◌, ◌<◌, ◌≤◌, List, [], ◌∷◌, ◌++◌, length, get_or, take, Option, Some, None, MatchOption, option_and_then}
+use Rattle.std.proofs.lemmas.List.{take_more}
+use Rattle.std.proofs.lemmas.Option.{same_Some}
+use Rattle.cell_addr.specs.Place.{IsInside}
+use Rattle.cell_addr.specs.declared.place.Block.{Block}
+use Rattle.cell_addr.specs.declared.place.Place.{Place}
+use Rattle.formula_tree.specs.Reference.{block_of}
+use Rattle.formula_tree.specs.Term.{Term, number, text, truth, fault, cell, area, name, prefix, percent, binary, call, paren, Terms, no_terms, term}
+use Rattle.formula_tree.specs.declared.reference.Corner.{Corner}
+use Rattle.shift_core.specs.Carried.{first_place, last_place}
+use Rattle.shift_core.specs.Form.{form_of}
+use Rattle.shift_core.specs.Sound.{IsSound}
+use Rattle.shift_core.specs.Tables.{block_after, block_before, place_after, place_before}
+use Rattle.shift_core.specs.declared.shift.Shift.{Shift}
+use Rattle.shift_core.proofs.PlaceLaws.{place_moved_inside, place_moved_returns}
+use Rattle.tree_rewrite.proofs.Returns.{area-at_ends}
+use Rattle.tree_rewrite.specs.Rewritten.{ComesBack, area_at, cell_at, returned, rewritten}
+use Rattle.tree_rewrite.specs.internal.Passage.{all_placed_by}
+use Rattle.run_walk.specs.Run.{AreSound, NoneLoses, block_over, place_over}
+use Rattle.run_walk.specs.internal.Freed.{IsCarriedOver, NoneLosesOfAll}
+
+-- ---- fewer operations lose nothing either
+
+pub free-take : (n : ℕ) (run : List Shift) (t : Term Corner) → NoneLoses run t → NoneLoses (take n run) t
+free-take zero run t free = tt
+free-take (suc n) [] t free = tt
+free-take (suc n) (s ∷ run) t free = (free.0, free-take n run (rewritten s t) free.1)
+
+take-take : (m n : ℕ) (run : List Shift) → m ≤ n → take m (take n run) ≡ take m run
+take-take zero n run le = refl
+take-take (suc m) zero run le = absurd (omega (arith, le))
+take-take (suc m) (suc n) [] le = refl
+take-take (suc m) (suc n) (s ∷ run) le = ap (λ r. s ∷ r) (take-take m n run (omega (arith, le)))
+
+pub free-fewer : (m n : ℕ) (run : List Shift) (t : Term Corner) → m ≤ n → NoneLoses (take n run) t → NoneLoses (take m run) t
+free-fewer m n run t le free = subst (λ r. NoneLoses r t) (take-take m n run le) (free-take m (take n run) t free)
+
+-- a look at the first n operations alone
+pub free-within : (m n : ℕ) (run : List Shift) (t : Term Corner) → m ≤ n → NoneLoses (take m (take n run)) t → NoneLoses (take m run) t
+free-within m n run t le free = subst (λ r. NoneLoses r t) (take-take m n run le) free
+
+pub free-front : (m n : ℕ) (run front : List Shift) (t : Term Corner) → m ≤ n → front ≡ take n run → NoneLoses (take m front) t → NoneLoses (take m run) t
+free-front m n run front t le is free = free-within m n run t le (subst (λ r. NoneLoses (take m r) t) is free)
+
+-- ---- nodes
+
+pub free-number : (run : List Shift) (m : _) → NoneLoses run (number m)
+free-number [] m = tt
+free-number (s ∷ run) m = (refl, free-number run m)
+
+pub free-text : (run : List Shift) (w : List ℕ) → NoneLoses run (text w)
+free-text [] w = tt
+free-text (s ∷ run) w = (refl, free-text run w)
+
+pub free-truth : (run : List Shift) (b : _) → NoneLoses run (truth b)
+free-truth [] b = tt
+free-truth (s ∷ run) b = (refl, free-truth run b)
+
+pub free-fault : (run : List Shift) (f : _) → NoneLoses run (fault f)
+free-fault [] f = tt
+free-fault (s ∷ run) f = (refl, free-fault run f)
+
+pub free-name : (run : List Shift) (w : List ℕ) → NoneLoses run (name w)
+free-name [] w = tt
+free-name (s ∷ run) w = (refl, free-name run w)
+
+pub free-prefix : (run : List Shift) (o : _) (t : Term Corner) → NoneLoses run t → NoneLoses run (prefix o t)
+free-prefix [] o t free = tt
+free-prefix (s ∷ run) o t free = (ap (λ x. prefix o x) free.0, free-prefix run o (rewritten s t) free.1)
+
+pub free-percent : (run : List Shift) (t : Term Corner) → NoneLoses run t → NoneLoses run (percent t)
+free-percent [] t free = tt
+free-percent (s ∷ run) t free = (ap (λ x. percent x) free.0, free-percent run (rewritten s t) free.1)
+
+pub free-paren : (run : List Shift) (t : Term Corner) → NoneLoses run t → NoneLoses run (paren t)
+free-paren [] t free = tt
+free-paren (s ∷ run) t free = (ap (λ x. paren x) free.0, free-paren run (rewritten s t) free.1)
+
+pub free-binary : (run : List Shift) (o : _) (l r : Term Corner) → NoneLoses run l → NoneLoses run r → NoneLoses run (binary o l r)
+free-binary [] o l r left right = tt
+free-binary (s ∷ run) o l r left right =
+    (ap (λ x. binary o x (returned s (rewritten s r))) left.0 ∙ ap (λ x. binary o l x) right.0, free-binary run o (rewritten s l) (rewritten s r) left.1 right.1)
+
+pub free-call : (run : List Shift) (w : List ℕ) (ts : Terms Corner) → NoneLosesOfAll run ts → NoneLoses run (call w ts)
+free-call [] w ts free = tt
+free-call (s ∷ run) w ts free = (ap (λ x. call w x) free.0, free-call run w (all_placed_by (place_after s) (block_after s) ts) free.1)
+
+-- ---- arguments
+
+pub free-no_terms : (run : List Shift) → NoneLosesOfAll run no_terms
+free-no_terms [] = tt
+free-no_terms (s ∷ run) = (refl, free-no_terms run)
+
+pub free-term : (run : List Shift) (t : Term Corner) (ts : Terms Corner) → NoneLoses run t → NoneLosesOfAll run ts → NoneLosesOfAll run (term t ts)
+free-term [] t ts one all = tt
+free-term (s ∷ run) t ts one all =
+    let rest = all_placed_by (place_before s) (block_before s) (all_placed_by (place_after s) (block_after s) ts) in
+    (ap (λ x. term x rest) one.0 ∙ ap (λ x. term t x) all.0, free-term run (rewritten s t) (all_placed_by (place_after s) (block_after s) ts) one.1 all.1)
+
+-- ---- references
+
+each-cell : (s : Shift) (run : List Shift) (c : Corner) → IsSound s → IsInside c.at → ((d : Corner) → IsInside d.at → place_over run d.at ≢ None → NoneLoses run (cell d))
+    → (o : Option Place) → place_after s c.at ≡ o → option_and_then (place_over run) o ≢ None → (returned s (cell_at c o) ≡ cell c) × NoneLoses run (cell_at c o)
+each-cell s run c sound inside each None goes some = absurd (some refl)
+each-cell s run c sound inside each (Some p) goes some =
+    (ap (λ o. cell_at (record c { at = p }) o) (place_moved_returns (form_of s) c.at p sound inside goes), each (record c { at = p }) (place_moved_inside (form_of s) c.at p sound inside goes) some)
+
+pub free-cell : (run : List Shift) (c : Corner) → AreSound run → IsInside c.at → place_over run c.at ≢ None → NoneLoses run (cell c)
+free-cell [] c sound inside some = tt
+free-cell (s ∷ run) c sound inside some = each-cell s run c sound.0 inside (λ d i e. free-cell run d sound.1 i e) (place_after s c.at) refl some
+
+-- ---- blocks
+
+last-of : (c d : Corner) → c.at.sheet ≡ d.at.sheet → last_place (block_of c d) ≡ d.at
+last-of c d e = λ i. record { sheet = e i; row = d.at.row; col = d.at.col }
+
+each-area : (s : Shift) (run : List Shift) (c d : Corner) → c.at.sheet ≡ d.at.sheet → ((e f : Corner) → e.at.sheet ≡ f.at.sheet → IsCarriedOver run (block_of e f) → NoneLoses run (area e f))
+    → (o : Option Block) → block_after s (block_of c d) ≡ o → MatchOption o ⊥ (λ after. (block_before s after ≡ Some (block_of c d)) × IsCarriedOver run after) → ComesBack s (area c d) × NoneLoses run (area_at c d o)
+each-area s run c d same each None goes carried = absurd carried
+each-area s run c d same each (Some after) goes carried =
+    (area-at_ends s c d after (block_of c d) goes carried.0 (refl, last-of c d same), each (record c { at = first_place after }) (record d { at = last_place after }) refl carried.1)
+
+pub free-area : (run : List Shift) (c d : Corner) → c.at.sheet ≡ d.at.sheet → IsCarriedOver run (block_of c d) → NoneLoses run (area c d)
+free-area [] c d same carried = tt
+free-area (s ∷ run) c d same carried = each-area s run c d same (λ e f is h. free-area run e f is h) (block_after s (block_of c d)) refl carried
+
+-- one operation more gives the block back
+each-more : (s z : Shift) (run : List Shift) (at next : Block) → ((b : Block) → block_over run b ≡ Some at → IsCarriedOver run b → IsCarriedOver (run ++ z ∷ []) b)
+    → (b : Block) (o : Option Block) → option_and_then (block_over run) o ≡ Some at → MatchOption o ⊥ (λ after. (block_before s after ≡ Some b) × IsCarriedOver run after)
+    → MatchOption o ⊥ (λ after. (block_before s after ≡ Some b) × IsCarriedOver (run ++ z ∷ []) after)
+each-more s z run at next each b None here carried = absurd carried
+each-more s z run at next each b (Some after) here carried = (carried.0, each after here carried.1)
+
+carried-append : (run : List Shift) (z : Shift) (b at next : Block) → block_after z at ≡ Some next → block_before z next ≡ Some at → block_over run b ≡ Some at → IsCarriedOver run b → IsCarriedOver (run ++ z ∷ []) b
+carried-append [] z b at next goes back here carried =
+    let same : b ≡ at = same_Some b at here in
+    subst (λ x. MatchOption (block_after z x) ⊥ (λ after. (block_before z after ≡ Some x) × Unit {0})) (sym same)
+    (subst (λ o. MatchOption o ⊥ (λ after. (block_before z after ≡ Some at) × Unit {0})) (sym goes) (back, tt))
+carried-append (s ∷ run) z b at next goes back here carried = each-more s z run at next (λ x is h. carried-append run z x at next goes back is h) b (block_after s b) here carried
+
+pub carried-more : (run : List Shift) (i : ℕ) (d s : Shift) (b at next : Block) → i < length run → s ≡ get_or run i d → block_after s at ≡ Some next → block_before s next ≡ Some at
+    → block_over (take i run) b ≡ Some at → IsCarriedOver (take i run) b → IsCarriedOver (take (i + 1) run) b
+carried-more run i d s b at next within is goes back here carried =
+    subst (λ r. IsCarriedOver r b) (sym (take_more run i d within))
+    (subst (λ z. IsCarriedOver (take i run ++ z ∷ []) b) is (carried-append (take i run) s b at next goes back here carried))

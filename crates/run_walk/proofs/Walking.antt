@@ -1,0 +1,81 @@
+-- References and blocks of a formula over a run, as they are seen from its homes. Serves the walk over a run.
+use Rattle.std.proofs.Common.{◌≡◌, ◌≢◌, ◌∙◌, sym, ap, refl, subst, arith, List, [], Option, Some, None, option_and_then, ◌∷◌}
+use Rattle.std.proofs.lemmas.Option.{none-some, same_Some}
+use Rattle.cell_addr.specs.Place.{IsBlockInside, IsInside}
+use Rattle.cell_addr.specs.declared.place.Block.{Block}
+use Rattle.cell_addr.specs.declared.place.Place.{Place}
+use Rattle.formula_tree.specs.Reference.{IsHomeInside, base_of, corner_at, ref_from}
+use Rattle.formula_tree.specs.StandsFor.{at_home, from_home}
+use Rattle.formula_tree.specs.Term.{Term, number, text, truth, fault, cell, area, name, prefix, percent, binary, call, paren, Terms, no_terms, term, each_corner_all, mapped}
+use Rattle.formula_tree.specs.declared.reference.Home.{Home}
+use Rattle.formula_tree.specs.declared.reference.Ref.{Ref}
+use Rattle.shift_core.specs.Carried.{first_place, last_place}
+use Rattle.shift_core.specs.Sound.{IsSound}
+use Rattle.shift_core.specs.Tables.{block_after, place_after}
+use Rattle.shift_core.specs.declared.shift.Shift.{Shift}
+use Rattle.tree_rewrite.proofs.EachReferences.{mapped-seen}
+use Rattle.shift_core.proofs.BlockLaws.{block_moved_inside}
+use Rattle.shift_core.proofs.PlaceLaws.{place_moved_inside}
+use Rattle.shift_core.specs.Form.{form_of}
+use Rattle.tree_rewrite.proofs.Inside.{fits-back}
+use Rattle.tree_rewrite.specs.References.{EachReference, EachReferenceOfAll, FitsSheets}
+use Rattle.tree_rewrite.specs.Rewritten.{area_at, cell_at, placed_by}
+use Rattle.run_walk.specs.Run.{AreSound, block_over, over_all, place_over, tree_over}
+use Rattle.run_walk.specs.internal.Freed.{AllFit}
+use Rattle.run_walk.specs.internal.Walked.{TakesArea, TakesCell, area_walked, cell_walked}
+use Rattle.run_walk.proofs.Fusion.{fits-over, walked}
+
+-- ---- places and blocks within the limits of a sheet stay so
+
+module _ {X : Type 0} (step : Shift → X → Option X) (P : X → Type 0) (stays : (s : Shift) (x y : X) → IsSound s → P x → step s x ≡ Some y → P y) where
+  each-stays : (s : Shift) (run : List Shift) (x z : X) → IsSound s → P x → ((y : X) → P y → over_all step run y ≡ Some z → P z) → (o : Option X) → step s x ≡ o → option_and_then (over_all step run) o ≡ Some z → P z
+  each-stays s run x z sound p each None goes is = absurd (none-some z is)
+  each-stays s run x z sound p each (Some y) goes is = each y (stays s x y sound p goes) is
+
+  stays-over : (run : List Shift) (x z : X) → AreSound run → P x → over_all step run x ≡ Some z → P z
+  stays-over [] x z sound p is = subst P (same_Some x z is) p
+  stays-over (s ∷ run) x z sound p is = each-stays s run x z sound.0 p (λ y q e. stays-over run y z sound.1 q e) (step s x) refl is
+
+pub place_over-inside : (run : List Shift) (p q : Place) → AreSound run → IsInside p → place_over run p ≡ Some q → IsInside q
+place_over-inside = stays-over place_after IsInside (λ s x y sound inside is. place_moved_inside (form_of s) x y sound inside is)
+
+block_over-inside : (run : List Shift) (b c : Block) → AreSound run → IsBlockInside b → block_over run b ≡ Some c → IsBlockInside c
+block_over-inside = stays-over block_after IsBlockInside (λ s x y sound inside is. block_moved_inside (form_of s) x y sound inside is)
+
+pub corners-inside : (run : List Shift) (b c : Block) → AreSound run → IsBlockInside b → block_over run b ≡ Some c → IsInside (first_place c) × IsInside (last_place c)
+corners-inside run b c sound inside is = let i = block_over-inside run b c sound inside is in ((omega arith, omega arith), (omega arith, omega arith))
+
+-- ---- trees
+
+-- what a walk makes of each reference is what the run makes of the tree
+pub walked-each : (run : List Shift) (from to : Home) (t : Term Ref) → mapped (cell_walked run from to) (area_walked run from to) t ≡ from_home to (placed_by (place_over run) (block_over run) (at_home from t))
+walked-each run from to t = mapped-seen (corner_at (base_of from)) (λ c. cell_at c (place_over run c.at)) (λ c d. area_at c d (block_over run (record { sheet = c.at.sheet; top = c.at.row; left = c.at.col; bottom = d.at.row; right = d.at.col }))) (ref_from (base_of to)) t
+
+-- placed at the home behind the run it is what the operations make of it
+pub walked-at_home : (run : List Shift) (from to : Home) (t u : Term Ref) → run ≢ [] → AreSound run → FitsSheets (at_home from t) → u ≡ mapped (cell_walked run from to) (area_walked run from to) t → at_home to u ≡ tree_over run (at_home from t)
+walked-at_home run from to t u some sound fits is =
+    ap (at_home to) (is ∙ walked-each run from to t ∙ ap (from_home to) (sym (walked run (at_home from t) some)))
+    ∙ fits-back to (tree_over run (at_home from t)) (fits-over run (at_home from t) sound fits)
+
+pub walked-fits : (run : List Shift) (from to : Home) (t u : Term Ref) → AreSound run → FitsSheets (at_home from t) → at_home to u ≡ tree_over run (at_home from t) → FitsSheets (at_home to u)
+walked-fits run from to t u sound fits is = subst FitsSheets (sym is) (fits-over run (at_home from t) sound fits)
+
+-- a walk takes all references that fit
+mutual
+  pub taken-each : (run : List Shift) (from to : Home) → AreSound run → IsHomeInside to → (t : Term Ref) → FitsSheets (at_home from t) → EachReference (TakesCell run from to) (TakesArea run from to) t
+  taken-each run from to s h (number m) f = tt
+  taken-each run from to s h (text w) f = tt
+  taken-each run from to s h (truth b) f = tt
+  taken-each run from to s h (fault k) f = tt
+  taken-each run from to s h (cell r) f = (s, h, f)
+  taken-each run from to s h (area r q) f = (s, h, f)
+  taken-each run from to s h (name w) f = tt
+  taken-each run from to s h (prefix o t) f = taken-each run from to s h t f
+  taken-each run from to s h (percent t) f = taken-each run from to s h t f
+  taken-each run from to s h (binary o l r) f = (taken-each run from to s h l f.0, taken-each run from to s h r f.1)
+  taken-each run from to s h (call w ts) f = all-taken run from to s h ts f
+  taken-each run from to s h (paren t) f = taken-each run from to s h t f
+
+  all-taken : (run : List Shift) (from to : Home) → AreSound run → IsHomeInside to → (ts : Terms Ref) → AllFit (each_corner_all (corner_at (base_of from)) ts) → EachReferenceOfAll (TakesCell run from to) (TakesArea run from to) ts
+  all-taken run from to s h no_terms f = tt
+  all-taken run from to s h (term t ts) f = (taken-each run from to s h t f.0, all-taken run from to s h ts f.1)

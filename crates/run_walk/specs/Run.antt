@@ -1,0 +1,41 @@
+-- Formulas over runs of structural operations, one after the other. Source: this project's own.
+use Rattle.std.specs.Prelude.{List, [], ◌∷◌, Option, Some, option_and_then}
+use Rattle.cell_addr.specs.declared.place.Place.{Place}
+use Rattle.cell_addr.specs.declared.place.Block.{Block}
+use Rattle.formula_tree.specs.Term.{Term}
+use Rattle.formula_tree.specs.declared.reference.Corner.{Corner}
+use Rattle.formula_tree.specs.declared.reference.Home.{Home}
+use Rattle.shift_core.specs.Sound.{IsSound}
+use Rattle.shift_core.specs.Tables.{place_after, block_after}
+use Rattle.shift_core.specs.declared.shift.Shift.{Shift}
+use Rattle.tree_rewrite.specs.Rewritten.{ComesBack, home_after, rewritten}
+
+-- each operation of the run can be done
+abbrev pub AreSound : List Shift → Type 0
+AreSound [] = Unit {0}
+AreSound (s ∷ run) = IsSound s × AreSound run
+
+-- where the operations take something; none where one of them loses it
+abbrev pub over_all : {X : Type 0} → (Shift → X → Option X) → List Shift → X → Option X
+over_all step [] x = Some x
+over_all step (s ∷ run) x = option_and_then (over_all step run) (step s x)
+
+-- a place, a block and a home
+abbrev pub place_over : List Shift → Place → Option Place
+place_over = over_all place_after
+
+abbrev pub block_over : List Shift → Block → Option Block
+block_over = over_all block_after
+
+abbrev pub home_over : List Shift → Home → Option Home
+home_over = over_all home_after
+
+-- the tree after the operations
+abbrev pub tree_over : List Shift → Term Corner → Term Corner
+tree_over [] t = t
+tree_over (s ∷ run) t = tree_over run (rewritten s t)
+
+-- the tree comes back from each operation, as it is when that is done
+abbrev pub NoneLoses : List Shift → Term Corner → Type 0
+NoneLoses [] t = Unit {0}
+NoneLoses (s ∷ run) t = ComesBack s t × NoneLoses run (rewritten s t)

@@ -1,0 +1,107 @@
+// Formulas taken over a run of operations, and their trees shared.
+ghost use Rattle.std.specs.Prelude.{◌≡◌, ◌≢◌, None, Some, IfOk, OnErr};
+ghost use Rattle.formula_tree.specs.Pooled.{held};
+ghost use Rattle.formula_tree.specs.Reference.{IsHomeInside};
+ghost use Rattle.formula_tree.specs.Relative.{relative};
+ghost use Rattle.formula_tree.specs.StandsFor.{StandsFor, at_home};
+ghost use Rattle.run_walk.specs.Run.{AreSound, home_over, tree_over};
+ghost use Rattle.tree_rewrite.specs.Pooled.{HoldsChanged};
+ghost use Rattle.tree_rewrite.specs.References.{FitsSheets};
+
+use crate::run::{block_over, first_place, home_over, last_place, place_over};
+use cell_value::FaultKind;
+use formula_tree::{Corner, Home, Node, Pool, Ref, Tree};
+use shift_core::Shift;
+use std::alloc::{AllocError, Global};
+use tree_rewrite::{Replacement, changed_area, changed_cell, replaced};
+
+/// The tree and the home of a formula after all operations of the run: as [`tree_rewrite::forward`] over one after the
+/// other gives them, but that only the last tree is made.
+///
+/// The operations are sound; the home, the references and the blocks of the tree lie within the limits of a sheet, and
+/// no operation loses the home. A tree that stays the same as seen from its home is answered as it is, and the pool
+/// stays as it was; another one is shared in the pool. Where there is no memory the pool stays as it was. Costs about
+/// the nodes of the tree, and for each reference or block the operations up to the one that loses it.
+pub fn forward_over(
+    alloc: Global,
+    pool: &mut Pool,
+    tree: &Tree,
+    home: Home,
+    run: &[Shift],
+) -> Result<(Tree, Home), AllocError>
+    requires sound { AreSound run.now }
+    requires home { IsHomeInside home }
+    requires fits { FitsSheets (at_home home (relative tree.now.value)) }
+    requires kept { home_over run.now home ≢ None }
+    ensures home { IfOk result (λ r. home_over run.now home ≡ Some r.1) }
+    ensures tree { IfOk result (λ r. StandsFor r.0 r.1 (tree_over run.now (at_home home (relative tree.now.value)))) }
+    ensures inside { IfOk result (λ r. IsHomeInside r.1) }
+    ensures fits { IfOk result (λ r. FitsSheets (at_home r.1 (relative r.0.value))) }
+    ensures held { IfOk result (λ r. HoldsChanged (held pool.old) (relative tree.now.value) (relative r.0.value) (held pool.new)) }
+    ensures err { OnErr result (held pool.new ≡ held pool.old) }
+{
+    if run.is_empty() {
+        return Ok((tree.clone()?, home));
+    }
+    let Some(to) = home_over(run, home) else {
+        unreachable!()
+    };
+    let walk = Walk {
+        run,
+        from: home,
+        to,
+    };
+    let tree = replaced(alloc, pool, &walk, tree)?;
+    Ok((tree, to))
+}
+
+// The way of a formula over a run of operations, some of them: the home at either end.
+#[derive(Clone, Copy, Drop)]
+struct Walk<'a> {
+    run: &'a [Shift],
+    from: Home,
+    to: Home,
+}
+
+impl<'a> Replacement for Walk<'a> {
+    ghost use Rattle.run_walk.specs.internal.Walked.{TakesArea, TakesCell, area_walked, cell_walked};
+
+    ghost TakesCell = { λ w r. TakesCell w.run.now w.from w.to r };
+
+    ghost TakesArea = { λ w r q. TakesArea w.run.now w.from w.to r q };
+
+    ghost for_cell = { λ w r. cell_walked w.run.now w.from w.to r };
+
+    ghost for_area = { λ w r q. area_walked w.run.now w.from w.to r q };
+
+    fn reference(&self, reference: Ref) -> Option<Node> {
+        let corner = reference.at(self.from);
+        let Some(at) = place_over(self.run, corner.at) else {
+            return Some(Node::Fault(FaultKind::Ref));
+        };
+        let new = Ref::of(Corner { at, ..corner }, self.to);
+        changed_cell(new, reference)
+    }
+
+    fn area(&self, first: Ref, last: Ref) -> Option<Node> {
+        let (top, bottom) = (first.at(self.from), last.at(self.from));
+        let Some(block) = block_over(self.run, top.block_to(bottom)) else {
+            return Some(Node::Fault(FaultKind::Ref));
+        };
+        let new_first = Ref::of(
+            Corner {
+                at: first_place(block),
+                ..top
+            },
+            self.to,
+        );
+        let new_last = Ref::of(
+            Corner {
+                at: last_place(block),
+                ..bottom
+            },
+            self.to,
+        );
+        changed_area((new_first, new_last), (first, last))
+    }
+}
