@@ -1,6 +1,6 @@
 -- Blocks that filings hold: a new filing holds its block, others stay, and structural operations carry along what they don't
 -- bend. Serves the needs of the graph by its filings.
-use Rattle.std.proofs.Common.{◌≡◌, ◌∙◌, sym, ap, refl, subst, ℕ, ◌<◌, ◌↔◌, ⊎_elim, inl, inr, true, length, nat_lt, Some}
+use Rattle.std.proofs.Common.{◌≡◌, ◌∙◌, sym, ap, refl, subst, ℕ, ◌<◌, ◌↔◌, ⊎_elim, inl, inr, true, length, nat_lt, Some, None}
 use Rattle.std.proofs.lemmas.Bool.{and_from, and_parts, le-leb, leb-true, lt-ltb, ltb-true, or_cases, or_left, or_right}
 use Rattle.cell_addr.specs.Place.{IsBlockInside, covers}
 use Rattle.cell_addr.specs.declared.axis.Axis.{Axis}
@@ -23,6 +23,8 @@ use Rattle.place_lines.specs.declared.spot.Spot.{Spot}
 use Rattle.place_lines.proofs.Carried.{IsCarriedBlock, carried_spots}
 use Rattle.place_lines.proofs.Known.{same_number, spot_known, spot_was_there, stays_known}
 use Rattle.place_lines.proofs.Places.{one_block, one_place, one_spot, same_area}
+use Rattle.touch_index.specs.Handed.{IsHandedOn, fresh_part}
+use Rattle.touch_index.proofs.Handing.{handed_on}
 use Rattle.dep_graph.specs.declared.files.Files.{Files}
 use Rattle.dep_graph.specs.internal.Files.{FilesOn, HasSpot, HoldsBlock, finds_filing}
 use Rattle.dep_graph.proofs.FiledCells.{same_test}
@@ -129,3 +131,25 @@ pub carried : (s : Shift) (old new : PlaceLines) (files : Files) (f : ℕ) (b af
     → block_after s b ≡ Some after → area_of old b ≡ area_of new after → HoldsBlock old files f b → HoldsBlock new files f after
 carried s old new files f b after sound moved inside still whole moves same holds =
     by_form (form_of s) old new files f b after sound moved inside still whole moves same holds
+
+-- the filing of a block that is handed on without lines that come in holds what it becomes
+pub served : (form : Form) (old new : PlaceLines) (files : Files) (f : ℕ) (b after : Block) → IsHandedOn form old new b after → fresh_part form after ≡ None → HoldsBlock old files f b → HoldsBlock new files f after
+served form old new files f b after on none holds = record {
+  exact = λ q. same_test (finds_filing files (spot_of new q) f) (covers after q) (covered q) (found q);
+  known = λ spot found. known_after form old new spot on.moved (holds.known spot found);
+}
+  where
+    covered : (q : Place) → finds_filing files (spot_of new q) f ≡ true → covers after q ≡ true
+    covered q found =
+        let (p, is, inside, narrow) = spot_was_there form old new q on.moved (passes_known old (spot_of new q) (holds.known (spot_of new q) found)) in
+        let here : covers b p ≡ true = sym (holds.exact p) ∙ (ap (λ s. finds_filing files s f) is ∙ found) in
+        covers-from_Covers after q ((handed_on form old new b after q on).1 (inl (p, Covers-from_covers b p here, is)))
+
+    no_part : (part : Block) → None ≡ Some part → ⊥
+    no_part part e = cc
+
+    found : (q : Place) → covers after q ≡ true → finds_filing files (spot_of new q) f ≡ true
+    found q here = elim ((handed_on form old new b after q on).0 (Covers-from_covers after q here)) [
+      | inl (p, was, is) ↦ ap (λ s. finds_filing files s f) (sym is) ∙ (holds.exact p ∙ covers-from_Covers b p was)
+      | inr (part, is, c) ↦ absurd (no_part part (sym none ∙ is))
+    ]

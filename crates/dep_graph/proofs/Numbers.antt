@@ -4,15 +4,19 @@ use Rattle.std.specs.Prelude.{filter, slice_get, unwrap_or}
 use Rattle.std.specs.Bool.{Decides}
 use Rattle.std.specs.List.{cons_option, filter_map, position_or_len}
 use Rattle.std.specs.Option.{option_and_then, option_map}
-use Rattle.std.proofs.lemmas.Bool.{and_parts, cases_lt}
+use Rattle.std.proofs.lemmas.Bool.{and_from, and_parts, cases_lt, lt-ltb}
 use Rattle.std.proofs.lemmas.Bool.Decides.{nat_tests}
 use Rattle.std.proofs.lemmas.List.Sums.{passes_at_first, position_or_len_is}
 use Rattle.std.proofs.lemmas.Option.{same_Some}
+use Rattle.cell_addr.specs.declared.place.Block.{Block}
+use Rattle.cell_addr.specs.declared.place.Place.{Place}
+use Rattle.shift_core.specs.Carried.{first_place, last_place}
+use Rattle.place_lines.specs.Laws.{IsNarrow, IsNarrowBlock}
 use Rattle.place_lines.specs.Spots.{area_of, block_at, past, place_at, positions, spot_of}
 use Rattle.place_lines.specs.declared.area.Area.{Area}
 use Rattle.place_lines.specs.declared.lines.PlaceLines.{PlaceLines}
 use Rattle.place_lines.specs.declared.spot.Spot.{Spot}
-use Rattle.place_lines.proofs.Narrow.{narrow_block, narrow_place}
+use Rattle.place_lines.proofs.Narrow.{narrow_block, narrow_numbers, narrow_place}
 use Rattle.place_lines.proofs.Places.{area_returns, block_returns, one_block, one_place, place_returns, spot_returns}
 use Rattle.needs_order.specs.Needs as plain
 use Rattle.needs_order.proofs.Lists as lists
@@ -82,6 +86,18 @@ key_inside t k n e = subst (λ m. m < count_of t) (sym (key_number t k n e)) (go
 
 low_line : (number : ℕ) → is_narrow_line number ≡ true → number < past positions
 low_line number h = grind (arith, nat_tests)
+
+narrow_line : (number : ℕ) → number < past positions → is_narrow_line number ≡ true
+narrow_line number lt = lt-ltb number (past positions) lt
+
+-- the keys of narrow places and blocks are narrow
+pub narrow_spot : (lines : PlaceLines) (p : Place) → IsNarrow p → (is_narrow_line (spot_of lines p).row && is_narrow_line (spot_of lines p).col) ≡ true
+narrow_spot lines p narrow =
+    let (row, col) = narrow_numbers lines p narrow in
+    and_from _ _ (narrow_line (spot_of lines p).row row) (narrow_line (spot_of lines p).col col)
+
+pub narrow_area : (lines : PlaceLines) (b : Block) → IsNarrowBlock b → is_narrow (key.Range (area_of lines b)) ≡ true
+narrow_area lines b (first, last) = and_from _ _ (narrow_spot lines (first_place b) first) (narrow_spot lines (last_place b) last)
 
 -- a node whose key is narrow is found under it
 pub node_returns : (lines : PlaceLines) (a : Node) → is_narrow (key_of lines a) ≡ true → node_of lines (key_of lines a) ≡ Some a

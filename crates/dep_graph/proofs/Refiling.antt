@@ -36,9 +36,9 @@ use Rattle.dep_graph.specs.internal.Files.{FilesOn, HoldsBlock}
 use Rattle.dep_graph.specs.internal.Filings.{filing_of, filing_then, owner_at}
 use Rattle.dep_graph.specs.internal.Keys.{key_of}
 use Rattle.dep_graph.specs.internal.Numbers.{count_of, found_at, is_range, key_place}
-use Rattle.dep_graph.specs.internal.ShiftedNumbers.{AreAllRefiled, AreFilingsUnder, AreTargets, AreUnfiled, BecomesRange, IsCarriedAt, IsRefiled, StillFiled, after_at, block_in, is_linked}
+use Rattle.dep_graph.specs.internal.ShiftedNumbers.{AreAllRefiled, AreFilingsUnder, AreTargets, AreUnfiled, BecomesRange, IsRefiled, IsServedAt, StillFiled, after_at, block_in, is_linked}
 use Rattle.dep_graph.specs.internal.Touches.{FindsTouched, IsUntouched}
-use Rattle.dep_graph.proofs.Filed.{carried, kept_holds}
+use Rattle.dep_graph.proofs.Filed.{carried, kept_holds, served}
 use Rattle.dep_graph.proofs.Numbers.{alive_inside, found_key, key_stands}
 use Rattle.dep_graph.proofs.Targets.{Few, linked_alive, own_target}
 use Rattle.dep_graph.proofs.Untouched.{taken_before, taken_cases, taken_here}
@@ -70,26 +70,15 @@ owner_inside (y ∷ l) (suc i) x e = let low : i < length l = owner_inside l i x
 one_area : (a b : Area) → key.Range a ≡ key.Range b → a ≡ b
 one_area a b e = cc
 
-block_moves : (o : Option Block) (after : Block) → option_map Range o ≡ Some (Range after) → o ≡ Some after
-block_moves None after e = absurd (none e)
-  where
-    none : None ≡ Some (Range after) → ⊥
-    none e = cc
-block_moves (Some b) after e = ap Some (one_block b after (same_Some (Range b) (Range after) e))
-  where
-    one_block : (b c : Block) → Range b ≡ Range c → b ≡ c
-    one_block b c e = cc
-
--- that of a range which keeps its number, and which the operation just carries along
-pub present_serves : (s : Shift) (lines : PlaceLines) (net : Net) (n target f : ℕ) (after : Block) → IsSound s → AreMoved (form_of s) net.nodes.lines lines → IsCarriedAt s net n
-    → after_at s net n ≡ Some (Range after) → slice_get net.nodes.keys.keys target ≡ Some (key_of lines (Range after)) → target ≡ n → filing_of net.files.current n ≡ Some f → HoldsBlock lines net.files f after
-present_serves s lines net n target f after sound moved (b, found, inside, still, whole) goes stands same at =
-    let moves : block_after s b ≡ Some after = block_moves (block_after s b) after (sym (ap (option_and_then (node_after s)) found) ∙ goes) in
+-- that of a range which keeps its number, and to which only its own lines are left
+pub present_serves : (s : Shift) (lines : PlaceLines) (net : Net) (n target f : ℕ) (after : Block) → IsSound s → AreMoved (form_of s) net.nodes.lines lines → IsServedAt (form_of s) (found_at net.nodes n) after
+    → slice_get net.nodes.keys.keys target ≡ Some (key_of lines (Range after)) → target ≡ n → filing_of net.files.current n ≡ Some f → HoldsBlock lines net.files f after
+present_serves s lines net n target f after sound moved ((b, found, (inside, within, many)), none) stands same at =
     let there : Some (key.Range (area_of net.nodes.lines b)) ≡ Some (key.Range (area_of lines after))
     = sym (found_key net.nodes.lines net.nodes.keys.keys n (Range b) found) ∙ (ap (slice_get net.nodes.keys.keys) (sym same) ∙ stands) in
     let area : area_of net.nodes.lines b ≡ area_of lines after
     = one_area (area_of net.nodes.lines b) (area_of lines after) (same_Some (key.Range (area_of net.nodes.lines b)) (key.Range (area_of lines after)) there) in
-    carried s net.nodes.lines lines net.files f b after sound moved inside still whole moves area ((net.filed n f at).1 b found)
+    served (form_of s) net.nodes.lines lines net.files f b after (record { sound = sound; moved = moved; here = inside; there = within; area = area; count = many }) none ((net.filed n f at).1 b found)
 
 -- ---- filings by the lines after the operation
 

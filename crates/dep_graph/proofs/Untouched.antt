@@ -10,10 +10,12 @@ use Rattle.std.proofs.lemmas.List.{get_or-take, get_or_default, length-take-le, 
 use Rattle.std.proofs.lemmas.Option.{same_Some}
 use Rattle.cell_addr.specs.Place.{IsBlockInside, IsInside}
 use Rattle.cell_addr.specs.declared.axis.Axis.TheVariants.{Cols, Rows}
+use Rattle.cell_addr.specs.declared.place.Block.{Block}
 use Rattle.needs_order.specs.Needs.{has}
 use Rattle.needs_order.proofs.Lists.{at_has, has-append_cases, has-append_left, has-append_right, has_cases, has_first, has_or_not}
 use Rattle.place_lines.specs.Moved.{AreMoved, IsKnown, is_known}
 use Rattle.place_lines.specs.Spots.{area_of, first_spot, last_spot, number_of, spot_of, table_along}
+use Rattle.place_lines.specs.declared.area.Area.{Area}
 use Rattle.place_lines.specs.declared.lines.PlaceLines.{PlaceLines}
 use Rattle.place_lines.proofs.Known.{spot_known, spot_was_there, stays_known}
 use Rattle.place_lines.proofs.Places.{same_area}
@@ -23,6 +25,7 @@ use Rattle.shift_core.specs.Sound.{IsSound}
 use Rattle.shift_core.specs.declared.shift.Shift.{Shift}
 use Rattle.shift_core.proofs.BlockLaws.{block_moved_inside}
 use Rattle.shift_core.proofs.PlaceLaws.{place_moved_inside}
+use Rattle.touch_index.specs.Handed.{IsHandedOn}
 use Rattle.touch_index.specs.Kept.{FindsBlocks, FindsCells, Grows, KeepsBlock, KeepsCell, keeps_cell}
 use Rattle.touch_index.specs.declared.index.TouchIndex.{TouchIndex}
 use Rattle.touch_index.proofs.Staying.{block_is_somewhere, block_kept, cell_is_somewhere}
@@ -36,7 +39,7 @@ use Rattle.dep_graph.specs.declared.table.NodeTable.{NodeTable}
 use Rattle.dep_graph.specs.declared.touches.Touches.{Touches}
 use Rattle.dep_graph.specs.internal.Keys.{is_narrow, key_of, node_of}
 use Rattle.dep_graph.specs.internal.Numbers.{count_of, found_at, found_under, key_at}
-use Rattle.dep_graph.specs.internal.Touches.{AddsBetween, AddsKnown, AreIndexed, AreInside, AreKept, FindsTouched, IsIndexed, IsKept, IsMore, IsUntouched, KeepsNode, is_known_key}
+use Rattle.dep_graph.specs.internal.Touches.{AddsBetween, AddsKnown, AreIndexed, AreInside, AreKept, FindsTouched, IsHandedAt, IsIndexed, IsKept, IsMore, IsUntouched, KeepsNode, is_known_key}
 use Rattle.dep_graph.proofs.Filed.{known_passes, passes_known}
 use Rattle.dep_graph.proofs.Numbers.{found_key, gets, got, key_returns, node_returns, one_node}
 
@@ -195,6 +198,24 @@ module _ (s : Shift) (sound : IsSound s) (old new : PlaceLines) (moved : AreMove
         λ (kept : IsBlockInside b × KeepsBlock x old b n).
             (block_moved_inside (form_of s) b c sound untouched.0 goes, block_kept (form_of s) x old new b c n sound moved untouched.0 untouched.1 goes kept.1),
       )
+
+  -- a range that is handed on under a number that it keeps, where lines that come in are kept too
+  pub stays_handed : (nodes : NodeTable) (t : Touches) (x : TouchIndex) (n : ℕ) (k : Key) (a : Node) (c : Block) → nodes.lines ≡ old → n < count_of nodes → k ≡ key_at nodes n → AreIndexed nodes t
+      → node_of new k ≡ Some a → a ≡ Range c → IsHandedAt (form_of s) (found_at nodes n) c
+      → ((was : PlaceLines) (b : Block) → IsHandedOn (form_of s) was new b c → KeepsBlock t.index was b n → KeepsBlock x new c n) → (has n t.odd.keys ≡ true) ⊎ KeepsNode x new n (Range c)
+  stays_handed nodes t x n k a c lines low is indexed stands is_c (b, found, (inside, within, many)) keeps =
+      let at : slice_get nodes.keys.keys n ≡ Some k = gets nodes.keys.keys n (key.Name 0 0) low ∙ ap Some (sym is) in
+      let was : node_of nodes.lines k ≡ Some (Range b) = ap (option_and_then (node_of nodes.lines)) (sym at) ∙ found in
+      let area : area_of old b ≡ area_of new c
+      = one_area (area_of old b) (area_of new c) (ap (λ l. key_of l (Range b)) (sym lines) ∙ (key_returns nodes.lines k (Range b) was ∙ (sym (key_returns new k a stands) ∙ ap (key_of new) is_c))) in
+      let on : IsHandedOn (form_of s) old new b c = record { sound = sound; moved = moved; here = inside; there = within; area = area; count = many } in
+      elim (opened nodes.lines t n k (indexed n k at)) [
+        | inl odd ↦ inl odd
+        | inr kept ↦ inr (within, keeps old b on (subst (λ l. KeepsBlock t.index l b n) lines (kept.1 (Range b) was).1))
+      ]
+    where
+      one_area : (a b : Area) → key.Range a ≡ key.Range b → a ≡ b
+      one_area a b e = cc
 
   stays_known_key : (k : Key) → IsKnownKey old k → IsKnownKey new k
   stays_known_key (key.Cell spot) known = stays_known (form_of s) old new spot moved known

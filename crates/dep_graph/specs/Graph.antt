@@ -8,7 +8,7 @@ use Rattle.dep_graph.specs.internal.Nets.{links_in}
 
 -- the nodes that each node was linked to
 abbrev pub links_of : Graph → Links
-links_of g = links_in g.net
+links_of g = links_in g.net.value
 
 -- the links where one node's are replaced
 abbrev pub AreLinked : Node → List Node → Links → Links → Type 0

@@ -4,6 +4,7 @@ ghost use Rattle.shift_core.specs.Sound.{IsSound};
 ghost use Rattle.dep_graph.specs.Bent.{AreBent, Bends};
 ghost use Rattle.dep_graph.specs.Graph.{links_of};
 ghost use Rattle.dep_graph.specs.Nodes.{items_of};
+ghost use Rattle.dep_graph.specs.internal.Nets.{links_in};
 ghost use Rattle.dep_graph.specs.internal.BentNumbers.{AddsBentUsers, AreBentUsers};
 ghost use Rattle.dep_graph.specs.internal.Numbers.{count_of, node_at};
 ghost use Rattle.dep_graph.specs.internal.Touches.{AddsAll, AreInside};
@@ -26,14 +27,22 @@ impl Graph {
         requires { IsSound s.now }
         ensures { IfOk result (λ nodes. AreBent s.now (links_of self.now) (items_of nodes)) }
     {
-        let found = self.net.touched(s)?;
-        let users = self.net.bent_users(s, found.as_slice())?;
-        let none = IndexSet::new(self.net.alloc);
-        self.net.named(&none, users.as_slice())
+        self.net.bent(s)
     }
 }
 
 impl Net {
+    // As [`Graph::bent`].
+    fn bent(&self, s: &Shift) -> Result<Nodes, AllocError>
+        requires { IsSound s.now }
+        ensures { IfOk result (λ nodes. AreBent s.now (links_in self.now) (items_of nodes)) }
+    {
+        let found = self.touched(s)?;
+        let users = self.bent_users(s, found.as_slice())?;
+        let none = IndexSet::new(self.alloc);
+        self.named(&none, users.as_slice())
+    }
+
     // The numbers of the nodes that are linked to one of these that the operation bends.
     fn bent_users(
         &self,

@@ -12,7 +12,8 @@ use std::alloc::{AllocError, Global};
 /// linked to, and a range that some node is linked to needs each cell that it covers as well.
 #[derive(Drop)]
 pub struct Graph {
-    pub(crate) net: Net,
+    // On the heap, so that who drops a graph calls one function.
+    pub(crate) net: Box<Net>,
 }
 
 impl Graph {
@@ -22,9 +23,7 @@ impl Graph {
     pub fn new(alloc: Global) -> Result<Graph, AllocError>
         ensures { IfOk result (λ graph. (a : Node) → links_of graph a ≡ []) }
     {
-        Ok(Graph {
-            net: Net::new(alloc)?,
-        })
+        Graph::of(Net::new(alloc)?)
     }
 
     /// Replaces what the node was linked to. Where there is no memory all links stay as they were. Costs about the number
@@ -49,8 +48,15 @@ impl Graph {
     pub fn copied(&self) -> Result<Graph, AllocError>
         ensures { IfOk result (λ graph. AreSame (links_of self.now) (links_of graph)) }
     {
+        Graph::of(self.net.copied()?)
+    }
+
+    // The graph of a net.
+    fn of(net: Net) -> Result<Graph, AllocError>
+        ensures { IfOk result (λ graph. graph.net.value ≡ net) }
+    {
         Ok(Graph {
-            net: self.net.copied()?,
+            net: Box::new(net.alloc, net)?,
         })
     }
 }

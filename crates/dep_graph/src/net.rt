@@ -33,8 +33,8 @@ pub(crate) struct Net {
     pub(crate) files: Files,
     // What operations find them by.
     pub(crate) touches: Touches,
-    // About how much was left behind since the net was made: links that were dropped, nodes that operations touched, and
-    // rectangles that they filed.
+    // About how much was left behind since the net was made: links that were dropped, numbers whose nodes operations made
+    // others or none, and rectangles that they filed anew. A range that is handed on leaves nothing behind.
     pub(crate) left_behind: usize,
     pub ghost counts: { node_count links ≡ count_of nodes },
     pub ghost rooms: { length files.current.items ≡ count_of nodes },

@@ -7,22 +7,25 @@ ghost use Rattle.node_links.specs.Redirect.{few_target, is_among};
 ghost use Rattle.place_lines.specs.Moved.{AreMoved};
 ghost use Rattle.shift_core.specs.Form.{form_of};
 ghost use Rattle.shift_core.specs.Sound.{IsSound};
+ghost use Rattle.touch_index.specs.Handed.{fresh_part};
 ghost use Rattle.dep_graph.specs.declared.node.Node.TheVariants.{Range};
 ghost use Rattle.dep_graph.specs.internal.Files.{FilesOn, HoldsBlock};
 ghost use Rattle.dep_graph.specs.internal.Filings.{filing_then, owner_at};
 ghost use Rattle.dep_graph.specs.internal.Keys.{key_of};
-ghost use Rattle.dep_graph.specs.internal.Numbers.{count_of};
-ghost use Rattle.dep_graph.specs.internal.ShiftedNumbers.{AreAllRefiled, AreFilingsUnder, AreTargets, AreUnfiled, IsCarriedAt, IsRefiled, StillFiled, after_at, block_in};
+ghost use Rattle.dep_graph.specs.internal.Numbers.{count_of, found_at};
+ghost use Rattle.dep_graph.specs.internal.ShiftedNumbers.{AreAllRefiled, AreFilingsUnder, AreTargets, AreUnfiled, IsRefiled, IsServedAt, StillFiled, after_at, block_in};
 ghost use Rattle.dep_graph.specs.internal.Touches.{AreInside, FindsTouched};
 
 use crate::net::Net;
 use crate::node::Node;
+use crate::touches::handed_on;
 use cell_addr::Block;
 use node_links::few_target;
 use place_lines::PlaceLines;
-use shift_core::{Shift, is_bent, is_cut};
+use shift_core::Shift;
 use std::alloc::{AllocError, Global};
 use std::collections::BTreeMap;
+use touch_index::fresh_part;
 
 impl Net {
     // The filings after the operation of the found nodes and of what they become: each used range is filed where it goes.
@@ -132,7 +135,7 @@ impl Net {
         put_filing(filings, target, Some(filing))
     }
 
-    // A filing of the range that a range becomes: the present one, where the operation just carries it along.
+    // A filing of the range that a range becomes: the present one, where the range keeps its number and gets no lines.
     fn filing_after(
         &mut self,
         lines: &PlaceLines,
@@ -143,7 +146,6 @@ impl Net {
     ) -> Result<usize, AllocError>
         requires sound { IsSound s.now }
         requires moved { AreMoved (form_of s.now) self.old.nodes.lines lines.now }
-        requires after { after_at s.now self.old number ≡ Some (Range after) }
         requires target { slice_get self.old.nodes.keys.keys target ≡ Some (key_of lines.now (Range after)) }
         ensures nodes { self.new.nodes ≡ self.old.nodes }
         ensures links { self.new.links ≡ self.old.links }
@@ -151,7 +153,7 @@ impl Net {
         ensures owner { IfOk result (λ f. owner_at self.new.files.owners f ≡ Some target) }
         ensures holds { IfOk result (λ f. HoldsBlock lines.now self.new.files f after) }
     {
-        if target == number && self.is_carried(s, number) {
+        if target == number && self.serves(s, number, after) {
             if let Some(filing) = self.files.filing(number) {
                 return Ok(filing);
             }
@@ -159,15 +161,24 @@ impl Net {
         self.files.file(lines, after, target)
     }
 
-    // Whether the node of a number is a range that the operation just carries along.
-    fn is_carried(&self, s: &Shift, number: usize) -> bool
-        requires { IsSound s.now }
-        ensures { IsTrue result → IsCarriedAt s.now self.now number }
+    // Whether the node of a number is a range whose filing holds what it becomes, if that has its corners.
+    fn serves(&self, s: &Shift, number: usize, after: Block) -> bool
+        ensures { IsTrue result → IsServedAt (form_of s.now) (found_at self.now.nodes number) after }
     {
-        match self.nodes.node(number) {
-            Some(Node::Range(block)) => block.inside() && !is_bent(s, block) && !is_cut(s, block),
-            _ => false,
+        match handed_on(s, self.nodes.node(number), Node::Range(after)) {
+            Some(block) => gets_no_lines(s, block),
+            None => false,
         }
+    }
+}
+
+// Whether no lines come in between others of what the operation makes of a block.
+fn gets_no_lines(s: &Shift, after: Block) -> bool
+    ensures { IsTrue result → fresh_part (form_of s.now) after ≡ None }
+{
+    match fresh_part(s, after) {
+        Some(_) => false,
+        None => true,
     }
 }
 

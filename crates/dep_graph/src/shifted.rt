@@ -33,24 +33,34 @@ impl Graph {
     ///
     /// Costs the runs of lines of all edited sheets, which are copied, a search for each run of the lines that the
     /// operation loses or displaces, and for each node that it touches, or that isn't inside its sheet, about the number
-    /// of its slots, of its links and of its users' links. It touches what it loses or bends, and what it takes along with
-    /// moved cells; what it only carries along isn't looked at. Now and then, where more than half of what is kept may
-    /// have been left behind by operations and by links that were replaced, the graph is made anew, which costs what
-    /// [`Graph::copied`] does.
+    /// of its links and of its users' links. It touches what it loses or bends, and what it takes along with moved cells;
+    /// what it only carries along isn't looked at. A range that it touches costs the number of its slots besides, unless
+    /// its corners keep their lines, none come in between, and a move leaves their number. Now and then, where more than
+    /// half of what is kept may have been left behind by operations and by links that were replaced, the graph is made
+    /// anew, which costs what [`Graph::copied`] does.
     pub fn shift(&mut self, s: &Shift) -> Result<(), AllocError>
         requires { IsSound s.now }
         ensures ok { OnOk result (AreShifted s.now (links_of self.old) (links_of self.new)) }
         ensures err { OnErr result (AreSame (links_of self.old) (links_of self.new)) }
     {
-        self.net.shift(s)?;
-        if self.net.is_fragmented() {
-            self.net.renew();
-        }
-        Ok(())
+        self.net.shift_and_renew(s)
     }
 }
 
 impl Net {
+    // As [`Graph::shift`].
+    fn shift_and_renew(&mut self, s: &Shift) -> Result<(), AllocError>
+        requires { IsSound s.now }
+        ensures ok { OnOk result (AreShifted s.now (links_in self.old) (links_in self.new)) }
+        ensures err { OnErr result (AreSame (links_in self.old) (links_in self.new)) }
+    {
+        self.shift(s)?;
+        if self.is_fragmented() {
+            self.renew();
+        }
+        Ok(())
+    }
+
     // Moves the nodes over the operation, with their links.
     fn shift(&mut self, s: &Shift) -> Result<(), AllocError>
         requires { IsSound s.now }
@@ -65,14 +75,14 @@ impl Net {
         add_between(&mut found, count, self.nodes.len())?;
         let filings = self.refiled(&lines, s, &few, found.as_slice())?;
         self.touches
-            .keep_all(&lines, &self.nodes, found.as_slice())?;
+            .keep_all(&lines, s, &self.nodes, found.as_slice())?;
         self.links.redirect_few(&few)?;
         self.nodes.lines = lines;
         self.files.put_few(&filings);
         let refiled = self.files.filed.saturating_sub(filed);
         self.left_behind = self
             .left_behind
-            .saturating_add(found.len())
+            .saturating_add(few.len())
             .saturating_add(refiled);
         Ok(())
     }

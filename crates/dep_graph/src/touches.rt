@@ -1,7 +1,12 @@
 // Nodes under their numbers, so that operations find those that they touch.
 ghost use Rattle.std.specs.Prelude.{◌≡◌, ◌<◌, ℕ, true, Some, OnOk};
+ghost use Rattle.cell_addr.specs.declared.place.Block.{Block};
 ghost use Rattle.needs_order.specs.Needs.{has};
+ghost use Rattle.place_lines.specs.Moved.{AreMoved};
+ghost use Rattle.shift_core.specs.Form.{form_of};
+ghost use Rattle.shift_core.specs.Sound.{IsSound};
 ghost use Rattle.dep_graph.specs.declared.node.Node.TheVariants as node;
+ghost use Rattle.dep_graph.specs.internal.Touches.{AreHandedOn, IsHandedAt};
 
 use crate::key::Key;
 use crate::node::Node;
@@ -10,8 +15,9 @@ use cell_addr::{Block, Place};
 use indexmap::IndexSet;
 use near_hash::NearHash;
 use place_lines::PlaceLines;
+use shift_core::Shift;
 use std::alloc::{AllocError, Global};
-use touch_index::TouchIndex;
+use touch_index::{TouchIndex, hands_on};
 
 // Nodes under their numbers. What is kept is never taken out.
 #[derive(Drop)]
@@ -23,9 +29,9 @@ pub(crate) struct Touches {
 }
 
 impl Touches {
-    ghost use Rattle.dep_graph.specs.internal.Touches.{AreKept, IsIndexed, IsKept, IsMore};
+    ghost use Rattle.dep_graph.specs.internal.Touches.{AreIndexed, AreKept, IsIndexed, IsKept, IsMore};
     ghost use Rattle.dep_graph.specs.internal.Keys.{node_of};
-    ghost use Rattle.dep_graph.specs.internal.Numbers.{count_of};
+    ghost use Rattle.dep_graph.specs.internal.Numbers.{count_of, key_at};
 
     // Nothing is kept.
     pub(crate) fn new(alloc: Global) -> Touches {
@@ -51,30 +57,47 @@ impl Touches {
         }
     }
 
-    // Keeps the nodes of these numbers where they stand by the lines.
+    // Keeps the nodes of these numbers, which are kept as they stood before the operation, as they stand by the lines after it.
     pub(crate) fn keep_all(
         &mut self,
         lines: &PlaceLines,
+        s: &Shift,
         nodes: &NodeTable,
         numbers: &[usize],
     ) -> Result<(), AllocError>
-        requires { (n : ℕ) → has n numbers.now ≡ true → n < count_of nodes.now }
+        requires sound { IsSound s.now }
+        requires moved { AreMoved (form_of s.now) nodes.now.lines lines.now }
+        requires inside { (n : ℕ) → has n numbers.now ≡ true → n < count_of nodes.now }
+        requires indexed { AreIndexed nodes.now self.old }
         ensures more { IsMore self.old self.new }
         ensures kept { OnOk result (AreKept lines.now nodes.now.keys.keys self.new numbers.now) }
     {
         'numbers: for number in numbers {
-            self.keep_found(lines, nodes.key(*number), *number)?;
+            self.keep_found(lines, s, nodes, *number)?;
         }
         Ok(())
     }
 
-    // Keeps the node of a key, if it stands somewhere.
-    fn keep_found(&mut self, lines: &PlaceLines, key: Key, number: usize) -> Result<(), AllocError>
+    // Keeps the node of a number, if it stands somewhere: a range that is handed on with only the lines that come in.
+    fn keep_found(
+        &mut self,
+        lines: &PlaceLines,
+        s: &Shift,
+        nodes: &NodeTable,
+        number: usize,
+    ) -> Result<(), AllocError>
+        requires sound { IsSound s.now }
+        requires moved { AreMoved (form_of s.now) nodes.now.lines lines.now }
+        requires number { number < count_of nodes.now }
+        requires indexed { AreIndexed nodes.now self.old }
         ensures more { IsMore self.old self.new }
-        ensures kept { OnOk result ((a : Node) → node_of lines.now key ≡ Some a → IsKept lines.now self.new number a) }
+        ensures kept { OnOk result ((a : Node) → node_of lines.now (key_at nodes.now number) ≡ Some a → IsKept lines.now self.new number a) }
     {
-        match key.node(lines) {
-            Some(node) => self.keep(lines, node, number),
+        match nodes.key(number).node(lines) {
+            Some(after) => match handed_on(s, nodes.node(number), after) {
+                Some(block) => self.index.hand_on(lines, s, block, number),
+                None => self.keep(lines, after, number),
+            },
             None => Ok(()),
         }
     }
@@ -127,5 +150,26 @@ impl Touches {
     {
         self.odd.insert(number)?;
         Ok(())
+    }
+}
+
+// The block that a range becomes, where the operation leaves its lines if it leaves those of its corners.
+pub(crate) fn handed_on(s: &Shift, before: Option<Node>, after: Node) -> Option<Block>
+    ensures { (b : Block) → result ≡ Some b → (after ≡ node.Range b) × IsHandedAt (form_of s.now) before b }
+{
+    match (before, after) {
+        (Some(Node::Range(before)), Node::Range(after)) => handed_block(s, before, after),
+        _ => None,
+    }
+}
+
+// The second block, where the operation leaves the lines of the first to it if it leaves those of its corners.
+fn handed_block(s: &Shift, before: Block, after: Block) -> Option<Block>
+    ensures { (b : Block) → result ≡ Some b → (after ≡ b) × AreHandedOn (form_of s.now) before b }
+{
+    if hands_on(s, before, after) {
+        Some(after)
+    } else {
+        None
     }
 }

@@ -6,6 +6,7 @@ ghost use Rattle.block_index.specs.Index.{slot_count};
 ghost use Rattle.dep_graph.specs.Graph.{links_of};
 ghost use Rattle.dep_graph.specs.Nodes.{items_of};
 ghost use Rattle.dep_graph.specs.Users.{AreLinkedTo, AreUsers};
+ghost use Rattle.dep_graph.specs.internal.Nets.{links_in};
 ghost use Rattle.dep_graph.specs.internal.Arrows.{from_slot};
 ghost use Rattle.dep_graph.specs.internal.Touches.{AreInside};
 ghost use Rattle.dep_graph.specs.internal.UserNumbers.{AreUsersOf, numbers_over, own_number};
@@ -27,25 +28,39 @@ impl Graph {
     pub fn users(&self, at: Place) -> Result<Nodes, AllocError>
         ensures { IfOk result (λ nodes. AreUsers at (links_of self.now) (items_of nodes)) }
     {
-        let over = self.net.numbers_over(at)?;
-        let users = self.net.users_of(&over)?;
-        let none = IndexSet::new(self.net.alloc);
-        self.net.named(&none, users.as_slice())
+        self.net.users(at)
     }
 
     /// Each node, once, that is linked to the node itself. Costs about the number of links to it. Errs for want of memory.
     pub fn linked_to(&self, a: Node) -> Result<Nodes, AllocError>
         ensures { IfOk result (λ nodes. AreLinkedTo a (links_of self.now) (items_of nodes)) }
     {
-        let mut own = Vec::new(self.net.alloc);
-        self.net.add_own(&mut own, a)?;
-        let users = self.net.users_of(&own)?;
-        let none = IndexSet::new(self.net.alloc);
-        self.net.named(&none, users.as_slice())
+        self.net.linked_to(a)
     }
 }
 
 impl Net {
+    // As [`Graph::users`].
+    fn users(&self, at: Place) -> Result<Nodes, AllocError>
+        ensures { IfOk result (λ nodes. AreUsers at (links_in self.now) (items_of nodes)) }
+    {
+        let over = self.numbers_over(at)?;
+        let users = self.users_of(&over)?;
+        let none = IndexSet::new(self.alloc);
+        self.named(&none, users.as_slice())
+    }
+
+    // As [`Graph::linked_to`].
+    fn linked_to(&self, a: Node) -> Result<Nodes, AllocError>
+        ensures { IfOk result (λ nodes. AreLinkedTo a (links_in self.now) (items_of nodes)) }
+    {
+        let mut own = Vec::new(self.alloc);
+        self.add_own(&mut own, a)?;
+        let users = self.users_of(&own)?;
+        let none = IndexSet::new(self.alloc);
+        self.named(&none, users.as_slice())
+    }
+
     // The number of the cell, where it has one, and those of the used ranges that cover it.
     fn numbers_over(&self, at: Place) -> Result<Vec<usize>, AllocError>
         ensures { IfOk result (λ numbers. numbers.items ≡ numbers_over self.now at) }

@@ -8,6 +8,7 @@ ghost use Rattle.dep_graph.specs.Needs.{OnCycle};
 ghost use Rattle.dep_graph.specs.Nodes.{has, items_of};
 ghost use Rattle.dep_graph.specs.Walks.{AreReached, IsOnce, IsOrdered};
 ghost use Rattle.dep_graph.specs.declared.node.Node.{Node};
+ghost use Rattle.dep_graph.specs.internal.Nets.{links_in};
 ghost use Rattle.dep_graph.specs.internal.Arrows.{node_total};
 ghost use Rattle.dep_graph.specs.internal.Numbers.{found_at, place_of};
 ghost use Rattle.dep_graph.specs.internal.Walked.{AreKnown, AreUnknown, pick, picks};
@@ -29,10 +30,7 @@ impl Graph {
     pub fn reach(&self, marks: &Nodes) -> Result<Nodes, AllocError>
         ensures { IfOk result (λ nodes. AreReached (links_of self.now) (items_of marks.now) (items_of nodes)) }
     {
-        let split = self.net.split(marks.items())?;
-        let starts = self.net.starts(marks.items())?;
-        let reached = node_reach::reach(self.net.alloc, &self.net, &starts)?;
-        self.net.named(&split.unknown, &reached)
+        self.net.reach(marks)
     }
 
     /// Those of the nodes that are on no cycle, each once, and after all of them that its needs lead to. Costs about what
@@ -40,9 +38,7 @@ impl Graph {
     pub fn order(&self, nodes: &Nodes) -> Result<Nodes, AllocError>
         ensures { IfOk result (λ order. IsOrdered (links_of self.now) (items_of nodes.now) (items_of order)) }
     {
-        let split = self.net.split(nodes.items())?;
-        let walk = node_reach::order(self.net.alloc, &self.net, split.known.as_slice())?;
-        self.net.ordered(&split.unknown, &split.known, &walk)
+        self.net.order(nodes)
     }
 
     /// Whether needs lead from the node back to it, one or more after another. Costs about what [`Graph::reach`] of it
@@ -50,13 +46,7 @@ impl Graph {
     pub fn on_cycle(&self, a: Node) -> Result<bool, AllocError>
         ensures { IfOk result (λ is_so. IsTrue is_so ↔ OnCycle (links_of self.now) a) }
     {
-        match self.net.nodes.number(a) {
-            Some(number) => {
-                let walk = node_reach::order(self.net.alloc, &self.net, &[number])?;
-                Ok(flag_of(&walk, number))
-            }
-            None => Ok(false),
-        }
+        self.net.on_cycle(a)
     }
 }
 
@@ -84,6 +74,38 @@ impl Split {
 }
 
 impl Net {
+    // As [`Graph::reach`].
+    fn reach(&self, marks: &Nodes) -> Result<Nodes, AllocError>
+        ensures { IfOk result (λ nodes. AreReached (links_in self.now) (items_of marks.now) (items_of nodes)) }
+    {
+        let split = self.split(marks.items())?;
+        let starts = self.starts(marks.items())?;
+        let reached = node_reach::reach(self.alloc, self, &starts)?;
+        self.named(&split.unknown, &reached)
+    }
+
+    // As [`Graph::order`].
+    fn order(&self, nodes: &Nodes) -> Result<Nodes, AllocError>
+        ensures { IfOk result (λ order. IsOrdered (links_in self.now) (items_of nodes.now) (items_of order)) }
+    {
+        let split = self.split(nodes.items())?;
+        let walk = node_reach::order(self.alloc, self, split.known.as_slice())?;
+        self.ordered(&split.unknown, &split.known, &walk)
+    }
+
+    // As [`Graph::on_cycle`].
+    fn on_cycle(&self, a: Node) -> Result<bool, AllocError>
+        ensures { IfOk result (λ is_so. IsTrue is_so ↔ OnCycle (links_in self.now) a) }
+    {
+        match self.nodes.number(a) {
+            Some(number) => {
+                let walk = node_reach::order(self.alloc, self, &[number])?;
+                Ok(flag_of(&walk, number))
+            }
+            None => Ok(false),
+        }
+    }
+
     // The nodes, split into those that have a number and those that have none.
     fn split(&self, nodes: &[Node]) -> Result<Split, AllocError>
         ensures unknown { IfOk result (λ split. AreUnknown self.now nodes.now split.unknown.keys) }

@@ -12,6 +12,12 @@ const LISTS: u64 = 10;
 
 const CALLS: u32 = 150;
 
+// How many long ones are drawn besides, and how many calls each of these has: over so many, tables of lines are merged and what a
+// graph files is made anew.
+const LONG_LISTS: u64 = 2;
+
+const LONG_CALLS: u32 = 2_000;
+
 // How many marks are compared after each call, and how many nodes a node is linked to at most.
 const MARKS: u32 = 2;
 
@@ -34,15 +40,22 @@ struct List {
 // What comes of lists at a corner. Those of even seeds keep no cycles.
 pub(crate) fn lists(alloc: Global, corner: Corner) -> Result<Tally, AllocError> {
     let mut tally = Tally::default();
-    'seeds: for seed in 0..LISTS {
+    'seeds: for seed in 0..LISTS + LONG_LISTS {
         tally.start_list(seed);
-        run_list(alloc, corner, seed, &mut tally)?;
+        let calls = if seed < LISTS { CALLS } else { LONG_CALLS };
+        run_list(alloc, corner, seed, calls, &mut tally)?;
     }
     Ok(tally)
 }
 
-// Makes the calls of a list.
-fn run_list(alloc: Global, corner: Corner, seed: u64, tally: &mut Tally) -> Result<(), AllocError> {
+// Makes so many calls of a list.
+fn run_list(
+    alloc: Global,
+    corner: Corner,
+    seed: u64,
+    calls: u32,
+    tally: &mut Tally,
+) -> Result<(), AllocError> {
     let mut list = List {
         alloc,
         both: Both::new(alloc)?,
@@ -50,15 +63,15 @@ fn run_list(alloc: Global, corner: Corner, seed: u64, tally: &mut Tally) -> Resu
         keeps_cycles: seed % 2 == 1,
         tally: *tally,
     };
-    let end = list.run();
+    let end = list.run(calls);
     *tally = list.tally;
     end
 }
 
 impl List {
-    // Makes all calls of the list, and compares after each.
-    fn run(&mut self) -> Result<(), AllocError> {
-        'calls: for _ in 0..CALLS {
+    // Makes so many calls, and compares after each.
+    fn run(&mut self, calls: u32) -> Result<(), AllocError> {
+        'calls: for _ in 0..calls {
             self.tally.start_call();
             self.call()?;
             self.compare()?;

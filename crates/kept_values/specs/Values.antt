@@ -40,6 +40,10 @@ kept_in v = recalc.kept_in v.recalc
 abbrev pub marks_in : Values → List Node
 marks_in v = recalc.marks_in v.recalc
 
+-- how many cells were merged for summaries
+abbrev pub merged_in : Values → ℕ
+merged_in v = recalc.merged_in v.recalc
+
 -- the nodes whose formulas were found to ask where a reference is
 abbrev pub asks_in : Values → Node → Bool
 asks_in v a = has a v.noted.asking.keys

@@ -21,7 +21,7 @@ pub struct Values {
 }
 
 impl Values {
-    ghost use Rattle.kept_values.specs.Values.{AreMarked, asks_in, kept_in, links_in, loses_in, marks_in, seeks_in};
+    ghost use Rattle.kept_values.specs.Values.{AreMarked, asks_in, kept_in, links_in, loses_in, marks_in, merged_in, seeks_in};
 
     /// Nothing is linked, nothing is kept, and there are no marks. Errs for want of memory.
     pub fn new(alloc: Global) -> Result<Values, AllocError>
@@ -82,5 +82,12 @@ impl Values {
         ensures { items_of result.now ≡ marks_in self.now }
     {
         self.recalc.marks()
+    }
+
+    /// How many cells were merged so far for summaries of ranges; the count stays at the greatest number of 64 bits.
+    pub fn merged(&self) -> u64
+        ensures { result ≡ merged_in self.now }
+    {
+        self.recalc.merged()
     }
 }

@@ -8,9 +8,9 @@ use Rattle.needs_order.specs.Needs.{has}
 use Rattle.node_links.specs.Nodes.{needs_of}
 use Rattle.node_links.specs.Redirect.{few_target, is_among}
 use Rattle.place_lines.specs.declared.lines.PlaceLines.{PlaceLines}
-use Rattle.cell_addr.specs.Place.{IsBlockInside}
-use Rattle.shift_core.specs.Bent.{IsBent, IsCut}
+use Rattle.shift_core.specs.declared.form.Form.{Form}
 use Rattle.shift_core.specs.declared.shift.Shift.{Shift}
+use Rattle.touch_index.specs.Handed.{fresh_part}
 use Rattle.dep_graph.specs.Shifted.{node_after}
 use Rattle.dep_graph.specs.declared.net.Net.{Net}
 use Rattle.dep_graph.specs.declared.node.Node.{Node}
@@ -20,6 +20,7 @@ use Rattle.dep_graph.specs.internal.Files.{HoldsBlock}
 use Rattle.dep_graph.specs.internal.Filings.{owner_at}
 use Rattle.dep_graph.specs.internal.Keys.{key_of}
 use Rattle.dep_graph.specs.internal.Numbers.{count_of, found_at, key_place}
+use Rattle.dep_graph.specs.internal.Touches.{IsHandedAt}
 
 -- the node of the number is linked to some, or some to it
 abbrev pub is_linked : Net → ℕ → Bool
@@ -71,9 +72,9 @@ StillFiled old new = (n : ℕ) → IsSome (old n) → IsSome (new n)
 abbrev pub AreUnfiled : List ℕ → tree.BTreeMap ℕ (Option ℕ) → Type 0
 AreUnfiled numbers filings = (n : ℕ) → tree.get nat_cmp filings n ≡ (if has n numbers then Some None else None)
 
--- the node of the number is a range inside its sheet that the operation neither bends nor cuts
-abbrev pub IsCarriedAt : Shift → Net → ℕ → Type 0
-IsCarriedAt s net n = (b : Block) × (found_at net.nodes n ≡ Some (Range b)) × IsBlockInside b × ¬ IsBent s b × ¬ IsCut s b
+-- the first node is a range that is handed on to the second, into which no lines come
+abbrev pub IsServedAt : Form → Option Node → Block → Type 0
+IsServedAt f before after = IsHandedAt f before after × (fresh_part f after ≡ None)
 
 -- a target was set for a number that had none of its own
 pub record SetsTarget (number : ℕ) (target : Option ℕ) (old new : tree.BTreeMap ℕ (Option ℕ)) : Type 0 where

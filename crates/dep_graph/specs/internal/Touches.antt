@@ -1,5 +1,5 @@
 -- Nodes that are kept under their numbers, and those that an operation doesn't touch.
-use Rattle.std.specs.Prelude.{◌≡◌, ◌↔◌, ◌⊎◌, ◌<◌, ◌≤◌, ◌&&◌, ℕ, Bool, true, false, List, Some, IsTrue, slice_get, ⊤}
+use Rattle.std.specs.Prelude.{◌≡◌, ◌↔◌, ◌⊎◌, ◌<◌, ◌≤◌, ◌&&◌, ℕ, Bool, true, false, List, Option, Some, IsTrue, slice_get, ⊤}
 use Rattle.cell_addr.specs.Place.{IsBlockInside, IsInside}
 use Rattle.cell_addr.specs.declared.place.Block.{Block}
 use Rattle.cell_addr.specs.declared.place.Place.{Place}
@@ -8,7 +8,9 @@ use Rattle.place_lines.specs.Moved.{is_known}
 use Rattle.place_lines.specs.Spots.{first_spot, last_spot}
 use Rattle.place_lines.specs.declared.lines.PlaceLines.{PlaceLines}
 use Rattle.shift_core.specs.Form.{form_of}
+use Rattle.shift_core.specs.declared.form.Form.{Form}
 use Rattle.shift_core.specs.declared.shift.Shift.{Shift}
+use Rattle.touch_index.specs.Handed.{HasAsManyLines}
 use Rattle.touch_index.specs.Kept.{Grows, KeepsBlock, KeepsCell}
 use Rattle.touch_index.specs.Touched.{TouchesBlock, TouchesCell}
 use Rattle.touch_index.specs.declared.index.TouchIndex.{TouchIndex}
@@ -62,6 +64,14 @@ abbrev pub IsUntouched : Shift → Node → Type 0
 IsUntouched s (Cell p) = IsInside p × ¬ TouchesCell (form_of s) p
 IsUntouched s (Name scope word) = ⊤
 IsUntouched s (Range b) = IsBlockInside b × ¬ TouchesBlock (form_of s) b
+
+-- both blocks are within their sheets, and have the same number of lines where the operation moves some
+abbrev pub AreHandedOn : Form → Block → Block → Type 0
+AreHandedOn f b after = IsBlockInside b × IsBlockInside after × HasAsManyLines f b after
+
+-- the first node is a range that is so handed on to the second
+abbrev pub IsHandedAt : Form → Option Node → Block → Type 0
+IsHandedAt f before after = (b : Block) × (before ≡ Some (Range b)) × AreHandedOn f b after
 
 -- each node that the operation touches is among the numbers
 abbrev pub FindsTouched : Shift → NodeTable → List ℕ → Type 0

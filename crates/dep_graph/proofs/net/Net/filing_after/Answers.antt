@@ -11,7 +11,7 @@ use Rattle.dep_graph.proofs.net.Net.filing_after.Goals as goal
 pub returns-in-Some-clause-holds : goal.returns-in-Some-clause-holds
 returns-in-Some-clause-holds c =
     present_serves c.args.s.now c.args.lines.now c.args.self.now c.args.number c.args.target c.in-Some.filing c.args.after c.requires.sound c.requires.moved
-    (c.is_carried.ensures c.if-is_carried.true) c.requires.after c.requires.target c.if-target-number.true (sym c.filing.ensures ∙ c.in-Some.is)
+    (c.serves.ensures c.if-serves.true) c.requires.target c.if-target-number.true (sym c.filing.ensures ∙ c.in-Some.is)
 
 pub invariant_of-self : goal.invariant_of-self
 invariant_of-self c = record {

@@ -60,8 +60,15 @@ refiled-requires-clause-inside c =
     subst (AreInside grown.nodes) (sym c.as_slice-2.ensures.keys)
     (inside_grown c.args.self.now.nodes grown.nodes c.len-count.result c.len.result c.in_ok-found.found.keys c.add_between.new.numbers.keys (grown_length c.args.self.now grown c.targets.ensures.grown) c.len.ensures c.in_ok-add_between.ensures c.in_ok-found.ensures.inside)
 
-pub keep_all-requires : goal.keep_all-requires
-keep_all-requires c =
+pub keep_all-requires-clause-moved : goal.keep_all-requires-clause-moved
+keep_all-requires-clause-moved c =
+    subst (λ l. AreMoved (form_of c.args.s.now) l c.in_ok-lines.lines) (sym (ap (λ (t : NodeTable). t.lines) c.refiled.ensures.nodes ∙ c.targets.ensures.grown.lines)) c.in_ok-lines.ensures
+
+pub keep_all-requires-clause-indexed : goal.keep_all-requires-clause-indexed
+keep_all-requires-clause-indexed c = c.refiled.new.self.indexed
+
+pub keep_all-requires-clause-inside : goal.keep_all-requires-clause-inside
+keep_all-requires-clause-inside c =
     let grown = c.targets.new.self in
     let more = c.add_between.new.numbers.keys in
     subst (AreInside c.refiled.new.self.nodes) (sym c.as_slice-3.ensures.keys)

@@ -7,14 +7,14 @@ use Rattle.dep_graph.specs.internal.Numbers.{found_at}
 use Rattle.dep_graph.specs.internal.Touches.{AreInside}
 use Rattle.dep_graph.proofs.Bending.{all_bent}
 use Rattle.dep_graph.proofs.Listing.{if_ok}
-use Rattle.dep_graph.proofs.graph.Graph.bent.Goals as goal
+use Rattle.dep_graph.proofs.net.Net.bent.Goals as goal
 
 pub bent_users-requires-clause-inside : goal.bent_users-requires-clause-inside
-bent_users-requires-clause-inside c = subst (AreInside c.args.self.now.net.nodes) (sym c.as_slice.ensures.keys) c.in_ok-found.ensures.inside
+bent_users-requires-clause-inside c = subst (AreInside c.args.self.now.nodes) (sym c.as_slice.ensures.keys) c.in_ok-found.ensures.inside
 
 pub returns : goal.returns
 returns c =
-    let net = c.args.self.now.net in
+    let net = c.args.self.now in
     let users = c.in_ok-users.users.keys in
     if_ok c.named.result _ _ c.named.ensures
     (λ nodes is. all_bent c.args.s.now net c.in_ok-found.found.keys users (items_of nodes) c.in_ok-found.ensures.found

@@ -7,14 +7,14 @@ use Rattle.dep_graph.specs.internal.Numbers.{found_at}
 use Rattle.dep_graph.specs.internal.UserNumbers.{AreUsersOf, own_number}
 use Rattle.dep_graph.proofs.Listing.{if_ok}
 use Rattle.dep_graph.proofs.Using.{own_inside, own_users}
-use Rattle.dep_graph.proofs.graph.Graph.linked_to.Goals as goal
+use Rattle.dep_graph.proofs.net.Net.linked_to.Goals as goal
 
 pub users_of-requires : goal.users_of-requires
-users_of-requires c = λ m h. own_inside c.args.self.now.net c.args.a m (subst (λ l. plain.has m l ≡ true) (c.deref.ensures.value ∙ c.in_ok-add_own.ensures ∙ ap (λ (l : List ℕ). l ++ own_number c.args.self.now.net c.args.a) c.new-own.ensures.items) h)
+users_of-requires c = λ m h. own_inside c.args.self.now c.args.a m (subst (λ l. plain.has m l ≡ true) (c.deref.ensures.value ∙ c.in_ok-add_own.ensures ∙ ap (λ (l : List ℕ). l ++ own_number c.args.self.now c.args.a) c.new-own.ensures.items) h)
 
 pub returns : goal.returns
 returns c =
-    let net = c.args.self.now.net in
+    let net = c.args.self.now in
     let users = c.in_ok-users.users.keys in
     if_ok c.named.result _ _ c.named.ensures
     (λ nodes is. own_users net c.args.a users (items_of nodes)
