@@ -11,6 +11,7 @@ use Rattle.formula_tree.specs.Term.{Term}
 use Rattle.formula_tree.specs.declared.reference.Corner.{Corner}
 use Rattle.shift_core.specs.declared.shift.Shift.{Shift}
 use Rattle.name_table.specs.Named.{names_of, words_of}
+use Rattle.name_table.specs.declared.key.NameKey.{NameKey}
 use Rattle.book_values.specs.Names.{Key, tree_in}
 use Rattle.book_values.specs.Workbook as values
 use Rattle.book_model.specs.Answers.{valued}
@@ -37,10 +38,10 @@ use Rattle.kept_book.specs.declared.book.Book.{Book}
 use Rattle.kept_steps.proofs.GivenNodes.{numbered}
 use Rattle.kept_steps.specs.Reads.{Reads}
 use Rattle.kept_steps.specs.Timeline.{book_in, timeline_of}
-use Rattle.kept_steps.specs.Turned.{AreOfCells, DifferAmong, is_listed}
+use Rattle.kept_steps.specs.Turned.{AreOfCells, DifferAmong, IsRenamed, is_listed, key_spelt}
 use Rattle.kept_steps.specs.declared.session.Session.{Session}
 use Rattle.session_values.specs.Following.{FollowsIn, book_of, words_in}
-use Rattle.session_values.specs.Naming.{FollowsName}
+use Rattle.session_values.specs.Naming.{FollowsName, FollowsTurn, had_formula, has_formula, turn_of}
 use Rattle.session_values.specs.Shifting.{FollowsShift}
 use Rattle.session_values.specs.Touched.{AreTouched, AreTouchedAtMost, IsMarkedIn, IsStepMarked}
 use Rattle.session_values.proofs.Followed.{cells_follow}
@@ -159,12 +160,36 @@ follow_step (Ok x) changes old new more touched marked others same = follow_turn
 follow_step (Err e) changes old new more touched marked others same = follow_touched (is_listed changes) old new more touched same
 
 -- over a change of a name: it is added, has another formula, or is gone
-pub follow_named : (key : Key) (had : Bool) (o : Option (Term Corner)) (old new : Parts) → IsMore (words_in old.session) (words_in new.session) → state_of new ≡ changed (with_name key o (state_of old).book) (state_of old)
+pub follow_name : (key : Key) (had : Bool) (o : Option (Term Corner)) (old new : Parts) → IsMore (words_in old.session) (words_in new.session) → (state_of new).book ≡ with_name key o (state_of old).book
     → has_name (state_of old).book key ≡ had → FollowsName key new.session had (is_some o) old.values.values new.values.values → ValuesFollowStill old new
-follow_named key had o old new more is was over customs today follows =
+follow_name key had o old new more same was over customs today follows =
     let b = (state_of old).book in
-    let c = with_name key o b in
-    let same : (state_of new).book ≡ c = ap (λ (d : State). d.book) is ∙ changed_book c (state_of old) in
     over (book_of old.session) (words_in old.session) customs today (numbered_in old.session) (numbered_in new.session) more
     (subst (λ (x : Workbook). DifferInName (valued b) (valued x) key) (sym same) (named_differ key o b)) (stood key b had was)
     (ap (λ (x : Workbook). is_some (tree_in (valued x).names key)) same ∙ ap is_some (named_now key o b)) follows
+
+pub follow_named : (key : Key) (had : Bool) (o : Option (Term Corner)) (old new : Parts) → IsMore (words_in old.session) (words_in new.session) → state_of new ≡ changed (with_name key o (state_of old).book) (state_of old)
+    → has_name (state_of old).book key ≡ had → FollowsName key new.session had (is_some o) old.values.values new.values.values → ValuesFollowStill old new
+follow_named key had o old new more is was over =
+    follow_name key had o old new more (ap (λ (d : State). d.book) is ∙ changed_book (with_name key o (state_of old).book) (state_of old)) was over
+
+pub turn_had : (had has : Bool) → had_formula (turn_of had has) ≡ had
+turn_had true true = refl
+turn_had true false = refl
+turn_had false true = refl
+turn_had false false = refl
+
+pub turn_has : (had has : Bool) → has_formula (turn_of had has) ≡ has
+turn_has true true = refl
+turn_has true false = refl
+turn_has false true = refl
+turn_has false false = refl
+
+-- and so over a step back or forth that is such a change
+pub follow_renamed : (key : NameKey) (had has : Bool) (old new : Parts) → words_in new.session ≡ words_in old.session → IsRenamed (words_in old.session) key had has (state_of old).book (state_of new).book
+    → FollowsTurn key (turn_of had has) new.session old.values.values new.values.values → ValuesFollowStill old new
+follow_renamed key had has old new words renamed over =
+    follow_name (key_spelt key renamed.word) had renamed.tree old new (more_as words) renamed.turned renamed.was
+    (subst (λ (t : Bool). FollowsName (key_spelt key renamed.word) new.session had t old.values.values new.values.values) (turn_has had has ∙ sym renamed.some)
+    (subst (λ (t : Bool). FollowsName (key_spelt key renamed.word) new.session t (has_formula (turn_of had has)) old.values.values new.values.values) (turn_had had has)
+    (over renamed.word (ap (λ (ws : List (List ℕ)). slice_get ws key.word) words ∙ renamed.spelt))))

@@ -34,7 +34,7 @@ use Rattle.shift_core.specs.declared.shift.Shift.TheVariants.{MoveBlock}
 use Rattle.shift_line.specs.Track.{with_spare}
 use Rattle.calc_eval.specs.declared.customs.Customs.{Ghosts}
 use Rattle.kept_values.specs.Shifted.{may_touch}
-use Rattle.kept_values.specs.Values.{marks_in}
+use Rattle.kept_values.specs.Values.{marks_in, merged_in}
 use Rattle.kept_values.specs.declared.values.Values.{Values}
 use Rattle.session_values.specs.Following.{book_of, words_in}
 use Rattle.session_values.specs.Naming.{MarksAddition, MarksChange, MarksRemoval}
@@ -114,6 +114,14 @@ values_kept e = e.parts.values.values
 -- its marks, where anything is kept
 abbrev pub marks_kept : {C : Type 0} {G : Ghosts C} → Engine C G → Option (List Node)
 marks_kept e = option_map marks_in (values_kept e)
+
+-- how many cells were merged for the summaries that are kept; none, where nothing is kept
+abbrev pub merged_in_any : Option Values → ℕ
+merged_in_any (Some v) = merged_in v
+merged_in_any None = 0
+
+abbrev pub merged_kept : {C : Type 0} {G : Ghosts C} → Engine C G → ℕ
+merged_kept e = merged_in_any (values_kept e)
 
 -- all places of a sheet
 abbrev pub whole_sheet : ℕ → Block

@@ -45,9 +45,10 @@ use undo_book::UndoBook;
 /// needs; nothing is worked out before that. A change of cells and a paste mark these cells; a structural operation takes along what
 /// is kept, and marks the formulas that it bends or that ask where a reference is, the cells of a moved block and of where it goes,
 /// and the names of a dropped sheet; a name that gets another formula is marked, with one that is removed each formula that used it,
-/// and with one that is added each formula with a word that found none. Undo and redo of changes of cells mark these, and of one
-/// structural operation they take back or along what is kept; after those of anything else, and of a dropped sheet, the next read
-/// works the whole workbook out. Each call says by a clause, `marks`, `left` or `values`, which marks there are after it.
+/// and with one that is added each formula with a word that found none. Undo and redo of changes of cells mark these, of one change
+/// of a name what that touches, and of one structural operation they take back or along what is kept; after those of anything else,
+/// and of a dropped sheet, the next read works the whole workbook out. Each call says by a clause, `marks`, `left` or `values`, which
+/// marks there are after it; of undo and redo of names the calls beneath say it.
 #[derive(Drop)]
 pub struct Engine<C: Customs> {
     pub(crate) parts: Parts,
@@ -61,7 +62,7 @@ pub struct Engine<C: Customs> {
 #[tactic(auto, unfolding(crate::specs::Engine::StandsFor))]
 impl<C: Customs> Engine<C> {
     ghost use Rattle.book_engine.specs.Engine.{Does, DoesAlways, NoAnswer, StandsFor};
-    ghost use Rattle.book_engine.specs.Kept.{GoesOn, KeepsAll, KeepsAtPaste, KeepsAtShift, KeepsEarlier, KeepsElsewhere, KeepsInUse, KeepsLine, KeepsValues, LeavesLine, MarksCells, MarksNameAdded, MarksNameChanged, MarksNameRemoved, MarksOperation, MarksPaste, MarksRedone, MarksUndone, TriesOut, WorksOut, book_kept, marks_kept, stored_by, values_kept, whole_sheet};
+    ghost use Rattle.book_engine.specs.Kept.{GoesOn, KeepsAll, KeepsAtPaste, KeepsAtShift, KeepsEarlier, KeepsElsewhere, KeepsInUse, KeepsLine, KeepsValues, LeavesLine, MarksCells, MarksNameAdded, MarksNameChanged, MarksNameRemoved, MarksOperation, MarksPaste, MarksRedone, MarksUndone, TriesOut, WorksOut, book_kept, marks_kept, merged_kept, stored_by, values_kept, whole_sheet};
 
     /// The engine of a workbook with these sheets, numbered from 0 in their order, and these texts in their cells. All
     /// formulas are read when all sheets are there. At most `limit` steps can be undone, which is at most 1,000. Formulas
@@ -437,7 +438,8 @@ impl<C: Customs> Engine<C> {
     ///
     /// Where the step is one structural operation, what is kept of values goes back with it: marked are the cells that come back, the
     /// formulas that it may have bent, those that ask where a reference is or have lost one, and the cells of a block that goes back
-    /// and of where that goes. Where it changed cells alone, these are marked; after any other step nothing is kept any more.
+    /// and of where that goes. Where it changed cells alone, these are marked, and where it is one change of a name, what that change
+    /// touches; after any other step nothing is kept any more.
     ///
     /// # Errors
     /// `BatchOpen`, `NothingToUndo`.
@@ -454,7 +456,8 @@ impl<C: Customs> Engine<C> {
 
     /// Goes forward again to the whole workbook from after the step that was undone last; a change ends that. Costs what
     /// [`Engine::undo`] does. Where the step is one structural operation that has an opposite, marks what that call does; where it
-    /// changed cells alone, these; after any other step nothing is kept any more.
+    /// changed cells alone, these; where it is one change of a name, what that change touches; after any other step nothing is kept
+    /// any more.
     ///
     /// # Errors
     /// `BatchOpen`, `NothingToRedo`.
@@ -635,5 +638,16 @@ impl<C: Customs> Engine<C> {
     {
         let values = self.parts.values.values.as_ref()?;
         Some(values.marks())
+    }
+
+    /// How many cells were merged for summaries of ranges since values are kept; 0 where nothing is kept. The count stays at the
+    /// greatest number of 64 bits.
+    pub fn merged(&self) -> u64
+        ensures { result ≡ merged_kept self.now }
+    {
+        match &self.parts.values.values {
+            Some(values) => values.merged(),
+            None => 0,
+        }
     }
 }

@@ -1,13 +1,14 @@
 // Steps back and forth, along which goes what is kept of values.
-ghost use Rattle.std.specs.Prelude.{◌≡◌, false, IfSome, None, OnErr, OnOk, Some};
+ghost use Rattle.std.specs.Prelude.{◌≡◌, false, is_some, IfSome, None, OnErr, OnOk, Some};
 ghost use Rattle.cell_addr.specs.declared.place.TheConstants.{NO_SHEET as no_sheet};
 ghost use Rattle.book_model.specs.Operation as op;
 ghost use Rattle.book_model.specs.Refusals.{cause};
 ghost use Rattle.book_model.specs.Session.{done};
-ghost use Rattle.kept_book.specs.Kept.{line_of};
-ghost use Rattle.kept_steps.specs.Turned.{AreOfCells, is_listed, operation_of, to_redo, to_undo};
+ghost use Rattle.kept_book.specs.Kept.{line_of, name_change};
+ghost use Rattle.kept_steps.specs.Turned.{AreOfCells, is_listed, name_of, operation_of, to_redo, to_undo};
 ghost use Rattle.lazy_store.specs.Store.{KeepsAll};
 ghost use Rattle.recalc_core.specs.Shifted.{drops_scope};
+ghost use Rattle.session_values.specs.Naming.{turn_of};
 ghost use Rattle.session_values.specs.Touched.{AreTouched, AreTouchedAtMost, IsStepMarked};
 ghost use Rattle.shift_core.specs.Form.{form_of};
 ghost use Rattle.shift_core.specs.Opposite.{opposite_of};
@@ -17,14 +18,16 @@ ghost use Rattle.book_engine.specs.Seen.{Fits, ValuesFollowStill, state_of};
 ghost use Rattle.book_engine.specs.internal.Opposites.{with_opposite_of};
 
 use crate::parts::Parts;
+use kept_book::NameChange;
 use kept_steps::Session;
-use session_values::{SessionValues, restored_by, touched_by};
+use name_table::NameKey;
+use session_values::{NameTurn, SessionValues, restored_by, touched_by};
 use shift_core::Shift;
 use std::alloc::AllocError;
 
 impl Parts {
     // Takes the newest step back. What is kept of values goes along, where the step is one structural operation that has an
-    // opposite, or changes of cells alone; else nothing is kept any more.
+    // opposite, one change of a name, or changes of cells alone; else nothing is kept any more.
     pub(crate) fn step_back(&mut self) -> Result<(), AllocError>
         requires fits { Fits self.old }
         requires closed { self.old.session.batch ≡ None }
@@ -38,7 +41,7 @@ impl Parts {
     {
         match with_opposite(self.session.operation_undone()) {
             Some((s, back)) => self.operation_back(&s, &back),
-            None => self.cells_back(),
+            None => self.change_back(),
         }
     }
 
@@ -63,6 +66,39 @@ impl Parts {
             .shifted_back(s, back, touched.items(), restored.items())?;
         self.session.undo()?;
         self.values = values;
+        Ok(())
+    }
+
+    // Takes a step back that is no such operation.
+    fn change_back(&mut self) -> Result<(), AllocError>
+        requires { self.old.session.batch ≡ None }
+        ensures ok { OnOk result (state_of self.new ≡ done op.undo (state_of self.old)) }
+        ensures err { OnErr result (state_of self.new ≡ state_of self.old) }
+        ensures line_err { OnErr result (KeepsLineIn self.old.session self.new.session) }
+        ensures kept { KeepsAll self.old.session.book.lazy self.new.session.book.lazy }
+        ensures follow { ValuesFollowStill self.old self.new }
+        ensures marks { AreOfCells (to_undo self.old.session) → AreTouched (is_listed (to_undo self.old.session)) self.old.values.values self.new.values.values }
+    {
+        match self.session.name_undone() {
+            Some(name) => self.name_back(&name),
+            None => self.cells_back(),
+        }
+    }
+
+    // Takes a step back that is this change of a name.
+    fn name_back(&mut self, name: &NameChange) -> Result<(), AllocError>
+        requires closed { self.old.session.batch ≡ None }
+        requires name { name_of (to_undo self.old.session) ≡ Some (name_change name.now) }
+        ensures ok { OnOk result (state_of self.new ≡ done op.undo (state_of self.old)) }
+        ensures err { OnErr result (state_of self.new ≡ state_of self.old) }
+        ensures line_err { OnErr result (KeepsLineIn self.old.session self.new.session) }
+        ensures kept { KeepsAll self.old.session.book.lazy self.new.session.book.lazy }
+        ensures follow { ValuesFollowStill self.old self.new }
+        ensures marks { AreOfCells (to_undo self.old.session) → AreTouched (is_listed (to_undo self.old.session)) self.old.values.values self.new.values.values }
+    {
+        self.session.undo()?;
+        self.values
+            .name_turned(&self.session, key_of(name), turn_back(name));
         Ok(())
     }
 
@@ -93,7 +129,7 @@ impl Parts {
     {
         match with_opposite(self.session.operation_redone()) {
             Some((s, _)) => self.operation_forth(&s),
-            None => self.cells_forth(),
+            None => self.change_forth(),
         }
     }
 
@@ -114,6 +150,39 @@ impl Parts {
         let values = self.values.shifted(s, touched.items())?;
         self.session.redo()?;
         self.values = values;
+        Ok(())
+    }
+
+    // Does a step again that is no such operation.
+    fn change_forth(&mut self) -> Result<(), AllocError>
+        requires { self.old.session.batch ≡ None }
+        ensures ok { OnOk result (state_of self.new ≡ done op.redo (state_of self.old)) }
+        ensures err { OnErr result (state_of self.new ≡ state_of self.old) }
+        ensures line_err { OnErr result (KeepsLineIn self.old.session self.new.session) }
+        ensures kept { KeepsAll self.old.session.book.lazy self.new.session.book.lazy }
+        ensures follow { ValuesFollowStill self.old self.new }
+        ensures marks { AreOfCells (to_redo self.old.session) → AreTouched (is_listed (to_redo self.old.session)) self.old.values.values self.new.values.values }
+    {
+        match self.session.name_redone() {
+            Some(name) => self.name_forth(&name),
+            None => self.cells_forth(),
+        }
+    }
+
+    // Does a step again that is this change of a name.
+    fn name_forth(&mut self, name: &NameChange) -> Result<(), AllocError>
+        requires closed { self.old.session.batch ≡ None }
+        requires name { name_of (to_redo self.old.session) ≡ Some (name_change name.now) }
+        ensures ok { OnOk result (state_of self.new ≡ done op.redo (state_of self.old)) }
+        ensures err { OnErr result (state_of self.new ≡ state_of self.old) }
+        ensures line_err { OnErr result (KeepsLineIn self.old.session self.new.session) }
+        ensures kept { KeepsAll self.old.session.book.lazy self.new.session.book.lazy }
+        ensures follow { ValuesFollowStill self.old self.new }
+        ensures marks { AreOfCells (to_redo self.old.session) → AreTouched (is_listed (to_redo self.old.session)) self.old.values.values self.new.values.values }
+    {
+        self.session.redo()?;
+        self.values
+            .name_turned(&self.session, key_of(name), turn_forth(name));
         Ok(())
     }
 
@@ -142,6 +211,30 @@ fn with_opposite(s: Option<Shift>) -> Option<(Shift, Shift)>
     let s = s?;
     let back = s.opposite()?;
     Some((s, back))
+}
+
+// What a name stands under that a step lists.
+fn key_of(name: &NameChange) -> NameKey
+    ensures { result ≡ (name_change name.now).0 }
+{
+    NameKey {
+        scope: name.scope,
+        word: name.word,
+    }
+}
+
+// What becomes of a name whose change is taken back.
+fn turn_back(name: &NameChange) -> NameTurn
+    ensures { result ≡ turn_of (is_some name.now.after) (is_some name.now.before) }
+{
+    NameTurn::of(name.after.is_some(), name.before.is_some())
+}
+
+// What becomes of a name whose change is done again.
+fn turn_forth(name: &NameChange) -> NameTurn
+    ensures { result ≡ turn_of (is_some name.now.before) (is_some name.now.after) }
+{
+    NameTurn::of(name.before.is_some(), name.after.is_some())
 }
 
 // Marks the cells of the step that is going to be taken back.

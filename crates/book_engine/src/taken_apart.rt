@@ -61,7 +61,7 @@ pub struct EngineParts<C> {
 impl<C: Customs> Engine<C> {
     ghost use Rattle.book_engine.specs.Engine.{StandsFor};
     ghost use Rattle.kept_values.specs.Values.{marks_in};
-    ghost use Rattle.book_engine.specs.Kept.{book_kept, marks_kept, session_kept, stored_by};
+    ghost use Rattle.book_engine.specs.Kept.{book_kept, marks_kept, merged_in_any, merged_kept, session_kept, stored_by};
     ghost use Rattle.book_engine.specs.TakenApart.{FitParts, parts_of, stored_among};
 
     /// Takes the engine apart, into parts that fit its session. Nothing is copied or worked out, and no memory is taken.
@@ -73,6 +73,7 @@ impl<C: Customs> Engine<C> {
         ensures line { result.lazy.line ≡ (book_kept self).lazy.line }
         ensures entries { result.undo ≡ (session_kept self).steps }
         ensures marks { option_map marks_in result.values ≡ marks_kept self }
+        ensures merged { merged_in_any result.values ≡ merged_kept self }
     {
         let Engine {
             parts: Parts { session, values },
@@ -126,6 +127,7 @@ impl<C: Customs> Engine<C> {
         ensures line { (book_kept result).lazy.line ≡ parts.lazy.line }
         ensures entries { (session_kept result).steps ≡ parts.undo }
         ensures marks { marks_kept result ≡ option_map marks_in parts.values }
+        ensures merged { merged_kept result ≡ merged_in_any parts.values }
     {
         let EngineParts {
             alloc,

@@ -4,6 +4,7 @@ ghost use Rattle.custom_fn.specs.Rule.{rule_value};
 ghost use Rattle.engine_calls.specs.Counted as rules;
 
 use super::cells::place;
+use super::on_heap::built;
 use book_engine::{Engine, Stop};
 use calc_eval::Customs;
 use cell_addr::same_folded;
@@ -66,7 +67,7 @@ fn counts<C: Customs, L: Ledger>(
     requires some { 0 < blank.parts }
 {
     let mut steps = Steps::<L>::new(blank);
-    let mut engine = Engine::build(alloc, &[], 20, customs, 0)?;
+    let mut engine = built(alloc, 20, customs)?;
     fill(alloc, &mut engine)?;
     let all = count_after(&mut engine, 0, calls, &mut steps)?;
     engine.set(place(499, 0), "2")?;

@@ -9,6 +9,7 @@ mod cells;
 mod counted;
 mod groups;
 mod no_customs;
+mod on_heap;
 
 use book_engine::{Engine, Stop};
 use book_model::{BookCell, BookCells, BookSheet};
@@ -17,6 +18,7 @@ use cells::reads;
 use counted::formulas_are_worked_out_once;
 use groups::kept;
 use no_customs::NoCustoms;
+use on_heap::{begun, built};
 use std::alloc::Global;
 use std::io;
 use std::process::ExitCode;
@@ -136,7 +138,7 @@ fn why(stop: &Stop) -> &'static str {
 fn held(alloc: Global, limit: u16, calls: Calls) -> Result<bool, Stop>
     requires { limit ≤ MAX_UNDO }
 {
-    let mut engine = Engine::build(alloc, &[], limit, NoCustoms, 0)?;
+    let mut engine = built(alloc, limit, NoCustoms)?;
     calls.hold(&mut engine)
 }
 
@@ -161,6 +163,6 @@ fn begins_with_given_sheets(alloc: Global) -> Result<bool, Stop> {
         name: Text::from_str(alloc, "Plan")?,
         cells,
     }];
-    let mut engine = Engine::build(alloc, &books, 20, NoCustoms, 0)?;
+    let mut engine = begun(alloc, &books, 20, NoCustoms)?;
     Ok(reads(&mut engine, 0, 0, "=B2+1") && engine.first_sheet() == Some(0))
 }

@@ -16,3 +16,4 @@ mod ListedNodes
 mod CellsTurned
 mod Operating
 mod OperationsTurned
+mod NamesTurned

@@ -18,7 +18,7 @@ use Rattle.kept_steps.proofs.Operating.{grid-inside, lists-lost, operates}
 use Rattle.kept_steps.proofs.Walks.{leads_here, leads_on}
 
 -- formulas stand in the frame before the first step
-first-stand : (t : Timeline) (f : Frame) (es : List (List Change)) → StandIn t f → ArePast t f es → StandIn t (back_all t.line (first_step es) f)
+pub first-stand : (t : Timeline) (f : Frame) (es : List (List Change)) → StandIn t f → ArePast t f es → StandIn t (back_all t.line (first_step es) f)
 first-stand t f [] stand past = stand
 first-stand t f (e ∷ es) stand past = past.1
 
@@ -30,7 +30,7 @@ module _ (old new : Book) (h : History Entry) (b : Option Entry) (fits : Fits ol
   next_step = first_step (steps_of h.undone)
 
   -- the workbook that is reached, by the line as it was
-  reached : (f : Frame) → frame_of new ≡ f → book_in (timeline_of new) (frame_of new) ≡ book_in (timeline_of old) f
+  pub reached : (f : Frame) → frame_of new ≡ f → book_in (timeline_of new) (frame_of new) ≡ book_in (timeline_of old) f
   reached f is i = book_at (λ id k. standings id k i) (words i) (is i)
 
   reached-inside : (f : Frame) → frame_of new ≡ f → AreInside f.cells

@@ -2,13 +2,13 @@
 ghost use Rattle.std.specs.Prelude.{◌≡◌, option_map};
 ghost use Rattle.shift_line.specs.Track.{shift_at};
 ghost use Rattle.kept_book.specs.Change.{shift_of};
-ghost use Rattle.kept_book.specs.Kept.{change_of, changes_of, line_of};
-ghost use Rattle.kept_steps.specs.Turned.{operation_of, replaced_of};
+ghost use Rattle.kept_book.specs.Kept.{change_of, changes_of, line_of, name_change};
+ghost use Rattle.kept_steps.specs.Turned.{lists_names_alone, name_alone, name_of, operation_of, replaced_of};
 
 use crate::session::Session;
 use cell_addr::Place;
 use grid_store::Cell;
-use kept_book::Part;
+use kept_book::{NameChange, Part};
 use shift_core::Shift;
 use shift_line::Line;
 
@@ -30,6 +30,23 @@ impl Session {
     {
         let entry = self.steps.undone().last()?;
         operation_of(self.book.lazy.line(), &entry.parts)
+    }
+
+    /// The name that [`Session::undo`] gives the formula from before the step, where the step is one change of a name and of nothing
+    /// else; `None` for any other step, and where there is none.
+    pub fn name_undone(&self) -> Option<NameChange>
+        ensures { option_map name_change result ≡ name_of (to_undo self.now) }
+    {
+        let entry = self.steps.done().back()?;
+        name_of(&entry.parts)
+    }
+
+    /// The name that [`Session::redo`] gives the formula from after the step, likewise.
+    pub fn name_redone(&self) -> Option<NameChange>
+        ensures { option_map name_change result ≡ name_of (to_redo self.now) }
+    {
+        let entry = self.steps.undone().last()?;
+        name_of(&entry.parts)
     }
 
     /// The cells that the step lists as replaced or removed which [`Session::undo`] takes back, with their places before the step;
@@ -58,6 +75,36 @@ fn replaced_of(parts: &[Part]) -> Option<&[(Place, Cell)]>
         [part] => Some(part.replaced.items()),
         _ => None,
     }
+}
+
+// The name of a step that is one change of a name and of nothing else.
+fn name_of(parts: &[Part]) -> Option<NameChange>
+    ensures { option_map name_change result ≡ name_of (changes_of parts.now) }
+{
+    match parts {
+        [part] => name_alone(part),
+        _ => None,
+    }
+}
+
+// The name of a part that has no operation and lists nothing else.
+fn name_alone(part: &Part) -> Option<NameChange>
+    ensures { option_map name_change result ≡ name_alone (change_of part.now) }
+{
+    if part.from < part.to || !lists_names_alone(part) {
+        return None;
+    }
+    match part.names.as_slice() {
+        [name] => Some(*name),
+        _ => None,
+    }
+}
+
+// Whether a part lists no cell and no sheet.
+fn lists_names_alone(part: &Part) -> bool
+    ensures { result ≡ lists_names_alone (change_of part.now) }
+{
+    part.replaced.items().is_empty() && part.written.items().is_empty() && part.sheets.is_empty()
 }
 
 // The operation of a step that is one.

@@ -14,7 +14,7 @@ use std::alloc::AllocError;
 
 impl Session {
     ghost use Rattle.kept_steps.specs.Session.{state_of};
-    ghost use Rattle.kept_steps.specs.Turned.{AreOfCells, DifferAmong, ListsLost, Operates, is_listed, to_redo, to_undo};
+    ghost use Rattle.kept_steps.specs.Turned.{AreOfCells, DifferAmong, ListsLost, Operates, RenamesBack, RenamesForth, is_listed, to_redo, to_undo};
 
     /// Opens a batch: the changes until [`Session::commit`] are one step. None is open.
     pub fn begin(&mut self)
@@ -54,7 +54,8 @@ impl Session {
     /// Takes the newest step back, if there is one; no batch is open. No formula is touched, and the line keeps its operations.
     /// Where the step has no operation and lists no name and no sheet, no other cell changes than those that it lists. Where it is
     /// one structural operation ([`Session::operation_undone`]), that makes the workbook before this call of the one after it, and the
-    /// step lists each cell that it loses. For want of memory the session is as it was.
+    /// step lists each cell that it loses. Where it is one change of a name ([`Session::name_undone`]), that name alone has another
+    /// formula. For want of memory the session is as it was.
     ///
     /// Costs the cells, names and sheets that the step lists, and what taking its operations back costs the grid; for a step of
     /// several operations, of which one is structural, a copy of the grid.
@@ -66,6 +67,7 @@ impl Session {
         ensures others { OnOk result (AreOfCells (to_undo self.old) → DifferAmong (is_listed (to_undo self.old)) (state_of self.old).book (state_of self.new).book) }
         ensures operation { OnOk result (Operates (line_of self.old.book) (to_undo self.old) (state_of self.new).book (state_of self.old).book) }
         ensures lost { OnOk result (ListsLost (line_of self.old.book) (to_undo self.old) (state_of self.new).book) }
+        ensures name { OnOk result (RenamesBack (words_of self.old.book.names) (to_undo self.old) (state_of self.old).book (state_of self.new).book) }
         ensures words { words_of self.new.book.names ≡ words_of self.old.book.names }
         ensures line { OnOk result (self.new.book.lazy.line ≡ record self.old.book.lazy.line { cursor = self.new.book.lazy.line.cursor }) }
         ensures line_err { OnErr result (self.new.book.lazy.line ≡ with_spare self.new.book.lazy.line.spare self.old.book.lazy.line) }
@@ -87,6 +89,7 @@ impl Session {
         ensures others { OnOk result (AreOfCells (to_redo self.old) → DifferAmong (is_listed (to_redo self.old)) (state_of self.old).book (state_of self.new).book) }
         ensures operation { OnOk result (Operates (line_of self.old.book) (to_redo self.old) (state_of self.old).book (state_of self.new).book) }
         ensures lost { OnOk result (ListsLost (line_of self.old.book) (to_redo self.old) (state_of self.old).book) }
+        ensures name { OnOk result (RenamesForth (words_of self.old.book.names) (to_redo self.old) (state_of self.old).book (state_of self.new).book) }
         ensures words { words_of self.new.book.names ≡ words_of self.old.book.names }
         ensures line { OnOk result (self.new.book.lazy.line ≡ record self.old.book.lazy.line { cursor = self.new.book.lazy.line.cursor }) }
         ensures line_err { OnErr result (self.new.book.lazy.line ≡ with_spare self.new.book.lazy.line.spare self.old.book.lazy.line) }

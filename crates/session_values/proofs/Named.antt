@@ -1,8 +1,13 @@
 -- What is kept of values follows over a change of one name. Serves the calls that take it along.
-use Rattle.std.proofs.Common.{◌≡◌, ◌∙◌, sym, ap, refl, subst, ℕ, ℤ, ◌||◌, Bool, true, false, List, [], ◌∷◌, ◌++◌, Option, Some, None, is_some, Result, Ok, Err, ◌⊎◌, inl, inr, ⊎_elim, append_assoc}
-use Rattle.std.specs.Prelude.{IfSome, IsTrue, OnOk, bytes_eq, pos}
+use Rattle.std.proofs.Common.{◌≡◌, ◌≢◌, ◌∙◌, sym, ap, refl, subst, ℕ, ℤ, ◌||◌, Bool, true, false, List, [], ◌∷◌, ◌++◌, Option, Some, None, is_some, Result, Ok, Err, ◌⊎◌, inl, inr, ⊎_elim, append_assoc}
+use Rattle.std.specs.Prelude.{IfSome, IsTrue, OnOk, bytes_eq, pos, slice_get, unwrap_or}
 use Rattle.cell_addr.specs.Text.{folded}
-use Rattle.name_table.proofs.WordNumbers.{folded-folded}
+use Rattle.name_table.proofs.WordNumbers.{folded-folded, number-spelled, spelled-number}
+use Rattle.name_table.specs.declared.key.NameKey.{NameKey}
+use Rattle.cell_addr.specs.declared.place.TheConstants.{NO_SHEET}
+use Rattle.std.proofs.lemmas.Option.{same_Some}
+use Rattle.kept_steps.proofs.GivenNodes.{scope-back}
+use Rattle.kept_steps.specs.Turned.{key_spelt}
 use Rattle.recalc_core.proofs.ReadNames.{found_alike}
 use Rattle.marked_values.specs.NameMarks.{is_scope_for}
 use Rattle.std.specs.List.{list_any}
@@ -28,7 +33,7 @@ use Rattle.kept_steps.specs.declared.session.Session.{Session}
 use Rattle.recalc_core.specs.Edits.{DifferInName, UsesWord}
 use Rattle.recalc_core.specs.Links.{IsLinkOf}
 use Rattle.recalc_core.specs.Laws.{AreKnown, KeepNumbers}
-use Rattle.recalc_core.specs.Nodes.{AreNumbered, node_at}
+use Rattle.recalc_core.specs.Nodes.{AreNumbered, name_at, node_at}
 use Rattle.recalc_core.proofs.Bridge.{none_some}
 use Rattle.recalc_core.proofs.Linking.{one_node}
 use Rattle.recalc_core.proofs.Worked.{tree_stands}
@@ -41,9 +46,11 @@ use Rattle.restored_values.specs.Suspects.{has_lost}
 use Rattle.kept_values.specs.Values.{AreNoted, Follows, asks_in, kept_in, links_in, loses_in, marks_in, seeks_at, seeks_in}
 use Rattle.kept_values.specs.declared.values.Values.{Values}
 use Rattle.kept_values.proofs.Following.{from_follow, there, to_follow}
+use Rattle.session_values.specs.declared.naming.NameTurn.{NameTurn}
+use Rattle.session_values.specs.declared.naming.NameTurn.TheVariants.{Absent, Added, Changed, Removed}
 use Rattle.session_values.specs.Following.{book_of, words_in}
-use Rattle.session_values.specs.Naming.{FollowsAddition, FollowsChange, FollowsRemoval, IsLinkedIn, IsMarkedFor, IsNameIn, MarksAddition, MarksChange, MarksRemoval}
-use Rattle.session_values.specs.internal.Marked.{HasMarked, HasMarkedLinked, HasSought, HaveMarked, HaveSought}
+use Rattle.session_values.specs.Naming.{FollowsAddition, FollowsChange, FollowsRemoval, FollowsTurn, IsLinkedIn, IsMarkedFor, IsNameIn, MarksAddition, MarksChange, MarksRemoval, MarksTurn, had_formula, has_formula}
+use Rattle.session_values.specs.internal.Marked.{HasMarked, HasMarkedLinked, HasSought, HasTurned, HaveMarked, HaveSought, own_node, whole_node}
 use Rattle.session_values.proofs.Followed.{keep_numbers}
 
 -- what passes one test passes one of two others
@@ -297,6 +304,49 @@ follows_removal key s (Some n) v (Some w) at marked =
   where
     itself : (a : Node) → IsTrue (has a (n ∷ [])) → node_at (words_in s) a ≡ Some (book.name key)
     itself a h = ap (node_at (words_in s)) (has_one a n h) ∙ at
+
+-- over a step back or forth: what is marked is what a change of the name marks
+module _ (key : NameKey) (s : Session) (word : List ℕ) (spelt : slice_get (words_in s) key.word ≡ Some word) where
+  small : folded word ≡ word
+  small = same_Some (folded word) word (sym (number-spelled (words_in s) word key.word s.book.names.words.proper (spelled-number (words_in s) word key.word s.book.names.words.proper spelt)) ∙ spelt)
+
+  own_at : key.scope ≢ Some NO_SHEET → node_at (words_in s) (own_node key) ≡ Some (book.name (key_spelt key word))
+  own_at scoped =
+      ap (name_at (unwrap_or key.scope NO_SHEET)) spelt ∙ ap (λ (own : Option ℕ). Some (book.name (record { scope = own; word = word }))) (scope-back key.scope scoped)
+
+  own_small : key.scope ≢ Some NO_SHEET → node_at (words_in s) (own_node key) ≡ Some (book.name (key_of key.scope word))
+  own_small scoped = own_at scoped ∙ ap (λ (w : List ℕ). Some (book.name (record { scope = key.scope; word = w }))) (sym small)
+
+  whole_at : node_at (words_in s) (whole_node key) ≡ Some (book.name (key_of None word))
+  whole_at = ap (name_at NO_SHEET) spelt ∙ ap (λ (own : Option ℕ). Some (book.name (record { scope = own; word = word }))) (scope-back None (λ e. cc)) ∙ ap (λ (w : List ℕ). Some (book.name (record { scope = None; word = w }))) (sym small)
+
+  small_key : key_of key.scope word ≡ key_spelt key word
+  small_key i = record { scope = key.scope; word = small i }
+
+pub follows_turn : (key : NameKey) (turn : NameTurn) (s : Session) (v : Values) (new : Option Values) → ((had_formula turn || has_formula turn) ≡ true → key.scope ≢ Some NO_SHEET) → IfSome new (λ w. HasTurned key turn v w)
+    → FollowsTurn key turn s (Some v) new × MarksTurn key turn s (Some v) new
+follows_turn key Changed s v new scoped marked = (
+  λ word spelt. (follows_change (key_spelt key word) s (Some (own_node key)) v new (own_at key s word spelt (scoped refl)) marked).0,
+  λ word spelt. (follows_change (key_spelt key word) s (Some (own_node key)) v new (own_at key s word spelt (scoped refl)) marked).1,
+)
+follows_turn key Removed s v new scoped marked = (
+  λ word spelt. (follows_removal (key_spelt key word) s (Some (own_node key)) v new (own_at key s word spelt (scoped refl)) marked).0,
+  λ word spelt. (follows_removal (key_spelt key word) s (Some (own_node key)) v new (own_at key s word spelt (scoped refl)) marked).1,
+)
+follows_turn key Added s v new scoped marked = (
+  λ word spelt.
+      subst (λ (k : Key). FollowsAddition k s (Some v) new) (small_key key s word spelt)
+      (follows_addition key.scope word s (Some (own_node key)) (Some (whole_node key)) v new (own_small key s word spelt (scoped refl)) (whole_at key s word spelt) marked).0,
+  λ word spelt. (follows_addition key.scope word s (Some (own_node key)) (Some (whole_node key)) v new (own_small key s word spelt (scoped refl)) (whole_at key s word spelt) marked).1,
+)
+follows_turn key Absent s v None scoped marked = (λ word spelt b words customs today numbered now keeps differ had has follows. tt, refl)
+follows_turn key Absent s v (Some w) scoped marked = absurd marked
+
+pub nothing_turns : (key : NameKey) (turn : NameTurn) (s : Session) (old : Option Values) → FollowsTurn key turn s old None × MarksTurn key turn s old None
+nothing_turns key Changed s old = (λ word spelt b words customs today numbered now keeps differ had has follows. tt, λ word spelt. tt)
+nothing_turns key Removed s old = (λ word spelt b words customs today numbered now keeps differ had has follows. tt, λ word spelt. tt)
+nothing_turns key Added s old = (λ word spelt b words customs today numbered now keeps differ had has follows. tt, λ word spelt. tt)
+nothing_turns key Absent s old = (λ word spelt b words customs today numbered now keeps differ had has follows. tt, refl)
 
 -- ---- what is marked
 

@@ -27,4 +27,5 @@ mod values;
 
 pub use laws::{cells_follow, reads_follow};
 pub use listing::{restored_by, touched_by};
+pub use naming::NameTurn;
 pub use values::SessionValues;

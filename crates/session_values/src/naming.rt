@@ -1,19 +1,52 @@
 // What is kept of a session's values over a change of a name.
-ghost use Rattle.std.specs.Prelude.{◌≡◌, ◌≢◌, IfSome, None, OnOk, Some};
+ghost use Rattle.std.specs.Prelude.{◌≡◌, ◌≢◌, ◌||◌, true, IfSome, None, OnOk, Some};
 ghost use Rattle.cell_addr.specs.declared.place.TheConstants.{NO_SHEET as no_sheet};
 ghost use Rattle.book_values.specs.Names.{key_of};
 ghost use Rattle.book_values.specs.Workbook as nodes;
 ghost use Rattle.recalc_core.specs.Nodes.{node_at};
 ghost use Rattle.session_values.specs.Following.{words_in};
-ghost use Rattle.session_values.specs.Naming.{FollowsAddition, FollowsChange, FollowsRemoval, MarksAddition, MarksChange, MarksRemoval};
-ghost use Rattle.session_values.specs.internal.Marked.{HasMarked, HasMarkedLinked, HasSought};
+ghost use Rattle.session_values.specs.Naming.{FollowsAddition, FollowsChange, FollowsRemoval, FollowsTurn, MarksAddition, MarksChange, MarksRemoval, MarksTurn, had_formula, has_formula, turn_of};
+ghost use Rattle.session_values.specs.internal.Marked.{HasMarked, HasMarkedLinked, HasSought, HasTurned, own_node, whole_node};
 
 use crate::values::SessionValues;
 use cell_addr::NO_SHEET;
 use dep_graph::Node;
 use kept_steps::Session;
 use kept_values::Values;
+use name_table::NameKey;
 use std::alloc::AllocError;
+
+/// What a step back or forth does to a name.
+#[derive(Clone, Copy, PartialEq, Eq, Debug)]
+pub enum NameTurn {
+    /// It gets another formula.
+    Changed,
+    /// It is there again.
+    Added,
+    /// It is there no more.
+    Removed,
+    /// It isn't there, neither before nor after.
+    Absent,
+}
+
+impl NameTurn {
+    /// That of a name, by whether it had a formula and has one.
+    pub fn of(had: bool, has: bool) -> NameTurn
+        ensures { result ≡ turn_of had has }
+    {
+        if had {
+            if has {
+                NameTurn::Changed
+            } else {
+                NameTurn::Removed
+            }
+        } else if has {
+            NameTurn::Added
+        } else {
+            NameTurn::Absent
+        }
+    }
+}
 
 impl SessionValues {
     /// Takes what is kept along with a name of the scope that got another formula, after the session's call: marks the name alone.
@@ -64,6 +97,54 @@ impl SessionValues {
             Some(values) => linked_marked(values, node_of(session, scope, word)),
             None => None,
         };
+    }
+
+    /// Takes what is kept along with a name that a step back or forth gave another formula, or one again, or none, after the
+    /// session's call: marks what a change of the name, its addition or its removal marks; where it had no formula and has none,
+    /// nothing is kept any more. What followed the workbook before follows the one after it.
+    ///
+    /// Where there is no memory for it, nothing is kept any more. Costs a look-up for each formula that is marked.
+    pub fn name_turned(&mut self, session: &Session, key: NameKey, turn: NameTurn)
+        requires { (had_formula turn || has_formula turn) ≡ true → key.scope ≢ Some no_sheet }
+        ensures follows { FollowsTurn key turn session.now self.old.values self.new.values }
+        ensures marks { MarksTurn key turn session.now self.old.values self.new.values }
+    {
+        self.values = match self.values.take() {
+            Some(values) => turned(values, key, turn),
+            None => None,
+        };
+    }
+}
+
+// The values where what a change of the name touches is marked, if there is memory for it.
+fn turned(values: Values, key: NameKey, turn: NameTurn) -> Option<Values>
+    ensures { IfSome result (λ marked. HasTurned key turn values marked) }
+{
+    match turn {
+        NameTurn::Changed => name_marked(values, Some(own_node(key))),
+        NameTurn::Removed => linked_marked(values, Some(own_node(key))),
+        NameTurn::Added => sought_marked(values, Some(own_node(key)), Some(whole_node(key))),
+        NameTurn::Absent => None,
+    }
+}
+
+// The node of a name.
+fn own_node(key: NameKey) -> Node
+    ensures { result ≡ own_node key }
+{
+    Node::Name {
+        scope: key.scope.unwrap_or(NO_SHEET),
+        word: key.word,
+    }
+}
+
+// The node of the whole workbook's name of the same word.
+fn whole_node(key: NameKey) -> Node
+    ensures { result ≡ whole_node key }
+{
+    Node::Name {
+        scope: NO_SHEET,
+        word: key.word,
     }
 }
 

@@ -1,8 +1,13 @@
 -- Values in which a name's node is marked, and what is linked to it or seeks a name.
-use Rattle.std.specs.Prelude.{◌≡◌, ◌⊎◌, true, false, IsTrue, ◌++◌, ◌∷◌, [], List, Option, Some, None}
+use Rattle.std.specs.Prelude.{◌≡◌, ◌⊎◌, true, false, IsTrue, ◌++◌, ◌∷◌, [], List, Option, Some, None, unwrap_or}
+use Rattle.cell_addr.specs.declared.place.TheConstants.{NO_SHEET}
 use Rattle.dep_graph.specs.Nodes.{has}
 use Rattle.dep_graph.specs.Users.{AreLinkedTo}
 use Rattle.dep_graph.specs.declared.node.Node.{Node}
+use Rattle.dep_graph.specs.declared.node.Node.TheVariants.{Name}
+use Rattle.name_table.specs.declared.key.NameKey.{NameKey}
+use Rattle.session_values.specs.declared.naming.NameTurn.{NameTurn}
+use Rattle.session_values.specs.declared.naming.NameTurn.TheVariants.{Absent, Added, Changed, Removed}
 use Rattle.kept_values.specs.Values.{asks_in, kept_in, links_in, loses_in, marks_in, seeks_in}
 use Rattle.kept_values.specs.declared.values.Values.{Values}
 
@@ -43,3 +48,17 @@ pub record HaveSought (n whole : Node) (v w : Values) : Type 0 where
 abbrev pub HasSought : Option Node → Option Node → Values → Values → Type 0
 HasSought (Some n) (Some whole) v w = HaveSought n whole v w
 HasSought _ _ v w = ⊥
+
+-- the node of a name, and that of the whole workbook's name of its word
+abbrev pub own_node : NameKey → Node
+own_node key = Name (unwrap_or key.scope NO_SHEET) key.word
+
+abbrev pub whole_node : NameKey → Node
+whole_node key = Name NO_SHEET key.word
+
+-- marked is what this touches
+abbrev pub HasTurned : NameKey → NameTurn → Values → Values → Type 0
+HasTurned key Changed v w = HasMarked (Some (own_node key)) v w
+HasTurned key Removed v w = HasMarkedLinked (Some (own_node key)) v w
+HasTurned key Added v w = HasSought (Some (own_node key)) (Some (whole_node key)) v w
+HasTurned key Absent v w = ⊥

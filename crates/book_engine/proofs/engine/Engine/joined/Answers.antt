@@ -54,3 +54,6 @@ returns-clause-entries g c = refl
 
 pub returns-clause-marks : goal.returns-clause-marks
 returns-clause-marks g c = refl
+
+pub returns-clause-merged : goal.returns-clause-merged
+returns-clause-merged g c = refl

@@ -28,6 +28,6 @@ pub returns-in-None-clause-marks : goal.returns-in-None-clause-marks
 returns-in-None-clause-marks c =
     let x = c.args.self.now.session in
     let old = c.args.self.now.values.values in
-    let new = c.cells_back.new.self.values.values in
-    all_ok c.cells_back.result
-    (marked_cells (line_of x.book) (to_undo x) (λ (s back : Shift). MarksReturned s back (to_undo x) old new) old new (c.in-None.ensures.both ∙ ap with_opposite_of c.operation_undone.ensures) c.cells_back.ensures.marks)
+    let new = c.change_back.new.self.values.values in
+    all_ok c.change_back.result
+    (marked_cells (line_of x.book) (to_undo x) (λ (s back : Shift). MarksReturned s back (to_undo x) old new) old new (c.in-None.ensures.both ∙ ap with_opposite_of c.operation_undone.ensures) c.change_back.ensures.marks)

@@ -36,6 +36,6 @@ pub returns-in-None-clause-marks : goal.returns-in-None-clause-marks
 returns-in-None-clause-marks c =
     let x = c.args.self.now.session in
     let old = c.args.self.now.values.values in
-    let new = c.cells_forth.new.self.values.values in
-    all_ok c.cells_forth.result
-    (marked_cells (line_of x.book) (to_redo x) (λ (s back : Shift). MarksAlong s old new) old new (c.in-None.ensures.both ∙ ap with_opposite_of c.operation_redone.ensures) c.cells_forth.ensures.marks)
+    let new = c.change_forth.new.self.values.values in
+    all_ok c.change_forth.result
+    (marked_cells (line_of x.book) (to_redo x) (λ (s back : Shift). MarksAlong s old new) old new (c.in-None.ensures.both ∙ ap with_opposite_of c.operation_redone.ensures) c.change_forth.ensures.marks)
