@@ -1,5 +1,5 @@
 // How long graphs of needs take: to be linked, to answer which nodes a cell reaches and in which order, and to move over
-// rows that are put in.
+// rows that are put in, deleted and moved.
 ghost use Rattle.std.specs.Prelude.{◌<◌};
 
 use crate::shapes::Shape;
@@ -10,7 +10,7 @@ use std::time::Instant;
 use std::{fmt, io};
 
 // Shapes with their names, and how many formulas they have.
-const CASES: [(Shape, &'static str, u32); 14] = [
+const CASES: [(Shape, &'static str, u32); 16] = [
     (Shape::Prefixes, "prefix sums", 1_000),
     (Shape::Prefixes, "prefix sums", 10_000),
     (Shape::Prefixes, "prefix sums", 40_000),
@@ -18,6 +18,16 @@ const CASES: [(Shape, &'static str, u32); 14] = [
     (Shape::Rolling, "rolling sums", 10_000),
     (Shape::Invoice, "lines of an invoice", 5_000),
     (Shape::Invoice, "lines of an invoice", 10_000),
+    (
+        Shape::Sheets,
+        "lines of an invoice on each of 10 sheets",
+        5_000,
+    ),
+    (
+        Shape::Sheets,
+        "lines of an invoice on each of 10 sheets",
+        10_000,
+    ),
     (Shape::Columns, "sums of columns", 100),
     (Shape::Columns, "sums of columns", 200),
     (Shape::Chain, "formulas in a chain", 10_000),
@@ -27,8 +37,16 @@ const CASES: [(Shape, &'static str, u32); 14] = [
     (Shape::Cycle, "formulas in a cycle", 10_000),
 ];
 
-// How many rows are put in.
-const INSERTS: u32 = 100;
+// How many rows are put in, deleted and moved.
+const EDITS: u32 = 100;
+
+// What is done with a row.
+#[derive(Clone, Copy)]
+enum Edit {
+    PutIn,
+    Deleted,
+    Moved,
+}
 
 // What is timed: a graph of so many formulas.
 #[derive(Clone, Copy)]
@@ -93,7 +111,7 @@ impl Case {
         self.shape.link_all(graph, self.count)?;
         self.print_time(rt, "links", start, 1)?;
         self.time_mark(rt, graph)?;
-        self.time_inserts(rt, graph)
+        self.time_edits(rt, graph)
     }
 
     // Times what the graph answers for a mark.
@@ -118,18 +136,34 @@ impl Case {
         self.print_order(rt, start, reached.items().len(), order.items().len())
     }
 
-    // Times rows that are put in among formulas that stand row by row: the half of all prefix sums is bent by one, of the
-    // rolling sums as many as they have rows, and of an invoice the sum of all.
-    fn time_inserts(self, rt: &HostRuntime, graph: &mut Graph) -> io::Result<()> {
-        if !matches!(
-            self.shape,
-            Shape::Prefixes | Shape::Rolling | Shape::Invoice
-        ) {
+    // Times rows that are put in among formulas that stand row by row, and deleted again, and rows that are moved: the half of all
+    // prefix sums is bent by one that is put in, of the rolling sums as many as they have rows, and of an invoice the sum of all;
+    // of a chain the formula that reads the row above.
+    fn time_edits(self, rt: &HostRuntime, graph: &mut Graph) -> io::Result<()> {
+        if matches!(self.shape, Shape::Columns | Shape::Cycle) {
             return Ok(());
         }
+        self.time_all(rt, graph, "row put in", Edit::PutIn)?;
+        self.time_all(rt, graph, "row deleted", Edit::Deleted)?;
+        self.time_all(rt, graph, "row moved", Edit::Moved)
+    }
+
+    // Times edits of the first sheet, that of each number once, at places that lie apart.
+    fn time_all(
+        self,
+        rt: &HostRuntime,
+        graph: &mut Graph,
+        what: &str,
+        edit: Edit,
+    ) -> io::Result<()> {
         let start = Instant::now(rt)?;
-        put_rows_in(graph, self.count)?;
-        self.print_time(rt, "row put in", start, INSERTS)
+        'edits: for number in 0..EDITS {
+            let s = edit.of((self.count / EDITS).saturating_mul(number));
+            if sound(&s) {
+                graph.shift(&s)?;
+            }
+        }
+        self.print_time(rt, what, start, EDITS)
     }
 
     // Prints the time since the start, by what it is for, and shared out over so many times that this was done.
@@ -153,23 +187,26 @@ impl Case {
     }
 }
 
-// Puts rows in at places that lie apart.
-fn put_rows_in(graph: &mut Graph, count: u32) -> Result<(), AllocError> {
-    'inserts: for number in 0..INSERTS {
-        put_row_in(graph, (count / INSERTS).saturating_mul(number))?;
+impl Edit {
+    // The operation on a row of the first sheet; a row is moved three rows down.
+    fn of(self, at: u32) -> Shift {
+        match self {
+            Edit::PutIn => Shift::InsertRows {
+                sheet: 0,
+                at,
+                count: 1,
+            },
+            Edit::Deleted => Shift::DeleteRows {
+                sheet: 0,
+                at,
+                count: 1,
+            },
+            Edit::Moved => Shift::MoveRows {
+                sheet: 0,
+                from: at,
+                count: 1,
+                before: at.saturating_add(4),
+            },
+        }
     }
-    Ok(())
-}
-
-// Puts a row in.
-fn put_row_in(graph: &mut Graph, at: u32) -> Result<(), AllocError> {
-    let s = Shift::InsertRows {
-        sheet: 0,
-        at,
-        count: 1,
-    };
-    if sound(&s) {
-        graph.shift(&s)?;
-    }
-    Ok(())
 }

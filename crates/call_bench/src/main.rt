@@ -6,6 +6,7 @@
 //! call_bench ranges                           kept summaries of ranges
 //! call_bench graphs "1000 prefix sums"        a graph of needs, or all of them where no title is given
 //! call_bench titles                           the titles of the graphs
+//! call_bench lines                            a grid, over edits of its lines
 //! ```
 //!
 //! The status is 2 where the words name no calls.
@@ -17,6 +18,7 @@ mod area;
 mod functions;
 mod graphs;
 mod lazy;
+mod lines;
 mod onward;
 mod ranges;
 mod reading;
@@ -83,6 +85,7 @@ fn time<L: Ledger>(
         "ranges" => ranges::run(rt, steps),
         "graphs" => graphs::run(rt, first),
         "titles" => graphs::print_titles(rt),
+        "lines" => lines::run(rt),
         _ => Ok(false),
     }
 }

@@ -3,10 +3,12 @@ use cell_addr::{Block, Place, ROWS};
 use dep_graph::{Graph, Node};
 use std::alloc::AllocError;
 
-// How many rows a rolling sum has, and how many a column that is summed up.
+// How many rows a rolling sum has, how many a column that is summed up, and how many sheets there are of many.
 const ROLLED: u32 = 1_001;
 
 const COLUMN: u32 = 5_000;
+
+const SHEETS: u32 = 10;
 
 // What the formulas of a graph read, by their number.
 #[derive(Clone, Copy)]
@@ -17,6 +19,8 @@ pub(crate) enum Shape {
     Rolling,
     // Each reads the two cells beside it, and one more sums all of them up.
     Invoice,
+    // So for each of some sheets.
+    Sheets,
     // Each sums up a column.
     Columns,
     // Each reads the one before it.
@@ -42,7 +46,13 @@ impl Shape {
                 let last = number.saturating_add(ROLLED - 1);
                 graph.link(cell(number, 1), &[rows(0, number, last)])
             }
-            Shape::Invoice => graph.link(cell(number, 2), &[cell(number, 0), cell(number, 1)]),
+            Shape::Invoice => link_line(graph, 0, number),
+            Shape::Sheets => {
+                'sheets: for sheet in 0..SHEETS {
+                    link_line(graph, sheet, number)?;
+                }
+                Ok(())
+            }
             Shape::Columns => graph.link(cell(COLUMN, number), &[rows(number, 0, COLUMN - 1)]),
             Shape::Chain | Shape::Cycle => {
                 graph.link(in_chain(number.saturating_add(1)), &[in_chain(number)])
@@ -53,7 +63,13 @@ impl Shape {
     // Links what stands behind all of so many formulas.
     fn close(self, graph: &mut Graph, count: u32) -> Result<(), AllocError> {
         match self {
-            Shape::Invoice => graph.link(cell(count, 2), &[rows(2, 0, count.saturating_sub(1))]),
+            Shape::Invoice => link_total(graph, 0, count),
+            Shape::Sheets => {
+                'sheets: for sheet in 0..SHEETS {
+                    link_total(graph, sheet, count)?;
+                }
+                Ok(())
+            }
             Shape::Cycle => graph.link(in_chain(0), &[in_chain(count)]),
             _ => Ok(()),
         }
@@ -68,15 +84,39 @@ impl Shape {
     }
 }
 
+// Links a line of a sheet's invoice.
+fn link_line(graph: &mut Graph, sheet: u32, row: u32) -> Result<(), AllocError> {
+    graph.link(
+        cell_on(sheet, row, 2),
+        &[cell_on(sheet, row, 0), cell_on(sheet, row, 1)],
+    )
+}
+
+// Links the sum of all lines of a sheet's invoice, which stands below them.
+fn link_total(graph: &mut Graph, sheet: u32, lines: u32) -> Result<(), AllocError> {
+    graph.link(
+        cell_on(sheet, lines, 2),
+        &[rows_on(sheet, 2, 0, lines.saturating_sub(1))],
+    )
+}
+
 // A cell of the first sheet.
 fn cell(row: u32, col: u32) -> Node {
-    Node::Cell(Place { sheet: 0, row, col })
+    cell_on(0, row, col)
+}
+
+fn cell_on(sheet: u32, row: u32, col: u32) -> Node {
+    Node::Cell(Place { sheet, row, col })
 }
 
 // Rows of a column of the first sheet.
 fn rows(col: u32, top: u32, bottom: u32) -> Node {
+    rows_on(0, col, top, bottom)
+}
+
+fn rows_on(sheet: u32, col: u32, top: u32, bottom: u32) -> Node {
     Node::Range(Block {
-        sheet: 0,
+        sheet,
         top,
         left: col,
         bottom,
