@@ -505,6 +505,8 @@ def wrong_lines(case, ran, said, folder):
         return None if lines == [plain.USAGE.encode()] else "prints no usage line alone"
     _, strict, name, generates, _ = said
     if generates:
+        if strict and status == 1:
+            return None if len(lines) == 1 and lines[0].startswith(b"refused ") else "generates and doesn't print its refusal"
         return None if status == 7 or status == 0 and len(lines) == 3 else "generates and doesn't print three lines"
     if status == 4:
         form = rb"book (?:[^\n]*): (?:" + BOOK_CAUSES + rb")|script [^\n]*: missing"
