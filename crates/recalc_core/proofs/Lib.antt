@@ -14,3 +14,4 @@ pub mod Edits
 pub mod Shifted
 pub mod MovedMarks
 pub mod Shown
+pub mod Planned

@@ -23,6 +23,7 @@ mod kept;
 mod laws;
 mod marks;
 mod names;
+mod planning;
 mod recalc;
 mod recalculation;
 mod seen;

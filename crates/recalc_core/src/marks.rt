@@ -72,7 +72,7 @@ impl Marks {
 }
 
 // The list of these nodes.
-fn copied_nodes(alloc: Global, nodes: &[Node]) -> Result<Nodes, AllocError>
+pub(crate) fn copied_nodes(alloc: Global, nodes: &[Node]) -> Result<Nodes, AllocError>
     ensures { IfOk result (λ copy. items_of copy ≡ nodes.now) }
 {
     let mut copy = Nodes::new(alloc)?;

@@ -9,6 +9,7 @@ ghost use Rattle.recalc_core.specs.Recalc.{kept_in, marks_in};
 ghost use Rattle.recalc_core.specs.Steps.{TakesSteps};
 
 use crate::marks::Marks;
+use crate::planning::planned;
 use crate::recalc::Recalc;
 use crate::trees::Trees;
 use calc_eval::Customs;
@@ -23,7 +24,9 @@ impl Recalc {
     ///
     /// Afterwards what is kept of every place and every name is its value, and there are no marks. Only nodes that reach a
     /// mark are worked out, each once, within the steps that their formulas cost. Those on a cycle show `#CYCLE!`. For want
-    /// of memory the marks stay, and what is kept still fits them. Costs what [`Graph::reach`] does, and the steps.
+    /// of memory the marks stay, and what is kept still fits them. Costs what [`Graph::reach`] does, a sort of the nodes that
+    /// reach a mark, and the steps. Of nodes that don't need one another those of upper rows come first, so that sums of
+    /// blocks that grow downward take a row each.
     pub fn recalculate<T: Trees, C: Customs, L: Ledger>(
         &mut self,
         graph: &Graph,
@@ -46,7 +49,7 @@ impl Recalc {
         ensures reads { T.leaves trees.old trees.new }
     {
         let affected = graph.reach(&self.marks.list)?;
-        let order = graph.order(&affected)?;
+        let order = planned(self.alloc, graph, &affected)?;
         let none = Marks::new(self.alloc)?;
         self.settle_cycles(affected.items(), order.items())?;
         self.renew_all(trees, order.items(), customs, day, steps)?;
