@@ -82,7 +82,7 @@ module _ (b : Workbook) (words : List (List ℕ)) (customs : List (List ℕ × R
   }
 
   pub from_follow : Follow b words customs today (links_in v) (marks_in v) (kept_in v) → AreNoted (λ x. asks_place) b words (marks_in v) (asks_in v) → AreNoted (λ x. has_lost) b words (marks_in v) (loses_in v)
-      → AreNoted (seeks_at b) b words (marks_in v) (seeks_in v) → Follows b words customs today v
+      → ((word : List ℕ) → AreNoted (seeks_at b word) b words (marks_in v) (seeks_in v word)) → Follows b words customs today v
   from_follow follow asking losing seeking = record {
     linked = λ a c isnt.
         let both = follow.linked.exact a c (λ h. false≢true (sym isnt ∙ h)) in

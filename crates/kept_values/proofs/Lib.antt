@@ -3,6 +3,7 @@ pub mod FoundNames
 pub mod LinkedAnew
 pub mod Noted
 pub mod SeekingNames
+pub mod UnderWords
 pub mod LinkTests
 pub mod TakenAlong
 pub mod LostBefore

@@ -80,7 +80,7 @@ IsThere s (links.Name scope word) = ⊤
 module _ (s : Shift) (b c : Workbook) (words : List (List ℕ)) (customs : List (List ℕ × Rule)) (today : ℤ) (v m w : Values) (touched bent : List Node)
     (sound : IsSound s) (inside : IsBookInside b) (over : IsBookAfter s b c) (numbered : AreNumbered words b.names) (has_touched : HasTouched s b words touched) (touched_known : AreKnown words touched)
     (follows : Follows b words customs today v) (are_bent : AreBent s (links_in v) bent) (gathered : HasGathered touched bent v m) (carried : AreCarried s (links_in v) (marks_in m) (kept_in v) w)
-    (none_asks : (a : Node) → asks_in w a ≡ false) (moved : AreMoved s (loses_in v) (loses_in w)) (sought : AreMoved s (seeks_in v) (seeks_in w)) where
+    (none_asks : (a : Node) → asks_in w a ≡ false) (moved : AreMoved s (loses_in v) (loses_in w)) (sought : (word : List ℕ) → AreMoved s (seeks_in v word) (seeks_in w word)) where
   linked : (a : Node) → IsTrue (has a bent) → (d : Node) × IsTrue (has d (links_in v a))
   linked a h = let (d, link, bends) = (are_bent.0 a).0 h in (d, link)
 
@@ -165,14 +165,14 @@ module _ (s : Shift) (b c : Workbook) (words : List (List ℕ)) (customs : List 
     settled (book.place q) to tree isnt = false_from_ne_true (is_moved_cell s q) (λ is_moved. false≢true (sym isnt ∙ subst (λ n. IsTrue (has n (marks_in w))) (sym (place_node words a q to)) (marks.moved q is_moved (filled_after b c q u tree))))
     settled (book.name key) to tree isnt = tt
 
-    -- each formula with a word that finds no name, that isn't marked, had one before
-    seeks_noted : has a (marks_in w) ≡ false → seeks_at c x u ≡ true → seeks_in w a ≡ true
-    seeks_noted isnt seek =
+    -- each formula with this word where it finds no name, that isn't marked, had it before
+    seeks_noted : (word : List ℕ) → has a (marks_in w) ≡ false → seeks_at c word x u ≡ true → seeks_in w word a ≡ true
+    seeks_noted word isnt seek =
         let (was, y, t, from, origin, tree, same, pair) = formula_was in
         let goes = (was_at s sound a was from).0 in
         let out : has was (marks_in v) ≡ false = false_from_ne_true (has was (marks_in v)) (λ mark. false≢true (sym isnt ∙ carried.taken.along was a (of_marks was mark) goes)) in
         let finds = pair_finds s b c over y x pair (settled x at is isnt) in
-        sought.along was a (follows.seeks.all was y t out origin tree (sym (still_seeks s b c over y x t finds) ∙ ap (seeks_at c x) (sym same) ∙ seek)) goes
+        (sought word).along was a ((follows.seeks word).all was y t out origin tree (sym (still_seeks s b c over y x t word finds) ∙ ap (seeks_at c word x) (sym same) ∙ seek)) goes
 
   -- what is noted was a known node, and is one
   noted_known : (was now : Node → Bool) → AreMoved s was now → ((d : Node) → was d ≡ true → is_some (node_at words d) ≡ true) → (a : Node) → now a ≡ true → is_some (node_at words a) ≡ true
@@ -185,10 +185,10 @@ module _ (s : Shift) (b c : Workbook) (words : List (List ℕ)) (customs : List 
   follows_after = from_follow c words customs today w after_it
       (record { all = λ a x t isnt at is asks. absurd (false≢true (sym isnt ∙ asks_marked a x t at is asks)); known = λ a asks. absurd (false≢true (sym (none_asks a) ∙ asks)) })
       (record { all = λ a x t isnt at is lost. loses_noted a x t at is isnt lost; known = noted_known (loses_in v) (loses_in w) moved follows.loses.known })
-      (record { all = λ a x t isnt at is seek. seeks_noted a x t at is isnt seek; known = noted_known (seeks_in v) (seeks_in w) sought follows.seeks.known })
+      (λ word. record { all = λ a x t isnt at is seek. seeks_noted a x t at is word isnt seek; known = noted_known (seeks_in v word) (seeks_in w word) (sought word) (follows.seeks word).known })
 
 pub goes_along : (s : Shift) (touched bent : List Node) (v m w : Values) → IsSound s → AreBent s (links_in v) bent → HasGathered touched bent v m → links_in m ≡ links_in v → kept_in m ≡ kept_in v
-    → ((a : Node) → asks_in w a ≡ false) → AreMoved s (loses_in v) (loses_in w) → AreMoved s (seeks_in v) (seeks_in w) → AreCarried s (links_in m) (marks_in m) (kept_in m) w → FollowsOver s touched v w
+    → ((a : Node) → asks_in w a ≡ false) → AreMoved s (loses_in v) (loses_in w) → ((word : List ℕ) → AreMoved s (seeks_in v word) (seeks_in w word)) → AreCarried s (links_in m) (marks_in m) (kept_in m) w → FollowsOver s touched v w
 goes_along s touched bent v m w sound are_bent gathered links kept none moved sought carried b c words customs today inside over numbered has_touched known follows =
     follows_after s b c words customs today v m w touched bent sound inside over numbered has_touched known follows are_bent gathered
     (subst (λ (l : Links). AreCarried s l (marks_in m) (kept_in v) w) links (subst (λ (k : Kept). AreCarried s (links_in m) (marks_in m) k w) kept carried)) none moved sought

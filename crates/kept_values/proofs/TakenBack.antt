@@ -67,7 +67,7 @@ module _ (s back : Shift) (b c : Workbook) (words : List (List ℕ)) (customs : 
     (follows : Follows c words customs today v) (probed : AreProbed s (links_in v) bent) (gathered : HasGathered touched bent v m)
     (with_losing : (a : Node) → has a (marks_in n) ≡ (has a (marks_in m) || loses_in v a)) (carried : AreCarried back (links_in v) (marks_in n) (kept_in v) u)
     (with_removed : (a : Node) → has a (marks_in w) ≡ has a (marks_in u ++ removed)) (links : links_in w ≡ links_in u) (kept : kept_in w ≡ kept_in u)
-    (none_asks : (a : Node) → asks_in w a ≡ false) (none_loses : (a : Node) → loses_in w a ≡ false) (sought : AreMoved back (seeks_in v) (seeks_in w)) where
+    (none_asks : (a : Node) → asks_in w a ≡ false) (none_loses : (a : Node) → loses_in w a ≡ false) (sought : (word : List ℕ) → AreMoved back (seeks_in v word) (seeks_in w word)) where
   before : Follow c words customs today (links_in v) (marks_in v) (kept_in v)
   before = gathering.before c words customs today v m touched bent numbered touched_known follows probed.linked gathered
 
@@ -155,16 +155,16 @@ module _ (s back : Shift) (b c : Workbook) (words : List (List ℕ)) (customs : 
   settled p q t isnt goes is = false_from_ne_true (is_moved_cell s q) (λ is_moved. false≢true (sym isnt ∙ marks.moved p (moved_before (form_of s) p q is_moved goes) (filled_before b c p t is)))
 
   -- where the node after the operation isn't marked, it is noted, and so is this one
-  goes_noted : (d a : Node) (z : book.Node) (u : Term Corner) → node_after back d ≡ Some a → has a (marks_in w) ≡ false → node_at words d ≡ Some z → tree_at c z ≡ Some u → seeks_at c z u ≡ true → seeks_in w a ≡ true
-  goes_noted d a z u goes isnt to tree seek = sought.along d a (follows.seeks.all d z u (false_from_ne_true (has d (marks_in v)) (λ mark. false≢true (sym isnt ∙ taken.along d a (of_marks d mark) goes))) to tree seek) goes
+  goes_noted : (word : List ℕ) (d a : Node) (z : book.Node) (u : Term Corner) → node_after back d ≡ Some a → has a (marks_in w) ≡ false → node_at words d ≡ Some z → tree_at c z ≡ Some u → seeks_at c word z u ≡ true → seeks_in w word a ≡ true
+  goes_noted word d a z u goes isnt to tree seek = (sought word).along d a ((follows.seeks word).all d z u (false_from_ne_true (has d (marks_in v)) (λ mark. false≢true (sym isnt ∙ taken.along d a (of_marks d mark) goes))) to tree seek) goes
 
-  seeks_noted : (a : Node) (x : book.Node) (t : Term Corner) → has a (marks_in w) ≡ false → node_at words a ≡ Some x → tree_at b x ≡ Some t → seeks_at b x t ≡ true → seeks_in w a ≡ true
-  seeks_noted a (book.place p) t isnt at is seek = subst (λ d. seeks_in w d ≡ true) (sym (place_node words a p at)) (by (map.get b.cells p) refl (place_after s p) refl)
+  seeks_noted : (word : List ℕ) (a : Node) (x : book.Node) (t : Term Corner) → has a (marks_in w) ≡ false → node_at words a ≡ Some x → tree_at b x ≡ Some t → seeks_at b word x t ≡ true → seeks_in w word a ≡ true
+  seeks_noted word a (book.place p) t isnt at is seek = subst (λ d. seeks_in w word d ≡ true) (sym (place_node words a p at)) (by (map.get b.cells p) refl (place_after s p) refl)
     where
       apart : has (Cell p) (marks_in w) ≡ false
       apart = subst (λ d. has d (marks_in w) ≡ false) (place_node words a p at) isnt
 
-      by : (o : Option Content) → map.get b.cells p ≡ o → (r : Option Place) → place_after s p ≡ r → seeks_in w (Cell p) ≡ true
+      by : (o : Option Content) → map.get b.cells p ≡ o → (r : Option Place) → place_after s p ≡ r → seeks_in w word (Cell p) ≡ true
       by None e r goes = absurd (none_some t (sym (ap content_tree e) ∙ is))
       by (Some content) e None gone = absurd (false≢true (sym apart ∙ come_back p gone (ap is_some e)))
       by (Some content) e (Some q) goes =
@@ -172,8 +172,8 @@ module _ (s back : Shift) (b c : Workbook) (words : List (List ℕ)) (customs : 
           let (far, returns) = turned s back sound opposite (book.place p) (book.place q) (in_limits, goes) in
           let tree : tree_at c (book.place q) ≡ Some (rewritten s t) = pair_tree s b c over (book.place p) (book.place q) (in_limits, goes) ∙ ap (option_map (rewritten s)) is in
           let finds = pair_finds s b c over (book.place p) (book.place q) (in_limits, goes) (settled p q t apart goes is) in
-          goes_noted (Cell q) (Cell p) (book.place q) (rewritten s t) (ap (option_map Cell) returns) apart refl tree (still_seeks s b c over (book.place p) (book.place q) t finds ∙ seek)
-  seeks_noted a (book.name key) t isnt at is seek = by a at isnt
+          goes_noted word (Cell q) (Cell p) (book.place q) (rewritten s t) (ap (option_map Cell) returns) apart refl tree (still_seeks s b c over (book.place p) (book.place q) t word finds ∙ seek)
+  seeks_noted word a (book.name key) t isnt at is seek = by a at isnt
     where
       stays : drops_scope (form_of s) (scope_sheet key.scope) ≡ false
       stays = (keeps s back sound opposite (scope_sheet key.scope)).0
@@ -184,15 +184,15 @@ module _ (s back : Shift) (b c : Workbook) (words : List (List ℕ)) (customs : 
       finds : FindsSame s b c over (book.name key) (book.name key)
       finds = pair_finds s b c over (book.name key) (book.name key) (stays, refl) tt
 
-      by : (d : Node) → node_at words d ≡ Some (book.name key) → has d (marks_in w) ≡ false → seeks_in w d ≡ true
+      by : (d : Node) → node_at words d ≡ Some (book.name key) → has d (marks_in w) ≡ false → seeks_in w word d ≡ true
       by (Cell p) to out = absurd (cc)
-      by (Name scope word) to out = goes_noted (Name scope word) (Name scope word) (book.name key) (rewritten s t) refl out to tree (still_seeks s b c over (book.name key) (book.name key) t finds ∙ seek)
+      by (Name scope number) to out = goes_noted word (Name scope number) (Name scope number) (book.name key) (rewritten s t) refl out to tree (still_seeks s b c over (book.name key) (book.name key) t word finds ∙ seek)
       by (Range block) to out = absurd (none_some (book.name key) to)
 
-  sought_known : (a : Node) → seeks_in w a ≡ true → is_some (node_at words a) ≡ true
-  sought_known a h =
-      let (d, is, goes) = sought.from a h in
-      let (x, at) = there (node_at words d) (follows.seeks.known d is) in
+  sought_known : (word : List ℕ) (a : Node) → seeks_in w word a ≡ true → is_some (node_at words a) ≡ true
+  sought_known word a h =
+      let (d, is, goes) = (sought word).from a h in
+      let (x, at) = there (node_at words d) ((follows.seeks word).known d is) in
       ap is_some (after_known back words d a x at goes).1
 
   -- ---- values
@@ -212,11 +212,11 @@ module _ (s back : Shift) (b c : Workbook) (words : List (List ℕ)) (customs : 
   follows_before = from_follow b words customs today w after_it
       (record { all = λ a x t isnt at is asks. absurd (false≢true (sym isnt ∙ marks.asking a x t at is asks)); known = λ a asks. absurd (false≢true (sym (none_asks a) ∙ asks)) })
       (record { all = λ a x t isnt at is lost. absurd (false≢true (sym isnt ∙ loses_marked a x t at is lost)); known = λ a lost. absurd (false≢true (sym (none_loses a) ∙ lost)) })
-      (record { all = λ a x t isnt at is seek. seeks_noted a x t isnt at is seek; known = sought_known })
+      (λ word. record { all = λ a x t isnt at is seek. seeks_noted word a x t isnt at is seek; known = sought_known word })
 
 pub goes_back : (s back : Shift) (touched bent removed : List Node) (v m n u w : Values) → IsSound s → opposite_of s ≡ Some back → AreProbed s (links_in v) bent → HasGathered touched bent v m
     → ((a : Node) → has a (marks_in n) ≡ (has a (marks_in m) || loses_in v a)) → links_in n ≡ links_in v → kept_in n ≡ kept_in v → AreCarried back (links_in n) (marks_in n) (kept_in n) u
-    → ((a : Node) → has a (marks_in w) ≡ has a (marks_in u ++ removed)) → links_in w ≡ links_in u → kept_in w ≡ kept_in u → ((a : Node) → asks_in w a ≡ false) → ((a : Node) → loses_in w a ≡ false) → AreMoved back (seeks_in v) (seeks_in w)
+    → ((a : Node) → has a (marks_in w) ≡ has a (marks_in u ++ removed)) → links_in w ≡ links_in u → kept_in w ≡ kept_in u → ((a : Node) → asks_in w a ≡ false) → ((a : Node) → loses_in w a ≡ false) → ((word : List ℕ) → AreMoved back (seeks_in v word) (seeks_in w word))
     → FollowsBack s back touched removed v w
 goes_back s back touched bent removed v m n u w sound opposite probed gathered with_losing links kept carried with_removed same_links same_kept asks loses sought
     b c words customs today inside over numbered has_touched touched_known are_removed removed_known follows =

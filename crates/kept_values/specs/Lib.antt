@@ -1,3 +1,4 @@
+pub mod Sought
 pub mod Values
 pub mod Shifted
 pub mod internal

@@ -1,7 +1,8 @@
 -- What values that follow a workbook stand for. Source: this project's own.
-use Rattle.std.specs.Prelude.{◌≡◌, ◌⊎◌, ◌+◌, ◌≤◌, ℕ, ℤ, Bool, true, false, List, Option, Some, None, is_some, IsTrue}
+use Rattle.std.specs.Prelude.{◌≡◌, ◌⊎◌, ◌&&◌, ◌+◌, ◌≤◌, ℕ, ℤ, Bool, true, false, List, Option, Some, None, is_some, IsTrue}
 use Rattle.std.specs.List.{list_any, sum_by}
 use Rattle.std.specs.Option.{is_none}
+use Rattle.cell_addr.specs.Sheets.{same_name}
 use Rattle.formula_tree.specs.Links.{names_in, same_link}
 use Rattle.formula_tree.specs.Links.{links_in as links_in_tree}
 use Rattle.formula_tree.specs.Reference.{sheet_of}
@@ -26,6 +27,7 @@ use Rattle.recalc_core.specs.Steps.{node_cost}
 use Rattle.marked_values.specs.Marks.{FitsMarks, ReachesMark}
 use Rattle.marked_values.specs.Shifts.{asks_place}
 use Rattle.restored_values.specs.Suspects.{has_lost}
+use Rattle.kept_values.specs.Sought.{noted_under}
 use Rattle.kept_values.specs.declared.values.Values.{Values}
 
 -- the nodes that each node is linked to
@@ -52,17 +54,17 @@ asks_in v a = has a v.noted.asking.keys
 abbrev pub loses_in : Values → Node → Bool
 loses_in v a = has a v.noted.losing.keys
 
--- the nodes whose formulas were found to use a word that finds no name
-abbrev pub seeks_in : Values → Node → Bool
-seeks_in v a = has a v.noted.seeking.keys
+-- the nodes whose formulas were found to use this word, in some case of its letters, where it finds no name
+abbrev pub seeks_in : Values → List ℕ → Node → Bool
+seeks_in v word a = noted_under v.noted.seeking word a
 
--- a word of a formula finds no name on the sheet
-abbrev pub seeks : Names → ℕ → Term Corner → Bool
-seeks names sheet t = list_any (λ word. is_none (found names word sheet)) (names_in t)
+-- a formula uses this word, in some case of its letters, and it finds no name on the sheet
+abbrev pub seeks : Names → ℕ → List ℕ → Term Corner → Bool
+seeks names sheet word t = list_any (λ w. same_name word w && is_none (found names w sheet)) (names_in t)
 
--- a word of the formula of a place or a name does not
-abbrev pub seeks_at : Workbook → book.Node → Term Corner → Bool
-seeks_at b x t = seeks b.names (sheet_of (home_of x)) t
+-- the formula of a place or a name does
+abbrev pub seeks_at : Workbook → List ℕ → book.Node → Term Corner → Bool
+seeks_at b word x t = seeks b.names (sheet_of (home_of x)) word t
 
 -- there is one, and it passes a test
 abbrev pub passes : {X : Type 0} → (X → Bool) → Option X → Bool
@@ -90,14 +92,14 @@ pub record AreNoted (test : book.Node → Term Corner → Bool) (b : Workbook) (
   pub known : (a : Node) → noted a ≡ true → is_some (node_at words a) ≡ true
 
 -- they follow the workbook: each node that isn't marked is linked to exactly what its formula is linked to, and noted to ask where a
--- reference is where its formula does, to lose one where its formula has, and to seek a name where a word of it finds none; what is
+-- reference is where its formula does, to have lost one where its formula has, and under each word of it that finds no name; what is
 -- marked or so noted is a place or a known name; and what is kept of each place and each name that reaches no mark is its value
 pub record Follows (b : Workbook) (words : List (List ℕ)) (customs : List (List ℕ × Rule)) (today : ℤ) (v : Values) : Type 0 where
   pub linked : (a c : Node) → has a (marks_in v) ≡ false → has c (links_in v a) ≡ is_link_at b words a c
   pub inside : AreLinksInside (links_in v)
   pub asks : AreNoted (λ x. asks_place) b words (marks_in v) (asks_in v)
   pub loses : AreNoted (λ x. has_lost) b words (marks_in v) (loses_in v)
-  pub seeks : AreNoted (seeks_at b) b words (marks_in v) (seeks_in v)
+  pub seeks : (word : List ℕ) → AreNoted (seeks_at b word) b words (marks_in v) (seeks_in v word)
   pub known : (a : Node) → has a (marks_in v) ≡ true → is_some (node_at words a) ≡ true
   pub fit : FitsMarks b words customs today (marks_in v) (kept_in v)
 

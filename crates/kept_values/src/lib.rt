@@ -3,7 +3,7 @@
 //! [`Values`] follow a workbook that stands behind [`recalc_core::Trees`]. Whoever changes the workbook marks what it touches, and
 //! nothing is linked or worked out before the next read: [`Values::refresh`] links the marked nodes anew and works out what
 //! reaches a mark, once. A second refresh takes no step. A structural operation takes links, values and marks along:
-//! [`Values::shifted`]; and so does its opposite, where it is taken back: [`Values::taken_back`].
+//! [`Values::shift`]; and so does its opposite, where it is taken back: [`Values::take_back`].
 //!
 //! ```text
 //! let mut values = Values::new(alloc)?;
@@ -12,8 +12,8 @@
 //! values.mark(Node::Cell(at))?;                                // the cell was changed
 //! values.refresh(&mut session, &registry, day, &mut steps)?;  // links it, and works out what it reaches
 //! values.value(Node::Cell(total))
-//! let mut values = values.shifted(&row_put_first, &[])?;       // a row was put before the first: all stands a row lower
-//! let mut values = values.taken_back(&row_put_first, &first_row_deleted, &[], &[])?; // it was taken back
+//! values.shift(&row_put_first, &[])?;                            // a row was put before the first: all stands a row lower
+//! values.take_back(&row_put_first, &first_row_deleted, &[], &[])?; // it was taken back
 //! ```
 #![tactic(auto)]
 
@@ -24,6 +24,7 @@ mod noting;
 mod refreshing;
 mod seeking;
 mod shifting;
+mod sought;
 mod taken_back;
 mod values;
 

@@ -1,5 +1,5 @@
 // Values that are taken along with a structural operation.
-ghost use Rattle.std.specs.Prelude.{◌≡◌, false, IfOk, OnOk};
+ghost use Rattle.std.specs.Prelude.{◌≡◌, ℕ, false, IfOk, List, OnOk};
 ghost use Rattle.shift_core.specs.Sound.{IsSound};
 ghost use Rattle.dep_graph.specs.Nodes.{has};
 ghost use Rattle.dep_graph.specs.Shifted.{node_after};
@@ -9,6 +9,7 @@ ghost use Rattle.marked_values.specs.Shifts.{is_moved_cell};
 ghost use Rattle.kept_values.specs.Shifted.{moved_cell};
 ghost use Rattle.kept_values.specs.internal.TakenAlong.{AddsTaken, AreMoved, with_some, with_taken};
 
+use crate::sought::move_words;
 use crate::values::Values;
 use cell_addr::Place;
 use dep_graph::Node;
@@ -23,28 +24,17 @@ impl Values {
     ghost use Rattle.kept_values.specs.Values.{asks_in, kept_in as kept_of, links_in, loses_in, marks_in as marks_of, seeks_in};
     ghost use Rattle.kept_values.specs.internal.TakenAlong.{AreCarried, HasGathered};
 
-    /// The values after a structural operation: links and values go along with their nodes, so that they follow the workbook
-    /// after it where they followed the one before it. Marked are then the nodes that were, those whose formulas the operation
-    /// bends or that ask where a reference is, and what is touched: each filled cell of a block that the operation moves and
-    /// of where that goes, and each name of a dropped sheet. A formula that had lost a reference, or uses a word that finds no
+    /// Takes the values along with a structural operation: links and values go along with their nodes, so that they follow the
+    /// workbook after it where they followed the one before it. Marked are then the nodes that were, those whose formulas the
+    /// operation bends or that ask where a reference is, and what is touched: each filled cell of a block that the operation moves
+    /// and of where that goes, and each name of a dropped sheet. A formula that had lost a reference, or uses a word that finds no
     /// name, is noted to where it goes, and needn't be marked.
     ///
-    /// Errs for want of memory, and then nothing is kept any more. Costs what [`Graph::bent`](dep_graph::Graph::bent),
-    /// [`Graph::shift`](dep_graph::Graph::shift) and [`Recalc::shift`] do, and a look-up or two for each node that is
-    /// marked then, which each formula is that asks where a reference is, and for each formula that had lost one.
-    pub fn shifted(mut self, s: &Shift, touched: &[Node]) -> Result<Values, AllocError>
-        requires { IsSound s.now }
-        ensures follows { IfOk result (λ values. FollowsOver s.now touched.now self values) }
-        ensures marks { IfOk result (λ values. MarksOver s.now touched.now self values) }
-    {
-        match self.go_along(s, touched) {
-            Ok(()) => Ok(self),
-            Err(error) => Err(error),
-        }
-    }
-
-    // Goes along with the operation; for want of memory only a part does.
-    fn go_along(&mut self, s: &Shift, touched: &[Node]) -> Result<(), AllocError>
+    /// For want of memory only a part goes along, and the values are of no more use. Costs what
+    /// [`Graph::bent`](dep_graph::Graph::bent), [`Graph::shift`](dep_graph::Graph::shift) and [`Recalc::shift`] do, and a look-up
+    /// or two for each node that is marked then, which each formula is that asks where a reference is, and for each formula that
+    /// had lost one or uses a word that finds no name.
+    pub fn shift(&mut self, s: &Shift, touched: &[Node]) -> Result<(), AllocError>
         requires { IsSound s.now }
         ensures follows { OnOk result (FollowsOver s.now touched.now self.old self.new) }
         ensures marks { OnOk result (MarksOver s.now touched.now self.old self.new) }
@@ -85,18 +75,17 @@ impl Values {
         Ok(())
     }
 
-    // Notes the formulas with a word that finds no name where the operation takes them.
+    // Notes the formulas with words that find no name where the operation takes them.
     pub(crate) fn move_seeking(&mut self, s: &Shift) -> Result<(), AllocError>
         requires { IsSound s.now }
-        ensures moved { OnOk result (AreMoved s.now (seeks_in self.old) (seeks_in self.new)) }
+        ensures moved { OnOk result ((word : List ℕ) → AreMoved s.now (seeks_in self.old word) (seeks_in self.new word)) }
         ensures asking { asks_in self.new ≡ asks_in self.old }
         ensures losing { loses_in self.new ≡ loses_in self.old }
         ensures links { links_in self.new ≡ links_in self.old }
         ensures kept { kept_of self.new ≡ kept_of self.old }
         ensures marks { marks_of self.new ≡ marks_of self.old }
     {
-        self.noted.seeking = moved_nodes(self.alloc, s, self.noted.seeking.as_slice())?;
-        Ok(())
+        move_words(self.alloc, s, &mut self.noted.seeking)
     }
 
     // Takes links, values and marks along with the operation; for want of memory only some of them.
@@ -115,7 +104,11 @@ impl Values {
 }
 
 // The nodes where the operation takes them; those that it loses are gone.
-fn moved_nodes(alloc: Global, s: &Shift, nodes: &[Node]) -> Result<IndexSet<Node>, AllocError>
+pub(crate) fn moved_nodes(
+    alloc: Global,
+    s: &Shift,
+    nodes: &[Node],
+) -> Result<IndexSet<Node>, AllocError>
     requires { IsSound s.now }
     ensures { IfOk result (λ moved. AreMoved s.now (λ a. has a nodes.now) (λ a. has a moved.keys)) }
 {

@@ -1,12 +1,15 @@
 // Values that are taken along where a structural operation is taken back.
-ghost use Rattle.std.specs.Prelude.{◌≡◌, ◌||◌, false, IfOk, OnOk, Some};
+ghost use Rattle.std.specs.Prelude.{◌≡◌, ◌||◌, ℕ, false, if◌then◌else◌, IfOk, List, OnOk, Some};
+ghost use Rattle.cell_addr.specs.Sheets.{same_name};
 ghost use Rattle.shift_core.specs.Opposite.{opposite_of};
 ghost use Rattle.shift_core.specs.Sound.{IsSound};
 ghost use Rattle.dep_graph.specs.Nodes.{has, items_of};
 ghost use Rattle.dep_graph.specs.declared.node.Node.{Node as NodeSeen};
 
 use crate::values::Values;
+use cell_addr::Text;
 use dep_graph::{Node, Nodes};
+use folded_key::FoldedKey;
 use indexmap::IndexSet;
 use restored_values::probe;
 use shift_core::Shift;
@@ -18,33 +21,15 @@ impl Values {
     ghost use Rattle.kept_values.specs.Values.{asks_in, kept_in, links_in, loses_in, marks_in, seeks_in};
     ghost use Rattle.kept_values.specs.internal.TakenAlong.{AreProbed};
 
-    /// The values before a structural operation, which its opposite takes back: links and values go back with their nodes, so that
-    /// they follow the workbook before it where they followed the one after it. Marked are then the nodes that were, those whose
-    /// formulas the operation's probe bends, or that ask where a reference is or have lost one, and what is touched: each filled
-    /// cell of a block that goes back and of where that goes; and the cells that the operation had removed, which come back.
+    /// Takes the values back along a structural operation, which its opposite takes back: links and values go back with their
+    /// nodes, so that they follow the workbook before it where they followed the one after it. Marked are then the nodes that
+    /// were, those whose formulas the operation's probe bends, or that ask where a reference is or have lost one, and what is
+    /// touched: each filled cell of a block that goes back and of where that goes; and the cells that the operation had removed,
+    /// which come back.
     ///
-    /// Errs for want of memory, and then nothing is kept any more. Costs what [`Values::shifted`] does, and a look-up or two for
-    /// each removed cell and for each formula that has lost a reference, all of which are marked then.
-    pub fn taken_back(
-        mut self,
-        s: &Shift,
-        back: &Shift,
-        touched: &[Node],
-        removed: &[Node],
-    ) -> Result<Values, AllocError>
-        requires sound { IsSound s.now }
-        requires opposite { opposite_of s.now ≡ Some back.now }
-        ensures follows { IfOk result (λ values. FollowsBack s.now back.now touched.now removed.now self values) }
-        ensures marks { IfOk result (λ values. MarksBack s.now back.now touched.now removed.now self values) }
-    {
-        match self.go_back(s, back, touched, removed) {
-            Ok(()) => Ok(self),
-            Err(error) => Err(error),
-        }
-    }
-
-    // Goes along with the opposite; for want of memory only a part does.
-    fn go_back(
+    /// For want of memory only a part goes back, and the values are of no more use. Costs what [`Values::shift`] does, and a
+    /// look-up or two for each removed cell and for each formula that has lost a reference, all of which are marked then.
+    pub fn take_back(
         &mut self,
         s: &Shift,
         back: &Shift,
@@ -88,17 +73,21 @@ impl Values {
         self.mark_all(losing.as_slice())
     }
 
-    /// Marks each node whose formula uses a word that finds no name, of which none is noted any more. For want of memory some are
-    /// marked, and the values are of no more use. Costs a look-up for each.
-    pub fn mark_seeking(&mut self) -> Result<(), AllocError>
-        ensures marks { OnOk result ((a : NodeSeen) → has a (marks_in self.new) ≡ (has a (marks_in self.old) || seeks_in self.old a)) }
-        ensures seeking { OnOk result ((a : NodeSeen) → seeks_in self.new a ≡ false) }
+    /// Marks each node whose formula uses this word, in some case of its ASCII letters, where it finds no name, of which none is noted
+    /// under the word any more; what is noted under other words stays. For want of memory some are marked, and the values are of no
+    /// more use. Costs a look-up of the word, and one for each of these nodes.
+    pub fn mark_seeking(&mut self, word: &str) -> Result<(), AllocError>
+        ensures marks { OnOk result ((a : NodeSeen) → has a (marks_in self.new) ≡ (has a (marks_in self.old) || seeks_in self.old word.now a)) }
+        ensures seeking { OnOk result ((other : List ℕ) (a : NodeSeen) → seeks_in self.new other a ≡ (if same_name word.now other then false else seeks_in self.old other a)) }
         ensures asking { asks_in self.new ≡ asks_in self.old }
         ensures losing { loses_in self.new ≡ loses_in self.old }
         ensures links { links_in self.new ≡ links_in self.old }
         ensures kept { kept_in self.new ≡ kept_in self.old }
     {
-        let seeking = mem::replace(&mut self.noted.seeking, IndexSet::new(self.alloc));
-        self.mark_all(seeking.as_slice())
+        let key = FoldedKey::Own(Text::from_str(self.alloc, word)?);
+        match self.noted.seeking.swap_remove(&key) {
+            Some(seeking) => self.mark_all(seeking.as_slice()),
+            None => Ok(()),
+        }
     }
 }

@@ -1,5 +1,5 @@
 // Links, kept values and marks.
-ghost use Rattle.std.specs.Prelude.{◌≡◌, ◌++◌, ◌∷◌, [], false, IfOk, None, OnErr, OnOk};
+ghost use Rattle.std.specs.Prelude.{◌≡◌, ◌++◌, ◌∷◌, ℕ, [], false, IfOk, List, None, OnErr, OnOk};
 ghost use Rattle.std.specs.Option.{option_copied};
 ghost use Rattle.dep_graph.specs.Nodes.{has, items_of};
 ghost use Rattle.dep_graph.specs.declared.node.Node.{Node};
@@ -11,7 +11,8 @@ use recalc_core::Recalc;
 use std::alloc::{AllocError, Global};
 
 /// What is kept of the values of a workbook: the links of its formulas, which of these ask where a reference is, which have lost one
-/// and which use a word that finds no name, the values of its cells and names, and the marks of what was touched since they were worked out.
+/// and which use a word that finds no name, by that word, the values of its cells and names, and the marks of what was touched since
+/// they were worked out.
 #[derive(Drop)]
 pub struct Values {
     pub(crate) alloc: Global,
@@ -29,7 +30,7 @@ impl Values {
         ensures kept { IfOk result (λ values. (a : Node) → kept_in values a ≡ None) }
         ensures asking { IfOk result (λ values. (a : Node) → asks_in values a ≡ false) }
         ensures losing { IfOk result (λ values. (a : Node) → loses_in values a ≡ false) }
-        ensures seeking { IfOk result (λ values. (a : Node) → seeks_in values a ≡ false) }
+        ensures seeking { IfOk result (λ values. (word : List ℕ) (a : Node) → seeks_in values word a ≡ false) }
         ensures marks { IfOk result (λ values. marks_in values ≡ []) }
     {
         Ok(Values {

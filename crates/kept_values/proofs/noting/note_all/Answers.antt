@@ -5,6 +5,7 @@ use Rattle.dep_graph.specs.declared.node.Node.{Node}
 use Rattle.dep_graph.specs.declared.node.Node.TheVariants.{Cell}
 use Rattle.marked_values.specs.Shifts.{asks_place}
 use Rattle.restored_values.specs.Suspects.{has_lost}
+use Rattle.kept_values.specs.Sought.{noted_under}
 use Rattle.kept_values.specs.Values.{seeks_at}
 use Rattle.kept_values.specs.internal.Noting.{IsNoted}
 use Rattle.kept_values.proofs.Noted.{adds_front, adds_none, adds_on, all_added, none_noted, noted_on}
@@ -17,10 +18,10 @@ nodes-init g c =
     record {
       asking = adds_none (λ n. has n c.args.noted.now.asking.keys);
       losing = adds_none (λ n. has n c.args.noted.now.losing.keys);
-      seeking = adds_none (λ n. has n c.args.noted.now.seeking.keys);
+      seeking = λ word. adds_none (noted_under c.args.noted.now.seeking word);
       asks = none_noted (λ x. asks_place) b words (λ n. has n c.args.noted.now.asking.keys);
       loses = none_noted (λ x. has_lost) b words (λ n. has n c.args.noted.now.losing.keys);
-      seeks = none_noted (seeks_at b) b words (λ n. has n c.args.noted.now.seeking.keys);
+      seeks = λ word. none_noted (seeks_at b word) b words (noted_under c.args.noted.now.seeking word);
       leaves = refl;
       words = refl;
       reads = g.T.Trees.laws.none c.args.trees.now;
@@ -39,10 +40,10 @@ returns-in_err-note-clause-losing g c =
     c.nodes.invariant.losing c.note.ensures.losing_stay c.note.ensures.losing_only
 
 pub returns-in_err-note-clause-seeking : goal.returns-in_err-note-clause-seeking
-returns-in_err-note-clause-seeking g c =
+returns-in_err-note-clause-seeking g c = λ word.
     let d : Node = Cell (record { sheet = 0; row = 0; col = 0 }) in
-    adds_front c.args.nodes.now c.nodes.node-index d (λ n. has n c.args.noted.now.seeking.keys) (λ n. has n c.nodes.noted.seeking.keys) (λ n. has n c.note.new.noted.seeking.keys) c.nodes-test.true
-    c.nodes.invariant.seeking c.note.ensures.seeking_stay c.note.ensures.seeking_only
+    adds_front c.args.nodes.now c.nodes.node-index d (noted_under c.args.noted.now.seeking word) (noted_under c.nodes.noted.seeking word) (noted_under c.note.new.noted.seeking word) c.nodes-test.true
+    (c.nodes.invariant.seeking word) (c.note.ensures.seeking_stay word) (c.note.ensures.seeking_only word)
 
 pub nodes-preserved : goal.nodes-preserved
 nodes-preserved g c =
@@ -56,21 +57,21 @@ nodes-preserved g c =
     let asking_new = λ (n : Node). has n c.note.new.noted.asking.keys in
     let losing_now = λ (n : Node). has n c.nodes.noted.losing.keys in
     let losing_new = λ (n : Node). has n c.note.new.noted.losing.keys in
-    let seeking_now = λ (n : Node). has n c.nodes.noted.seeking.keys in
-    let seeking_new = λ (n : Node). has n c.note.new.noted.seeking.keys in
+    let seeking_now = λ (word : List ℕ). noted_under c.nodes.noted.seeking word in
+    let seeking_new = λ (word : List ℕ). noted_under c.note.new.noted.seeking word in
     record {
       asking = adds_on nodes i d (λ n. has n c.args.noted.now.asking.keys) asking_now asking_new c.nodes-test.true c.nodes.invariant.asking c.note.ensures.asking_stay c.note.ensures.asking_only;
       losing = adds_on nodes i d (λ n. has n c.args.noted.now.losing.keys) losing_now losing_new c.nodes-test.true c.nodes.invariant.losing c.note.ensures.losing_stay c.note.ensures.losing_only;
-      seeking = adds_on nodes i d (λ n. has n c.args.noted.now.seeking.keys) seeking_now seeking_new c.nodes-test.true c.nodes.invariant.seeking c.note.ensures.seeking_stay c.note.ensures.seeking_only;
+      seeking = λ word. adds_on nodes i d (noted_under c.args.noted.now.seeking word) (seeking_now word) (seeking_new word) c.nodes-test.true (c.nodes.invariant.seeking word) (c.note.ensures.seeking_stay word) (c.note.ensures.seeking_only word);
       asks = noted_on (λ x. asks_place) b words nodes i d asking_now asking_new c.nodes-test.true c.note.ensures.asking_stay
           (subst (λ (w : Workbook). IsNoted (λ x. asks_place) w words asking_new a) c.nodes.invariant.leaves
           (subst (λ (ws : List (List ℕ)). IsNoted (λ x. asks_place) (g.T.Trees.workbook c.nodes.trees) ws asking_new a) c.nodes.invariant.words c.in_ok-note.ensures.asks)) c.nodes.invariant.asks;
       loses = noted_on (λ x. has_lost) b words nodes i d losing_now losing_new c.nodes-test.true c.note.ensures.losing_stay
           (subst (λ (w : Workbook). IsNoted (λ x. has_lost) w words losing_new a) c.nodes.invariant.leaves
           (subst (λ (ws : List (List ℕ)). IsNoted (λ x. has_lost) (g.T.Trees.workbook c.nodes.trees) ws losing_new a) c.nodes.invariant.words c.in_ok-note.ensures.loses)) c.nodes.invariant.loses;
-      seeks = noted_on (seeks_at b) b words nodes i d seeking_now seeking_new c.nodes-test.true c.note.ensures.seeking_stay
-          (subst (λ (w : Workbook). IsNoted (seeks_at w) w words seeking_new a) c.nodes.invariant.leaves
-          (subst (λ (ws : List (List ℕ)). IsNoted (seeks_at (g.T.Trees.workbook c.nodes.trees)) (g.T.Trees.workbook c.nodes.trees) ws seeking_new a) c.nodes.invariant.words c.in_ok-note.ensures.seeks)) c.nodes.invariant.seeks;
+      seeks = λ word. noted_on (seeks_at b word) b words nodes i d (seeking_now word) (seeking_new word) c.nodes-test.true (c.note.ensures.seeking_stay word)
+          (subst (λ (w : Workbook). IsNoted (seeks_at w word) w words (seeking_new word) a) c.nodes.invariant.leaves
+          (subst (λ (ws : List (List ℕ)). IsNoted (seeks_at (g.T.Trees.workbook c.nodes.trees) word) (g.T.Trees.workbook c.nodes.trees) ws (seeking_new word) a) c.nodes.invariant.words (c.in_ok-note.ensures.seeks word))) (c.nodes.invariant.seeks word);
       leaves = c.note.ensures.leaves ∙ c.nodes.invariant.leaves;
       words = c.note.ensures.words ∙ c.nodes.invariant.words;
       reads = g.T.Trees.laws.both _ _ _ c.nodes.invariant.reads c.note.ensures.reads;
@@ -83,4 +84,4 @@ pub returns-clause-losing : goal.returns-clause-losing
 returns-clause-losing g c = all_added c.args.nodes.now c.nodes.node-index (λ n. has n c.args.noted.now.losing.keys) (λ n. has n c.nodes.noted.losing.keys) c.nodes.invariant.losing
 
 pub returns-clause-seeking : goal.returns-clause-seeking
-returns-clause-seeking g c = all_added c.args.nodes.now c.nodes.node-index (λ n. has n c.args.noted.now.seeking.keys) (λ n. has n c.nodes.noted.seeking.keys) c.nodes.invariant.seeking
+returns-clause-seeking g c = λ word. all_added c.args.nodes.now c.nodes.node-index (noted_under c.args.noted.now.seeking word) (noted_under c.nodes.noted.seeking word) (c.nodes.invariant.seeking word)

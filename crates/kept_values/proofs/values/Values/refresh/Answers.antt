@@ -11,6 +11,7 @@ use Rattle.marked_values.specs.Marks.{AreLinksBut}
 use Rattle.marked_values.specs.Shifts.{asks_place}
 use Rattle.marked_values.proofs.Fitting.{follow_fits}
 use Rattle.restored_values.specs.Suspects.{has_lost}
+use Rattle.kept_values.specs.Sought.{noted_under}
 use Rattle.kept_values.specs.Values.{seeks_at}
 use Rattle.kept_values.specs.internal.Noting.{AreNotedAmong}
 use Rattle.kept_values.proofs.Following.{from_follow, to_follow}
@@ -47,7 +48,7 @@ returns-in_err-note_all-clause-follows g c =
     (linked_marks b words customs c.args.day (links_of self.graph) (links_of c.link_all.new.graph) (marks_in self.recalc) _ (kept_in self.recalc) follow c.link_all.ensures.but c.link_all.ensures.links (c.items.ensures ∙ c.marks.ensures.list))
     (more_noted (λ x. asks_place) b words (marks_in self.recalc) c.items-2.result.now (λ a. has a self.noted.asking.keys) (λ a. has a c.note_all.new.noted.asking.keys) follow.known (c.items-2.ensures ∙ c.marks-2.ensures.list) c.requires.follows.asks c.note_all.ensures.asking)
     (more_noted (λ x. has_lost) b words (marks_in self.recalc) c.items-2.result.now (λ a. has a self.noted.losing.keys) (λ a. has a c.note_all.new.noted.losing.keys) follow.known (c.items-2.ensures ∙ c.marks-2.ensures.list) c.requires.follows.loses c.note_all.ensures.losing)
-    (more_noted (seeks_at b) b words (marks_in self.recalc) c.items-2.result.now (λ a. has a self.noted.seeking.keys) (λ a. has a c.note_all.new.noted.seeking.keys) follow.known (c.items-2.ensures ∙ c.marks-2.ensures.list) c.requires.follows.seeks c.note_all.ensures.seeking)
+    (λ word. more_noted (seeks_at b word) b words (marks_in self.recalc) c.items-2.result.now (noted_under self.noted.seeking word) (noted_under c.note_all.new.noted.seeking word) follow.known (c.items-2.ensures ∙ c.marks-2.ensures.list) (c.requires.follows.seeks word) (c.note_all.ensures.seeking word))
 
 pub recalculate-requires-clause-fit : goal.recalculate-requires-clause-fit
 recalculate-requires-clause-fit g c =
@@ -89,13 +90,13 @@ returns-clause-follows g c =
     (subst (λ (ws : List (List ℕ)). AreNotedAmong (λ x. asks_place) (g.T.Trees.workbook c.link_all.new.trees) ws marked (λ a. has a c.note_all.new.noted.asking.keys)) c.in_ok-link_all.ensures.words c.in_ok-note_all.ensures.asks) in
     let loses = subst (λ (w : Workbook). AreNotedAmong (λ x. has_lost) w words marked (λ a. has a c.note_all.new.noted.losing.keys)) c.in_ok-link_all.ensures.leaves
     (subst (λ (ws : List (List ℕ)). AreNotedAmong (λ x. has_lost) (g.T.Trees.workbook c.link_all.new.trees) ws marked (λ a. has a c.note_all.new.noted.losing.keys)) c.in_ok-link_all.ensures.words c.in_ok-note_all.ensures.loses) in
-    let seeks = subst (λ (w : Workbook). AreNotedAmong (seeks_at w) w words marked (λ a. has a c.note_all.new.noted.seeking.keys)) c.in_ok-link_all.ensures.leaves
-    (subst (λ (ws : List (List ℕ)). AreNotedAmong (seeks_at (g.T.Trees.workbook c.link_all.new.trees)) (g.T.Trees.workbook c.link_all.new.trees) ws marked (λ a. has a c.note_all.new.noted.seeking.keys)) c.in_ok-link_all.ensures.words c.in_ok-note_all.ensures.seeks) in
+    let seeks = subst (λ (w : Workbook). (word : List ℕ) → AreNotedAmong (seeks_at w word) w words marked (noted_under c.note_all.new.noted.seeking word)) c.in_ok-link_all.ensures.leaves
+    (subst (λ (ws : List (List ℕ)). (word : List ℕ) → AreNotedAmong (seeks_at (g.T.Trees.workbook c.link_all.new.trees) word) (g.T.Trees.workbook c.link_all.new.trees) ws marked (noted_under c.note_all.new.noted.seeking word)) c.in_ok-link_all.ensures.words c.in_ok-note_all.ensures.seeks) in
     from_follow b words customs c.args.day (record { alloc = c.args.self.now.alloc; graph = c.link_all.new.graph; noted = c.note_all.new.noted; recalc = new })
     (recalculated b words customs c.args.day c.recalculate.result links old (marks_in new) (kept_in new) c.in_ok-link_all.ensures.ok c.link_all.ensures.links follow.known right c.recalculate.ensures.unmarked c.recalculate.ensures.marks fit)
     (all_noted (λ x. asks_place) b words old marked (marks_in new) (λ a. has a c.args.self.now.noted.asking.keys) (λ a. has a c.note_all.new.noted.asking.keys) follow.known (c.items-2.ensures ∙ c.marks-2.ensures.list) c.requires.follows.asks c.note_all.ensures.asking asks)
     (all_noted (λ x. has_lost) b words old marked (marks_in new) (λ a. has a c.args.self.now.noted.losing.keys) (λ a. has a c.note_all.new.noted.losing.keys) follow.known (c.items-2.ensures ∙ c.marks-2.ensures.list) c.requires.follows.loses c.note_all.ensures.losing loses)
-    (all_noted (seeks_at b) b words old marked (marks_in new) (λ a. has a c.args.self.now.noted.seeking.keys) (λ a. has a c.note_all.new.noted.seeking.keys) follow.known (c.items-2.ensures ∙ c.marks-2.ensures.list) c.requires.follows.seeks c.note_all.ensures.seeking seeks)
+    (λ word. all_noted (seeks_at b word) b words old marked (marks_in new) (noted_under c.args.self.now.noted.seeking word) (noted_under c.note_all.new.noted.seeking word) follow.known (c.items-2.ensures ∙ c.marks-2.ensures.list) (c.requires.follows.seeks word) (c.note_all.ensures.seeking word) (seeks word))
 
 pub returns-clause-most : goal.returns-clause-most
 returns-clause-most g c =

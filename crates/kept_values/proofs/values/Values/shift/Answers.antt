@@ -1,4 +1,4 @@
-use Rattle.std.proofs.Common.{◌∙◌, sym, ap, subst, Bool, List}
+use Rattle.std.proofs.Common.{◌∙◌, sym, ap, subst, ℕ, Bool, List}
 use Rattle.dep_graph.specs.Bent.{AreBent}
 use Rattle.dep_graph.specs.Nodes.{has}
 use Rattle.dep_graph.specs.declared.node.Node.{Node}
@@ -6,7 +6,7 @@ use Rattle.kept_values.specs.Values.{links_in, loses_in, seeks_in}
 use Rattle.kept_values.specs.internal.TakenAlong.{AreMoved}
 use Rattle.kept_values.proofs.Following.{on_ok}
 use Rattle.kept_values.proofs.Shifted.{goes_along, marks_over}
-use Rattle.kept_values.proofs.values.Values.go_along.Goals as goal
+use Rattle.kept_values.proofs.values.Values.shift.Goals as goal
 
 pub returns-clause-follows : goal.returns-clause-follows
 returns-clause-follows c =
@@ -23,8 +23,8 @@ returns-clause-follows c =
     (λ a. ap (λ (f : Node → Bool). f a) (c.carry.ensures.asking ∙ c.move_seeking.ensures.asking ∙ c.move_losing.ensures.asking) ∙ c.in_ok-gather.ensures.asking a)
     (subst (λ (f : Node → Bool). AreMoved s f (loses_in w)) c.gather.ensures.losing
     (subst (λ (f : Node → Bool). AreMoved s (loses_in c.gather.new.self) f) (sym (c.carry.ensures.losing ∙ c.move_seeking.ensures.losing)) c.in_ok-move_losing.ensures.moved))
-    (subst (λ (f : Node → Bool). AreMoved s f (seeks_in w)) (c.move_losing.ensures.seeking ∙ c.gather.ensures.seeking)
-    (subst (λ (f : Node → Bool). AreMoved s (seeks_in c.move_losing.new.self) f) (sym c.carry.ensures.seeking) c.in_ok-move_seeking.ensures.moved)) carried)
+    (subst (λ (f : List ℕ → Node → Bool). (word : List ℕ) → AreMoved s (f word) (seeks_in w word)) (c.move_losing.ensures.seeking ∙ c.gather.ensures.seeking)
+    (subst (λ (f : List ℕ → Node → Bool). (word : List ℕ) → AreMoved s (seeks_in c.move_losing.new.self word) (f word)) (sym c.carry.ensures.seeking) c.in_ok-move_seeking.ensures.moved)) carried)
     c.carry.ensures.carried
 
 pub returns-clause-marks : goal.returns-clause-marks

@@ -1,4 +1,4 @@
-use Rattle.std.proofs.Common.{◌∙◌, sym, ap, subst, ◌||◌, Bool, List}
+use Rattle.std.proofs.Common.{◌∙◌, sym, ap, subst, ◌||◌, ℕ, Bool, List}
 use Rattle.dep_graph.specs.Nodes.{has}
 use Rattle.dep_graph.specs.declared.node.Node.{Node}
 use Rattle.marked_values.proofs.GoingBack.{back_is_sound}
@@ -6,7 +6,7 @@ use Rattle.kept_values.specs.Values.{links_in, marks_in, seeks_in}
 use Rattle.kept_values.specs.internal.TakenAlong.{AreMoved, AreProbed}
 use Rattle.kept_values.proofs.Following.{on_ok}
 use Rattle.kept_values.proofs.TakenBack.{goes_back, marks_back}
-use Rattle.kept_values.proofs.values.Values.go_back.Goals as goal
+use Rattle.kept_values.proofs.values.Values.take_back.Goals as goal
 
 pub carry-requires : goal.carry-requires
 carry-requires c = back_is_sound c.args.s.now c.args.back.now c.requires.sound c.requires.opposite
@@ -26,8 +26,8 @@ returns-clause-follows c =
     (c.move_seeking.ensures.links ∙ c.gather_losing.ensures.links ∙ c.gather.ensures.links) (c.move_seeking.ensures.kept ∙ c.gather_losing.ensures.kept ∙ c.gather.ensures.kept) c.in_ok-carry.ensures.carried with_removed c.mark_all.ensures.links c.mark_all.ensures.kept
     (λ a. ap (λ (f : Node → Bool). f a) (c.mark_all.ensures.asking ∙ c.carry.ensures.asking ∙ c.move_seeking.ensures.asking ∙ c.gather_losing.ensures.asking) ∙ c.in_ok-gather.ensures.asking a)
     (λ a. ap (λ (f : Node → Bool). f a) (c.mark_all.ensures.losing ∙ c.carry.ensures.losing ∙ c.move_seeking.ensures.losing) ∙ c.in_ok-gather_losing.ensures.losing a)
-    (subst (λ (f : Node → Bool). AreMoved c.args.back.now f (seeks_in c.mark_all.new.self)) (c.gather_losing.ensures.seeking ∙ c.gather.ensures.seeking)
-    (subst (λ (f : Node → Bool). AreMoved c.args.back.now (seeks_in c.gather_losing.new.self) f) (sym (c.mark_all.ensures.seeking ∙ c.carry.ensures.seeking)) c.in_ok-move_seeking.ensures.moved)))
+    (subst (λ (f : List ℕ → Node → Bool). (word : List ℕ) → AreMoved c.args.back.now (f word) (seeks_in c.mark_all.new.self word)) (c.gather_losing.ensures.seeking ∙ c.gather.ensures.seeking)
+    (subst (λ (f : List ℕ → Node → Bool). (word : List ℕ) → AreMoved c.args.back.now (seeks_in c.gather_losing.new.self word) (f word)) (sym (c.mark_all.ensures.seeking ∙ c.carry.ensures.seeking)) c.in_ok-move_seeking.ensures.moved)))
     c.mark_all.ensures.ok
 
 pub move_seeking-requires : goal.move_seeking-requires
