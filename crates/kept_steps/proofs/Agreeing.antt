@@ -17,11 +17,11 @@ use Rattle.kept_book.specs.Frame.{Frame, IsNamed, Words, home_at, name_seen, nam
 use Rattle.kept_book.specs.Kept.{IsMore}
 use Rattle.kept_book.specs.Stored.{StandsAt, contents_of}
 use Rattle.kept_book.specs.Walk.{back_all, forth_all}
-use Rattle.kept_steps.specs.InUse.{AheadHas, HasFormula, PastHas}
-use Rattle.kept_steps.specs.Steps.{AllLeadOn, AllLedHere, AreAhead, ArePast, LeadsOn, LedHere, SameFrame, books_ahead, books_past, furthest, oldest}
+use Rattle.kept_steps.specs.InUse.{AheadHas, HasFormula, HereHas, OnHas, PastHas}
+use Rattle.kept_steps.specs.Steps.{AllLeadOn, AllLedHere, AreAhead, ArePast, AreWholeHere, AreWholeOn, IsWhole, LeadsOn, LedHere, SameFrame, books_ahead, books_past, furthest, oldest}
 use Rattle.kept_steps.specs.Timeline.{Agree, StandIn, Timeline, book_in}
 use Rattle.kept_steps.proofs.Entries.{each_entry, filter_map_same}
-use Rattle.kept_steps.proofs.Walks.{earlier, further}
+use Rattle.kept_steps.proofs.Walks.{after_has, after_whole, before_has, before_whole, earlier, further}
 
 -- a word of a list
 spelled : (words : Words) (n : ℕ) → n < length words → (w : List ℕ) × (slice_get words n ≡ Some w)
@@ -187,13 +187,44 @@ module _ (among : ℕ → Type 0) (low high : ℕ) (t u : Timeline) (a : Agree a
       ap fin.from_entries (filter_map_same (name_seen u.words (named_at u.at f.position)) (name_seen t.words (named_at t.at f.position)) (fin.entries f.names) entries) in
       λ i. record { sheets = f.sheets; cells = cells i; names = names i }
 
+  -- ---- whole frames
+
+  pub whole_same : (f : Frame) → ((id : ℕ) → HasFormula f id → among id) → low ≤ f.position → f.position ≤ high → IsWhole t f → IsWhole u f
+  whole_same f all l h whole = record { stand = stand_same f all l h whole.stand; inside = whole.inside }
+
+  pub whole_here_same : (cs : List Change) (f : Frame) → ((id : ℕ) → HereHas t cs f id → among id) → low ≤ (back_all t.line cs f).position → f.position ≤ high → AllLedHere t cs f → AreWholeHere t cs f → AreWholeHere u cs f
+  whole_here_same [] f all l h led whole = whole_same f all l h whole
+  whole_here_same (c ∷ cs) f all l h led whole =
+      let g = back_all t.line cs f in
+      let to : c.to ≡ g.position = led.1.same.position in
+      let order = led.1.order in
+      let upto = earlier t cs f led.0 in
+      let from : c.from ≤ high = omega (arith, order, to, upto, h) in (
+        whole_here_same cs f (λ id x. all id (inl x)) (omega (arith, to, order, l)) h led.0 whole.0,
+        subst (IsWhole u) (sym (all_led_same (c ∷ cs) f l h led).1) (whole_same (back_all t.line (c ∷ cs) f) (λ id x. all id (inr x)) l from whole.1),
+      )
+
+  pub whole_on_same : (cs : List Change) (f : Frame) → ((id : ℕ) → OnHas t cs f id → among id) → low ≤ f.position → (forth_all t.line cs f).position ≤ high → AllLeadOn t cs f → AreWholeOn t cs f → AreWholeOn u cs f
+  whole_on_same [] f all l h lead whole = whole_same f all l h whole
+  whole_on_same (c ∷ cs) f all l h lead whole =
+      let g = forth t.line c f in
+      let from : c.from ≡ f.position = lead.0.same.position in
+      let order = lead.0.order in
+      let upto : c.to ≤ (forth_all t.line cs g).position = further t cs g lead.1 in
+      let end : c.to ≤ high = omega (arith, upto, h) in
+      let start : low ≤ c.from = omega (arith, from, l) in
+      let now : f.position ≤ high = omega (arith, from, order, end) in (
+        whole_same f (λ id x. all id (inl x)) l now whole.0,
+        subst (AreWholeOn u cs) (sym (forth_same c f start end)) (whole_on_same cs g (λ id x. all id (inr x)) (omega (arith, start, order)) h lead.1 whole.1),
+      )
+
   -- ---- steps
 
   pub past_same : (f : Frame) (es : List (List Change)) → ((id : ℕ) → PastHas t f es id → among id) → low ≤ (oldest t f es).position → f.position ≤ high → ArePast t f es
       → ArePast u f es × (books_past u f es ≡ books_past t f es) × (oldest u f es ≡ oldest t f es)
   past_same f [] all l h past = (tt, refl, refl)
   past_same f (e ∷ es) all l h past =
-      let here : (id : ℕ) → HasFormula (back_all t.line e f) id → among id = λ id x. all id (inl x) in
+      let here : (id : ℕ) → HereHas t e f id → among id = λ id x. all id (inl x) in
       let g = back_all t.line e f in
       let upto = earlier t e f past.0 in
       let low_g = oldest_first t g es past.2 in
@@ -201,8 +232,8 @@ module _ (among : ℕ → Type 0) (low high : ℕ) (t u : Timeline) (a : Agree a
       let end : g.position ≤ high = omega (arith, upto, h) in
       let step = all_led_same e f start h past.0 in
       let rest = past_same g es (λ id x. all id (inr x)) l end past.2 in (
-        (step.0, subst (StandIn u) (sym step.1) (stand_same g here start end past.1), subst (λ x. ArePast u x es) (sym step.1) rest.0),
-        ap (λ x. book_in u x ∷ books_past u x es) step.1 ∙ (λ i. book_same g here start end past.1 i ∷ rest.1 i),
+        (step.0, whole_here_same e f here start h past.0 past.1, subst (λ x. ArePast u x es) (sym step.1) rest.0),
+        ap (λ x. book_in u x ∷ books_past u x es) step.1 ∙ (λ i. book_same g (λ id x. here id (before_has t e f id x)) start end (before_whole t e f past.1).stand i ∷ rest.1 i),
         ap (λ x. oldest u x es) step.1 ∙ rest.2,
       )
 
@@ -210,7 +241,7 @@ module _ (among : ℕ → Type 0) (low high : ℕ) (t u : Timeline) (a : Agree a
       → AreAhead u f es × (books_ahead u f es ≡ books_ahead t f es) × (furthest u f es ≡ furthest t f es)
   ahead_same f [] all l h ahead = (tt, refl, refl)
   ahead_same f (e ∷ es) all l h ahead =
-      let here : (id : ℕ) → HasFormula (forth_all t.line e f) id → among id = λ id x. all id (inl x) in
+      let here : (id : ℕ) → OnHas t e f id → among id = λ id x. all id (inl x) in
       let g = forth_all t.line e f in
       let upto = further t e f ahead.0 in
       let high_g = furthest_last t g es ahead.2 in
@@ -218,7 +249,7 @@ module _ (among : ℕ → Type 0) (low high : ℕ) (t u : Timeline) (a : Agree a
       let end : g.position ≤ high = omega (arith, high_g, h) in
       let step = all_lead_same e f l end ahead.0 in
       let rest = ahead_same g es (λ id x. all id (inr x)) start h ahead.2 in (
-        (step.0, subst (StandIn u) (sym step.1) (stand_same g here start end ahead.1), subst (λ x. AreAhead u x es) (sym step.1) rest.0),
-        ap (λ x. book_in u x ∷ books_ahead u x es) step.1 ∙ (λ i. book_same g here start end ahead.1 i ∷ rest.1 i),
+        (step.0, whole_on_same e f here l end ahead.0 ahead.1, subst (λ x. AreAhead u x es) (sym step.1) rest.0),
+        ap (λ x. book_in u x ∷ books_ahead u x es) step.1 ∙ (λ i. book_same g (λ id x. here id (after_has t e f id x)) start end (after_whole t e f ahead.1).stand i ∷ rest.1 i),
         ap (λ x. furthest u x es) step.1 ∙ rest.2,
       )

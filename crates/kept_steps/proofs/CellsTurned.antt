@@ -23,7 +23,7 @@ use Rattle.shift_core.specs.Maps.{PlaceMap}
 use Rattle.undo_book.specs.History.{History}
 use Rattle.kept_book.proofs.Contents.{get-contents}
 use Rattle.kept_book.proofs.Joining.{no-shift}
-use Rattle.kept_book.specs.Change.{Change, cells_after, cells_before, forth, names_with, places_of, sheets_with, shift_of}
+use Rattle.kept_book.specs.Change.{Change, cells_after, cells_before, forth, names_with, places_of, shift_of}
 use Rattle.kept_book.specs.Frame.{Frame, Line, named_at, names_seen, numbered_at}
 use Rattle.kept_book.specs.Kept.{at_of, frame_of, line_of}
 use Rattle.kept_book.specs.Stored.{content_of}
@@ -75,22 +75,20 @@ module _ (line : Line) (c : Change) (same : c.to ≡ c.from) (m : PlaceMap Cell)
   left-after : fin.get (cells_after (shift_of line c) c m) p ≡ fin.get m p
   left-after = let n = beside-both p c beside in ap (λ o. fin.get (cells_after o c m) p) (no-shift line c same) ∙ left-there p c.written c.replaced m n.1 n.0
 
--- two frames are the same but for cells that the changes list
+-- two frames are the same but for cells that the changes list, and for their sheets
 pub record SameBeside (cs : List Change) (f g : Frame) : Type 0 where
   pub position : g.position ≡ f.position
-  pub sheets : g.sheets ≡ f.sheets
   pub names : g.names ≡ f.names
   pub cells : (p : Place) → is_listed cs p ≡ false → fin.get g.cells p ≡ fin.get f.cells p
 
 module _ (t : Timeline) where
   pub back-beside : (cs : List Change) (f : Frame) → AllLedHere t cs f → AreOfCells cs → SameBeside cs f (back_all t.line cs f)
-  back-beside [] f led alone = record { position = refl; sheets = refl; names = refl; cells = λ p beside. refl }
+  back-beside [] f led alone = record { position = refl; names = refl; cells = λ p beside. refl }
   back-beside (c ∷ cs) f led alone =
       let g = back_all t.line cs f in
       let rest = back-beside cs f led.0 alone.1 in
       record {
         position = sym alone.0.position ∙ led.1.same.position ∙ rest.position;
-        sheets = ap (λ l. sheets_with (λ x. x.0) l g.sheets) alone.0.sheets ∙ rest.sheets;
         names = ap (λ l. names_with (λ x. x.0) l g.names) alone.0.names ∙ rest.names;
         cells = λ p beside.
             let n = neither (list_any (same_place p) (places_of c.replaced ++ places_of c.written)) (is_listed cs p) beside in
@@ -98,22 +96,20 @@ module _ (t : Timeline) where
       }
 
   pub forth-beside : (cs : List Change) (f : Frame) → AllLeadOn t cs f → AreOfCells cs → SameBeside cs f (forth_all t.line cs f)
-  forth-beside [] f lead alone = record { position = refl; sheets = refl; names = refl; cells = λ p beside. refl }
+  forth-beside [] f lead alone = record { position = refl; names = refl; cells = λ p beside. refl }
   forth-beside (c ∷ cs) f lead alone =
       let rest = forth-beside cs (forth t.line c f) lead.1 alone.1 in
       record {
         position = rest.position ∙ alone.0.position ∙ lead.0.same.position;
-        sheets = rest.sheets ∙ ap (λ l. sheets_with (λ x. x.1) l f.sheets) alone.0.sheets;
         names = rest.names ∙ ap (λ l. names_with (λ x. x.1) l f.names) alone.0.names;
         cells = λ p beside.
             let n = neither (list_any (same_place p) (places_of c.replaced ++ places_of c.written)) (is_listed cs p) beside in
             rest.cells p n.1 ∙ left-after t.line c alone.0.position f.cells p n.0;
       }
 
--- the workbooks of such frames differ in these cells
-differ : (t u : Timeline) (cs : List Change) (f g : Frame) → u.at ≡ t.at → u.words ≡ t.words → SameBeside cs f g → DifferAmong (is_listed cs) (book_in t f) (book_in u g)
+-- the workbooks of such frames differ in these cells, and in their sheets
+pub differ : (t u : Timeline) (cs : List Change) (f g : Frame) → u.at ≡ t.at → u.words ≡ t.words → SameBeside cs f g → DifferAmong (is_listed cs) (book_in t f) (book_in u g)
 differ t u cs f g at words same = record {
-  sheets = same.sheets;
   names = λ i. names_seen (words i) (named_at (at i) (same.position i)) (same.names i);
   cells = λ p beside.
       get-contents (numbered_at u.at g.position) g.cells p

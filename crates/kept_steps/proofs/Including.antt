@@ -34,7 +34,7 @@ use Rattle.shift_core.specs.Maps.{PlaceMap, entry_after, entry_before}
 use Rattle.shift_core.specs.Tables.{place_after, place_before}
 use Rattle.shift_core.specs.declared.shift.Shift.{Shift}
 use Rattle.kept_steps.specs.Fits.{changes_in, steps_of}
-use Rattle.kept_steps.specs.InUse.{AheadHas, HasFormula, PastHas}
+use Rattle.kept_steps.specs.InUse.{AheadHas, HasFormula, HereHas, OnHas, PastHas}
 use Rattle.kept_steps.specs.Timeline.{Timeline}
 use Rattle.kept_steps.specs.declared.entry.Entry.{Entry}
 use Rattle.kept_steps.specs.declared.listing.Side.TheVariants.{Before, After}
@@ -229,6 +229,29 @@ module _ (line : Line) where
       go (inr e) = rest (after-part p f id e)
 
 module _ (t : Timeline) where
+  -- what frames along the parts have is listed by the parts, or the frame at the end has it
+  pub here-parts : (ps : List Part) (f : Frame) (id : ℕ) → HereHas t (changes_of ps) f id → (has (flat_map (ids_on Before) ps) id ≡ true) ⊎ HasFormula f id
+  here-parts [] f id h = inr h
+  here-parts (p ∷ ps) f id (inl h) = go (here-parts ps f id h)
+    where
+      go : (has (flat_map (ids_on Before) ps) id ≡ true) ⊎ HasFormula f id → (has (flat_map (ids_on Before) (p ∷ ps)) id ≡ true) ⊎ HasFormula f id
+      go (inl e) = inl (has-behind (ids_on Before p) (flat_map (ids_on Before) ps) id e)
+      go (inr e) = inr e
+  here-parts (p ∷ ps) f id (inr h) = before-parts t.line (p ∷ ps) f id h
+
+  on-parts : (ps : List Part) (f : Frame) (id : ℕ) → OnHas t (changes_of ps) f id → (has (flat_map (ids_on After) ps) id ≡ true) ⊎ HasFormula f id
+  on-parts [] f id h = inr h
+  on-parts (p ∷ ps) f id (inl h) = inr h
+  on-parts (p ∷ ps) f id (inr h) = go (on-parts ps (forth t.line (change_of p) f) id h)
+    where
+      rest : (has (ids_on After p) id ≡ true) ⊎ HasFormula f id → (has (flat_map (ids_on After) (p ∷ ps)) id ≡ true) ⊎ HasFormula f id
+      rest (inl e) = inl (has-front (ids_on After p) (flat_map (ids_on After) ps) id e)
+      rest (inr e) = inr e
+
+      go : (has (flat_map (ids_on After) ps) id ≡ true) ⊎ HasFormula (forth t.line (change_of p) f) id → (has (flat_map (ids_on After) (p ∷ ps)) id ≡ true) ⊎ HasFormula f id
+      go (inl e) = inl (has-behind (ids_on After p) (flat_map (ids_on After) ps) id e)
+      go (inr e) = rest (after-part t.line p f id e)
+
   past-steps : (es : List Entry) (f : Frame) (id : ℕ) → PastHas t f (map changes_in es) id → (has (flat_map (ids_of_step Before) es) id ≡ true) ⊎ HasFormula f id
   past-steps [] f id h = absurd h
   past-steps (e ∷ es) f id h = go (past-steps es (back_all t.line (changes_in e) f) id) h
@@ -241,8 +264,8 @@ module _ (t : Timeline) where
       rest (inl x) = inl (has-behind (ids_of_step Before e) (flat_map (ids_of_step Before) es) id x)
       rest (inr x) = here (before-parts t.line e.parts.items f id x)
 
-      go : (PastHas t (back_all t.line (changes_in e) f) (map changes_in es) id → (has (flat_map (ids_of_step Before) es) id ≡ true) ⊎ HasFormula (back_all t.line (changes_in e) f) id) → HasFormula (back_all t.line (changes_in e) f) id ⊎ PastHas t (back_all t.line (changes_in e) f) (map changes_in es) id → (has (flat_map (ids_of_step Before) (e ∷ es)) id ≡ true) ⊎ HasFormula f id
-      go again (inl x) = here (before-parts t.line e.parts.items f id x)
+      go : (PastHas t (back_all t.line (changes_in e) f) (map changes_in es) id → (has (flat_map (ids_of_step Before) es) id ≡ true) ⊎ HasFormula (back_all t.line (changes_in e) f) id) → HereHas t (changes_in e) f id ⊎ PastHas t (back_all t.line (changes_in e) f) (map changes_in es) id → (has (flat_map (ids_of_step Before) (e ∷ es)) id ≡ true) ⊎ HasFormula f id
+      go again (inl x) = here (here-parts e.parts.items f id x)
       go again (inr x) = rest (again x)
 
   ahead-steps : (es : List Entry) (f : Frame) (id : ℕ) → AheadHas t f (map changes_in es) id → (has (flat_map (ids_of_step After) es) id ≡ true) ⊎ HasFormula f id
@@ -257,8 +280,8 @@ module _ (t : Timeline) where
       rest (inl x) = inl (has-behind (ids_of_step After e) (flat_map (ids_of_step After) es) id x)
       rest (inr x) = here (after-parts t.line e.parts.items f id x)
 
-      go : (AheadHas t (forth_all t.line (changes_in e) f) (map changes_in es) id → (has (flat_map (ids_of_step After) es) id ≡ true) ⊎ HasFormula (forth_all t.line (changes_in e) f) id) → HasFormula (forth_all t.line (changes_in e) f) id ⊎ AheadHas t (forth_all t.line (changes_in e) f) (map changes_in es) id → (has (flat_map (ids_of_step After) (e ∷ es)) id ≡ true) ⊎ HasFormula f id
-      go again (inl x) = here (after-parts t.line e.parts.items f id x)
+      go : (AheadHas t (forth_all t.line (changes_in e) f) (map changes_in es) id → (has (flat_map (ids_of_step After) es) id ≡ true) ⊎ HasFormula (forth_all t.line (changes_in e) f) id) → OnHas t (changes_in e) f id ⊎ AheadHas t (forth_all t.line (changes_in e) f) (map changes_in es) id → (has (flat_map (ids_of_step After) (e ∷ es)) id ≡ true) ⊎ HasFormula f id
+      go again (inl x) = here (on-parts e.parts.items f id x)
       go again (inr x) = rest (again x)
 
   -- what frames before the steps have is listed by the steps, or the present frame has it

@@ -1,5 +1,6 @@
 mod Entries
 mod Frames
+mod GridCells
 mod Walks
 mod Agreeing
 mod Lists
@@ -17,3 +18,4 @@ mod CellsTurned
 mod Operating
 mod OperationsTurned
 mod NamesTurned
+mod PartsTurned

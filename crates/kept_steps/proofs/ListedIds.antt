@@ -12,13 +12,14 @@ use Rattle.grid_store.specs.declared.cell.Cell.{Cell}
 use Rattle.kept_book.specs.Frame.{Frame}
 use Rattle.name_table.specs.declared.key.NameKey.{NameKey}
 use Rattle.undo_book.specs.History.{History}
-use Rattle.kept_steps.specs.Fits.{start_of}
-use Rattle.kept_steps.specs.InUse.{HasAny, HasFormula}
+use Rattle.kept_steps.specs.Fits.{open_changes, start_of}
+use Rattle.kept_steps.specs.InUse.{HasAny, HasFormula, HereHas}
 use Rattle.kept_steps.specs.Timeline.{Timeline}
 use Rattle.kept_steps.specs.declared.entry.Entry.{Entry}
 use Rattle.kept_steps.specs.declared.listing.Side.TheVariants.{Before, After}
 use Rattle.kept_steps.specs.internal.Listed.{Adds, has, id_in, ids_of_step, ids_on, ids_open}
-use Rattle.kept_steps.proofs.Including.{ahead-listed, before-parts, cells-listed, names-listed, past-listed}
+use Rattle.kept_steps.proofs.Including.{ahead-listed, cells-listed, here-parts, names-listed, past-listed}
+use Rattle.kept_steps.proofs.Walks.{before_has}
 
 or-none : (a : Bool) → a ≡ (a || false)
 or-none true = refl
@@ -86,25 +87,24 @@ module _ {S : Type 0} where
     now-there : (id : ℕ) → HasFormula f id → contains nat_eq d id ≡ true
     now-there id h = from-done id (kept-in (flat_map (ids_of_step Before) steps.done) a b done id (present id h))
 
-    start-there : (id : ℕ) → HasFormula (start_of t batch f) id → contains nat_eq d id ≡ true
-    start-there id h = by batch refl h
+    along-there : (id : ℕ) → HereHas t (open_changes batch) f id → contains nat_eq d id ≡ true
+    along-there id h = by batch refl h
       where
         listed : (e : Entry) → batch ≡ Some e → (has (flat_map (ids_on Before) e.parts.items) id ≡ true) ⊎ HasFormula f id → contains nat_eq d id ≡ true
         listed e is (inl x) = come-in (ids_open batch) c d begun id (subst (λ o. has (ids_open o) id ≡ true) (sym is) x)
         listed e is (inr x) = now-there id x
 
-        by : (o : Option Entry) → batch ≡ o → HasFormula (start_of t o f) id → contains nat_eq d id ≡ true
+        by : (o : Option Entry) → batch ≡ o → HereHas t (open_changes o) f id → contains nat_eq d id ≡ true
         by None is x = now-there id x
-        by (Some e) is x = listed e is (before-parts t.line e.parts.items f id x)
+        by (Some e) is x = listed e is (here-parts t e.parts.items f id x)
 
     pub in-use-there : (id : ℕ) → HasAny t f steps batch id → contains nat_eq d id ≡ true
-    in-use-there id (inl (inl h)) = now-there id h
-    in-use-there id (inl (inr h)) = start-there id h
+    in-use-there id (inl h) = along-there id h
     in-use-there id (inr (inl h)) = by (past-listed t steps.done (start_of t batch f) id h)
       where
         by : (has (flat_map (ids_of_step Before) steps.done) id ≡ true) ⊎ HasFormula (start_of t batch f) id → contains nat_eq d id ≡ true
         by (inl x) = from-done id (come-in (flat_map (ids_of_step Before) steps.done) a b done id x)
-        by (inr x) = start-there id x
+        by (inr x) = along-there id (before_has t (open_changes batch) f id x)
     in-use-there id (inr (inr h)) = by (ahead-listed t steps.undone f id h)
       where
         by : (has (flat_map (ids_of_step After) steps.undone) id ≡ true) ⊎ HasFormula f id → contains nat_eq d id ≡ true

@@ -29,7 +29,7 @@ use Rattle.kept_book.specs.Walk.{back_all, forth_all}
 use Rattle.kept_book.specs.declared.book.Book.{Book}
 use Rattle.kept_steps.proofs.CellsTurned.{first-lead, first-led}
 use Rattle.kept_steps.proofs.OperationsTurned.{first-stand, reached}
-use Rattle.kept_steps.proofs.Walks.{leads_here, leads_on}
+use Rattle.kept_steps.proofs.Walks.{after_whole, leads_here, leads_on}
 use Rattle.kept_steps.specs.Fits.{Fits, start_of, steps_of}
 use Rattle.kept_steps.specs.Steps.{AllLeadOn, AllLedHere, AreAhead, ArePast}
 use Rattle.kept_steps.specs.Timeline.{StandIn, Timeline, book_in, timeline_of}
@@ -54,7 +54,7 @@ pub record IsOfName (c : Change) (key : NameKey) (before after : Option ℕ) : T
   pub sheets : c.sheets ≡ []
   pub names : c.names ≡ (key, (before, after)) ∷ []
 
-of-name : (c : Change) (key : NameKey) (before after : Option ℕ) → name_alone c ≡ Some (key, (before, after)) → IsOfName c key before after
+pub of-name : (c : Change) (key : NameKey) (before after : Option ℕ) → name_alone c ≡ Some (key, (before, after)) → IsOfName c key before after
 of-name c key before after = by (nat_lt c.from c.to) (lists_names_alone c) refl refl
   where
     by : (lt lists : Bool) → nat_lt c.from c.to ≡ lt → lists_names_alone c ≡ lists → cond (lt || not lists) None (only c.names) ≡ Some (key, (before, after)) → IsOfName c key before after
@@ -171,7 +171,7 @@ module _ (t : Timeline) (h : AreWords t.words) (key : NameKey) (before after : O
 -- formulas stand in the frame after the next step
 next-stand : (t : Timeline) (f : Frame) (es : List (List Change)) → StandIn t f → AreAhead t f es → StandIn t (forth_all t.line (first_step es) f)
 next-stand t f [] stand ahead = stand
-next-stand t f (e ∷ es) stand ahead = ahead.1
+next-stand t f (e ∷ es) stand ahead = (after_whole t e f ahead.1).stand
 
 module _ (old new : Book) (h : History Entry) (b : Option Entry) (fits : Fits old h b) (standings : (id k : ℕ) → at_of new id k ≡ at_of old id k) (words : words_of new.names ≡ words_of old.names) where
   -- after a step back

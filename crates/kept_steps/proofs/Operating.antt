@@ -4,16 +4,12 @@ use Rattle.std.proofs.lemmas.Bool.{false≢true}
 use Rattle.std.proofs.lemmas.Option.{none-some}
 use Rattle.std.specs.FinMap as fin
 use Rattle.std.specs.List.{list_any}
-use Rattle.std.specs.Prelude.{nat_eq, option_and_then}
+use Rattle.std.specs.Prelude.{IfSome, nat_eq, option_and_then}
 use Rattle.std.specs.HashMap as hash
 use Rattle.cell_addr.proofs.Places.{place_cmp-IsTotalOrder, place_cmp-IsAntisymmetric}
 use Rattle.cell_addr.specs.Place.{same_place}
 use Rattle.cell_addr.specs.declared.place.Place.{Place}
-use Rattle.grid_store.proofs.KeyPlaces.{inside_key}
-use Rattle.grid_store.proofs.Views.{key_of_seen}
-use Rattle.grid_store.specs.Grid.{cells_of}
 use Rattle.grid_store.specs.declared.cell.Cell.{Cell}
-use Rattle.grid_store.specs.declared.grid.Grid.{Grid}
 use Rattle.lazy_store.proofs.Facts.{standings-follow}
 use Rattle.lazy_store.proofs.Stepping.{lowest-below}
 use Rattle.lazy_store.specs.Kept.{at}
@@ -138,11 +134,6 @@ module _ (store : Lazy) (words : Words) (h : AreWords words) (s : Shift) (f g : 
       ∙ moved-book s f g some some words h some-next sound shown-inside some-stand position cells sheets gone
       ∙ ap (shifted s) some-shown
 
--- ---- the cells of a grid are on the sheets
-
-pub grid-inside : (grid : Grid Cell) → AreInside (cells_of grid)
-grid-inside grid p has = let key = key_of_seen grid.rows grid.cols grid.cells.entries p has in inside_key grid.rows grid.cols grid.rows_limit grid.cols_limit p key.0 key.1
-
 -- ---- a cell that the operation loses is one of those that were listed
 
 lost-listed : (s : Shift) (lost : List (Place × Cell)) (m : PlaceMap Cell) (p : Place) → IsSound s → AreInside m → place_after s p ≡ None → IsSome (fin.get (restored_map s lost m) p) → list_any (same_place p) (places_of lost) ≡ true
@@ -164,6 +155,11 @@ lost-listed s lost m p sound inside gone has = by (list_any (same_place p) (plac
 module _ (b : Book) where
   abbrev t : Timeline
   t = timeline_of b
+
+  -- the operation of a change can be done
+  pub shift-sound : (c : Change) (o : Option Shift) → o ≡ shift_of t.line c → IfSome o IsSound
+  shift-sound c None is = tt
+  shift-sound c (Some s) is = b.lazy.sound c.from s (shift-here t.line c s (sym is))
 
   operates-one : (c : Change) (s : Shift) (f g : Frame) → Joins t.line t.words c f g → StandIn t f → AreInside f.cells → shift_of t.line c ≡ Some s → IsSound s × (book_in t g ≡ shifted s (book_in t f))
   operates-one c s f g joins stand inside is =

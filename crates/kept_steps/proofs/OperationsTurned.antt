@@ -14,13 +14,14 @@ use Rattle.kept_steps.specs.Timeline.{StandIn, Timeline, book_in, timeline_of}
 use Rattle.kept_steps.specs.Turned.{ListsLost, Operates, first_step}
 use Rattle.kept_steps.specs.declared.entry.Entry.{Entry}
 use Rattle.kept_steps.proofs.CellsTurned.{first-lead, first-led}
-use Rattle.kept_steps.proofs.Operating.{grid-inside, lists-lost, operates}
-use Rattle.kept_steps.proofs.Walks.{leads_here, leads_on}
+use Rattle.kept_steps.proofs.GridCells.{grid-inside}
+use Rattle.kept_steps.proofs.Operating.{lists-lost, operates}
+use Rattle.kept_steps.proofs.Walks.{before_whole, leads_here, leads_on}
 
 -- formulas stand in the frame before the first step
 pub first-stand : (t : Timeline) (f : Frame) (es : List (List Change)) → StandIn t f → ArePast t f es → StandIn t (back_all t.line (first_step es) f)
 first-stand t f [] stand past = stand
-first-stand t f (e ∷ es) stand past = past.1
+first-stand t f (e ∷ es) stand past = (before_whole t e f past.1).stand
 
 module _ (old new : Book) (h : History Entry) (b : Option Entry) (fits : Fits old h b) (standings : (id k : ℕ) → at_of new id k ≡ at_of old id k) (words : words_of new.names ≡ words_of old.names) where
   abbrev back_step : List Change

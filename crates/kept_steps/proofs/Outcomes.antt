@@ -14,6 +14,7 @@ use Rattle.kept_steps.specs.Timeline.{Agree, timeline_of}
 use Rattle.kept_steps.specs.declared.entry.Entry.{Entry}
 use Rattle.kept_steps.specs.internal.Noted.{Notes, SameBatch}
 use Rattle.kept_steps.proofs.Agreeing.{furthest_last, oldest_first}
+use Rattle.kept_steps.proofs.GridCells.{grid-inside}
 use Rattle.kept_steps.proofs.Sessions.{any_formula, noted, stays}
 use Rattle.kept_steps.proofs.Walks.{earlier}
 
@@ -60,7 +61,7 @@ made old new h h2 b room b2 s n c fits batch makes notes first top =
       words = makes.keeps.known;
     } in
     let ready = unchanged old old h b room s n fits (itself old) batch in
-    let after = noted t u old.lazy.line.first (last new.lazy.line) (last old.lazy.line) (frame_of old) (frame_of new) c agree makes.joins makes.stand s n h h2 room b2 ready.0 notes top in (
+    let after = noted t u old.lazy.line.first (last new.lazy.line) (last old.lazy.line) (frame_of old) (frame_of new) c agree makes.joins (record { stand = makes.stand; inside = grid-inside new.grid }) s n h h2 room b2 ready.0 notes top in (
       subst (λ k. AreSteps u k (last new.lazy.line) (frame_of new) h2 b2) (sym first) after.0,
       after.1 ∙ ap (changed (workbook new)) ready.1,
     )

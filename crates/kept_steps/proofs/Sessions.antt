@@ -13,13 +13,13 @@ use Rattle.kept_book.specs.Kept.{changes_of}
 use Rattle.kept_book.specs.Walk.{back_all, forth_all}
 use Rattle.kept_steps.specs.Fits.{AreSteps, batch_of, changes_in, has_any, open_changes, session_of, start_of, steps_of}
 use Rattle.kept_steps.specs.InUse.{AheadHas, HasAny, HasFormula, PastHas}
-use Rattle.kept_steps.specs.Steps.{AllLedHere, AreAhead, ArePast, books_ahead, books_past, furthest, oldest}
-use Rattle.kept_steps.specs.Timeline.{Agree, StandIn, Timeline, book_in}
+use Rattle.kept_steps.specs.Steps.{AllLedHere, AreAhead, ArePast, AreWholeHere, IsWhole, books_ahead, books_past, furthest, oldest}
+use Rattle.kept_steps.specs.Timeline.{Agree, Timeline, book_in}
 use Rattle.kept_steps.specs.declared.entry.Entry.{Entry}
 use Rattle.kept_steps.specs.internal.Noted.{Adds, Closes, ClosesWith, Notes, SameBatch, SameSteps}
-use Rattle.kept_steps.proofs.Agreeing.{ahead_same, all_led_same, book_same, furthest_last, oldest_first, past_same, stand_same}
+use Rattle.kept_steps.proofs.Agreeing.{ahead_same, all_led_same, book_same, furthest_last, oldest_first, past_same, stand_same, whole_here_same, whole_same}
 use Rattle.kept_steps.proofs.Lists.{books_taken, oldest_taken, past_taken, steps_end, steps_pushed}
-use Rattle.kept_steps.proofs.Walks.{all_lead, all_led, earlier, led, led_more, leads_here, leads_on}
+use Rattle.kept_steps.proofs.Walks.{after_whole, all_lead, all_led, before_has, before_whole, earlier, here_has, here_whole, led, led_more, leads_here, leads_on, whole_here, whole_more, whole_on}
 
 -- the session after a call, with steps that fit it
 abbrev pub Becomes : Timeline → ℕ → ℕ → Frame → History Entry → Option Entry → Bool → ℕ → State → Type 0
@@ -35,7 +35,7 @@ has-append (d ∷ cs) c = refl
 
 -- ---- a change is noted
 
-module _ (t u : Timeline) (first end was : ℕ) (f g : Frame) (c : Change) (agree : Agree any_formula 0 f.position t u) (joins : Joins u.line u.words c f g) (stand : StandIn u g) (s : Bool) (n : ℕ) where
+module _ (t u : Timeline) (first end was : ℕ) (f g : Frame) (c : Change) (agree : Agree any_formula 0 f.position t u) (joins : Joins u.line u.words c f g) (whole : IsWhole u g) (s : Bool) (n : ℕ) where
   at_end : (x : ℕ) → 0 ≤ x
   at_end x = omega arith
 
@@ -53,16 +53,16 @@ module _ (t u : Timeline) (first end was : ℕ) (f g : Frame) (c : Change) (agre
       let pushed : steps_of h2.done ≡ take h.limit ((c ∷ []) ∷ es) = ap steps_of adds.2 ∙ steps_pushed h.limit h.done adds.0 ∙ ap (λ cs. take h.limit (cs ∷ es)) adds.1 in
       let none : steps_of h2.undone ≡ [] = ap steps_of adds.3 in
       let shown : book_in u f ≡ book_in t f = book_same any_formula 0 f.position t u agree f (λ id x. tt) (at_end _) within fits.stand in
-      let long : ArePast u g ((c ∷ []) ∷ es) = (here, subst (StandIn u) (sym joins.before) (stand_same any_formula 0 f.position t u agree f (λ id x. tt) (at_end _) within fits.stand), subst (λ x. ArePast u x es) (sym joins.before) past.0) in
+      let long : ArePast u g ((c ∷ []) ∷ es) = (here, (whole, subst (IsWhole u) (sym joins.before) (whole_same any_formula 0 f.position t u agree f (λ id x. tt) (at_end _) within fits.whole)), subst (λ x. ArePast u x es) (sym joins.before) past.0) in
       let books : books_past u g ((c ∷ []) ∷ es) ≡ book_in t f ∷ books_past t f es =
       ap (λ x. book_in u x ∷ books_past u x es) joins.before ∙ (λ i. shown i ∷ past.1 i) in
       let start : (oldest u g ((c ∷ []) ∷ es)).position ≡ (oldest t f es).position = ap (λ x. (oldest u x es).position) joins.before ∙ ap (λ (x : Frame). x.position) past.2 in
       let later = oldest_taken u h.limit g ((c ∷ []) ∷ es) long in
       let base = fits.base in (
         record {
-          stand = stand;
+          stand = whole.stand;
           led = tt;
-          start = stand;
+          whole = whole;
           past = subst (ArePast u g) (sym pushed) (past_taken u h.limit g ((c ∷ []) ∷ es) long);
           ahead = subst (AreAhead u g) (sym none) tt;
           base = subst (λ l. first ≤ (oldest u g l).position) (sym pushed) (omega (arith, later, start, base));
@@ -94,7 +94,7 @@ module _ (t u : Timeline) (first end was : ℕ) (f g : Frame) (c : Change) (agre
       let more = led_more u cs c f g begun_steps.0 joins in
       let back : back_all u.line (changes_in b2) g ≡ x = ap (λ l. back_all u.line l g) grown ∙ more.1 ∙ begun_steps.1 in
       let past = past_same any_formula 0 f.position t u agree x es (λ id y. tt) (at_end _) upto fits.past in
-      let shown : book_in u x ≡ book_in t x = book_same any_formula 0 f.position t u agree x (λ id y. tt) (at_end _) upto fits.start in
+      let shown : book_in u x ≡ book_in t x = book_same any_formula 0 f.position t u agree x (λ id y. tt) (at_end _) upto (before_whole t cs f fits.whole).stand in
       let kept : steps_of h2.done ≡ es = ap steps_of done in
       let none : steps_of h2.undone ≡ [] = ap steps_of undone in
       let any : has_any (changes_in b2) ≡ true = ap has_any grown ∙ has-append cs c in
@@ -102,9 +102,9 @@ module _ (t u : Timeline) (first end was : ℕ) (f g : Frame) (c : Change) (agre
       (λ i. (oldest u (back i) (kept i)).position) ∙ ap (λ (y : Frame). y.position) past.2 in
       let base = fits.base in (
         record {
-          stand = stand;
+          stand = whole.stand;
           led = subst (λ l. AllLedHere u l g) (sym grown) more.0;
-          start = subst (StandIn u) (sym back) (stand_same any_formula 0 f.position t u agree x (λ id y. tt) (at_end _) upto fits.start);
+          whole = subst (λ l. AreWholeHere u l g) (sym grown) (whole_more u cs c f g begun_steps.0 joins (whole_here_same any_formula 0 f.position t u agree cs f (λ id y. tt) (at_end _) within fits.led fits.whole) whole);
           past = subst (λ y. ArePast u y (steps_of h2.done)) (sym back) (subst (ArePast u x) (sym kept) past.0);
           ahead = subst (AreAhead u g) (sym none) tt;
           base = omega (arith, start, base);
@@ -163,8 +163,8 @@ stays_in_use among low t u was first end f h b b2 s n agree fits all under from 
     let low_now : low ≤ f.position = omega (arith, low_start, upto) in
     let past_all : (id : ℕ) → PastHas t x es id → among id = λ id y. all id (inr (inl y)) in
     let ahead_all : (id : ℕ) → AheadHas t f us id → among id = λ id y. all id (inr (inr y)) in
-    let now_all : (id : ℕ) → HasFormula f id → among id = λ id y. all id (inl (inl y)) in
-    let start_all : (id : ℕ) → HasFormula x id → among id = λ id y. all id (inl (inr y)) in
+    let now_all : (id : ℕ) → HasFormula f id → among id = λ id y. all id (inl (here_has t cs f id y)) in
+    let start_all : (id : ℕ) → HasFormula x id → among id = λ id y. all id (inl (before_has t cs f id y)) in
     let a = agree f.position in
     let same_open = open_same b b2 same in
     let led = all_led_same among low f.position t u a cs f low_start now fits.led in
@@ -174,14 +174,14 @@ stays_in_use among low t u was first end f h b b2 s n agree fits all under from 
     let last : high ≤ high = omega arith in
     let ahead = ahead_same among low high t u (agree high) f us ahead_all low_now last fits.ahead in
     let shown = book_same among low f.position t u a f now_all low_now now fits.stand in
-    let begun = book_same among low f.position t u a x start_all low_start upto fits.start in
+    let begun = book_same among low f.position t u a x start_all low_start upto (before_whole t cs f fits.whole).stand in
     let oldest_is : (oldest u (start_of u b2 f) es).position ≡ (oldest t x es).position = ap (λ y. (oldest u y es).position) start ∙ ap (λ (y : Frame). y.position) past.2 in
     let furthest_is : (furthest u f us).position ≡ high = ap (λ (y : Frame). y.position) ahead.2 in
     let top = fits.top in (
       record {
         stand = stand_same among low f.position t u a f now_all low_now now fits.stand;
         led = subst (λ l. AllLedHere u l f) (sym same_open) led.0;
-        start = subst (StandIn u) (sym start) (stand_same among low f.position t u a x start_all low_start upto fits.start);
+        whole = subst (λ l. AreWholeHere u l f) (sym same_open) (whole_here_same among low f.position t u a cs f (λ id y. all id (inl y)) low_start now fits.led fits.whole);
         past = subst (λ y. ArePast u y es) (sym start) past.0;
         ahead = ahead.0;
         base = omega (arith, oldest_is, from);
@@ -219,16 +219,16 @@ module _ (t : Timeline) (first end : ℕ) (f g : Frame) (h : History Entry) (s :
       let left : steps_of (stepped_back h).done ≡ steps_of ys = ap (λ l. steps_of (take (length l - 1) l)) ends ∙ ap steps_of (all_but_last-end ys e) in
       let next : steps_of (stepped_back h).undone ≡ cs ∷ steps_of h.undone = ap (λ l. steps_of (h.undone ++ last_of 1 l)) ends ∙ ap (λ l. steps_of (h.undone ++ l)) (last_of-end ys e) ∙ steps_end h.undone e in
       let on = all_lead t cs b f (leads_here t cs f past.0) in
-      let ahead : AreAhead t b (cs ∷ steps_of h.undone) = (on.0, subst (StandIn t) (sym on.1) fits.stand, subst (λ y. AreAhead t y (steps_of h.undone)) (sym on.1) fits.ahead) in
+      let ahead : AreAhead t b (cs ∷ steps_of h.undone) = (on.0, whole_on t cs f past.0 past.1, subst (λ y. AreAhead t y (steps_of h.undone)) (sym on.1) fits.ahead) in
       let base = subst (λ l. first ≤ (oldest t f l).position) done fits.base in
       let top = fits.top in
       let last : (furthest t b (cs ∷ steps_of h.undone)).position ≡ (furthest t f (steps_of h.undone)).position = ap (λ y. (furthest t y (steps_of h.undone)).position) on.1 in
       let books : books_ahead t b (cs ∷ steps_of h.undone) ≡ book_in t f ∷ books_ahead t f (steps_of h.undone) = ap (λ y. book_in t y ∷ books_ahead t y (steps_of h.undone)) on.1 in
       let known : (session_of t f h None s n).undo ≡ book_in t b ∷ books_past t b (steps_of ys) = ap (books_past t f) done in (
         subst (λ y. AreSteps t first end y (stepped_back h) None) (sym is) (record {
-          stand = past.1;
+          stand = (before_whole t cs f past.1).stand;
           led = tt;
-          start = past.1;
+          whole = before_whole t cs f past.1;
           past = subst (ArePast t b) (sym left) past.2;
           ahead = subst (AreAhead t b) (sym next) ahead;
           base = subst (λ l. first ≤ (oldest t b l).position) (sym left) base;
@@ -259,16 +259,16 @@ module _ (t : Timeline) (first end : ℕ) (f g : Frame) (h : History Entry) (s :
       let left : steps_of (stepped_forward h).undone ≡ steps_of ys = ap (λ l. steps_of (take (length l - 1) l)) ends ∙ ap steps_of (all_but_last-end ys e) in
       let next : steps_of (stepped_forward h).done ≡ cs ∷ steps_of h.done = ap (λ l. steps_of (h.done ++ last_of 1 l)) ends ∙ ap (λ l. steps_of (h.done ++ l)) (last_of-end ys e) ∙ steps_end h.done e in
       let here = all_led t cs f b (leads_on t cs f ahead.0) in
-      let past : ArePast t b (cs ∷ steps_of h.done) = (here.0, subst (StandIn t) (sym here.1) fits.stand, subst (λ y. ArePast t y (steps_of h.done)) (sym here.1) fits.past) in
+      let past : ArePast t b (cs ∷ steps_of h.done) = (here.0, whole_here t cs f ahead.0 ahead.1, subst (λ y. ArePast t y (steps_of h.done)) (sym here.1) fits.past) in
       let base = fits.base in
       let top = subst (λ l. (furthest t f l).position ≤ end) undone_steps fits.top in
       let start : (oldest t b (cs ∷ steps_of h.done)).position ≡ (oldest t f (steps_of h.done)).position = ap (λ y. (oldest t y (steps_of h.done)).position) here.1 in
       let books : books_past t b (cs ∷ steps_of h.done) ≡ book_in t f ∷ books_past t f (steps_of h.done) = ap (λ y. book_in t y ∷ books_past t y (steps_of h.done)) here.1 in
       let known : (session_of t f h None s n).redo ≡ book_in t b ∷ books_ahead t b (steps_of ys) = ap (books_ahead t f) undone_steps in (
         subst (λ y. AreSteps t first end y (stepped_forward h) None) (sym is) (record {
-          stand = ahead.1;
+          stand = (after_whole t cs f ahead.1).stand;
           led = tt;
-          start = ahead.1;
+          whole = after_whole t cs f ahead.1;
           past = subst (ArePast t b) (sym next) past;
           ahead = subst (AreAhead t b) (sym left) ahead.2;
           base = subst (λ l. first ≤ (oldest t b l).position) (sym next) (omega (arith, start, base));
@@ -299,7 +299,7 @@ opens t first end f h b s n fits none =
       record {
         stand = fits.stand;
         led = subst (λ l. AllLedHere t l f) (sym none) tt;
-        start = subst (StandIn t) (sym start) fits.stand;
+        whole = subst (λ l. AreWholeHere t l f) (sym none) fits.whole;
         past = subst (λ y. ArePast t y (steps_of h.done)) (sym start) fits.past;
         ahead = fits.ahead;
         base = subst (λ y. first ≤ (oldest t y (steps_of h.done)).position) (sym start) fits.base;
@@ -328,7 +328,7 @@ module _ (t : Timeline) (first end : ℕ) (f : Frame) (h g : History Entry) (s :
         record {
           stand = fits.stand;
           led = tt;
-          start = fits.stand;
+          whole = fits.whole;
           past = subst (ArePast t f) (sym done) fits.past;
           ahead = subst (AreAhead t f) (sym next) fits.ahead;
           base = subst (λ l. first ≤ (oldest t f l).position) (sym done) fits.base;
@@ -361,7 +361,7 @@ module _ (t : Timeline) (first end : ℕ) (f : Frame) (h g : History Entry) (s :
       let plain : AreSteps t first end f h None = record {
         stand = fits.stand;
         led = tt;
-        start = fits.stand;
+        whole = here_whole t (changes_in b) f fits.whole;
         past = subst (λ y. ArePast t y (steps_of h.done)) start fits.past;
         ahead = fits.ahead;
         base = subst (λ y. first ≤ (oldest t y (steps_of h.done)).position) start fits.base;
@@ -391,7 +391,7 @@ module _ (t : Timeline) (first end : ℕ) (f : Frame) (h g : History Entry) (s :
       let undone_none : h.undone ≡ [] = empty_list h.undone (fits.cleared any) in
       let pushed : steps_of g.done ≡ take h.limit (ds ∷ es) = ap steps_of closes.2 ∙ steps_pushed h.limit h.done closes.0 ∙ ap (λ l. take h.limit (l ∷ es)) (closes.1 ∙ sym is) in
       let none : steps_of g.undone ≡ [] = ap steps_of closes.3 in
-      let long : ArePast t f (ds ∷ es) = (fits.led, fits.start, fits.past) in
+      let long : ArePast t f (ds ∷ es) = (fits.led, fits.whole, fits.past) in
       let later = oldest_taken t h.limit f (ds ∷ es) long in
       let base = fits.base in
       let top = fits.top in
@@ -400,7 +400,7 @@ module _ (t : Timeline) (first end : ℕ) (f : Frame) (h g : History Entry) (s :
         record {
           stand = fits.stand;
           led = tt;
-          start = fits.stand;
+          whole = here_whole t ds f fits.whole;
           past = subst (ArePast t f) (sym pushed) (past_taken t h.limit f (ds ∷ es) long);
           ahead = subst (AreAhead t f) (sym none) tt;
           base = subst (λ l. first ≤ (oldest t f l).position) (sym pushed) (omega (arith, later, base));

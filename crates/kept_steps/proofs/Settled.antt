@@ -15,7 +15,7 @@ use Rattle.name_table.specs.Named.{names_of, words_of}
 use Rattle.shift_core.specs.declared.shift.Shift.{Shift}
 use Rattle.shift_line.specs.Track.{Track, forgotten, last, pushed, shift_at, with_spare}
 use Rattle.undo_book.specs.History.{History}
-use Rattle.kept_book.specs.Change.{Change}
+use Rattle.kept_book.specs.Change.{Change, forth}
 use Rattle.kept_book.specs.Frame.{Frame}
 use Rattle.formula_tree.specs.Term.{Term}
 use Rattle.formula_tree.specs.declared.reference.Home.{Home}
@@ -26,10 +26,10 @@ use Rattle.kept_book.specs.Kept.{SameBook, frame_of}
 use Rattle.kept_book.specs.Walk.{back_all, forth_all}
 use Rattle.kept_book.specs.declared.book.Book.{Book}
 use Rattle.kept_steps.specs.Fits.{AreSteps, Fits, changes_in, open_changes, session_of, start_of, steps_of}
-use Rattle.kept_steps.specs.InUse.{AheadHas, HasAny, HasFormula, PastHas}
+use Rattle.kept_steps.specs.InUse.{AheadHas, HasAny, HasFormula, HereHas, OnHas, PastHas}
 use Rattle.kept_steps.specs.Kept.{ComeToBase, GoesOn, KeepsAtShift, KeepsFromBase}
 use Rattle.kept_steps.specs.Session.{base_of, line_settled, settles}
-use Rattle.kept_steps.specs.Steps.{AreAhead, ArePast, oldest}
+use Rattle.kept_steps.specs.Steps.{AllLeadOn, AllLedHere, AreAhead, ArePast, AreWholeHere, AreWholeOn, oldest}
 use Rattle.kept_steps.specs.Timeline.{Agree, StandIn, Timeline, timeline_of}
 use Rattle.kept_steps.specs.declared.entry.Entry.{Entry}
 use Rattle.kept_steps.specs.declared.session.Session.{Session}
@@ -91,15 +91,39 @@ module _ (t : Timeline) (id : ℕ) where
   stands-there f s (inl h) none = let x = standing_under (t.at id f.position) h.0 (s.cells h.0 id h.1) in none-some x.0 (sym none ∙ x.1)
   stands-there f s (inr h) none = let x = standing_of (t.at id f.position) _ (s.names h.0 id h.1).home in none-some x.0 (sym none ∙ x.1)
 
+  here-stands : (cs : List Change) (f : Frame) → AllLedHere t cs f → AreWholeHere t cs f → HereHas t cs f id → (j : ℕ) × ((back_all t.line cs f).position ≤ j) × (t.at id j ≢ None)
+  here-stands [] f led whole h = let e : f.position ≤ f.position = omega arith in (f.position, e, stands-there f whole.stand h)
+  here-stands (c ∷ cs) f led whole (inl h) =
+      let rest = here-stands cs f led.0 whole.0 h in
+      let low = rest.1 in
+      let to : c.to ≡ (back_all t.line cs f).position = led.1.same.position in
+      let order = led.1.order in
+      (rest.0, omega (arith, low, to, order), rest.2)
+  here-stands (c ∷ cs) f led whole (inr h) = let e : c.from ≤ c.from = omega arith in (c.from, e, stands-there (back_all t.line (c ∷ cs) f) whole.1.stand h)
+
+  on-stands : (cs : List Change) (f : Frame) → AllLeadOn t cs f → AreWholeOn t cs f → OnHas t cs f id → (j : ℕ) × (f.position ≤ j) × (t.at id j ≢ None)
+  on-stands [] f lead whole h = let e : f.position ≤ f.position = omega arith in (f.position, e, stands-there f whole.stand h)
+  on-stands (c ∷ cs) f lead whole (inl h) = let e : f.position ≤ f.position = omega arith in (f.position, e, stands-there f whole.0.stand h)
+  on-stands (c ∷ cs) f lead whole (inr h) =
+      let rest = on-stands cs (forth t.line c f) lead.1 whole.1 h in
+      let low : c.to ≤ rest.0 = rest.1 in
+      let from : c.from ≡ f.position = lead.0.same.position in
+      let order = lead.0.order in
+      (rest.0, omega (arith, low, from, order), rest.2)
+
   past-stands : (es : List (List Change)) (f : Frame) → ArePast t f es → PastHas t f es id → (j : ℕ) × ((oldest t f es).position ≤ j) × (t.at id j ≢ None)
   past-stands [] f past h = absurd h
-  past-stands (e ∷ es) f past (inl h) = let g = back_all t.line e f in (g.position, oldest_first t g es past.2, stands-there g past.1 h)
+  past-stands (e ∷ es) f past (inl h) =
+      let found = here-stands e f past.0 past.1 h in
+      let low = found.1 in
+      let behind = oldest_first t (back_all t.line e f) es past.2 in
+      (found.0, omega (arith, low, behind), found.2)
   past-stands (e ∷ es) f past (inr h) = past-stands es (back_all t.line e f) past.2 h
 
   ahead-stands : (es : List (List Change)) (f : Frame) (low : ℕ) → low ≤ f.position → AreAhead t f es → AheadHas t f es id → (j : ℕ) × (low ≤ j) × (t.at id j ≢ None)
   ahead-stands [] f low under ahead h = absurd h
   ahead-stands (e ∷ es) f low under ahead (inl h) =
-      let g = forth_all t.line e f in let on = further t e f ahead.0 in let from : low ≤ g.position = omega (arith, under, on) in (g.position, from, stands-there g ahead.1 h)
+      let found = on-stands e f ahead.0 ahead.1 h in let on = found.1 in (found.0, omega (arith, under, on), found.2)
   ahead-stands (e ∷ es) f low under ahead (inr h) =
       let g = forth_all t.line e f in let on = further t e f ahead.0 in let from : low ≤ g.position = omega (arith, under, on) in ahead-stands es g low from ahead.2 h
 
@@ -116,8 +140,10 @@ module _ (t : Timeline) (id : ℕ) where
       now = let upto = earlier t (open_changes b) f fits.led in omega (arith, behind, upto)
 
       by : HasAny t f h b id → (j : ℕ) × ((oldest t x (steps_of h.done)).position ≤ j) × (t.at id j ≢ None)
-      by (inl (inl y)) = (f.position, now, stands-there f fits.stand y)
-      by (inl (inr y)) = (x.position, behind, stands-there x fits.start y)
+      by (inl y) =
+          let found = here-stands (open_changes b) f fits.led fits.whole y in
+          let low : x.position ≤ found.0 = found.1 in
+          (found.0, omega (arith, low, behind), found.2)
       by (inr (inl y)) = past-stands (steps_of h.done) x fits.past y
       by (inr (inr y)) = ahead-stands (steps_of h.undone) f (oldest t x (steps_of h.done)).position now fits.ahead y
 

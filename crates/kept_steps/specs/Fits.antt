@@ -9,7 +9,7 @@ use Rattle.kept_book.specs.Frame.{Frame}
 use Rattle.kept_book.specs.Kept.{changes_of, frame_of}
 use Rattle.kept_book.specs.Walk.{back_all}
 use Rattle.kept_book.specs.declared.book.Book.{Book}
-use Rattle.kept_steps.specs.Steps.{AllLedHere, AreAhead, ArePast, books_ahead, books_past, furthest, oldest}
+use Rattle.kept_steps.specs.Steps.{AllLedHere, AreAhead, ArePast, AreWholeHere, books_ahead, books_past, furthest, oldest}
 use Rattle.kept_steps.specs.Timeline.{StandIn, Timeline, book_in, timeline_of}
 use Rattle.kept_steps.specs.declared.entry.Entry.{Entry}
 
@@ -53,11 +53,12 @@ session_of t f steps batch suspended next_sheet = record {
   clip = nothing;
 }
 
--- the steps are those of the frame: they led to it and lead on from it, on the line from the first position to the last
+-- the steps are those of the frame: they led to it and lead on from it, over whole frames, on the line from the first position to
+-- the last
 pub record AreSteps (t : Timeline) (first end : ℕ) (f : Frame) (steps : History Entry) (batch : Option Entry) : Type 0 where
   pub stand : StandIn t f
   pub led : AllLedHere t (open_changes batch) f
-  pub start : StandIn t (start_of t batch f)
+  pub whole : AreWholeHere t (open_changes batch) f
   pub past : ArePast t (start_of t batch f) (steps_of steps.done)
   pub ahead : AreAhead t f (steps_of steps.undone)
   pub base : first ≤ (oldest t (start_of t batch f) (steps_of steps.done)).position

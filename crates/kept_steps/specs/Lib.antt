@@ -6,4 +6,5 @@ pub mod Session
 pub mod Kept
 pub mod Reads
 pub mod Turned
+pub mod Parts
 pub mod internal

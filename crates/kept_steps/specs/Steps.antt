@@ -3,6 +3,7 @@ use Rattle.std.specs.Prelude.{◌≡◌, ◌≤◌, ⊤, List, [], ◌∷◌, So
 use Rattle.std.specs.FinMap as fin
 use Rattle.cell_addr.specs.declared.place.Place.{Place}
 use Rattle.name_table.specs.declared.key.NameKey.{NameKey}
+use Rattle.shift_core.specs.Maps.{AreInside}
 use Rattle.shift_core.specs.declared.shift.Shift.{Shift}
 use Rattle.book_model.specs.Workbook.{Workbook}
 use Rattle.kept_book.specs.Change.{AreKnown, Change, HaveSlots, LeadsBy, back, forth, shift_of}
@@ -44,15 +45,30 @@ abbrev pub AllLeadOn : Timeline → List Change → Frame → Type 0
 AllLeadOn t [] f = ⊤
 AllLeadOn t (c ∷ cs) f = LeadsOn t c f × AllLeadOn t cs (forth t.line c f)
 
--- steps that were done led to the frame, the newest first; in the frame before each of them the formulas stand
+-- a frame is whole: its formulas stand at their cells and names, and its cells are on the sheets
+pub record IsWhole (t : Timeline) (f : Frame) : Type 0 where
+  pub stand : StandIn t f
+  pub inside : AreInside f.cells
+
+-- so is each frame before, between and after changes that led to this one
+abbrev pub AreWholeHere : Timeline → List Change → Frame → Type 0
+AreWholeHere t [] f = IsWhole t f
+AreWholeHere t (c ∷ cs) f = AreWholeHere t cs f × IsWhole t (back_all t.line (c ∷ cs) f)
+
+-- and each before, between and after changes that lead on from it
+abbrev pub AreWholeOn : Timeline → List Change → Frame → Type 0
+AreWholeOn t [] f = IsWhole t f
+AreWholeOn t (c ∷ cs) f = IsWhole t f × AreWholeOn t cs (forth t.line c f)
+
+-- steps that were done led to the frame, the newest first, over frames that are whole
 abbrev pub ArePast : Timeline → Frame → List (List Change) → Type 0
 ArePast t f [] = ⊤
-ArePast t f (e ∷ es) = AllLedHere t e f × StandIn t (back_all t.line e f) × ArePast t (back_all t.line e f) es
+ArePast t f (e ∷ es) = AllLedHere t e f × AreWholeHere t e f × ArePast t (back_all t.line e f) es
 
--- steps that can be done lead on from it, the next one first
+-- steps that can be done lead on from it, the next one first, over frames that are whole
 abbrev pub AreAhead : Timeline → Frame → List (List Change) → Type 0
 AreAhead t f [] = ⊤
-AreAhead t f (e ∷ es) = AllLeadOn t e f × StandIn t (forth_all t.line e f) × AreAhead t (forth_all t.line e f) es
+AreAhead t f (e ∷ es) = AllLeadOn t e f × AreWholeOn t e f × AreAhead t (forth_all t.line e f) es
 
 -- the workbooks from before the steps, and from after them
 abbrev pub books_past : Timeline → Frame → List (List Change) → List Workbook

@@ -32,11 +32,10 @@ to_undo s = first_step (steps_of s.steps.done)
 abbrev pub to_redo : Session → List Change
 to_redo s = first_step (steps_of s.steps.undone)
 
--- a change of cells alone: it has no operation, and lists no name and no sheet
+-- a change of cells, or of which sheets there are: it has no operation, and lists no name
 pub record IsOfCells (c : Change) : Type 0 where
   pub position : c.to ≡ c.from
   pub names : c.names ≡ []
-  pub sheets : c.sheets ≡ []
 
 abbrev pub AreOfCells : List Change → Type 0
 AreOfCells [] = ⊤
@@ -46,9 +45,8 @@ AreOfCells (c ∷ cs) = IsOfCells c × AreOfCells cs
 abbrev pub is_listed : List Change → Place → Bool
 is_listed cs p = list_any (λ c. list_any (same_place p) (places_of c.replaced ++ places_of c.written)) cs
 
--- two workbooks are the same but for cells of these places
+-- two workbooks are the same but for cells of these places, and for their sheets
 pub record DifferAmong (places : Place → Bool) (b c : Workbook) : Type 0 where
-  pub sheets : c.sheets ≡ b.sheets
   pub names : c.names ≡ b.names
   pub cells : (p : Place) → places p ≡ false → fin.get c.cells p ≡ fin.get b.cells p
 

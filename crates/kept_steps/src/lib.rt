@@ -36,3 +36,4 @@ pub use entry::Entry;
 pub use session::Session;
 pub use settling::LEAST_SETTLED;
 pub use sweeping::LEAST_GROWTH;
+pub use turned::name_alone;

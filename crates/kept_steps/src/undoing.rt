@@ -13,6 +13,7 @@ use crate::session::Session;
 use std::alloc::AllocError;
 
 impl Session {
+    ghost use Rattle.kept_steps.specs.Parts.{Turns};
     ghost use Rattle.kept_steps.specs.Session.{state_of};
     ghost use Rattle.kept_steps.specs.Turned.{AreOfCells, DifferAmong, ListsLost, Operates, RenamesBack, RenamesForth, is_listed, to_redo, to_undo};
 
@@ -52,13 +53,15 @@ impl Session {
     }
 
     /// Takes the newest step back, if there is one; no batch is open. No formula is touched, and the line keeps its operations.
-    /// Where the step has no operation and lists no name and no sheet, no other cell changes than those that it lists. Where it is
+    /// Where the step has no operation and lists no name, no other cell changes than those that it lists, and no name. Where it is
     /// one structural operation ([`Session::operation_undone`]), that makes the workbook before this call of the one after it, and the
     /// step lists each cell that it loses. Where it is one change of a name ([`Session::name_undone`]), that name alone has another
-    /// formula. For want of memory the session is as it was.
+    /// formula. Where it is several changes, so it is of each of them, from one workbook between them to the next. For want of
+    /// memory the session is as it was.
     ///
     /// Costs the cells, names and sheets that the step lists, and what taking its operations back costs the grid; for a step of
-    /// several operations, of which one is structural, a copy of the grid.
+    /// several operations, of which one is structural, a copy of the grid; and for one that changes names or sheets a copy of their
+    /// table.
     pub fn undo(&mut self) -> Result<(), AllocError>
         requires closed { self.old.batch ≡ None }
         ensures ok { OnOk result (state_of self.new ≡ undone (state_of self.old).undo (state_of self.old)) }
@@ -68,6 +71,7 @@ impl Session {
         ensures operation { OnOk result (Operates (line_of self.old.book) (to_undo self.old) (state_of self.new).book (state_of self.old).book) }
         ensures lost { OnOk result (ListsLost (line_of self.old.book) (to_undo self.old) (state_of self.new).book) }
         ensures name { OnOk result (RenamesBack (words_of self.old.book.names) (to_undo self.old) (state_of self.old).book (state_of self.new).book) }
+        ensures parts { OnOk result (Turns (line_of self.old.book) (words_of self.old.book.names) (to_undo self.old) (state_of self.new).book (state_of self.old).book) }
         ensures words { words_of self.new.book.names ≡ words_of self.old.book.names }
         ensures line { OnOk result (self.new.book.lazy.line ≡ record self.old.book.lazy.line { cursor = self.new.book.lazy.line.cursor }) }
         ensures line_err { OnErr result (self.new.book.lazy.line ≡ with_spare self.new.book.lazy.line.spare self.old.book.lazy.line) }
@@ -90,6 +94,7 @@ impl Session {
         ensures operation { OnOk result (Operates (line_of self.old.book) (to_redo self.old) (state_of self.old).book (state_of self.new).book) }
         ensures lost { OnOk result (ListsLost (line_of self.old.book) (to_redo self.old) (state_of self.old).book) }
         ensures name { OnOk result (RenamesForth (words_of self.old.book.names) (to_redo self.old) (state_of self.old).book (state_of self.new).book) }
+        ensures parts { OnOk result (Turns (line_of self.old.book) (words_of self.old.book.names) (to_redo self.old) (state_of self.old).book (state_of self.new).book) }
         ensures words { words_of self.new.book.names ≡ words_of self.old.book.names }
         ensures line { OnOk result (self.new.book.lazy.line ≡ record self.old.book.lazy.line { cursor = self.new.book.lazy.line.cursor }) }
         ensures line_err { OnErr result (self.new.book.lazy.line ≡ with_spare self.new.book.lazy.line.spare self.old.book.lazy.line) }

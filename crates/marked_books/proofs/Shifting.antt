@@ -66,7 +66,7 @@ module _ (n : ℕ) (b : Workbook) (sound : IsSoundBook n b) where
   pub book_inside : IsBookInside (valued b)
   book_inside = record { cells = cell_inside; trees = trees_fit }
 
-  all_inside : AreInside b.cells
+  pub all_inside : AreInside b.cells
   all_inside p some = by (map.get b.cells p) refl some
     where
       by : (o : Option Content) → map.get b.cells p ≡ o → IsSome o → IsInside p
@@ -96,11 +96,11 @@ goes_or_stays (Sheet sheet) key global = by key.scope
     by None = sym (ap not global)
     by (Some own) = refl
 
-module _ (s : Shift) (n : ℕ) (b : Workbook) (can : IsSoundShift s) (sound : IsSoundBook n b) (global : drops_scope (form_of s) NO_SHEET ≡ false) where
+module _ (s : Shift) (b : Workbook) (can : IsSoundShift s) (on_sheets : AreInside b.cells) (global : drops_scope (form_of s) NO_SHEET ≡ false) where
   after_at : (q : Place) → IsInside q → map.get (shifted s b).cells q ≡ option_map (content_after s) (option_and_then (map.get b.cells) (place_before s q))
   after_at q inside =
       get-rewritten s (moved_map s b.cells) q
-      ∙ ap (option_map (rewritten_content s)) (get-moved s b.cells can (all_inside n b sound) q inside)
+      ∙ ap (option_map (rewritten_content s)) (get-moved s b.cells can on_sheets q inside)
       ∙ same_rewritten s (option_and_then (map.get b.cells) (place_before s q))
 
   name_after : (key : Key) (t : Bool) → drops_scope (form_of s) (scope_sheet key.scope) ≡ t
@@ -118,7 +118,7 @@ module _ (s : Shift) (n : ℕ) (b : Workbook) (can : IsSoundShift s) (sound : Is
     names = λ key stay. name_after key false stay ∙ ap (option_map (rewritten s)) (sym (tree_in-entries b.names key));
     dropped = λ key drops. name_after key true drops;
     global = global;
-    inside = λ q c there. let from = came s b.cells q c can (all_inside n b sound) there in from.inside;
+    inside = λ q c there. let from = came s b.cells q c can on_sheets there in from.inside;
   }
 
 -- ---- which operations are accepted
@@ -145,4 +145,4 @@ drops_no_global d (Sheet sheet) sound e = false_from_ne_true (NO_SHEET == sheet)
 pub accepted_shifts_lead_on : AcceptedShiftsLeadOn
 accepted_shifts_lead_on s d sound accepted =
     let can = (sound_form d (form_of s) accepted).0 in
-    (can, book_after s d.next_sheet d.book can sound.book (drops_no_global d (form_of s) sound accepted))
+    (can, book_after s d.book can (all_inside d.next_sheet d.book sound.book) (drops_no_global d (form_of s) sound accepted))

@@ -7,7 +7,7 @@ use Rattle.kept_book.specs.Frame.{Frame, Words}
 use Rattle.kept_book.specs.Walk.{back_all, forth_all}
 use Rattle.kept_book.specs.declared.book.Book.{Book}
 use Rattle.kept_steps.specs.Fits.{AreSteps, Fits}
-use Rattle.kept_steps.specs.Steps.{AllLeadOn, AllLedHere, AreAhead, ArePast, LeadsOn, LedHere}
+use Rattle.kept_steps.specs.Steps.{AllLeadOn, AllLedHere, AreAhead, ArePast, AreWholeHere, AreWholeOn, IsWhole, LeadsOn, LedHere}
 use Rattle.kept_steps.specs.Timeline.{StandIn, Timeline}
 use Rattle.kept_steps.specs.declared.entry.Entry.{Entry}
 use Rattle.name_table.specs.declared.key.NameKey.{NameKey}
@@ -41,11 +41,22 @@ all_lead-prop : (t : Timeline) (cs : List Change) (f : Frame) → IsProp (AllLea
 all_lead-prop t [] f = Prim.hlevel logic.props
 all_lead-prop t (c ∷ cs) f = let h = leads-prop t c f in let r = all_lead-prop t cs (forth t.line c f) in Prim.hlevel (h, r, logic.props)
 
+whole-prop : (t : Timeline) (f : Frame) → IsProp (IsWhole t f)
+whole-prop t f = Prim.hlevel (stand-prop, logic.props)
+
+whole_here-prop : (t : Timeline) (cs : List Change) (f : Frame) → IsProp (AreWholeHere t cs f)
+whole_here-prop t [] f = whole-prop t f
+whole_here-prop t (c ∷ cs) f = let r = whole_here-prop t cs f in let h = whole-prop t (back_all t.line (c ∷ cs) f) in Prim.hlevel (r, h, logic.props)
+
+whole_on-prop : (t : Timeline) (cs : List Change) (f : Frame) → IsProp (AreWholeOn t cs f)
+whole_on-prop t [] f = whole-prop t f
+whole_on-prop t (c ∷ cs) f = let h = whole-prop t f in let r = whole_on-prop t cs (forth t.line c f) in Prim.hlevel (h, r, logic.props)
+
 past-prop : (t : Timeline) (f : Frame) (es : List (List Change)) → IsProp (ArePast t f es)
 past-prop t f [] = Prim.hlevel logic.props
 past-prop t f (e ∷ es) =
     let h = all_led-prop t e f in
-    let s = stand-prop t (back_all t.line e f) in
+    let s = whole_here-prop t e f in
     let r = past-prop t (back_all t.line e f) es in
     Prim.hlevel (h, s, r, logic.props)
 
@@ -53,12 +64,12 @@ ahead-prop : (t : Timeline) (f : Frame) (es : List (List Change)) → IsProp (Ar
 ahead-prop t f [] = Prim.hlevel logic.props
 ahead-prop t f (e ∷ es) =
     let h = all_lead-prop t e f in
-    let s = stand-prop t (forth_all t.line e f) in
+    let s = whole_on-prop t e f in
     let r = ahead-prop t (forth_all t.line e f) es in
     Prim.hlevel (h, s, r, logic.props)
 
 steps-prop : (t : Timeline) (first end : ℕ) (f : Frame) (steps : History Entry) (batch : Option Entry) → IsProp (AreSteps t first end f steps batch)
-steps-prop t first end f steps batch = Prim.hlevel (stand-prop, all_led-prop, past-prop, ahead-prop, logic.props)
+steps-prop t first end f steps batch = Prim.hlevel (stand-prop, all_led-prop, whole_here-prop, past-prop, ahead-prop, logic.props)
 
 pub fits-prop : (b : Book) (steps : History Entry) (batch : Option Entry) → IsProp (Fits b steps batch)
 fits-prop b steps batch = Prim.hlevel (steps-prop, logic.props)

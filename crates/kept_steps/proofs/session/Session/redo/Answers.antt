@@ -11,6 +11,7 @@ use Rattle.kept_steps.proofs.Outcomes.{on_err, same_batch, unchanged}
 use Rattle.kept_steps.proofs.CellsTurned.{differ-forth}
 use Rattle.kept_steps.proofs.OperationsTurned.{lost-forth, operates-forth}
 use Rattle.kept_steps.proofs.NamesTurned.{renames-forth}
+use Rattle.kept_steps.proofs.PartsTurned.{parts-forth}
 use Rattle.kept_steps.proofs.Turning.{forth_leads, forth_last, newest-step, went_forth}
 use Rattle.kept_steps.proofs.session.Session.redo.Goals as goal
 
@@ -74,4 +75,11 @@ returns-in_ok-forth-clause-name c =
     let s = c.args.self.now in
     let step = newest-step s.steps.undone c.in-Some.entry.now (c.in-Some.ensures.value ∙ ap (λ l. slice_get l (length l - 1)) c.undone.ensures.result) in
     renames-forth s.book c.forth.new.self s.steps s.batch s.fits c.in_ok-forth.ensures.standings c.in_ok-forth.ensures.words
+    (c.in_ok-forth.ensures.ok ∙ ap (λ cs. forth_all (line_of s.book) cs (frame_of s.book)) (ap changes_of c.deref.ensures.value ∙ sym step))
+
+pub returns-in_ok-forth-clause-parts : goal.returns-in_ok-forth-clause-parts
+returns-in_ok-forth-clause-parts c =
+    let s = c.args.self.now in
+    let step = newest-step s.steps.undone c.in-Some.entry.now (c.in-Some.ensures.value ∙ ap (λ l. slice_get l (length l - 1)) c.undone.ensures.result) in
+    parts-forth s.book c.forth.new.self s.steps s.batch c.requires.closed s.fits c.in_ok-forth.ensures.standings c.in_ok-forth.ensures.words
     (c.in_ok-forth.ensures.ok ∙ ap (λ cs. forth_all (line_of s.book) cs (frame_of s.book)) (ap changes_of c.deref.ensures.value ∙ sym step))

@@ -11,6 +11,7 @@ use Rattle.kept_steps.proofs.Outcomes.{on_err, same_batch, unchanged}
 use Rattle.kept_steps.proofs.CellsTurned.{differ-back}
 use Rattle.kept_steps.proofs.OperationsTurned.{lost-back, operates-back}
 use Rattle.kept_steps.proofs.NamesTurned.{renames-back}
+use Rattle.kept_steps.proofs.PartsTurned.{parts-back}
 use Rattle.kept_steps.proofs.Turning.{back_leads, back_first, last_entry, newest-step, went_back}
 use Rattle.kept_steps.proofs.session.Session.undo.Goals as goal
 
@@ -74,4 +75,11 @@ returns-in_ok-back-clause-name c =
     let s = c.args.self.now in
     let step = newest-step s.steps.done c.in-Some.entry.now (last_entry c.done.result.now.items (deque_len c.done.result.now) c.in-Some.entry.now c.in-Some.ensures.item.3.0 (c.done.result.now.ok.0) c.in-Some.ensures.item.1 ∙ ap (λ l. slice_get l (length l - 1)) c.done.ensures.result) in
     renames-back s.book c.back-in-Some.new.self s.steps s.batch s.fits c.in_ok-back.ensures.standings c.in_ok-back.ensures.words c.requires.closed
+    (c.in_ok-back.ensures.ok ∙ ap (λ cs. back_all (line_of s.book) cs (frame_of s.book)) (ap changes_of c.deref.ensures.value ∙ sym step))
+
+pub returns-in_ok-back-clause-parts : goal.returns-in_ok-back-clause-parts
+returns-in_ok-back-clause-parts c =
+    let s = c.args.self.now in
+    let step = newest-step s.steps.done c.in-Some.entry.now (last_entry c.done.result.now.items (deque_len c.done.result.now) c.in-Some.entry.now c.in-Some.ensures.item.3.0 (c.done.result.now.ok.0) c.in-Some.ensures.item.1 ∙ ap (λ l. slice_get l (length l - 1)) c.done.ensures.result) in
+    parts-back s.book c.back-in-Some.new.self s.steps s.batch c.requires.closed s.fits c.in_ok-back.ensures.standings c.in_ok-back.ensures.words
     (c.in_ok-back.ensures.ok ∙ ap (λ cs. back_all (line_of s.book) cs (frame_of s.book)) (ap changes_of c.deref.ensures.value ∙ sym step))
