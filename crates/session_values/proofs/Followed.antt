@@ -73,7 +73,7 @@ module _ (b c : Workbook) (words more : List (List ℕ)) (customs : List (List �
       (more_marks c more customs today (links_in v) (marks_in v ++ marks_in w) (marks_in w) (kept_in v)
       (changes_follow b c words more customs today (links_in v) (marks_in v) (marks_in w) (kept_in v) (to_follow b words customs today v numbered follows) numbers now (cells_alone b c more (marks_in w) names cells) known)
       stay known))) (noted (λ x. asks_place) (λ x. asks_place) (λ x t h. h) (asks_in v) (asks_in w) touch.asking follows.asks) (noted (λ x. has_lost) (λ x. has_lost) (λ x t h. h) (loses_in v) (loses_in w) touch.losing follows.loses)
-      (noted (seeks_at b) (seeks_at c) (λ x t h. ap (λ ns. seeks ns (sheet_of (home_of x)) t) names ∙ h) (seeks_in v) (seeks_in w) touch.seeking follows.seeks)
+      (λ word. noted (seeks_at b word) (seeks_at c word) (λ x t h. ap (λ ns. seeks ns (sheet_of (home_of x)) word t) names ∙ h) (seeks_in v word) (seeks_in w word) (ap (λ (f : List ℕ → Node → Bool). f word) touch.seeking) (follows.seeks word))
     where
       known : AreKnown more (marks_in w)
       known a h = ⊎_elim
@@ -122,12 +122,12 @@ reads_follow s t customs today values reads follows =
     book_in d = valued d.book
 
 -- where nothing is linked and kept, and all that stands is marked
-pub all_follow : (b : Workbook) (words : List (List ℕ)) (customs : List (List ℕ × Rule)) (today : ℤ) (v : Values) (nodes : List Node) → AreNumbered words b.names → ((a : Node) → links_in v a ≡ []) → ((a : Node) → kept_in v a ≡ None) → ((a : Node) → asks_in v a ≡ false) → ((a : Node) → loses_in v a ≡ false) → ((a : Node) → seeks_in v a ≡ false)
+pub all_follow : (b : Workbook) (words : List (List ℕ)) (customs : List (List ℕ × Rule)) (today : ℤ) (v : Values) (nodes : List Node) → AreNumbered words b.names → ((a : Node) → links_in v a ≡ []) → ((a : Node) → kept_in v a ≡ None) → ((a : Node) → asks_in v a ≡ false) → ((a : Node) → loses_in v a ≡ false) → ((word : List ℕ) (a : Node) → seeks_in v word a ≡ false)
     → ((a : Node) → has a (marks_in v) ≡ has a ([] ++ nodes)) → ((a : Node) (x : book.Node) → node_at words a ≡ Some x → stands b x ≡ true → IsTrue (has a nodes)) → AreKnown words nodes → Follows b words customs today v
 all_follow b words customs today v nodes numbered links kept asking losing seeking marks all known =
     from_follow b words customs today v
     (all_marked b words customs today (links_in v) (marks_in v) (kept_in v) numbered links kept (λ a x at standing. marks a ∙ all a x at standing) (λ a h. known a (sym (marks a) ∙ h)))
-    (none_noted (λ x. asks_place) (asks_in v) asking) (none_noted (λ x. has_lost) (loses_in v) losing) (none_noted (seeks_at b) (seeks_in v) seeking)
+    (none_noted (λ x. asks_place) (asks_in v) asking) (none_noted (λ x. has_lost) (loses_in v) losing) (λ word. none_noted (seeks_at b word) (seeks_in v word) (seeking word))
   where
     has_tree : (x : book.Node) (t : Term Corner) → tree_at b x ≡ Some t → stands b x ≡ true
     has_tree (book.place p) t is = by (fin.get b.cells p) refl is

@@ -4,4 +4,6 @@ pub mod Listed
 pub mod MentionedPlaces
 pub mod Shifted
 pub mod Named
+pub mod NamedBetween
+pub mod PartsFollowed
 pub mod Refreshed

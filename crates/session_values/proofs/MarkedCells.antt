@@ -19,6 +19,7 @@ use Rattle.kept_book.specs.declared.part.Part.{Part}
 use Rattle.kept_steps.specs.Turned.{AreOfCells, IsOfCells, is_listed}
 use Rattle.kept_values.specs.Values.{asks_in, kept_in, links_in, loses_in, marks_in, seeks_in}
 use Rattle.kept_values.specs.declared.values.Values.{Values}
+use Rattle.session_values.specs.internal.Marked.{AreMade}
 use Rattle.session_values.specs.Touched.{AreMarkedIn, AreTouched, AreTouchedAtMost, IsMarkedIn, IsStepMarked, IsTouched, is_place_of}
 
 pub cell_touched : {X E : Type 0} (r : Result X E) (v w : Values) (p : Place) → links_in w ≡ links_in v → asks_in w ≡ asks_in v → loses_in w ≡ loses_in v → seeks_in w ≡ seeks_in v → kept_in w ≡ kept_in v
@@ -244,3 +245,10 @@ module _ (parts : List Part) (i : ℕ) (x : Part) (low : i < length parts) (is :
   more_marked v w touched first next =
       subst (λ cs. IsStepMarked cs w) (sym (ap changes_of (take_more parts i x low) ∙ map-append change_of (take i parts) (get_or parts i x ∷ [])))
       (step_marked (is_listed (change_of x ∷ [])) (changes_of (take i parts)) (change_of (get_or parts i x) ∷ []) v w touched first (subst (λ y. IsStepMarked (change_of y ∷ []) w) is next))
+
+-- what holds of values that were made of others so, holds of what is kept
+pub of_made : (Stand : Values → Values → Type 0) (P : Option Values → Option Values → Type 0) (old new : Option Values) → AreMade Stand old new → ((v w : Values) → Stand v w → P (Some v) (Some w)) → P None None → P old new
+of_made Stand P None None made some none = none
+of_made Stand P None (Some w) made some none = absurd made
+of_made Stand P (Some v) None made some none = absurd made
+of_made Stand P (Some v) (Some w) made some none = some v w made

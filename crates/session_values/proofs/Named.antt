@@ -1,6 +1,7 @@
 -- What is kept of values follows over a change of one name. Serves the calls that take it along.
-use Rattle.std.proofs.Common.{◌≡◌, ◌≢◌, ◌∙◌, sym, ap, refl, subst, ℕ, ℤ, ◌||◌, Bool, true, false, List, [], ◌∷◌, ◌++◌, Option, Some, None, is_some, Result, Ok, Err, ◌⊎◌, inl, inr, ⊎_elim, append_assoc}
+use Rattle.std.proofs.Common.{◌≡◌, ◌≢◌, ◌∙◌, sym, ap, refl, subst, ℕ, ℤ, ◌||◌, ◌&&◌, Bool, true, false, cond, List, [], ◌∷◌, ◌++◌, Option, Some, None, is_some, Result, Ok, Err, ◌⊎◌, inl, inr, ⊎_elim, append_assoc}
 use Rattle.std.specs.Prelude.{IfSome, IsTrue, OnOk, bytes_eq, pos, slice_get, unwrap_or}
+use Rattle.cell_addr.specs.Sheets.{same_name}
 use Rattle.cell_addr.specs.Text.{folded}
 use Rattle.name_table.proofs.WordNumbers.{folded-folded, number-spelled, spelled-number}
 use Rattle.name_table.specs.declared.key.NameKey.{NameKey}
@@ -12,9 +13,10 @@ use Rattle.recalc_core.proofs.ReadNames.{found_alike}
 use Rattle.marked_values.specs.NameMarks.{is_scope_for}
 use Rattle.std.specs.List.{list_any}
 use Rattle.std.specs.Option.{is_none}
-use Rattle.std.proofs.lemmas.Bool.{cases_Bool, false≢true, or_cases, or_left, or_right}
+use Rattle.std.proofs.lemmas.Bool.{and_from, and_parts, cases_Bool, false≢true, or_cases, or_left, or_right}
 use Rattle.std.proofs.lemmas.List.Folds.{list_any-append}
 use Rattle.custom_fn.specs.declared.rule.Rule.{Rule}
+use Rattle.formula_tree.proofs.SameLinks.{names_alike}
 use Rattle.formula_tree.specs.Links.{names_in}
 use Rattle.formula_tree.specs.Reference.{sheet_of}
 use Rattle.formula_tree.specs.Term.{Term}
@@ -49,7 +51,7 @@ use Rattle.kept_values.proofs.Following.{from_follow, there, to_follow}
 use Rattle.session_values.specs.declared.naming.NameTurn.{NameTurn}
 use Rattle.session_values.specs.declared.naming.NameTurn.TheVariants.{Absent, Added, Changed, Removed}
 use Rattle.session_values.specs.Following.{book_of, words_in}
-use Rattle.session_values.specs.Naming.{FollowsAddition, FollowsChange, FollowsRemoval, FollowsTurn, IsLinkedIn, IsMarkedFor, IsNameIn, MarksAddition, MarksChange, MarksRemoval, MarksTurn, had_formula, has_formula}
+use Rattle.session_values.specs.Naming.{FollowsAddition, FollowsChange, FollowsName, FollowsRemoval, FollowsTurn, IsLinkedIn, IsMarkedFor, IsNameIn, MarksAddition, MarksChange, MarksRemoval, MarksTurn, had_formula, has_formula}
 use Rattle.session_values.specs.internal.Marked.{HasMarked, HasMarkedLinked, HasSought, HasTurned, HaveMarked, HaveSought, own_node, whole_node}
 use Rattle.session_values.proofs.Followed.{keep_numbers}
 
@@ -112,17 +114,17 @@ module _ (b c : Workbook) (words more : List (List ℕ)) (customs : List (List �
   }
 
   still : Follow c more customs today (links_in v) (marks_in w) (kept_in v)
-      → ((a : Node) (x : book.Node) (t : Term Corner) → has a (marks_in w) ≡ false → node_at more a ≡ Some x → tree_at b x ≡ Some t → seeks_at c x t ≡ true → seeks_at b x t ≡ true) → Follows c more customs today w
+      → ((word : List ℕ) (a : Node) (x : book.Node) (t : Term Corner) → has a (marks_in w) ≡ false → node_at more a ≡ Some x → tree_at b x ≡ Some t → seeks_at c word x t ≡ true → seeks_at b word x t ≡ true) → Follows c more customs today w
   still follow seek_before = from_follow c more customs today w
       (subst (λ links. Follow c more customs today links (marks_in w) (kept_in w)) (sym marked.links) (subst (λ kept. Follow c more customs today (links_in v) (marks_in w) kept) (sym marked.kept) follow))
       (noted (λ x. asks_place) (λ x. asks_place) (λ a x t isnt to is h. h) (asks_in v) (asks_in w) marked.asking follows.asks)
       (noted (λ x. has_lost) (λ x. has_lost) (λ a x t isnt to is h. h) (loses_in v) (loses_in w) marked.losing follows.loses)
-      (noted (seeks_at b) (seeks_at c) seek_before (seeks_in v) (seeks_in w) marked.seeking follows.seeks)
+      (λ word. noted (seeks_at b word) (seeks_at c word) (seek_before word) (seeks_in v word) (seeks_in w word) (ap (λ (f : List ℕ → Node → Bool). f word) marked.seeking) (follows.seeks word))
 
   pub change_follows : AreKnown more nodes → is_some (tree_in b.names key) ≡ true → is_some (tree_in c.names key) ≡ true → Follows c more customs today w
   change_follows nodes_known had has_it = still
       (changed_follow b c words more customs today (links_in v) (marks_in v) (marks_in w) (kept_in v) n key before numbers now differ had has_it at stay (added n itself) (known nodes_known))
-      (λ a x t isnt to is seek. (λ i. list_any (λ word. is_none (changed_is_found_alike b c key word (sheet_of (home_of x)) differ had has_it i)) (names_in t)) ∙ seek)
+      (λ word a x t isnt to is seek. (λ i. list_any (λ u. same_name word u && is_none (changed_is_found_alike b c key u (sheet_of (home_of x)) differ had has_it i)) (names_in t)) ∙ seek)
 
   -- what the graph links to something is known, or is marked
   pub linked_known : (a d : Node) → IsTrue (has d (links_in v a)) → (x : book.Node) × (node_at more a ≡ Some x)
@@ -140,16 +142,17 @@ module _ (b c : Workbook) (words more : List (List ℕ)) (customs : List (List �
       sought_before
     where
       -- a word that found the name was linked to it
-      sought_before : (a : Node) (x : book.Node) (t : Term Corner) → has a (marks_in w) ≡ false → node_at more a ≡ Some x → tree_at b x ≡ Some t → seeks_at c x t ≡ true → seeks_at b x t ≡ true
-      sought_before a x t isnt to is seek = ⊎_elim (λ (before_too : seeks_at b x t ≡ true). before_too)
+      sought_before : (asked : List ℕ) (a : Node) (x : book.Node) (t : Term Corner) → has a (marks_in w) ≡ false → node_at more a ≡ Some x → tree_at b x ≡ Some t → seeks_at c asked x t ≡ true → seeks_at b asked x t ≡ true
+      sought_before asked a x t isnt to is seek = ⊎_elim (λ (before_too : seeks_at b asked x t ≡ true). before_too)
           (λ (used : list_any (λ word. is_found (found b.names word (sheet_of (home_of x))) key) (names_in t) ≡ true).
           let known_a = known_before b words more numbered numbers now.once a x to (tree_stands b [] (pos 0) x t is) in
           let known_n = known_before b words more numbered numbers now.once n (book.name key) at had in
           let link = (before.linked.exact a n (λ mark. false≢true (sym (free a isnt) ∙ mark))).1 (x, t, known_a, is, link_of n known_n used) in
           absurd (false≢true (sym isnt ∙ added a (linked a link))))
-          (any_either (λ word. is_none (found c.names word (sheet_of (home_of x)))) (λ word. is_none (found b.names word (sheet_of (home_of x)))) (λ word. is_found (found b.names word (sheet_of (home_of x))) key)
+          (any_either (λ word. same_name asked word && is_none (found c.names word (sheet_of (home_of x)))) (λ word. same_name asked word && is_none (found b.names word (sheet_of (home_of x))))
+          (λ word. is_found (found b.names word (sheet_of (home_of x))) key)
           (λ word none. ⊎_elim
-          (λ (same : found b.names word (sheet_of (home_of x)) ≡ found c.names word (sheet_of (home_of x))). inl (ap is_none same ∙ none))
+          (λ (same : found b.names word (sheet_of (home_of x)) ≡ found c.names word (sheet_of (home_of x))). inl (ap (λ o. same_name asked word && is_none o) same ∙ none))
           (λ (it : found b.names word (sheet_of (home_of x)) ≡ Some key). inr (ap (λ o. is_found o key) it ∙ same_key-self key))
           (removed_was_found b c key word (sheet_of (home_of x)) differ gone)) (names_in t) seek)
         where
@@ -160,7 +163,7 @@ module _ (b c : Workbook) (words more : List (List ℕ)) (customs : List (List �
 
 module _ (b c : Workbook) (words more : List (List ℕ)) (customs : List (List ℕ × Rule)) (today : ℤ) (key : Key) (n m : Node) (v w : Values)
     (numbered : AreNumbered words b.names) (now : AreNumbered more c.names) (keeps : IsMore words more) (differ : DifferInName b c key) (at : node_at more n ≡ Some (book.name key))
-    (whole : node_at more m ≡ Some (book.name (key_of None key.word))) (fresh : is_some (tree_in b.names key) ≡ false) (spelt : folded key.word ≡ key.word) (sought : HaveSought n m v w) (follows : Follows b words customs today v) where
+    (whole : node_at more m ≡ Some (book.name (key_of None key.word))) (fresh : is_some (tree_in b.names key) ≡ false) (word : List ℕ) (of_word : folded word ≡ key.word) (sought : HaveSought n m word v w) (follows : Follows b words customs today v) where
   all_numbers : KeepNumbers words more
   all_numbers = keep_numbers words more keeps
 
@@ -177,29 +180,33 @@ module _ (b c : Workbook) (words more : List (List ℕ)) (customs : List (List �
       one : (a : Node) → node_at more a ≡ Some (book.name key) → a ≡ n
       one a to = one_node more a n (book.name key) now.once to at
 
-  -- a formula with a word that finds no name is marked
-  seeking_marked : (a : Node) (x : book.Node) (t : Term Corner) → node_at more a ≡ Some x → tree_at b x ≡ Some t → seeks_at b x t ≡ true → IsTrue (has a (marks_in w))
+  spelt : folded key.word ≡ key.word
+  spelt = ap folded (sym of_word) ∙ folded-folded word ∙ of_word
+
+  -- a formula that uses the word where it finds no name is marked
+  seeking_marked : (a : Node) (x : book.Node) (t : Term Corner) → node_at more a ≡ Some x → tree_at b x ≡ Some t → seeks_at b word x t ≡ true → IsTrue (has a (marks_in w))
   seeking_marked a x t to is seek = ⊎_elim
       (λ (old : has a (marks_in v) ≡ true). sought.stay a old)
-      (λ (out : has a (marks_in v) ≡ false). sought.sought a (follows.seeks.all a x t out (known_before b words more numbered all_numbers now.once a x to (tree_stands b [] (pos 0) x t is)) is seek))
+      (λ (out : has a (marks_in v) ≡ false). sought.sought a ((follows.seeks word).all a x t out (known_before b words more numbered all_numbers now.once a x to (tree_stands b [] (pos 0) x t is)) is seek))
       (cases_Bool (has a (marks_in v)))
 
   -- so is one that uses the word of the name where that finds none
   finding : (a : Node) (x : book.Node) (t : Term Corner) → node_at more a ≡ Some x → tree_at b x ≡ Some t → UsesWord t key.word → found b.names key.word (sheet_of (home_of x)) ≡ None → is_scope_for key.scope (sheet_of (home_of x)) ≡ true → IsTrue (has a (marks_in w))
-  finding a x t to is uses none within = seeking_marked a x t to is (⊎_elim (λ (h : seeks_at b x t ≡ true). h) (λ (h : list_any (λ word. false) (names_in t) ≡ true). absurd (none_passes (names_in t) h))
-      (any_either (λ word. bytes_eq (folded word) key.word) (λ word. is_none (found b.names word (sheet_of (home_of x)))) (λ word. false)
-      (λ word same. inl (ap is_none (found_alike b.names word key.word (sheet_of (home_of x)) (ap (bytes_eq (folded word)) spelt ∙ same) ∙ none))) (names_in t) uses))
+  finding a x t to is uses none within = seeking_marked a x t to is (⊎_elim (λ (h : seeks_at b word x t ≡ true). h) (λ (h : list_any (λ u. false) (names_in t) ≡ true). absurd (none_passes (names_in t) h))
+      (any_either (λ u. bytes_eq (folded u) key.word) (λ u. same_name word u && is_none (found b.names u (sheet_of (home_of x)))) (λ u. false)
+      (λ u same. inl (and_from (same_name word u) (is_none (found b.names u (sheet_of (home_of x)))) (names_alike.symm word u ∙ ap (bytes_eq (folded u)) of_word ∙ same)
+      (ap is_none (found_alike b.names u key.word (sheet_of (home_of x)) (ap (bytes_eq (folded u)) spelt ∙ same) ∙ none)))) (names_in t) uses))
     where
-      none_passes : (ws : List (List ℕ)) → list_any (λ word. false) ws ≡ true → ⊥
+      none_passes : (ws : List (List ℕ)) → list_any (λ u. false) ws ≡ true → ⊥
       none_passes [] h = false≢true h
-      none_passes (word ∷ ws) h = none_passes ws h
+      none_passes (u ∷ ws) h = none_passes ws h
 
   marks_known : AreKnown more (marks_in w)
   marks_known a h = by (sought.only a h)
     where
-      by : IsTrue (has a (marks_in v)) ⊎ ((seeks_in v a ≡ true) ⊎ (IsTrue (has m (links_in v a)) ⊎ (a ≡ n))) → (x : book.Node) × (node_at more a ≡ Some x)
+      by : IsTrue (has a (marks_in v)) ⊎ ((seeks_in v word a ≡ true) ⊎ (IsTrue (has m (links_in v a)) ⊎ (a ≡ n))) → (x : book.Node) × (node_at more a ≡ Some x)
       by (inl old) = let (x, is) = was.known a old in (x, all_numbers a x is)
-      by (inr (inl seek)) = let (x, is) = there (node_at words a) (follows.seeks.known a seek) in (x, all_numbers a x is)
+      by (inr (inl seek)) = let (x, is) = there (node_at words a) ((follows.seeks word).known a seek) in (x, all_numbers a x is)
       by (inr (inr (inl link))) = let (x, is) = linked_is_known b words customs today v was a m link in (x, all_numbers a x is)
       by (inr (inr (inr same))) = (book.name key, ap (node_at more) same ∙ at)
 
@@ -211,16 +218,38 @@ module _ (b c : Workbook) (words more : List (List ℕ)) (customs : List (List �
     known = λ a h. let (x, to) = there (node_at words a) (all.known a (sym (ap (λ f. f a) same) ∙ h)) in ap is_some (all_numbers a x to);
   }
 
-  -- and where a word finds none now, it found none before
-  sought_too : (a : Node) (x : book.Node) (t : Term Corner) → has a (marks_in w) ≡ false → node_at more a ≡ Some x → tree_at c x ≡ Some t → seeks_at c x t ≡ true → ⊥
-  sought_too a x t isnt to tree seek =
-      let had = had_tree a x isnt to ∙ tree in
-      false≢true (sym isnt ∙ seeking_marked a x t to had (⊎_elim (λ (h : seeks_at b x t ≡ true). h) (λ (h : seeks_at b x t ≡ true). h)
-      (any_either (λ word. is_none (found c.names word (sheet_of (home_of x)))) (λ word. is_none (found b.names word (sheet_of (home_of x)))) (λ word. is_none (found b.names word (sheet_of (home_of x))))
-      (λ word none. ⊎_elim
-      (λ (same : found b.names word (sheet_of (home_of x)) ≡ found c.names word (sheet_of (home_of x))). inl (ap is_none same ∙ none))
-      (λ (now_it, way). absurd (false≢true (sym (ap is_none now_it) ∙ none)))
-      (added_is_found b c key word (sheet_of (home_of x)) differ fresh)) (names_in t) seek)))
+  -- where a word finds none now, it found none before
+  sought_too : (other : List ℕ) (x : book.Node) (t : Term Corner) → seeks_at c other x t ≡ true → seeks_at b other x t ≡ true
+  sought_too other x t seek = ⊎_elim (λ (h : seeks_at b other x t ≡ true). h) (λ (h : seeks_at b other x t ≡ true). h)
+      (any_either (λ u. same_name other u && is_none (found c.names u (sheet_of (home_of x)))) (λ u. same_name other u && is_none (found b.names u (sheet_of (home_of x))))
+      (λ u. same_name other u && is_none (found b.names u (sheet_of (home_of x))))
+      (λ u none. ⊎_elim
+      (λ (same : found b.names u (sheet_of (home_of x)) ≡ found c.names u (sheet_of (home_of x))). inl (ap (λ o. same_name other u && is_none o) same ∙ none))
+      (λ (now_it, way). absurd (false≢true (sym (ap is_none now_it) ∙ (and_parts (same_name other u) (is_none (found c.names u (sheet_of (home_of x)))) none).1)))
+      (added_is_found b c key u (sheet_of (home_of x)) differ fresh)) (names_in t) seek)
+
+  -- and what uses another word is noted still
+  still_sought : (other : List ℕ) → AreNoted (seeks_at c other) c more (marks_in w) (seeks_in w other)
+  still_sought other = ⊎_elim here elsewhere (cases_Bool (same_name word other))
+    where
+      here : same_name word other ≡ true → AreNoted (seeks_at c other) c more (marks_in w) (seeks_in w other)
+      here same = record {
+        all = λ a x t isnt to tree seek.
+            let had = had_tree a x isnt to ∙ tree in
+            absurd (false≢true (sym isnt ∙ seeking_marked a x t to had ((λ i. list_any (λ u. names_alike.congr word other u same i && is_none (found b.names u (sheet_of (home_of x)))) (names_in t)) ∙ sought_too other x t seek)));
+        known = λ a h. absurd (false≢true (sym (sought.seeking other a ∙ ap (λ q. cond q false (seeks_in v other a)) same) ∙ h));
+      }
+
+      elsewhere : same_name word other ≡ false → AreNoted (seeks_at c other) c more (marks_in w) (seeks_in w other)
+      elsewhere apart = record {
+        all = λ a x t isnt to tree seek.
+            let had = had_tree a x isnt to ∙ tree in
+            stays a ∙ (follows.seeks other).all a x t (was_free a isnt) (known_before b words more numbered all_numbers now.once a x to (tree_stands b [] (pos 0) x t had)) had (sought_too other x t seek);
+        known = λ a h. let (x, to) = there (node_at words a) ((follows.seeks other).known a (sym (stays a) ∙ h)) in ap is_some (all_numbers a x to);
+      }
+        where
+          stays : (a : Node) → seeks_in w other a ≡ seeks_in v other a
+          stays a = sought.seeking other a ∙ ap (λ q. cond q false (seeks_in v other a)) apart
 
   pub addition_follows : Follows c more customs today w
   addition_follows =
@@ -229,17 +258,21 @@ module _ (b c : Workbook) (words more : List (List ℕ)) (customs : List (List �
       from_follow c more customs today w
       (subst (λ links. Follow c more customs today links (marks_in w) (kept_in w)) (sym sought.links) (subst (λ kept. Follow c more customs today (links_in v) (marks_in w) kept) (sym sought.kept) follow))
       (still_noted asks_place (asks_in v) (asks_in w) sought.asking follows.asks) (still_noted has_lost (loses_in v) (loses_in w) sought.losing follows.loses)
-      (record { all = λ a x t isnt to tree seek. absurd (sought_too a x t isnt to tree seek); known = λ a h. absurd (false≢true (sym (sought.none a) ∙ h)) })
+      still_sought
 
--- where it is marked with what uses a word that finds no name, and what is linked to the whole workbook's name
+-- where nothing is kept any more
+pub nothing_named : (key : Key) (s : Session) (had has : Bool) (old : Option Values) → FollowsName key s had has old None
+nothing_named key s had has old b words customs today numbered now keeps differ was is follows = tt
+
+-- where it is marked with what uses its word where that finds no name, and what is linked to the whole workbook's name
 pub follows_addition : (scope : Option ℕ) (word : List ℕ) (s : Session) (name whole : Option Node) (v : Values) (new : Option Values) → IfSome name (λ n. node_at (words_in s) n ≡ Some (book.name (key_of scope word)))
-    → IfSome whole (λ m. node_at (words_in s) m ≡ Some (book.name (key_of None word))) → IfSome new (λ w. HasSought name whole v w) → FollowsAddition (key_of scope word) s (Some v) new × MarksAddition scope word s (Some v) new
+    → IfSome whole (λ m. node_at (words_in s) m ≡ Some (book.name (key_of None word))) → IfSome new (λ w. HasSought name whole word v w) → FollowsAddition (key_of scope word) s (Some v) new × MarksAddition scope word s (Some v) new
 follows_addition scope word s name whole v None at over marked = (λ b words customs today numbered now keeps differ fresh has_it follows. tt, tt)
 follows_addition scope word s None whole v (Some w) at over marked = absurd marked
 follows_addition scope word s (Some n) None v (Some w) at over marked = absurd marked
 follows_addition scope word s (Some n) (Some m) v (Some w) at over marked = (
   λ b words customs today numbered now keeps differ fresh has_it follows.
-      addition_follows b (book_of s) words (words_in s) customs today (key_of scope word) n m v w numbered now keeps differ at (over ∙ ap (λ (f : List ℕ). Some (book.name (record { scope = None; word = f }))) (sym (folded-folded word))) fresh (folded-folded word) marked follows,
+      addition_follows b (book_of s) words (words_in s) customs today (key_of scope word) n m v w numbered now keeps differ at (over ∙ ap (λ (f : List ℕ). Some (book.name (record { scope = None; word = f }))) (sym (folded-folded word))) fresh word refl marked follows,
   record {
     links = marked.links;
     asking = marked.asking;
@@ -250,8 +283,8 @@ follows_addition scope word s (Some n) (Some m) v (Some w) at over marked = (
   },
 )
   where
-    by : (a : Node) → IsTrue (has a (marks_in v)) ⊎ ((seeks_in v a ≡ true) ⊎ (IsTrue (has m (links_in v a)) ⊎ (a ≡ n)))
-        → IsTrue (has a (marks_in v)) ⊎ (IsNameIn s (key_of scope word) a ⊎ ((seeks_in v a ≡ true) ⊎ IsLinkedIn s (key_of None word) v a))
+    by : (a : Node) → IsTrue (has a (marks_in v)) ⊎ ((seeks_in v word a ≡ true) ⊎ (IsTrue (has m (links_in v a)) ⊎ (a ≡ n)))
+        → IsTrue (has a (marks_in v)) ⊎ (IsNameIn s (key_of scope word) a ⊎ ((seeks_in v word a ≡ true) ⊎ IsLinkedIn s (key_of None word) v a))
     by a (inl old) = inl old
     by a (inr (inl seek)) = inr (inr (inl seek))
     by a (inr (inr (inl link))) = inr (inr (inr (m, over, link)))
@@ -310,20 +343,20 @@ module _ (key : NameKey) (s : Session) (word : List ℕ) (spelt : slice_get (wor
   small : folded word ≡ word
   small = same_Some (folded word) word (sym (number-spelled (words_in s) word key.word s.book.names.words.proper (spelled-number (words_in s) word key.word s.book.names.words.proper spelt)) ∙ spelt)
 
-  own_at : key.scope ≢ Some NO_SHEET → node_at (words_in s) (own_node key) ≡ Some (book.name (key_spelt key word))
+  pub own_at : key.scope ≢ Some NO_SHEET → node_at (words_in s) (own_node key) ≡ Some (book.name (key_spelt key word))
   own_at scoped =
       ap (name_at (unwrap_or key.scope NO_SHEET)) spelt ∙ ap (λ (own : Option ℕ). Some (book.name (record { scope = own; word = word }))) (scope-back key.scope scoped)
 
-  own_small : key.scope ≢ Some NO_SHEET → node_at (words_in s) (own_node key) ≡ Some (book.name (key_of key.scope word))
+  pub own_small : key.scope ≢ Some NO_SHEET → node_at (words_in s) (own_node key) ≡ Some (book.name (key_of key.scope word))
   own_small scoped = own_at scoped ∙ ap (λ (w : List ℕ). Some (book.name (record { scope = key.scope; word = w }))) (sym small)
 
-  whole_at : node_at (words_in s) (whole_node key) ≡ Some (book.name (key_of None word))
+  pub whole_at : node_at (words_in s) (whole_node key) ≡ Some (book.name (key_of None word))
   whole_at = ap (name_at NO_SHEET) spelt ∙ ap (λ (own : Option ℕ). Some (book.name (record { scope = own; word = word }))) (scope-back None (λ e. cc)) ∙ ap (λ (w : List ℕ). Some (book.name (record { scope = None; word = w }))) (sym small)
 
-  small_key : key_of key.scope word ≡ key_spelt key word
+  pub small_key : key_of key.scope word ≡ key_spelt key word
   small_key i = record { scope = key.scope; word = small i }
 
-pub follows_turn : (key : NameKey) (turn : NameTurn) (s : Session) (v : Values) (new : Option Values) → ((had_formula turn || has_formula turn) ≡ true → key.scope ≢ Some NO_SHEET) → IfSome new (λ w. HasTurned key turn v w)
+pub follows_turn : (key : NameKey) (turn : NameTurn) (s : Session) (v : Values) (new : Option Values) → ((had_formula turn || has_formula turn) ≡ true → key.scope ≢ Some NO_SHEET) → IfSome new (λ w. HasTurned (words_in s) key turn v w)
     → FollowsTurn key turn s (Some v) new × MarksTurn key turn s (Some v) new
 follows_turn key Changed s v new scoped marked = (
   λ word spelt. (follows_change (key_spelt key word) s (Some (own_node key)) v new (own_at key s word spelt (scoped refl)) marked).0,
@@ -336,9 +369,13 @@ follows_turn key Removed s v new scoped marked = (
 follows_turn key Added s v new scoped marked = (
   λ word spelt.
       subst (λ (k : Key). FollowsAddition k s (Some v) new) (small_key key s word spelt)
-      (follows_addition key.scope word s (Some (own_node key)) (Some (whole_node key)) v new (own_small key s word spelt (scoped refl)) (whole_at key s word spelt) marked).0,
-  λ word spelt. (follows_addition key.scope word s (Some (own_node key)) (Some (whole_node key)) v new (own_small key s word spelt (scoped refl)) (whole_at key s word spelt) marked).1,
+      (follows_addition key.scope word s (Some (own_node key)) (Some (whole_node key)) v new (own_small key s word spelt (scoped refl)) (whole_at key s word spelt) (sought_in new marked word spelt)).0,
+  λ word spelt. (follows_addition key.scope word s (Some (own_node key)) (Some (whole_node key)) v new (own_small key s word spelt (scoped refl)) (whole_at key s word spelt) (sought_in new marked word spelt)).1,
 )
+  where
+    sought_in : (o : Option Values) → IfSome o (λ w. HasTurned (words_in s) key Added v w) → (word : List ℕ) → slice_get (words_in s) key.word ≡ Some word → IfSome o (λ w. HasSought (Some (own_node key)) (Some (whole_node key)) word v w)
+    sought_in None none word spelt = tt
+    sought_in (Some w) turns word spelt = turns word spelt
 follows_turn key Absent s v None scoped marked = (λ word spelt b words customs today numbered now keeps differ had has follows. tt, refl)
 follows_turn key Absent s v (Some w) scoped marked = absurd marked
 
@@ -376,21 +413,22 @@ have_linked (Ok x) n v u w nodes shown linked same first marked = (
   },
 )
 
-pub have_sought : {X E : Type 0} (r : Result X E) (n whole : Node) (v u x w : Values) (nodes shown : List Node) → AreLinkedTo whole (links_in v) nodes → shown ≡ nodes → ((a : Node) → has a (marks_in u) ≡ (has a (marks_in v) || seeks_in v a)) → ((a : Node) → seeks_in u a ≡ false)
-    → links_in u ≡ links_in v → asks_in u ≡ asks_in v → loses_in u ≡ loses_in v → kept_in u ≡ kept_in v → HaveMarked shown u x → OnOk r (HaveMarked (n ∷ []) x w) → OnOk r (HasSought (Some n) (Some whole) v w)
-have_sought (Err e) n whole v u x w nodes shown linked same first none links asking losing kept second third = tt
-have_sought (Ok o) n whole v u x w nodes shown linked same first none links asking losing kept second third = record {
+pub have_sought : {X E : Type 0} (r : Result X E) (n whole : Node) (word : List ℕ) (v u x w : Values) (nodes shown : List Node) → AreLinkedTo whole (links_in v) nodes → shown ≡ nodes → ((a : Node) → has a (marks_in u) ≡ (has a (marks_in v) || seeks_in v word a))
+    → ((other : List ℕ) (a : Node) → seeks_in u other a ≡ cond (same_name word other) false (seeks_in v other a))
+    → links_in u ≡ links_in v → asks_in u ≡ asks_in v → loses_in u ≡ loses_in v → kept_in u ≡ kept_in v → HaveMarked shown u x → OnOk r (HaveMarked (n ∷ []) x w) → OnOk r (HasSought (Some n) (Some whole) word v w)
+have_sought (Err e) n whole word v u x w nodes shown linked same first none links asking losing kept second third = tt
+have_sought (Ok o) n whole word v u x w nodes shown linked same first none links asking losing kept second third = record {
   links = third.links ∙ second.links ∙ links;
   asking = third.asking ∙ second.asking ∙ asking;
   losing = third.losing ∙ second.losing ∙ losing;
   kept = third.kept ∙ second.kept ∙ kept;
-  none = λ a. ap (λ (f : Node → Bool). f a) (third.seeking ∙ second.seeking) ∙ none a;
-  stay = λ a h. marks a ∙ has-append_left a (marks_in u) more (first a ∙ or_left (has a (marks_in v)) (seeks_in v a) h);
-  sought = λ a h. marks a ∙ has-append_left a (marks_in u) more (first a ∙ or_right (has a (marks_in v)) (seeks_in v a) h);
+  seeking = λ other a. ap (λ (f : List ℕ → Node → Bool). f other a) (third.seeking ∙ second.seeking) ∙ none other a;
+  stay = λ a h. marks a ∙ has-append_left a (marks_in u) more (first a ∙ or_left (has a (marks_in v)) (seeks_in v word a) h);
+  sought = λ a h. marks a ∙ has-append_left a (marks_in u) more (first a ∙ or_right (has a (marks_in v)) (seeks_in v word a) h);
   linked = λ a link. marks a ∙ has-append_right a (marks_in u) more (has-append_left a nodes (n ∷ []) ((linked.0 a).1 link));
   itself = marks n ∙ has-append_right n (marks_in u) more (has-append_right n nodes (n ∷ []) (has_first n []));
   only = λ a h. ⊎_elim
-      (λ (old : has a (marks_in u) ≡ true). ⊎_elim (λ (is : has a (marks_in v) ≡ true). inl is) (λ (seek : seeks_in v a ≡ true). inr (inl seek)) (or_cases (has a (marks_in v)) (seeks_in v a) (sym (first a) ∙ old)))
+      (λ (old : has a (marks_in u) ≡ true). ⊎_elim (λ (is : has a (marks_in v) ≡ true). inl is) (λ (seek : seeks_in v word a ≡ true). inr (inl seek)) (or_cases (has a (marks_in v)) (seeks_in v word a) (sym (first a) ∙ old)))
       (λ (last : has a more ≡ true). ⊎_elim
       (λ (one : has a nodes ≡ true). inr (inr (inl ((linked.0 a).0 one))))
       (λ (it : has a (n ∷ []) ≡ true). inr (inr (inr (has_one a n it))))

@@ -40,7 +40,7 @@ abbrev pub FollowsAddition : Key → Session → Option Values → Option Values
 FollowsAddition key s old new = FollowsName key s false true old new
 
 -- nodes of which this holds may be marked; links, values and all other marks are as they were, and so is what is noted, but that formulas
--- with a word that finds no name may be noted no more
+-- with a word that found no name may be noted no more
 pub record IsMarkedFor (which : Node → Type 0) (v w : Values) : Type 0 where
   pub links : links_in w ≡ links_in v
   pub asking : asks_in w ≡ asks_in v
@@ -71,9 +71,9 @@ MarksChange key s = MarksFor (λ v. IsNameIn s key)
 abbrev pub MarksRemoval : Key → Session → Option Values → Option Values → Type 0
 MarksRemoval key s = MarksFor (λ v a. IsNameIn s key a ⊎ IsLinkedIn s key v a)
 
--- where it was added, it, what was noted to use a word that finds no name, and what is linked to the whole workbook's name of the word
+-- where it was added, it, what was noted to use its word where that found no name, and what is linked to the whole workbook's name of the word
 abbrev pub MarksAddition : Option ℕ → List ℕ → Session → Option Values → Option Values → Type 0
-MarksAddition scope word s = MarksFor (λ v a. IsNameIn s (key_of scope word) a ⊎ ((seeks_in v a ≡ true) ⊎ IsLinkedIn s (key_of None word) v a))
+MarksAddition scope word s = MarksFor (λ v a. IsNameIn s (key_of scope word) a ⊎ ((seeks_in v word a ≡ true) ⊎ IsLinkedIn s (key_of None word) v a))
 
 -- what a step does to a name, by whether it had a formula and has one
 abbrev pub turn_of : Bool → Bool → NameTurn

@@ -1,3 +1,4 @@
 -- What only the proofs of bodies need.
 pub mod Listed
 pub mod Marked
+pub mod Way

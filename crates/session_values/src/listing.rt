@@ -56,7 +56,7 @@ pub fn restored_by(session: &Session) -> Result<Nodes, AllocError>
 }
 
 // The nodes of cells.
-fn cell_nodes(alloc: Global, cells: &[(Place, Cell)]) -> Result<Nodes, AllocError>
+pub(crate) fn cell_nodes(alloc: Global, cells: &[(Place, Cell)]) -> Result<Nodes, AllocError>
     ensures { IfOk result (λ nodes. items_of nodes ≡ map cell_node cells.now) }
 {
     let mut nodes = Nodes::new(alloc)?;

@@ -1,12 +1,13 @@
 // What is kept of a session's values over a change of a name.
-ghost use Rattle.std.specs.Prelude.{◌≡◌, ◌≢◌, ◌||◌, true, IfSome, None, OnOk, Some};
+ghost use Rattle.std.specs.Prelude.{◌≡◌, ◌≢◌, ◌||◌, true, IfSome, IsTrue, None, OnOk, Some};
 ghost use Rattle.cell_addr.specs.declared.place.TheConstants.{NO_SHEET as no_sheet};
 ghost use Rattle.book_values.specs.Names.{key_of};
 ghost use Rattle.book_values.specs.Workbook as nodes;
 ghost use Rattle.recalc_core.specs.Nodes.{node_at};
 ghost use Rattle.session_values.specs.Following.{words_in};
 ghost use Rattle.session_values.specs.Naming.{FollowsAddition, FollowsChange, FollowsRemoval, FollowsTurn, MarksAddition, MarksChange, MarksRemoval, MarksTurn, had_formula, has_formula, turn_of};
-ghost use Rattle.session_values.specs.internal.Marked.{HasMarked, HasMarkedLinked, HasSought, HasTurned, own_node, whole_node};
+ghost use Rattle.session_values.specs.Parts.{FollowsTurnIn};
+ghost use Rattle.session_values.specs.internal.Marked.{AreMade, HasMarked, HasMarkedLinked, HasSought, HasTurned, own_node, whole_node};
 
 use crate::values::SessionValues;
 use cell_addr::NO_SHEET;
@@ -58,15 +59,25 @@ impl SessionValues {
         ensures follows { FollowsChange (key_of scope word.now) session.now self.old.values self.new.values }
         ensures marks { MarksChange (key_of scope word.now) session.now self.old.values self.new.values }
     {
-        self.values = match self.values.take() {
-            Some(values) => name_marked(values, node_of(session, scope, word)),
-            None => None,
-        };
+        if self.change_marked(node_of(session, scope, word)) {
+            return;
+        }
+        self.forget();
+    }
+
+    // Marks a name, where anything is kept: whether there is one, and memory for it.
+    fn change_marked(&mut self, name: Option<Node>) -> bool
+        ensures { IsTrue result → AreMade (HasMarked name) self.old.values self.new.values }
+    {
+        match &mut self.values {
+            Some(values) => name_marked(values, name),
+            None => true,
+        }
     }
 
     /// Takes what is kept along with a name of the scope that was added, after the session's call: marks the name, each formula
-    /// with a word that found no name, and each that is linked to the whole workbook's name of the word, which a sheet's own name
-    /// hides on its sheet. What followed the workbook before follows the one after it.
+    /// that uses its word where that found no name, and each that is linked to the whole workbook's name of the word, which a
+    /// sheet's own name hides on its sheet. What followed the workbook before follows the one after it.
     ///
     /// Where there is no memory for it, nothing is kept any more. Costs a look-up for each such formula.
     pub fn name_added(&mut self, session: &Session, scope: Option<u32>, word: &str)
@@ -74,14 +85,21 @@ impl SessionValues {
         ensures follows { FollowsAddition (key_of scope word.now) session.now self.old.values self.new.values }
         ensures marks { MarksAddition scope word.now session.now self.old.values self.new.values }
     {
-        self.values = match self.values.take() {
-            Some(values) => sought_marked(
-                values,
-                node_of(session, scope, word),
-                node_of(session, None, word),
-            ),
-            None => None,
-        };
+        let name = node_of(session, scope, word);
+        if self.addition_marked(name, node_of(session, None, word), word) {
+            return;
+        }
+        self.forget();
+    }
+
+    // Marks a name, what is linked to another one and what seeks the word, likewise.
+    fn addition_marked(&mut self, name: Option<Node>, whole: Option<Node>, word: &str) -> bool
+        ensures { IsTrue result → AreMade (HasSought name whole word.now) self.old.values self.new.values }
+    {
+        match &mut self.values {
+            Some(values) => sought_marked(values, name, whole, word),
+            None => true,
+        }
     }
 
     /// Takes what is kept along with a name of the scope that was removed, after the session's call: marks the name, and each
@@ -93,10 +111,20 @@ impl SessionValues {
         ensures follows { FollowsRemoval (key_of scope word.now) session.now self.old.values self.new.values }
         ensures marks { MarksRemoval (key_of scope word.now) session.now self.old.values self.new.values }
     {
-        self.values = match self.values.take() {
-            Some(values) => linked_marked(values, node_of(session, scope, word)),
-            None => None,
-        };
+        if self.removal_marked(node_of(session, scope, word)) {
+            return;
+        }
+        self.forget();
+    }
+
+    // Marks a name and what is linked to it, likewise.
+    fn removal_marked(&mut self, name: Option<Node>) -> bool
+        ensures { IsTrue result → AreMade (HasMarkedLinked name) self.old.values self.new.values }
+    {
+        match &mut self.values {
+            Some(values) => linked_marked(values, name),
+            None => true,
+        }
     }
 
     /// Takes what is kept along with a name that a step back or forth gave another formula, or one again, or none, after the
@@ -108,23 +136,42 @@ impl SessionValues {
         requires { (had_formula turn || has_formula turn) ≡ true → key.scope ≢ Some no_sheet }
         ensures follows { FollowsTurn key turn session.now self.old.values self.new.values }
         ensures marks { MarksTurn key turn session.now self.old.values self.new.values }
+        ensures between { FollowsTurnIn key turn (words_in session.now) self.old.values self.new.values }
     {
-        self.values = match self.values.take() {
-            Some(values) => turned(values, key, turn),
-            None => None,
-        };
+        if self.turn_marked(session, key, turn) {
+            return;
+        }
+        self.forget();
+    }
+
+    // Marks what a change of the name touches, likewise.
+    fn turn_marked(&mut self, session: &Session, key: NameKey, turn: NameTurn) -> bool
+        ensures { IsTrue result → AreMade (HasTurned (words_in session.now) key turn) self.old.values self.new.values }
+    {
+        match &mut self.values {
+            Some(values) => turned(values, session, key, turn),
+            None => true,
+        }
     }
 }
 
-// The values where what a change of the name touches is marked, if there is memory for it.
-fn turned(values: Values, key: NameKey, turn: NameTurn) -> Option<Values>
-    ensures { IfSome result (λ marked. HasTurned key turn values marked) }
+// Marks what a change of the name touches: whether there is anything, and memory for it.
+fn turned(values: &mut Values, session: &Session, key: NameKey, turn: NameTurn) -> bool
+    ensures { IsTrue result → HasTurned (words_in session.now) key turn values.old values.new }
 {
     match turn {
         NameTurn::Changed => name_marked(values, Some(own_node(key))),
         NameTurn::Removed => linked_marked(values, Some(own_node(key))),
-        NameTurn::Added => sought_marked(values, Some(own_node(key)), Some(whole_node(key))),
-        NameTurn::Absent => None,
+        NameTurn::Added => match session.book.names.spelling(key.word) {
+            Some(word) => sought_marked(
+                values,
+                Some(own_node(key)),
+                Some(whole_node(key)),
+                word.as_str(),
+            ),
+            None => false,
+        },
+        NameTurn::Absent => false,
     }
 }
 
@@ -160,23 +207,23 @@ fn node_of(session: &Session, scope: Option<u32>, word: &str) -> Option<Node>
     })
 }
 
-// The values where the node is marked, if there is one and there is memory for it.
-fn name_marked(mut values: Values, name: Option<Node>) -> Option<Values>
-    ensures { IfSome result (λ marked. HasMarked name values marked) }
+// Marks the node: whether there is one, and memory for it.
+fn name_marked(values: &mut Values, name: Option<Node>) -> bool
+    ensures { IsTrue result → HasMarked name values.old values.new }
 {
-    match values.mark(name?) {
-        Ok(()) => Some(values),
-        Err(_) => None,
+    match name {
+        Some(name) => values.mark(name).is_ok(),
+        None => false,
     }
 }
 
-// The values where the node and each that is linked to it is marked, likewise.
-fn linked_marked(mut values: Values, name: Option<Node>) -> Option<Values>
-    ensures { IfSome result (λ marked. HasMarkedLinked name values marked) }
+// Marks the node and each that is linked to it, likewise.
+fn linked_marked(values: &mut Values, name: Option<Node>) -> bool
+    ensures { IsTrue result → HasMarkedLinked name values.old values.new }
 {
-    match mark_linked(&mut values, name?) {
-        Ok(()) => Some(values),
-        Err(_) => None,
+    match name {
+        Some(name) => mark_linked(values, name).is_ok(),
+        None => false,
     }
 }
 
@@ -189,23 +236,22 @@ fn mark_linked(values: &mut Values, name: Node) -> Result<(), AllocError>
     values.mark(name)
 }
 
-// The values where the first node, each that is linked to the second one, and each formula with a word that finds no name is marked,
-// likewise.
-fn sought_marked(mut values: Values, name: Option<Node>, whole: Option<Node>) -> Option<Values>
-    ensures { IfSome result (λ marked. HasSought name whole values marked) }
+// Marks the first node, each that is linked to the second one, and each formula that uses the word where it finds no name, likewise.
+fn sought_marked(values: &mut Values, name: Option<Node>, whole: Option<Node>, word: &str) -> bool
+    ensures { IsTrue result → HasSought name whole word.now values.old values.new }
 {
-    match mark_sought(&mut values, name?, whole?) {
-        Ok(()) => Some(values),
-        Err(_) => None,
+    match (name, whole) {
+        (Some(name), Some(whole)) => mark_sought(values, name, whole, word).is_ok(),
+        _ => false,
     }
 }
 
 // Marks these.
-fn mark_sought(values: &mut Values, name: Node, whole: Node) -> Result<(), AllocError>
-    ensures { OnOk result (HasSought (Some name) (Some whole) values.old values.new) }
+fn mark_sought(values: &mut Values, name: Node, whole: Node, word: &str) -> Result<(), AllocError>
+    ensures { OnOk result (HasSought (Some name) (Some whole) word.now values.old values.new) }
 {
     let linked = values.linked_to(whole)?;
-    values.mark_seeking()?;
+    values.mark_seeking(word)?;
     values.mark_all(linked.items())?;
     values.mark(name)
 }

@@ -38,7 +38,7 @@ impl SessionValues {
     }
 
     // Marks the cells of a part, likewise.
-    fn touch_part(&mut self, part: &Part) -> Result<(), AllocError>
+    pub(crate) fn touch_part(&mut self, part: &Part) -> Result<(), AllocError>
         ensures touched { AreTouchedAtMost (is_listed (change_of part.now ∷ [])) self.old.values self.new.values }
         ensures cells { IsOfCells (change_of part.now) → AreTouched (is_listed (change_of part.now ∷ [])) self.old.values self.new.values }
         ensures marked { OnOk result (IsStepMarked (change_of part.now ∷ []) self.new.values) }
@@ -52,9 +52,9 @@ impl SessionValues {
     }
 }
 
-// Whether a part has no operation, and lists no name and no sheet.
-fn is_of_cells(part: &Part) -> bool
+// Whether a part has no operation, and lists no name.
+pub(crate) fn is_of_cells(part: &Part) -> bool
     ensures { IsTrue result ↔ IsOfCells (change_of part.now) }
 {
-    part.from == part.to && part.names.is_empty() && part.sheets.is_empty()
+    part.from == part.to && part.names.is_empty()
 }

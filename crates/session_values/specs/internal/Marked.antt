@@ -1,5 +1,6 @@
 -- Values in which a name's node is marked, and what is linked to it or seeks a name.
-use Rattle.std.specs.Prelude.{◌≡◌, ◌⊎◌, true, false, IsTrue, ◌++◌, ◌∷◌, [], List, Option, Some, None, unwrap_or}
+use Rattle.std.specs.Prelude.{◌≡◌, ◌⊎◌, ⊤, ℕ, true, false, if◌then◌else◌, IsTrue, ◌++◌, ◌∷◌, [], List, Option, Some, None, slice_get, unwrap_or}
+use Rattle.cell_addr.specs.Sheets.{same_name}
 use Rattle.cell_addr.specs.declared.place.TheConstants.{NO_SHEET}
 use Rattle.dep_graph.specs.Nodes.{has}
 use Rattle.dep_graph.specs.Users.{AreLinkedTo}
@@ -30,24 +31,24 @@ abbrev pub HasMarkedLinked : Option Node → Values → Values → Type 0
 HasMarkedLinked (Some n) v w = (nodes : List Node) × AreLinkedTo n (links_in v) nodes × HaveMarked (nodes ++ n ∷ []) v w
 HasMarkedLinked None v w = ⊥
 
--- the first node is marked, each that is linked to the second one, and each that was noted to use a word that finds no name, of which none
--- is noted any more
-pub record HaveSought (n whole : Node) (v w : Values) : Type 0 where
+-- the first node is marked, each that is linked to the second one, and each that was noted to use the word where it finds no name, of which
+-- none is noted under it any more
+pub record HaveSought (n whole : Node) (word : List ℕ) (v w : Values) : Type 0 where
   pub links : links_in w ≡ links_in v
   pub asking : asks_in w ≡ asks_in v
   pub losing : loses_in w ≡ loses_in v
   pub kept : kept_in w ≡ kept_in v
-  pub none : (a : Node) → seeks_in w a ≡ false
+  pub seeking : (other : List ℕ) (a : Node) → seeks_in w other a ≡ (if same_name word other then false else seeks_in v other a)
   pub stay : (a : Node) → IsTrue (has a (marks_in v)) → IsTrue (has a (marks_in w))
-  pub sought : (a : Node) → seeks_in v a ≡ true → IsTrue (has a (marks_in w))
+  pub sought : (a : Node) → seeks_in v word a ≡ true → IsTrue (has a (marks_in w))
   pub linked : (a : Node) → IsTrue (has whole (links_in v a)) → IsTrue (has a (marks_in w))
   pub itself : IsTrue (has n (marks_in w))
-  pub only : (a : Node) → IsTrue (has a (marks_in w)) → IsTrue (has a (marks_in v)) ⊎ ((seeks_in v a ≡ true) ⊎ (IsTrue (has whole (links_in v a)) ⊎ (a ≡ n)))
+  pub only : (a : Node) → IsTrue (has a (marks_in w)) → IsTrue (has a (marks_in v)) ⊎ ((seeks_in v word a ≡ true) ⊎ (IsTrue (has whole (links_in v a)) ⊎ (a ≡ n)))
 
 -- there are two nodes, and so it is
-abbrev pub HasSought : Option Node → Option Node → Values → Values → Type 0
-HasSought (Some n) (Some whole) v w = HaveSought n whole v w
-HasSought _ _ v w = ⊥
+abbrev pub HasSought : Option Node → Option Node → List ℕ → Values → Values → Type 0
+HasSought (Some n) (Some whole) word v w = HaveSought n whole word v w
+HasSought _ _ word v w = ⊥
 
 -- the node of a name, and that of the whole workbook's name of its word
 abbrev pub own_node : NameKey → Node
@@ -56,9 +57,15 @@ own_node key = Name (unwrap_or key.scope NO_SHEET) key.word
 abbrev pub whole_node : NameKey → Node
 whole_node key = Name NO_SHEET key.word
 
--- marked is what this touches
-abbrev pub HasTurned : NameKey → NameTurn → Values → Values → Type 0
-HasTurned key Changed v w = HasMarked (Some (own_node key)) v w
-HasTurned key Removed v w = HasMarkedLinked (Some (own_node key)) v w
-HasTurned key Added v w = HasSought (Some (own_node key)) (Some (whole_node key)) v w
-HasTurned key Absent v w = ⊥
+-- marked is what this touches, where these are the words by their numbers
+abbrev pub HasTurned : List (List ℕ) → NameKey → NameTurn → Values → Values → Type 0
+HasTurned words key Changed v w = HasMarked (Some (own_node key)) v w
+HasTurned words key Removed v w = HasMarkedLinked (Some (own_node key)) v w
+HasTurned words key Added v w = (word : List ℕ) → slice_get words key.word ≡ Some word → HasSought (Some (own_node key)) (Some (whole_node key)) word v w
+HasTurned words key Absent v w = ⊥
+
+-- where anything is kept, the values before and after it stand so; else nothing is kept after it either
+abbrev pub AreMade : (Values → Values → Type 0) → Option Values → Option Values → Type 0
+AreMade Stand None None = ⊤
+AreMade Stand (Some v) (Some w) = Stand v w
+AreMade Stand _ _ = ⊥

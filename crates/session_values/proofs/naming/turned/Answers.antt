@@ -1,22 +1,21 @@
-use Rattle.std.proofs.Common.{sym, subst, Some}
-use Rattle.std.specs.Prelude.{IfSome}
+use Rattle.std.proofs.Common.{◌≡◌, ◌∙◌, sym, subst, ℕ, List, Option, Some}
+use Rattle.std.specs.Prelude.{slice_get}
+use Rattle.std.proofs.lemmas.Option.{same_Some}
 use Rattle.dep_graph.specs.declared.node.Node.{Node}
+use Rattle.kept_values.specs.declared.values.Values.{Values}
+use Rattle.name_table.specs.declared.key.NameKey.{NameKey}
+use Rattle.session_values.specs.Following.{words_in}
 use Rattle.session_values.specs.declared.naming.NameTurn.{NameTurn}
-use Rattle.session_values.specs.internal.Marked.{HasMarked, HasMarkedLinked, HasSought, HasTurned, own_node}
+use Rattle.session_values.specs.declared.naming.NameTurn.TheVariants.{Added}
+use Rattle.session_values.specs.internal.Marked.{HasMarked, HasMarkedLinked, HasSought, HasTurned, own_node, whole_node}
 use Rattle.session_values.proofs.naming.turned.Goals as goal
 
 pub returns-in-Changed : goal.returns-in-Changed
-returns-in-Changed c =
-    subst (λ (t : NameTurn). IfSome c.name_marked.result (λ w. HasTurned c.args.key t c.args.values w)) (sym c.in-Changed.is)
-    (subst (λ (n : Node). IfSome c.name_marked.result (λ w. HasMarked (Some n) c.args.values w)) c.own_node.ensures c.name_marked.ensures)
+returns-in-Changed c = λ ok.
+    subst (λ (t : NameTurn). HasTurned (words_in c.args.session.now) c.args.key t c.args.values.now c.name_marked.new.values) (sym c.in-Changed.is)
+    (subst (λ (n : Node). HasMarked (Some n) c.args.values.now c.name_marked.new.values) c.own_node.ensures (c.name_marked.ensures ok))
 
 pub returns-in-Removed : goal.returns-in-Removed
-returns-in-Removed c =
-    subst (λ (t : NameTurn). IfSome c.linked_marked.result (λ w. HasTurned c.args.key t c.args.values w)) (sym c.in-Removed.is)
-    (subst (λ (n : Node). IfSome c.linked_marked.result (λ w. HasMarkedLinked (Some n) c.args.values w)) c.own_node-in-Removed.ensures c.linked_marked.ensures)
-
-pub returns-in-Added : goal.returns-in-Added
-returns-in-Added c =
-    subst (λ (t : NameTurn). IfSome c.sought_marked.result (λ w. HasTurned c.args.key t c.args.values w)) (sym c.in-Added.is)
-    (subst (λ (n : Node). IfSome c.sought_marked.result (λ w. HasSought (Some (own_node c.args.key)) (Some n) c.args.values w)) c.whole_node.ensures
-    (subst (λ (n : Node). IfSome c.sought_marked.result (λ w. HasSought (Some n) (Some c.whole_node.result) c.args.values w)) c.own_node-in-Added.ensures c.sought_marked.ensures))
+returns-in-Removed c = λ ok.
+    subst (λ (t : NameTurn). HasTurned (words_in c.args.session.now) c.args.key t c.args.values.now c.linked_marked.new.values) (sym c.in-Removed.is)
+    (subst (λ (n : Node). HasMarkedLinked (Some n) c.args.values.now c.linked_marked.new.values) c.own_node-in-Removed.ensures (c.linked_marked.ensures ok))

@@ -1,4 +1,4 @@
-use Rattle.std.proofs.Common.{◌∙◌, ap, Bool, List, ◌++◌}
+use Rattle.std.proofs.Common.{◌∙◌, ap, ℕ, Bool, List, ◌++◌}
 use Rattle.dep_graph.specs.Needs.{Links}
 use Rattle.dep_graph.specs.Nodes.{has, items_of}
 use Rattle.dep_graph.specs.declared.node.Node.{Node}
@@ -15,6 +15,6 @@ returns c = λ customs today.
     (λ a. ap (λ (f : Kept). f a) c.mark_all.ensures.kept ∙ c.in_ok-values.ensures.kept a)
     (λ a. ap (λ (f : Node → Bool). f a) c.mark_all.ensures.asking ∙ c.in_ok-values.ensures.asking a)
     (λ a. ap (λ (f : Node → Bool). f a) c.mark_all.ensures.losing ∙ c.in_ok-values.ensures.losing a)
-    (λ a. ap (λ (f : Node → Bool). f a) c.mark_all.ensures.seeking ∙ c.in_ok-values.ensures.seeking a)
+    (λ word a. ap (λ (f : List ℕ → Node → Bool). f word a) c.mark_all.ensures.seeking ∙ c.in_ok-values.ensures.seeking word a)
     (λ a. c.in_ok-mark_all.ensures.ok a ∙ ap (λ (ms : List Node). has a (ms ++ c.items.result.now)) c.in_ok-values.ensures.marks ∙ ap (has a) c.items.ensures)
     c.in_ok-nodes.ensures.all c.in_ok-nodes.ensures.known

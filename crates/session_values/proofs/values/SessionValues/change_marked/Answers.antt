@@ -1,0 +1,10 @@
+use Rattle.std.proofs.Common.{sym, subst, Option, Some}
+use Rattle.kept_values.specs.declared.values.Values.{Values}
+use Rattle.session_values.specs.internal.Marked.{AreMade, HasMarked}
+use Rattle.session_values.proofs.values.SessionValues.change_marked.Goals as goal
+
+pub returns-in-Some : goal.returns-in-Some
+returns-in-Some c = λ ok. subst (λ (o : Option Values). AreMade (HasMarked c.args.name) o (Some c.name_marked.new.values)) (sym c.in-Some.is) (c.name_marked.ensures ok)
+
+pub returns-in-None : goal.returns-in-None
+returns-in-None c = λ ok. subst (λ (o : Option Values). AreMade (HasMarked c.args.name) o o) (sym c.in-None.is) tt

@@ -1,0 +1,217 @@
+// What is kept of a session's values over the parts of a step, one after the other.
+ghost use Rattle.std.specs.Prelude.{◌≡◌, ◌↔◌, IfSome, IsTrue, OnOk, Some, is_some};
+ghost use Rattle.cell_addr.specs.declared.place.TheConstants.{NO_SHEET as no_sheet};
+ghost use Rattle.shift_core.specs.Form.{form_of};
+ghost use Rattle.shift_core.specs.Opposite.{opposite_of};
+ghost use Rattle.shift_core.specs.Sound.{IsSound};
+ghost use Rattle.kept_book.specs.Change.{shift_of};
+ghost use Rattle.kept_book.specs.Kept.{change_of, changes_of, line_of, name_change};
+ghost use Rattle.kept_steps.specs.Turned.{AreOfCells};
+ghost use Rattle.session_values.specs.Following.{words_in};
+ghost use Rattle.session_values.specs.Naming.{turn_of};
+ghost use Rattle.session_values.specs.Parts.{FollowsPartBack, FollowsPartForth, FollowsPartsBack, FollowsPartsForth, FollowsTurnIn, IsOnLines};
+
+use crate::listing::cell_nodes;
+use crate::naming::NameTurn;
+use crate::touching::is_of_cells;
+use crate::values::SessionValues;
+use cell_addr::NO_SHEET;
+use kept_book::{NameChange, Part};
+use kept_steps::{Session, name_alone};
+use name_table::NameKey;
+use shift_core::{Form, Shift};
+use std::alloc::AllocError;
+
+/// Whether each part of a step is a change of cells alone. Costs the number of parts.
+pub fn are_of_cells(parts: &[Part]) -> bool
+    ensures { IsTrue result ↔ AreOfCells (changes_of parts.now) }
+{
+    let mut left = parts;
+    'parts: while let [part, rest @ ..] = left {
+        if !is_of_cells(part) {
+            return false;
+        }
+        left = rest;
+    }
+    true
+}
+
+impl SessionValues {
+    /// Takes what is kept along with the parts of a step of the session that is taken back, the last one first: cells that a part
+    /// lists are marked, an operation on lines is followed back, and of a change of one name what it touches is marked. What
+    /// follows the workbook after the step follows the one before it then.
+    ///
+    /// Over a part that is anything else, and where there is no memory for it, nothing is kept any more. Costs for each part what
+    /// [`SessionValues::touch_cells`], [`SessionValues::take_back`] or [`SessionValues::name_turned`] does.
+    pub fn parts_turned_back(&mut self, session: &Session, parts: &[Part])
+        ensures { FollowsPartsBack (line_of session.now.book) (words_in session.now) (changes_of parts.now) self.old.values self.new.values }
+    {
+        for index in (0..parts.len()).rev() {
+            self.part_turned_back(session, &parts[index]);
+        }
+    }
+
+    /// Takes what is kept along with the parts of a step of the session that is done again, the first one first, likewise. What
+    /// follows the workbook before the step follows the one after it then.
+    pub fn parts_turned_forth(&mut self, session: &Session, parts: &[Part])
+        ensures { FollowsPartsForth (line_of session.now.book) (words_in session.now) (changes_of parts.now) self.old.values self.new.values }
+    {
+        'parts: for part in parts {
+            self.part_turned_forth(session, part);
+        }
+    }
+
+    // Takes what is kept along with one part that is taken back.
+    fn part_turned_back(&mut self, session: &Session, part: &Part)
+        ensures { FollowsPartBack (line_of session.now.book) (words_in session.now) (change_of part.now) self.old.values self.new.values }
+    {
+        match self.part_back(session, part) {
+            Ok(()) => (),
+            Err(_) => self.forget(),
+        }
+    }
+
+    // Takes what is kept along with one part that is done again.
+    fn part_turned_forth(&mut self, session: &Session, part: &Part)
+        ensures { FollowsPartForth (line_of session.now.book) (words_in session.now) (change_of part.now) self.old.values self.new.values }
+    {
+        match self.part_forth(session, part) {
+            Ok(()) => (),
+            Err(_) => self.forget(),
+        }
+    }
+
+    // The same; errs for want of memory.
+    fn part_back(&mut self, session: &Session, part: &Part) -> Result<(), AllocError>
+        ensures { OnOk result (FollowsPartBack (line_of session.now.book) (words_in session.now) (change_of part.now) self.old.values self.new.values) }
+    {
+        match session.operation_in(part) {
+            Some(s) => self.lines_back(session, &s, part),
+            None => self.change_back(session, part),
+        }
+    }
+
+    fn part_forth(&mut self, session: &Session, part: &Part) -> Result<(), AllocError>
+        ensures { OnOk result (FollowsPartForth (line_of session.now.book) (words_in session.now) (change_of part.now) self.old.values self.new.values) }
+    {
+        match session.operation_in(part) {
+            Some(s) => self.lines_forth(session, &s, part),
+            None => self.change_forth(session, part),
+        }
+    }
+
+    // Over a part with this operation that is taken back.
+    fn lines_back(&mut self, session: &Session, s: &Shift, part: &Part) -> Result<(), AllocError>
+        requires sound { IsSound s.now }
+        requires operation { shift_of (line_of session.now.book) (change_of part.now) ≡ Some s.now }
+        ensures { OnOk result (FollowsPartBack (line_of session.now.book) (words_in session.now) (change_of part.now) self.old.values self.new.values) }
+    {
+        let Some(back) = lines_opposite(s) else {
+            self.forget();
+            return Ok(());
+        };
+        let removed = cell_nodes(session.book.alloc, part.replaced.items())?;
+        self.take_back(s, &back, &[], removed.items())
+    }
+
+    // Over one that is done again.
+    fn lines_forth(&mut self, session: &Session, s: &Shift, part: &Part) -> Result<(), AllocError>
+        requires sound { IsSound s.now }
+        requires operation { shift_of (line_of session.now.book) (change_of part.now) ≡ Some s.now }
+        ensures { OnOk result (FollowsPartForth (line_of session.now.book) (words_in session.now) (change_of part.now) self.old.values self.new.values) }
+    {
+        if !is_on_lines(s) {
+            self.forget();
+            return Ok(());
+        }
+        self.shift(s, &[])
+    }
+
+    // Over a part without an operation that is taken back.
+    fn change_back(&mut self, session: &Session, part: &Part) -> Result<(), AllocError>
+        ensures { OnOk result (FollowsPartBack (line_of session.now.book) (words_in session.now) (change_of part.now) self.old.values self.new.values) }
+    {
+        match name_alone(part) {
+            Some(name) => {
+                let turn = turn_back(&name);
+                self.name_turned_in(session, &name, turn);
+                Ok(())
+            }
+            None => self.touch_part(part),
+        }
+    }
+
+    // Over one that is done again.
+    fn change_forth(&mut self, session: &Session, part: &Part) -> Result<(), AllocError>
+        ensures { OnOk result (FollowsPartForth (line_of session.now.book) (words_in session.now) (change_of part.now) self.old.values self.new.values) }
+    {
+        match name_alone(part) {
+            Some(name) => {
+                let turn = turn_forth(&name);
+                self.name_turned_in(session, &name, turn);
+                Ok(())
+            }
+            None => self.touch_part(part),
+        }
+    }
+
+    // Over a change of this name, by what it does to the name.
+    fn name_turned_in(&mut self, session: &Session, name: &NameChange, turn: NameTurn)
+        ensures { FollowsTurnIn (name_change name.now).0 turn (words_in session.now) self.old.values self.new.values }
+    {
+        if is_no_sheet(name.scope) {
+            self.forget();
+            return;
+        }
+        let key = NameKey {
+            scope: name.scope,
+            word: name.word,
+        };
+        self.name_turned(session, key, turn);
+    }
+}
+
+// What becomes of a name whose change is taken back.
+fn turn_back(name: &NameChange) -> NameTurn
+    ensures { result ≡ turn_of (is_some name.now.after) (is_some name.now.before) }
+{
+    NameTurn::of(name.after.is_some(), name.before.is_some())
+}
+
+// What becomes of a name whose change is done again.
+fn turn_forth(name: &NameChange) -> NameTurn
+    ensures { result ≡ turn_of (is_some name.now.before) (is_some name.now.after) }
+{
+    NameTurn::of(name.before.is_some(), name.after.is_some())
+}
+
+// Whether a scope is the number of no sheet, which no name has.
+fn is_no_sheet(scope: Option<u32>) -> bool
+    ensures { IsTrue result ↔ (scope ≡ Some no_sheet) }
+{
+    match scope {
+        Some(sheet) => sheet == NO_SHEET,
+        None => false,
+    }
+}
+
+// Whether an operation is one on lines.
+fn is_on_lines(s: &Shift) -> bool
+    ensures { IsTrue result ↔ IsOnLines (form_of s.now) }
+{
+    match s.form() {
+        Form::Lines { .. } => true,
+        Form::Cells { .. } => false,
+        Form::Sheet { .. } => false,
+    }
+}
+
+// The operation on lines that takes one back; `None`, where none does.
+fn lines_opposite(s: &Shift) -> Option<Shift>
+    requires { IsSound s.now }
+    ensures opposite { IfSome result (λ back. opposite_of s.now ≡ Some back) }
+    ensures lines { IfSome result (λ back. IsOnLines (form_of back)) }
+{
+    let back = s.opposite()?;
+    if is_on_lines(&back) { Some(back) } else { None }
+}
