@@ -1,5 +1,6 @@
 -- The causes of a refusal, tested in two parts. Serves the calls on names, and the values of names and tried formulas.
-use Rattle.std.proofs.Common.{◌≡◌, ◌≢◌, ◌∙◌, sym, ap, refl, cond, ℕ, Bool, true, false, not, ◌||◌, ◌==◌, List, [], ◌∷◌, ◌++◌, Option, Some, None, is_some, Err, eqb-true}
+use Rattle.std.proofs.Common.{◌≡◌, ◌≢◌, ◌∙◌, sym, ap, refl, cond, ℕ, Bool, true, false, not, ◌||◌, ◌==◌, List, [], ◌∷◌, ◌++◌, Option, Some, None, is_some, Result, Ok, Err, eqb-true}
+use Rattle.std.specs.Prelude.{is_ok}
 use Rattle.std.proofs.lemmas.Bool.{false≢true}
 use Rattle.std.proofs.lemmas.List.Elements.{All-head, All-tail}
 use Rattle.std.proofs.lemmas.Option.{none-some}
@@ -14,7 +15,7 @@ use Rattle.book_model.specs.declared.refusal.Refusal.{Refusal}
 use Rattle.book_engine.specs.declared.stop.Stop.{Stop}
 use Rattle.book_engine.specs.declared.stop.Stop.TheVariants.{Refused, NoMemory}
 use Rattle.book_engine.specs.internal.Names.{Reads}
-use Rattle.book_engine.specs.internal.Turns.{Turns}
+use Rattle.book_engine.specs.internal.Turns.{IsCause, Turns}
 use Rattle.book_engine.proofs.Turning.{next_refused}
 
 front-by : (b : Bool) (x r : Refusal) (one more : Option Refusal) → cond b (Some x) one ≡ Some r → (one ≡ Some r → more ≡ Some r) → cond b (Some x) more ≡ Some r
@@ -44,6 +45,11 @@ reads_front cs ds P Q NoMemory h = tt
 pub reads_turn : {X Y : Type 0} (op : Operation) (d : State) (cs : List Cause) (P : X → Type 0) (Answers : State → Y → Type 0) (e : Stop) → cause op d ≡ first_cause cs → Reads {X = X} (first_cause cs) P (Err e) → Turns {X = Y} op Answers d d (Err e)
 reads_turn op d cs P Answers (Refused r) is h = (is ∙ h, next_refused op d r (is ∙ h))
 reads_turn op d cs P Answers NoMemory is h = refl
+
+-- a test whose answer is the cause passes where there is none
+pub accepted_where_ok : {X : Type 0} (r : Result X Refusal) (cause : Option Refusal) → IsCause r cause → is_ok r ≡ is_none cause
+accepted_where_ok (Ok x) cause is = ap is_none (sym is)
+accepted_where_ok (Err r) cause is = ap is_none (sym is)
 
 pub none_is : {X : Type 0} (o : Option X) → is_some o ≡ false → is_none o ≡ true
 none_is None h = refl

@@ -41,10 +41,11 @@ use Rattle.kept_steps.specs.Timeline.{book_in, timeline_of}
 use Rattle.kept_steps.specs.Turned.{AreOfCells, DifferAmong, IsRenamed, is_listed, key_spelt}
 use Rattle.kept_steps.specs.declared.session.Session.{Session}
 use Rattle.session_values.specs.Following.{FollowsIn, book_of, words_in}
-use Rattle.session_values.specs.Naming.{FollowsName, FollowsTurn, had_formula, has_formula, turn_of}
+use Rattle.session_values.specs.Naming.{FollowsName, FollowsTurn, has_formula, turn_of}
 use Rattle.session_values.specs.Shifting.{FollowsShift}
 use Rattle.session_values.specs.Touched.{AreTouched, AreTouchedAtMost, IsMarkedIn, IsStepMarked}
 use Rattle.session_values.proofs.Followed.{cells_follow}
+use Rattle.session_values.proofs.NamedBetween.{turn_had, turn_has}
 use Rattle.session_values.proofs.MarkedCells.{at_most, at_most_on, marked_on, untouched}
 use Rattle.book_engine.specs.Seen.{ValuesFollowStill, state_of}
 use Rattle.book_engine.specs.internal.Touched.{AreFilledMarked}
@@ -172,18 +173,6 @@ pub follow_named : (key : Key) (had : Bool) (o : Option (Term Corner)) (old new 
     → has_name (state_of old).book key ≡ had → FollowsName key new.session had (is_some o) old.values.values new.values.values → ValuesFollowStill old new
 follow_named key had o old new more is was over =
     follow_name key had o old new more (ap (λ (d : State). d.book) is ∙ changed_book (with_name key o (state_of old).book) (state_of old)) was over
-
-pub turn_had : (had has : Bool) → had_formula (turn_of had has) ≡ had
-turn_had true true = refl
-turn_had true false = refl
-turn_had false true = refl
-turn_had false false = refl
-
-pub turn_has : (had has : Bool) → has_formula (turn_of had has) ≡ has
-turn_has true true = refl
-turn_has true false = refl
-turn_has false true = refl
-turn_has false false = refl
 
 -- and so over a step back or forth that is such a change
 pub follow_renamed : (key : NameKey) (had has : Bool) (old new : Parts) → words_in new.session ≡ words_in old.session → IsRenamed (words_in old.session) key had has (state_of old).book (state_of new).book

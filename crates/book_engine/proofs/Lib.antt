@@ -7,12 +7,14 @@ pub mod Pushed
 pub mod FilledCells
 pub mod Following
 pub mod Stepped
+pub mod PartsStepped
 pub mod TurnedMarks
 pub mod PastedMarks
 pub mod KeptLine
 pub mod TouchedCells
 pub mod GivenExamples
 pub mod Counted
+pub mod Closed
 pub mod Causes
 pub mod TakenApart
 pub mod AnyCalls

@@ -1,5 +1,5 @@
 -- Which marks there are after a paste. Serves the engine's call.
-use Rattle.std.proofs.Common.{◌≡◌, sym, subst, Option, Some, Result, Ok, Err}
+use Rattle.std.proofs.Common.{◌≡◌, sym, subst, Some, Result, Ok, Err}
 use Rattle.std.specs.Prelude.{OnOk}
 use Rattle.std.proofs.lemmas.Option.{none-some, same_Some}
 use Rattle.cell_addr.specs.Place.{covers}

@@ -19,7 +19,7 @@ use Rattle.recalc_core.specs.Laws.{AreKnown}
 use Rattle.recalc_core.specs.Shifted.{drops_scope}
 use Rattle.marked_values.specs.Shifts.{IsBookAfter}
 use Rattle.marked_values.proofs.GoingBack.{keeps}
-use Rattle.marked_books.proofs.Shifting.{book_after, sessions_are_inside}
+use Rattle.marked_books.proofs.Shifting.{all_inside, book_after, sessions_are_inside}
 use Rattle.restored_values.specs.Suspects.{AreRemoved}
 use Rattle.kept_book.specs.Change.{Change}
 use Rattle.kept_book.specs.Kept.{IsMore, line_of}
@@ -54,7 +54,7 @@ one_change x (c ∷ d ∷ cs) s is = absurd (none-some s is)
 
 -- the workbook after an operation that leaves the names of the whole workbook
 operated : (s : Shift) (d e : State) → IsSound d → CanBeDone s → drops_scope (form_of s) NO_SHEET ≡ false → e.book ≡ shifted s d.book → IsBookAfter s (valued d.book) (valued e.book)
-operated s d e sound can global same = subst (λ (b : Workbook). IsBookAfter s (valued d.book) (valued b)) (sym same) (book_after s d.next_sheet d.book can sound.book global)
+operated s d e sound can global same = subst (λ (b : Workbook). IsBookAfter s (valued d.book) (valued b)) (sym same) (book_after s d.book can (all_inside d.next_sheet d.book sound.book) global)
 
 -- what the step lists is what the operation had removed
 pub are_removed : (x : Session) (d : State) (s : Shift) (restored : List Node) → operation_of (line_of x.book) (to_undo x) ≡ Some s → ListsLost (line_of x.book) (to_undo x) d.book

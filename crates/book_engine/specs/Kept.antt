@@ -176,8 +176,8 @@ pub record MarksReturned (s back : Shift) (changes : List Change) (old new : Opt
   pub replaced : (a : Node) → IsTrue (has a removed) → is_replaced_cell changes a ≡ true
   pub marks : MarksShiftBack s back touched removed old new
 
--- a step is taken back or done again. Where it is one structural operation that another one takes back, this holds of both; where it changes cells
--- alone, those that it lists may be marked; after any other step nothing may be kept any more
+-- a step is taken back or done again. Where it is one structural operation that another one takes back, this holds of both; where it changes cells,
+-- or which sheets there are, alone, those that it lists may be marked; after any other step nothing may be kept any more
 pub record MarksStep (line : Line) (changes : List Change) (Marks : Shift → Shift → Type 0) (old new : Option Values) : Type 0 where
   pub operation : (s back : Shift) → operation_of line changes ≡ Some s → opposite_of s ≡ Some back → Marks s back
   pub cells : AreOfCells changes → AreTouched (is_listed changes) old new
@@ -209,7 +209,7 @@ MarksPaste (clips.Cut area) at old new = MarksOperation (MoveBlock area at) old 
 abbrev pub MarksNameChanged : {C : Type 0} {G : Ghosts C} → Option ℕ → List ℕ → Engine C G → Engine C G → Type 0
 MarksNameChanged scope word old new = MarksChange (key_of scope word) (session_kept new) (values_kept old) (values_kept new)
 
--- it is added: it, each formula that was noted to have a word that finds no name, and each that is linked to the whole workbook's name of the word
+-- it is added: it, each formula that was noted to use its word where that found no name, and each that is linked to the whole workbook's name of the word
 abbrev pub MarksNameAdded : {C : Type 0} {G : Ghosts C} → Option ℕ → List ℕ → Engine C G → Engine C G → Type 0
 MarksNameAdded scope word old new = MarksAddition scope word (session_kept new) (values_kept old) (values_kept new)
 

@@ -1,5 +1,5 @@
 -- The session that an engine stands for. Source: this project's own.
-use Rattle.std.specs.Prelude.{ℕ, ℤ, List, Option, Some, None, ⊤}
+use Rattle.std.specs.Prelude.{ℕ, ℤ, Bool, true, false, List, Option, Some, None, ⊤}
 use Rattle.custom_fn.specs.declared.rule.Rule.{Rule}
 use Rattle.std.specs.List.{All}
 use Rattle.cell_addr.specs.Place.{IsBlockInside}
@@ -28,6 +28,11 @@ abbrev pub clip_of : Clip → Clipboard
 clip_of clips.Nothing = nothing
 clip_of (clips.Copied area cells) = copied area (contents_copied (items_of cells))
 clip_of (clips.Cut area) = moving area
+
+-- tests whether nothing waits to be pasted
+abbrev pub is_nothing : Clipboard → Bool
+is_nothing nothing = true
+is_nothing clip = false
 
 -- the block that is cut, if one is
 abbrev pub area_moving : Clipboard → Option Block

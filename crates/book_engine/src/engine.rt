@@ -45,10 +45,11 @@ use undo_book::UndoBook;
 /// needs; nothing is worked out before that. A change of cells and a paste mark these cells; a structural operation takes along what
 /// is kept, and marks the formulas that it bends or that ask where a reference is, the cells of a moved block and of where it goes,
 /// and the names of a dropped sheet; a name that gets another formula is marked, with one that is removed each formula that used it,
-/// and with one that is added each formula with a word that found none. Undo and redo of changes of cells mark these, of one change
-/// of a name what that touches, and of one structural operation they take back or along what is kept; after those of anything else,
-/// and of a dropped sheet, the next read works the whole workbook out. Each call says by a clause, `marks`, `left` or `values`, which
-/// marks there are after it; of undo and redo of names the calls beneath say it.
+/// and with one that is added each formula that uses its word where that found none. Undo and redo of changes of cells mark these, of
+/// a change of a name what that touches, and of a structural operation they take back or along what is kept; a step of several such
+/// changes they follow one after the other. After those of a dropped sheet, and of a block that was moved among other changes, the
+/// next read works the whole workbook out. Each change says by a clause, `marks`, `left` or `values`, which marks there are after it;
+/// of undo and redo of one change of a name [`SessionValues::name_turned`] says it, and of a step of several changes no clause does.
 #[derive(Drop)]
 pub struct Engine<C: Customs> {
     pub(crate) parts: Parts,
@@ -292,8 +293,8 @@ impl<C: Customs> Engine<C> {
     }
 
     /// Adds a name with the formula of the text: in the scope of a sheet, or of the whole workbook where there is none. Every
-    /// reference of it has both `$`, and in a name of the whole workbook its sheet. Marks the name, each formula with a word that
-    /// found no name, and each that used the whole workbook's name of the word; or nothing is kept any more.
+    /// reference of it has both `$`, and in a name of the whole workbook its sheet. Marks the name, each formula that uses its
+    /// word where that found no name, and each that used the whole workbook's name of the word; or nothing is kept any more.
     ///
     /// # Errors
     /// `NoSheet` for a scope that doesn't exist, `NameInvalid` where the word isn't of the form of a name
@@ -436,10 +437,11 @@ impl<C: Customs> Engine<C> {
     /// the step changed and the lines that its operations edited; a step that changed names or sheets copies their table once,
     /// and one of several operations of which one is structural the cells.
     ///
-    /// Where the step is one structural operation, what is kept of values goes back with it: marked are the cells that come back, the
-    /// formulas that it may have bent, those that ask where a reference is or have lost one, and the cells of a block that goes back
-    /// and of where that goes. Where it changed cells alone, these are marked, and where it is one change of a name, what that change
-    /// touches; after any other step nothing is kept any more.
+    /// Where the step is one structural operation that has an opposite, what is kept of values goes back with it: marked are the
+    /// cells that come back, the formulas that it may have bent, those that ask where a reference is or have lost one, and the
+    /// cells of a block that goes back and of where that goes. Where it changed cells alone, these are marked, and where it is one
+    /// change of a name, what that change touches. Where it is several changes, it is so with each of them, the last one first,
+    /// where each is an operation on lines, a change of one name or of cells alone; after any other step nothing is kept any more.
     ///
     /// # Errors
     /// `BatchOpen`, `NothingToUndo`.
@@ -456,8 +458,8 @@ impl<C: Customs> Engine<C> {
 
     /// Goes forward again to the whole workbook from after the step that was undone last; a change ends that. Costs what
     /// [`Engine::undo`] does. Where the step is one structural operation that has an opposite, marks what that call does; where it
-    /// changed cells alone, these; where it is one change of a name, what that change touches; after any other step nothing is kept
-    /// any more.
+    /// changed cells alone, these; where it is one change of a name, what that change touches; where it is several of these, on
+    /// lines, each of them, the first one first; after any other step nothing is kept any more.
     ///
     /// # Errors
     /// `BatchOpen`, `NothingToRedo`.

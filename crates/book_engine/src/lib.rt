@@ -16,6 +16,7 @@
 #![tactic(auto)]
 
 mod absolute;
+mod asking;
 mod checks;
 mod copying;
 mod engine;

@@ -26,9 +26,13 @@ impl Parts {
     {
         self.check_structural(s)?;
         let touched = touched_by(&self.session, s)?;
-        let values = self.values.shifted(s, touched.items())?;
-        self.session.structural(s)?;
-        self.values = values;
-        Ok(())
+        self.values.shift(s, touched.items())?;
+        match self.session.structural(s) {
+            Ok(()) => Ok(()),
+            Err(error) => {
+                self.values.forget();
+                Err(Stop::from(error))
+            }
+        }
     }
 }

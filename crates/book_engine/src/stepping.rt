@@ -21,13 +21,14 @@ use crate::parts::Parts;
 use kept_book::NameChange;
 use kept_steps::Session;
 use name_table::NameKey;
-use session_values::{NameTurn, SessionValues, restored_by, touched_by};
+use session_values::{NameTurn, SessionValues, are_of_cells, restored_by, touched_by};
 use shift_core::Shift;
 use std::alloc::AllocError;
 
 impl Parts {
-    // Takes the newest step back. What is kept of values goes along, where the step is one structural operation that has an
-    // opposite, one change of a name, or changes of cells alone; else nothing is kept any more.
+    // Takes the newest step back. What is kept of values goes along: at once, where the step is one structural operation that has an
+    // opposite, one change of a name, or changes of cells alone; else part by part, as far as each part is an operation on lines, a
+    // change of one name or one of cells alone. Over any other part nothing is kept any more.
     pub(crate) fn step_back(&mut self) -> Result<(), AllocError>
         requires fits { Fits self.old }
         requires closed { self.old.session.batch ≡ None }
@@ -61,12 +62,15 @@ impl Parts {
     {
         let touched = touched_by(&self.session, back)?;
         let restored = restored_by(&self.session)?;
-        let values = self
-            .values
-            .shifted_back(s, back, touched.items(), restored.items())?;
-        self.session.undo()?;
-        self.values = values;
-        Ok(())
+        self.values
+            .take_back(s, back, touched.items(), restored.items())?;
+        match self.session.undo() {
+            Ok(()) => Ok(()),
+            Err(error) => {
+                self.values.forget();
+                Err(error)
+            }
+        }
     }
 
     // Takes a step back that is no such operation.
@@ -79,10 +83,13 @@ impl Parts {
         ensures follow { ValuesFollowStill self.old self.new }
         ensures marks { AreOfCells (to_undo self.old.session) → AreTouched (is_listed (to_undo self.old.session)) self.old.values.values self.new.values.values }
     {
-        match self.session.name_undone() {
-            Some(name) => self.name_back(&name),
-            None => self.cells_back(),
+        if let Some(name) = self.session.name_undone() {
+            return self.name_back(&name);
         }
+        if are_of_cells(self.session.parts_undone()) {
+            return self.cells_back();
+        }
+        self.parts_back()
     }
 
     // Takes a step back that is this change of a name.
@@ -102,7 +109,7 @@ impl Parts {
         Ok(())
     }
 
-    // Takes a step back that may be anything else.
+    // Takes a step back that is changes of cells alone.
     fn cells_back(&mut self) -> Result<(), AllocError>
         requires { self.old.session.batch ≡ None }
         ensures ok { OnOk result (state_of self.new ≡ done op.undo (state_of self.old)) }
@@ -114,6 +121,28 @@ impl Parts {
     {
         touch_undone(&self.session, &mut self.values)?;
         self.session.undo()
+    }
+
+    // Takes a step back that is anything else.
+    fn parts_back(&mut self) -> Result<(), AllocError>
+        requires closed { self.old.session.batch ≡ None }
+        requires more { ¬ AreOfCells (to_undo self.old.session) }
+        ensures ok { OnOk result (state_of self.new ≡ done op.undo (state_of self.old)) }
+        ensures err { OnErr result (state_of self.new ≡ state_of self.old) }
+        ensures line_err { OnErr result (KeepsLineIn self.old.session self.new.session) }
+        ensures kept { KeepsAll self.old.session.book.lazy self.new.session.book.lazy }
+        ensures follow { ValuesFollowStill self.old self.new }
+        ensures marks { AreOfCells (to_undo self.old.session) → AreTouched (is_listed (to_undo self.old.session)) self.old.values.values self.new.values.values }
+    {
+        self.values
+            .parts_turned_back(&self.session, self.session.parts_undone());
+        match self.session.undo() {
+            Ok(()) => Ok(()),
+            Err(error) => {
+                self.values.forget();
+                Err(error)
+            }
+        }
     }
 
     // Does the step again that was taken back last, likewise.
@@ -147,10 +176,14 @@ impl Parts {
         ensures marks { OnOk result (MarksAlong s.now self.old.values.values self.new.values.values) }
     {
         let touched = touched_by(&self.session, s)?;
-        let values = self.values.shifted(s, touched.items())?;
-        self.session.redo()?;
-        self.values = values;
-        Ok(())
+        self.values.shift(s, touched.items())?;
+        match self.session.redo() {
+            Ok(()) => Ok(()),
+            Err(error) => {
+                self.values.forget();
+                Err(error)
+            }
+        }
     }
 
     // Does a step again that is no such operation.
@@ -163,10 +196,13 @@ impl Parts {
         ensures follow { ValuesFollowStill self.old self.new }
         ensures marks { AreOfCells (to_redo self.old.session) → AreTouched (is_listed (to_redo self.old.session)) self.old.values.values self.new.values.values }
     {
-        match self.session.name_redone() {
-            Some(name) => self.name_forth(&name),
-            None => self.cells_forth(),
+        if let Some(name) = self.session.name_redone() {
+            return self.name_forth(&name);
         }
+        if are_of_cells(self.session.parts_redone()) {
+            return self.cells_forth();
+        }
+        self.parts_forth()
     }
 
     // Does a step again that is this change of a name.
@@ -186,7 +222,7 @@ impl Parts {
         Ok(())
     }
 
-    // Does a step again that may be anything else.
+    // Does a step again that is changes of cells alone.
     fn cells_forth(&mut self) -> Result<(), AllocError>
         requires { self.old.session.batch ≡ None }
         ensures ok { OnOk result (state_of self.new ≡ done op.redo (state_of self.old)) }
@@ -198,6 +234,28 @@ impl Parts {
     {
         touch_redone(&self.session, &mut self.values)?;
         self.session.redo()
+    }
+
+    // Does a step again that is anything else.
+    fn parts_forth(&mut self) -> Result<(), AllocError>
+        requires closed { self.old.session.batch ≡ None }
+        requires more { ¬ AreOfCells (to_redo self.old.session) }
+        ensures ok { OnOk result (state_of self.new ≡ done op.redo (state_of self.old)) }
+        ensures err { OnErr result (state_of self.new ≡ state_of self.old) }
+        ensures line_err { OnErr result (KeepsLineIn self.old.session self.new.session) }
+        ensures kept { KeepsAll self.old.session.book.lazy self.new.session.book.lazy }
+        ensures follow { ValuesFollowStill self.old self.new }
+        ensures marks { AreOfCells (to_redo self.old.session) → AreTouched (is_listed (to_redo self.old.session)) self.old.values.values self.new.values.values }
+    {
+        self.values
+            .parts_turned_forth(&self.session, self.session.parts_redone());
+        match self.session.redo() {
+            Ok(()) => Ok(()),
+            Err(error) => {
+                self.values.forget();
+                Err(error)
+            }
+        }
     }
 }
 

@@ -1,11 +1,12 @@
 // Steps that can be undone and redone, batches of changes, and suspension.
 ghost use Rattle.std.specs.Prelude.{◌≡◌, true, false, OnErr, OnOk};
 ghost use Rattle.book_model.specs.Operation as op;
+ghost use Rattle.book_model.specs.Refusals.{cause};
 ghost use Rattle.lazy_store.specs.Store.{KeepsAll};
 ghost use Rattle.book_engine.specs.Engine.{NoAnswer};
 ghost use Rattle.book_engine.specs.Kept.{KeepsLineIn, MarksRedoneIn, MarksUndoneIn};
 ghost use Rattle.book_engine.specs.Seen.{Fits, ValuesFollowStill, state_of};
-ghost use Rattle.book_engine.specs.internal.Turns.{Turns};
+ghost use Rattle.book_engine.specs.internal.Turns.{IsCause, Turns};
 
 use crate::parts::Parts;
 use crate::stop::Stop;
@@ -68,6 +69,32 @@ impl Parts {
         self.session.resume();
     }
 
+    // Where a step is taken back.
+    pub(crate) fn check_undo(&self) -> Result<(), Refusal>
+        ensures { IsCause result (cause op.undo (state_of self.now)) }
+    {
+        if self.session.batch.is_some() {
+            return Err(Refusal::BatchOpen);
+        }
+        if self.session.steps.done().is_empty() {
+            return Err(Refusal::NothingToUndo);
+        }
+        Ok(())
+    }
+
+    // Where a step is done again.
+    pub(crate) fn check_redo(&self) -> Result<(), Refusal>
+        ensures { IsCause result (cause op.redo (state_of self.now)) }
+    {
+        if self.session.batch.is_some() {
+            return Err(Refusal::BatchOpen);
+        }
+        if self.session.steps.undone().is_empty() {
+            return Err(Refusal::NothingToRedo);
+        }
+        Ok(())
+    }
+
     // Back to the workbook from before the last step.
     pub(crate) fn undo(&mut self) -> Result<(), Stop>
         requires { Fits self.old }
@@ -78,12 +105,7 @@ impl Parts {
         ensures follow { ValuesFollowStill self.old self.new }
         ensures marks { OnOk result (MarksUndoneIn self.old.session self.old.values.values self.new.values.values) }
     {
-        if self.session.batch.is_some() {
-            return Err(Stop::Refused(Refusal::BatchOpen));
-        }
-        if self.session.steps.done().is_empty() {
-            return Err(Stop::Refused(Refusal::NothingToUndo));
-        }
+        self.check_undo()?;
         self.step_back()?;
         Ok(())
     }
@@ -98,12 +120,7 @@ impl Parts {
         ensures follow { ValuesFollowStill self.old self.new }
         ensures marks { OnOk result (MarksRedoneIn self.old.session self.old.values.values self.new.values.values) }
     {
-        if self.session.batch.is_some() {
-            return Err(Stop::Refused(Refusal::BatchOpen));
-        }
-        if self.session.steps.undone().is_empty() {
-            return Err(Stop::Refused(Refusal::NothingToRedo));
-        }
+        self.check_redo()?;
         self.step_forth()?;
         Ok(())
     }

@@ -4,7 +4,8 @@ use Rattle.kept_book.specs.Kept.{name_change}
 use Rattle.name_table.specs.declared.key.NameKey.{NameKey}
 use Rattle.session_values.specs.Naming.{FollowsTurn, had_formula, has_formula, turn_of}
 use Rattle.session_values.specs.declared.naming.NameTurn.{NameTurn}
-use Rattle.book_engine.proofs.Following.{follow_renamed, follow_state, more_as, turn_had, turn_has}
+use Rattle.session_values.proofs.NamedBetween.{turn_had, turn_has}
+use Rattle.book_engine.proofs.Following.{follow_renamed, follow_state, more_as}
 use Rattle.book_engine.proofs.TurnedMarks.{not_of_cells}
 use Rattle.book_engine.proofs.parts.Parts.name_forth.Goals as goal
 

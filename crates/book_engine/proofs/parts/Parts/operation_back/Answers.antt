@@ -23,36 +23,30 @@ touched_by-requires c =
     let x = c.args.self.now.session in
     back_is_sound c.args.s.now c.args.back.now (operation_sound x (to_undo x) c.args.s.now c.requires.operation) c.requires.opposite
 
-pub shifted_back-requires-clause-sound : goal.shifted_back-requires-clause-sound
-shifted_back-requires-clause-sound c = let x = c.args.self.now.session in operation_sound x (to_undo x) c.args.s.now c.requires.operation
+pub take_back-requires-clause-sound : goal.take_back-requires-clause-sound
+take_back-requires-clause-sound c = let x = c.args.self.now.session in operation_sound x (to_undo x) c.args.s.now c.requires.operation
 
-pub returns-in_err-undo-clause-follow : goal.returns-in_err-undo-clause-follow
-returns-in_err-undo-clause-follow c = follow_none c.args.self.now (record { session = c.undo.new.self; values = c.shifted_back.new.self }) c.shifted_back.ensures.taken
-
-pub returns-in_err-values-clause-follow : goal.returns-in_err-values-clause-follow
-returns-in_err-values-clause-follow c = follow_none c.args.self.now (record { session = c.args.self.now.session; values = c.shifted_back.new.self }) c.shifted_back.ensures.taken
-
-pub returns-clause-follow : goal.returns-clause-follow
-returns-clause-follow c =
+pub returns-in-Ok-clause-follow : goal.returns-in-Ok-clause-follow
+returns-in-Ok-clause-follow c =
     let old = c.args.self.now in
     let x = old.session in
     let s = c.args.s.now in
     let back = c.args.back.now in
-    let new : Parts = record { session = c.undo.new.self; values = c.in_ok-values.values } in
-    follow_back s back old new c.items.result.now c.items-2.result.now (done_sound op.undo (state_of old) (state_of new) c.requires.accepted c.in_ok-undo.ensures.ok c.requires.fits) c.requires.operation c.requires.opposite c.in_ok-undo.ensures.operation
+    let new : Parts = record { session = c.undo.new.self; values = c.take_back.new.self } in
+    follow_back s back old new c.items.result.now c.items-2.result.now (done_sound op.undo (state_of old) (state_of new) c.requires.accepted c.in-Ok.ensures.ok c.requires.fits) c.requires.operation c.requires.opposite c.in-Ok.ensures.operation
     c.undo.ensures.words
     (subst (λ (ns : List Node). HasTouched back (book_of x) (words_in x) ns) (sym c.items.ensures) c.in_ok-touched.ensures.touched)
     (subst (λ (ns : List Node). AreKnown (words_in x) ns) (sym c.items.ensures) c.in_ok-touched.ensures.known)
-    (subst (λ (ns : List Node). AreRemoved s (book_of c.undo.new.self) ns) (sym c.items-2.ensures) (are_removed x (state_of new) s (items_of c.in_ok-restored.restored) c.requires.operation c.in_ok-undo.ensures.lost c.in_ok-restored.ensures.listed))
-    (subst (λ (ns : List Node). AreKnown (words_in x) ns) (sym c.items-2.ensures) (c.in_ok-restored.ensures.known (words_in x))) c.in_ok-values.ensures.follows
+    (subst (λ (ns : List Node). AreRemoved s (book_of c.undo.new.self) ns) (sym c.items-2.ensures) (are_removed x (state_of new) s (items_of c.in_ok-restored.restored) c.requires.operation c.in-Ok.ensures.lost c.in_ok-restored.ensures.listed))
+    (subst (λ (ns : List Node). AreKnown (words_in x) ns) (sym c.items-2.ensures) (c.in_ok-restored.ensures.known (words_in x))) c.in_ok-take_back.ensures.follows
 
-pub returns-clause-marks : goal.returns-clause-marks
-returns-clause-marks c = record {
+pub returns-in-Ok-clause-marks : goal.returns-in-Ok-clause-marks
+returns-in-Ok-clause-marks c = record {
   touched = c.items.result.now;
   removed = c.items-2.result.now;
   only = subst (λ (ns : List Node). (a : Node) → IsTrue (has a ns) → may_touch c.args.back.now a ≡ true) (sym c.items.ensures) c.in_ok-touched.ensures.only;
   replaced = subst (λ (ns : List Node). (a : Node) → IsTrue (has a ns) → is_replaced_cell (to_undo c.args.self.now.session) a ≡ true) (sym c.items-2.ensures) c.in_ok-restored.ensures.only;
-  marks = c.in_ok-values.ensures.marks;
+  marks = c.in_ok-take_back.ensures.marks;
 }
 
 pub returns-in_err-touched-clause-marks : goal.returns-in_err-touched-clause-marks
@@ -67,14 +61,11 @@ returns-in_err-restored-clause-marks c = rw (err_from_is_err_and c.from_residual
 pub returns-in_err-restored-clause-line_err : goal.returns-in_err-restored-clause-line_err
 returns-in_err-restored-clause-line_err c = rw (err_from_is_err_and c.from_residual-in_err-restored.result c.from_residual-in_err-restored.ensures.1).1 refl
 
-pub returns-in_err-values-clause-marks : goal.returns-in_err-values-clause-marks
-returns-in_err-values-clause-marks c = rw (err_from_is_err_and c.from_residual-in_err-values.result c.from_residual-in_err-values.ensures.1).1 tt
+pub returns-in_err-take_back-clause-follow : goal.returns-in_err-take_back-clause-follow
+returns-in_err-take_back-clause-follow c = follow_none c.args.self.now (record { session = c.args.self.now.session; values = c.take_back.new.self }) c.in_err-take_back.ensures.err
 
-pub returns-in_err-values-clause-line_err : goal.returns-in_err-values-clause-line_err
-returns-in_err-values-clause-line_err c = rw (err_from_is_err_and c.from_residual-in_err-values.result c.from_residual-in_err-values.ensures.1).1 refl
+pub returns-in_err-take_back-clause-marks : goal.returns-in_err-take_back-clause-marks
+returns-in_err-take_back-clause-marks c = rw (err_from_is_err_and c.from_residual-in_err-take_back.result c.from_residual-in_err-take_back.ensures.1).1 tt
 
-pub returns-in_err-undo-clause-marks : goal.returns-in_err-undo-clause-marks
-returns-in_err-undo-clause-marks c = rw (err_from_is_err_and c.from_residual-in_err-undo.result c.from_residual-in_err-undo.ensures.1).1 tt
-
-pub returns-in_err-undo-clause-line_err : goal.returns-in_err-undo-clause-line_err
-returns-in_err-undo-clause-line_err c = rw (err_from_is_err_and c.from_residual-in_err-undo.result c.from_residual-in_err-undo.ensures.1).1 c.in_err-undo.ensures.line_err
+pub returns-in_err-take_back-clause-line_err : goal.returns-in_err-take_back-clause-line_err
+returns-in_err-take_back-clause-line_err c = rw (err_from_is_err_and c.from_residual-in_err-take_back.result c.from_residual-in_err-take_back.ensures.1).1 refl

@@ -2,7 +2,6 @@ use Rattle.std.proofs.Common.{◌≡◌, ◌∙◌, sym, subst, refl, inl, true,
 use Rattle.std.specs.Prelude.{IsTrue}
 use Rattle.std.proofs.lemmas.Result.{err_from_is_err_and}
 use Rattle.book_model.specs.Operation as op
-use Rattle.book_model.specs.Sound.{IsSound}
 use Rattle.book_engine.specs.Seen.{state_of}
 use Rattle.book_engine.proofs.Turning.{done_sound, next_done, sound_inside}
 use Rattle.shift_core.specs.Form.{form_of}
@@ -21,37 +20,28 @@ structural-requires-clause-sound c = (sound_form (state_of c.args.self.now) (for
 pub structural-requires-clause-inside : goal.structural-requires-clause-inside
 structural-requires-clause-inside c = sound_inside (state_of c.args.self.now) c.requires
 
-pub returns-in_err-structural-clause-fits : goal.returns-in_err-structural-clause-fits
-returns-in_err-structural-clause-fits c = subst IsSound (sym c.in_err-structural.ensures.err) c.requires
-
-pub returns-clause-turns : goal.returns-clause-turns
-returns-clause-turns c =
+pub returns-in-Ok-clause-turns : goal.returns-in-Ok-clause-turns
+returns-in-Ok-clause-turns c =
     let d = state_of c.args.self.now in
-    (c.in_ok-check_structural.ensures, tt, c.in_ok-structural.ensures.ok ∙ sym (next_done (op.structural c.args.s.now) d c.in_ok-check_structural.ensures))
+    (c.in_ok-check_structural.ensures, tt, c.in-Ok.ensures.ok ∙ sym (next_done (op.structural c.args.s.now) d c.in_ok-check_structural.ensures))
 
-pub returns-clause-fits : goal.returns-clause-fits
-returns-clause-fits c = done_sound (op.structural c.args.s.now) (state_of c.args.self.now) _ c.in_ok-check_structural.ensures c.in_ok-structural.ensures.ok c.requires
+pub returns-in-Ok-clause-fits : goal.returns-in-Ok-clause-fits
+returns-in-Ok-clause-fits c = done_sound (op.structural c.args.s.now) (state_of c.args.self.now) _ c.in_ok-check_structural.ensures c.in-Ok.ensures.ok c.requires
 
-pub returns-in_err-structural-clause-follow : goal.returns-in_err-structural-clause-follow
-returns-in_err-structural-clause-follow c = follow_none c.args.self.now (record { session = c.structural.new.self; values = c.shifted.new.self }) c.shifted.ensures.taken
-
-pub returns-in_err-values-clause-follow : goal.returns-in_err-values-clause-follow
-returns-in_err-values-clause-follow c = follow_none c.args.self.now (record { session = c.args.self.now.session; values = c.shifted.new.self }) c.shifted.ensures.taken
-
-pub returns-clause-follow : goal.returns-clause-follow
-returns-clause-follow c =
-    follow_shift c.args.s.now c.args.self.now (record { session = c.structural.new.self; values = c.in_ok-values.values }) c.items.result.now c.requires c.in_ok-check_structural.ensures c.in_ok-structural.ensures.ok c.structural.ensures.words
+pub returns-in-Ok-clause-follow : goal.returns-in-Ok-clause-follow
+returns-in-Ok-clause-follow c =
+    follow_shift c.args.s.now c.args.self.now (record { session = c.structural.new.self; values = c.shift.new.self }) c.items.result.now c.requires c.in_ok-check_structural.ensures c.in-Ok.ensures.ok c.structural.ensures.words
     (subst (λ (ns : List Node). HasTouched c.args.s.now (book_of c.args.self.now.session) (words_in c.args.self.now.session) ns) (sym c.items.ensures) c.in_ok-touched.ensures.touched)
-    (subst (λ (ns : List Node). AreKnown (words_in c.args.self.now.session) ns) (sym c.items.ensures) c.in_ok-touched.ensures.known) c.in_ok-values.ensures.follows
+    (subst (λ (ns : List Node). AreKnown (words_in c.args.self.now.session) ns) (sym c.items.ensures) c.in_ok-touched.ensures.known) c.in_ok-shift.ensures.follows
 
-pub shifted-requires : goal.shifted-requires
-shifted-requires c = (sound_form (state_of c.args.self.now) (form_of c.args.s.now) c.in_ok-check_structural.ensures).0
+pub shift-requires : goal.shift-requires
+shift-requires c = (sound_form (state_of c.args.self.now) (form_of c.args.s.now) c.in_ok-check_structural.ensures).0
 
-pub returns-clause-marks : goal.returns-clause-marks
-returns-clause-marks c = record {
+pub returns-in-Ok-clause-marks : goal.returns-in-Ok-clause-marks
+returns-in-Ok-clause-marks c = record {
   touched = c.items.result.now;
   only = subst (λ (ns : List Node). (a : Node) → IsTrue (has a ns) → may_touch c.args.s.now a ≡ true) (sym c.items.ensures) c.in_ok-touched.ensures.only;
-  marks = c.in_ok-values.ensures.marks;
+  marks = c.in_ok-shift.ensures.marks;
 }
 
 pub returns-in_err-check_structural-clause-marks : goal.returns-in_err-check_structural-clause-marks
@@ -66,14 +56,11 @@ returns-in_err-touched-clause-marks c = rw (err_from_is_err_and c.from_residual-
 pub returns-in_err-touched-clause-line_err : goal.returns-in_err-touched-clause-line_err
 returns-in_err-touched-clause-line_err c = let p = err_from_is_err_and c.from_residual-in_err-touched.result c.from_residual-in_err-touched.ensures.1 in rw (p.1, p.2) (inl refl)
 
-pub returns-in_err-values-clause-marks : goal.returns-in_err-values-clause-marks
-returns-in_err-values-clause-marks c = rw (err_from_is_err_and c.from_residual-in_err-values.result c.from_residual-in_err-values.ensures.1).1 tt
+pub returns-in_err-shift-clause-follow : goal.returns-in_err-shift-clause-follow
+returns-in_err-shift-clause-follow c = follow_none c.args.self.now (record { session = c.args.self.now.session; values = c.shift.new.self }) c.in_err-shift.ensures.err
 
-pub returns-in_err-values-clause-line_err : goal.returns-in_err-values-clause-line_err
-returns-in_err-values-clause-line_err c = let p = err_from_is_err_and c.from_residual-in_err-values.result c.from_residual-in_err-values.ensures.1 in rw (p.1, p.2) (inl refl)
+pub returns-in_err-shift-clause-marks : goal.returns-in_err-shift-clause-marks
+returns-in_err-shift-clause-marks c = rw (err_from_is_err_and c.from_residual-in_err-shift.result c.from_residual-in_err-shift.ensures.1).1 tt
 
-pub returns-in_err-structural-clause-marks : goal.returns-in_err-structural-clause-marks
-returns-in_err-structural-clause-marks c = rw (err_from_is_err_and c.from_residual-in_err-structural.result c.from_residual-in_err-structural.ensures.1).1 tt
-
-pub returns-in_err-structural-clause-line_err : goal.returns-in_err-structural-clause-line_err
-returns-in_err-structural-clause-line_err c = let p = err_from_is_err_and c.from_residual-in_err-structural.result c.from_residual-in_err-structural.ensures.1 in rw (p.1, p.2) c.in_err-structural.ensures.line_err
+pub returns-in_err-shift-clause-line_err : goal.returns-in_err-shift-clause-line_err
+returns-in_err-shift-clause-line_err c = let p = err_from_is_err_and c.from_residual-in_err-shift.result c.from_residual-in_err-shift.ensures.1 in rw (p.1, p.2) (inl refl)
