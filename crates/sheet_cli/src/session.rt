@@ -38,20 +38,34 @@ pub struct Session<C: Customs> {
 
 impl<C: Customs> Session<C> {
     /// The session of a workbook with these sheets, in which at most `limit` steps can be undone, whose formulas can call
-    /// these custom functions; the day is the serial number of today.
+    /// these custom functions; the day is the serial number of today. It stands on the heap, since an engine is large.
     pub fn new(
         alloc: Global,
         sheets: &[BookSheet],
         limit: u16,
         registry: C,
         day: i32,
-    ) -> Result<Session<C>, AllocError>
+    ) -> Result<Box<Session<C>>, AllocError>
         requires can { CanBegin (given_sheets sheets.now) }
         requires limit { limit ≤ MAX_UNDO }
-        ensures { IfOk result (λ session. StandsFor C.customs session.engine (session_given limit (C.customs registry) day (given_sheets sheets.now))) }
+        ensures { IfOk result (λ session. StandsFor C.customs session.value.engine (session_given limit (C.customs registry) day (given_sheets sheets.now))) }
     {
         let engine = Engine::build(alloc, sheets, limit, registry, day)?;
-        Ok(Session { alloc, engine })
+        Ok(Box::new(alloc, Session { alloc, engine })?)
+    }
+
+    /// The session that answers by this engine. Takes no memory.
+    pub fn of(alloc: Global, engine: Engine<C>) -> Session<C>
+        ensures { result.engine ≡ engine }
+    {
+        Session { alloc, engine }
+    }
+
+    /// The engine that it answers by. Takes no memory.
+    pub fn into_engine(self) -> Engine<C>
+        ensures { result ≡ self.engine }
+    {
+        self.engine
     }
 
     /// Executes a command, and answers its line. For want of memory the workbook stays as it was.

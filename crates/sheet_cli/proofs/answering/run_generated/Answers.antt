@@ -1,5 +1,5 @@
 -- A session can begin with one empty sheet; for want of memory nothing was printed.
-use Rattle.std.proofs.Common.{◌∙◌, ap, subst, w32, ℤ, List, [], ◌∷◌}
+use Rattle.std.proofs.Common.{◌∙◌, ap, sym, subst, w32, ℤ, List, [], ◌∷◌}
 use Rattle.std.proofs.lemmas.Int.{to_z-of_z}
 use Rattle.book_engine.specs.Engine.{StandsFor}
 use Rattle.book_model.specs.Given.{given_sheets, session_given}
@@ -37,4 +37,5 @@ returns-clause-printed g c =
     subst (λ (commands : List Command). Printed (summary_outcome c.args.said.now.strict (answers_from (session_given limit customs c.args.day (empty_sheet ∷ [])) commands)) old new c.run_commands.result) (c.deref-2.ensures.value ∙ c.in_ok-commands.ensures.commands)
     (subst (λ sheets. Printed (summary_outcome c.args.said.now.strict (answers_from (session_given limit customs c.args.day sheets) c.deref-2.result.now)) old new c.run_commands.result) (ap given_sheets c.deref.ensures.value ∙ c.in_ok-sheets.ensures)
     (c.run_commands.ensures.printed (session_given limit customs c.args.day (given_sheets c.deref.result.now))
-    (subst (λ (n : ℤ). StandsFor g.C.Customs.customs c.in_ok-session.session.engine (session_given limit customs n (given_sheets c.deref.result.now))) (to_z-of_z w32 c.args.day c.ranges.day) c.in_ok-session.ensures)))
+    (subst (λ session. StandsFor g.C.Customs.customs session.engine (session_given limit customs c.args.day (given_sheets c.deref.result.now))) (sym c.deref_mut.ensures.value)
+    (subst (λ (n : ℤ). StandsFor g.C.Customs.customs c.in_ok-session.session.value.engine (session_given limit customs n (given_sheets c.deref.result.now))) (to_z-of_z w32 c.args.day c.ranges.day) c.in_ok-session.ensures))))

@@ -1,5 +1,5 @@
 -- Where there is no memory for a session, nothing was printed.
-use Rattle.std.proofs.Common.{ap, subst, w32, ℤ}
+use Rattle.std.proofs.Common.{ap, sym, subst, w32, ℤ}
 use Rattle.std.proofs.lemmas.Int.{to_z-of_z}
 use Rattle.book_engine.specs.Engine.{StandsFor}
 use Rattle.command_words.specs.Words.{seen}
@@ -23,4 +23,5 @@ returns-clause-printed g c =
     let new = g.O.Sink.taken c.run_records.new.out in
     subst (λ sheets. Printed (script_outcome customs c.args.day (seen c.args.said.now) sheets c.args.script.now) old new c.run_records.result) (ap given_sheets c.deref.ensures.value)
     (c.run_records.ensures.printed (session_given limit customs c.args.day (given_sheets c.deref.result.now))
-    (subst (λ (n : ℤ). StandsFor g.C.Customs.customs c.in_ok-session.session.engine (session_given limit customs n (given_sheets c.deref.result.now))) (to_z-of_z w32 c.args.day c.ranges.day) c.in_ok-session.ensures))
+    (subst (λ session. StandsFor g.C.Customs.customs session.engine (session_given limit customs c.args.day (given_sheets c.deref.result.now))) (sym c.deref_mut.ensures.value)
+    (subst (λ (n : ℤ). StandsFor g.C.Customs.customs c.in_ok-session.session.value.engine (session_given limit customs n (given_sheets c.deref.result.now))) (to_z-of_z w32 c.args.day c.ranges.day) c.in_ok-session.ensures)))
