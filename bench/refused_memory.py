@@ -55,7 +55,7 @@ def scripts(here):
             cases = {case["shows"]: case for case in tomllib.load(file)["case"]}
         for title in titles:
             case = cases[title]
-            files = {it: text.lstrip("\n").encode() for it, text in case.get("files", {}).items()}
+            files = {file["name"]: file["text"].encode() for file in case.get("file", [])}
             yield title, case.get("words", []), case["script"].encode(), files
 
 

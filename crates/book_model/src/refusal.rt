@@ -9,7 +9,7 @@ pub enum Refusal {
     NoSheet,
     /// 2: another sheet has the name, in some case of its ASCII letters.
     SheetNameTaken,
-    /// 3: the name of a sheet has 1 to 100 bytes and no control character.
+    /// 3: the name hasn't 1 to 100 bytes, or has a control character.
     SheetNameInvalid,
     /// 4: the place, the block or the span isn't within the limits of a sheet.
     Outside,
@@ -29,7 +29,7 @@ pub enum Refusal {
     NothingToUndo,
     /// 12: no step can be redone.
     NothingToRedo,
-    /// 13: nothing was copied or cut.
+    /// 13: nothing was copied or cut, or what was cut is pasted or no longer waits.
     NothingToPaste,
     /// 14: the computation of values is suspended, or a batch is open.
     Suspended,

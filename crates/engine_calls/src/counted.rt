@@ -46,7 +46,8 @@ impl Customs for Counting {
 }
 
 // A formula is worked out once, and again where what it needs changed. Inserted rows work out none that they don't bend; neither
-// does the undo of that, nor another name of the sheet. A name works out what uses it, and a moved row what it bends.
+// does the undo of that, nor another name of the sheet, nor one more sheet that comes and goes. A name works out what uses it, and a
+// moved row what it bends. A batch that is undone and done again works out what uses its cells.
 pub(crate) fn formulas_are_worked_out_once(alloc: Global) -> Result<bool, Stop> {
     let calls = no_calls(alloc)?;
     let customs = Counting {
@@ -80,8 +81,10 @@ fn counts<C: Customs, L: Ledger>(
     let renamed = count_after(&mut engine, 0, calls, &mut steps)?;
     let names = counts_users(&mut engine, calls, &mut steps)?;
     let rows = counts_bent(&mut engine, calls, &mut steps)?;
+    let words = counts_sought(&mut engine, calls, &mut steps)?;
+    let batches = counts_batch(&mut engine, calls, &mut steps)?;
     let stay = moved == 1_001 && back == 1_001 && renamed == 1_001;
-    Ok(all == 1_000 && one == 1_001 && stay && names && rows)
+    Ok(all == 1_000 && one == 1_001 && stay && names && rows && words && batches)
 }
 
 // Then a name that nothing uses, and one formula that uses it, while it gets another formula, is removed, and comes again.
@@ -117,6 +120,42 @@ fn counts_bent<C: Customs, L: Ledger>(
     engine.undo()?;
     let back = count_after(engine, 0, calls, steps)?;
     Ok(summed == 1_006 && moved == 1_007 && back == 1_008)
+}
+
+// Then two formulas with a word each that finds no name, of which one gets its name.
+fn counts_sought<C: Customs, L: Ledger>(
+    engine: &mut Engine<C>,
+    calls: &Calls,
+    steps: &mut Steps<L>,
+) -> Result<bool, Stop> {
+    engine.set(place(0, 4), "=COUNTED(A1)+Later")?;
+    engine.set(place(0, 5), "=COUNTED(A1)+Sooner")?;
+    let both = count_after(engine, 0, calls, steps)?;
+    engine.add_name("later", None, "=1")?;
+    let one = count_after(engine, 0, calls, steps)?;
+    Ok(both == 1_010 && one == 1_011)
+}
+
+// Then a batch of a cell that one formula uses, rows and a name, which is undone and done again, and a sheet that comes and goes.
+fn counts_batch<C: Customs, L: Ledger>(
+    engine: &mut Engine<C>,
+    calls: &Calls,
+    steps: &mut Steps<L>,
+) -> Result<bool, Stop> {
+    engine.begin()?;
+    engine.set(place(399, 0), "3")?;
+    engine.insert_rows(0, 600, 1)?;
+    engine.add_name("Unused", None, "=2")?;
+    engine.commit()?;
+    let done = count_after(engine, 0, calls, steps)?;
+    engine.undo()?;
+    let undone = count_after(engine, 0, calls, steps)?;
+    engine.redo()?;
+    let again = count_after(engine, 0, calls, steps)?;
+    engine.add_sheet("Two")?;
+    engine.undo()?;
+    let sheets = count_after(engine, 0, calls, steps)?;
+    Ok(done == 1_012 && undone == 1_013 && again == 1_014 && sheets == 1_014)
 }
 
 // Gives the cells of a new sheet their numbers and formulas.

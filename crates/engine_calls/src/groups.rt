@@ -24,6 +24,8 @@ pub(crate) fn sheets_come_and_go(engine: &mut Engine<NoCustoms>) -> Result<bool,
         added == 2
             && engine.sheet_id("PLAN") == Some(2)
             && engine.sheet_name(1).map(Text::as_str) == Some("Two")
+            && engine.sheet_count() == 2
+            && engine.sheet_at(1) == Some(2)
             && again == Err(Stop::Refused(Refusal::SheetNameTaken)),
     )
 }
@@ -57,13 +59,17 @@ pub(crate) fn steps_go_back_and_forward(engine: &mut Engine<NoCustoms>) -> Resul
     engine.begin()?;
     engine.set(place(0, 0), "=B5")?;
     engine.delete_rows(0, 4, 1)?;
+    let in_batch = engine.has_batch() && !engine.can_undo();
     engine.commit()?;
     engine.undo()?;
+    let undone = engine.can_undo() && engine.can_redo() && !engine.has_batch();
     let before = engine.formula(place(0, 0))?;
     engine.redo()?;
     engine.suspend();
+    let waits = engine.is_suspended() && !engine.can_redo();
     engine.resume();
-    Ok(before.is_none() && reads(engine, 0, 0, "=#REF!"))
+    let asked = in_batch && undone && waits && !engine.is_suspended();
+    Ok(asked && before.is_none() && reads(engine, 0, 0, "=#REF!"))
 }
 
 // A long line is settled up to the oldest step: a formula has followed it, and undo goes back as far as before.
@@ -134,13 +140,17 @@ pub(crate) fn names_come_and_go(engine: &mut Engine<NoCustoms>) -> Result<bool, 
 pub(crate) fn blocks_are_pasted(engine: &mut Engine<NoCustoms>) -> Result<bool, Stop> {
     engine.add_sheet("Plan")?;
     engine.set(place(0, 0), "=B1")?;
+    let empty = engine.is_clipboard_empty();
     engine.copy(block(0, 0))?;
     engine.paste(place(1, 1))?;
     engine.cut(block(0, 0))?;
+    let waits = !engine.is_clipboard_empty();
     engine.paste(place(2, 0))?;
     let again = engine.paste(place(4, 0));
     Ok(
-        reads(engine, 1, 1, "=C2")
+        empty
+            && waits
+            && reads(engine, 1, 1, "=C2")
             && reads(engine, 2, 0, "=B1")
             && again == Err(Stop::Refused(Refusal::NothingToPaste)),
     )
