@@ -1,7 +1,6 @@
 //! Runs cases that are data: each has words, files, a script, what is printed and the status. The program
 //! takes the names of files of cases, runs each case through `sheet_cli::run` over a folder and streams in memory,
-//! and prints a line a case, each difference, and at the end how many cases it ran. A case that is a script alone is run a second
-//! time, by an engine that is taken apart after each command and joined again, and must print the same.
+//! and prints a line a case, each difference, and at the end how many cases it ran.
 //!
 //! ```toml
 //! [[case]]
@@ -20,7 +19,6 @@
 //! memory or no output.
 #![tactic(auto)]
 
-mod apart;
 mod case;
 mod given;
 
@@ -28,11 +26,9 @@ ghost use Rattle.std.specs.Prelude.{◌≡◌, ◌<◌};
 ghost use Rattle.custom_fn.specs.Rule.{rule_value};
 ghost use Rattle.tariffs.specs.Tariffs as tariff;
 
-use apart::{answered, is_script};
 use case::{Case, cases_of};
 use case_files::Tally;
 use cell_value::Scalar;
-use custom_fn::Registry;
 use given::Given;
 use std::alloc::{AllocError, Global};
 use std::marker::Brand;
@@ -124,7 +120,7 @@ fn value_holds<L: Ledger>(
     holds(rt, &case, &mut given, steps)
 }
 
-// Whether the run of a case answers as it should, and so the second one, where the case is a script alone.
+// Whether the run of a case answers as it should.
 fn holds<L: Ledger>(
     rt: &HostRuntime,
     case: &Case,
@@ -132,25 +128,21 @@ fn holds<L: Ledger>(
     steps: &mut Steps<L>,
 ) -> io::Result<bool> {
     let status = u32::from(answer(rt.alloc(), given, case.day, steps)?);
+    let out = given.out.bytes();
     let wanted = printed(rt.alloc(), case)?;
-    if status != case.status || given.out.bytes() != wanted.as_bytes() {
-        println!(rt; "    DIFFERS: {}", case.shows)?;
-        println!(rt; "        status {status}, wanted {}", case.status)?;
-        print_differences(rt, given.out.bytes(), &wanted)?;
-        return Ok(false);
-    }
-    if is_script(case) {
-        let out = answer_apart(rt.alloc(), case, steps)?;
-        if out.as_slice() != wanted.as_bytes() {
-            println!(rt; "    DIFFERS TAKEN APART: {}", case.shows)?;
-            print_differences(rt, &out, &wanted)?;
-            return Ok(false);
-        }
-        println!(rt; "    {} (and taken apart)", case.shows)?;
+    if status == case.status && out == wanted.as_bytes() {
+        println!(rt; "    {}", case.shows)?;
         return Ok(true);
     }
-    println!(rt; "    {}", case.shows)?;
-    Ok(true)
+    println!(rt; "    DIFFERS: {}", case.shows)?;
+    if status != case.status {
+        println!(rt; "        status {status}, wanted {}", case.status)?;
+    }
+    match str::from_utf8(out) {
+        Ok(out) => print_differences(rt, out, &wanted)?,
+        Err(_) => println!(rt; "        what was printed isn't UTF-8")?,
+    }
+    Ok(false)
 }
 
 // What the run of a case must print.
@@ -160,37 +152,13 @@ fn printed(alloc: Global, case: &Case) -> Result<String, AllocError> {
     Ok(prints)
 }
 
-// The status of a run.
+// The status of a run. The custom functions are those of the program.
 fn answer<L: Ledger>(
     alloc: Global,
     given: &mut Given,
     day: i32,
     steps: &mut Steps<L>,
 ) -> Result<u8, AllocError> {
-    let status = sheet_cli::run(
-        alloc,
-        &given.words,
-        &mut given.folder,
-        &mut given.input,
-        &mut given.out,
-        day,
-        registry(alloc)?,
-        steps,
-    );
-    Ok(status)
-}
-
-// What the run of a script prints, whose engine is taken apart after each command.
-fn answer_apart<L: Ledger>(
-    alloc: Global,
-    case: &Case,
-    steps: &mut Steps<L>,
-) -> Result<Vec<u8>, AllocError> {
-    answered(alloc, case, registry(alloc)?, steps)
-}
-
-// The custom functions of the program.
-fn registry(alloc: Global) -> Result<Registry, AllocError> {
     let by_weight = Box::new(
         alloc,
         |x: &Scalar| -> Scalar
@@ -203,19 +171,22 @@ fn registry(alloc: Global) -> Result<Registry, AllocError> {
             ensures { result ≡ rule_value tariff.levy x.now }
         { levy(x) },
     )?;
-    customs(alloc, by_weight, on_amount)
+    let registry = customs(alloc, by_weight, on_amount)?;
+    let status = sheet_cli::run(
+        alloc,
+        &given.words,
+        &mut given.folder,
+        &mut given.input,
+        &mut given.out,
+        day,
+        registry,
+        steps,
+    );
+    Ok(status)
 }
 
 // Prints each line that isn't the wanted one, and those that are too many.
-fn print_differences(rt: &HostRuntime, out: &[u8], wanted: &str) -> io::Result<()> {
-    match str::from_utf8(out) {
-        Ok(printed) => print_lines(rt, printed, wanted),
-        Err(_) => println!(rt; "        what was printed isn't UTF-8"),
-    }
-}
-
-// The same of lines.
-fn print_lines(rt: &HostRuntime, printed: &str, wanted: &str) -> io::Result<()> {
+fn print_differences(rt: &HostRuntime, printed: &str, wanted: &str) -> io::Result<()> {
     let mut printed = printed.lines();
     'lines: for (i, line) in wanted.lines().enumerate() {
         let shown = printed.next().unwrap_or("(nothing)");
