@@ -69,6 +69,7 @@ impl Form {
     }
 
     // Where the operation moves the place; None where it is lost.
+    #[inline(always)]
     pub(crate) fn moved_place(self, p: Place) -> Option<Place>
         requires { IsSoundForm self }
         ensures { result ≡ place_moved self p }
@@ -83,6 +84,7 @@ impl Form {
     }
 
     // Where the operation moves the block; None where it is lost.
+    #[inline(always)]
     pub(crate) fn moved_block(self, b: Block) -> Option<Block>
         requires { IsSoundForm self }
         ensures { result ≡ block_moved self b }
@@ -97,6 +99,7 @@ impl Form {
     }
 
     // Which place the operation moved to `p`; None where there was none.
+    #[inline(always)]
     pub(crate) fn back_place(self, p: Place) -> Option<Place>
         requires { IsSoundForm self }
         ensures { result ≡ place_returned self p }
@@ -111,6 +114,7 @@ impl Form {
     }
 
     // Which block had the ends that the operation moved to those of `b`; None where one of them was nowhere.
+    #[inline(always)]
     pub(crate) fn back_block(self, b: Block) -> Option<Block>
         requires { IsSoundForm self }
         ensures { result ≡ block_returned self b }

@@ -64,6 +64,7 @@ impl Shift {
     ghost use Rattle.shift_core.specs.Form.{form_of};
 
     /// The operation by what it works on: an edit of lines along an axis, cells, or a sheet.
+    #[inline(always)]
     pub fn form(&self) -> Form
         ensures { result ≡ form_of self.now }
     {
@@ -133,6 +134,7 @@ pub fn sound(s: &Shift) -> bool
 }
 
 /// Where the operation moves the place; None where it is lost.
+#[inline(always)]
 pub fn moved_place(s: &Shift, p: Place) -> Option<Place>
     requires { IsSound s.now }
     ensures { result ≡ place_after s.now p }
@@ -141,6 +143,7 @@ pub fn moved_place(s: &Shift, p: Place) -> Option<Place>
 }
 
 /// Where the operation moves the block; None where it is lost.
+#[inline(always)]
 pub fn moved_block(s: &Shift, b: Block) -> Option<Block>
     requires { IsSound s.now }
     ensures { result ≡ block_after s.now b }
@@ -149,6 +152,7 @@ pub fn moved_block(s: &Shift, b: Block) -> Option<Block>
 }
 
 /// Which place the operation moved to `p`; None where there was none.
+#[inline(always)]
 pub fn back_place(s: &Shift, p: Place) -> Option<Place>
     requires { IsSound s.now }
     ensures { result ≡ place_before s.now p }
@@ -157,6 +161,7 @@ pub fn back_place(s: &Shift, p: Place) -> Option<Place>
 }
 
 /// Which block had the ends that the operation moved to those of `b`; None where one of them was nowhere.
+#[inline(always)]
 pub fn back_block(s: &Shift, b: Block) -> Option<Block>
     requires { IsSound s.now }
     ensures { result ≡ block_before s.now b }
