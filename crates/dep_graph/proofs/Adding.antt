@@ -1,8 +1,8 @@
 -- Nodes added, filed and linked. Serves the changes of a net.
-use Rattle.std.proofs.Common.{◌≡◌, ◌∙◌, sym, ap, refl, subst, arith, ℕ, zero, suc, ◌+◌, ◌<◌, ◌≤◌, inl, inr, ◌⊎◌, ⊎_elim, Bool, true, false, cond, not, ◌||◌, List, [], ◌∷◌, ◌++◌, map, length, get_or, take, eqb, Result, Ok, Err, OnOk, OnErr, Option, Some, None}
+use Rattle.std.proofs.Common.{◌≡◌, ◌∙◌, sym, ap, refl, subst, arith, ℕ, zero, suc, ◌+◌, ◌<◌, ◌≤◌, ◌↔◌, inl, inr, ◌⊎◌, ⊎_elim, Bool, true, false, cond, not, ◌||◌, List, [], ◌∷◌, ◌++◌, map, length, get_or, take, eqb, Result, Ok, Err, OnOk, OnErr, Option, Some, None}
 use Rattle.std.specs.Prelude.{IsSome, slice_get, unwrap_or}
 use Rattle.std.specs.List.{list_any, position_or_len}
-use Rattle.std.proofs.lemmas.Bool.{cases_lt, eq-eqb, eqb-true, false≢true}
+use Rattle.std.proofs.lemmas.Bool.{cases_lt, eq-eqb, eqb-true, false≢true, or_cases, or_left}
 use Rattle.std.proofs.lemmas.Bool.Decides.{nat_tests}
 use Rattle.std.proofs.lemmas.List.{get_or_past, length_push, map-append, take_more}
 use Rattle.std.proofs.lemmas.List.Folds.{position_or_len_push}
@@ -13,24 +13,22 @@ use Rattle.needs_order.proofs.Lists as lists
 use Rattle.node_links.specs.Nodes.{needs_of}
 use Rattle.std.specs.declared.alloc.Global.{Global}
 use Rattle.std.specs.declared.vec.Vec.{Vec}
-use Rattle.block_index.specs.Index.{finds}
-use Rattle.place_lines.specs.Spots.{spot_of}
-use Rattle.place_lines.specs.declared.lines.PlaceLines.{PlaceLines}
 use Rattle.dep_graph.specs.declared.files.Files.{Files}
 use Rattle.dep_graph.specs.declared.key.Key.{Key}
 use Rattle.dep_graph.specs.declared.net.Net.{Net}
 use Rattle.dep_graph.specs.declared.node.Node.{Node}
 use Rattle.dep_graph.specs.declared.node.Node.TheVariants.{Name, Range}
 use Rattle.dep_graph.specs.declared.table.NodeTable.{NodeTable}
-use Rattle.dep_graph.specs.internal.Files.{FilesOn, HoldsBlock}
-use Rattle.dep_graph.specs.internal.Filings.{filing_of}
+use Rattle.dep_graph.specs.internal.Files.{FilesOn, FindsBy, FindsNode, HoldsBlock, IsServing}
+use Rattle.dep_graph.specs.internal.Filings.{filing_of, owner_at, serves_at, since}
 use Rattle.dep_graph.specs.internal.Keys.{AreNarrow, is_narrow, own_key, same_key}
 use Rattle.dep_graph.specs.internal.Nets.{Grows}
 use Rattle.dep_graph.specs.internal.Numbers.{AreFilings, IsAlive, IsFiled, count_of, found_at, found_under, is_range, node_at, place_of}
 use Rattle.dep_graph.specs.internal.Touches.{IsIndexed}
-use Rattle.dep_graph.proofs.Filed.{kept_holds}
+use Rattle.dep_graph.proofs.Filed.{finds_alike, holds_as, kept_holds, present_serving}
 use Rattle.dep_graph.proofs.Growing.{found_more, grown_map, known_inside}
 use Rattle.dep_graph.proofs.Numbers.{alive_inside, at_place, gets-more, got}
+use Rattle.dep_graph.proofs.Served.{holds_by, holds_node}
 
 -- ---- one key more
 
@@ -86,6 +84,21 @@ filed_inside net n f e = ⊎_elim
     none : None ≡ Some f → ⊥
     none e = cc
 
+-- the same files where other nodes got room
+abbrev with_current : (files : Files) (current : Vec (Option ℕ) Global) → ((n : ℕ) → filing_of current n ≡ filing_of files.current n) → Files
+with_current files current same = record {
+  alloc = files.alloc;
+  index = files.index;
+  owners = files.owners;
+  serves = files.serves;
+  current = current;
+  filed = files.filed;
+  rooms = files.rooms;
+  owned = λ n f e. files.owned n f (sym (same n) ∙ e);
+  served = λ n f e. files.served n f (sym (same n) ∙ e);
+  within = files.within;
+}
+
 module _ (net : Net) (keys more : List Key) (behind : keys ≡ net.nodes.keys.keys ++ more) where
   same_found : (n : ℕ) → n < count_of net.nodes → found_under net.nodes.lines keys n ≡ found_at net.nodes n
   same_found n low = found_more net.nodes.lines net.nodes.keys.keys keys more n behind low
@@ -105,12 +118,12 @@ module _ (net : Net) (keys more : List Key) (behind : keys ≡ net.nodes.keys.ke
       → (b : Block) → found_under net.nodes.lines keys n ≡ Some (Range b) → IsSome (filing_of current n)
   filed_more current n low same filed b e = subst IsSome (sym same) (filed b (sym (same_found n low) ∙ e))
 
-  pub filings_more : (current : Vec (Option ℕ) Global) → ((n : ℕ) → filing_of current n ≡ filing_of net.files.current n) → (n f : ℕ) → filing_of current n ≡ Some f
-      → (is_range (found_under net.nodes.lines keys n) ≡ true) × ((b : Block) → found_under net.nodes.lines keys n ≡ Some (Range b) → HoldsBlock net.nodes.lines net.files f b)
+  pub filings_more : (current : Vec (Option ℕ) Global) → (same : (n : ℕ) → filing_of current n ≡ filing_of net.files.current n) → (n f : ℕ) → filing_of current n ≡ Some f
+      → (is_range (found_under net.nodes.lines keys n) ≡ true) × ((b : Block) → found_under net.nodes.lines keys n ≡ Some (Range b) → HoldsBlock net.nodes.lines (FindsNode (with_current net.files current same) n) b)
   filings_more current same n f e =
       let was : filing_of net.files.current n ≡ Some f = sym (same n) ∙ e in
       let found : found_under net.nodes.lines keys n ≡ found_at net.nodes n = same_found n (filed_inside net n f was) in
-      (ap is_range found ∙ (net.filed n f was).0, λ b at. (net.filed n f was).1 b (sym found ∙ at))
+      (ap is_range found ∙ (net.filed n f was).0, λ b at. holds_node (with_current net.files current same) net.nodes.lines n f b e (holds_by net.files net.nodes.lines n f b was ((net.filed n f was).1 b (sym found ∙ at))))
 
   pub used_more : (links : ℕ → List ℕ) (current : Vec (Option ℕ) Global) → ((n : ℕ) → links n ≡ needs_of net.links n) → ((n : ℕ) → filing_of current n ≡ filing_of net.files.current n)
       → (a n : ℕ) → plain.has n (links a) ≡ true → (b : Block) → found_under net.nodes.lines keys n ≡ Some (Range b) → IsSome (filing_of current n)
@@ -200,43 +213,73 @@ each_number numbers more number P is before here n h = ⊎_elim
 
 -- ---- a node that is filed anew
 
--- a filing holds its block still where others are the present ones
-pub holds_same : (lines : PlaceLines) (old new : Files) (f : ℕ) (b : Block) → new.index ≡ old.index → HoldsBlock lines old f b → HoldsBlock lines new f b
-holds_same lines old new f b index h = record {
-  exact = λ p. ap (λ x. finds x (spot_of lines p).sheet (spot_of lines p).row (spot_of lines p).col f) index ∙ h.exact p;
-  known = λ spot found. h.known spot (sym (ap (λ x. finds x spot.sheet spot.row spot.col f) index) ∙ found);
-}
-
-present_filing : (files : Files) (n f : ℕ) → filing_of files.current n ≡ Some f → f < length files.owners.items
-present_filing files n f e = inside files.owners.items f n (files.owned n f e)
-  where
-    inside : (l : List ℕ) (i x : ℕ) → slice_get l i ≡ Some x → i < length l
-    inside [] i x e = absurd (none e)
-      where
-        none : None ≡ Some x → ⊥
-        none e = cc
-    inside (y ∷ l) zero x e = omega arith
-    inside (y ∷ l) (suc i) x e = let low : i < length l = inside l i x e in omega (arith, low)
-
 -- where filings were added
 pub filings_on : (t : NodeTable) (old new : Files) → AreFilings t old → FilesOn old new → AreFilings t new
 filings_on t old new filed on n f e =
     let was : filing_of old.current n ≡ Some f = sym (ap (λ c. filing_of c n) on.current) ∙ e in
-    ((filed n f was).0, λ b at. kept_holds t.lines old new f b on (present_filing old n f was) ((filed n f was).1 b at))
+    ((filed n f was).0, λ b at. holds_node new t.lines n f b e (kept_holds t.lines old new n (since f) b on (present_serving old n f was) (holds_by old t.lines n f b was ((filed n f was).1 b at))))
 
 one_range : (a b : Block) → Range a ≡ Range b → a ≡ b
 one_range a b e = cc
 
--- where one of them is a node's present one
-pub filings_kept : (t : NodeTable) (mid new : Files) (number filing : ℕ) (block : Block) → AreFilings t mid → new.index ≡ mid.index → ((n : ℕ) → filing_of new.current n ≡ cond (eqb n number) (Some filing) (filing_of mid.current n))
-    → found_at t number ≡ Some (Range block) → HoldsBlock t.lines mid filing block → AreFilings t new
-filings_kept t mid new number filing block filed index kept found holds n f e = by (eqb n number) refl (sym (kept n) ∙ e)
-  where
-    by : (c : Bool) → eqb n number ≡ c → cond c (Some filing) (filing_of mid.current n) ≡ Some f → (is_range (found_at t n) ≡ true) × ((b : Block) → found_at t n ≡ Some (Range b) → HoldsBlock t.lines new f b)
-    by true is same =
-        let here : found_at t n ≡ Some (Range block) = ap (found_at t) (eqb-true n number is) ∙ found in
-        (ap is_range here, λ b at. holds_same t.lines mid new f b index (subst (λ g. HoldsBlock t.lines mid g b) (same_Some filing f same) (subst (λ x. HoldsBlock t.lines mid filing x) (one_range block b (same_Some (Range block) (Range b) (sym here ∙ at))) holds)))
-    by false is same = ((filed n f same).0, λ b at. holds_same t.lines mid new f b index ((filed n f same).1 b at))
+-- where one of them serves a node, and those of the node before no longer do
+module _ (t : NodeTable) (mid new : Files) (number filing : ℕ) (index : new.index ≡ mid.index) (owners : new.owners ≡ mid.owners) (serves : (f : ℕ) → serves_at new.serves f ≡ (serves_at mid.serves f || eqb f filing))
+    (kept : (n : ℕ) → filing_of new.current n ≡ cond (eqb n number) (Some filing) (filing_of mid.current n)) (owner : owner_at mid.owners filing ≡ Some number) where
+  -- the filings of the node from this one on
+  own_serving : (f : ℕ) → IsServing mid number (since filing) f ↔ IsServing new number (since filing) f
+  own_serving f = (
+    λ h. let (owns, from, which) = h in (ap (λ v. owner_at v f) owners ∙ owns, from, elim which [ inl same ↦ inl same | inr was ↦ inr (serves f ∙ or_left (serves_at mid.serves f) (eqb f filing) was) ]),
+    λ h. let (owns, from, which) = h in (
+      sym (ap (λ v. owner_at v f) owners) ∙ owns,
+      from,
+      elim which [
+        | inl same ↦ inl same
+        | inr now ↦ elim (or_cases (serves_at mid.serves f) (eqb f filing) (sym (serves f) ∙ now)) [ inl was ↦ inr was | inr same ↦ inl (eqb-true f filing same) ]
+      ],
+    ),
+  )
+
+  -- and those of others
+  others_serving : (n f g : ℕ) → (n ≡ number → ⊥) → IsServing mid n (since f) g ↔ IsServing new n (since f) g
+  others_serving n f g other = (
+    λ h. let (owns, from, which) = h in (ap (λ v. owner_at v g) owners ∙ owns, from, elim which [ inl same ↦ inl same | inr was ↦ inr (serves g ∙ or_left (serves_at mid.serves g) (eqb g filing) was) ]),
+    λ h. let (owns, from, which) = h in
+        let owned : owner_at mid.owners g ≡ Some n = sym (ap (λ v. owner_at v g) owners) ∙ owns in (
+          owned,
+          from,
+          elim which [
+            | inl same ↦ inl same
+            | inr now ↦ elim (or_cases (serves_at mid.serves g) (eqb g filing) (sym (serves g) ∙ now)) [
+              | inl was ↦ inr was
+              | inr same ↦ absurd (other (same_Some n number (sym owned ∙ (ap (owner_at mid.owners) (eqb-true g filing same) ∙ owner))))
+            ]
+          ],
+        ),
+  )
+
+  pub filings_kept : (block : Block) → AreFilings t mid → found_at t number ≡ Some (Range block) → HoldsBlock t.lines (FindsBy mid number (since filing)) block → AreFilings t new
+  filings_kept block filed found holds n f e = held (by (eqb n number) refl (sym (kept n) ∙ e))
+    where
+      Held : ℕ → ℕ → Type 0
+      Held m g = (is_range (found_at t m) ≡ true) × ((b : Block) → found_at t m ≡ Some (Range b) → HoldsBlock t.lines (FindsBy new m (since g)) b)
+
+      held : Held n f → (is_range (found_at t n) ≡ true) × ((b : Block) → found_at t n ≡ Some (Range b) → HoldsBlock t.lines (FindsNode new n) b)
+      held (range, holds) = (range, λ b at. holds_node new t.lines n f b e (holds b at))
+
+      own : Held number filing
+      own = (
+        ap is_range found,
+        λ b at. holds_as t.lines (FindsBy mid number (since filing)) (FindsBy new number (since filing)) b (λ spot. finds_alike mid new number (since filing) (since filing) spot index own_serving)
+            (subst (λ x. HoldsBlock t.lines (FindsBy mid number (since filing)) x) (one_range block b (same_Some (Range block) (Range b) (sym found ∙ at))) holds),
+      )
+
+      by : (c : Bool) → eqb n number ≡ c → cond c (Some filing) (filing_of mid.current n) ≡ Some f → Held n f
+      by true is same = subst (λ m. Held m f) (sym (eqb-true n number is)) (subst (Held number) (same_Some filing f same) own)
+      by false is same = (
+        (filed n f same).0,
+        λ b at. holds_as t.lines (FindsBy mid n (since f)) (FindsBy new n (since f)) b
+            (λ spot. finds_alike mid new n (since f) (since f) spot index (λ g. others_serving n f g (λ here. false≢true (sym is ∙ eq-eqb n number here)))) (holds_by mid t.lines n f b same ((filed n f same).1 b at)),
+      )
 
 pub still_filed : (t : NodeTable) (mid new : Files) (number filing : ℕ) → ((n : ℕ) → filing_of new.current n ≡ cond (eqb n number) (Some filing) (filing_of mid.current n)) → (n : ℕ) → IsFiled t mid n → IsFiled t new n
 still_filed t mid new number filing kept n filed b at = subst IsSome (sym (kept n)) (by (eqb n number) (filed b at))

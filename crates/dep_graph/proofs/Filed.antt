@@ -1,7 +1,8 @@
 -- Blocks that filings hold: a new filing holds its block, others stay, and structural operations carry along what they don't
 -- bend. Serves the needs of the graph by its filings.
-use Rattle.std.proofs.Common.{◌≡◌, ◌∙◌, sym, ap, refl, subst, ℕ, ◌<◌, ◌↔◌, ⊎_elim, inl, inr, true, length, nat_lt, Some, None}
+use Rattle.std.proofs.Common.{◌≡◌, ◌∙◌, sym, ap, refl, subst, arith, ℕ, ◌<◌, ◌↔◌, ⊎_elim, inl, inr, ◌⊎◌, true, length, nat_lt, Some, IsTrue}
 use Rattle.std.proofs.lemmas.Bool.{and_from, and_parts, le-leb, leb-true, lt-ltb, ltb-true, or_cases, or_left, or_right}
+use Rattle.block_index.specs.Index.{finds}
 use Rattle.cell_addr.specs.Place.{IsBlockInside, covers}
 use Rattle.cell_addr.specs.declared.axis.Axis.{Axis}
 use Rattle.cell_addr.specs.declared.axis.Axis.TheVariants.{Cols, Rows}
@@ -26,8 +27,10 @@ use Rattle.place_lines.proofs.Places.{one_block, one_place, one_spot, same_area}
 use Rattle.touch_index.specs.Handed.{IsHandedOn, fresh_part}
 use Rattle.touch_index.proofs.Handing.{handed_on}
 use Rattle.dep_graph.specs.declared.files.Files.{Files}
-use Rattle.dep_graph.specs.internal.Files.{FilesOn, HasSpot, HoldsBlock, finds_filing}
-use Rattle.dep_graph.proofs.FiledCells.{same_test}
+use Rattle.dep_graph.specs.declared.serving.Serving.{Serving}
+use Rattle.dep_graph.specs.internal.Files.{AreServing, FilesOn, FindsBy, HasSpot, HoldsBlock, IsServing, finds_filing}
+use Rattle.dep_graph.specs.internal.Filings.{filing_of, owner_at, serves_at, since}
+use Rattle.dep_graph.proofs.FiledCells.{owner_inside, served_inside}
 
 -- ---- known lines, as tests
 
@@ -61,41 +64,88 @@ known_after form old new spot moved passes = known_passes new spot (stays_known 
 
 -- ---- filings that hold blocks
 
--- a filing that just the spots of a block find holds the block
-pub held : (lines : PlaceLines) (files : Files) (f : ℕ) (b : Block) → ((spot : Spot) → (finds_filing files spot f ≡ true) ↔ HasSpot lines b spot) → HoldsBlock lines files f b
-held lines files f b finds = record {
-  exact = λ p. same_test (finds_filing files (spot_of lines p) f) (covers b p)
-      (λ found. let (q, covered, is) = (finds (spot_of lines p)).0 found in subst (λ r. covers b r ≡ true) (one_place lines q p is) covered)
-      (λ covered. (finds (spot_of lines p)).1 (p, covered, refl));
-  known = λ spot found. let (q, covered, is) = (finds spot).0 found in subst (λ s. is_known lines s ≡ true) is (known_passes lines (spot_of lines q) (spot_known lines q));
+-- what holds a block by a test does so by another that passes the same
+pub holds_as : (lines : PlaceLines) (old new : Spot → Type 0) (b : Block) → ((spot : Spot) → old spot ↔ new spot) → HoldsBlock lines old b → HoldsBlock lines new b
+holds_as lines old new b same holds = record {
+  exact = λ p. (λ found. (holds.exact p).0 ((same (spot_of lines p)).1 found), λ covered. (same (spot_of lines p)).0 ((holds.exact p).1 covered));
+  known = λ spot found. holds.known spot ((same spot).1 found);
 }
 
--- more filings leave what a filing holds
-pub kept_holds : (lines : PlaceLines) (old new : Files) (f : ℕ) (b : Block) → FilesOn old new → f < length old.owners.items → HoldsBlock lines old f b → HoldsBlock lines new f b
-kept_holds lines old new f b on below holds = record {
-  exact = λ p. on.finds f below (spot_of lines p) ∙ holds.exact p;
-  known = λ spot found. holds.known spot (sym (on.finds f below spot) ∙ found);
+-- a new filing that just the spots of a block find holds the block
+pub held : (lines : PlaceLines) (old files : Files) (n f : ℕ) (b : Block) → FilesOn old files → length old.owners.items ≡ f → owner_at files.owners f ≡ Some n
+    → ((spot : Spot) → IsTrue (finds_filing files spot f) ↔ HasSpot lines b spot) → HoldsBlock lines (FindsBy files n (since f)) b
+held lines old files n f b on fresh owner finds = record {
+  exact = λ p. (
+    λ found. let (q, covered, is) = (finds (spot_of lines p)).0 (by (spot_of lines p) found) in subst (λ r. covers b r ≡ true) (one_place lines q p is) covered,
+    λ covered. (f, (owner, omega arith, inl refl), (finds (spot_of lines p)).1 (p, covered, refl)),
+  );
+  known = λ spot found. let (q, covered, is) = (finds spot).0 (by spot found) in subst (λ s. is_known lines s ≡ true) is (known_passes lines (spot_of lines q) (spot_known lines q));
 }
+  where
+    by : (spot : Spot) → FindsBy files n (since f) spot → finds_filing files spot f ≡ true
+    by spot (g, (owns, from, which), found) = elim which [
+      | inl same ↦ subst (λ h. finds_filing files spot h ≡ true) same found
+      | inr serves ↦ let low : g < length old.owners.items = served_inside old g (sym (on.serves g) ∙ serves) in absurd (omega (arith, low, fresh, from))
+    ]
+
+-- where filings were added, those of a node are found as they were
+kept_finds : (old new : Files) (n : ℕ) (all : Serving) (spot : Spot) → FilesOn old new → AreServing old n all → FindsBy old n all spot ↔ FindsBy new n all spot
+kept_finds old new n all spot on are = (goes, comes)
+  where
+    goes : FindsBy old n all spot → FindsBy new n all spot
+    goes (f, (owner, from, which), found) =
+        let low : f < length old.owners.items = owner_inside old.owners.items f n owner in
+        (f, (on.owners f low ∙ owner, from, elim which [ inl same ↦ inl same | inr serves ↦ inr (on.serves f ∙ serves) ]), on.finds f low spot ∙ found)
+
+    inside : (f : ℕ) → (f ≡ all.last) ⊎ (serves_at new.serves f ≡ true) → f < length old.owners.items
+    inside f (inl same) = subst (λ g. g < length old.owners.items) (sym same) (owner_inside old.owners.items all.last n are.1.0)
+    inside f (inr serves) = served_inside old f (sym (on.serves f) ∙ serves)
+
+    comes : FindsBy new n all spot → FindsBy old n all spot
+    comes (f, (owner, from, which), found) =
+        let low : f < length old.owners.items = inside f which in
+        (f, (sym (on.owners f low) ∙ owner, from, elim which [ inl same ↦ inl same | inr serves ↦ inr (sym (on.serves f) ∙ serves) ]), sym (on.finds f low spot) ∙ found)
+
+pub kept_holds : (lines : PlaceLines) (old new : Files) (n : ℕ) (all : Serving) (b : Block) → FilesOn old new → AreServing old n all → HoldsBlock lines (FindsBy old n all) b → HoldsBlock lines (FindsBy new n all) b
+kept_holds lines old new n all b on are holds = holds_as lines (FindsBy old n all) (FindsBy new n all) b (λ spot. kept_finds old new n all spot on are) holds
+
+-- and they serve it still
+pub kept_serving : (old new : Files) (n : ℕ) (all : Serving) → FilesOn old new → AreServing old n all → AreServing new n all
+kept_serving old new n all on are = (stays all.first are.0, stays all.last are.1)
+  where
+    stays : (f : ℕ) → IsServing old n all f → IsServing new n all f
+    stays f (owner, from, which) = (on.owners f (owner_inside old.owners.items f n owner) ∙ owner, from, elim which [ inl same ↦ inl same | inr serves ↦ inr (on.serves f ∙ serves) ])
+
+-- those that serve a node at present
+pub present_serving : (files : Files) (n f : ℕ) → filing_of files.current n ≡ Some f → AreServing files n (since f)
+present_serving files n f at = ((files.owned n f at, omega arith, inl refl), (files.owned n f at, omega arith, inl refl))
+
+-- what serves a node by other filings finds the same
+pub finds_alike : (old new : Files) (n : ℕ) (all more : Serving) (spot : Spot) → new.index ≡ old.index → ((f : ℕ) → IsServing old n all f ↔ IsServing new n more f) → FindsBy old n all spot ↔ FindsBy new n more spot
+finds_alike old new n all more spot index same = (
+  λ h. let (f, serves, found) = h in (f, (same f).0 serves, ap (λ x. finds x spot.sheet spot.row spot.col f) index ∙ found),
+  λ h. let (f, serves, found) = h in (f, (same f).1 serves, sym (ap (λ x. finds x spot.sheet spot.row spot.col f) index) ∙ found),
+)
 
 -- ---- structural operations
 
--- unless cells are moved, the filing of a block that is carried along holds the block where it stands then
-lines_carried : (form : Form) (old new : PlaceLines) (files : Files) (f : ℕ) (b after : Block) → IsCarriedBlock form b after → AreMoved form old new → HoldsBlock old files f b → HoldsBlock new files f after
-lines_carried form old new files f b after carried moved holds = record {
-  exact = λ q. same_test (finds_filing files (spot_of new q) f) (covers after q) (covered q) (found q);
+-- unless cells are moved, what holds a block that is carried along holds the block where it stands then
+lines_carried : (form : Form) (old new : PlaceLines) (test : Spot → Type 0) (b after : Block) → IsCarriedBlock form b after → AreMoved form old new → HoldsBlock old test b → HoldsBlock new test after
+lines_carried form old new test b after carried moved holds = record {
+  exact = λ q. (covered q, found q);
   known = λ spot found. known_after form old new spot moved (holds.known spot found);
 }
   where
-    covered : (q : Place) → finds_filing files (spot_of new q) f ≡ true → covers after q ≡ true
+    covered : (q : Place) → test (spot_of new q) → covers after q ≡ true
     covered q found =
         let (p, is, inside, narrow) = spot_was_there form old new q moved (passes_known old (spot_of new q) (holds.known (spot_of new q) found)) in
-        let here : covers b p ≡ true = sym (holds.exact p) ∙ (ap (λ s. finds_filing files s f) is ∙ found) in
+        let here : covers b p ≡ true = (holds.exact p).0 (subst test (sym is) found) in
         covers-from_Covers after q ((carried_spots form old new b after q carried moved).1 (p, Covers-from_covers b p here, is))
 
-    found : (q : Place) → covers after q ≡ true → finds_filing files (spot_of new q) f ≡ true
+    found : (q : Place) → covers after q ≡ true → test (spot_of new q)
     found q here =
         let (p, was, is) = (carried_spots form old new b after q carried moved).0 (Covers-from_covers after q here) in
-        ap (λ s. finds_filing files s f) (sym is) ∙ (holds.exact p ∙ covers-from_Covers b p was)
+        subst test is ((holds.exact p).1 (covers-from_Covers b p was))
 
 -- where all lines stay, each place keeps its spot
 all_spots_stay : (old new : PlaceLines) (p : Place) → ((axis : Axis) → AllStay axis old new) → spot_of old p ≡ spot_of new p
@@ -111,45 +161,55 @@ stays_there old new b after stay same =
     = same_area (area_of old b) (area_of new b) (all_spots_stay old new (first_place b) stay) (all_spots_stay old new (last_place b) stay) in
     one_block new b after (sym here ∙ same)
 
-cells_carried : (source : Block) (to : Place) (old new : PlaceLines) (files : Files) (f : ℕ) (b after : Block) → AreMoved (Cells source to) old new → area_of old b ≡ area_of new after → HoldsBlock old files f b → HoldsBlock new files f after
-cells_carried source to old new files f b after moved same holds = record {
-  exact = λ q. ap (λ s. finds_filing files s f) (sym (all_spots_stay old new q moved)) ∙ (holds.exact q ∙ ap (λ c. covers c q) (stays_there old new b after moved same));
+cells_carried : (source : Block) (to : Place) (old new : PlaceLines) (test : Spot → Type 0) (b after : Block) → AreMoved (Cells source to) old new → area_of old b ≡ area_of new after → HoldsBlock old test b → HoldsBlock new test after
+cells_carried source to old new test b after moved same holds = record {
+  exact = λ q. (
+    λ found. subst (λ c. covers c q ≡ true) (stays_there old new b after moved same) ((holds.exact q).0 (subst test (sym (all_spots_stay old new q moved)) found)),
+    λ covered. subst test (all_spots_stay old new q moved) ((holds.exact q).1 (subst (λ c. covers c q ≡ true) (sym (stays_there old new b after moved same)) covered)),
+  );
   known = λ spot found. known_after (Cells source to) old new spot moved (holds.known spot found);
 }
 
-by_form : (form : Form) (old new : PlaceLines) (files : Files) (f : ℕ) (b after : Block) → IsSoundForm form → AreMoved form old new → IsBlockInside b → ¬ BendsBlock form b → ¬ CutsBlock form b
-    → block_moved form b ≡ Some after → area_of old b ≡ area_of new after → HoldsBlock old files f b → HoldsBlock new files f after
-by_form (Lines sheet axis edit) old new files f b after sound moved inside still whole moves same holds =
-    lines_carried (Lines sheet axis edit) old new files f b after (record { sound = sound; none = tt; inside = inside; still = still; whole = whole; moves = moves }) moved holds
-by_form (Cells source to) old new files f b after sound moved inside still whole moves same holds =
-    cells_carried source to old new files f b after moved same holds
-by_form (Sheet sheet) old new files f b after sound moved inside still whole moves same holds =
-    lines_carried (Sheet sheet) old new files f b after (record { sound = sound; none = tt; inside = inside; still = still; whole = whole; moves = moves }) moved holds
+by_form : (form : Form) (old new : PlaceLines) (test : Spot → Type 0) (b after : Block) → IsSoundForm form → AreMoved form old new → IsBlockInside b → ¬ BendsBlock form b → ¬ CutsBlock form b
+    → block_moved form b ≡ Some after → area_of old b ≡ area_of new after → HoldsBlock old test b → HoldsBlock new test after
+by_form (Lines sheet axis edit) old new test b after sound moved inside still whole moves same holds =
+    lines_carried (Lines sheet axis edit) old new test b after (record { sound = sound; none = tt; inside = inside; still = still; whole = whole; moves = moves }) moved holds
+by_form (Cells source to) old new test b after sound moved inside still whole moves same holds =
+    cells_carried source to old new test b after moved same holds
+by_form (Sheet sheet) old new test b after sound moved inside still whole moves same holds =
+    lines_carried (Sheet sheet) old new test b after (record { sound = sound; none = tt; inside = inside; still = still; whole = whole; moves = moves }) moved holds
 
 -- the filing of a block that an operation doesn't bend holds the block where it stands then, if it keeps its area
-pub carried : (s : Shift) (old new : PlaceLines) (files : Files) (f : ℕ) (b after : Block) → IsSound s → AreMoved (form_of s) old new → IsBlockInside b → ¬ IsBent s b → ¬ IsCut s b
-    → block_after s b ≡ Some after → area_of old b ≡ area_of new after → HoldsBlock old files f b → HoldsBlock new files f after
-carried s old new files f b after sound moved inside still whole moves same holds =
-    by_form (form_of s) old new files f b after sound moved inside still whole moves same holds
+pub carried : (s : Shift) (old new : PlaceLines) (test : Spot → Type 0) (b after : Block) → IsSound s → AreMoved (form_of s) old new → IsBlockInside b → ¬ IsBent s b → ¬ IsCut s b
+    → block_after s b ≡ Some after → area_of old b ≡ area_of new after → HoldsBlock old test b → HoldsBlock new test after
+carried s old new test b after sound moved inside still whole moves same holds =
+    by_form (form_of s) old new test b after sound moved inside still whole moves same holds
 
--- the filing of a block that is handed on without lines that come in holds what it becomes
-pub served : (form : Form) (old new : PlaceLines) (files : Files) (f : ℕ) (b after : Block) → IsHandedOn form old new b after → fresh_part form after ≡ None → HoldsBlock old files f b → HoldsBlock new files f after
-served form old new files f b after on none holds = record {
-  exact = λ q. same_test (finds_filing files (spot_of new q) f) (covers after q) (covered q) (found q);
-  known = λ spot found. known_after form old new spot on.moved (holds.known spot found);
+-- what holds a block that is handed on holds what it becomes, with the lines that come in
+pub served : (form : Form) (old new : PlaceLines) (before test : Spot → Type 0) (b after : Block) → IsHandedOn form old new b after
+    → ((spot : Spot) → test spot → before spot ⊎ ((part : Block) × (fresh_part form after ≡ Some part) × HasSpot new part spot))
+    → ((spot : Spot) → before spot → test spot)
+    → ((part : Block) (spot : Spot) → fresh_part form after ≡ Some part → HasSpot new part spot → test spot)
+    → HoldsBlock old before b → HoldsBlock new test after
+served form old new before test b after on only grows added holds = record {
+  exact = λ q. (λ passes. covered q (only (spot_of new q) passes), found q);
+  known = λ spot passes. by spot (only spot passes);
 }
   where
-    covered : (q : Place) → finds_filing files (spot_of new q) f ≡ true → covers after q ≡ true
-    covered q found =
-        let (p, is, inside, narrow) = spot_was_there form old new q on.moved (passes_known old (spot_of new q) (holds.known (spot_of new q) found)) in
-        let here : covers b p ≡ true = sym (holds.exact p) ∙ (ap (λ s. finds_filing files s f) is ∙ found) in
+    by : (spot : Spot) → before spot ⊎ ((part : Block) × (fresh_part form after ≡ Some part) × HasSpot new part spot) → is_known new spot ≡ true
+    by spot (inl was) = known_after form old new spot on.moved (holds.known spot was)
+    by spot (inr (part, is_part, (q, c, is))) = subst (λ s. is_known new s ≡ true) is (known_passes new (spot_of new q) (spot_known new q))
+
+    covered : (q : Place) → before (spot_of new q) ⊎ ((part : Block) × (fresh_part form after ≡ Some part) × HasSpot new part (spot_of new q)) → covers after q ≡ true
+    covered q (inl was) =
+        let (p, is, inside, narrow) = spot_was_there form old new q on.moved (passes_known old (spot_of new q) (holds.known (spot_of new q) was)) in
+        let here : covers b p ≡ true = (holds.exact p).0 (subst before (sym is) was) in
         covers-from_Covers after q ((handed_on form old new b after q on).1 (inl (p, Covers-from_covers b p here, is)))
+    covered q (inr (part, is_part, (r, c, is))) =
+        covers-from_Covers after q ((handed_on form old new b after q on).1 (inr (part, is_part, Covers-from_covers part q (subst (λ x. covers part x ≡ true) (one_place new r q is) c))))
 
-    no_part : (part : Block) → None ≡ Some part → ⊥
-    no_part part e = cc
-
-    found : (q : Place) → covers after q ≡ true → finds_filing files (spot_of new q) f ≡ true
+    found : (q : Place) → covers after q ≡ true → test (spot_of new q)
     found q here = elim ((handed_on form old new b after q on).0 (Covers-from_covers after q here)) [
-      | inl (p, was, is) ↦ ap (λ s. finds_filing files s f) (sym is) ∙ (holds.exact p ∙ covers-from_Covers b p was)
-      | inr (part, is, c) ↦ absurd (no_part part (sym none ∙ is))
+      | inl (p, was, is) ↦ grows (spot_of new q) (subst before is ((holds.exact p).1 (covers-from_Covers b p was)))
+      | inr (part, is_part, c) ↦ added part (spot_of new q) is_part (q, covers-from_Covers part q c, refl)
     ]

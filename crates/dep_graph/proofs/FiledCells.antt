@@ -1,11 +1,11 @@
 -- Filings under rows by columns of a sheet, and those that there were before. Serves the filing of ranges.
-use Rattle.std.proofs.Common.{◌≡◌, ◌∙◌, sym, ap, refl, subst, arith, ℕ, zero, suc, ◌<◌, ◌≤◌, ⊎_elim, Bool, true, false, cond, List, [], ◌∷◌, ◌++◌, length, nat_eq, eqb-true, Some, None}
+use Rattle.std.proofs.Common.{◌≡◌, ◌∙◌, sym, ap, refl, subst, arith, ℕ, zero, suc, ◌<◌, ◌≤◌, inl, inr, ⊎_elim, Bool, true, false, cond, List, [], ◌∷◌, ◌++◌, length, get_or, nat_eq, eqb-true, Some, None}
 use Rattle.std.specs.Prelude.{slice_get}
 use Rattle.std.specs.declared.alloc.Global.{Global}
 use Rattle.std.specs.declared.ops.Range.{Range}
 use Rattle.std.specs.declared.vec.Vec.{Vec}
-use Rattle.std.proofs.lemmas.Bool.{and_from, and_parts, eq-eqb, false≢true, or_cases, or_left, or_right}
-use Rattle.std.proofs.lemmas.List.{length_push}
+use Rattle.std.proofs.lemmas.Bool.{and_from, and_parts, cases_lt, eq-eqb, false≢true, or_cases, or_left, or_right}
+use Rattle.std.proofs.lemmas.List.{get_or_past, length_push}
 use Rattle.block_index.specs.Index.{finds}
 use Rattle.block_slots.specs.Segments.{in_lines}
 use Rattle.block_slots.specs.Slots.{in_block}
@@ -19,7 +19,7 @@ use Rattle.place_lines.specs.declared.lines.PlaceLines.{PlaceLines}
 use Rattle.place_lines.specs.declared.spot.Spot.{Spot}
 use Rattle.place_lines.proofs.Places.{same_spot}
 use Rattle.dep_graph.specs.declared.files.Files.{Files}
-use Rattle.dep_graph.specs.internal.Filings.{owner_at}
+use Rattle.dep_graph.specs.internal.Filings.{owner_at, serves_at}
 use Rattle.dep_graph.specs.internal.Files.{FilesCells, FilesOn, HasSpot, finds_filing, in_area, in_row, in_run}
 
 -- ---- tests
@@ -100,27 +100,62 @@ module _ (lines : PlaceLines) (b : Block) (rows cols : List (Range ℕ)) (are_ro
 -- ---- a new filing
 
 -- what stood in a list stands there still after a push
-gets_more : (xs more : List ℕ) (f n : ℕ) → slice_get xs f ≡ Some n → slice_get (xs ++ more) f ≡ Some n
-gets_more [] more f n h = absurd (none h)
-  where
-    none : None ≡ Some n → ⊥
-    none h = cc
-gets_more (x ∷ xs) more zero n h = h
-gets_more (x ∷ xs) more (suc f) n h = gets_more xs more f n h
+gets_more : (xs more : List ℕ) (f : ℕ) → f < length xs → slice_get (xs ++ more) f ≡ slice_get xs f
+gets_more [] more f low = absurd (omega (arith, low))
+gets_more (x ∷ xs) more zero low = refl
+gets_more (x ∷ xs) more (suc f) low = gets_more xs more f (omega (arith, low))
 
-pub owner_pushed : (old new : Vec ℕ Global) (b : Bool) (x f n : ℕ) → new.items ≡ cond b (old.items ++ x ∷ []) old.items → owner_at old f ≡ Some n → owner_at new f ≡ Some n
-owner_pushed old new b x f n pushed h = ap (λ xs. slice_get xs f) pushed ∙ by b
+pub owner_pushed : (old new : Vec ℕ Global) (b : Bool) (x f : ℕ) → new.items ≡ cond b (old.items ++ x ∷ []) old.items → f < length old.items → owner_at new f ≡ owner_at old f
+owner_pushed old new b x f pushed low = ap (λ xs. slice_get xs f) pushed ∙ by b
   where
-    by : (t : Bool) → slice_get (cond t (old.items ++ x ∷ []) old.items) f ≡ Some n
-    by true = gets_more old.items (x ∷ []) f n h
-    by false = h
+    by : (t : Bool) → slice_get (cond t (old.items ++ x ∷ []) old.items) f ≡ slice_get old.items f
+    by true = gets_more old.items (x ∷ []) f low
+    by false = refl
 
-pub below_pushed : (old new : Vec ℕ Global) (b : Bool) (x f : ℕ) → new.items ≡ cond b (old.items ++ x ∷ []) old.items → f < length old.items → f < length new.items
-below_pushed old new b x f pushed below = subst (λ xs. f < length xs) (sym pushed) (by b)
+pub count_pushed : (old new : Vec ℕ Global) (b : Bool) (x : ℕ) → new.items ≡ cond b (old.items ++ x ∷ []) old.items → length old.items ≤ length new.items
+count_pushed old new b x pushed = subst (λ xs. length old.items ≤ length xs) (sym pushed) (by b)
   where
-    by : (t : Bool) → f < length (cond t (old.items ++ x ∷ []) old.items)
-    by true = omega (arith, length_push old.items x, below)
-    by false = below
+    by : (t : Bool) → length old.items ≤ length (cond t (old.items ++ x ∷ []) old.items)
+    by true = omega (arith, length_push old.items x)
+    by false = omega arith
+
+-- a filing that is added serves no node
+pub serves_pushed : (old new : Vec Bool Global) (b : Bool) (f : ℕ) → new.items ≡ cond b (old.items ++ false ∷ []) old.items → serves_at new f ≡ serves_at old f
+serves_pushed old new b f pushed = ap (λ xs. get_or xs f false) pushed ∙ by b
+  where
+    behind : (xs : List Bool) (f : ℕ) → get_or (xs ++ false ∷ []) f false ≡ get_or xs f false
+    behind [] zero = refl
+    behind [] (suc f) = refl
+    behind (x ∷ xs) zero = refl
+    behind (x ∷ xs) (suc f) = behind xs f
+
+    by : (t : Bool) → get_or (cond t (old.items ++ false ∷ []) old.items) f false ≡ get_or old.items f false
+    by true = behind old.items f
+    by false = refl
+
+pub rooms_pushed : (owners more : Vec ℕ Global) (serves longer : Vec Bool Global) (b : Bool) (x : ℕ) → more.items ≡ cond b (owners.items ++ x ∷ []) owners.items → longer.items ≡ cond b (serves.items ++ false ∷ []) serves.items
+    → length serves.items ≡ length owners.items → length longer.items ≡ length more.items
+rooms_pushed owners more serves longer b x first second same = ap length second ∙ (by b ∙ sym (ap length first))
+  where
+    by : (t : Bool) → length (cond t (serves.items ++ false ∷ []) serves.items) ≡ length (cond t (owners.items ++ x ∷ []) owners.items)
+    by true = omega (arith, length_push serves.items false, length_push owners.items x, same)
+    by false = same
+
+-- who has a filing has one of those that there are
+pub owner_inside : (l : List ℕ) (i x : ℕ) → slice_get l i ≡ Some x → i < length l
+owner_inside [] i x e = absurd (none e)
+  where
+    none : None ≡ Some x → ⊥
+    none e = cc
+owner_inside (y ∷ l) zero x e = omega arith
+owner_inside (y ∷ l) (suc i) x e = let low : i < length l = owner_inside l i x e in omega (arith, low)
+
+-- and so is one that may serve
+pub served_inside : (files : Files) (f : ℕ) → serves_at files.serves f ≡ true → f < length files.owners.items
+served_inside files f h = elim (cases_lt f (length files.owners.items)) [
+  | inl low ↦ low
+  | inr past ↦ absurd (false≢true (sym (get_or_past files.serves.items f false (omega (arith, past, files.rooms))) ∙ h))
+]
 
 pub got_last : (xs : List ℕ) (x : ℕ) → slice_get (xs ++ x ∷ []) (length xs) ≡ Some x
 got_last [] x = refl
@@ -139,11 +174,13 @@ module _ (test : Spot → Bool) (filing : ℕ) (old mid new : Files) (index : mi
       (filed.only spot f found))
       (λ found. filed.grows spot f (was_found spot f ∙ found))
 
-  pub files_on : (pushed : Vec ℕ Global) (b : Bool) (x : ℕ) → new.current ≡ old.current → new.owners ≡ pushed → pushed.items ≡ cond b (old.owners.items ++ x ∷ []) old.owners.items → FilesOn old new
-  files_on pushed b x current owners items = record {
+  pub files_on : (pushed : Vec ℕ Global) (longer : Vec Bool Global) (b : Bool) (x : ℕ) → new.current ≡ old.current → new.owners ≡ pushed → new.serves ≡ longer
+      → pushed.items ≡ cond b (old.owners.items ++ x ∷ []) old.owners.items → longer.items ≡ cond b (old.serves.items ++ false ∷ []) old.serves.items → FilesOn old new
+  files_on pushed longer b x current owners serves items flags = record {
     current = current;
-    owners = λ f n is. ap (λ v. owner_at v f) owners ∙ owner_pushed old.owners pushed b x f n items is;
-    count = λ f below. subst (λ v. f < length v.items) (sym owners) (below_pushed old.owners pushed b x f items below);
+    owners = λ f low. ap (λ v. owner_at v f) owners ∙ owner_pushed old.owners pushed b x f items low;
+    serves = λ f. ap (λ v. serves_at v f) serves ∙ serves_pushed old.serves longer b f flags;
+    count = subst (λ v. length old.owners.items ≤ length v.items) (sym owners) (count_pushed old.owners pushed b x items);
     finds = others_stay;
   }
 

@@ -3,6 +3,7 @@ pub mod Numbers
 pub mod FiledCells
 pub mod Put
 pub mod Filed
+pub mod Served
 pub mod Growing
 pub mod Adding
 pub mod Listing

@@ -1,5 +1,5 @@
 -- How ranges are filed after a structural operation, beside how they were. Serves the shift of the graph.
-use Rattle.std.proofs.Common.{◌≡◌, ◌∙◌, sym, ap, refl, subst, arith, ℕ, zero, suc, ◌+◌, ◌<◌, inl, inr, Bool, true, false, cond, ◌||◌, List, [], ◌∷◌, length, get_or, nat_lt, eqb, is_some, take, unwrap_or, Option, Some, None}
+use Rattle.std.proofs.Common.{◌≡◌, ◌∙◌, sym, ap, refl, subst, arith, ℕ, ◌+◌, ◌<◌, ◌↔◌, ◌⊎◌, inl, inr, Bool, true, false, cond, ◌||◌, List, [], length, get_or, nat_lt, eqb, is_some, take, unwrap_or, Option, Some, None, IsTrue}
 use Rattle.std.specs.BTreeMap as tree
 use Rattle.std.specs.BTreeMap.{is_at}
 use Rattle.std.specs.Map.{lookup}
@@ -19,10 +19,12 @@ use Rattle.place_lines.specs.Moved.{AreMoved}
 use Rattle.place_lines.specs.Spots.{area_of}
 use Rattle.place_lines.specs.declared.area.Area.{Area}
 use Rattle.place_lines.specs.declared.lines.PlaceLines.{PlaceLines}
+use Rattle.place_lines.specs.declared.spot.Spot.{Spot}
 use Rattle.shift_core.specs.Form.{form_of}
 use Rattle.shift_core.specs.Sound.{IsSound}
-use Rattle.shift_core.specs.Tables.{block_after, place_after}
+use Rattle.shift_core.specs.Tables.{place_after}
 use Rattle.shift_core.specs.declared.shift.Shift.{Shift}
+use Rattle.touch_index.specs.Handed.{IsHandedOn, fresh_part}
 use Rattle.touch_index.proofs.Staying.{block_is_somewhere}
 use Rattle.dep_graph.specs.Shifted.{node_after}
 use Rattle.dep_graph.specs.declared.files.Files.{Files}
@@ -32,14 +34,17 @@ use Rattle.dep_graph.specs.declared.node.Node.{Node}
 use Rattle.dep_graph.specs.declared.node.Node.TheVariants.{Cell, Name, Range}
 use Rattle.dep_graph.specs.declared.table.NodeTable.{NodeTable}
 use Rattle.dep_graph.specs.internal.Arrows.{is_used}
-use Rattle.dep_graph.specs.internal.Files.{FilesOn, HoldsBlock}
-use Rattle.dep_graph.specs.internal.Filings.{filing_of, filing_then, owner_at}
+use Rattle.dep_graph.specs.declared.serving.Serving.{Serving}
+use Rattle.dep_graph.specs.internal.Files.{AreServing, FilesOn, FindsBy, HasSpot, HoldsBlock, finds_filing}
+use Rattle.dep_graph.specs.internal.Filings.{filing_of, filing_then, is_given, owner_at, serves_at, since}
 use Rattle.dep_graph.specs.internal.Keys.{key_of}
 use Rattle.dep_graph.specs.internal.Numbers.{count_of, found_at, is_range, key_place}
-use Rattle.dep_graph.specs.internal.ShiftedNumbers.{AreAllRefiled, AreFilingsUnder, AreTargets, AreUnfiled, BecomesRange, IsRefiled, IsServedAt, StillFiled, after_at, block_in, is_linked}
-use Rattle.dep_graph.specs.internal.Touches.{FindsTouched, IsUntouched}
-use Rattle.dep_graph.proofs.Filed.{carried, kept_holds, served}
+use Rattle.dep_graph.specs.internal.ShiftedNumbers.{AreAllRefiled, AreFilingsUnder, AreTargets, AreUnfiled, BecomesRange, IsRefiled, StillFiled, after_at, block_in, is_linked}
+use Rattle.dep_graph.specs.internal.Touches.{FindsTouched, IsHandedAt, IsUntouched}
+use Rattle.dep_graph.proofs.Filed.{carried, kept_holds, kept_serving, present_serving, served}
+use Rattle.dep_graph.proofs.FiledCells.{owner_inside, served_inside}
 use Rattle.dep_graph.proofs.Numbers.{alive_inside, found_key, key_stands}
+use Rattle.dep_graph.proofs.Served.{holds_by}
 use Rattle.dep_graph.proofs.Targets.{Few, linked_alive, own_target}
 use Rattle.dep_graph.proofs.Untouched.{taken_before, taken_cases, taken_here}
 use Rattle.dep_graph.proofs.Walking.{some_of}
@@ -47,43 +52,95 @@ use Rattle.dep_graph.proofs.Walking.{some_of}
 -- ---- filings added
 
 pub files_same : (files : Files) → FilesOn files files
-files_same files = record { current = refl; owners = λ f n e. e; count = λ f low. low; finds = λ f low spot. refl }
+files_same files = record { current = refl; owners = λ f low. refl; serves = λ f. refl; count = omega arith; finds = λ f low spot. refl }
 
 pub files_on_on : (a b c : Files) → FilesOn a b → FilesOn b c → FilesOn a c
 files_on_on a b c f g = record {
   current = g.current ∙ f.current;
-  owners = λ i n e. g.owners i n (f.owners i n e);
-  count = λ i low. g.count i (f.count i low);
-  finds = λ i low spot. g.finds i (f.count i low) spot ∙ f.finds i low spot;
+  owners = λ i low. g.owners i (omega (arith, low, f.count)) ∙ f.owners i low;
+  serves = λ i. g.serves i ∙ f.serves i;
+  count = omega (arith, f.count, g.count);
+  finds = λ i low spot. g.finds i (omega (arith, low, f.count)) spot ∙ f.finds i low spot;
 }
 
-owner_inside : (l : List ℕ) (i x : ℕ) → slice_get l i ≡ Some x → i < length l
-owner_inside [] i x e = absurd (none e)
-  where
-    none : None ≡ Some x → ⊥
-    none e = cc
-owner_inside (y ∷ l) zero x e = omega arith
-owner_inside (y ∷ l) (suc i) x e = let low : i < length l = owner_inside l i x e in omega (arith, low)
-
--- ---- the filing that serves still
+-- ---- filings that serve still
 
 one_area : (a b : Area) → key.Range a ≡ key.Range b → a ≡ b
 one_area a b e = cc
 
--- that of a range which keeps its number, and to which only its own lines are left
-pub present_serves : (s : Shift) (lines : PlaceLines) (net : Net) (n target f : ℕ) (after : Block) → IsSound s → AreMoved (form_of s) net.nodes.lines lines → IsServedAt (form_of s) (found_at net.nodes n) after
-    → slice_get net.nodes.keys.keys target ≡ Some (key_of lines (Range after)) → target ≡ n → filing_of net.files.current n ≡ Some f → HoldsBlock lines net.files f after
-present_serves s lines net n target f after sound moved ((b, found, (inside, within, many)), none) stands same at =
+-- a range that keeps its number and its corners is handed on
+pub handed_block : (s : Shift) (lines : PlaceLines) (net : Net) (n : ℕ) (after : Block) → IsSound s → AreMoved (form_of s) net.nodes.lines lines → IsHandedAt (form_of s) (found_at net.nodes n) after
+    → slice_get net.nodes.keys.keys n ≡ Some (key_of lines (Range after)) → (b : Block) × (found_at net.nodes n ≡ Some (Range b)) × IsHandedOn (form_of s) net.nodes.lines lines b after
+handed_block s lines net n after sound moved (b, found, (inside, within, many)) stands =
     let there : Some (key.Range (area_of net.nodes.lines b)) ≡ Some (key.Range (area_of lines after))
-    = sym (found_key net.nodes.lines net.nodes.keys.keys n (Range b) found) ∙ (ap (slice_get net.nodes.keys.keys) (sym same) ∙ stands) in
+    = sym (found_key net.nodes.lines net.nodes.keys.keys n (Range b) found) ∙ stands in
     let area : area_of net.nodes.lines b ≡ area_of lines after
     = one_area (area_of net.nodes.lines b) (area_of lines after) (same_Some (key.Range (area_of net.nodes.lines b)) (key.Range (area_of lines after)) there) in
-    served (form_of s) net.nodes.lines lines net.files f b after (record { sound = sound; moved = moved; here = inside; there = within; area = area; count = many }) none ((net.filed n f at).1 b found)
+    (b, found, record { sound = sound; moved = moved; here = inside; there = within; area = area; count = many })
+
+-- its filings serve what it becomes
+module _ (s : Shift) (lines : PlaceLines) (net : Net) (n first : ℕ) (after : Block) (sound : IsSound s) (moved : AreMoved (form_of s) net.nodes.lines lines) (handed : IsHandedAt (form_of s) (found_at net.nodes n) after)
+    (stands : slice_get net.nodes.keys.keys n ≡ Some (key_of lines (Range after))) (at : filing_of net.files.current n ≡ Some first) where
+  -- where no lines come in between
+  pub present_serves : fresh_part (form_of s) after ≡ None → HoldsBlock lines (FindsBy net.files n (since first)) after
+  present_serves none =
+      let (b, found, on) = handed_block s lines net n after sound moved handed stands in
+      served (form_of s) net.nodes.lines lines (FindsBy net.files n (since first)) (FindsBy net.files n (since first)) b after on (λ spot h. inl h) (λ spot h. h) (λ part spot is has. absurd (no_part part (sym none ∙ is)))
+      (holds_by net.files net.nodes.lines n first b at ((net.filed n first at).1 b found))
+    where
+      no_part : (part : Block) → None ≡ Some part → ⊥
+      no_part part e = cc
+
+  -- or with a filing of those that do
+  module _ (files : Files) (last : ℕ) (part : Block) (is_part : fresh_part (form_of s) after ≡ Some part) (on : FilesOn net.files files) (behind : length net.files.owners.items ≡ last)
+      (owner : owner_at files.owners last ≡ Some n) (exact : (spot : Spot) → IsTrue (finds_filing files spot last) ↔ HasSpot lines part spot) where
+    abbrev both : Serving
+    both = record { first = first; last = last }
+
+    first_low : first < length net.files.owners.items
+    first_low = owner_inside net.files.owners.items first n (net.files.owned n first at)
+
+    first_serves : serves_at files.serves first ≡ true
+    first_serves = on.serves first ∙ net.files.served n first at
+
+    pub both_serve : AreServing files n both
+    both_serve = (
+      (on.owners first first_low ∙ net.files.owned n first at, omega arith, inr first_serves),
+      (owner, omega (arith, first_low, behind), inl refl),
+    )
+
+    only : (spot : Spot) → FindsBy files n both spot → FindsBy net.files n (since first) spot ⊎ ((p : Block) × (fresh_part (form_of s) after ≡ Some p) × HasSpot lines p spot)
+    only spot (f, (owns, from, which), found) = by which
+      where
+        by : (f ≡ last) ⊎ (serves_at files.serves f ≡ true) → FindsBy net.files n (since first) spot ⊎ ((p : Block) × (fresh_part (form_of s) after ≡ Some p) × HasSpot lines p spot)
+        by (inl same) = inr (part, is_part, (exact spot).0 (subst (λ g. finds_filing files spot g ≡ true) same found))
+        by (inr serves) =
+            let was : serves_at net.files.serves f ≡ true = sym (on.serves f) ∙ serves in
+            let low : f < length net.files.owners.items = served_inside net.files f was in
+            inl (f, (sym (on.owners f low) ∙ owns, from, inr was), sym (on.finds f low spot) ∙ found)
+
+    grows : (spot : Spot) → FindsBy net.files n (since first) spot → FindsBy files n both spot
+    grows spot (f, (owns, from, which), found) =
+        let low : f < length net.files.owners.items = owner_inside net.files.owners.items f n owns in
+        (f, (on.owners f low ∙ owns, from, elim which [ inl same ↦ inr (ap (serves_at files.serves) same ∙ first_serves) | inr serves ↦ inr (on.serves f ∙ serves) ]), on.finds f low spot ∙ found)
+
+    added : (p : Block) (spot : Spot) → fresh_part (form_of s) after ≡ Some p → HasSpot lines p spot → FindsBy files n both spot
+    added p spot is has =
+        (last, (owner, omega (arith, first_low, behind), inl refl), (exact spot).1 (subst (λ x. HasSpot lines x spot) (same_Some p part (sym is ∙ is_part)) has))
+
+    pub both_hold : HoldsBlock lines (FindsBy files n both) after
+    both_hold =
+        let (b, found, handed_on) = handed_block s lines net n after sound moved handed stands in
+        served (form_of s) net.nodes.lines lines (FindsBy net.files n (since first)) (FindsBy files n both) b after handed_on only grows added (holds_by net.files net.nodes.lines n first b at ((net.filed n first at).1 b found))
 
 -- ---- filings by the lines after the operation
 
 abbrev pub Filing : Type 0
-Filing = ℕ → Option ℕ
+Filing = ℕ → Option Serving
+
+-- the filings that few nodes get, or none
+abbrev pub Given : Type 0
+Given = tree.BTreeMap ℕ (Option Serving)
 
 nothing : {A : Type 0} (x : A) → None ≡ Some x → ⊥
 nothing x e = cc
@@ -94,66 +151,75 @@ range_is (Some (Cell p)) h = absurd (false≢true h)
 range_is (Some (Name scope word)) h = absurd (false≢true h)
 range_is None h = absurd (false≢true h)
 
+since_of : (o : Option ℕ) (all : Serving) → option_map since o ≡ Some all → (f : ℕ) × (o ≡ Some f) × (since f ≡ all)
+since_of (Some f) all e = (f, refl, same_Some (since f) all e)
+since_of None all e = absurd (nothing all e)
+
+some_since : (o : Option ℕ) → IsSome o → IsSome (option_map since o)
+some_since (Some f) h = refl
+some_since None h = h
+
 -- where those of the found nodes are taken away, the others serve on
-pub others_serve : (s : Shift) (lines : PlaceLines) (net : Net) (found : List ℕ) (filings : Few) → IsSound s → AreMoved (form_of s) net.nodes.lines lines → FindsTouched s net.nodes found → AreUnfiled found filings
+pub others_serve : (s : Shift) (lines : PlaceLines) (net : Net) (found : List ℕ) (filings : Given) → IsSound s → AreMoved (form_of s) net.nodes.lines lines → FindsTouched s net.nodes found → AreUnfiled found filings
     → AreFilingsUnder lines net (filing_then filings net.files.current)
-others_serve s lines net found filings sound moved finds are n f e = elim (has_or_not n found) [
-  | inl h ↦ absurd (nothing f (sym (ap (λ o. unwrap_or o (filing_of net.files.current n)) (are n ∙ ap (λ t. cond t (Some None) None) h)) ∙ e))
-  | inr other ↦ by other (sym (ap (λ o. unwrap_or o (filing_of net.files.current n)) (are n ∙ ap (λ t. cond t (Some None) None) other)) ∙ e)
+others_serve s lines net found filings sound moved finds are n all e = elim (has_or_not n found) [
+  | inl h ↦ absurd (nothing all (sym (ap (λ o. unwrap_or o (option_map since (filing_of net.files.current n))) (are n ∙ ap (λ t. cond t (Some None) None) h)) ∙ e))
+  | inr other ↦
+      let (f, at, same) = since_of (filing_of net.files.current n) all (sym (ap (λ o. unwrap_or o (option_map since (filing_of net.files.current n))) (are n ∙ ap (λ t. cond t (Some None) None) other)) ∙ e) in
+      subst Under same (by other f at)
 ]
   where
-    by : has n found ≡ false → filing_of net.files.current n ≡ Some f → (owner_at net.files.owners f ≡ Some n)
-        × (f < length net.files.owners.items)
-        × ((b : Block) × (slice_get net.nodes.keys.keys n ≡ Some (key_of lines (Range b))) × HoldsBlock lines net.files f b)
-    by other at =
+    Under : Serving → Type 0
+    Under more = AreServing net.files n more × ((b : Block) × (slice_get net.nodes.keys.keys n ≡ Some (key_of lines (Range b))) × HoldsBlock lines (FindsBy net.files n more) b)
+
+    by : has n found ≡ false → (f : ℕ) → filing_of net.files.current n ≡ Some f → Under (since f)
+    by other f at =
         let (b, is) = range_is (found_at net.nodes n) (net.filed n f at).0 in
         let untouched : IsUntouched s (Range b) = elim (finds n (Range b) is) [ inl h ↦ absurd (false≢true (sym other ∙ h)) | inr u ↦ u ] in
         let (after, goes, same) = block_is_somewhere (form_of s) net.nodes.lines lines b sound moved untouched.0 untouched.1 in (
-          net.files.owned n f at,
-          owner_inside net.files.owners.items f n (net.files.owned n f at),
+          present_serving net.files n f at,
           (
             after,
             found_key net.nodes.lines net.nodes.keys.keys n (Range b) is ∙ ap Some (ap key.Range same),
-            carried s net.nodes.lines lines net.files f b after sound moved untouched.0 (λ bent. untouched.1 (inl bent)) (λ cut. untouched.1 (inr (inl cut))) goes same ((net.filed n f at).1 b is),
+            carried s net.nodes.lines lines (FindsBy net.files n (since f)) b after sound moved untouched.0 (λ bent. untouched.1 (inl bent)) (λ cut. untouched.1 (inr (inl cut))) goes same (holds_by net.files net.nodes.lines n f b at ((net.filed n f at).1 b is)),
           ),
         )
 
 module _ (lines : PlaceLines) (a b : Net) (nodes : b.nodes ≡ a.nodes) (on : FilesOn a.files b.files) where
   -- those that there were are as they were
   pub under_on : (filing : Filing) → AreFilingsUnder lines a filing → AreFilingsUnder lines b filing
-  under_on filing under n f e =
-      let (owner, low, range) = under n f e in
+  under_on filing under n all e =
+      let (are, range) = under n all e in
       let (block, stands, holds) = range in
-      (on.owners f n owner, on.count f low, (block, subst (λ (t : NodeTable). slice_get t.keys.keys n ≡ Some (key_of lines (Range block))) (sym nodes) stands, kept_holds lines a.files b.files f block on low holds))
+      (kept_serving a.files b.files n all on are, (block, subst (λ (t : NodeTable). slice_get t.keys.keys n ≡ Some (key_of lines (Range block))) (sym nodes) stands, kept_holds lines a.files b.files n all block on are holds))
 
   -- and one more
-  pub under_next : (old new : Filing) (target filing : ℕ) (after : Block) → AreFilingsUnder lines a old
-      → ((n : ℕ) → new n ≡ cond (eqb n target) (Some filing) (old n)) → owner_at b.files.owners filing ≡ Some target
-      → slice_get a.nodes.keys.keys target ≡ Some (key_of lines (Range after)) → HoldsBlock lines b.files filing after → AreFilingsUnder lines b new
-  under_next old new target filing after under kept owner stands holds n f e = by (eqb n target) refl (sym (kept n) ∙ e)
+  pub under_next : (old new : Filing) (target : ℕ) (filing : Serving) (after : Block) → AreFilingsUnder lines a old
+      → ((n : ℕ) → new n ≡ cond (eqb n target) (Some filing) (old n)) → AreServing b.files target filing
+      → slice_get a.nodes.keys.keys target ≡ Some (key_of lines (Range after)) → HoldsBlock lines (FindsBy b.files target filing) after → AreFilingsUnder lines b new
+  under_next old new target filing after under kept are stands holds n all e = by (eqb n target) refl (sym (kept n) ∙ e)
     where
       there : slice_get b.nodes.keys.keys target ≡ Some (key_of lines (Range after))
       there = subst (λ (t : NodeTable). slice_get t.keys.keys target ≡ Some (key_of lines (Range after))) (sym nodes) stands
 
-      Under : ℕ → ℕ → Type 0
-      Under m g = (owner_at b.files.owners g ≡ Some m) × (g < length b.files.owners.items) × ((block : Block) × (slice_get b.nodes.keys.keys m ≡ Some (key_of lines (Range block))) × HoldsBlock lines b.files g block)
+      Under : ℕ → Serving → Type 0
+      Under m more = AreServing b.files m more × ((block : Block) × (slice_get b.nodes.keys.keys m ≡ Some (key_of lines (Range block))) × HoldsBlock lines (FindsBy b.files m more) block)
 
-      by : (t : Bool) → eqb n target ≡ t → cond t (Some filing) (old n) ≡ Some f → Under n f
-      by true here same =
-          subst (λ m. Under m f) (sym (eqb-true n target here)) (subst (Under target) (same_Some filing f same) (owner, owner_inside b.files.owners.items filing target owner, (after, there, holds)))
-      by false other same = under_on old under n f same
+      by : (t : Bool) → eqb n target ≡ t → cond t (Some filing) (old n) ≡ Some all → Under n all
+      by true here same = subst (λ m. Under m all) (sym (eqb-true n target here)) (subst (Under target) (same_Some filing all same) (are, (after, there, holds)))
+      by false other same = under_on old under n all same
 
 -- where a filing was set
-pub then_put : (old new : Few) (a b : Files) (target : ℕ) (filing : Option ℕ) → ((n : ℕ) → tree.get nat_cmp new n ≡ cond (eqb n target) (Some filing) (tree.get nat_cmp old n)) → b.current ≡ a.current
+pub then_put : (old new : Given) (a b : Files) (target : ℕ) (filing : Option Serving) → ((n : ℕ) → tree.get nat_cmp new n ≡ cond (eqb n target) (Some filing) (tree.get nat_cmp old n)) → b.current ≡ a.current
     → (n : ℕ) → filing_then new b.current n ≡ cond (eqb n target) filing (filing_then old a.current n)
-then_put old new a b target filing put same n = ap (λ v. filing_then new v n) same ∙ (ap (λ o. unwrap_or o (filing_of a.current n)) (put n) ∙ by (eqb n target))
+then_put old new a b target filing put same n = ap (λ v. filing_then new v n) same ∙ (ap (λ o. unwrap_or o (option_map since (filing_of a.current n))) (put n) ∙ by (eqb n target))
   where
-    by : (t : Bool) → unwrap_or (cond t (Some filing) (tree.get nat_cmp old n)) (filing_of a.current n) ≡ cond t filing (filing_then old a.current n)
+    by : (t : Bool) → unwrap_or (cond t (Some filing) (tree.get nat_cmp old n)) (option_map since (filing_of a.current n)) ≡ cond t filing (filing_then old a.current n)
     by true = refl
     by false = refl
 
-pub put_among : (old new : Few) (target count : ℕ) (filing : Option ℕ) → ((n : ℕ) → tree.get nat_cmp new n ≡ cond (eqb n target) (Some filing) (tree.get nat_cmp old n)) → target < count
-    → ((n : ℕ) → is_among old n ≡ true → n < count) → (n : ℕ) → is_among new n ≡ true → n < count
+pub put_among : (old new : Given) (target count : ℕ) (filing : Option Serving) → ((n : ℕ) → tree.get nat_cmp new n ≡ cond (eqb n target) (Some filing) (tree.get nat_cmp old n)) → target < count
+    → ((n : ℕ) → is_given old n ≡ true → n < count) → (n : ℕ) → is_given new n ≡ true → n < count
 put_among old new target count filing put low inside n h = by (eqb n target) refl (sym (ap is_some (put n)) ∙ h)
   where
     by : (t : Bool) → eqb n target ≡ t → is_some (cond t (Some filing) (tree.get nat_cmp old n)) ≡ true → n < count
@@ -161,10 +227,10 @@ put_among old new target count filing put low inside n h = by (eqb n target) ref
     by false other h = inside n h
 
 -- a filing that was put is there, and the others stay
-pub put_there : (old new : Filing) (target filing : ℕ) → ((n : ℕ) → new n ≡ cond (eqb n target) (Some filing) (old n)) → IsSome (new target)
+pub put_there : (old new : Filing) (target : ℕ) (filing : Serving) → ((n : ℕ) → new n ≡ cond (eqb n target) (Some filing) (old n)) → IsSome (new target)
 put_there old new target filing kept = subst IsSome (sym (kept target ∙ ap (λ t. cond t (Some filing) (old target)) (eq-eqb target target refl))) refl
 
-pub put_stays : (old new : Filing) (target filing : ℕ) → ((n : ℕ) → new n ≡ cond (eqb n target) (Some filing) (old n)) → StillFiled old new
+pub put_stays : (old new : Filing) (target : ℕ) (filing : Serving) → ((n : ℕ) → new n ≡ cond (eqb n target) (Some filing) (old n)) → StillFiled old new
 put_stays old new target filing kept n h = subst IsSome (sym (kept n)) (by (eqb n target))
   where
     by : (t : Bool) → IsSome (cond t (Some filing) (old n))
@@ -173,7 +239,7 @@ put_stays old new target filing kept n h = subst IsSome (sym (kept n)) (by (eqb 
 
 -- ---- one after another without a filing
 
-pub unfiled_next : (numbers : List ℕ) (i d : ℕ) (old new : Few) → i < length numbers → AreUnfiled (take i numbers) old
+pub unfiled_next : (numbers : List ℕ) (i d : ℕ) (old new : Given) → i < length numbers → AreUnfiled (take i numbers) old
     → ((n : ℕ) → tree.get nat_cmp new n ≡ cond (eqb n (get_or numbers i d)) (Some None) (tree.get nat_cmp old n)) → AreUnfiled (take (i + 1) numbers) new
 unfiled_next numbers i d old new inside before put n = put n ∙ by (eqb n (get_or numbers i d)) refl
   where
@@ -190,18 +256,19 @@ unfiled_next numbers i d old new inside before put n = put n ∙ by (eqb n (get_
       ]
     ]))
 
-pub unfiled_first : (filings : Few) → filings.entries ≡ [] → AreUnfiled [] filings
+pub unfiled_first : (filings : Given) → filings.entries ≡ [] → AreUnfiled [] filings
 unfiled_first filings none n = ap (λ es. lookup (is_at (nat_cmp n)) es) none
 
-pub unfiled_inside : (numbers : List ℕ) (filings : Few) (count : ℕ) → AreUnfiled numbers filings → ((n : ℕ) → has n numbers ≡ true → n < count) → (n : ℕ) → is_among filings n ≡ true → n < count
+pub unfiled_inside : (numbers : List ℕ) (filings : Given) (count : ℕ) → AreUnfiled numbers filings → ((n : ℕ) → has n numbers ≡ true → n < count) → (n : ℕ) → is_given filings n ≡ true → n < count
 unfiled_inside numbers filings count are inside n h = elim (has_or_not n numbers) [
   | inl there ↦ inside n there
   | inr other ↦ absurd (false≢true (sym (ap is_some (are n ∙ ap (λ t. cond t (Some None) None) other)) ∙ h))
 ]
 
 -- the others are filed as they were
-pub unfiled_still : (numbers : List ℕ) (filings : Few) (files : Files) → AreUnfiled numbers filings → (n : ℕ) → has n numbers ≡ false → IsSome (filing_of files.current n) → IsSome (filing_then filings files.current n)
-unfiled_still numbers filings files are n other h = subst IsSome (sym (ap (λ o. unwrap_or o (filing_of files.current n)) (are n ∙ ap (λ t. cond t (Some None) None) other))) h
+pub unfiled_still : (numbers : List ℕ) (filings : Given) (files : Files) → AreUnfiled numbers filings → (n : ℕ) → has n numbers ≡ false → IsSome (filing_of files.current n) → IsSome (filing_then filings files.current n)
+unfiled_still numbers filings files are n other h =
+    subst IsSome (sym (ap (λ o. unwrap_or o (option_map since (filing_of files.current n))) (are n ∙ ap (λ t. cond t (Some None) None) other))) (some_since (filing_of files.current n) h)
 
 -- ---- the same targets by the same nodes and links
 

@@ -1,7 +1,8 @@
 -- Links that a structural operation moves: those between the targets of numbers. Serves the shift of the graph.
-use Rattle.std.proofs.Common.{◌≡◌, ◌∙◌, sym, ap, refl, subst, ℕ, true, map, Option, Some, None, IsTrue}
+use Rattle.std.proofs.Common.{◌≡◌, ◌∙◌, ◌↔◌, ◌⊎◌, ◌||◌, ◌==◌, sym, ap, refl, subst, inl, inr, ℕ, true, map, Option, Some, None, IsTrue}
 use Rattle.std.specs.Prelude.{IsSome}
 use Rattle.std.specs.Option.{option_and_then, option_map}
+use Rattle.std.proofs.lemmas.Bool.{eq-eqb, eqb-true, or_cases, or_left, or_right}
 use Rattle.std.proofs.lemmas.Option.{same_Some}
 use Rattle.cell_addr.specs.declared.place.Block.{Block}
 use Rattle.needs_order.specs.Needs as plain
@@ -19,16 +20,20 @@ use Rattle.dep_graph.specs.declared.net.Net.{Net}
 use Rattle.dep_graph.specs.declared.node.Node.{Node}
 use Rattle.dep_graph.specs.declared.node.Node.TheVariants.{Range}
 use Rattle.dep_graph.specs.declared.table.NodeTable.{NodeTable}
-use Rattle.dep_graph.specs.internal.Files.{HoldsBlock}
+use Rattle.dep_graph.specs.declared.serving.Serving.{Serving}
+use Rattle.dep_graph.specs.internal.Files.{AreServing, FindsBy, FindsNode, HoldsBlock, IsServing}
+use Rattle.dep_graph.specs.internal.Filings.{filing_of, is_last, owner_at, serves_at, since}
 use Rattle.dep_graph.specs.internal.Keys.{key_of}
 use Rattle.dep_graph.specs.internal.Nets.{Grows, links_in}
 use Rattle.dep_graph.specs.internal.Numbers.{IsAlive, found_at, is_range, key_place, linked, node_at, place_of}
 use Rattle.dep_graph.specs.internal.ShiftedNumbers.{AreAllRefiled, AreFilingsUnder, AreTargets, after_at, is_linked}
-use Rattle.dep_graph.proofs.Adding.{holds_same}
+use Rattle.dep_graph.proofs.Filed.{finds_alike, holds_as}
 use Rattle.dep_graph.proofs.Growing.{grown_links}
 use Rattle.dep_graph.proofs.Numbers.{alive_inside, alive_is, alive_number, at_place, found_place, key_found, place_found}
 use Rattle.dep_graph.proofs.Places.{has_map, map_has}
+use Rattle.dep_graph.proofs.Put.{first_of}
 use Rattle.dep_graph.proofs.Refiling.{target_stands}
+use Rattle.dep_graph.proofs.Served.{holds_node}
 use Rattle.dep_graph.proofs.Targets.{linked_alive, needing_linked, used_by, used_linked}
 use Rattle.dep_graph.proofs.Walking.{link_user}
 
@@ -117,7 +122,7 @@ module _ (s : Shift) (lines : PlaceLines) (net : Net) (target_of : ℕ → Optio
     all_shifted a b = (came a b, λ link. goes a b link.0 link.1 link.2 link.3 link.4)
 
     -- the range that a used one becomes is filed
-    pub used_filed : (filing : ℕ → Option ℕ) → AreAllRefiled s net target_of filing → (a n : ℕ) → plain.has n (needs_of links a) ≡ true → (b : Block) → found_at after n ≡ Some (Range b) → IsSome (filing n)
+    pub used_filed : (filing : ℕ → Option Serving) → AreAllRefiled s net target_of filing → (a n : ℕ) → plain.has n (needs_of links a) ≡ true → (b : Block) → found_at after n ≡ Some (Range b) → IsSome (filing n)
     used_filed filing refiled a n h b range =
         let (k, m, from, there, to) = (redirected a n).0 h in
         let linked_m : is_linked net m ≡ true = used_linked net k m there in
@@ -125,17 +130,61 @@ module _ (s : Shift) (lines : PlaceLines) (net : Net) (target_of : ℕ → Optio
         let is : y ≡ Range b = same_Some y (Range b) (sym found_y ∙ range) in
         refiled m n b (used_by net k m there, to, moves_to (node_after s) (found_at net.nodes m) (node_at net.nodes m) (linked_alive net m linked_m) ∙ (moves_y ∙ ap Some is))
 
--- the filings after the operation are those of ranges
-pub filings_after : (lines : PlaceLines) (net : Net) (filing : ℕ → Option ℕ) (files : Files) → AreFilingsUnder lines net filing → files.index ≡ net.files.index → (n f : ℕ) → filing n ≡ Some f
-    → (is_range (found_at (by_lines lines net.nodes) n) ≡ true) × ((b : Block) → found_at (by_lines lines net.nodes) n ≡ Some (Range b) → HoldsBlock lines files f b)
-filings_after lines net filing files under index n f e =
-    let (owner, low, range) = under n f e in
-    let (block, stands, holds) = range in
-    let found : found_at (by_lines lines net.nodes) n ≡ Some (Range block) = key_found lines net.nodes.keys.keys n (Range block) net.nodes.narrow stands in
-    (ap is_range found, λ b at. holds_same lines net.files files f b index (subst (HoldsBlock lines net.files f) (one_range block b (same_Some (Range block) (Range b) (sym found ∙ at))) holds))
-  where
-    one_range : (a b : Block) → Range a ≡ Range b → a ≡ b
-    one_range a b e = cc
+-- ---- filings that were put
+
+some_first : (o : Option Serving) → IsSome o → IsSome (option_map (λ all. all.first) o)
+some_first (Some all) h = refl
+some_first None h = h
+
+module _ (old new : Files) (filing : ℕ → Option Serving) (owners : new.owners ≡ old.owners) (kept : (n : ℕ) → filing_of new.current n ≡ option_map (λ all. all.first) (filing n))
+    (serves : (n f : ℕ) → owner_at old.owners f ≡ Some n → serves_at new.serves f ≡ (serves_at old.serves f || is_last (filing n) f)) where
+  -- they serve from the first on
+  put_serving : (n : ℕ) (all : Serving) → filing n ≡ Some all → AreServing old n all → (f : ℕ) → IsServing old n all f ↔ IsServing new n (since all.first) f
+  put_serving n all is are f = (goes, comes)
+    where
+      now : owner_at old.owners f ≡ Some n → serves_at new.serves f ≡ (serves_at old.serves f || (f == all.last))
+      now owner = serves n f owner ∙ ap (λ o. serves_at old.serves f || is_last o f) is
+
+      goes : IsServing old n all f → IsServing new n (since all.first) f
+      goes (owner, from, which) = (
+        ap (λ v. owner_at v f) owners ∙ owner,
+        from,
+        inr (now owner ∙ elim which [ inl same ↦ or_right (serves_at old.serves f) (f == all.last) (eq-eqb f all.last same) | inr was ↦ or_left (serves_at old.serves f) (f == all.last) was ]),
+      )
+
+      comes : IsServing new n (since all.first) f → IsServing old n all f
+      comes (owner, from, which) =
+          let owns : owner_at old.owners f ≡ Some n = sym (ap (λ v. owner_at v f) owners) ∙ owner in (
+            owns,
+            from,
+            elim which [
+              | inl same ↦ subst (λ g. (g ≡ all.last) ⊎ (serves_at old.serves g ≡ true)) (sym same) are.0.2
+              | inr is_now ↦ elim (or_cases (serves_at old.serves f) (f == all.last) (sym (now owns) ∙ is_now)) [ inl was ↦ inr was | inr last ↦ inl (eqb-true f all.last last) ]
+            ],
+          )
+
+  -- and are those of ranges
+  pub filings_after : (lines : PlaceLines) (net : Net) → net.files ≡ old → AreFilingsUnder lines net filing → new.index ≡ old.index → (n f : ℕ) → filing_of new.current n ≡ Some f
+      → (is_range (found_at (by_lines lines net.nodes) n) ≡ true) × ((b : Block) → found_at (by_lines lines net.nodes) n ≡ Some (Range b) → HoldsBlock lines (FindsNode new n) b)
+  filings_after lines net files under index n f e =
+      let (all, is, first) = first_of (filing n) f (sym (kept n) ∙ e) in
+      let (serving, range) = under n all is in
+      let (block, stands, holds) = range in
+      let found : found_at (by_lines lines net.nodes) n ≡ Some (Range block) = key_found lines net.nodes.keys.keys n (Range block) net.nodes.narrow stands in
+      let are : AreServing old n all = subst (λ (x : Files). AreServing x n all) files serving in
+      let here : HoldsBlock lines (FindsBy old n all) block = subst (λ (x : Files). HoldsBlock lines (FindsBy x n all) block) files holds in
+      let there : HoldsBlock lines (FindsBy new n (since all.first)) block
+      = holds_as lines (FindsBy old n all) (FindsBy new n (since all.first)) block (λ spot. finds_alike old new n all (since all.first) spot index (put_serving n all is are)) here in (
+        ap is_range found,
+        λ b at. holds_node new lines n f b e
+            (subst (λ g. HoldsBlock lines (FindsBy new n (since g)) b) first (subst (HoldsBlock lines (FindsBy new n (since all.first))) (one_range block b (same_Some (Range block) (Range b) (sym found ∙ at))) there)),
+      )
+    where
+      one_range : (a b : Block) → Range a ≡ Range b → a ≡ b
+      one_range a b e = cc
+
+  pub still_served : (n : ℕ) → IsSome (filing n) → IsSome (filing_of new.current n)
+  still_served n h = subst IsSome (sym (kept n)) (some_first (filing n) h)
 
 -- ---- after the links were the same
 

@@ -1,9 +1,8 @@
 -- Arrows of a net and chains of needs: the ones lead where the others come from. Serves all walks.
-use Rattle.std.proofs.Common.{◌≡◌, ◌∙◌, sym, ap, refl, subst, arith, ℕ, ◌+◌, ◌-◌, ◌<◌, ◌≤◌, inl, inr, ◌⊎◌, ⊎_elim, Bool, true, false, cond, List, [], ◌∷◌, map, filter, length, nat_lt, eqb, Option, Some, None}
-use Rattle.std.proofs.lemmas.Bool.{cases_lt, eq-eqb, eqb-true, false≢true}
+use Rattle.std.proofs.Common.{◌≡◌, ◌∙◌, sym, ap, refl, subst, arith, ℕ, ◌+◌, ◌-◌, ◌<◌, ◌≤◌, inl, inr, ◌⊎◌, ⊎_elim, Bool, true, false, cond, List, [], ◌∷◌, map, filter, length, nat_lt, Option, Some, None}
+use Rattle.std.proofs.lemmas.Bool.{cases_lt, false≢true}
 use Rattle.std.proofs.lemmas.Bool.Decides.{nat_tests}
 use Rattle.std.specs.Prelude.{IsSome}
-use Rattle.std.specs.List.{cons_option, filter_map}
 use Rattle.std.proofs.lemmas.Option.{same_Some}
 use Rattle.cell_addr.specs.Place.{covers}
 use Rattle.cell_addr.specs.declared.place.Block.{Block}
@@ -14,7 +13,7 @@ use Rattle.needs_order.proofs.Lists as lists
 use Rattle.node_links.specs.Nodes.{needs_of, users_of}
 use Rattle.node_reach.specs.Arrows.{LeadsTo, at_once, after}
 use Rattle.block_index.specs.Index.{filed_in, slot_count, slots_of}
-use Rattle.block_index.proofs.Filing.{found_under, slot_with}
+use Rattle.block_index.proofs.Tests.{any_has, has_any}
 use Rattle.dep_graph.specs.Needs as needs
 use Rattle.dep_graph.specs.Needs.{Chain, IsUsed, Needs}
 use Rattle.dep_graph.specs.Nodes.{covers_node, has}
@@ -23,16 +22,16 @@ use Rattle.dep_graph.specs.declared.node.Node.{Node}
 use Rattle.dep_graph.specs.declared.node.Node.TheVariants.{Cell, Name, Range}
 use Rattle.dep_graph.specs.internal.Arrows.{cell_slots, from_node, from_slot, is_used, node_total, slots_behind, starts_of, targets_of, total, under_slot}
 use Rattle.dep_graph.specs.internal.Numbers.{IsAlive, found_at, is_range, key_at, node_at, place_of}
-use Rattle.dep_graph.specs.internal.Files.{finds_filing, if_filing, if_present, owner_of}
-use Rattle.dep_graph.specs.internal.Filings.{filing_of, owner_at}
+use Rattle.dep_graph.specs.internal.Files.{FindsNode}
+use Rattle.dep_graph.specs.internal.Filings.{filing_of}
 use Rattle.dep_graph.specs.internal.Keys.{key_of}
 use Rattle.dep_graph.specs.internal.Nets.{links_in}
-use Rattle.dep_graph.specs.declared.files.Files.{Files}
 use Rattle.dep_graph.specs.declared.key.Key.{Key}
 use Rattle.dep_graph.specs.declared.key.Key.TheVariants as key
 use Rattle.dep_graph.proofs.Growing.{unknown_links}
 use Rattle.dep_graph.proofs.Numbers.{alive_inside, alive_number, alive_place, at_place, found_place, key_is, place_is}
 use Rattle.dep_graph.proofs.Places.{has_map, map_has}
+use Rattle.dep_graph.proofs.Served.{served_node}
 
 -- ---- plain lists
 
@@ -111,63 +110,6 @@ pub leads_on : {targets : ℕ → List ℕ} {a b c : ℕ} → LeadsTo targets a 
 leads_on (at_once x) rest = after x rest
 leads_on (after x led) rest = after x (leads_on led rest)
 
--- ---- filings
-
-module _ (files : Files) where
-  -- what stands for a filing is the node whose present one it is
-  pub owner_filing : (f n : ℕ) → owner_of files f ≡ Some n → filing_of files.current n ≡ Some f
-  owner_filing f n e = by (owner_at files.owners f) e
-    where
-      present : (m : ℕ) (o : Option ℕ) → filing_of files.current m ≡ o → if_filing m f o ≡ Some n → filing_of files.current n ≡ Some f
-      present m None at e = absurd (none e)
-        where
-          none : None ≡ Some n → ⊥
-          none e = cc
-      present m (Some own) at e = tested (eqb own f) refl e
-        where
-          none : None ≡ Some n → ⊥
-          none e = cc
-
-          tested : (t : Bool) → eqb own f ≡ t → cond t (Some m) None ≡ Some n → filing_of files.current n ≡ Some f
-          tested true is e = subst (λ k. filing_of files.current k ≡ Some f) (same_Some m n e) (at ∙ ap Some (eqb-true own f is))
-          tested false is e = absurd (none e)
-
-      by : (o : Option ℕ) → if_present files f o ≡ Some n → filing_of files.current n ≡ Some f
-      by None e = absurd (none e)
-        where
-          none : None ≡ Some n → ⊥
-          none e = cc
-      by (Some m) e = present m (filing_of files.current m) refl e
-
-  pub filing_owner : (f n : ℕ) → filing_of files.current n ≡ Some f → owner_of files f ≡ Some n
-  filing_owner f n e =
-      ap (if_present files f) (files.owned n f e)
-      ∙ (ap (if_filing n f) e ∙ ap (λ t. cond t (Some n) None) (eq-eqb f f refl))
-
-  -- the nodes under a slot
-  pub owner_has : (fs : List ℕ) (n : ℕ) → plain.has n (filter_map (owner_of files) fs) ≡ true → (f : ℕ) × (plain.has f fs ≡ true) × (filing_of files.current n ≡ Some f)
-  owner_has [] n h = absurd (false≢true h)
-  owner_has (f ∷ fs) n h = by (owner_of files f) refl (owner_has fs n) h
-    where
-      by : (o : Option ℕ) → owner_of files f ≡ o → (plain.has n (filter_map (owner_of files) fs) ≡ true → (g : ℕ) × (plain.has g fs ≡ true) × (filing_of files.current n ≡ Some g)) → plain.has n (cons_option o (filter_map (owner_of files) fs)) ≡ true
-          → (g : ℕ) × (plain.has g (f ∷ fs) ≡ true) × (filing_of files.current n ≡ Some g)
-      by None e rest h = let (g, there, at) = rest h in (g, lists.has-append_right g (f ∷ []) fs there, at)
-      by (Some m) e rest h = ⊎_elim
-          (λ (same : m ≡ n). (f, lists.has_first f fs, owner_filing f n (e ∙ ap Some same)))
-          (λ (later : plain.has n (filter_map (owner_of files) fs) ≡ true). let (g, there, at) = rest later in (g, lists.has-append_right g (f ∷ []) fs there, at))
-          (lists.has_cases n m (filter_map (owner_of files) fs) h)
-
-  pub has_owner : (fs : List ℕ) (f n : ℕ) → plain.has f fs ≡ true → filing_of files.current n ≡ Some f → plain.has n (filter_map (owner_of files) fs) ≡ true
-  has_owner [] f n h at = absurd (false≢true h)
-  has_owner (g ∷ fs) f n h at = ⊎_elim
-      (λ (same : g ≡ f). subst (λ o. plain.has n (cons_option o (filter_map (owner_of files) fs)) ≡ true) (sym (ap (owner_of files) same ∙ filing_owner f n at)) (lists.has_first n (filter_map (owner_of files) fs)))
-      (λ (later : plain.has f fs ≡ true). behind (owner_of files g) (has_owner fs f n later at))
-      (lists.has_cases f g fs h)
-    where
-      behind : (o : Option ℕ) → plain.has n (filter_map (owner_of files) fs) ≡ true → plain.has n (cons_option o (filter_map (owner_of files) fs)) ≡ true
-      behind None there = there
-      behind (Some m) there = lists.has-append_right n (m ∷ []) (filter_map (owner_of files) fs) there
-
 -- a range is one by the test, and the other way round
 range_is : (o : Option Node) → is_range o ≡ true → (b : Block) × (o ≡ Some (Range b))
 range_is (Some (Range b)) h = (b, refl)
@@ -238,11 +180,11 @@ module _ (net : Net) where
       → (IsAlive net.nodes r) × (covers_node (node_at net.nodes r) (Cell p) ≡ true) × IsUsed (links_in net) (node_at net.nodes r)
   cover_used p s r slot under =
       let (owned, used) = filter_has (is_used net) (under_slot net s) r under in
-      let (f, filed, at) = owner_has net.files (filed_in net.files.index s) r owned in
+      let (first, at) = served_node net.files r (filed_in net.files.index s) owned in
       let (alive, is) = used_node r used in
-      let (b, range) = range_is (found_at net.nodes r) (net.filed r f at).0 in
-      let found : finds_filing net.files (spot_of net.nodes.lines p) f ≡ true = found_under net.files.index (spot_of net.nodes.lines p).sheet (spot_of net.nodes.lines p).row (spot_of net.nodes.lines p).col s f slot filed in
-      let covered : covers b p ≡ true = sym (((net.filed r f at).1 b range).exact p) ∙ found in
+      let (b, range) = range_is (found_at net.nodes r) (net.filed r first at).0 in
+      let found : FindsNode net.files r (spot_of net.nodes.lines p) = any_has (λ t. plain.has r (under_slot net t)) (spot_slots net p) s slot owned in
+      let covered : covers b p ≡ true = (((net.filed r first at).1 b range).exact p).0 found in
       (alive, subst (λ x. covers_node x (Cell p) ≡ true) (sym (same_Some (node_at net.nodes r) (Range b) (sym alive ∙ range))) covered, is)
 
   -- so it needs the cell
@@ -256,10 +198,10 @@ module _ (net : Net) where
       let (c_in, a_in, listed) = link_user c a h in
       let (b, is, covered) = range_of a p covers_it in
       let range : found_at net.nodes (place_of net.nodes a) ≡ Some (Range b) = found_place net.nodes a a_in ∙ ap Some is in
-      let (f, at) = some_filing (filing_of net.files.current (place_of net.nodes a)) (net.used (place_of net.nodes c) (place_of net.nodes a) listed b range) in
-      let found : finds_filing net.files (spot_of net.nodes.lines p) f ≡ true = ((net.filed (place_of net.nodes a) f at).1 b range).exact p ∙ covered in
-      let (s, slot, filed) = slot_with net.files.index (spot_of net.nodes.lines p).sheet (spot_of net.nodes.lines p).row (spot_of net.nodes.lines p).col f found in
-      (a_in, (s, slot, has_filter (is_used net) (under_slot net s) (place_of net.nodes a) (has_owner net.files (filed_in net.files.index s) f (place_of net.nodes a) filed at) (of_some (users_of net.links (place_of net.nodes a)) (place_of net.nodes c) (user_of c a h))))
+      let (first, at) = some_filing (filing_of net.files.current (place_of net.nodes a)) (net.used (place_of net.nodes c) (place_of net.nodes a) listed b range) in
+      let found : FindsNode net.files (place_of net.nodes a) (spot_of net.nodes.lines p) = (((net.filed (place_of net.nodes a) first at).1 b range).exact p).1 covered in
+      let (s, slot, owned) = has_any (λ t. plain.has (place_of net.nodes a) (under_slot net t)) (spot_slots net p) found in
+      (a_in, (s, slot, has_filter (is_used net) (under_slot net s) (place_of net.nodes a) owned (of_some (users_of net.links (place_of net.nodes a)) (place_of net.nodes c) (user_of c a h))))
 
   -- ---- from arrows to chains
 

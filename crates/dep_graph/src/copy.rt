@@ -1,9 +1,10 @@
 // Equal nets of nodes.
-ghost use Rattle.std.specs.Prelude.{◌≡◌, ◌<◌, IfOk, OnOk};
+ghost use Rattle.std.specs.Prelude.{◌≡◌, ◌<◌, [], IfOk, OnOk};
 ghost use Rattle.std.specs.List.{filter_map};
 ghost use Rattle.node_links.specs.Nodes.{needs_of};
 ghost use Rattle.dep_graph.specs.Graph.{AreSame};
 ghost use Rattle.dep_graph.specs.Nodes.{items_of};
+ghost use Rattle.dep_graph.specs.declared.node.Node.{Node};
 ghost use Rattle.dep_graph.specs.internal.Copied.{AddsCopied};
 ghost use Rattle.dep_graph.specs.internal.Nets.{links_in};
 ghost use Rattle.dep_graph.specs.internal.Numbers.{count_of, found_at};
@@ -19,10 +20,19 @@ impl Net {
         ensures { IfOk result (λ net. AreSame (links_in self.now) (links_in net)) }
     {
         let mut copy = Net::new(self.alloc)?;
-        'nodes: for number in 0..self.nodes.len() {
-            self.copy_links(&mut copy, number)?;
-        }
+        self.copy_all(&mut copy)?;
         Ok(copy)
+    }
+
+    // Links the nodes of a net without links as they are linked here.
+    fn copy_all(&self, copy: &mut Net) -> Result<(), AllocError>
+        requires { (a : Node) → links_in copy.old a ≡ [] }
+        ensures { OnOk result (AreSame (links_in self.now) (links_in copy.new)) }
+    {
+        'nodes: for number in 0..self.nodes.len() {
+            self.copy_links(copy, number)?;
+        }
+        Ok(())
     }
 
     // Links the node of a number as it is linked here. Where it is linked to none it isn't added.

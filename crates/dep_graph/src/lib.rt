@@ -35,6 +35,7 @@ mod net;
 mod node;
 mod nodes;
 mod refiled;
+mod serving;
 mod shifted;
 mod table;
 mod touches;

@@ -1,23 +1,24 @@
 // How ranges are filed after a structural operation.
 ghost use Rattle.std.specs.BTreeMap as tree;
-ghost use Rattle.std.specs.Prelude.{◌≡◌, ◌==◌, ◌<◌, ℕ, true, false, Some, None, slice_get, if◌then◌else◌, IsSome, IsTrue, IfOk, OnOk};
+ghost use Rattle.std.specs.Prelude.{◌≡◌, ◌↔◌, ◌==◌, ◌<◌, ℕ, true, false, Some, None, length, slice_get, if◌then◌else◌, IsSome, IsTrue, IfOk, OnOk};
 ghost use Rattle.std.specs.Ordering.{nat_cmp};
 ghost use Rattle.needs_order.specs.Needs.{has};
 ghost use Rattle.node_links.specs.Redirect.{few_target, is_among};
 ghost use Rattle.place_lines.specs.Moved.{AreMoved};
+ghost use Rattle.place_lines.specs.declared.spot.Spot.{Spot};
 ghost use Rattle.shift_core.specs.Form.{form_of};
 ghost use Rattle.shift_core.specs.Sound.{IsSound};
-ghost use Rattle.touch_index.specs.Handed.{fresh_part};
 ghost use Rattle.dep_graph.specs.declared.node.Node.TheVariants.{Range};
-ghost use Rattle.dep_graph.specs.internal.Files.{FilesOn, HoldsBlock};
-ghost use Rattle.dep_graph.specs.internal.Filings.{filing_then, owner_at};
+ghost use Rattle.dep_graph.specs.internal.Files.{AreServing, FilesOn, FindsBy, HasSpot, HoldsBlock, finds_filing};
+ghost use Rattle.dep_graph.specs.internal.Filings.{filing_of, filing_then, is_given, owner_at};
 ghost use Rattle.dep_graph.specs.internal.Keys.{key_of};
 ghost use Rattle.dep_graph.specs.internal.Numbers.{count_of, found_at};
-ghost use Rattle.dep_graph.specs.internal.ShiftedNumbers.{AreAllRefiled, AreFilingsUnder, AreTargets, AreUnfiled, IsRefiled, IsServedAt, StillFiled, after_at, block_in};
-ghost use Rattle.dep_graph.specs.internal.Touches.{AreInside, FindsTouched};
+ghost use Rattle.dep_graph.specs.internal.ShiftedNumbers.{AreAllRefiled, AreFilingsUnder, AreTargets, AreUnfiled, IsRefiled, StillFiled, after_at, block_in};
+ghost use Rattle.dep_graph.specs.internal.Touches.{AreInside, FindsTouched, IsHandedAt};
 
 use crate::net::Net;
 use crate::node::Node;
+use crate::serving::Serving;
 use crate::touches::handed_on;
 use cell_addr::Block;
 use node_links::few_target;
@@ -36,7 +37,7 @@ impl Net {
         s: &Shift,
         few: &BTreeMap<usize, Option<usize>>,
         found: &[usize],
-    ) -> Result<BTreeMap<usize, Option<usize>>, AllocError>
+    ) -> Result<BTreeMap<usize, Option<Serving>>, AllocError>
         requires sound { IsSound s.now }
         requires moved { AreMoved (form_of s.now) self.old.nodes.lines lines.now }
         requires targets { AreTargets s.now lines.now self.old (few_target few.now) }
@@ -46,7 +47,7 @@ impl Net {
         ensures nodes { self.new.nodes ≡ self.old.nodes }
         ensures links { self.new.links ≡ self.old.links }
         ensures files { FilesOn self.old.files self.new.files }
-        ensures inside { IfOk result (λ filings. (n : ℕ) → is_among filings n ≡ true → n < count_of self.new.nodes) }
+        ensures inside { IfOk result (λ filings. (n : ℕ) → is_given filings n ≡ true → n < count_of self.new.nodes) }
         ensures filings { IfOk result (λ filings. AreFilingsUnder lines.now self.new (filing_then filings self.new.files.current)) }
         ensures refiled { IfOk result (λ filings. AreAllRefiled s.now self.new (few_target few.now) (filing_then filings self.new.files.current)) }
     {
@@ -60,7 +61,7 @@ impl Net {
     // Files what the node of a number becomes, where that is a used range, unless it is filed.
     fn refile(
         &mut self,
-        filings: &mut BTreeMap<usize, Option<usize>>,
+        filings: &mut BTreeMap<usize, Option<Serving>>,
         lines: &PlaceLines,
         s: &Shift,
         few: &BTreeMap<usize, Option<usize>>,
@@ -70,12 +71,12 @@ impl Net {
         requires number { number < count_of self.old.nodes }
         requires moved { AreMoved (form_of s.now) self.old.nodes.lines lines.now }
         requires targets { AreTargets s.now lines.now self.old (few_target few.now) }
-        requires inside { (n : ℕ) → is_among filings.old n ≡ true → n < count_of self.old.nodes }
+        requires inside { (n : ℕ) → is_given filings.old n ≡ true → n < count_of self.old.nodes }
         requires filings { AreFilingsUnder lines.now self.old (filing_then filings.old self.old.files.current) }
         ensures nodes { self.new.nodes ≡ self.old.nodes }
         ensures links { self.new.links ≡ self.old.links }
         ensures files { FilesOn self.old.files self.new.files }
-        ensures inside { OnOk result ((n : ℕ) → is_among filings.new n ≡ true → n < count_of self.old.nodes) }
+        ensures inside { OnOk result ((n : ℕ) → is_given filings.new n ≡ true → n < count_of self.old.nodes) }
         ensures filings { OnOk result (AreFilingsUnder lines.now self.new (filing_then filings.new self.new.files.current)) }
         ensures still { OnOk result (StillFiled (filing_then filings.old self.old.files.current) (filing_then filings.new self.new.files.current)) }
         ensures refiled { OnOk result (IsRefiled s.now self.old (few_target few.now) number (filing_then filings.new self.new.files.current)) }
@@ -106,7 +107,7 @@ impl Net {
     // Files the range that the node of a number becomes, under its number then, unless it is filed.
     fn refile_range(
         &mut self,
-        filings: &mut BTreeMap<usize, Option<usize>>,
+        filings: &mut BTreeMap<usize, Option<Serving>>,
         lines: &PlaceLines,
         s: &Shift,
         number: usize,
@@ -118,12 +119,12 @@ impl Net {
         requires after { after_at s.now self.old number ≡ Some (Range after) }
         requires target { slice_get self.old.nodes.keys.keys target ≡ Some (key_of lines.now (Range after)) }
         requires low { target < count_of self.old.nodes }
-        requires inside { (n : ℕ) → is_among filings.old n ≡ true → n < count_of self.old.nodes }
+        requires inside { (n : ℕ) → is_given filings.old n ≡ true → n < count_of self.old.nodes }
         requires filings { AreFilingsUnder lines.now self.old (filing_then filings.old self.old.files.current) }
         ensures nodes { self.new.nodes ≡ self.old.nodes }
         ensures links { self.new.links ≡ self.old.links }
         ensures files { FilesOn self.old.files self.new.files }
-        ensures inside { OnOk result ((n : ℕ) → is_among filings.new n ≡ true → n < count_of self.old.nodes) }
+        ensures inside { OnOk result ((n : ℕ) → is_given filings.new n ≡ true → n < count_of self.old.nodes) }
         ensures filings { OnOk result (AreFilingsUnder lines.now self.new (filing_then filings.new self.new.files.current)) }
         ensures still { OnOk result (StillFiled (filing_then filings.old self.old.files.current) (filing_then filings.new self.new.files.current)) }
         ensures filed { OnOk result (IsSome (filing_then filings.new self.new.files.current target)) }
@@ -131,76 +132,111 @@ impl Net {
         if self.files.filing_then(filings, target).is_some() {
             return Ok(());
         }
-        let filing = self.filing_after(lines, s, number, target, after)?;
-        put_filing(filings, target, Some(filing))
+        let all = self.filings_after(lines, s, number, target, after)?;
+        put_filings(filings, target, Some(all))
     }
 
-    // A filing of the range that a range becomes: the present one, where the range keeps its number and gets no lines.
-    fn filing_after(
+    // The filings of the range that a range becomes: where it keeps its number and its corners the present ones, and one
+    // more for the lines that come in between.
+    fn filings_after(
         &mut self,
         lines: &PlaceLines,
         s: &Shift,
         number: usize,
         target: usize,
         after: Block,
-    ) -> Result<usize, AllocError>
+    ) -> Result<Serving, AllocError>
         requires sound { IsSound s.now }
         requires moved { AreMoved (form_of s.now) self.old.nodes.lines lines.now }
         requires target { slice_get self.old.nodes.keys.keys target ≡ Some (key_of lines.now (Range after)) }
         ensures nodes { self.new.nodes ≡ self.old.nodes }
         ensures links { self.new.links ≡ self.old.links }
         ensures files { FilesOn self.old.files self.new.files }
-        ensures owner { IfOk result (λ f. owner_at self.new.files.owners f ≡ Some target) }
-        ensures holds { IfOk result (λ f. HoldsBlock lines.now self.new.files f after) }
+        ensures serving { IfOk result (λ all. AreServing self.new.files target all) }
+        ensures holds { IfOk result (λ all. HoldsBlock lines.now (FindsBy self.new.files target all) after) }
     {
-        if target == number && self.serves(s, number, after) {
-            if let Some(filing) = self.files.filing(number) {
-                return Ok(filing);
+        if target == number && self.is_handed_on(s, number, after) {
+            if let Some(first) = self.files.filing(number) {
+                return self.file_fresh(lines, s, number, first, after);
             }
         }
-        self.files.file(lines, after, target)
+        let filing = self.file_part(lines, after, target)?;
+        Ok(Serving::since(filing))
     }
 
-    // Whether the node of a number is a range whose filing holds what it becomes, if that has its corners.
-    fn serves(&self, s: &Shift, number: usize, after: Block) -> bool
-        ensures { IsTrue result → IsServedAt (form_of s.now) (found_at self.now.nodes number) after }
+    // Whether the node of a number is a range which leaves its lines to what it becomes, if that has its corners.
+    fn is_handed_on(&self, s: &Shift, number: usize, after: Block) -> bool
+        ensures { IsTrue result → IsHandedAt (form_of s.now) (found_at self.now.nodes number) after }
     {
-        match handed_on(s, self.nodes.node(number), Node::Range(after)) {
-            Some(block) => gets_no_lines(s, block),
-            None => false,
+        handed_on(s, self.nodes.node(number), Node::Range(after)).is_some()
+    }
+
+    // The present filings of a range that is handed on, and one more for the lines that come in between its own.
+    fn file_fresh(
+        &mut self,
+        lines: &PlaceLines,
+        s: &Shift,
+        number: usize,
+        first: usize,
+        after: Block,
+    ) -> Result<Serving, AllocError>
+        requires sound { IsSound s.now }
+        requires moved { AreMoved (form_of s.now) self.old.nodes.lines lines.now }
+        requires key { slice_get self.old.nodes.keys.keys number ≡ Some (key_of lines.now (Range after)) }
+        requires handed { IsHandedAt (form_of s.now) (found_at self.old.nodes number) after }
+        requires first { filing_of self.old.files.current number ≡ Some first }
+        ensures nodes { self.new.nodes ≡ self.old.nodes }
+        ensures links { self.new.links ≡ self.old.links }
+        ensures files { FilesOn self.old.files self.new.files }
+        ensures serving { IfOk result (λ all. AreServing self.new.files number all) }
+        ensures holds { IfOk result (λ all. HoldsBlock lines.now (FindsBy self.new.files number all) after) }
+    {
+        match fresh_part(s, after) {
+            Some(part) => {
+                let last = self.file_part(lines, part, number)?;
+                Ok(Serving { first, last })
+            }
+            None => Ok(Serving::since(first)),
         }
     }
-}
 
-// Whether no lines come in between others of what the operation makes of a block.
-fn gets_no_lines(s: &Shift, after: Block) -> bool
-    ensures { IsTrue result → fresh_part (form_of s.now) after ≡ None }
-{
-    match fresh_part(s, after) {
-        Some(_) => false,
-        None => true,
+    // Files a node under the cells of a block, and answers the filing, which doesn't serve the node yet.
+    fn file_part(
+        &mut self,
+        lines: &PlaceLines,
+        part: Block,
+        number: usize,
+    ) -> Result<usize, AllocError>
+        ensures nodes { self.new.nodes ≡ self.old.nodes }
+        ensures links { self.new.links ≡ self.old.links }
+        ensures files { FilesOn self.old.files self.new.files }
+        ensures new { IfOk result (λ f. length self.old.files.owners.items ≡ f) }
+        ensures owner { IfOk result (λ f. owner_at self.new.files.owners f ≡ Some number) }
+        ensures exact { IfOk result (λ f. (spot : Spot) → IsTrue (finds_filing self.new.files spot f) ↔ HasSpot lines.now part spot) }
+    {
+        self.files.file(lines, part, number)
     }
 }
 
 // The numbers, each without a filing.
-fn unfiled(alloc: Global, numbers: &[usize]) -> Result<BTreeMap<usize, Option<usize>>, AllocError>
+fn unfiled(alloc: Global, numbers: &[usize]) -> Result<BTreeMap<usize, Option<Serving>>, AllocError>
     ensures { IfOk result (AreUnfiled numbers.now) }
 {
     let mut filings = BTreeMap::new(alloc);
     'numbers: for number in numbers {
-        put_filing(&mut filings, *number, None)?;
+        put_filings(&mut filings, *number, None)?;
     }
     Ok(filings)
 }
 
-// Sets the filing of a number.
-fn put_filing(
-    filings: &mut BTreeMap<usize, Option<usize>>,
+// Sets the filings of a number.
+fn put_filings(
+    filings: &mut BTreeMap<usize, Option<Serving>>,
     number: usize,
-    filing: Option<usize>,
+    all: Option<Serving>,
 ) -> Result<(), AllocError>
-    ensures { OnOk result ((n : ℕ) → tree.get nat_cmp filings.new n ≡ (if n == number then Some filing else tree.get nat_cmp filings.old n)) }
+    ensures { OnOk result ((n : ℕ) → tree.get nat_cmp filings.new n ≡ (if n == number then Some all else tree.get nat_cmp filings.old n)) }
 {
-    filings.insert(number, filing)?;
+    filings.insert(number, all)?;
     Ok(())
 }

@@ -31,13 +31,13 @@ impl Graph {
     /// there is no memory, or where the numbers of lines are used up, after more edits than fit a lifetime, all links stay
     /// as they were.
     ///
-    /// Costs the runs of lines of all edited sheets, which are copied, a search for each run of the lines that the
-    /// operation loses or displaces, and for each node that it touches, or that isn't inside its sheet, about the number
-    /// of its links and of its users' links. It touches what it loses or bends, and what it takes along with moved cells;
-    /// what it only carries along isn't looked at. A range that it touches costs the number of its slots besides, unless
-    /// its corners keep their lines, none come in between, and a move leaves their number. Now and then, where more than
-    /// half of what is kept may have been left behind by operations and by links that were replaced, the graph is made
-    /// anew, which costs what [`Graph::copied`] does.
+    /// Costs an edit of the sheet's lines ([`place_lines`]) and a count for each edited sheet, a search for each run of the
+    /// lines that the operation loses or displaces, and for each node that it touches, or that isn't inside its sheet,
+    /// about the number of its links and of its users' links. It touches what it loses or bends, and what it takes along
+    /// with moved cells; what it only carries along isn't looked at. A range that it touches costs the number of its slots
+    /// besides; but where its corners keep their lines and a move leaves their number, just the slots of the lines that
+    /// come in between. Now and then, where more than half of what is kept may have been left behind by operations and by
+    /// links that were replaced, the graph is made anew, which costs what [`Graph::copied`] does.
     pub fn shift(&mut self, s: &Shift) -> Result<(), AllocError>
         requires { IsSound s.now }
         ensures ok { OnOk result (AreShifted s.now (links_of self.old) (links_of self.new)) }
@@ -45,6 +45,15 @@ impl Graph {
     {
         self.net.shift_and_renew(s)
     }
+}
+
+// What an operation touches, by numbers.
+#[derive(Drop)]
+struct Aims {
+    // The numbers of the touched nodes, and of what these become.
+    found: IndexSet<usize, NearHash>,
+    // The targets of those that become others or none.
+    few: BTreeMap<usize, Option<usize>>,
 }
 
 impl Net {
@@ -68,21 +77,49 @@ impl Net {
         ensures err { OnErr result (AreSame (links_in self.old) (links_in self.new)) }
     {
         let lines = self.nodes.lines.moved(self.alloc, s)?;
+        let aims = self.aims(&lines, s)?;
+        self.move_by(lines, s, &aims)
+    }
+
+    // What the operation touches, and what that becomes, each of which is added where it isn't known.
+    fn aims(&mut self, lines: &PlaceLines, s: &Shift) -> Result<Aims, AllocError>
+        requires sound { IsSound s.now }
+        requires moved { AreMoved (form_of s.now) self.old.nodes.lines lines.now }
+        ensures grown { Grows self.old self.new }
+        ensures targets { IfOk result (λ aims. AreTargets s.now lines.now self.new (few_target aims.few)) }
+        ensures among { IfOk result (λ aims. (n : ℕ) → is_among aims.few n ≡ true → has n aims.found.keys ≡ true) }
+        ensures found { IfOk result (λ aims. FindsTouched s.now self.new.nodes aims.found.keys) }
+        ensures inside { IfOk result (λ aims. AreInside self.new.nodes aims.found.keys) }
+    {
         let count = self.nodes.len();
-        let filed = self.files.filed;
         let mut found = self.touched(s)?;
-        let few = self.targets(&lines, s, found.as_slice())?;
+        let few = self.targets(lines, s, found.as_slice())?;
         add_between(&mut found, count, self.nodes.len())?;
-        let filings = self.refiled(&lines, s, &few, found.as_slice())?;
-        self.touches
-            .keep_all(&lines, s, &self.nodes, found.as_slice())?;
-        self.links.redirect_few(&few)?;
+        Ok(Aims { found, few })
+    }
+
+    // Moves the nodes and their links to the lines after the operation.
+    fn move_by(&mut self, lines: PlaceLines, s: &Shift, aims: &Aims) -> Result<(), AllocError>
+        requires sound { IsSound s.now }
+        requires moved { AreMoved (form_of s.now) self.old.nodes.lines lines }
+        requires targets { AreTargets s.now lines self.old (few_target aims.now.few) }
+        requires among { (n : ℕ) → is_among aims.now.few n ≡ true → has n aims.now.found.keys ≡ true }
+        requires found { FindsTouched s.now self.old.nodes aims.now.found.keys }
+        requires inside { AreInside self.old.nodes aims.now.found.keys }
+        ensures ok { OnOk result (AreShifted s.now (links_in self.old) (links_in self.new)) }
+        ensures err { OnErr result (AreSame (links_in self.old) (links_in self.new)) }
+    {
+        let filed = self.files.filed;
+        let found = aims.found.as_slice();
+        let filings = self.refiled(&lines, s, &aims.few, found)?;
+        self.touches.keep_all(&lines, s, &self.nodes, found)?;
+        self.links.redirect_few(&aims.few)?;
         self.nodes.lines = lines;
         self.files.put_few(&filings);
         let refiled = self.files.filed.saturating_sub(filed);
         self.left_behind = self
             .left_behind
-            .saturating_add(few.len())
+            .saturating_add(aims.few.len())
             .saturating_add(refiled);
         Ok(())
     }

@@ -1,30 +1,27 @@
 -- Filings of ranges, and what cells find by them.
-use Rattle.std.specs.Prelude.{◌≡◌, ◌<◌, ◌==◌, ◌⊎◌, ◌&&◌, ℕ, Bool, true, false, List, Option, Some, None, length, if◌then◌else◌}
-use Rattle.std.specs.List.{list_any}
+use Rattle.std.specs.Prelude.{◌≡◌, ◌↔◌, ◌<◌, ◌≤◌, ◌==◌, ◌⊎◌, ◌&&◌, ℕ, Bool, true, List, Option, Some, None, length, if◌then◌else◌, IsTrue}
+use Rattle.std.specs.List.{filter_map, list_any}
 use Rattle.std.specs.declared.ops.Range.{Range}
 use Rattle.block_slots.specs.Slots.{in_block}
 use Rattle.cell_addr.specs.Place.{covers}
 use Rattle.cell_addr.specs.declared.place.Block.{Block}
 use Rattle.cell_addr.specs.declared.place.Place.{Place}
-use Rattle.block_index.specs.Index.{finds}
+use Rattle.needs_order.specs.Needs.{has}
+use Rattle.block_index.specs.Index.{filed_in, finds, slots_of}
 use Rattle.place_lines.specs.Moved.{is_known}
 use Rattle.place_lines.specs.Spots.{spot_of}
 use Rattle.place_lines.specs.declared.lines.PlaceLines.{PlaceLines}
 use Rattle.place_lines.specs.declared.spot.Spot.{Spot}
 use Rattle.dep_graph.specs.declared.files.Files.{Files}
-use Rattle.dep_graph.specs.internal.Filings.{filing_of, owner_at}
+use Rattle.dep_graph.specs.declared.serving.Serving.{Serving}
+use Rattle.dep_graph.specs.internal.Filings.{filing_of, is_since, owner_at, serves_at}
 
--- the number where the filing is this one
-abbrev pub if_filing : ℕ → ℕ → Option ℕ → Option ℕ
-if_filing n f (Some own) = if own == f then Some n else None
-if_filing n f None = None
-
--- the number of a node, where its present filing is this one
+-- the number of a node, where the filing serves it at present
 abbrev pub if_present : Files → ℕ → Option ℕ → Option ℕ
-if_present files f (Some n) = if_filing n f (filing_of files.current n)
+if_present files f (Some n) = if serves_at files.serves f && is_since f (filing_of files.current n) then Some n else None
 if_present files f None = None
 
--- the node whose present filing this is
+-- the node that the filing serves at present
 abbrev pub owner_of : Files → ℕ → Option ℕ
 owner_of files f = if_present files f (owner_at files.owners f)
 
@@ -32,14 +29,21 @@ owner_of files f = if_present files f (owner_at files.owners f)
 abbrev pub finds_filing : Files → Spot → ℕ → Bool
 finds_filing files spot f = finds files.index spot.sheet spot.row spot.col f
 
--- the cell at a spot finds the filing, where there is one
-abbrev pub finds_present : Files → Spot → Option ℕ → Bool
-finds_present files spot (Some f) = finds_filing files spot f
-finds_present files spot None = false
+-- the cell at a spot finds the node: a filing under one of the cell's slots serves it at present
+abbrev pub FindsNode : Files → ℕ → Spot → Type 0
+FindsNode files n spot = IsTrue (list_any (λ s. has n (filter_map (owner_of files) (filed_in files.index s))) (slots_of files.index spot.sheet spot.row spot.col))
 
--- the cell at a spot finds a node by its present filing
-abbrev pub finds_node : Files → Spot → ℕ → Bool
-finds_node files spot n = finds_present files spot (filing_of files.current n)
+-- the filing is one of these of the node
+abbrev pub IsServing : Files → ℕ → Serving → ℕ → Type 0
+IsServing files n all f = (owner_at files.owners f ≡ Some n) × (all.first ≤ f) × ((f ≡ all.last) ⊎ (serves_at files.serves f ≡ true))
+
+-- so are the first and the last of them
+abbrev pub AreServing : Files → ℕ → Serving → Type 0
+AreServing files n all = IsServing files n all all.first × IsServing files n all all.last
+
+-- the cell at a spot finds the node by one of them
+abbrev pub FindsBy : Files → ℕ → Serving → Spot → Type 0
+FindsBy files n all spot = (f : ℕ) × IsServing files n all f × (finds_filing files spot f ≡ true)
 
 -- the spot is that of a place of the block
 abbrev pub HasSpot : PlaceLines → Block → Spot → Type 0
@@ -61,17 +65,18 @@ pub record FilesCells (test : Spot → Bool) (filing : ℕ) (old new : Files) : 
   pub grows : (spot : Spot) (f : ℕ) → finds_filing old spot f ≡ true → finds_filing new spot f ≡ true
   pub only : (spot : Spot) (f : ℕ) → finds_filing new spot f ≡ true → (finds_filing old spot f ≡ true) ⊎ ((test spot ≡ true) × (f ≡ filing))
 
--- filings were added, and those that there were are as they were
+-- filings were added that serve no node, and those that there were are as they were
 pub record FilesOn (old new : Files) : Type 0 where
   pub current : new.current ≡ old.current
-  pub owners : (f n : ℕ) → owner_at old.owners f ≡ Some n → owner_at new.owners f ≡ Some n
-  pub count : (f : ℕ) → f < length old.owners.items → f < length new.owners.items
+  pub owners : (f : ℕ) → f < length old.owners.items → owner_at new.owners f ≡ owner_at old.owners f
+  pub serves : (f : ℕ) → serves_at new.serves f ≡ serves_at old.serves f
+  pub count : length old.owners.items ≤ length new.owners.items
   pub finds : (f : ℕ) → f < length old.owners.items → (spot : Spot) → finds_filing new spot f ≡ finds_filing old spot f
 
--- just the cells of the block find the filing; and what finds it is known to the lines, so that no line that comes in
+-- just the cells of the block pass the test; and what passes it is known to the lines, so that no line that comes in
 -- later does
-abbrev pub HoldsBlock : PlaceLines → Files → ℕ → Block → Type 0
-HoldsBlock lines files f b = record {
-  exact : (p : Place) → finds_filing files (spot_of lines p) f ≡ covers b p;
-  known : (spot : Spot) → finds_filing files spot f ≡ true → is_known lines spot ≡ true;
+abbrev pub HoldsBlock : PlaceLines → (Spot → Type 0) → Block → Type 0
+HoldsBlock lines test b = record {
+  exact : (p : Place) → test (spot_of lines p) ↔ IsTrue (covers b p);
+  known : (spot : Spot) → test spot → is_known lines spot ≡ true;
 }

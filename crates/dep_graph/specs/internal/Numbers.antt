@@ -12,7 +12,7 @@ use Rattle.dep_graph.specs.declared.key.Key.TheVariants as key
 use Rattle.dep_graph.specs.declared.node.Node.{Node}
 use Rattle.dep_graph.specs.declared.node.Node.TheVariants.{Name, Range}
 use Rattle.dep_graph.specs.declared.table.NodeTable.{NodeTable}
-use Rattle.dep_graph.specs.internal.Files.{HoldsBlock}
+use Rattle.dep_graph.specs.internal.Files.{FindsNode, HoldsBlock}
 use Rattle.dep_graph.specs.internal.Filings.{filing_of}
 use Rattle.dep_graph.specs.internal.Keys.{key_of, node_of, same_key}
 
@@ -59,7 +59,7 @@ abbrev pub is_range : Option Node → Bool
 is_range (Some (Range b)) = true
 is_range _ = false
 
--- the present filings are those of ranges with numbers, each under the cells of its block
+-- what filings serve are ranges with numbers, each of which is found by the cells of its block
 abbrev pub AreFilings : NodeTable → Files → Type 0
 AreFilings t files =
-    (n f : ℕ) → filing_of files.current n ≡ Some f → (is_range (found_at t n) ≡ true) × ((b : Block) → found_at t n ≡ Some (Range b) → HoldsBlock t.lines files f b)
+    (n f : ℕ) → filing_of files.current n ≡ Some f → (is_range (found_at t n) ≡ true) × ((b : Block) → found_at t n ≡ Some (Range b) → HoldsBlock t.lines (FindsNode files n) b)

@@ -8,19 +8,16 @@ use Rattle.needs_order.specs.Needs.{has}
 use Rattle.node_links.specs.Nodes.{needs_of}
 use Rattle.node_links.specs.Redirect.{few_target, is_among}
 use Rattle.place_lines.specs.declared.lines.PlaceLines.{PlaceLines}
-use Rattle.shift_core.specs.declared.form.Form.{Form}
 use Rattle.shift_core.specs.declared.shift.Shift.{Shift}
-use Rattle.touch_index.specs.Handed.{fresh_part}
 use Rattle.dep_graph.specs.Shifted.{node_after}
 use Rattle.dep_graph.specs.declared.net.Net.{Net}
 use Rattle.dep_graph.specs.declared.node.Node.{Node}
 use Rattle.dep_graph.specs.declared.node.Node.TheVariants.{Range}
+use Rattle.dep_graph.specs.declared.serving.Serving.{Serving}
 use Rattle.dep_graph.specs.internal.Arrows.{is_used}
-use Rattle.dep_graph.specs.internal.Files.{HoldsBlock}
-use Rattle.dep_graph.specs.internal.Filings.{owner_at}
+use Rattle.dep_graph.specs.internal.Files.{AreServing, FindsBy, HoldsBlock}
 use Rattle.dep_graph.specs.internal.Keys.{key_of}
 use Rattle.dep_graph.specs.internal.Numbers.{count_of, found_at, key_place}
-use Rattle.dep_graph.specs.internal.Touches.{IsHandedAt}
 
 -- the node of the number is linked to some, or some to it
 abbrev pub is_linked : Net → ℕ → Bool
@@ -45,11 +42,10 @@ pub record AreTargets (s : Shift) (lines : PlaceLines) (net : Net) (target : ℕ
   pub inside : (n t : ℕ) → n < count_of net.nodes → target n ≡ Some t → t < count_of net.nodes
 
 -- the filings are those of ranges by the lines after the operation
-abbrev pub AreFilingsUnder : PlaceLines → Net → (ℕ → Option ℕ) → Type 0
+abbrev pub AreFilingsUnder : PlaceLines → Net → (ℕ → Option Serving) → Type 0
 AreFilingsUnder lines net filing =
-    (n f : ℕ) → filing n ≡ Some f → (owner_at net.files.owners f ≡ Some n)
-    × (f < length net.files.owners.items)
-    × ((b : Block) × (slice_get net.nodes.keys.keys n ≡ Some (key_of lines (Range b))) × HoldsBlock lines net.files f b)
+    (n : ℕ) (all : Serving) → filing n ≡ Some all → AreServing net.files n all
+    × ((b : Block) × (slice_get net.nodes.keys.keys n ≡ Some (key_of lines (Range b))) × HoldsBlock lines (FindsBy net.files n all) b)
 
 -- the node of the number is a used range, which becomes this block under this number
 abbrev pub BecomesRange : Shift → Net → (ℕ → Option ℕ) → ℕ → ℕ → Block → Type 0
@@ -57,24 +53,20 @@ BecomesRange s net target n t after =
     (is_used net n ≡ true) × (target n ≡ Some t) × (after_at s net n ≡ Some (Range after))
 
 -- where it is, it is filed where it goes
-abbrev pub IsRefiled : Shift → Net → (ℕ → Option ℕ) → ℕ → (ℕ → Option ℕ) → Type 0
+abbrev pub IsRefiled : Shift → Net → (ℕ → Option ℕ) → ℕ → (ℕ → Option Serving) → Type 0
 IsRefiled s net target n filing = (t : ℕ) (after : Block) → BecomesRange s net target n t after → IsSome (filing t)
 
 -- so are all
-abbrev pub AreAllRefiled : Shift → Net → (ℕ → Option ℕ) → (ℕ → Option ℕ) → Type 0
+abbrev pub AreAllRefiled : Shift → Net → (ℕ → Option ℕ) → (ℕ → Option Serving) → Type 0
 AreAllRefiled s net target filing = (n : ℕ) → IsRefiled s net target n filing
 
 -- what was filed is so still
-abbrev pub StillFiled : (ℕ → Option ℕ) → (ℕ → Option ℕ) → Type 0
+abbrev pub StillFiled : (ℕ → Option Serving) → (ℕ → Option Serving) → Type 0
 StillFiled old new = (n : ℕ) → IsSome (old n) → IsSome (new n)
 
 -- just these numbers are there, without filings
-abbrev pub AreUnfiled : List ℕ → tree.BTreeMap ℕ (Option ℕ) → Type 0
+abbrev pub AreUnfiled : List ℕ → tree.BTreeMap ℕ (Option Serving) → Type 0
 AreUnfiled numbers filings = (n : ℕ) → tree.get nat_cmp filings n ≡ (if has n numbers then Some None else None)
-
--- the first node is a range that is handed on to the second, into which no lines come
-abbrev pub IsServedAt : Form → Option Node → Block → Type 0
-IsServedAt f before after = IsHandedAt f before after × (fresh_part f after ≡ None)
 
 -- a target was set for a number that had none of its own
 pub record SetsTarget (number : ℕ) (target : Option ℕ) (old new : tree.BTreeMap ℕ (Option ℕ)) : Type 0 where

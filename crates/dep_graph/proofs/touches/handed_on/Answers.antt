@@ -1,6 +1,3 @@
-use Rattle.std.proofs.Common.{◌≡◌, ◌∙◌, ap, sym, Some}
-use Rattle.cell_addr.specs.declared.place.Block.{Block}
-use Rattle.dep_graph.specs.declared.node.Node.TheVariants.{Range}
 use Rattle.dep_graph.proofs.touches.handed_on.Goals as goal
 
 pub returns-in-Some-Range-Range : goal.returns-in-Some-Range-Range

@@ -9,6 +9,7 @@ abbrev pub invariant-rows : goal.invariant-rows
 invariant-rows l = record {
   current : l.self.current ≡ l.fn.self.current;
   owners : l.self.owners ≡ l.fn.self.owners;
+  serves : l.self.serves ≡ l.fn.self.serves;
   filed : FilesCells (in_area l.sheet l.rows l.cols) l.filing l.fn.self l.self;
   found : (spot : Spot) → list_any (λ run. in_row l.sheet run l.cols spot) (take l.run-index l.rows) ≡ true → finds_filing l.self spot l.filing ≡ true;
 }

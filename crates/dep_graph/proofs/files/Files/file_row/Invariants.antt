@@ -9,6 +9,7 @@ abbrev pub invariant-cols : goal.invariant-cols
 invariant-cols l = record {
   current : l.self.current ≡ l.fn.self.current;
   owners : l.self.owners ≡ l.fn.self.owners;
+  serves : l.self.serves ≡ l.fn.self.serves;
   filed : FilesCells (in_row l.sheet l.rows l.cols) l.filing l.fn.self l.self;
   found : (spot : Spot) → list_any (λ run. in_run l.sheet l.rows run spot) (take l.run-index l.cols) ≡ true → finds_filing l.self spot l.filing ≡ true;
 }

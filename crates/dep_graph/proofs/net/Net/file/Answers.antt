@@ -29,9 +29,10 @@ invariant_of-self-2 c = record {
   counts = c.args.self.now.counts;
   rooms = c.keep.ensures.count ∙ (ap (λ v. length v.items) c.file.ensures.on.current ∙ c.args.self.now.rooms);
   alive = c.args.self.now.alive;
-  filed = filings_kept c.args.self.now.nodes c.file.new.self c.keep.new.self c.args.number c.in_ok-filing.filing c.args.block
-      (filings_on c.args.self.now.nodes c.args.self.now.files c.file.new.self c.args.self.now.filed c.file.ensures.on) c.keep.ensures.index c.keep.ensures.kept c.requires.block
-      (held c.args.self.now.nodes.lines c.file.new.self c.in_ok-filing.filing c.args.block (subst (λ l. (spot : Spot) → (finds_filing c.file.new.self spot c.in_ok-filing.filing ≡ true) ↔ HasSpot l c.args.block spot) c.lines.ensures c.in_ok-filing.ensures.exact));
+  filed = filings_kept c.args.self.now.nodes c.file.new.self c.keep.new.self c.args.number c.in_ok-filing.filing c.keep.ensures.index c.keep.ensures.owners c.keep.ensures.serves c.keep.ensures.kept c.in_ok-filing.ensures.owner c.args.block
+      (filings_on c.args.self.now.nodes c.args.self.now.files c.file.new.self c.args.self.now.filed c.file.ensures.on) c.requires.block
+      (held c.args.self.now.nodes.lines c.args.self.now.files c.file.new.self c.args.number c.in_ok-filing.filing c.args.block c.file.ensures.on c.in_ok-filing.ensures.new c.in_ok-filing.ensures.owner
+      (subst (λ l. (spot : Spot) → (finds_filing c.file.new.self spot c.in_ok-filing.filing ≡ true) ↔ HasSpot l c.args.block spot) c.lines.ensures c.in_ok-filing.ensures.exact));
   used = λ a n h. still_filed c.args.self.now.nodes c.file.new.self c.keep.new.self c.args.number c.in_ok-filing.filing c.keep.ensures.kept n
       (λ b at. subst IsSome (sym (ap (λ v. filing_of v n) c.file.ensures.on.current)) (c.args.self.now.used a n h b at));
   indexed = c.args.self.now.indexed;

@@ -2,10 +2,10 @@ use Rattle.std.proofs.Common.{◌<◌, ◌≤◌, arith}
 use Rattle.dep_graph.specs.internal.Nets.{links_in}
 use Rattle.dep_graph.specs.internal.Numbers.{count_of}
 use Rattle.dep_graph.proofs.Copying.{all_copied, next_copied, none_copied}
-use Rattle.dep_graph.proofs.net.Net.copied.Goals as goal
+use Rattle.dep_graph.proofs.net.Net.copy_all.Goals as goal
 
 pub nodes-init : goal.nodes-init
-nodes-init c = none_copied c.args.self.now (links_in c.in_ok-copy.copy) c.in_ok-copy.ensures
+nodes-init c = none_copied c.args.self.now (links_in c.args.copy.now) c.requires
 
 pub nodes-preserved : goal.nodes-preserved
 nodes-preserved c =

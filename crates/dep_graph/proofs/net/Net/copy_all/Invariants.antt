@@ -1,6 +1,6 @@
 use Rattle.dep_graph.specs.internal.Nets.{links_in}
 use Rattle.dep_graph.proofs.Copying.{AreCopied}
-use Rattle.dep_graph.proofs.net.Net.copied.Given as goal
+use Rattle.dep_graph.proofs.net.Net.copy_all.Given as goal
 
 -- the nodes gone by have their links in the copy
 abbrev pub invariant-nodes : goal.invariant-nodes
