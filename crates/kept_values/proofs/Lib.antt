@@ -2,6 +2,7 @@ pub mod Following
 pub mod FoundNames
 pub mod LinkedAnew
 pub mod Noted
+pub mod Relinked
 pub mod SeekingNames
 pub mod UnderWords
 pub mod LinkTests

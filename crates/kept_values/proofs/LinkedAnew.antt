@@ -95,11 +95,11 @@ module _ (b : Workbook) (words : List (List ℕ)) where
       anew_inside b words a x needs old new inside links at exact linked
 
   module _ (customs : List (List ℕ × Rule)) (today : ℤ) where
-    -- the marked nodes are linked, and nothing else changed
-    pub linked_marks : (old new : Links) (marks items : List Node) (kept : Kept) → Follow b words customs today old marks kept → AreLinksBut b words items new → AreLinksInside new → items ≡ marks
-        → Follow b words customs today new marks kept
-    linked_marks old new marks items kept follow but inside same =
-        record { linked = subst (λ ms. AreLinksBut b words ms new) same but; inside = inside; known = follow.known; fit = follow.fit }
+    -- of these nodes the links are others, and nothing else changed
+    pub linked_but : (old new : Links) (nodes items : List Node) (kept : Kept) → Follow b words customs today old nodes kept → AreLinksBut b words items new → AreLinksInside new → items ≡ nodes
+        → Follow b words customs today new nodes kept
+    linked_but old new nodes items kept follow but inside same =
+        record { linked = subst (λ ns. AreLinksBut b words ns new) same but; inside = inside; known = follow.known; fit = follow.fit }
 
     -- after a recalculation, whether it ended or wanted memory
     pub recalculated : {E : Type 0} (r : Result Unit E) (links : Links) (old new : List Node) (kept : Kept) → AreLinksOf b words links → AreLinksInside links → AreKnown words old

@@ -22,8 +22,8 @@ use Rattle.recalc_core.specs.Nodes.{node_at}
 use Rattle.recalc_core.specs.declared.trees.Given.{Given}
 use Rattle.recalc_core.specs.declared.trees.Given.TheVariants.{Formula}
 use Rattle.recalc_core.proofs.Bridge.{same_some}
-use Rattle.kept_values.specs.Values.{AreNoted}
-use Rattle.kept_values.specs.internal.Noting.{AddsNoted, AreNotedAmong, IsNoted}
+use Rattle.kept_values.specs.Values.{AddsNoted, AreNoted}
+use Rattle.kept_values.specs.internal.Noting.{AreNotedAmong, IsNoted}
 use Rattle.kept_values.proofs.LinkedAnew.{in_front}
 
 -- ---- what was noted, and by what it grew
@@ -75,24 +75,24 @@ module _ (test : book.Node → Term Corner → Bool) (b : Workbook) (words : Lis
       (λ (last : has a (get_or nodes i d ∷ []) ≡ true). subst (IsNoted test b words new) (sym (has_one a (get_or nodes i d) last)) here x t at is passes)
       (has-append_cases a (take i nodes) (get_or nodes i d ∷ []) (subst (λ ns. has a ns ≡ true) (take_more nodes i d low) h))
 
-  -- where only marked nodes were noted, as much is noted as before
-  pub more_noted : (marks nodes : List Node) (before noted : Node → Bool) → AreKnown words marks → nodes ≡ marks → AreNoted test b words marks before → AddsNoted nodes before noted → AreNoted test b words marks noted
-  more_noted marks nodes before noted known same was more = record {
+  -- where only nodes were noted that were to be, as much is noted as before
+  pub more_noted : (left nodes : List Node) (before noted : Node → Bool) → AreKnown words left → nodes ≡ left → AreNoted test b words left before → AddsNoted nodes before noted → AreNoted test b words left noted
+  more_noted left nodes before noted known same was more = record {
     all = λ a x t free at is passes. more.stay a (was.all a x t free at is passes);
     known = λ a h. ⊎_elim
         (λ (first : before a ≡ true). was.known a first)
-        (λ (marked : has a nodes ≡ true). let (x, at) = known a (subst (λ ns. IsTrue (has a ns)) same marked) in ap is_some at)
+        (λ (new : has a nodes ≡ true). let (x, at) = known a (subst (λ ns. IsTrue (has a ns)) same new) in ap is_some at)
         (more.only a h);
   }
 
-  -- once the marked nodes are noted, all are
-  pub all_noted : (marks nodes left : List Node) (before noted : Node → Bool) → AreKnown words marks → nodes ≡ marks → AreNoted test b words marks before → AddsNoted nodes before noted → AreNotedAmong test b words nodes noted
-      → AreNoted test b words left noted
-  all_noted marks nodes left before noted known same was more among = record {
-    all = λ a x t free at is passes. by a x t at is passes (has a marks) refl;
-    known = (more_noted marks nodes before noted known same was more).known;
+  -- once these are noted, all are
+  pub all_noted : (left nodes after : List Node) (before noted : Node → Bool) → AreKnown words left → nodes ≡ left → AreNoted test b words left before → AddsNoted nodes before noted → AreNotedAmong test b words nodes noted
+      → AreNoted test b words after noted
+  all_noted left nodes after before noted known same was more among = record {
+    all = λ a x t free at is passes. by a x t at is passes (has a left) refl;
+    known = (more_noted left nodes before noted known same was more).known;
   }
     where
-      by : (a : Node) (x : book.Node) (t : Term Corner) → node_at words a ≡ Some x → tree_at b x ≡ Some t → test x t ≡ true → (m : Bool) → has a marks ≡ m → noted a ≡ true
+      by : (a : Node) (x : book.Node) (t : Term Corner) → node_at words a ≡ Some x → tree_at b x ≡ Some t → test x t ≡ true → (m : Bool) → has a left ≡ m → noted a ≡ true
       by a x t at is passes true e = among a (subst (λ ns. IsTrue (has a ns)) (sym same) e) x t at is passes
       by a x t at is passes false e = more.stay a (was.all a x t e at is passes)

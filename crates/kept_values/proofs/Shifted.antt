@@ -21,6 +21,7 @@ use Rattle.book_values.specs.Workbook.{Workbook, scope_sheet, tree_at}
 use Rattle.dep_graph.specs.Bent.{AreBent, Bends, IsBentBy}
 use Rattle.dep_graph.specs.Needs.{Links}
 use Rattle.dep_graph.specs.Nodes.{has}
+use Rattle.dep_graph.specs.Shifted.{AreShifted}
 use Rattle.dep_graph.specs.declared.node.Node.{Node}
 use Rattle.dep_graph.specs.declared.node.Node.TheVariants.{Cell, Range}
 use Rattle.recalc_core.specs.Kept.{Kept}
@@ -43,15 +44,15 @@ use Rattle.marked_values.proofs.Restored.{asks_still}
 use Rattle.marked_values.proofs.Touched.{touched_are_marked}
 use Rattle.restored_values.specs.Suspects.{has_lost}
 use Rattle.kept_values.specs.Shifted.{FollowsOver, HasTouched, MarksOver}
-use Rattle.kept_values.specs.Values.{Follows, asks_in, kept_in, links_in, loses_in, marks_in, seeks_at, seeks_in}
+use Rattle.kept_values.specs.Values.{asks_in, kept_in, links_in, loses_in, marks_in, seeks_at, seeks_in, unlinked_in}
 use Rattle.kept_values.specs.declared.values.Values.{Values}
-use Rattle.kept_values.specs.internal.TakenAlong.{AreCarried, AreMoved, HasGathered}
-use Rattle.kept_values.proofs.Following.{from_follow, there}
+use Rattle.kept_values.specs.internal.TakenAlong.{AreAlong, AreCarried, AreMoved, HasGathered}
+use Rattle.kept_values.proofs.Following.{FollowsBut, all_right, from_follow, marked_follow, there, unlinked_follow}
 use Rattle.kept_values.proofs.Gathered as gathering
-use Rattle.kept_values.proofs.Gathered.{gathered_cases, with_marks}
+use Rattle.kept_values.proofs.Gathered.{among_gathered, gathered_cases, with_marks}
 use Rattle.kept_values.proofs.LostBefore.{lost_same}
 use Rattle.kept_values.proofs.SeekingNames.{filled_after, still_seeks}
-use Rattle.kept_values.proofs.TakenAlong.{after_known}
+use Rattle.kept_values.proofs.TakenAlong.{after_known, among_along}
 
 -- ---- the names that are left are nodes
 
@@ -77,49 +78,39 @@ IsThere s (links.Name scope word) = ⊤
 
 -- ---- marks and values that went along
 
-module _ (s : Shift) (b c : Workbook) (words : List (List ℕ)) (customs : List (List ℕ × Rule)) (today : ℤ) (v m w : Values) (touched bent : List Node)
+-- v before and w after, but for the nodes of three lists: before, with what is gathered, and taken along
+module _ (s : Shift) (b c : Workbook) (words : List (List ℕ)) (customs : List (List ℕ × Rule)) (today : ℤ) (v w : Values) (old mid new touched bent : List Node) (kept : Kept)
     (sound : IsSound s) (inside : IsBookInside b) (over : IsBookAfter s b c) (numbered : AreNumbered words b.names) (has_touched : HasTouched s b words touched) (touched_known : AreKnown words touched)
-    (follows : Follows b words customs today v) (are_bent : AreBent s (links_in v) bent) (gathered : HasGathered touched bent v m) (carried : AreCarried s (links_in v) (marks_in m) (kept_in v) w)
+    (follows : FollowsBut b words customs today v old kept) (are_bent : AreBent s (links_in v) bent) (gathered : HasGathered touched bent v old mid) (shifted : AreShifted s (links_in v) (links_in w)) (along : AreAlong s mid new)
     (none_asks : (a : Node) → asks_in w a ≡ false) (moved : AreMoved s (loses_in v) (loses_in w)) (sought : (word : List ℕ) → AreMoved s (seeks_in v word) (seeks_in w word)) where
   linked : (a : Node) → IsTrue (has a bent) → (d : Node) × IsTrue (has d (links_in v a))
   linked a h = let (d, link, bends) = (are_bent.0 a).0 h in (d, link)
 
-  before : Follow b words customs today (links_in v) (marks_in v) (kept_in v)
-  before = gathering.before b words customs today v m touched bent numbered touched_known follows linked gathered
+  of_old : (a : Node) → IsTrue (has a old) → IsTrue (has a mid)
+  of_old = gathering.of_old b words customs today v old mid touched bent kept touched_known follows linked gathered
 
-  of_marks : (a : Node) → IsTrue (has a (marks_in v)) → IsTrue (has a (marks_in m))
-  of_marks = gathering.of_marks b words customs today v m touched bent numbered touched_known follows linked gathered
+  of_touched : (a : Node) → IsTrue (has a touched) → IsTrue (has a mid)
+  of_touched = gathering.of_touched b words customs today v old mid touched bent kept touched_known follows linked gathered
 
-  of_touched : (a : Node) → IsTrue (has a touched) → IsTrue (has a (marks_in m))
-  of_touched = gathering.of_touched b words customs today v m touched bent numbered touched_known follows linked gathered
-
-  all_asking : (a : Node) (x : book.Node) (t : Term Corner) → node_at words a ≡ Some x → tree_at b x ≡ Some t → asks_place t ≡ true → IsTrue (has a (marks_in m))
-  all_asking = gathering.all_asking b words customs today v m touched bent numbered touched_known follows linked gathered
-
-  are_touched : AreTouched s b words (links_in v) (marks_in m)
+  are_touched : AreTouched s b words (links_in v) mid
   are_touched = record {
-    unsettled = record { asking = all_asking; filled = λ p moved here. of_touched (Cell p) (has_touched.filled p moved here) };
-    bent = λ a is. gathering.of_bent b words customs today v m touched bent numbered touched_known follows linked gathered a ((are_bent.0 a).1 is);
+    unsettled = record {
+      asking = gathering.all_asking b words customs today v old mid touched bent kept touched_known follows linked gathered;
+      filled = λ p moved here. of_touched (Cell p) (has_touched.filled p moved here);
+    };
+    bent = λ a is. gathering.of_bent b words customs today v old mid touched bent kept touched_known follows linked gathered a ((are_bent.0 a).1 is);
     names = λ a key at drops here. of_touched a (has_touched.names a key at drops here);
   }
 
-  marks : AreMarksAfter s b c words (links_in v) (marks_in v) (marks_in w)
-  marks = touched_are_marked s b c words customs today (links_in v) (marks_in v) (marks_in m) (marks_in w) (kept_in v) sound over before are_touched (with_marks s (marks_in v) (marks_in m) (marks_in w) of_marks carried.taken)
+  after_it : AreMarksAfter s b c words (links_in v) old new
+  after_it = touched_are_marked s b c words customs today (links_in v) old mid new kept sound over follows.follow are_touched (with_marks s old mid new of_old along.taken)
 
-  -- ---- values
+  -- ---- links and values
 
-  carries : Follow c words customs today (links_in w) (marks_in w) (carried_kept (from_over s) (kept_in v))
+  carries : Follow c words customs today (links_in w) new (carried_kept (from_over s) kept)
   carries =
-      shifts_follow s b c words customs today (links_in v) (links_in w) (marks_in v) (marks_in w) (kept_in v) sound inside over (numbered_after s b c words over numbered) carried.links marks
-      (carried.known words (gathering.all_known b words customs today v m touched bent numbered touched_known follows linked gathered)) before
-
-  after_it : Follow c words customs today (links_in w) (marks_in w) (kept_in w)
-  after_it = record {
-    linked = carries.linked;
-    inside = carries.inside;
-    known = carries.known;
-    fit = λ a apart plain. carried.kept a plain ∙ carries.fit a apart plain;
-  }
+      shifts_follow s b c words customs today (links_in v) (links_in w) old new kept sound inside over (numbered_after s b c words over numbered) shifted after_it
+      (along.known words (gathering.all_known b words customs today v old mid touched bent kept touched_known follows linked gathered)) follows.follow
 
   -- ---- what is noted
 
@@ -139,38 +130,38 @@ module _ (s : Shift) (b c : Workbook) (words : List (List ℕ)) (customs : List 
             let (was, from, origin) = node_from s sound words a y x (no_range words a x at) at pair in
             (was, y, t, from, origin, tree, same_some u (rewritten s t) (sym is ∙ rewrites ∙ ap (option_map (rewritten s)) tree), pair)
 
-    -- each formula that asks is marked
-    asks_marked : asks_place u ≡ true → IsTrue (has a (marks_in w))
-    asks_marked asks = let (was, y, t, from, origin, tree, same, pair) = formula_was in marks.asking was a y t origin tree (sym (asks_still s t) ∙ ap asks_place (sym same) ∙ asks) from
+    -- each formula that asks is among the nodes after it
+    asks_marked : asks_place u ≡ true → IsTrue (has a new)
+    asks_marked asks = let (was, y, t, from, origin, tree, same, pair) = formula_was in after_it.asking was a y t origin tree (sym (asks_still s t) ∙ ap asks_place (sym same) ∙ asks) from
 
-    -- each formula with a lost reference that isn't marked had lost one before
-    loses_noted : has a (marks_in w) ≡ false → has_lost u ≡ true → loses_in w a ≡ true
+    -- each formula with a lost reference that isn't had lost one before
+    loses_noted : has a new ≡ false → has_lost u ≡ true → loses_in w a ≡ true
     loses_noted isnt lost =
         let (was, y, t, from, origin, tree, same, pair) = formula_was in
         let goes = (was_at s sound a was from).0 in
-        let out : has was (marks_in v) ≡ false = false_from_ne_true (has was (marks_in v)) (λ mark. false≢true (sym isnt ∙ carried.taken.along was a (of_marks was mark) goes)) in
-        let plain : asks_place t ≡ false = false_from_ne_true (asks_place t) (λ asks. false≢true (sym isnt ∙ marks.asking was a y t origin tree asks from)) in
+        let out : has was old ≡ false = false_from_ne_true (has was old) (λ mark. false≢true (sym isnt ∙ along.taken.along was a (of_old was mark) goes)) in
+        let plain : asks_place t ≡ false = false_from_ne_true (asks_place t) (λ asks. false≢true (sym isnt ∙ after_it.asking was a y t origin tree asks from)) in
         moved.along was a (follows.loses.all was y t out origin tree (sym (lost_same s t (by_links (IsThere s) t plain (λ l link. each was y t from origin tree out l link))) ∙ ap has_lost (sym same) ∙ lost)) goes
       where
         unbent : (was : Node) (d : Node) → from_over s a ≡ Some was → IsTrue (has d (links_in v was)) → ¬ Bends s d
-        unbent was d from link bends = false≢true (sym isnt ∙ marks.bent was a (d, link, bends) from)
+        unbent was d from link bends = false≢true (sym isnt ∙ after_it.bent was a (d, link, bends) from)
 
-        each : (was : Node) (y : book.Node) (t : Term Corner) → from_over s a ≡ Some was → node_at words was ≡ Some y → tree_at b y ≡ Some t → has was (marks_in v) ≡ false → (l : Link) → HasLink l (links_in_tree t) → IsThere s l
-        each was y t from origin tree out (links.Cell p) link = λ gone. unbent was (Cell p) from ((before.linked.exact was (Cell p) (λ mark. false≢true (sym out ∙ mark))).1 (y, t, origin, tree, link)) gone
+        each : (was : Node) (y : book.Node) (t : Term Corner) → from_over s a ≡ Some was → node_at words was ≡ Some y → tree_at b y ≡ Some t → has was old ≡ false → (l : Link) → HasLink l (links_in_tree t) → IsThere s l
+        each was y t from origin tree out (links.Cell p) link = λ gone. unbent was (Cell p) from ((follows.follow.linked.exact was (Cell p) (λ mark. false≢true (sym out ∙ mark))).1 (y, t, origin, tree, link)) gone
         each was y t from origin tree out (links.Area d) link = λ gone.
-            unbent was (Range d) from ((before.linked.exact was (Range d) (λ mark. false≢true (sym out ∙ mark))).1 (y, t, origin, tree, link)) (inl (lost_bends s d gone))
+            unbent was (Range d) from ((follows.follow.linked.exact was (Range d) (λ mark. false≢true (sym out ∙ mark))).1 (y, t, origin, tree, link)) (inl (lost_bends s d gone))
         each was y t from origin tree out (links.Name scope word) link = tt
 
-    settled : (z : book.Node) → node_at words a ≡ Some z → tree_at c z ≡ Some u → has a (marks_in w) ≡ false → IsSettled s z
-    settled (book.place q) to tree isnt = false_from_ne_true (is_moved_cell s q) (λ is_moved. false≢true (sym isnt ∙ subst (λ n. IsTrue (has n (marks_in w))) (sym (place_node words a q to)) (marks.moved q is_moved (filled_after b c q u tree))))
+    settled : (z : book.Node) → node_at words a ≡ Some z → tree_at c z ≡ Some u → has a new ≡ false → IsSettled s z
+    settled (book.place q) to tree isnt = false_from_ne_true (is_moved_cell s q) (λ is_moved. false≢true (sym isnt ∙ subst (λ n. IsTrue (has n new)) (sym (place_node words a q to)) (after_it.moved q is_moved (filled_after b c q u tree))))
     settled (book.name key) to tree isnt = tt
 
-    -- each formula with this word where it finds no name, that isn't marked, had it before
-    seeks_noted : (word : List ℕ) → has a (marks_in w) ≡ false → seeks_at c word x u ≡ true → seeks_in w word a ≡ true
+    -- each formula with this word where it finds no name, that isn't among them, had it before
+    seeks_noted : (word : List ℕ) → has a new ≡ false → seeks_at c word x u ≡ true → seeks_in w word a ≡ true
     seeks_noted word isnt seek =
         let (was, y, t, from, origin, tree, same, pair) = formula_was in
         let goes = (was_at s sound a was from).0 in
-        let out : has was (marks_in v) ≡ false = false_from_ne_true (has was (marks_in v)) (λ mark. false≢true (sym isnt ∙ carried.taken.along was a (of_marks was mark) goes)) in
+        let out : has was old ≡ false = false_from_ne_true (has was old) (λ mark. false≢true (sym isnt ∙ along.taken.along was a (of_old was mark) goes)) in
         let finds = pair_finds s b c over y x pair (settled x at is isnt) in
         (sought word).along was a ((follows.seeks word).all was y t out origin tree (sym (still_seeks s b c over y x t word finds) ∙ ap (seeks_at c word x) (sym same) ∙ seek)) goes
 
@@ -181,21 +172,33 @@ module _ (s : Shift) (b c : Workbook) (words : List (List ℕ)) (customs : List 
       let (x, at) = there (node_at words d) (all d is) in
       ap is_some (after_known s words d a x at goes).1
 
-  pub follows_after : Follows c words customs today w
-  follows_after = from_follow c words customs today w after_it
-      (record { all = λ a x t isnt at is asks. absurd (false≢true (sym isnt ∙ asks_marked a x t at is asks)); known = λ a asks. absurd (false≢true (sym (none_asks a) ∙ asks)) })
-      (record { all = λ a x t isnt at is lost. loses_noted a x t at is isnt lost; known = noted_known (loses_in v) (loses_in w) moved follows.loses.known })
-      (λ word. record { all = λ a x t isnt at is seek. seeks_noted a x t at is word isnt seek; known = noted_known (seeks_in v word) (seeks_in w word) (sought word) (follows.seeks word).known })
+  pub follows_after : FollowsBut c words customs today w new (carried_kept (from_over s) kept)
+  follows_after = record {
+    follow = carries;
+    asks = record { all = λ a x t isnt at is asks. absurd (false≢true (sym isnt ∙ asks_marked a x t at is asks)); known = λ a asks. absurd (false≢true (sym (none_asks a) ∙ asks)) };
+    loses = record { all = λ a x t isnt at is lost. loses_noted a x t at is isnt lost; known = noted_known (loses_in v) (loses_in w) moved follows.loses.known };
+    seeks = λ word. record { all = λ a x t isnt at is seek. seeks_noted a x t at is word isnt seek; known = noted_known (seeks_in v word) (seeks_in w word) (sought word) (follows.seeks word).known };
+  }
 
-pub goes_along : (s : Shift) (touched bent : List Node) (v m w : Values) → IsSound s → AreBent s (links_in v) bent → HasGathered touched bent v m → links_in m ≡ links_in v → kept_in m ≡ kept_in v
-    → ((a : Node) → asks_in w a ≡ false) → AreMoved s (loses_in v) (loses_in w) → ((word : List ℕ) → AreMoved s (seeks_in v word) (seeks_in w word)) → AreCarried s (links_in m) (marks_in m) (kept_in m) w → FollowsOver s touched v w
-goes_along s touched bent v m w sound are_bent gathered links kept none moved sought carried b c words customs today inside over numbered has_touched known follows =
-    follows_after s b c words customs today v m w touched bent sound inside over numbered has_touched known follows are_bent gathered
-    (subst (λ (l : Links). AreCarried s l (marks_in m) (kept_in v) w) links (subst (λ (k : Kept). AreCarried s (links_in m) (marks_in m) k w) kept carried)) none moved sought
+-- v before, m with what is gathered and w after it
+pub goes_along : (s : Shift) (touched bent : List Node) (v m w : Values) → IsSound s → AreBent s (links_in v) bent → HasGathered touched bent v (marks_in v) (marks_in m) → HasGathered touched bent v (unlinked_in v) (unlinked_in m)
+    → links_in m ≡ links_in v → kept_in m ≡ kept_in v → ((a : Node) → asks_in w a ≡ false) → AreMoved s (loses_in v) (loses_in w) → ((word : List ℕ) → AreMoved s (seeks_in v word) (seeks_in w word))
+    → AreCarried s (links_in m) (kept_in m) (marks_in m) (unlinked_in m) w → FollowsOver s touched v w
+goes_along s touched bent v m w sound are_bent marks unlinked links kept none moved sought carried b c words customs today inside over numbered has_touched known follows =
+    let shifted = subst (λ (l : Links). AreShifted s l (links_in w)) links carried.links in
+    let marked = (follows_after s b c words customs today v w (marks_in v) (marks_in m) (marks_in w) touched bent (kept_in v) sound inside over numbered has_touched known (marked_follow b words customs today v numbered follows)
+    are_bent marks shifted carried.marks none moved sought).follow in
+    from_follow c words customs today w (carried_kept (from_over s) (all_right b words customs today))
+    (follows_after s b c words customs today v w (unlinked_in v) (unlinked_in m) (unlinked_in w) touched bent (all_right b words customs today) sound inside over numbered has_touched known
+    (unlinked_follow b words customs today v numbered follows) are_bent unlinked shifted carried.unlinked none moved sought)
+    (among_along s (unlinked_in m) (marks_in m) (unlinked_in w) (marks_in w) carried.unlinked carried.marks.taken
+    (among_gathered v (unlinked_in v) (marks_in v) (unlinked_in m) (marks_in m) touched bent unlinked marks follows.among))
+    marked.known
+    (λ a apart plain. carried.kept a plain ∙ ap (λ (k : Kept). carried_kept (from_over s) k a) kept ∙ marked.fit a apart plain)
 
 -- and what is marked then
-pub marks_over : (s : Shift) (touched bent : List Node) (v m w : Values) → AreBent s (links_in v) bent → HasGathered touched bent v m → AreCarried s (links_in m) (marks_in m) (kept_in m) w → MarksOver s touched v w
-marks_over s touched bent v m w are gathered carried a h = let (b, there, comes) = carried.from a h in (b, comes, by b (gathered_cases v m touched bent gathered b there))
+pub marks_over : (s : Shift) (touched bent : List Node) (v m w : Values) → AreBent s (links_in v) bent → HasGathered touched bent v (marks_in v) (marks_in m) → AreCarried s (links_in m) (kept_in m) (marks_in m) (unlinked_in m) w → MarksOver s touched v w
+marks_over s touched bent v m w are gathered carried a h = let (b, there, comes) = carried.marks.from a h in (b, comes, by b (gathered_cases v (marks_in v) (marks_in m) touched bent gathered b there))
   where
     by : (b : Node) → IsTrue (has b (marks_in v)) ⊎ (IsTrue (has b touched) ⊎ (IsTrue (has b bent) ⊎ (asks_in v b ≡ true))) → IsTrue (has b (marks_in v)) ⊎ (IsTrue (has b touched) ⊎ (IsBentBy s (links_in v) b ⊎ (asks_in v b ≡ true)))
     by b (inl mark) = inl mark

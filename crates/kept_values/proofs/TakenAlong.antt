@@ -22,12 +22,14 @@ use Rattle.recalc_core.specs.Nodes.{node_at}
 use Rattle.recalc_core.specs.Recalc.{with_mark}
 use Rattle.recalc_core.specs.Shifted.{drops_scope, from_over}
 use Rattle.recalc_core.proofs.Bridge.{none_some, same_some}
+use Rattle.marked_values.specs.Gathered.{AreTakenAlong}
 use Rattle.marked_values.specs.Shifts.{is_moved_cell}
 use Rattle.marked_values.proofs.Origins.{was_at}
-use Rattle.kept_values.specs.Values.{kept_in, links_in, marks_in}
+use Rattle.kept_values.specs.Values.{kept_in, links_in, marks_in, unlinked_in}
 use Rattle.kept_values.specs.declared.values.Values.{Values}
 use Rattle.kept_values.specs.Shifted.{ComesFrom, moved_cell}
-use Rattle.kept_values.specs.internal.TakenAlong.{AddsTaken, AreCarried, AreMoved, with_some, with_taken}
+use Rattle.kept_values.specs.internal.TakenAlong.{AddsTaken, AreAlong, AreCarried, AreMoved, with_some, with_taken}
+use Rattle.kept_values.proofs.Following.{AreAmong}
 use Rattle.kept_values.proofs.FoundNames.{marked_more}
 
 -- ---- one mark more, if there is one
@@ -182,13 +184,19 @@ module _ (s : Shift) where
       by false e = (x, ap (node_at words) (same_some (Name scope word) d e) ∙ at)
   from_known words (Range block) d from x at = absurd (none_some d from)
 
-  pub are_carried : IsSound s → (links : Links) (marks marked gone : List Node) (kept shown : Kept) (w : Values) → marked ≡ marks → AreShifted s links (links_in w) → ((a : Node) → IsNoRange a → shown a ≡ carried_kept (from_over s) kept a) → kept_in w ≡ shown
-      → ((a : Node) → IsTrue (has a gone) ↔ ((d : Node) × IsTrue (has d marks) × (from_over s a ≡ Some d))) → AddsTaken s marked gone (marks_in w) → AreCarried s links marks kept w
-  are_carried sound links marks marked gone kept shown w same shifted moved still come adds =
-      let taken = subst (λ (ns : List Node). AddsTaken s ns gone (marks_in w)) same adds in
+  -- what is taken along by itself
+  pub alone_along : (nodes along : List Node) → AddsTaken s nodes [] along → AreAlong s nodes along
+  alone_along nodes along adds = record {
+    taken = adds.taken;
+    from = λ a h. ⊎_elim (λ (none : IsTrue (has a [])). absurd (false≢true none)) (λ came. came) (adds.from a h);
+    known = λ words known. adds.known words known (λ a none. absurd (false≢true none));
+  }
+
+  -- and what is added to marks that went along
+  marks_along : IsSound s → (marks marked gone more : List Node) → marked ≡ marks → ((a : Node) → IsTrue (has a gone) ↔ ((d : Node) × IsTrue (has d marks) × (from_over s a ≡ Some d))) → AddsTaken s marked gone more → AreAlong s marks more
+  marks_along sound marks marked gone more same come adds =
+      let taken = subst (λ (ns : List Node). AddsTaken s ns gone more) same adds in
       record {
-        links = shifted;
-        kept = λ a plain. ap (λ (k : Kept). k a) still ∙ moved a plain;
         taken = taken.taken;
         from = λ a h. by a (adds.from a h);
         known = λ words known. taken.known words known (λ a h. let (d, is, from) = (come a).0 h in let (x, at) = known d is in from_known words a d from x at);
@@ -197,3 +205,27 @@ module _ (s : Shift) where
       by : (a : Node) → IsTrue (has a gone) ⊎ ((b : Node) × IsTrue (has b marked) × ComesFrom s b a) → (b : Node) × IsTrue (has b marks) × ComesFrom s b a
       by a (inl left) = let (d, is, from) = (come a).0 left in (d, is, inl (was_at s sound a d from).0)
       by a (inr (b, is, comes)) = (b, subst (λ (ns : List Node). IsTrue (has b ns)) same is, comes)
+
+  pub are_carried : IsSound s → (links : Links) (marks marked gone unlinked listed : List Node) (kept shown : Kept) (w : Values) → marked ≡ marks → AreShifted s links (links_in w) → ((a : Node) → IsNoRange a → shown a ≡ carried_kept (from_over s) kept a) → kept_in w ≡ shown
+      → ((a : Node) → IsTrue (has a gone) ↔ ((d : Node) × IsTrue (has d marks) × (from_over s a ≡ Some d))) → listed ≡ unlinked → AddsTaken s listed [] (unlinked_in w) → AddsTaken s marked gone (marks_in w) → AreCarried s links kept marks unlinked w
+  are_carried sound links marks marked gone unlinked listed kept shown w same shifted moved still come all alone adds = record {
+    links = shifted;
+    kept = λ a plain. ap (λ (k : Kept). k a) still ∙ moved a plain;
+    marks = marks_along sound marks marked gone (marks_in w) same come adds;
+    unlinked = alone_along unlinked (unlinked_in w) (subst (λ (ns : List Node). AddsTaken s ns [] (unlinked_in w)) all alone);
+  }
+
+  -- what comes from one of the nodes is where they are taken along
+  came_along : (nodes more : List Node) (a b : Node) → AreTakenAlong s nodes more → IsTrue (has b nodes) → ComesFrom s b a → IsTrue (has a more)
+  came_along nodes more a b taken there (inl goes) = taken.along b a there goes
+  came_along nodes more a (Cell p) taken there (inr moved) = by (is_moved_cell s p) refl moved
+    where
+      by : (t : Bool) → is_moved_cell s p ≡ t → cond t (Some (Cell p)) None ≡ Some a → IsTrue (has a more)
+      by true is e = subst (λ n. IsTrue (has n more)) (same_some (Cell p) a e) (taken.stay p is there)
+      by false is e = absurd (none_some a e)
+  came_along nodes more a (Name scope word) taken there (inr moved) = absurd (none_some a moved)
+  came_along nodes more a (Range block) taken there (inr moved) = absurd (none_some a moved)
+
+  -- so what is among others still is when both are taken along
+  pub among_along : (few many few_then many_then : List Node) → AreAlong s few few_then → AreTakenAlong s many many_then → AreAmong few many → AreAmong few_then many_then
+  among_along few many few_then many_then one taken among a h = let (b, there, comes) = one.from a h in came_along many many_then a b taken (among b there) comes

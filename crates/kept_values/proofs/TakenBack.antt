@@ -19,15 +19,16 @@ use Rattle.book_values.specs.Workbook.{Workbook, content_tree, scope_sheet, tree
 use Rattle.dep_graph.specs.Bent.{AreBent, IsBentBy}
 use Rattle.dep_graph.specs.Needs.{Links}
 use Rattle.dep_graph.specs.Nodes.{has, items_of}
-use Rattle.dep_graph.specs.Shifted.{node_after}
+use Rattle.dep_graph.specs.Shifted.{AreShifted, node_after}
 use Rattle.dep_graph.specs.declared.node.Node.{Node}
 use Rattle.dep_graph.specs.declared.nodes.Nodes.{Nodes}
 use Rattle.dep_graph.specs.declared.node.Node.TheVariants.{Cell, Name, Range}
 use Rattle.dep_graph.proofs.Places.{has-append_cases, has-append_left, has-append_right}
 use Rattle.recalc_core.specs.Kept.{Kept}
 use Rattle.recalc_core.specs.Laws.{AreKnown}
+use Rattle.recalc_core.specs.Moves.{carried_kept}
 use Rattle.recalc_core.specs.Nodes.{AreNumbered, node_at}
-use Rattle.recalc_core.specs.Shifted.{drops_scope}
+use Rattle.recalc_core.specs.Shifted.{drops_scope, from_over}
 use Rattle.recalc_core.proofs.Bridge.{none_some, same_some}
 use Rattle.marked_values.specs.Gathered.{AreTakenAlong, AreUnsettled}
 use Rattle.marked_values.specs.Marks.{Follow, IsBookInside}
@@ -41,15 +42,15 @@ use Rattle.restored_values.specs.Probes.{probe_of}
 use Rattle.restored_values.specs.Suspects.{AreRemoved, AreSuspects, has_lost}
 use Rattle.restored_values.proofs.Suspected.{suspects_are_restored, suspects_bring_back}
 use Rattle.kept_values.specs.Shifted.{FollowsBack, HasTouched, IsProbedBy, MarksBack}
-use Rattle.kept_values.specs.Values.{Follows, asks_in, kept_in, links_in, loses_in, marks_in, seeks_at, seeks_in}
+use Rattle.kept_values.specs.Values.{asks_in, kept_in, links_in, loses_in, marks_in, seeks_at, seeks_in, unlinked_in}
 use Rattle.kept_values.specs.declared.values.Values.{Values}
-use Rattle.kept_values.specs.internal.TakenAlong.{AreCarried, AreMoved, AreProbed, HasGathered}
-use Rattle.kept_values.proofs.Following.{from_follow, there}
+use Rattle.kept_values.specs.internal.TakenAlong.{AreAlong, AreCarried, AreMoved, AreProbed, HasGathered}
+use Rattle.kept_values.proofs.Following.{AreAmong, FollowsBut, all_right, from_follow, marked_follow, there, unlinked_follow}
 use Rattle.kept_values.proofs.Gathered as gathering
-use Rattle.kept_values.proofs.Gathered.{gathered_cases, with_marks}
+use Rattle.kept_values.proofs.Gathered.{among_after, among_gathered, gathered_cases, with_marks}
 use Rattle.kept_values.proofs.LostBefore.{lost_stays}
 use Rattle.kept_values.proofs.SeekingNames.{filled_before, still_seeks}
-use Rattle.kept_values.proofs.TakenAlong.{after_known}
+use Rattle.kept_values.proofs.TakenAlong.{after_known, among_along}
 
 -- what the probe bends
 pub probed_by : {E : Type 0} (r : Result Nodes E) (s probe : Shift) (links : Links) → probe_of s ≡ Some probe → IfOk r (λ nodes. AreBent probe links (items_of nodes)) → IfOk r (λ nodes. AreProbed s links (items_of nodes))
@@ -60,78 +61,75 @@ probed_by (Ok nodes) s probe links named bent = record {
 }
 probed_by (Err e) s probe links named bent = tt
 
--- v before, m with what is gathered, n with what had lost a reference too, u gone back, and w with what had been removed
-module _ (s back : Shift) (b c : Workbook) (words : List (List ℕ)) (customs : List (List ℕ × Rule)) (today : ℤ) (v m n u w : Values) (touched bent removed : List Node)
+-- v before and w after, but for the nodes of five lists: before, with what is gathered, with what had lost a reference too, gone back, and with
+-- what had been removed
+module _ (s back : Shift) (b c : Workbook) (words : List (List ℕ)) (customs : List (List ℕ × Rule)) (today : ℤ) (v w : Values) (old mid more gone new touched bent removed : List Node) (kept : Kept)
     (sound : IsSound s) (opposite : opposite_of s ≡ Some back) (inside : IsBookInside b) (over : IsBookAfter s b c) (numbered : AreNumbered words c.names)
     (has_touched : HasTouched back c words touched) (touched_known : AreKnown words touched) (are_removed : AreRemoved s b removed) (removed_known : AreKnown words removed)
-    (follows : Follows c words customs today v) (probed : AreProbed s (links_in v) bent) (gathered : HasGathered touched bent v m)
-    (with_losing : (a : Node) → has a (marks_in n) ≡ (has a (marks_in m) || loses_in v a)) (carried : AreCarried back (links_in v) (marks_in n) (kept_in v) u)
-    (with_removed : (a : Node) → has a (marks_in w) ≡ has a (marks_in u ++ removed)) (links : links_in w ≡ links_in u) (kept : kept_in w ≡ kept_in u)
+    (follows : FollowsBut c words customs today v old kept) (probed : AreProbed s (links_in v) bent) (gathered : HasGathered touched bent v old mid)
+    (with_losing : (a : Node) → has a more ≡ (has a mid || loses_in v a)) (shifted : AreShifted back (links_in v) (links_in w)) (gone_along : AreAlong back more gone) (with_removed : (a : Node) → has a new ≡ has a (gone ++ removed))
     (none_asks : (a : Node) → asks_in w a ≡ false) (none_loses : (a : Node) → loses_in w a ≡ false) (sought : (word : List ℕ) → AreMoved back (seeks_in v word) (seeks_in w word)) where
-  before : Follow c words customs today (links_in v) (marks_in v) (kept_in v)
-  before = gathering.before c words customs today v m touched bent numbered touched_known follows probed.linked gathered
-
   -- ---- what was gathered
 
-  of_gathered : (a : Node) → IsTrue (has a (marks_in m)) → IsTrue (has a (marks_in n))
-  of_gathered a h = with_losing a ∙ or_left (has a (marks_in m)) (loses_in v a) h
+  of_gathered : (a : Node) → IsTrue (has a mid) → IsTrue (has a more)
+  of_gathered a h = with_losing a ∙ or_left (has a mid) (loses_in v a) h
 
-  of_marks : (a : Node) → IsTrue (has a (marks_in v)) → IsTrue (has a (marks_in n))
-  of_marks a h = of_gathered a (gathering.of_marks c words customs today v m touched bent numbered touched_known follows probed.linked gathered a h)
+  of_old : (a : Node) → IsTrue (has a old) → IsTrue (has a more)
+  of_old a h = of_gathered a (gathering.of_old c words customs today v old mid touched bent kept touched_known follows probed.linked gathered a h)
 
-  all_known : AreKnown words (marks_in n)
+  all_known : AreKnown words more
   all_known a h = ⊎_elim
-      (λ (front : has a (marks_in m) ≡ true). gathering.all_known c words customs today v m touched bent numbered touched_known follows probed.linked gathered a front)
+      (λ (front : has a mid ≡ true). gathering.all_known c words customs today v old mid touched bent kept touched_known follows probed.linked gathered a front)
       (λ (lost : loses_in v a ≡ true). there (node_at words a) (follows.loses.known a lost))
-      (or_cases (has a (marks_in m)) (loses_in v a) (sym (with_losing a) ∙ h))
+      (or_cases (has a mid) (loses_in v a) (sym (with_losing a) ∙ h))
 
-  unsettled : AreUnsettled back c words (marks_in n)
+  unsettled : AreUnsettled back c words more
   unsettled = record {
-    asking = λ a x t at is asks. of_gathered a (gathering.all_asking c words customs today v m touched bent numbered touched_known follows probed.linked gathered a x t at is asks);
-    filled = λ p moved here. of_gathered (Cell p) (gathering.of_touched c words customs today v m touched bent numbered touched_known follows probed.linked gathered (Cell p) (has_touched.filled p moved here));
+    asking = λ a x t at is asks. of_gathered a (gathering.all_asking c words customs today v old mid touched bent kept touched_known follows probed.linked gathered a x t at is asks);
+    filled = λ p moved here. of_gathered (Cell p) (gathering.of_touched c words customs today v old mid touched bent kept touched_known follows probed.linked gathered (Cell p) (has_touched.filled p moved here));
   }
 
-  suspects : AreSuspects s c words (links_in v) (marks_in n)
+  suspects : AreSuspects s c words (links_in v) more
   suspects = record {
-    bent = λ probe a named is. of_gathered a (gathering.of_bent c words customs today v m touched bent numbered touched_known follows probed.linked gathered a (probed.all probe a named is));
+    bent = λ probe a named is. of_gathered a (gathering.of_bent c words customs today v old mid touched bent kept touched_known follows probed.linked gathered a (probed.all probe a named is));
     lost = λ a x t at is lost. ⊎_elim
-        (λ (mark : has a (marks_in v) ≡ true). of_marks a mark)
-        (λ (out : has a (marks_in v) ≡ false). with_losing a ∙ or_right (has a (marks_in m)) (loses_in v a) (follows.loses.all a x t out at is lost))
-        (cases_Bool (has a (marks_in v)));
+        (λ (was : has a old ≡ true). of_old a was)
+        (λ (out : has a old ≡ false). with_losing a ∙ or_right (has a mid) (loses_in v a) (follows.loses.all a x t out at is lost))
+        (cases_Bool (has a old));
   }
 
-  -- ---- the marks
+  -- ---- the nodes after it
 
-  stay : (a : Node) → IsTrue (has a (marks_in u)) → IsTrue (has a (marks_in w))
-  stay a h = with_removed a ∙ has-append_left a (marks_in u) removed h
+  stay : (a : Node) → IsTrue (has a gone) → IsTrue (has a new)
+  stay a h = with_removed a ∙ has-append_left a gone removed h
 
-  taken : AreTakenAlong back (marks_in n) (marks_in w)
+  taken : AreTakenAlong back more new
   taken = record {
-    along = λ a after h goes. stay after (carried.taken.along a after h goes);
-    stay = λ p moved h. stay (Cell p) (carried.taken.stay p moved h);
+    along = λ a after h goes. stay after (gone_along.taken.along a after h goes);
+    stay = λ p moved h. stay (Cell p) (gone_along.taken.stay p moved h);
   }
 
-  all_taken : AreTakenAlong back (marks_in v ++ marks_in n) (marks_in w)
-  all_taken = with_marks back (marks_in v) (marks_in n) (marks_in w) of_marks taken
+  all_taken : AreTakenAlong back (old ++ more) new
+  all_taken = with_marks back old more new of_old taken
 
-  come_back : AreRemoved s b (marks_in w)
-  come_back p gone here = with_removed (Cell p) ∙ has-append_right (Cell p) (marks_in u) removed (are_removed p gone here)
+  come_back : AreRemoved s b new
+  come_back p lost here = with_removed (Cell p) ∙ has-append_right (Cell p) gone removed (are_removed p lost here)
 
-  known : AreKnown words (marks_in w)
+  known : AreKnown words new
   known a h = ⊎_elim
-      (λ (front : has a (marks_in u) ≡ true). carried.known words all_known a front)
+      (λ (front : has a gone ≡ true). gone_along.known words all_known a front)
       (λ (is : has a removed ≡ true). removed_known a is)
-      (has-append_cases a (marks_in u) removed (sym (with_removed a) ∙ h))
+      (has-append_cases a gone removed (sym (with_removed a) ∙ h))
 
-  marks : AreMarksBack s back b c words (marks_in v) (marks_in w)
-  marks = restored_are_marked s back b c words (marks_in v) (marks_in n) (marks_in w) (marks_in w) sound opposite inside over unsettled all_taken
-      (suspects_are_restored s back b c words customs today (links_in v) (marks_in v) (marks_in n) (marks_in w) (kept_in v) sound opposite inside over before suspects all_taken come_back) (λ a is. is)
+  after_it : AreMarksBack s back b c words old new
+  after_it = restored_are_marked s back b c words old more new new sound opposite inside over unsettled all_taken
+      (suspects_are_restored s back b c words customs today (links_in v) old more new kept sound opposite inside over follows.follow suspects all_taken come_back) (λ a is. is)
 
-  -- each formula that has lost a reference is marked
-  loses_marked : (a : Node) (x : book.Node) (t : Term Corner) → node_at words a ≡ Some x → tree_at b x ≡ Some t → has_lost t ≡ true → IsTrue (has a (marks_in w))
-  loses_marked a (book.place p) t at is lost = subst (λ d. IsTrue (has d (marks_in w))) (sym (place_node words a p at)) (by (map.get b.cells p) refl (place_after s p) refl)
+  -- each formula that has lost a reference is among them
+  loses_marked : (a : Node) (x : book.Node) (t : Term Corner) → node_at words a ≡ Some x → tree_at b x ≡ Some t → has_lost t ≡ true → IsTrue (has a new)
+  loses_marked a (book.place p) t at is lost = subst (λ d. IsTrue (has d new)) (sym (place_node words a p at)) (by (map.get b.cells p) refl (place_after s p) refl)
     where
-      by : (o : Option Content) → map.get b.cells p ≡ o → (r : Option Place) → place_after s p ≡ r → IsTrue (has (Cell p) (marks_in w))
+      by : (o : Option Content) → map.get b.cells p ≡ o → (r : Option Place) → place_after s p ≡ r → IsTrue (has (Cell p) new)
       by None e r goes = absurd (none_some t (sym (ap content_tree e) ∙ is))
       by (Some content) e None gone = come_back p gone (ap is_some e)
       by (Some content) e (Some q) goes =
@@ -144,25 +142,25 @@ module _ (s back : Shift) (b c : Workbook) (words : List (List ℕ)) (customs : 
       tree : tree_at c (book.name key) ≡ Some (rewritten s t)
       tree = over.names key (keeps s back sound opposite (scope_sheet key.scope)).0 ∙ ap (option_map (rewritten s)) is
 
-      by : (d : Node) → node_at words d ≡ Some (book.name key) → IsTrue (has d (marks_in w))
+      by : (d : Node) → node_at words d ≡ Some (book.name key) → IsTrue (has d new)
       by (Cell p) to = absurd (cc)
       by (Name scope word) to = taken.along (Name scope word) (Name scope word) (suspects.lost (Name scope word) (book.name key) (rewritten s t) to tree (lost_stays s t lost)) refl
       by (Range block) to = absurd (none_some (book.name key) to)
 
   -- ---- words that find no name
 
-  settled : (p q : Place) (t : Term Corner) → has (Cell p) (marks_in w) ≡ false → place_after s p ≡ Some q → tree_at b (book.place p) ≡ Some t → IsSettled s (book.place q)
-  settled p q t isnt goes is = false_from_ne_true (is_moved_cell s q) (λ is_moved. false≢true (sym isnt ∙ marks.moved p (moved_before (form_of s) p q is_moved goes) (filled_before b c p t is)))
+  settled : (p q : Place) (t : Term Corner) → has (Cell p) new ≡ false → place_after s p ≡ Some q → tree_at b (book.place p) ≡ Some t → IsSettled s (book.place q)
+  settled p q t isnt goes is = false_from_ne_true (is_moved_cell s q) (λ is_moved. false≢true (sym isnt ∙ after_it.moved p (moved_before (form_of s) p q is_moved goes) (filled_before b c p t is)))
 
-  -- where the node after the operation isn't marked, it is noted, and so is this one
-  goes_noted : (word : List ℕ) (d a : Node) (z : book.Node) (u : Term Corner) → node_after back d ≡ Some a → has a (marks_in w) ≡ false → node_at words d ≡ Some z → tree_at c z ≡ Some u → seeks_at c word z u ≡ true → seeks_in w word a ≡ true
-  goes_noted word d a z u goes isnt to tree seek = (sought word).along d a ((follows.seeks word).all d z u (false_from_ne_true (has d (marks_in v)) (λ mark. false≢true (sym isnt ∙ taken.along d a (of_marks d mark) goes))) to tree seek) goes
+  -- where the node after the operation isn't among the first nodes, it is noted, and so is this one
+  goes_noted : (word : List ℕ) (d a : Node) (z : book.Node) (u : Term Corner) → node_after back d ≡ Some a → has a new ≡ false → node_at words d ≡ Some z → tree_at c z ≡ Some u → seeks_at c word z u ≡ true → seeks_in w word a ≡ true
+  goes_noted word d a z u goes isnt to tree seek = (sought word).along d a ((follows.seeks word).all d z u (false_from_ne_true (has d old) (λ was. false≢true (sym isnt ∙ taken.along d a (of_old d was) goes))) to tree seek) goes
 
-  seeks_noted : (word : List ℕ) (a : Node) (x : book.Node) (t : Term Corner) → has a (marks_in w) ≡ false → node_at words a ≡ Some x → tree_at b x ≡ Some t → seeks_at b word x t ≡ true → seeks_in w word a ≡ true
+  seeks_noted : (word : List ℕ) (a : Node) (x : book.Node) (t : Term Corner) → has a new ≡ false → node_at words a ≡ Some x → tree_at b x ≡ Some t → seeks_at b word x t ≡ true → seeks_in w word a ≡ true
   seeks_noted word a (book.place p) t isnt at is seek = subst (λ d. seeks_in w word d ≡ true) (sym (place_node words a p at)) (by (map.get b.cells p) refl (place_after s p) refl)
     where
-      apart : has (Cell p) (marks_in w) ≡ false
-      apart = subst (λ d. has d (marks_in w) ≡ false) (place_node words a p at) isnt
+      apart : has (Cell p) new ≡ false
+      apart = subst (λ d. has d new ≡ false) (place_node words a p at) isnt
 
       by : (o : Option Content) → map.get b.cells p ≡ o → (r : Option Place) → place_after s p ≡ r → seeks_in w word (Cell p) ≡ true
       by None e r goes = absurd (none_some t (sym (ap content_tree e) ∙ is))
@@ -184,7 +182,7 @@ module _ (s back : Shift) (b c : Workbook) (words : List (List ℕ)) (customs : 
       finds : FindsSame s b c over (book.name key) (book.name key)
       finds = pair_finds s b c over (book.name key) (book.name key) (stays, refl) tt
 
-      by : (d : Node) → node_at words d ≡ Some (book.name key) → has d (marks_in w) ≡ false → seeks_in w word d ≡ true
+      by : (d : Node) → node_at words d ≡ Some (book.name key) → has d new ≡ false → seeks_in w word d ≡ true
       by (Cell p) to out = absurd (cc)
       by (Name scope number) to out = goes_noted word (Name scope number) (Name scope number) (book.name key) (rewritten s t) refl out to tree (still_seeks s b c over (book.name key) (book.name key) t word finds ∙ seek)
       by (Range block) to out = absurd (none_some (book.name key) to)
@@ -197,43 +195,66 @@ module _ (s back : Shift) (b c : Workbook) (words : List (List ℕ)) (customs : 
 
   -- ---- values
 
-  after_it : Follow b words customs today (links_in w) (marks_in w) (kept_in w)
-  after_it =
-      let comes = suspects_bring_back s back b c words customs today (links_in v) (links_in u) (marks_in v) (marks_in n) (marks_in w) (kept_in v) sound opposite inside over before carried.links unsettled suspects all_taken come_back known in
-      subst (λ (l : Links). Follow b words customs today l (marks_in w) (kept_in w)) (sym links)
-      (record {
-        linked = comes.linked;
-        inside = comes.inside;
-        known = comes.known;
-        fit = λ a apart plain. ap (λ (k : Kept). k a) kept ∙ carried.kept a plain ∙ comes.fit a apart plain;
-      })
+  comes : Follow b words customs today (links_in w) new (carried_kept (from_over back) kept)
+  comes = suspects_bring_back s back b c words customs today (links_in v) (links_in w) old more new kept sound opposite inside over follows.follow shifted unsettled suspects all_taken come_back known
 
-  pub follows_before : Follows b words customs today w
-  follows_before = from_follow b words customs today w after_it
-      (record { all = λ a x t isnt at is asks. absurd (false≢true (sym isnt ∙ marks.asking a x t at is asks)); known = λ a asks. absurd (false≢true (sym (none_asks a) ∙ asks)) })
-      (record { all = λ a x t isnt at is lost. absurd (false≢true (sym isnt ∙ loses_marked a x t at is lost)); known = λ a lost. absurd (false≢true (sym (none_loses a) ∙ lost)) })
-      (λ word. record { all = λ a x t isnt at is seek. seeks_noted word a x t isnt at is seek; known = sought_known word })
+  pub follows_before : FollowsBut b words customs today w new (carried_kept (from_over back) kept)
+  follows_before = record {
+    follow = comes;
+    asks = record { all = λ a x t isnt at is asks. absurd (false≢true (sym isnt ∙ after_it.asking a x t at is asks)); known = λ a asks. absurd (false≢true (sym (none_asks a) ∙ asks)) };
+    loses = record { all = λ a x t isnt at is lost. absurd (false≢true (sym isnt ∙ loses_marked a x t at is lost)); known = λ a lost. absurd (false≢true (sym (none_loses a) ∙ lost)) };
+    seeks = λ word. record { all = λ a x t isnt at is seek. seeks_noted word a x t isnt at is seek; known = sought_known word };
+  }
 
-pub goes_back : (s back : Shift) (touched bent removed : List Node) (v m n u w : Values) → IsSound s → opposite_of s ≡ Some back → AreProbed s (links_in v) bent → HasGathered touched bent v m
-    → ((a : Node) → has a (marks_in n) ≡ (has a (marks_in m) || loses_in v a)) → links_in n ≡ links_in v → kept_in n ≡ kept_in v → AreCarried back (links_in n) (marks_in n) (kept_in n) u
-    → ((a : Node) → has a (marks_in w) ≡ has a (marks_in u ++ removed)) → links_in w ≡ links_in u → kept_in w ≡ kept_in u → ((a : Node) → asks_in w a ≡ false) → ((a : Node) → loses_in w a ≡ false) → ((word : List ℕ) → AreMoved back (seeks_in v word) (seeks_in w word))
-    → FollowsBack s back touched removed v w
-goes_back s back touched bent removed v m n u w sound opposite probed gathered with_losing links kept carried with_removed same_links same_kept asks loses sought
+-- where more nodes are of both lists, some are among others still
+among_losing : (v : Values) (few many few_then many_then : List Node) → ((a : Node) → has a few_then ≡ (has a few || loses_in v a)) → ((a : Node) → has a many_then ≡ (has a many || loses_in v a)) → AreAmong few many → AreAmong few_then many_then
+among_losing v few many few_then many_then one two among a h = two a ∙ ⊎_elim
+    (λ (front : has a few ≡ true). or_left (has a many) (loses_in v a) (among a front))
+    (λ (lost : loses_in v a ≡ true). or_right (has a many) (loses_in v a) lost)
+    (or_cases (has a few) (loses_in v a) (sym (one a) ∙ h))
+
+-- what was gathered, taken along and removed, of the marks or of what is to be linked
+pub record GoBack (back : Shift) (v : Values) (touched bent removed old mid more gone new : List Node) : Type 0 where
+  pub gathered : HasGathered touched bent v old mid
+  pub losing : (a : Node) → has a more ≡ (has a mid || loses_in v a)
+  pub along : AreAlong back more gone
+  pub restored : (a : Node) → has a new ≡ has a (gone ++ removed)
+
+among_back : (back : Shift) (v : Values) (touched bent removed few mid more gone few_then many many_mid many_more many_gone many_then : List Node) → GoBack back v touched bent removed few mid more gone few_then
+    → GoBack back v touched bent removed many many_mid many_more many_gone many_then → AreAmong few many → AreAmong few_then many_then
+among_back back v touched bent removed few mid more gone few_then many many_mid many_more many_gone many_then one two among a h =
+    two.restored a
+    ∙ among_after gone many_gone removed
+    (among_along back more many_more gone many_gone one.along two.along.taken
+    (among_losing v mid many_mid more many_more one.losing two.losing (among_gathered v few many mid many_mid touched bent one.gathered two.gathered among))) a (sym (one.restored a) ∙ h)
+
+-- v before, m with what is gathered, n with what had lost a reference too, u gone back, and w with what had been removed
+pub goes_back : (s back : Shift) (touched bent removed : List Node) (v m n u w : Values) → IsSound s → opposite_of s ≡ Some back → AreProbed s (links_in v) bent
+    → GoBack back v touched bent removed (marks_in v) (marks_in m) (marks_in n) (marks_in u) (marks_in w) → GoBack back v touched bent removed (unlinked_in v) (unlinked_in m) (unlinked_in n) (unlinked_in u) (unlinked_in w)
+    → links_in n ≡ links_in v → kept_in n ≡ kept_in v → AreCarried back (links_in n) (kept_in n) (marks_in n) (unlinked_in n) u → links_in w ≡ links_in u → kept_in w ≡ kept_in u
+    → ((a : Node) → asks_in w a ≡ false) → ((a : Node) → loses_in w a ≡ false) → ((word : List ℕ) → AreMoved back (seeks_in v word) (seeks_in w word)) → FollowsBack s back touched removed v w
+goes_back s back touched bent removed v m n u w sound opposite probed marks unlinked links kept carried same_links same_kept asks loses sought
     b c words customs today inside over numbered has_touched touched_known are_removed removed_known follows =
-    follows_before s back b c words customs today v m n u w touched bent removed sound opposite inside over numbered has_touched touched_known are_removed removed_known follows probed gathered with_losing
-    (subst (λ (l : Links). AreCarried back l (marks_in n) (kept_in v) u) links (subst (λ (k : Kept). AreCarried back (links_in n) (marks_in n) k u) kept carried)) with_removed same_links same_kept asks loses sought
+    let shifted = subst (λ (l : Links). AreShifted back l (links_in w)) links (subst (λ (l : Links). AreShifted back (links_in n) l) (sym same_links) carried.links) in
+    let marked = (follows_before s back b c words customs today v w (marks_in v) (marks_in m) (marks_in n) (marks_in u) (marks_in w) touched bent removed (kept_in v) sound opposite inside over numbered has_touched touched_known are_removed removed_known
+    (marked_follow c words customs today v numbered follows) probed marks.gathered marks.losing shifted marks.along marks.restored asks loses sought).follow in
+    from_follow b words customs today w (carried_kept (from_over back) (all_right c words customs today))
+    (follows_before s back b c words customs today v w (unlinked_in v) (unlinked_in m) (unlinked_in n) (unlinked_in u) (unlinked_in w) touched bent removed (all_right c words customs today) sound opposite inside over numbered has_touched touched_known
+    are_removed removed_known (unlinked_follow c words customs today v numbered follows) probed unlinked.gathered unlinked.losing shifted unlinked.along unlinked.restored asks loses sought)
+    (among_back back v touched bent removed (unlinked_in v) (unlinked_in m) (unlinked_in n) (unlinked_in u) (unlinked_in w) (marks_in v) (marks_in m) (marks_in n) (marks_in u) (marks_in w) unlinked marks follows.among)
+    marked.known
+    (λ a apart plain. ap (λ (k : Kept). k a) same_kept ∙ carried.kept a plain ∙ ap (λ (k : Kept). carried_kept (from_over back) k a) kept ∙ marked.fit a apart plain)
 
 -- what a mark comes from
 abbrev Source : Shift → List Node → Values → Node → Type 0
 Source s touched v b = IsTrue (has b (marks_in v)) ⊎ (IsTrue (has b touched) ⊎ (IsProbedBy s (links_in v) b ⊎ ((asks_in v b ≡ true) ⊎ (loses_in v b ≡ true))))
 
 -- and what is marked then
-pub marks_back : (s back : Shift) (touched bent removed : List Node) (v m n u w : Values) → AreProbed s (links_in v) bent → HasGathered touched bent v m → ((a : Node) → has a (marks_in n) ≡ (has a (marks_in m) || loses_in v a))
-    → AreCarried back (links_in n) (marks_in n) (kept_in n) u → ((a : Node) → has a (marks_in w) ≡ has a (marks_in u ++ removed)) → MarksBack s back touched removed v w
-marks_back s back touched bent removed v m n u w probed gathered with_losing carried with_removed a h = ⊎_elim
-    (λ (old : has a (marks_in u) ≡ true). let (b, there, comes) = carried.from a old in inr (b, comes, cases b (or_cases (has b (marks_in m)) (loses_in v b) (sym (with_losing b) ∙ there))))
+pub marks_back : (s back : Shift) (touched bent removed : List Node) (v m n u w : Values) → AreProbed s (links_in v) bent → GoBack back v touched bent removed (marks_in v) (marks_in m) (marks_in n) (marks_in u) (marks_in w) → MarksBack s back touched removed v w
+marks_back s back touched bent removed v m n u w probed marks a h = ⊎_elim
+    (λ (old : has a (marks_in u) ≡ true). let (b, there, comes) = marks.along.from a old in inr (b, comes, cases b (or_cases (has b (marks_in m)) (loses_in v b) (sym (marks.losing b) ∙ there))))
     (λ (gone : has a removed ≡ true). inl gone)
-    (has-append_cases a (marks_in u) removed (sym (with_removed a) ∙ h))
+    (has-append_cases a (marks_in u) removed (sym (marks.restored a) ∙ h))
   where
     within : (b : Node) → IsTrue (has b (marks_in v)) ⊎ (IsTrue (has b touched) ⊎ (IsTrue (has b bent) ⊎ (asks_in v b ≡ true))) → Source s touched v b
     within b (inl mark) = inl mark
@@ -242,5 +263,5 @@ marks_back s back touched bent removed v m n u w probed gathered with_losing car
     within b (inr (inr (inr asks))) = inr (inr (inr (inl asks)))
 
     cases : (b : Node) → (has b (marks_in m) ≡ true) ⊎ (loses_in v b ≡ true) → Source s touched v b
-    cases b (inl there) = within b (gathered_cases v m touched bent gathered b there)
+    cases b (inl there) = within b (gathered_cases v (marks_in v) (marks_in m) touched bent marks.gathered b there)
     cases b (inr loses) = inr (inr (inr (inr loses)))

@@ -42,6 +42,10 @@ kept_in v = recalc.kept_in v.recalc
 abbrev pub marks_in : Values → List Node
 marks_in v = recalc.marks_in v.recalc
 
+-- the nodes that were marked since they were last linked
+abbrev pub unlinked_in : Values → List Node
+unlinked_in v = v.unlinked.keys
+
 -- how many cells were merged for summaries
 abbrev pub merged_in : Values → ℕ
 merged_in v = recalc.merged_in v.recalc
@@ -86,22 +90,29 @@ is_link_from b words c x = passes (λ t. is_link_of words b.names (sheet_of (hom
 abbrev pub is_link_at : Workbook → List (List ℕ) → Node → Node → Bool
 is_link_at b words a c = passes (is_link_from b words c) (node_at words a)
 
--- noted is each node that isn't marked and whose formula passes the test, and nothing but places and known names
-pub record AreNoted (test : book.Node → Term Corner → Bool) (b : Workbook) (words : List (List ℕ)) (marks : List Node) (noted : Node → Bool) : Type 0 where
-  pub all : (a : Node) (x : book.Node) (t : Term Corner) → has a marks ≡ false → node_at words a ≡ Some x → tree_at b x ≡ Some t → test x t ≡ true → noted a ≡ true
+-- noted is each node that isn't among these and whose formula passes the test, and nothing but places and known names
+pub record AreNoted (test : book.Node → Term Corner → Bool) (b : Workbook) (words : List (List ℕ)) (nodes : List Node) (noted : Node → Bool) : Type 0 where
+  pub all : (a : Node) (x : book.Node) (t : Term Corner) → has a nodes ≡ false → node_at words a ≡ Some x → tree_at b x ≡ Some t → test x t ≡ true → noted a ≡ true
   pub known : (a : Node) → noted a ≡ true → is_some (node_at words a) ≡ true
 
--- they follow the workbook: each node that isn't marked is linked to exactly what its formula is linked to, and noted to ask where a
--- reference is where its formula does, to have lost one where its formula has, and under each word of it that finds no name; what is
--- marked or so noted is a place or a known name; and what is kept of each place and each name that reaches no mark is its value
+-- they follow the workbook: each node but those that were marked since they were last linked is linked to exactly what its formula is
+-- linked to, and noted to ask where a reference is where its formula does, to have lost one where its formula has, and under each word
+-- of it that finds no name; what is to be linked is marked; what is marked or so noted is a place or a known name; and what is kept of
+-- each place and each name that reaches no mark is its value
 pub record Follows (b : Workbook) (words : List (List ℕ)) (customs : List (List ℕ × Rule)) (today : ℤ) (v : Values) : Type 0 where
-  pub linked : (a c : Node) → has a (marks_in v) ≡ false → has c (links_in v a) ≡ is_link_at b words a c
+  pub linked : (a c : Node) → has a (unlinked_in v) ≡ false → has c (links_in v a) ≡ is_link_at b words a c
   pub inside : AreLinksInside (links_in v)
-  pub asks : AreNoted (λ x. asks_place) b words (marks_in v) (asks_in v)
-  pub loses : AreNoted (λ x. has_lost) b words (marks_in v) (loses_in v)
-  pub seeks : (word : List ℕ) → AreNoted (seeks_at b word) b words (marks_in v) (seeks_in v word)
+  pub asks : AreNoted (λ x. asks_place) b words (unlinked_in v) (asks_in v)
+  pub loses : AreNoted (λ x. has_lost) b words (unlinked_in v) (loses_in v)
+  pub seeks : (word : List ℕ) → AreNoted (seeks_at b word) b words (unlinked_in v) (seeks_in v word)
+  pub among : (a : Node) → has a (unlinked_in v) ≡ true → has a (marks_in v) ≡ true
   pub known : (a : Node) → has a (marks_in v) ≡ true → is_some (node_at words a) ≡ true
   pub fit : FitsMarks b words customs today (marks_in v) (kept_in v)
+
+-- some of the nodes were noted, and no other one
+pub record AddsNoted (nodes : List Node) (before noted : Node → Bool) : Type 0 where
+  pub stay : (a : Node) → before a ≡ true → noted a ≡ true
+  pub only : (a : Node) → noted a ≡ true → (before a ≡ true) ⊎ (has a nodes ≡ true)
 
 -- some of the nodes were marked, and no other one
 pub record AreMarked (nodes old new : List Node) : Type 0 where

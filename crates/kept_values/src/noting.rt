@@ -5,8 +5,8 @@ ghost use Rattle.dep_graph.specs.declared.node.Node.{Node as NodeSeen};
 ghost use Rattle.marked_values.specs.Shifts.{asks_place};
 ghost use Rattle.restored_values.specs.Suspects.{has_lost};
 ghost use Rattle.kept_values.specs.Sought.{noted_under};
-ghost use Rattle.kept_values.specs.Values.{seeks_at};
-ghost use Rattle.kept_values.specs.internal.Noting.{AddsNoted, AreNotedAmong, IsNoted};
+ghost use Rattle.kept_values.specs.Values.{AddsNoted, seeks_at};
+ghost use Rattle.kept_values.specs.internal.Noting.{AreNotedAmong, IsNoted};
 
 use crate::asking::asks_place;
 use crate::seeking::note_sought;

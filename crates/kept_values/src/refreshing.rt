@@ -11,8 +11,6 @@ ghost use Rattle.recalc_core.specs.Nodes.{AreNumbered};
 ghost use Rattle.recalc_core.specs.Steps.{bare};
 ghost use Rattle.marked_values.specs.Marks.{IsBookInside};
 
-use crate::linking::link_all;
-use crate::noting::note_all;
 use crate::values::Values;
 use calc_eval::Customs;
 use cell_value::Scalar;
@@ -23,13 +21,14 @@ use std::sync::ledger::Ledger;
 use steps::Steps;
 
 impl Values {
-    ghost use Rattle.kept_values.specs.Values.{Follows, TakesSteps, asks_in, kept_in, links_in, loses_in, marks_in, seeks_in};
+    ghost use Rattle.kept_values.specs.Values.{Follows, TakesSteps, asks_in, kept_in, links_in, loses_in, marks_in, seeks_in, unlinked_in};
 
     /// Brings the values up to date with the workbook that they follow, with these custom functions, on the day of this serial
-    /// number: links the marked nodes, and works out all that reaches a mark, each node once.
+    /// number: links the nodes that were marked since they were last linked, and works out all that reaches a mark, each node once.
     ///
     /// Afterwards what is kept of every place and every name is its value, and there are no marks. For want of memory the
-    /// marks stay, and the values follow still. Costs the links of the marked nodes, and the steps of what reaches a mark.
+    /// marks stay, and the values follow still. Costs the links of the nodes that were marked since they were last linked, and the
+    /// steps of what reaches a mark.
     pub fn refresh<T: Trees, C: Customs, L: Ledger>(
         &mut self,
         trees: &mut T,
@@ -50,18 +49,7 @@ impl Values {
         ensures words { T.words trees.new ≡ T.words trees.old }
         ensures reads { T.leaves trees.old trees.new }
     {
-        link_all(
-            self.alloc,
-            &mut self.graph,
-            trees,
-            self.recalc.marks().items(),
-        )?;
-        note_all(
-            self.alloc,
-            trees,
-            self.recalc.marks().items(),
-            &mut self.noted,
-        )?;
+        self.link(trees)?;
         self.recalc
             .recalculate(&self.graph, trees, customs, day, steps)
     }
@@ -85,6 +73,7 @@ impl Values {
         ensures seeking { seeks_in self.new ≡ seeks_in self.old }
         ensures kept { kept_in self.new ≡ kept_in self.old }
         ensures marks { marks_in self.new ≡ marks_in self.old }
+        ensures unlinked { unlinked_in self.new ≡ unlinked_in self.old }
         ensures least { steps.old ≤ steps.new }
         ensures most { steps.new ≤ steps.old + cost (bare (T.workbook trees.old).names) (sheet_of home) (at_home home (relative tree.now.value)) }
         ensures leaves { T.workbook trees.new ≡ T.workbook trees.old }

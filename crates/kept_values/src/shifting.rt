@@ -1,5 +1,5 @@
 // Values that are taken along with a structural operation.
-ghost use Rattle.std.specs.Prelude.{◌≡◌, ℕ, false, IfOk, List, OnOk};
+ghost use Rattle.std.specs.Prelude.{◌≡◌, ℕ, [], false, IfOk, List, OnOk};
 ghost use Rattle.shift_core.specs.Sound.{IsSound};
 ghost use Rattle.dep_graph.specs.Nodes.{has};
 ghost use Rattle.dep_graph.specs.Shifted.{node_after};
@@ -21,14 +21,14 @@ use std::mem;
 
 impl Values {
     ghost use Rattle.kept_values.specs.Shifted.{FollowsOver, MarksOver};
-    ghost use Rattle.kept_values.specs.Values.{asks_in, kept_in as kept_of, links_in, loses_in, marks_in as marks_of, seeks_in};
+    ghost use Rattle.kept_values.specs.Values.{asks_in, kept_in as kept_of, links_in, loses_in, marks_in as marks_of, seeks_in, unlinked_in};
     ghost use Rattle.kept_values.specs.internal.TakenAlong.{AreCarried, HasGathered};
 
     /// Takes the values along with a structural operation: links and values go along with their nodes, so that they follow the
     /// workbook after it where they followed the one before it. Marked are then the nodes that were, those whose formulas the
     /// operation bends or that ask where a reference is, and what is touched: each filled cell of a block that the operation moves
-    /// and of where that goes, and each name of a dropped sheet. A formula that had lost a reference, or uses a word that finds no
-    /// name, is noted to where it goes, and needn't be marked.
+    /// and of where that goes, and each name of a dropped sheet. What was marked before but linked since needn't be linked once more.
+    /// A formula that had lost a reference, or uses a word that finds no name, is noted to where it goes, and needn't be marked.
     ///
     /// For want of memory only a part goes along, and the values are of no more use. Costs what
     /// [`Graph::bent`](dep_graph::Graph::bent), [`Graph::shift`](dep_graph::Graph::shift) and [`Recalc::shift`] do, and a look-up
@@ -48,7 +48,8 @@ impl Values {
 
     // Marks what is touched, what is bent and what asks where a reference is, of which none is noted any more.
     pub(crate) fn gather(&mut self, touched: &[Node], bent: &[Node]) -> Result<(), AllocError>
-        ensures marks { OnOk result (HasGathered touched.now bent.now self.old self.new) }
+        ensures marks { OnOk result (HasGathered touched.now bent.now self.old (marks_of self.old) (marks_of self.new)) }
+        ensures unlinked { OnOk result (HasGathered touched.now bent.now self.old (unlinked_in self.old) (unlinked_in self.new)) }
         ensures asking { OnOk result ((a : NodeSeen) → asks_in self.new a ≡ false) }
         ensures losing { loses_in self.new ≡ loses_in self.old }
         ensures seeking { seeks_in self.new ≡ seeks_in self.old }
@@ -70,6 +71,7 @@ impl Values {
         ensures links { links_in self.new ≡ links_in self.old }
         ensures kept { kept_of self.new ≡ kept_of self.old }
         ensures marks { marks_of self.new ≡ marks_of self.old }
+        ensures unlinked { unlinked_in self.new ≡ unlinked_in self.old }
     {
         self.noted.losing = moved_nodes(self.alloc, s, self.noted.losing.as_slice())?;
         Ok(())
@@ -84,19 +86,21 @@ impl Values {
         ensures links { links_in self.new ≡ links_in self.old }
         ensures kept { kept_of self.new ≡ kept_of self.old }
         ensures marks { marks_of self.new ≡ marks_of self.old }
+        ensures unlinked { unlinked_in self.new ≡ unlinked_in self.old }
     {
         move_words(self.alloc, s, &mut self.noted.seeking)
     }
 
-    // Takes links, values and marks along with the operation; for want of memory only some of them.
+    // Takes links, values, marks and what is to be linked along with the operation; for want of memory only some of them.
     pub(crate) fn carry(&mut self, s: &Shift) -> Result<(), AllocError>
         requires { IsSound s.now }
-        ensures carried { OnOk result (AreCarried s.now (links_in self.old) (marks_of self.old) (kept_of self.old) self.new) }
+        ensures carried { OnOk result (AreCarried s.now (links_in self.old) (kept_of self.old) (marks_of self.old) (unlinked_in self.old) self.new) }
         ensures asking { asks_in self.new ≡ asks_in self.old }
         ensures losing { loses_in self.new ≡ loses_in self.old }
         ensures seeking { seeks_in self.new ≡ seeks_in self.old }
     {
         let marked = Vec::from_slice(self.alloc, self.recalc.marks().items())?;
+        self.unlinked = nodes_along(self.alloc, s, self.unlinked.as_slice())?;
         self.graph.shift(s)?;
         self.recalc.shift(s)?;
         take_all_along(&mut self.recalc, s, &marked)
@@ -127,6 +131,27 @@ fn add_some(a: Option<Node>, nodes: &mut IndexSet<Node>) -> Result<(), AllocErro
         nodes.insert(node)?;
     }
     Ok(())
+}
+
+// The nodes where the operation takes them, and each cell of a moved block where it was too.
+fn nodes_along(alloc: Global, s: &Shift, nodes: &[Node]) -> Result<IndexSet<Node>, AllocError>
+    requires { IsSound s.now }
+    ensures { IfOk result (λ along. AddsTaken s.now nodes.now [] along.keys) }
+{
+    let mut along = IndexSet::new(alloc);
+    'nodes: for node in nodes {
+        add_along(s, *node, &mut along)?;
+    }
+    Ok(along)
+}
+
+// Adds the node so.
+fn add_along(s: &Shift, a: Node, along: &mut IndexSet<Node>) -> Result<(), AllocError>
+    requires { IsSound s.now }
+    ensures { OnOk result (along.new.keys ≡ with_taken s.now a along.old.keys) }
+{
+    add_some(moved_node(s, a), along)?;
+    add_some(moved_cell(s, a), along)
 }
 
 // Marks each of the nodes where the operation takes it, and a cell of a moved block where it was too.

@@ -18,14 +18,14 @@ use std::mem;
 
 impl Values {
     ghost use Rattle.kept_values.specs.Shifted.{FollowsBack, MarksBack};
-    ghost use Rattle.kept_values.specs.Values.{asks_in, kept_in, links_in, loses_in, marks_in, seeks_in};
+    ghost use Rattle.kept_values.specs.Values.{asks_in, kept_in, links_in, loses_in, marks_in, seeks_in, unlinked_in};
     ghost use Rattle.kept_values.specs.internal.TakenAlong.{AreProbed};
 
     /// Takes the values back along a structural operation, which its opposite takes back: links and values go back with their
     /// nodes, so that they follow the workbook before it where they followed the one after it. Marked are then the nodes that
     /// were, those whose formulas the operation's probe bends, or that ask where a reference is or have lost one, and what is
     /// touched: each filled cell of a block that goes back and of where that goes; and the cells that the operation had removed,
-    /// which come back.
+    /// which come back. What was marked before but linked since needn't be linked once more.
     ///
     /// For want of memory only a part goes back, and the values are of no more use. Costs what [`Values::shift`] does, and a
     /// look-up or two for each removed cell and for each formula that has lost a reference, all of which are marked then.
@@ -63,6 +63,7 @@ impl Values {
     // Marks what has lost a reference, of which none is noted any more.
     fn gather_losing(&mut self) -> Result<(), AllocError>
         ensures marks { OnOk result ((a : NodeSeen) → has a (marks_in self.new) ≡ (has a (marks_in self.old) || loses_in self.old a)) }
+        ensures unlinked { OnOk result ((a : NodeSeen) → has a (unlinked_in self.new) ≡ (has a (unlinked_in self.old) || loses_in self.old a)) }
         ensures losing { OnOk result ((a : NodeSeen) → loses_in self.new a ≡ false) }
         ensures asking { asks_in self.new ≡ asks_in self.old }
         ensures seeking { seeks_in self.new ≡ seeks_in self.old }
@@ -78,6 +79,7 @@ impl Values {
     /// more use. Costs a look-up of the word, and one for each of these nodes.
     pub fn mark_seeking(&mut self, word: &str) -> Result<(), AllocError>
         ensures marks { OnOk result ((a : NodeSeen) → has a (marks_in self.new) ≡ (has a (marks_in self.old) || seeks_in self.old word.now a)) }
+        ensures unlinked { OnOk result ((a : NodeSeen) → has a (unlinked_in self.new) ≡ (has a (unlinked_in self.old) || seeks_in self.old word.now a)) }
         ensures seeking { OnOk result ((other : List ℕ) (a : NodeSeen) → seeks_in self.new other a ≡ (if same_name word.now other then false else seeks_in self.old other a)) }
         ensures asking { asks_in self.new ≡ asks_in self.old }
         ensures losing { loses_in self.new ≡ loses_in self.old }

@@ -20,7 +20,7 @@ use Rattle.name_table.specs.Named.{words_of}
 use Rattle.book_cells.specs.Workbook.{Content}
 use Rattle.book_model.specs.Answers.{valued}
 use Rattle.book_model.specs.Workbook.{State}
-use Rattle.recalc_core.specs.Kept.{stands}
+use Rattle.recalc_core.specs.Kept.{Kept, stands}
 use Rattle.recalc_core.specs.Laws.{AreKnown, KeepNumbers}
 use Rattle.recalc_core.specs.Nodes.{AreNumbered, name_at, node_at}
 use Rattle.recalc_core.proofs.Bridge.{none_some, same_some}
@@ -32,11 +32,11 @@ use Rattle.marked_values.proofs.Alone.{cells_alone}
 use Rattle.marked_values.proofs.Changed.{changes_follow}
 use Rattle.marked_values.proofs.Fitting.{more_marks}
 use Rattle.marked_values.proofs.Linked.{all_marked}
-use Rattle.kept_values.proofs.Following.{from_follow, there, to_follow}
-use Rattle.kept_values.specs.Values.{AreNoted, Follows, asks_in, kept_in, links_in, loses_in, marks_in, seeks, seeks_at, seeks_in}
+use Rattle.kept_values.proofs.Following.{AreAmong, FollowsBut, follow_over, from_follow, there}
+use Rattle.kept_values.specs.Values.{AreNoted, Follows, asks_in, kept_in, links_in, loses_in, marks_in, seeks, seeks_at, seeks_in, unlinked_in}
 use Rattle.kept_values.specs.declared.values.Values.{Values}
 use Rattle.session_values.specs.Following.{CellsFollow, FollowsIn, ReadsFollow, book_of, words_in}
-use Rattle.session_values.specs.Touched.{IsTouched}
+use Rattle.session_values.specs.Touched.{IsMarkedIn, IsTouched}
 
 -- words that keep their numbers keep the nodes of names
 pub keep_numbers : (words more : List (List ℕ)) → IsMore words more → KeepNumbers words more
@@ -66,14 +66,52 @@ module _ (b c : Workbook) (words more : List (List ℕ)) (customs : List (List �
       let (a, known) = numbered.all key (ap is_some (ap (λ ns. tree_in ns key) names ∙ is)) in
       subst (λ n. node_at words n ≡ Some (book.name key)) (one_node more a (Name scope number) (book.name key) now.once (numbers a (book.name key) known) at) known
 
-  touched : (places : Place → Bool) (v w : Values) → IsTouched places v w → ((q : Place) → ¬ IsTrue (has (Cell q) (marks_in w)) → fin.get b.cells q ≡ fin.get c.cells q) → Follows b words customs today v → Follows c more customs today w
+  -- but for some nodes before, and for more of them after it, so it is where cells alone are others that are among these
+  module _ (places : Place → Bool) (v w : Values) (old new : List Node) (kept : Kept) (touch : IsTouched places v w) (stay : (a : Node) → IsTrue (has a old) → IsTrue (has a new)) (known : AreKnown more new)
+      (cells : (q : Place) → ¬ IsTrue (has (Cell q) new) → fin.get b.cells q ≡ fin.get c.cells q) (follows : FollowsBut b words customs today v old kept) where
+    joined : (a : Node) → IsTrue (has a (old ++ new)) → IsTrue (has a new)
+    joined a h = ⊎_elim (λ (was : has a old ≡ true). stay a was) (λ (is : has a new ≡ true). is) (has-append_cases a old new h)
+
+    free : (a : Node) → has a new ≡ false → has a old ≡ false
+    free a isnt = ⊎_elim (λ (was : has a old ≡ true). absurd (false≢true (sym isnt ∙ stay a was))) (λ (out : has a old ≡ false). out) (cases_Bool (has a old))
+
+    same_tree : (a : Node) (x : book.Node) → has a new ≡ false → node_at more a ≡ Some x → tree_at c x ≡ tree_at b x
+    same_tree (Cell p) (book.place q) isnt at =
+        let one : p ≡ q = same_place_in p q (same_some _ _ at) in
+        sym (ap content_tree (subst (λ r. fin.get b.cells r ≡ fin.get c.cells r) one (cells p (λ h. false≢true (sym isnt ∙ h)))))
+      where
+        same_place_in : (r s : Place) → book.place r ≡ book.place s → r ≡ s
+        same_place_in r s h = cc
+    same_tree a (book.name key) isnt at = ap (λ ns. tree_in ns key) (sym names)
+    same_tree (Name scope number) (book.place q) isnt at = absurd (no_place (slice_get more number) at)
+      where
+        no_place : (o : Option (List ℕ)) → name_at scope o ≡ Some (book.place q) → ⊥
+        no_place None e = none_some (book.place q) e
+        no_place (Some word) e = let h = same_some _ _ e in cc
+    same_tree (Range r) (book.place q) isnt at = absurd (none_some (book.place q) at)
+
+    noted : (first test : book.Node → Term Corner → Bool) → ((x : book.Node) (t : Term Corner) → test x t ≡ true → first x t ≡ true) → (was now : Node → Bool) → now ≡ was → AreNoted first b words old was → AreNoted test c more new now
+    noted first test as_before was now same before = record {
+      all = λ a x t isnt at is passes. ap (λ f. f a) same ∙ before.all a x t (free a isnt) (was_known a x t at is) (sym (same_tree a x isnt at) ∙ is) (as_before x t passes);
+      known = λ a h. let (x, at) = there (node_at words a) (before.known a (sym (ap (λ f. f a) same) ∙ h)) in ap is_some (numbers a x at);
+    }
+
+    touched_but : FollowsBut c more customs today w new kept
+    touched_but = record {
+      follow = subst (λ links. Follow c more customs today links new kept) (sym touch.links)
+          (more_marks c more customs today (links_in v) (old ++ new) new kept
+          (changes_follow b c words more customs today (links_in v) old new kept follows.follow numbers now (cells_alone b c more new names cells) known)
+          joined known);
+      asks = noted (λ x. asks_place) (λ x. asks_place) (λ x t h. h) (asks_in v) (asks_in w) touch.asking follows.asks;
+      loses = noted (λ x. has_lost) (λ x. has_lost) (λ x t h. h) (loses_in v) (loses_in w) touch.losing follows.loses;
+      seeks = λ word. noted (seeks_at b word) (seeks_at c word) (λ x t h. ap (λ ns. seeks ns (sheet_of (home_of x)) word t) names ∙ h) (seeks_in v word) (seeks_in w word) (ap (λ (f : List ℕ → Node → Bool). f word) touch.seeking) (follows.seeks word);
+    }
+
+  touched : (places : Place → Bool) (v w : Values) → IsTouched places v w → ((q : Place) → (IsMarkedIn (Some w) q → ⊥) → fin.get b.cells q ≡ fin.get c.cells q) → Follows b words customs today v → Follows c more customs today w
   touched places v w touch cells follows =
-      from_follow c more customs today w (subst (λ links. Follow c more customs today links (marks_in w) (kept_in w)) (sym touch.links)
-      (subst (λ kept. Follow c more customs today (links_in v) (marks_in w) kept) (sym touch.kept)
-      (more_marks c more customs today (links_in v) (marks_in v ++ marks_in w) (marks_in w) (kept_in v)
-      (changes_follow b c words more customs today (links_in v) (marks_in v) (marks_in w) (kept_in v) (to_follow b words customs today v numbered follows) numbers now (cells_alone b c more (marks_in w) names cells) known)
-      stay known))) (noted (λ x. asks_place) (λ x. asks_place) (λ x t h. h) (asks_in v) (asks_in w) touch.asking follows.asks) (noted (λ x. has_lost) (λ x. has_lost) (λ x t h. h) (loses_in v) (loses_in w) touch.losing follows.loses)
-      (λ word. noted (seeks_at b word) (seeks_at c word) (λ x t h. ap (λ ns. seeks ns (sheet_of (home_of x)) word t) names ∙ h) (seeks_in v word) (seeks_in w word) (ap (λ (f : List ℕ → Node → Bool). f word) touch.seeking) (follows.seeks word))
+      follow_over b c words more customs today v w numbered touch.kept among
+      (λ kept but. touched_but places v w (marks_in v) (marks_in w) kept touch touch.stay known (λ q out. cells q (λ both. out both.0)) but)
+      (λ kept but. touched_but places v w (unlinked_in v) (unlinked_in w) kept touch touch.linking (λ a h. known a (among follows.among a h)) (λ q out. cells q (λ both. out both.1)) but) follows
     where
       known : AreKnown more (marks_in w)
       known a h = ⊎_elim
@@ -81,32 +119,8 @@ module _ (b c : Workbook) (words more : List (List ℕ)) (customs : List (List �
           (λ (p, is, listed). (book.place p, ap (node_at more) is))
           (touch.only a h)
 
-      stay : (a : Node) → IsTrue (has a (marks_in v ++ marks_in w)) → IsTrue (has a (marks_in w))
-      stay a h = ⊎_elim (λ (old : has a (marks_in v) ≡ true). touch.stay a old) (λ (new : has a (marks_in w) ≡ true). new) (has-append_cases a (marks_in v) (marks_in w) h)
-
-      free : (a : Node) → has a (marks_in w) ≡ false → has a (marks_in v) ≡ false
-      free a isnt = ⊎_elim (λ (marked : has a (marks_in v) ≡ true). absurd (false≢true (sym isnt ∙ touch.stay a marked))) (λ (is : has a (marks_in v) ≡ false). is) (cases_Bool (has a (marks_in v)))
-
-      same_tree : (a : Node) (x : book.Node) → has a (marks_in w) ≡ false → node_at more a ≡ Some x → tree_at c x ≡ tree_at b x
-      same_tree (Cell p) (book.place q) isnt at =
-          let one : p ≡ q = same_place_in p q (same_some _ _ at) in
-          sym (ap content_tree (subst (λ r. fin.get b.cells r ≡ fin.get c.cells r) one (cells p (λ h. false≢true (sym isnt ∙ h)))))
-        where
-          same_place_in : (r s : Place) → book.place r ≡ book.place s → r ≡ s
-          same_place_in r s h = cc
-      same_tree a (book.name key) isnt at = ap (λ ns. tree_in ns key) (sym names)
-      same_tree (Name scope number) (book.place q) isnt at = absurd (no_place (slice_get more number) at)
-        where
-          no_place : (o : Option (List ℕ)) → name_at scope o ≡ Some (book.place q) → ⊥
-          no_place None e = none_some (book.place q) e
-          no_place (Some word) e = let h = same_some _ _ e in cc
-      same_tree (Range r) (book.place q) isnt at = absurd (none_some (book.place q) at)
-
-      noted : (first test : book.Node → Term Corner → Bool) → ((x : book.Node) (t : Term Corner) → test x t ≡ true → first x t ≡ true) → (was now : Node → Bool) → now ≡ was → AreNoted first b words (marks_in v) was → AreNoted test c more (marks_in w) now
-      noted first test as_before was now same before = record {
-        all = λ a x t isnt at is passes. ap (λ f. f a) same ∙ before.all a x t (free a isnt) (was_known a x t at is) (sym (same_tree a x isnt at) ∙ is) (as_before x t passes);
-        known = λ a h. let (x, at) = there (node_at words a) (before.known a (sym (ap (λ f. f a) same) ∙ h)) in ap is_some (numbers a x at);
-      }
+      among : AreAmong (unlinked_in v) (marks_in v) → AreAmong (unlinked_in w) (marks_in w)
+      among was a h = ⊎_elim (λ (old : IsTrue (has a (unlinked_in v))). touch.stay a (was a old)) (λ (new : IsTrue (has a (marks_in w))). new) (touch.among a h)
 
 pub cells_follow : CellsFollow
 cells_follow b c words more customs today places v None numbered now keeps touch names cells follows = tt
@@ -123,12 +137,21 @@ reads_follow s t customs today values reads follows =
 
 -- where nothing is linked and kept, and all that stands is marked
 pub all_follow : (b : Workbook) (words : List (List ℕ)) (customs : List (List ℕ × Rule)) (today : ℤ) (v : Values) (nodes : List Node) → AreNumbered words b.names → ((a : Node) → links_in v a ≡ []) → ((a : Node) → kept_in v a ≡ None) → ((a : Node) → asks_in v a ≡ false) → ((a : Node) → loses_in v a ≡ false) → ((word : List ℕ) (a : Node) → seeks_in v word a ≡ false)
-    → ((a : Node) → has a (marks_in v) ≡ has a ([] ++ nodes)) → ((a : Node) (x : book.Node) → node_at words a ≡ Some x → stands b x ≡ true → IsTrue (has a nodes)) → AreKnown words nodes → Follows b words customs today v
-all_follow b words customs today v nodes numbered links kept asking losing seeking marks all known =
-    from_follow b words customs today v
-    (all_marked b words customs today (links_in v) (marks_in v) (kept_in v) numbered links kept (λ a x at standing. marks a ∙ all a x at standing) (λ a h. known a (sym (marks a) ∙ h)))
-    (none_noted (λ x. asks_place) (asks_in v) asking) (none_noted (λ x. has_lost) (loses_in v) losing) (λ word. none_noted (seeks_at b word) (seeks_in v word) (seeking word))
+    → ((a : Node) → has a (marks_in v) ≡ has a ([] ++ nodes)) → ((a : Node) → has a (unlinked_in v) ≡ has a ([] ++ nodes)) → ((a : Node) (x : book.Node) → node_at words a ≡ Some x → stands b x ≡ true → IsTrue (has a nodes)) → AreKnown words nodes → Follows b words customs today v
+all_follow b words customs today v nodes numbered links kept asking losing seeking marks unlinked all known =
+    let marked = follow (marks_in v) marks in
+    from_follow b words customs today v (kept_in v)
+    (record {
+      follow = follow (unlinked_in v) unlinked;
+      asks = none_noted (λ x. asks_place) (asks_in v) asking;
+      loses = none_noted (λ x. has_lost) (loses_in v) losing;
+      seeks = λ word. none_noted (seeks_at b word) (seeks_in v word) (seeking word);
+    })
+    (λ a h. marks a ∙ sym (unlinked a) ∙ h) marked.known marked.fit
   where
+    follow : (ns : List Node) → ((a : Node) → has a ns ≡ has a ([] ++ nodes)) → Follow b words customs today (links_in v) ns (kept_in v)
+    follow ns are = all_marked b words customs today (links_in v) ns (kept_in v) numbered links kept (λ a x at standing. are a ∙ all a x at standing) (λ a h. known a (sym (are a) ∙ h))
+
     has_tree : (x : book.Node) (t : Term Corner) → tree_at b x ≡ Some t → stands b x ≡ true
     has_tree (book.place p) t is = by (fin.get b.cells p) refl is
       where
@@ -137,8 +160,8 @@ all_follow b words customs today v nodes numbered links kept asking losing seeki
         by (Some content) e h = ap is_some e
     has_tree (book.name key) t is = ap is_some is
 
-    none_noted : (test : book.Node → Term Corner → Bool) (noted : Node → Bool) → ((a : Node) → noted a ≡ false) → AreNoted test b words (marks_in v) noted
+    none_noted : (test : book.Node → Term Corner → Bool) (noted : Node → Bool) → ((a : Node) → noted a ≡ false) → AreNoted test b words (unlinked_in v) noted
     none_noted test noted none = record {
-      all = λ a x t isnt at is passes. absurd (false≢true (sym isnt ∙ marks a ∙ all a x at (has_tree x t is)));
+      all = λ a x t isnt at is passes. absurd (false≢true (sym isnt ∙ unlinked a ∙ all a x at (has_tree x t is)));
       known = λ a h. absurd (false≢true (sym (none a) ∙ h));
     }

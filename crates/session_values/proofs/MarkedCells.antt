@@ -17,14 +17,15 @@ use Rattle.kept_book.specs.Change.{Change, places_of}
 use Rattle.kept_book.specs.Kept.{change_of, changes_of}
 use Rattle.kept_book.specs.declared.part.Part.{Part}
 use Rattle.kept_steps.specs.Turned.{AreOfCells, IsOfCells, is_listed}
-use Rattle.kept_values.specs.Values.{asks_in, kept_in, links_in, loses_in, marks_in, seeks_in}
+use Rattle.kept_values.specs.Values.{asks_in, kept_in, links_in, loses_in, marks_in, seeks_in, unlinked_in}
 use Rattle.kept_values.specs.declared.values.Values.{Values}
 use Rattle.session_values.specs.internal.Marked.{AreMade}
 use Rattle.session_values.specs.Touched.{AreMarkedIn, AreTouched, AreTouchedAtMost, IsMarkedIn, IsStepMarked, IsTouched, is_place_of}
 
 pub cell_touched : {X E : Type 0} (r : Result X E) (v w : Values) (p : Place) → links_in w ≡ links_in v → asks_in w ≡ asks_in v → loses_in w ≡ loses_in v → seeks_in w ≡ seeks_in v → kept_in w ≡ kept_in v
-    → OnOk r ((c : Node) → has c (marks_in w) ≡ has c (marks_in v ++ Cell p ∷ [])) → OnErr r (marks_in w ≡ marks_in v) → IsTouched (same_place p) v w
-cell_touched (Ok x) v w p links asking losing seeking kept marked same = record {
+    → OnOk r ((c : Node) → has c (marks_in w) ≡ has c (marks_in v ++ Cell p ∷ [])) → OnErr r (marks_in w ≡ marks_in v) → OnOk r ((c : Node) → has c (unlinked_in w) ≡ has c (unlinked_in v ++ Cell p ∷ [])) → OnErr r (unlinked_in w ≡ unlinked_in v)
+    → IsTouched (same_place p) v w
+cell_touched (Ok x) v w p links asking losing seeking kept marked same unlinked left = record {
   links = links;
   asking = asking;
   losing = losing;
@@ -33,8 +34,11 @@ cell_touched (Ok x) v w p links asking losing seeking kept marked same = record 
   stay = λ a h. marked a ∙ has-append_left a (marks_in v) (Cell p ∷ []) h;
   only = λ a h. ⊎_elim (λ (before : has a (marks_in v) ≡ true). inl before) (λ (here : has a (Cell p ∷ []) ≡ true). inr (p, has_one a (Cell p) here, same_place-self p))
       (has-append_cases a (marks_in v) (Cell p ∷ []) (sym (marked a) ∙ h));
+  linking = λ a h. unlinked a ∙ has-append_left a (unlinked_in v) (Cell p ∷ []) h;
+  among = λ a h. ⊎_elim (λ (before : has a (unlinked_in v) ≡ true). inl before) (λ (here : has a (Cell p ∷ []) ≡ true). inr (marked a ∙ has-append_right a (marks_in v) (Cell p ∷ []) here))
+      (has-append_cases a (unlinked_in v) (Cell p ∷ []) (sym (unlinked a) ∙ h));
 }
-cell_touched (Err e) v w p links asking losing seeking kept marked same = record {
+cell_touched (Err e) v w p links asking losing seeking kept marked same unlinked left = record {
   links = links;
   asking = asking;
   losing = losing;
@@ -42,20 +46,26 @@ cell_touched (Err e) v w p links asking losing seeking kept marked same = record
   kept = kept;
   stay = λ a h. subst (λ (ns : List Node). IsTrue (has a ns)) (sym same) h;
   only = λ a h. inl (subst (λ (ns : List Node). IsTrue (has a ns)) same h);
+  linking = λ a h. subst (λ (ns : List Node). IsTrue (has a ns)) (sym left) h;
+  among = λ a h. inl (subst (λ (ns : List Node). IsTrue (has a ns)) left h);
 }
 
-pub cell_marked : {X E : Type 0} (r : Result X E) (v w : Values) (p : Place) → OnOk r ((c : Node) → has c (marks_in w) ≡ has c (marks_in v ++ Cell p ∷ [])) → OnOk r (IsMarkedIn (Some w) p)
-cell_marked (Ok x) v w p marked = marked (Cell p) ∙ has-append_right (Cell p) (marks_in v) (Cell p ∷ []) (has_first (Cell p) [])
-cell_marked (Err e) v w p marked = tt
+pub cell_marked : {X E : Type 0} (r : Result X E) (v w : Values) (p : Place) → OnOk r ((c : Node) → has c (marks_in w) ≡ has c (marks_in v ++ Cell p ∷ [])) → OnOk r ((c : Node) → has c (unlinked_in w) ≡ has c (unlinked_in v ++ Cell p ∷ []))
+    → OnOk r (IsMarkedIn (Some w) p)
+cell_marked (Ok x) v w p marked unlinked = (
+  marked (Cell p) ∙ has-append_right (Cell p) (marks_in v) (Cell p ∷ []) (has_first (Cell p) []),
+  unlinked (Cell p) ∙ has-append_right (Cell p) (unlinked_in v) (Cell p ∷ []) (has_first (Cell p) []),
+)
+cell_marked (Err e) v w p marked unlinked = tt
 
 -- nothing is touched
 pub untouched : (places : Place → Bool) (v : Option Values) → AreTouched places v v
 untouched places None = tt
-untouched places (Some v) = record { links = refl; asking = refl; losing = refl; seeking = refl; kept = refl; stay = λ a h. h; only = λ a h. inl h }
+untouched places (Some v) = record { links = refl; asking = refl; losing = refl; seeking = refl; kept = refl; stay = λ a h. h; only = λ a h. inl h; linking = λ a h. h; among = λ a h. inl h }
 
 -- nothing was touched where all is the same
-pub same_touched : (places : Place → Bool) (v w : Values) → links_in w ≡ links_in v → asks_in w ≡ asks_in v → loses_in w ≡ loses_in v → seeks_in w ≡ seeks_in v → kept_in w ≡ kept_in v → marks_in w ≡ marks_in v → IsTouched places v w
-same_touched places v w links asking losing seeking kept marks = record {
+pub same_touched : (places : Place → Bool) (v w : Values) → links_in w ≡ links_in v → asks_in w ≡ asks_in v → loses_in w ≡ loses_in v → seeks_in w ≡ seeks_in v → kept_in w ≡ kept_in v → marks_in w ≡ marks_in v → unlinked_in w ≡ unlinked_in v → IsTouched places v w
+same_touched places v w links asking losing seeking kept marks unlinked = record {
   links = links;
   asking = asking;
   losing = losing;
@@ -63,6 +73,8 @@ same_touched places v w links asking losing seeking kept marks = record {
   kept = kept;
   stay = λ a h. subst (λ (ns : List Node). IsTrue (has a ns)) (sym marks) h;
   only = λ a h. inl (subst (λ (ns : List Node). IsTrue (has a ns)) marks h);
+  linking = λ a h. subst (λ (ns : List Node). IsTrue (has a ns)) (sym unlinked) h;
+  among = λ a h. inl (subst (λ (ns : List Node). IsTrue (has a ns)) unlinked h);
 }
 
 -- what was touched twice was touched
@@ -79,6 +91,11 @@ touched_on places (Some u) (Some v) (Some w) first next = record {
   kept = next.kept ∙ first.kept;
   stay = λ a h. next.stay a (first.stay a h);
   only = λ a h. ⊎_elim (λ (before : has a (marks_in v) ≡ true). first.only a before) (λ here. inr here) (next.only a h);
+  linking = λ a h. next.linking a (first.linking a h);
+  among = λ a h. ⊎_elim
+      (λ (before : has a (unlinked_in v) ≡ true). ⊎_elim (λ (old : has a (unlinked_in u) ≡ true). inl old) (λ (mark : has a (marks_in v) ≡ true). inr (next.stay a mark)) (first.among a before))
+      (λ (here : has a (marks_in w) ≡ true). inr here)
+      (next.among a h);
 }
 
 -- and so where it was touched in more places
@@ -94,6 +111,8 @@ touched_within few many (Some v) (Some w) within touched = record {
   kept = touched.kept;
   stay = touched.stay;
   only = λ a h. ⊎_elim (λ (before : has a (marks_in v) ≡ true). inl before) (λ (p, is, there). inr (p, is, within p there)) (touched.only a h);
+  linking = touched.linking;
+  among = touched.among;
 }
 
 pub at_most : (places : Place → Bool) (v w : Option Values) → AreTouched places v w → AreTouchedAtMost places v w
@@ -104,7 +123,7 @@ at_most places v (Some w) touched = touched
 pub marked_on : (places : Place → Bool) (v w : Option Values) (p : Place) → AreTouchedAtMost places v w → IsMarkedIn v p → IsMarkedIn w p
 marked_on places v None p touched marked = tt
 marked_on places None (Some w) p touched marked = absurd touched
-marked_on places (Some v) (Some w) p touched marked = touched.stay (Cell p) marked
+marked_on places (Some v) (Some w) p touched marked = (touched.stay (Cell p) marked.0, touched.linking (Cell p) marked.1)
 
 -- one more item is marked
 module _ {X : Type 0} (place : X → Place) (items : List X) (i : ℕ) (d : X) (low : i < length items) where

@@ -33,6 +33,7 @@ use Rattle.dep_graph.proofs.Places.{has-append_cases, has-append_left, has-appen
 use Rattle.kept_book.specs.Kept.{IsMore}
 use Rattle.kept_steps.specs.declared.session.Session.{Session}
 use Rattle.recalc_core.specs.Edits.{DifferInName, UsesWord}
+use Rattle.recalc_core.specs.Kept.{Kept}
 use Rattle.recalc_core.specs.Links.{IsLinkOf}
 use Rattle.recalc_core.specs.Laws.{AreKnown, KeepNumbers}
 use Rattle.recalc_core.specs.Nodes.{AreNumbered, name_at, node_at}
@@ -45,14 +46,15 @@ use Rattle.marked_values.proofs.Finding.{added_is_found, changed_is_found_alike,
 use Rattle.marked_values.proofs.NameMarks.{added_follow, changed_follow, removed_follow}
 use Rattle.marked_values.proofs.Reaching.{known_before}
 use Rattle.restored_values.specs.Suspects.{has_lost}
-use Rattle.kept_values.specs.Values.{AreNoted, Follows, asks_in, kept_in, links_in, loses_in, marks_in, seeks_at, seeks_in}
+use Rattle.kept_values.specs.Values.{AreNoted, Follows, asks_in, kept_in, links_in, loses_in, marks_in, seeks_at, seeks_in, unlinked_in}
 use Rattle.kept_values.specs.declared.values.Values.{Values}
-use Rattle.kept_values.proofs.Following.{from_follow, there, to_follow}
+use Rattle.kept_values.proofs.Following.{AreAmong, FollowsBut, follow_over, marked_follow, there}
+use Rattle.kept_values.proofs.Gathered.{among_after}
 use Rattle.session_values.specs.declared.naming.NameTurn.{NameTurn}
 use Rattle.session_values.specs.declared.naming.NameTurn.TheVariants.{Absent, Added, Changed, Removed}
 use Rattle.session_values.specs.Following.{book_of, words_in}
 use Rattle.session_values.specs.Naming.{FollowsAddition, FollowsChange, FollowsName, FollowsRemoval, FollowsTurn, IsLinkedIn, IsMarkedFor, IsNameIn, MarksAddition, MarksChange, MarksRemoval, MarksTurn, had_formula, has_formula}
-use Rattle.session_values.specs.internal.Marked.{HasMarked, HasMarkedLinked, HasSought, HasTurned, HaveMarked, HaveSought, own_node, whole_node}
+use Rattle.session_values.specs.internal.Marked.{AreSought, HasMarked, HasMarkedLinked, HasSought, HasTurned, HaveMarked, HaveSought, own_node, whole_node}
 use Rattle.session_values.proofs.Followed.{keep_numbers}
 
 -- what passes one test passes one of two others
@@ -63,49 +65,47 @@ any_either p q r each (w ∷ ws) h = ⊎_elim
     (λ (rest : list_any p ws ≡ true). ⊎_elim (λ (one : list_any q ws ≡ true). inl (or_right (q w) (list_any q ws) one)) (λ (other : list_any r ws ≡ true). inr (or_right (r w) (list_any r ws) other)) (any_either p q r each ws rest))
     (or_cases (p w) (list_any p ws) h)
 
--- what the graph links to something is known, or is marked
-linked_is_known : (b : Workbook) (words : List (List ℕ)) (customs : List (List ℕ × Rule)) (today : ℤ) (v : Values) → Follow b words customs today (links_in v) (marks_in v) (kept_in v) → (a d : Node) → IsTrue (has d (links_in v a))
+-- what the graph links to something is known
+linked_is_known : (b : Workbook) (words : List (List ℕ)) (customs : List (List ℕ × Rule)) (today : ℤ) (v : Values) (nodes : List Node) (kept : Kept) → FollowsBut b words customs today v nodes kept → (a d : Node) → IsTrue (has d (links_in v a))
     → (x : book.Node) × (node_at words a ≡ Some x)
-linked_is_known b words customs today v before a d link = ⊎_elim
-    (λ (old : has a (marks_in v) ≡ true). before.known a old)
-    (λ (out : has a (marks_in v) ≡ false). let (x, t, is, tree, to) = (before.linked.exact a d (λ mark. false≢true (sym out ∙ mark))).0 link in (x, is))
-    (cases_Bool (has a (marks_in v)))
+linked_is_known b words customs today v nodes kept before a d link = ⊎_elim
+    (λ (within : has a nodes ≡ true). before.follow.known a within)
+    (λ (out : has a nodes ≡ false). let (x, t, is, tree, to) = (before.follow.linked.exact a d (λ within. false≢true (sym out ∙ within))).0 link in (x, is))
+    (cases_Bool (has a nodes))
 
+-- where nodes are marked, of links and notes that follow but for some nodes first, and for these and the marked ones then
 module _ (b c : Workbook) (words more : List (List ℕ)) (customs : List (List ℕ × Rule)) (today : ℤ) (key : Key) (n : Node) (v w : Values) (nodes : List Node)
     (numbered : AreNumbered words b.names) (now : AreNumbered more c.names) (keeps : IsMore words more) (differ : DifferInName b c key) (at : node_at more n ≡ Some (book.name key))
-    (marked : HaveMarked nodes v w) (itself : IsTrue (has n nodes)) (follows : Follows b words customs today v) where
+    (marked : HaveMarked nodes v w) (itself : IsTrue (has n nodes)) (old new : List Node) (kept : Kept) (grown : (a : Node) → has a new ≡ has a (old ++ nodes)) (follows : FollowsBut b words customs today v old kept) where
   numbers : KeepNumbers words more
   numbers = keep_numbers words more keeps
 
-  before : Follow b words customs today (links_in v) (marks_in v) (kept_in v)
-  before = to_follow b words customs today v numbered follows
+  stay : (a : Node) → IsTrue (has a old) → IsTrue (has a new)
+  stay a h = grown a ∙ has-append_left a old nodes h
 
-  stay : (a : Node) → IsTrue (has a (marks_in v)) → IsTrue (has a (marks_in w))
-  stay a h = marked.marks a ∙ has-append_left a (marks_in v) nodes h
+  added : (a : Node) → IsTrue (has a nodes) → IsTrue (has a new)
+  added a h = grown a ∙ has-append_right a old nodes h
 
-  added : (a : Node) → IsTrue (has a nodes) → IsTrue (has a (marks_in w))
-  added a h = marked.marks a ∙ has-append_right a (marks_in v) nodes h
-
-  -- what is marked was, or is one of the nodes
-  known : AreKnown more nodes → AreKnown more (marks_in w)
+  -- each then was there, or is one of the nodes
+  known : AreKnown more nodes → AreKnown more new
   known nodes_known a h = ⊎_elim
-      (λ (old : has a (marks_in v) ≡ true). let (x, is) = before.known a old in (x, numbers a x is))
-      (λ (new : has a nodes ≡ true). nodes_known a new)
-      (has-append_cases a (marks_in v) nodes (sym (marked.marks a) ∙ h))
+      (λ (was : has a old ≡ true). let (x, is) = follows.follow.known a was in (x, numbers a x is))
+      (λ (is : has a nodes ≡ true). nodes_known a is)
+      (has-append_cases a old nodes (sym (grown a) ∙ h))
 
-  free : (a : Node) → has a (marks_in w) ≡ false → has a (marks_in v) ≡ false
-  free a isnt = ⊎_elim (λ (old : has a (marks_in v) ≡ true). absurd (false≢true (sym isnt ∙ stay a old))) (λ (is : has a (marks_in v) ≡ false). is) (cases_Bool (has a (marks_in v)))
+  free : (a : Node) → has a new ≡ false → has a old ≡ false
+  free a isnt = ⊎_elim (λ (was : has a old ≡ true). absurd (false≢true (sym isnt ∙ stay a was))) (λ (is : has a old ≡ false). is) (cases_Bool (has a old))
 
-  -- a node that isn't marked has the formula that it had
-  same_tree : (a : Node) (x : book.Node) → has a (marks_in w) ≡ false → node_at more a ≡ Some x → tree_at b x ≡ tree_at c x
+  -- another node has the formula that it had
+  same_tree : (a : Node) (x : book.Node) → has a new ≡ false → node_at more a ≡ Some x → tree_at b x ≡ tree_at c x
   same_tree a (book.place p) isnt is = ap (λ cells. tree_at (record { cells = cells; names = b.names }) (book.place p)) differ.cells
   same_tree a (book.name other) isnt is = differ.trees other (λ same. false≢true (sym isnt ∙ added a (subst (λ m. IsTrue (has m nodes)) (sym (one a (is ∙ ap (λ k. Some (book.name k)) same))) itself)))
     where
       one : (a : Node) → node_at more a ≡ Some (book.name key) → a ≡ n
       one a to = one_node more a n (book.name key) now.once to at
 
-  noted : (first test : book.Node → Term Corner → Bool) → ((a : Node) (x : book.Node) (t : Term Corner) → has a (marks_in w) ≡ false → node_at more a ≡ Some x → tree_at b x ≡ Some t → test x t ≡ true → first x t ≡ true)
-      → (was is : Node → Bool) → is ≡ was → AreNoted first b words (marks_in v) was → AreNoted test c more (marks_in w) is
+  noted : (first test : book.Node → Term Corner → Bool) → ((a : Node) (x : book.Node) (t : Term Corner) → has a new ≡ false → node_at more a ≡ Some x → tree_at b x ≡ Some t → test x t ≡ true → first x t ≡ true)
+      → (was is : Node → Bool) → is ≡ was → AreNoted first b words old was → AreNoted test c more new is
   noted first test as_before was is same all = record {
     all = λ a x t isnt to tree passes.
         let had = same_tree a x isnt to ∙ tree in
@@ -113,26 +113,23 @@ module _ (b c : Workbook) (words more : List (List ℕ)) (customs : List (List �
     known = λ a h. let (x, to) = there (node_at words a) (all.known a (sym (ap (λ f. f a) same) ∙ h)) in ap is_some (numbers a x to);
   }
 
-  still : Follow c more customs today (links_in v) (marks_in w) (kept_in v)
-      → ((word : List ℕ) (a : Node) (x : book.Node) (t : Term Corner) → has a (marks_in w) ≡ false → node_at more a ≡ Some x → tree_at b x ≡ Some t → seeks_at c word x t ≡ true → seeks_at b word x t ≡ true) → Follows c more customs today w
-  still follow seek_before = from_follow c more customs today w
-      (subst (λ links. Follow c more customs today links (marks_in w) (kept_in w)) (sym marked.links) (subst (λ kept. Follow c more customs today (links_in v) (marks_in w) kept) (sym marked.kept) follow))
-      (noted (λ x. asks_place) (λ x. asks_place) (λ a x t isnt to is h. h) (asks_in v) (asks_in w) marked.asking follows.asks)
-      (noted (λ x. has_lost) (λ x. has_lost) (λ a x t isnt to is h. h) (loses_in v) (loses_in w) marked.losing follows.loses)
-      (λ word. noted (seeks_at b word) (seeks_at c word) (seek_before word) (seeks_in v word) (seeks_in w word) (ap (λ (f : List ℕ → Node → Bool). f word) marked.seeking) (follows.seeks word))
+  still : Follow c more customs today (links_in v) new kept
+      → ((word : List ℕ) (a : Node) (x : book.Node) (t : Term Corner) → has a new ≡ false → node_at more a ≡ Some x → tree_at b x ≡ Some t → seeks_at c word x t ≡ true → seeks_at b word x t ≡ true) → FollowsBut c more customs today w new kept
+  still follow seek_before = record {
+    follow = subst (λ links. Follow c more customs today links new kept) (sym marked.links) follow;
+    asks = noted (λ x. asks_place) (λ x. asks_place) (λ a x t isnt to is h. h) (asks_in v) (asks_in w) marked.asking follows.asks;
+    loses = noted (λ x. has_lost) (λ x. has_lost) (λ a x t isnt to is h. h) (loses_in v) (loses_in w) marked.losing follows.loses;
+    seeks = λ word. noted (seeks_at b word) (seeks_at c word) (seek_before word) (seeks_in v word) (seeks_in w word) (ap (λ (f : List ℕ → Node → Bool). f word) marked.seeking) (follows.seeks word);
+  }
 
-  pub change_follows : AreKnown more nodes → is_some (tree_in b.names key) ≡ true → is_some (tree_in c.names key) ≡ true → Follows c more customs today w
-  change_follows nodes_known had has_it = still
-      (changed_follow b c words more customs today (links_in v) (marks_in v) (marks_in w) (kept_in v) n key before numbers now differ had has_it at stay (added n itself) (known nodes_known))
+  change_follows_but : AreKnown more nodes → is_some (tree_in b.names key) ≡ true → is_some (tree_in c.names key) ≡ true → FollowsBut c more customs today w new kept
+  change_follows_but nodes_known had has_it = still
+      (changed_follow b c words more customs today (links_in v) old new kept n key follows.follow numbers now differ had has_it at stay (added n itself) (known nodes_known))
       (λ word a x t isnt to is seek. (λ i. list_any (λ u. same_name word u && is_none (changed_is_found_alike b c key u (sheet_of (home_of x)) differ had has_it i)) (names_in t)) ∙ seek)
 
-  -- what the graph links to something is known, or is marked
-  pub linked_known : (a d : Node) → IsTrue (has d (links_in v a)) → (x : book.Node) × (node_at more a ≡ Some x)
-  linked_known a d link = let (x, is) = linked_is_known b words customs today v before a d link in (x, numbers a x is)
-
-  pub removal_follows : ((a : Node) → IsTrue (has n (links_in v a)) → IsTrue (has a nodes)) → AreKnown more nodes → is_some (tree_in b.names key) ≡ true → is_some (tree_in c.names key) ≡ false → Follows c more customs today w
-  removal_follows linked nodes_known had gone = still
-      (removed_follow b c words more customs today (links_in v) (marks_in v) (marks_in w) (kept_in v) n key before numbers now differ gone at
+  removal_follows_but : ((a : Node) → IsTrue (has n (links_in v a)) → IsTrue (has a nodes)) → AreKnown more nodes → is_some (tree_in b.names key) ≡ true → is_some (tree_in c.names key) ≡ false → FollowsBut c more customs today w new kept
+  removal_follows_but linked nodes_known had gone = still
+      (removed_follow b c words more customs today (links_in v) old new kept n key follows.follow numbers now differ gone at
       (record {
         stay = stay;
         itself = added n itself;
@@ -142,12 +139,12 @@ module _ (b c : Workbook) (words more : List (List ℕ)) (customs : List (List �
       sought_before
     where
       -- a word that found the name was linked to it
-      sought_before : (asked : List ℕ) (a : Node) (x : book.Node) (t : Term Corner) → has a (marks_in w) ≡ false → node_at more a ≡ Some x → tree_at b x ≡ Some t → seeks_at c asked x t ≡ true → seeks_at b asked x t ≡ true
+      sought_before : (asked : List ℕ) (a : Node) (x : book.Node) (t : Term Corner) → has a new ≡ false → node_at more a ≡ Some x → tree_at b x ≡ Some t → seeks_at c asked x t ≡ true → seeks_at b asked x t ≡ true
       sought_before asked a x t isnt to is seek = ⊎_elim (λ (before_too : seeks_at b asked x t ≡ true). before_too)
           (λ (used : list_any (λ word. is_found (found b.names word (sheet_of (home_of x))) key) (names_in t) ≡ true).
           let known_a = known_before b words more numbered numbers now.once a x to (tree_stands b [] (pos 0) x t is) in
           let known_n = known_before b words more numbered numbers now.once n (book.name key) at had in
-          let link = (before.linked.exact a n (λ mark. false≢true (sym (free a isnt) ∙ mark))).1 (x, t, known_a, is, link_of n known_n used) in
+          let link = (follows.follow.linked.exact a n (λ was. false≢true (sym (free a isnt) ∙ was))).1 (x, t, known_a, is, link_of n known_n used) in
           absurd (false≢true (sym isnt ∙ added a (linked a link))))
           (any_either (λ word. same_name asked word && is_none (found c.names word (sheet_of (home_of x)))) (λ word. same_name asked word && is_none (found b.names word (sheet_of (home_of x))))
           (λ word. is_found (found b.names word (sheet_of (home_of x))) key)
@@ -161,21 +158,44 @@ module _ (b c : Workbook) (words more : List (List ℕ)) (customs : List (List �
           link_of (Range r) it used = absurd (none_some (book.name key) it)
           link_of (Name scope word) it used = (key, it, used)
 
+module _ (b c : Workbook) (words more : List (List ℕ)) (customs : List (List ℕ × Rule)) (today : ℤ) (key : Key) (n : Node) (v w : Values) (nodes : List Node)
+    (numbered : AreNumbered words b.names) (now : AreNumbered more c.names) (keeps : IsMore words more) (differ : DifferInName b c key) (at : node_at more n ≡ Some (book.name key))
+    (marked : HaveMarked nodes v w) (itself : IsTrue (has n nodes)) (follows : Follows b words customs today v) where
+  among : AreAmong (unlinked_in v) (marks_in v) → AreAmong (unlinked_in w) (marks_in w)
+  among within a h = marked.marks a ∙ among_after (unlinked_in v) (marks_in v) nodes within a (sym (marked.unlinked a) ∙ h)
+
+  pub change_follows : AreKnown more nodes → is_some (tree_in b.names key) ≡ true → is_some (tree_in c.names key) ≡ true → Follows c more customs today w
+  change_follows nodes_known had has_it = follow_over b c words more customs today v w numbered marked.kept among
+      (λ kept but. change_follows_but b c words more customs today key n v w nodes numbered now keeps differ at marked itself (marks_in v) (marks_in w) kept marked.marks but nodes_known had has_it)
+      (λ kept but. change_follows_but b c words more customs today key n v w nodes numbered now keeps differ at marked itself (unlinked_in v) (unlinked_in w) kept marked.unlinked but nodes_known had has_it)
+      follows
+
+  -- what the graph links to something is known
+  pub linked_known : (a d : Node) → IsTrue (has d (links_in v a)) → (x : book.Node) × (node_at more a ≡ Some x)
+  linked_known a d link =
+      let (x, is) = linked_is_known b words customs today v (marks_in v) (kept_in v) (marked_follow b words customs today v numbered follows) a d link in
+      (x, keep_numbers words more keeps a x is)
+
+  pub removal_follows : ((a : Node) → IsTrue (has n (links_in v a)) → IsTrue (has a nodes)) → AreKnown more nodes → is_some (tree_in b.names key) ≡ true → is_some (tree_in c.names key) ≡ false → Follows c more customs today w
+  removal_follows linked nodes_known had gone = follow_over b c words more customs today v w numbered marked.kept among
+      (λ kept but. removal_follows_but b c words more customs today key n v w nodes numbered now keeps differ at marked itself (marks_in v) (marks_in w) kept marked.marks but linked nodes_known had gone)
+      (λ kept but. removal_follows_but b c words more customs today key n v w nodes numbered now keeps differ at marked itself (unlinked_in v) (unlinked_in w) kept marked.unlinked but linked nodes_known had gone)
+      follows
+
+-- where what seeks a word is marked, likewise
 module _ (b c : Workbook) (words more : List (List ℕ)) (customs : List (List ℕ × Rule)) (today : ℤ) (key : Key) (n m : Node) (v w : Values)
     (numbered : AreNumbered words b.names) (now : AreNumbered more c.names) (keeps : IsMore words more) (differ : DifferInName b c key) (at : node_at more n ≡ Some (book.name key))
-    (whole : node_at more m ≡ Some (book.name (key_of None key.word))) (fresh : is_some (tree_in b.names key) ≡ false) (word : List ℕ) (of_word : folded word ≡ key.word) (sought : HaveSought n m word v w) (follows : Follows b words customs today v) where
+    (whole : node_at more m ≡ Some (book.name (key_of None key.word))) (fresh : is_some (tree_in b.names key) ≡ false) (word : List ℕ) (of_word : folded word ≡ key.word) (have : HaveSought n m word v w)
+    (old new : List Node) (kept : Kept) (sought : AreSought n m word v old new) (follows : FollowsBut b words customs today v old kept) where
   all_numbers : KeepNumbers words more
   all_numbers = keep_numbers words more keeps
 
-  was : Follow b words customs today (links_in v) (marks_in v) (kept_in v)
-  was = to_follow b words customs today v numbered follows
+  was_free : (a : Node) → has a new ≡ false → has a old ≡ false
+  was_free a isnt = ⊎_elim (λ (was : has a old ≡ true). absurd (false≢true (sym isnt ∙ sought.stay a was))) (λ (is : has a old ≡ false). is) (cases_Bool (has a old))
 
-  was_free : (a : Node) → has a (marks_in w) ≡ false → has a (marks_in v) ≡ false
-  was_free a isnt = ⊎_elim (λ (old : has a (marks_in v) ≡ true). absurd (false≢true (sym isnt ∙ sought.stay a old))) (λ (is : has a (marks_in v) ≡ false). is) (cases_Bool (has a (marks_in v)))
-
-  had_tree : (a : Node) (x : book.Node) → has a (marks_in w) ≡ false → node_at more a ≡ Some x → tree_at b x ≡ tree_at c x
+  had_tree : (a : Node) (x : book.Node) → has a new ≡ false → node_at more a ≡ Some x → tree_at b x ≡ tree_at c x
   had_tree a (book.place p) isnt is = ap (λ cells. tree_at (record { cells = cells; names = b.names }) (book.place p)) differ.cells
-  had_tree a (book.name other) isnt is = differ.trees other (λ same. false≢true (sym isnt ∙ subst (λ m. IsTrue (has m (marks_in w))) (sym (one a (is ∙ ap (λ k. Some (book.name k)) same))) sought.itself))
+  had_tree a (book.name other) isnt is = differ.trees other (λ same. false≢true (sym isnt ∙ subst (λ m. IsTrue (has m new)) (sym (one a (is ∙ ap (λ k. Some (book.name k)) same))) sought.itself))
     where
       one : (a : Node) → node_at more a ≡ Some (book.name key) → a ≡ n
       one a to = one_node more a n (book.name key) now.once to at
@@ -183,15 +203,15 @@ module _ (b c : Workbook) (words more : List (List ℕ)) (customs : List (List �
   spelt : folded key.word ≡ key.word
   spelt = ap folded (sym of_word) ∙ folded-folded word ∙ of_word
 
-  -- a formula that uses the word where it finds no name is marked
-  seeking_marked : (a : Node) (x : book.Node) (t : Term Corner) → node_at more a ≡ Some x → tree_at b x ≡ Some t → seeks_at b word x t ≡ true → IsTrue (has a (marks_in w))
+  -- a formula that uses the word where it finds no name is among the nodes then
+  seeking_marked : (a : Node) (x : book.Node) (t : Term Corner) → node_at more a ≡ Some x → tree_at b x ≡ Some t → seeks_at b word x t ≡ true → IsTrue (has a new)
   seeking_marked a x t to is seek = ⊎_elim
-      (λ (old : has a (marks_in v) ≡ true). sought.stay a old)
-      (λ (out : has a (marks_in v) ≡ false). sought.sought a ((follows.seeks word).all a x t out (known_before b words more numbered all_numbers now.once a x to (tree_stands b [] (pos 0) x t is)) is seek))
-      (cases_Bool (has a (marks_in v)))
+      (λ (was : has a old ≡ true). sought.stay a was)
+      (λ (out : has a old ≡ false). sought.sought a ((follows.seeks word).all a x t out (known_before b words more numbered all_numbers now.once a x to (tree_stands b [] (pos 0) x t is)) is seek))
+      (cases_Bool (has a old))
 
   -- so is one that uses the word of the name where that finds none
-  finding : (a : Node) (x : book.Node) (t : Term Corner) → node_at more a ≡ Some x → tree_at b x ≡ Some t → UsesWord t key.word → found b.names key.word (sheet_of (home_of x)) ≡ None → is_scope_for key.scope (sheet_of (home_of x)) ≡ true → IsTrue (has a (marks_in w))
+  finding : (a : Node) (x : book.Node) (t : Term Corner) → node_at more a ≡ Some x → tree_at b x ≡ Some t → UsesWord t key.word → found b.names key.word (sheet_of (home_of x)) ≡ None → is_scope_for key.scope (sheet_of (home_of x)) ≡ true → IsTrue (has a new)
   finding a x t to is uses none within = seeking_marked a x t to is (⊎_elim (λ (h : seeks_at b word x t ≡ true). h) (λ (h : list_any (λ u. false) (names_in t) ≡ true). absurd (none_passes (names_in t) h))
       (any_either (λ u. bytes_eq (folded u) key.word) (λ u. same_name word u && is_none (found b.names u (sheet_of (home_of x)))) (λ u. false)
       (λ u same. inl (and_from (same_name word u) (is_none (found b.names u (sheet_of (home_of x)))) (names_alike.symm word u ∙ ap (bytes_eq (folded u)) of_word ∙ same)
@@ -201,16 +221,16 @@ module _ (b c : Workbook) (words more : List (List ℕ)) (customs : List (List �
       none_passes [] h = false≢true h
       none_passes (u ∷ ws) h = none_passes ws h
 
-  marks_known : AreKnown more (marks_in w)
-  marks_known a h = by (sought.only a h)
+  all_known : AreKnown more new
+  all_known a h = by (sought.only a h)
     where
-      by : IsTrue (has a (marks_in v)) ⊎ ((seeks_in v word a ≡ true) ⊎ (IsTrue (has m (links_in v a)) ⊎ (a ≡ n))) → (x : book.Node) × (node_at more a ≡ Some x)
-      by (inl old) = let (x, is) = was.known a old in (x, all_numbers a x is)
+      by : IsTrue (has a old) ⊎ ((seeks_in v word a ≡ true) ⊎ (IsTrue (has m (links_in v a)) ⊎ (a ≡ n))) → (x : book.Node) × (node_at more a ≡ Some x)
+      by (inl was) = let (x, is) = follows.follow.known a was in (x, all_numbers a x is)
       by (inr (inl seek)) = let (x, is) = there (node_at words a) ((follows.seeks word).known a seek) in (x, all_numbers a x is)
-      by (inr (inr (inl link))) = let (x, is) = linked_is_known b words customs today v was a m link in (x, all_numbers a x is)
+      by (inr (inr (inl link))) = let (x, is) = linked_is_known b words customs today v old kept follows a m link in (x, all_numbers a x is)
       by (inr (inr (inr same))) = (book.name key, ap (node_at more) same ∙ at)
 
-  still_noted : (test : Term Corner → Bool) (first is : Node → Bool) → is ≡ first → AreNoted (λ x. test) b words (marks_in v) first → AreNoted (λ x. test) c more (marks_in w) is
+  still_noted : (test : Term Corner → Bool) (first is : Node → Bool) → is ≡ first → AreNoted (λ x. test) b words old first → AreNoted (λ x. test) c more new is
   still_noted test first is same all = record {
     all = λ a x t isnt to tree passes.
         let had = had_tree a x isnt to ∙ tree in
@@ -229,18 +249,18 @@ module _ (b c : Workbook) (words more : List (List ℕ)) (customs : List (List �
       (added_is_found b c key u (sheet_of (home_of x)) differ fresh)) (names_in t) seek)
 
   -- and what uses another word is noted still
-  still_sought : (other : List ℕ) → AreNoted (seeks_at c other) c more (marks_in w) (seeks_in w other)
+  still_sought : (other : List ℕ) → AreNoted (seeks_at c other) c more new (seeks_in w other)
   still_sought other = ⊎_elim here elsewhere (cases_Bool (same_name word other))
     where
-      here : same_name word other ≡ true → AreNoted (seeks_at c other) c more (marks_in w) (seeks_in w other)
+      here : same_name word other ≡ true → AreNoted (seeks_at c other) c more new (seeks_in w other)
       here same = record {
         all = λ a x t isnt to tree seek.
             let had = had_tree a x isnt to ∙ tree in
             absurd (false≢true (sym isnt ∙ seeking_marked a x t to had ((λ i. list_any (λ u. names_alike.congr word other u same i && is_none (found b.names u (sheet_of (home_of x)))) (names_in t)) ∙ sought_too other x t seek)));
-        known = λ a h. absurd (false≢true (sym (sought.seeking other a ∙ ap (λ q. cond q false (seeks_in v other a)) same) ∙ h));
+        known = λ a h. absurd (false≢true (sym (have.seeking other a ∙ ap (λ q. cond q false (seeks_in v other a)) same) ∙ h));
       }
 
-      elsewhere : same_name word other ≡ false → AreNoted (seeks_at c other) c more (marks_in w) (seeks_in w other)
+      elsewhere : same_name word other ≡ false → AreNoted (seeks_at c other) c more new (seeks_in w other)
       elsewhere apart = record {
         all = λ a x t isnt to tree seek.
             let had = had_tree a x isnt to ∙ tree in
@@ -249,16 +269,35 @@ module _ (b c : Workbook) (words more : List (List ℕ)) (customs : List (List �
       }
         where
           stays : (a : Node) → seeks_in w other a ≡ seeks_in v other a
-          stays a = sought.seeking other a ∙ ap (λ q. cond q false (seeks_in v other a)) apart
+          stays a = have.seeking other a ∙ ap (λ q. cond q false (seeks_in v other a)) apart
+
+  addition_follows_but : FollowsBut c more customs today w new kept
+  addition_follows_but = record {
+    follow = subst (λ links. Follow c more customs today links new kept) (sym have.links)
+        (added_follow b c words more customs today (links_in v) old new kept n key follows.follow all_numbers now differ fresh at
+        (record { stay = sought.stay; itself = sought.itself; finding = finding; hidden = λ a d x to own at_whole link. sought.linked a (subst (λ e. IsTrue (has e (links_in v a))) (one_node more d m (book.name (key_of None key.word)) now.once at_whole whole) link) }) all_known);
+    asks = still_noted asks_place (asks_in v) (asks_in w) have.asking follows.asks;
+    loses = still_noted has_lost (loses_in v) (loses_in w) have.losing follows.loses;
+    seeks = still_sought;
+  }
+
+module _ (b c : Workbook) (words more : List (List ℕ)) (customs : List (List ℕ × Rule)) (today : ℤ) (key : Key) (n m : Node) (v w : Values)
+    (numbered : AreNumbered words b.names) (now : AreNumbered more c.names) (keeps : IsMore words more) (differ : DifferInName b c key) (at : node_at more n ≡ Some (book.name key))
+    (whole : node_at more m ≡ Some (book.name (key_of None key.word))) (fresh : is_some (tree_in b.names key) ≡ false) (word : List ℕ) (of_word : folded word ≡ key.word) (have : HaveSought n m word v w) (follows : Follows b words customs today v) where
+  among_sought : AreAmong (unlinked_in v) (marks_in v) → AreAmong (unlinked_in w) (marks_in w)
+  among_sought within a h = by (have.unlinked.only a h)
+    where
+      by : IsTrue (has a (unlinked_in v)) ⊎ ((seeks_in v word a ≡ true) ⊎ (IsTrue (has m (links_in v a)) ⊎ (a ≡ n))) → IsTrue (has a (marks_in w))
+      by (inl was) = have.marks.stay a (within a was)
+      by (inr (inl seek)) = have.marks.sought a seek
+      by (inr (inr (inl link))) = have.marks.linked a link
+      by (inr (inr (inr same))) = subst (λ d. IsTrue (has d (marks_in w))) (sym same) have.marks.itself
 
   pub addition_follows : Follows c more customs today w
-  addition_follows =
-      let follow = added_follow b c words more customs today (links_in v) (marks_in v) (marks_in w) (kept_in v) n key was all_numbers now differ fresh at
-      (record { stay = sought.stay; itself = sought.itself; finding = finding; hidden = λ a d x to own at_whole link. sought.linked a (subst (λ e. IsTrue (has e (links_in v a))) (one_node more d m (book.name (key_of None key.word)) now.once at_whole whole) link) }) marks_known in
-      from_follow c more customs today w
-      (subst (λ links. Follow c more customs today links (marks_in w) (kept_in w)) (sym sought.links) (subst (λ kept. Follow c more customs today (links_in v) (marks_in w) kept) (sym sought.kept) follow))
-      (still_noted asks_place (asks_in v) (asks_in w) sought.asking follows.asks) (still_noted has_lost (loses_in v) (loses_in w) sought.losing follows.loses)
-      still_sought
+  addition_follows = follow_over b c words more customs today v w numbered have.kept among_sought
+      (λ kept but. addition_follows_but b c words more customs today key n m v w numbered now keeps differ at whole fresh word of_word have (marks_in v) (marks_in w) kept have.marks but)
+      (λ kept but. addition_follows_but b c words more customs today key n m v w numbered now keeps differ at whole fresh word of_word have (unlinked_in v) (unlinked_in w) kept have.unlinked but)
+      follows
 
 -- where nothing is kept any more
 pub nothing_named : (key : Key) (s : Session) (had has : Bool) (old : Option Values) → FollowsName key s had has old None
@@ -278,8 +317,8 @@ follows_addition scope word s (Some n) (Some m) v (Some w) at over marked = (
     asking = marked.asking;
     losing = marked.losing;
     kept = marked.kept;
-    stay = marked.stay;
-    only = λ a h. by a (marked.only a h);
+    stay = marked.marks.stay;
+    only = λ a h. by a (marked.marks.only a h);
   },
 )
   where
@@ -388,9 +427,9 @@ nothing_turns key Absent s old = (λ word spelt b words customs today numbered n
 -- ---- what is marked
 
 pub have_marked : {X E : Type 0} (r : Result X E) (v w : Values) (nodes : List Node) → links_in w ≡ links_in v → asks_in w ≡ asks_in v → loses_in w ≡ loses_in v → seeks_in w ≡ seeks_in v → kept_in w ≡ kept_in v
-    → OnOk r ((a : Node) → has a (marks_in w) ≡ has a (marks_in v ++ nodes)) → OnOk r (HaveMarked nodes v w)
-have_marked (Ok x) v w nodes links asking losing seeking kept marks = record { links = links; asking = asking; losing = losing; seeking = seeking; kept = kept; marks = marks }
-have_marked (Err e) v w nodes links asking losing seeking kept marks = tt
+    → OnOk r ((a : Node) → has a (marks_in w) ≡ has a (marks_in v ++ nodes)) → OnOk r ((a : Node) → has a (unlinked_in w) ≡ has a (unlinked_in v ++ nodes)) → OnOk r (HaveMarked nodes v w)
+have_marked (Ok x) v w nodes links asking losing seeking kept marks unlinked = record { links = links; asking = asking; losing = losing; seeking = seeking; kept = kept; marks = marks; unlinked = unlinked }
+have_marked (Err e) v w nodes links asking losing seeking kept marks unlinked = tt
 
 -- one node after a list of them
 marked_after : (n : Node) (nodes was middle is : List Node) → ((a : Node) → has a middle ≡ has a (was ++ nodes)) → ((a : Node) → has a is ≡ has a (middle ++ n ∷ [])) → (a : Node) → has a is ≡ has a (was ++ (nodes ++ n ∷ []))
@@ -410,34 +449,43 @@ have_linked (Ok x) n v u w nodes shown linked same first marked = (
     seeking = marked.seeking ∙ first.seeking;
     kept = marked.kept ∙ first.kept;
     marks = marked_after n nodes (marks_in v) (marks_in u) (marks_in w) (λ a. first.marks a ∙ ap (λ ns. has a (marks_in v ++ ns)) same) marked.marks;
+    unlinked = marked_after n nodes (unlinked_in v) (unlinked_in u) (unlinked_in w) (λ a. first.unlinked a ∙ ap (λ ns. has a (unlinked_in v ++ ns)) same) marked.unlinked;
   },
 )
 
-pub have_sought : {X E : Type 0} (r : Result X E) (n whole : Node) (word : List ℕ) (v u x w : Values) (nodes shown : List Node) → AreLinkedTo whole (links_in v) nodes → shown ≡ nodes → ((a : Node) → has a (marks_in u) ≡ (has a (marks_in v) || seeks_in v word a))
-    → ((other : List ℕ) (a : Node) → seeks_in u other a ≡ cond (same_name word other) false (seeks_in v other a))
-    → links_in u ≡ links_in v → asks_in u ≡ asks_in v → loses_in u ≡ loses_in v → kept_in u ≡ kept_in v → HaveMarked shown u x → OnOk r (HaveMarked (n ∷ []) x w) → OnOk r (HasSought (Some n) (Some whole) word v w)
-have_sought (Err e) n whole word v u x w nodes shown linked same first none links asking losing kept second third = tt
-have_sought (Ok o) n whole word v u x w nodes shown linked same first none links asking losing kept second third = record {
-  links = third.links ∙ second.links ∙ links;
-  asking = third.asking ∙ second.asking ∙ asking;
-  losing = third.losing ∙ second.losing ∙ losing;
-  kept = third.kept ∙ second.kept ∙ kept;
-  seeking = λ other a. ap (λ (f : List ℕ → Node → Bool). f other a) (third.seeking ∙ second.seeking) ∙ none other a;
-  stay = λ a h. marks a ∙ has-append_left a (marks_in u) more (first a ∙ or_left (has a (marks_in v)) (seeks_in v word a) h);
-  sought = λ a h. marks a ∙ has-append_left a (marks_in u) more (first a ∙ or_right (has a (marks_in v)) (seeks_in v word a) h);
-  linked = λ a link. marks a ∙ has-append_right a (marks_in u) more (has-append_left a nodes (n ∷ []) ((linked.0 a).1 link));
-  itself = marks n ∙ has-append_right n (marks_in u) more (has-append_right n nodes (n ∷ []) (has_first n []));
+-- first what seeks the word, then what is linked to the second node, and then the first one
+are_sought : (n whole : Node) (word : List ℕ) (v : Values) (nodes was first then is : List Node) → AreLinkedTo whole (links_in v) nodes → ((a : Node) → has a first ≡ (has a was || seeks_in v word a)) → ((a : Node) → has a then ≡ has a (first ++ nodes))
+    → ((a : Node) → has a is ≡ has a (then ++ n ∷ [])) → AreSought n whole word v was is
+are_sought n whole word v nodes was first then is linked one two three = record {
+  stay = λ a h. all a ∙ has-append_left a first more (one a ∙ or_left (has a was) (seeks_in v word a) h);
+  sought = λ a h. all a ∙ has-append_left a first more (one a ∙ or_right (has a was) (seeks_in v word a) h);
+  linked = λ a link. all a ∙ has-append_right a first more (has-append_left a nodes (n ∷ []) ((linked.0 a).1 link));
+  itself = all n ∙ has-append_right n first more (has-append_right n nodes (n ∷ []) (has_first n []));
   only = λ a h. ⊎_elim
-      (λ (old : has a (marks_in u) ≡ true). ⊎_elim (λ (is : has a (marks_in v) ≡ true). inl is) (λ (seek : seeks_in v word a ≡ true). inr (inl seek)) (or_cases (has a (marks_in v)) (seeks_in v word a) (sym (first a) ∙ old)))
+      (λ (front : has a first ≡ true). ⊎_elim (λ (old : has a was ≡ true). inl old) (λ (seek : seeks_in v word a ≡ true). inr (inl seek)) (or_cases (has a was) (seeks_in v word a) (sym (one a) ∙ front)))
       (λ (last : has a more ≡ true). ⊎_elim
-      (λ (one : has a nodes ≡ true). inr (inr (inl ((linked.0 a).0 one))))
+      (λ (link : has a nodes ≡ true). inr (inr (inl ((linked.0 a).0 link))))
       (λ (it : has a (n ∷ []) ≡ true). inr (inr (inr (has_one a n it))))
       (has-append_cases a nodes (n ∷ []) last))
-      (has-append_cases a (marks_in u) more (sym (marks a) ∙ h));
+      (has-append_cases a first more (sym (all a) ∙ h));
 }
   where
     more : List Node
     more = nodes ++ n ∷ []
 
-    marks : (a : Node) → has a (marks_in w) ≡ has a (marks_in u ++ more)
-    marks = marked_after n nodes (marks_in u) (marks_in x) (marks_in w) (λ a. second.marks a ∙ ap (λ ns. has a (marks_in u ++ ns)) same) third.marks
+    all : (a : Node) → has a is ≡ has a (first ++ more)
+    all = marked_after n nodes first then is two three
+
+pub have_sought : {X E : Type 0} (r : Result X E) (n whole : Node) (word : List ℕ) (v u x w : Values) (nodes shown : List Node) → AreLinkedTo whole (links_in v) nodes → shown ≡ nodes → ((a : Node) → has a (marks_in u) ≡ (has a (marks_in v) || seeks_in v word a))
+    → ((a : Node) → has a (unlinked_in u) ≡ (has a (unlinked_in v) || seeks_in v word a)) → ((other : List ℕ) (a : Node) → seeks_in u other a ≡ cond (same_name word other) false (seeks_in v other a))
+    → links_in u ≡ links_in v → asks_in u ≡ asks_in v → loses_in u ≡ loses_in v → kept_in u ≡ kept_in v → HaveMarked shown u x → OnOk r (HaveMarked (n ∷ []) x w) → OnOk r (HasSought (Some n) (Some whole) word v w)
+have_sought (Err e) n whole word v u x w nodes shown linked same first to_link none links asking losing kept second third = tt
+have_sought (Ok o) n whole word v u x w nodes shown linked same first to_link none links asking losing kept second third = record {
+  links = third.links ∙ second.links ∙ links;
+  asking = third.asking ∙ second.asking ∙ asking;
+  losing = third.losing ∙ second.losing ∙ losing;
+  kept = third.kept ∙ second.kept ∙ kept;
+  seeking = λ other a. ap (λ (f : List ℕ → Node → Bool). f other a) (third.seeking ∙ second.seeking) ∙ none other a;
+  marks = are_sought n whole word v nodes (marks_in v) (marks_in u) (marks_in x) (marks_in w) linked first (λ a. second.marks a ∙ ap (λ ns. has a (marks_in u ++ ns)) same) third.marks;
+  unlinked = are_sought n whole word v nodes (unlinked_in v) (unlinked_in u) (unlinked_in x) (unlinked_in w) linked to_link (λ a. second.unlinked a ∙ ap (λ ns. has a (unlinked_in u ++ ns)) same) third.unlinked;
+}

@@ -8,10 +8,10 @@ use Rattle.dep_graph.specs.declared.node.Node.{Node}
 use Rattle.dep_graph.specs.declared.node.Node.TheVariants.{Cell}
 use Rattle.kept_book.specs.Change.{Change}
 use Rattle.kept_steps.specs.Turned.{AreOfCells, is_listed}
-use Rattle.kept_values.specs.Values.{asks_in, kept_in, links_in, loses_in, marks_in, seeks_in}
+use Rattle.kept_values.specs.Values.{asks_in, kept_in, links_in, loses_in, marks_in, seeks_in, unlinked_in}
 use Rattle.kept_values.specs.declared.values.Values.{Values}
 
--- more cells of these places may be marked, and nothing else changed
+-- more cells of these places may be marked, what is marked may be to be linked, and nothing else changed
 pub record IsTouched (places : Place → Bool) (v w : Values) : Type 0 where
   pub links : links_in w ≡ links_in v
   pub asking : asks_in w ≡ asks_in v
@@ -20,6 +20,8 @@ pub record IsTouched (places : Place → Bool) (v w : Values) : Type 0 where
   pub kept : kept_in w ≡ kept_in v
   pub stay : (a : Node) → IsTrue (has a (marks_in v)) → IsTrue (has a (marks_in w))
   pub only : (a : Node) → IsTrue (has a (marks_in w)) → IsTrue (has a (marks_in v)) ⊎ ((p : Place) × (a ≡ Cell p) × (places p ≡ true))
+  pub linking : (a : Node) → IsTrue (has a (unlinked_in v)) → IsTrue (has a (unlinked_in w))
+  pub among : (a : Node) → IsTrue (has a (unlinked_in w)) → IsTrue (has a (unlinked_in v)) ⊎ IsTrue (has a (marks_in w))
 
 -- so where anything is kept; else nothing is kept still
 abbrev pub AreTouched : (Place → Bool) → Option Values → Option Values → Type 0
@@ -32,10 +34,10 @@ abbrev pub AreTouchedAtMost : (Place → Bool) → Option Values → Option Valu
 AreTouchedAtMost places old None = ⊤
 AreTouchedAtMost places old new = AreTouched places old new
 
--- the cell is marked where anything is kept
+-- the cell is marked, and is to be linked, where anything is kept
 abbrev pub IsMarkedIn : Option Values → Place → Type 0
 IsMarkedIn None p = ⊤
-IsMarkedIn (Some v) p = IsTrue (has (Cell p) (marks_in v))
+IsMarkedIn (Some v) p = IsTrue (has (Cell p) (marks_in v)) × IsTrue (has (Cell p) (unlinked_in v))
 
 -- tests whether a place is that of one of these items
 abbrev pub is_place_of : {X : Type 0} → (X → Place) → List X → Place → Bool

@@ -34,8 +34,8 @@ use steps::Steps;
 
 impl SessionValues {
     /// Brings what is kept up to date with the session, with these custom functions, on the day of this serial number. Where nothing
-    /// is kept, the whole workbook is linked and worked out; else what was touched is linked anew, and it is worked out with all that
-    /// it reaches. Afterwards what is kept of every place and every name is its value.
+    /// is kept, the whole workbook is linked and worked out; else what was touched is linked anew, unless it was since, and it is worked
+    /// out with all that it reaches. Afterwards what is kept of every place and every name is its value.
     ///
     /// For want of memory what is kept follows the session still. Each place and each name is worked out once at most. Costs what
     /// [`Values::refresh`](kept_values::Values::refresh) does; where nothing was kept, that of the whole workbook.

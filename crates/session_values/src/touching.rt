@@ -13,7 +13,7 @@ use std::alloc::AllocError;
 
 impl SessionValues {
     /// Marks each cell of a list that is going to change, where anything is kept. For want of memory some of them are marked, which
-    /// does no harm. Costs a look-up for each.
+    /// does no harm. Costs a look-up or two for each.
     pub fn touch_cells<V>(&mut self, cells: &[(Place, V)]) -> Result<(), AllocError>
         ensures touched { AreTouched (is_place_of (λ e. e.0) cells.now) self.old.values self.new.values }
         ensures marked { OnOk result (AreMarkedIn self.new.values (is_place_of (λ e. e.0) cells.now)) }
@@ -25,7 +25,7 @@ impl SessionValues {
     }
 
     /// Marks the cells that a step changes, before it is taken back or done again; where it changes more than cells, nothing is
-    /// kept any more. For want of memory some of them are marked, which does no harm. Costs a look-up for each.
+    /// kept any more. For want of memory some of them are marked, which does no harm. Costs a look-up or two for each.
     pub fn touch_step(&mut self, step: &Entry) -> Result<(), AllocError>
         ensures touched { AreTouchedAtMost (is_listed (changes_in step.now)) self.old.values self.new.values }
         ensures cells { AreOfCells (changes_in step.now) → AreTouched (is_listed (changes_in step.now)) self.old.values self.new.values }

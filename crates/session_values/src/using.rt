@@ -18,11 +18,11 @@ use std::alloc::AllocError;
 
 impl SessionValues {
     /// The cells and the names whose formulas mention the cell themselves, by a reference to it or a range that covers it: each once,
-    /// in any order. What was touched is linked anew, but nothing is worked out.
+    /// in any order. What was touched since it was last linked is linked anew, but nothing is worked out.
     ///
-    /// For want of memory what is kept follows the session still. Costs the links of what was touched, and what
-    /// [`Values::users`](kept_values::Values::users) does; where nothing was kept, the links of the whole workbook, which the next
-    /// refresh looks at once more.
+    /// For want of memory what is kept follows the session still. Costs the links of what was touched since it was last linked, by a
+    /// call of this or a refresh, and what [`Values::users`](kept_values::Values::users) does; where nothing was kept, the links of
+    /// the whole workbook.
     pub fn users(&mut self, session: &mut Session, at: Place) -> Result<Nodes, AllocError>
         requires inside { IsBookInside (book_of session.old) }
         requires follows { (customs : List (List ℕ × Rule)) × (today : ℤ) × AreFollowing customs today session.old self.old.values }

@@ -29,7 +29,8 @@ impl SessionValues {
         self.values = None;
     }
 
-    /// Marks a cell that is going to change, where anything is kept. For want of memory all is as it was. Costs a look-up.
+    /// Marks a cell that is going to change, where anything is kept. For want of memory all is as it was. Costs a look-up or
+    /// two.
     pub fn touch(&mut self, at: Place) -> Result<(), AllocError>
         ensures touched { AreTouched (same_place at) self.old.values self.new.values }
         ensures marked { OnOk result (IsMarkedIn self.new.values at) }

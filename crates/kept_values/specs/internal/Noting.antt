@@ -1,5 +1,5 @@
 -- Nodes whose formulas pass a test, noted one after another.
-use Rattle.std.specs.Prelude.{◌≡◌, ◌⊎◌, ℕ, Bool, true, List, Some, IsTrue}
+use Rattle.std.specs.Prelude.{◌≡◌, ℕ, Bool, true, List, Some, IsTrue}
 use Rattle.formula_tree.specs.Term.{Term}
 use Rattle.formula_tree.specs.declared.reference.Corner.{Corner}
 use Rattle.book_values.specs.Workbook as book
@@ -15,8 +15,3 @@ IsNoted test b words noted a = (x : book.Node) (t : Term Corner) → node_at wor
 -- so is each of the nodes
 abbrev pub AreNotedAmong : (book.Node → Term Corner → Bool) → Workbook → List (List ℕ) → List Node → (Node → Bool) → Type 0
 AreNotedAmong test b words nodes noted = (a : Node) → IsTrue (has a nodes) → IsNoted test b words noted a
-
--- some of the nodes were noted, and no other one
-pub record AddsNoted (nodes : List Node) (before noted : Node → Bool) : Type 0 where
-  pub stay : (a : Node) → before a ≡ true → noted a ≡ true
-  pub only : (a : Node) → noted a ≡ true → (before a ≡ true) ⊎ (has a nodes ≡ true)

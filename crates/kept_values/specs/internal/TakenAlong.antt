@@ -17,7 +17,7 @@ use Rattle.marked_values.specs.Gathered.{AreTakenAlong}
 use Rattle.marked_values.specs.Shifts.{is_moved_cell}
 use Rattle.restored_values.specs.Probes.{probe_of}
 use Rattle.kept_values.specs.Shifted.{ComesFrom, IsProbedBy, moved_cell}
-use Rattle.kept_values.specs.Values.{kept_in, links_in, marks_in}
+use Rattle.kept_values.specs.Values.{kept_in, links_in, marks_in, unlinked_in}
 use Rattle.kept_values.specs.declared.values.Values.{Values}
 
 -- the marks with one more, if there is one
@@ -41,17 +41,22 @@ pub record AreMoved (s : Shift) (nodes moved : Node → Bool) : Type 0 where
   pub along : (a after : Node) → nodes a ≡ true → node_after s a ≡ Some after → moved after ≡ true
   pub from : (a : Node) → moved a ≡ true → (d : Node) × (nodes d ≡ true) × (node_after s d ≡ Some a)
 
--- links, marks and kept values went along with the operation
-pub record AreCarried (s : Shift) (old : Links) (marks : List Node) (was : Kept) (w : Values) : Type 0 where
+-- the second nodes are the first ones taken along with the operation, and no other ones; and where the first ones are known they are
+pub record AreAlong (s : Shift) (nodes more : List Node) : Type 0 where
+  pub taken : AreTakenAlong s nodes more
+  pub from : (a : Node) → IsTrue (has a more) → (b : Node) × IsTrue (has b nodes) × ComesFrom s b a
+  pub known : (words : List (List ℕ)) → AreKnown words nodes → AreKnown words more
+
+-- links, kept values, marks and what is to be linked went along with the operation
+pub record AreCarried (s : Shift) (old : Links) (was : Kept) (marked waiting : List Node) (w : Values) : Type 0 where
   pub links : AreShifted s old (links_in w)
   pub kept : (a : Node) → IsNoRange a → kept_in w a ≡ carried_kept (from_over s) was a
-  pub taken : AreTakenAlong s marks (marks_in w)
-  pub from : (a : Node) → IsTrue (has a (marks_in w)) → (b : Node) × IsTrue (has b marks) × ComesFrom s b a
-  pub known : (words : List (List ℕ)) → AreKnown words marks → AreKnown words (marks_in w)
+  pub marks : AreAlong s marked (marks_in w)
+  pub unlinked : AreAlong s waiting (unlinked_in w)
 
--- marked are what was, what is touched, what is bent, and what is noted to ask where a reference is
-abbrev pub HasGathered : List Node → List Node → Values → Values → Type 0
-HasGathered touched bent v w = (a : Node) → has a (marks_in w) ≡ has a (((marks_in v ++ touched) ++ bent) ++ v.noted.asking.keys)
+-- the second nodes are the first ones, what is touched, what is bent, and what is noted to ask where a reference is
+abbrev pub HasGathered : List Node → List Node → Values → List Node → List Node → Type 0
+HasGathered touched bent v old new = (a : Node) → has a new ≡ has a (((old ++ touched) ++ bent) ++ v.noted.asking.keys)
 
 -- the list has each node that is linked to what the operation's probe bends, and no other one, and these are linked to something
 pub record AreProbed (s : Shift) (links : Links) (nodes : List Node) : Type 0 where

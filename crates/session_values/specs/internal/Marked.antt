@@ -9,10 +9,10 @@ use Rattle.dep_graph.specs.declared.node.Node.TheVariants.{Name}
 use Rattle.name_table.specs.declared.key.NameKey.{NameKey}
 use Rattle.session_values.specs.declared.naming.NameTurn.{NameTurn}
 use Rattle.session_values.specs.declared.naming.NameTurn.TheVariants.{Absent, Added, Changed, Removed}
-use Rattle.kept_values.specs.Values.{asks_in, kept_in, links_in, loses_in, marks_in, seeks_in}
+use Rattle.kept_values.specs.Values.{asks_in, kept_in, links_in, loses_in, marks_in, seeks_in, unlinked_in}
 use Rattle.kept_values.specs.declared.values.Values.{Values}
 
--- these nodes are marked as well, and nothing else changed
+-- these nodes are marked as well, and are to be linked, and nothing else changed
 pub record HaveMarked (nodes : List Node) (v w : Values) : Type 0 where
   pub links : links_in w ≡ links_in v
   pub asking : asks_in w ≡ asks_in v
@@ -20,6 +20,7 @@ pub record HaveMarked (nodes : List Node) (v w : Values) : Type 0 where
   pub seeking : seeks_in w ≡ seeks_in v
   pub kept : kept_in w ≡ kept_in v
   pub marks : (a : Node) → has a (marks_in w) ≡ has a (marks_in v ++ nodes)
+  pub unlinked : (a : Node) → has a (unlinked_in w) ≡ has a (unlinked_in v ++ nodes)
 
 -- there is a node, and it is marked
 abbrev pub HasMarked : Option Node → Values → Values → Type 0
@@ -31,19 +32,24 @@ abbrev pub HasMarkedLinked : Option Node → Values → Values → Type 0
 HasMarkedLinked (Some n) v w = (nodes : List Node) × AreLinkedTo n (links_in v) nodes × HaveMarked (nodes ++ n ∷ []) v w
 HasMarkedLinked None v w = ⊥
 
--- the first node is marked, each that is linked to the second one, and each that was noted to use the word where it finds no name, of which
--- none is noted under it any more
+-- the second list has what the first one has, the first node, each that is linked to the second one, and each that was noted to use the word
+-- where it finds no name, and nothing else
+pub record AreSought (n whole : Node) (word : List ℕ) (v : Values) (old new : List Node) : Type 0 where
+  pub stay : (a : Node) → IsTrue (has a old) → IsTrue (has a new)
+  pub sought : (a : Node) → seeks_in v word a ≡ true → IsTrue (has a new)
+  pub linked : (a : Node) → IsTrue (has whole (links_in v a)) → IsTrue (has a new)
+  pub itself : IsTrue (has n new)
+  pub only : (a : Node) → IsTrue (has a new) → IsTrue (has a old) ⊎ ((seeks_in v word a ≡ true) ⊎ (IsTrue (has whole (links_in v a)) ⊎ (a ≡ n)))
+
+-- these are marked, and are to be linked, of which none is noted under the word any more
 pub record HaveSought (n whole : Node) (word : List ℕ) (v w : Values) : Type 0 where
   pub links : links_in w ≡ links_in v
   pub asking : asks_in w ≡ asks_in v
   pub losing : loses_in w ≡ loses_in v
   pub kept : kept_in w ≡ kept_in v
   pub seeking : (other : List ℕ) (a : Node) → seeks_in w other a ≡ (if same_name word other then false else seeks_in v other a)
-  pub stay : (a : Node) → IsTrue (has a (marks_in v)) → IsTrue (has a (marks_in w))
-  pub sought : (a : Node) → seeks_in v word a ≡ true → IsTrue (has a (marks_in w))
-  pub linked : (a : Node) → IsTrue (has whole (links_in v a)) → IsTrue (has a (marks_in w))
-  pub itself : IsTrue (has n (marks_in w))
-  pub only : (a : Node) → IsTrue (has a (marks_in w)) → IsTrue (has a (marks_in v)) ⊎ ((seeks_in v word a ≡ true) ⊎ (IsTrue (has whole (links_in v a)) ⊎ (a ≡ n)))
+  pub marks : AreSought n whole word v (marks_in v) (marks_in w)
+  pub unlinked : AreSought n whole word v (unlinked_in v) (unlinked_in w)
 
 -- there are two nodes, and so it is
 abbrev pub HasSought : Option Node → Option Node → List ℕ → Values → Values → Type 0

@@ -3,8 +3,8 @@ use Rattle.dep_graph.specs.Nodes.{has}
 use Rattle.marked_values.specs.Shifts.{asks_place}
 use Rattle.restored_values.specs.Suspects.{has_lost}
 use Rattle.kept_values.specs.Sought.{noted_under}
-use Rattle.kept_values.specs.Values.{seeks_at}
-use Rattle.kept_values.specs.internal.Noting.{AddsNoted, AreNotedAmong}
+use Rattle.kept_values.specs.Values.{AddsNoted, seeks_at}
+use Rattle.kept_values.specs.internal.Noting.{AreNotedAmong}
 use Rattle.kept_values.proofs.noting.note_all.Given as goal
 
 -- the nodes so far are noted

@@ -20,4 +20,5 @@ returns-in-Some c = λ ok.
       seeking = c.mark.ensures.seeking;
       kept = c.mark.ensures.kept;
       marks = where_ok c.mark.result _ (sym c.is_ok.ensures.value ∙ ok) c.mark.ensures.ok;
+      unlinked = where_ok c.mark.result _ (sym c.is_ok.ensures.value ∙ ok) c.mark.ensures.unlinked;
     })

@@ -17,4 +17,5 @@ returns c = λ customs today.
     (λ a. ap (λ (f : Node → Bool). f a) c.mark_all.ensures.losing ∙ c.in_ok-values.ensures.losing a)
     (λ word a. ap (λ (f : List ℕ → Node → Bool). f word a) c.mark_all.ensures.seeking ∙ c.in_ok-values.ensures.seeking word a)
     (λ a. c.in_ok-mark_all.ensures.ok a ∙ ap (λ (ms : List Node). has a (ms ++ c.items.result.now)) c.in_ok-values.ensures.marks ∙ ap (has a) c.items.ensures)
+    (λ a. c.in_ok-mark_all.ensures.unlinked a ∙ ap (λ (ns : List Node). has a (ns ++ c.items.result.now)) c.in_ok-values.ensures.unlinked ∙ ap (has a) c.items.ensures)
     c.in_ok-nodes.ensures.all c.in_ok-nodes.ensures.known

@@ -4,7 +4,7 @@ use Rattle.cell_addr.specs.Sheets.{same_name}
 use Rattle.dep_graph.specs.Nodes.{has, same_node}
 use Rattle.dep_graph.specs.declared.node.Node.{Node}
 use Rattle.kept_values.specs.Sought.{noted_in}
-use Rattle.kept_values.specs.Values.{marks_in, seeks_in}
+use Rattle.kept_values.specs.Values.{marks_in, seeks_in, unlinked_in}
 use Rattle.kept_values.proofs.Following.{on_ok}
 use Rattle.kept_values.proofs.UnderWords.{only_here}
 use Rattle.kept_values.proofs.values.Values.mark_seeking.Goals as goal
@@ -17,6 +17,15 @@ returns-in-Some-clause-marks c =
     marked a ∙ ap (λ (ns : List Node). has a (marks_in v ++ ns)) c.as_slice.ensures.keys ∙ list_any-append (same_node a) (marks_in v) c.in-Some.seeking.keys
     ∙ ap (λ m. has a (marks_in v) || m) (ap (λ o. noted_in o a) c.in-Some.ensures.value ∙ ap (λ (w : List ℕ). seeks_in v w a) c.in_ok-from_str.ensures))
     c.mark_all.ensures.ok
+
+pub returns-in-Some-clause-unlinked : goal.returns-in-Some-clause-unlinked
+returns-in-Some-clause-unlinked c =
+    let v = c.args.self.now in
+    on_ok c.mark_all.result _ _
+    (λ marked a.
+    marked a ∙ ap (λ (ns : List Node). has a (unlinked_in v ++ ns)) c.as_slice.ensures.keys ∙ list_any-append (same_node a) (unlinked_in v) c.in-Some.seeking.keys
+    ∙ ap (λ m. has a (unlinked_in v) || m) (ap (λ o. noted_in o a) c.in-Some.ensures.value ∙ ap (λ (w : List ℕ). seeks_in v w a) c.in_ok-from_str.ensures))
+    c.mark_all.ensures.unlinked
 
 pub returns-in-Some-clause-seeking : goal.returns-in-Some-clause-seeking
 returns-in-Some-clause-seeking c =
@@ -35,6 +44,11 @@ pub returns-clause-marks : goal.returns-clause-marks
 returns-clause-marks c = λ a.
     let v = c.args.self.now in
     nothing_more (has a (marks_in v)) (seeks_in v c.args.word.now a) (sym (ap (λ (w : List ℕ). seeks_in v w a) c.in_ok-from_str.ensures) ∙ ap (λ o. noted_in o a) (sym c.in-None.ensures.value))
+
+pub returns-clause-unlinked : goal.returns-clause-unlinked
+returns-clause-unlinked c = λ a.
+    let v = c.args.self.now in
+    nothing_more (has a (unlinked_in v)) (seeks_in v c.args.word.now a) (sym (ap (λ (w : List ℕ). seeks_in v w a) c.in_ok-from_str.ensures) ∙ ap (λ o. noted_in o a) (sym c.in-None.ensures.value))
 
 pub returns-clause-seeking : goal.returns-clause-seeking
 returns-clause-seeking c = λ other a.

@@ -19,6 +19,7 @@ returns-clause-follows c =
     goes_along s c.args.touched.now c.items.result.now v m w c.requires
     (subst (λ (ns : List Node). AreBent s (links_in v) ns) (sym c.items.ensures) c.in_ok-bent.ensures)
     (λ a. ap (λ (ns : List Node). has a ns) (c.move_seeking.ensures.marks ∙ c.move_losing.ensures.marks) ∙ c.in_ok-gather.ensures.marks a)
+    (λ a. ap (λ (ns : List Node). has a ns) (c.move_seeking.ensures.unlinked ∙ c.move_losing.ensures.unlinked) ∙ c.in_ok-gather.ensures.unlinked a)
     (c.move_seeking.ensures.links ∙ c.move_losing.ensures.links ∙ c.gather.ensures.links) (c.move_seeking.ensures.kept ∙ c.move_losing.ensures.kept ∙ c.gather.ensures.kept)
     (λ a. ap (λ (f : Node → Bool). f a) (c.carry.ensures.asking ∙ c.move_seeking.ensures.asking ∙ c.move_losing.ensures.asking) ∙ c.in_ok-gather.ensures.asking a)
     (subst (λ (f : Node → Bool). AreMoved s f (loses_in w)) c.gather.ensures.losing
