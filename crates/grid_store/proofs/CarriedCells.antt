@@ -29,7 +29,7 @@ cases_lt : (a b : ℕ) → (a < b) ⊎ (b ≤ a)
 cases_lt a b = grind arith
 
 -- a place is on its sheet or not
-inside_or_not : (q : Place) → IsInside q ⊎ (IsInside q → ⊥)
+pub inside_or_not : (q : Place) → IsInside q ⊎ (IsInside q → ⊥)
 inside_or_not q = elim (cases_lt q.row ROWS) [
   | inl r ↦ elim (cases_lt q.col COLS) [
     | inl c ↦ inl (r, c)

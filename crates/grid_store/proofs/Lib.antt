@@ -15,3 +15,6 @@ pub mod Exchanges
 pub mod SameKeys
 pub mod ColumnKeys
 pub mod LinesRenewed
+pub mod ChangedMaps
+pub mod KeyChanges
+pub mod Drafts

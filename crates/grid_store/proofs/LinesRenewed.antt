@@ -1,5 +1,5 @@
 -- The lines of a sheet along an axis, after an edit or once it is taken back. Serves what makes them.
-use Rattle.std.proofs.Common.{◌≡◌, ◌∙◌, sym, ap, subst, ℕ, Option, Result}
+use Rattle.std.proofs.Common.{◌≡◌, ◌∙◌, sym, ap, subst, ℕ, Result}
 use Rattle.std.specs.Prelude.{IfOk}
 use Rattle.cell_addr.specs.Axis.{limit_of}
 use Rattle.cell_addr.specs.declared.axis.Axis.{Axis}

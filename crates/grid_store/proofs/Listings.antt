@@ -259,23 +259,27 @@ rows_found rows cols es area lines found lines_at h q there some low high =
 
 -- what is found at a place, where all of the block is
 module _ {X : Type 0} (area : Block) (m : PlaceMap X) (found : BTreeMap Place (Bor X)) (cells : AreCellsOf area m found) (rows : HasRows area m 0 (area.bottom + 1) found) where
-  all_found : (q : Place) (b : Bool) (r s : Option X) → covers area q ≡ b → look found q ≡ r → map.get m q ≡ s → r ≡ cond b s None
-  all_found q true None None e f g = refl
-  all_found q true None (Some c) e f g =
+  found-by : (q : Place) (b : Bool) (r s : Option X) → covers area q ≡ b → look found q ≡ r → map.get m q ≡ s → r ≡ cond b s None
+  found-by q true None None e f g = refl
+  found-by q true None (Some c) e f g =
       let w = Covers-from_covers area q e in
       let there = rows q e (ap is_some g) (omega arith) (omega arith) in absurd (both_ways _ (ap is_some f) there)
-  all_found q false None s e f g = refl
-  all_found q true (Some c) s e f g = sym ((cells q c f).1) ∙ g
-  all_found q false (Some c) s e f g = absurd (both_ways _ e (cells q c f).0)
+  found-by q false None s e f g = refl
+  found-by q true (Some c) s e f g = sym ((cells q c f).1) ∙ g
+  found-by q false (Some c) s e f g = absurd (both_ways _ e (cells q c f).0)
 
-  pub found_entries : tree.IsOrdered place_cmp found → seen_items found.entries ≡ map.entries (map.retain_keys m (covers area))
-  found_entries ordered =
-      let es = seen_items found.entries in
-      sym (entries-from_entries place_cmp-IsTotalOrder es (subst (IsStrictlySortedBy place_cmp) (sym (keys_of-map_values (λ b. b.now) found.entries)) ordered))
-      ∙ ap map.entries (map.same_map place_cmp-IsTotalOrder place_cmp-IsAntisymmetric (map.from_entries es) (map.retain_keys m (covers area)) (λ q.
-      sym (lookup-from_entries place_cmp-IsTotalOrder es q) ∙ lookup-map_values (λ b. b.now) (is_at (place_cmp q)) found.entries
-      ∙ all_found q (covers area q) (look found q) (map.get m q) refl refl refl
-      ∙ sym (map.get-retain_keys m (covers area) q (λ x t. ap (covers area) (sym (place_cmp-IsAntisymmetric q x t))))))
+  pub all_found : (q : Place) → look found q ≡ cond (covers area q) (map.get m q) None
+  all_found q = found-by q (covers area q) (look found q) (map.get m q) refl refl refl
+
+-- what is found are the entries of a block, where it is at each place
+pub entries_found : {X : Type 0} (area : Block) (m : PlaceMap X) (found : BTreeMap Place (Bor X)) → ((q : Place) → look found q ≡ cond (covers area q) (map.get m q) None) → tree.IsOrdered place_cmp found
+    → seen_items found.entries ≡ map.entries (map.retain_keys m (covers area))
+entries_found area m found there ordered =
+    let es = seen_items found.entries in
+    sym (entries-from_entries place_cmp-IsTotalOrder es (subst (IsStrictlySortedBy place_cmp) (sym (keys_of-map_values (λ b. b.now) found.entries)) ordered))
+    ∙ ap map.entries (map.same_map place_cmp-IsTotalOrder place_cmp-IsAntisymmetric (map.from_entries es) (map.retain_keys m (covers area)) (λ q.
+    sym (lookup-from_entries place_cmp-IsTotalOrder es q) ∙ lookup-map_values (λ b. b.now) (is_at (place_cmp q)) found.entries ∙ there q
+    ∙ sym (map.get-retain_keys m (covers area) q (λ x t. ap (covers area) (sym (place_cmp-IsAntisymmetric q x t))))))
 
 -- past the sheet's last row no cell is seen
 pub seen_below : {X : Type 0} (rows cols : SheetLines) (es : List (CellKey × X)) → rows.plain.limit ≡ ROWS → cols.plain.limit ≡ COLS → (sheet row : ℕ) → (row < (table_of rows sheet).limit → ⊥)

@@ -1,7 +1,7 @@
 -- What a grid stands for once lines of a sheet are renewed: each key at the place that its line comes to. Serves inserts, deletions and moves
 -- of rows and columns.
-use Rattle.std.proofs.Common.{◌≡◌, ◌∙◌, sym, ap, refl, subst, ℕ, ◌<◌, ◌≤◌, inl, inr, false, ◌==◌, List, Option, Some, None, option_map, option_and_then, IsSome, IsSomeAnd, arith}
-use Rattle.std.proofs.lemmas.Bool.{ne_eqb}
+use Rattle.std.proofs.Common.{◌≡◌, ◌∙◌, sym, ap, refl, subst, ℕ, ◌<◌, ◌≤◌, inl, inr, Bool, true, false, ◌==◌, Option, Some, None, option_map, option_and_then, IsSome, IsSomeAnd, arith}
+use Rattle.std.proofs.lemmas.Bool.{eqb-true, ne_eqb}
 use Rattle.cell_addr.specs.Axis.{limit_of, line_of}
 use Rattle.cell_addr.specs.Place.{IsInside}
 use Rattle.cell_addr.specs.declared.axis.Axis.{Axis}
@@ -14,16 +14,20 @@ use Rattle.stable_lines.specs.Lines.{AreRenewed, ComesTo, line_at}
 use Rattle.stable_lines.specs.Sheets.{table_of}
 use Rattle.stable_lines.specs.declared.sheets.SheetLines.{SheetLines}
 use Rattle.stable_lines.specs.declared.table.LineTable.{LineTable}
+use Rattle.grid_store.specs.Draft.{AreGivenOut}
 use Rattle.grid_store.specs.Keys.{key_at, place_at}
 use Rattle.grid_store.specs.declared.key.CellKey.{CellKey}
 use Rattle.grid_store.specs.internal.Renewal.{IsRenewal, along}
 use Rattle.grid_store.proofs.KeyPlaces.{key_col, key_line, key_of_place, key_sheet}
-use Rattle.grid_store.proofs.Views.{kept}
 
 -- the line of a key along an axis
 abbrev pub key_along : Axis → CellKey → ℕ
 key_along Rows k = k.row
 key_along Cols k = k.col
+
+given_along : (axis : Axis) (rows cols : SheetLines) (k : CellKey) → AreGivenOut rows cols k → key_along axis k < (table_of (along axis rows cols) k.sheet).next
+given_along Rows rows cols k given = given.0
+given_along Cols rows cols k given = given.1
 
 -- the key of a sheet by the lines along an axis and across it
 abbrev key_from : Axis → ℕ → Option ℕ → Option ℕ → Option CellKey
@@ -82,22 +86,50 @@ module _ (axis : Axis) (sheet : ℕ) (rule : ℕ → Option ℕ) (rows cols rows
   late : (r : Option ℕ) (l : ℕ) → r ≡ Some l → IsSomeAnd r (λ x. old.next ≤ x) → old.next ≤ l
   late r l e h = subst (λ z. IsSomeAnd z (λ x. old.next ≤ x)) e h
 
-  stale : (k : CellKey) (r : Option Place) → place_at rows cols k ≡ r → IsSome r → sheet ≡ k.sheet → old.next ≤ key_along axis k → ⊥
-  stale k None e some on fresh = cc
-  stale k (Some p) e some on fresh =
-      let at = key_of_place rows cols k p e in
-      let here : line_at old (line_of axis p) ≡ Some (key_along axis k) =
-      ap (λ s. line_there (along axis rows cols) s (line_of axis p)) (on ∙ sym (key_sheet rows cols p k at)) ∙ along_line axis rows cols p k at in
-      let short = old.below (line_of axis p) (key_along axis k) here in omega arith
+  stale : (k : CellKey) → AreGivenOut rows cols k → sheet ≡ k.sheet → old.next ≤ key_along axis k → ⊥
+  stale k given on fresh =
+      let short : key_along axis k < old.next = subst (λ s. key_along axis k < (table_of (along axis rows cols) s).next) (sym on) (given_along axis rows cols k given) in omega (arith, short, fresh)
 
-  -- where nothing comes, no key is kept
-  pub key_fresh : {X : Type 0} (es : List (CellKey × X)) → ((k : CellKey) → IsSome (kept es k) → IsSome (place_at rows cols k)) → (q : Place) (k : CellKey) → IsInside q → by_line sheet axis rule q ≡ None
-      → key_at rows' cols' q ≡ Some k → IsSome (kept es k) → ⊥
-  key_fresh es standing q k i h at some =
+  -- where nothing comes, no key has lines that were given out
+  pub key_fresh : (q : Place) (k : CellKey) → IsInside q → by_line sheet axis rule q ≡ None → key_at rows' cols' q ≡ Some k → AreGivenOut rows cols k → ⊥
+  key_fresh q k i h at given =
       let w = lost_line sheet axis rule q h in
       let there : line_at new (line_of axis q) ≡ Some (key_along axis k) = ap (λ s. line_there (along axis rows' cols') s (line_of axis q)) (sym w.0) ∙ along_line axis rows' cols' q k at in
       let fresh = late (line_at new (line_of axis q)) (key_along axis k) there (came q None i w.1) in
-      stale k (place_at rows cols k) refl (standing k some) (sym w.0 ∙ key_sheet rows' cols' q k at) fresh
+      stale k given (sym w.0 ∙ key_sheet rows' cols' q k at) fresh
+
+next_on : (axis : Axis) (sheet : ℕ) (rule : ℕ → Option ℕ) (rows cols rows' cols' : SheetLines) → IsRenewal axis sheet rule rows cols rows' cols' → (s : ℕ) (b : Bool) → (s == sheet) ≡ b
+    → (table_of (along axis rows cols) s).next ≤ (table_of (along axis rows' cols') s).next
+next_on axis sheet rule rows cols rows' cols' renewal s true e =
+    subst (λ x. (table_of (along axis rows cols) x).next ≤ (table_of (along axis rows' cols') x).next) (sym (eqb-true s sheet e)) renewal.there.1
+next_on axis sheet rule rows cols rows' cols' renewal s false e =
+    subst (λ (t : LineTable). (table_of (along axis rows cols) s).next ≤ t.next) (sym (renewal.others s e)) (omega arith)
+
+under_next : (a b c : ℕ) → a < b → b ≤ c → a < c
+under_next a b c h k = omega arith
+
+-- lines that were given out are so still
+pub given_still : (axis : Axis) (sheet : ℕ) (rule : ℕ → Option ℕ) (rows cols rows' cols' : SheetLines) → IsRenewal axis sheet rule rows cols rows' cols' → (k : CellKey) → AreGivenOut rows cols k → AreGivenOut rows' cols' k
+given_still Rows sheet rule rows cols rows' cols' renewal k given = (
+  under_next k.row _ _ given.0 (next_on Rows sheet rule rows cols rows' cols' renewal k.sheet (k.sheet == sheet) refl),
+  subst (λ (c : SheetLines). k.col < (table_of c k.sheet).next) (sym renewal.over) given.1,
+)
+given_still Cols sheet rule rows cols rows' cols' renewal k given = (
+  subst (λ (r : SheetLines). k.row < (table_of r k.sheet).next) (sym renewal.over) given.0,
+  under_next k.col _ _ given.1 (next_on Cols sheet rule rows cols rows' cols' renewal k.sheet (k.sheet == sheet) refl),
+)
+
+-- lines that stand were given out
+standing-by : (rows cols : SheetLines) (k : CellKey) (r : Option Place) → place_at rows cols k ≡ r → IsSome r → AreGivenOut rows cols k
+standing-by rows cols k None e some = cc
+standing-by rows cols k (Some p) e some =
+    let at = key_of_place rows cols k p e in (
+      subst (λ s. k.row < (table_of rows s).next) (key_sheet rows cols p k at) ((table_of rows p.sheet).below p.row k.row (key_line rows cols p k at)),
+      subst (λ s. k.col < (table_of cols s).next) (key_sheet rows cols p k at) ((table_of cols p.sheet).below p.col k.col (key_col rows cols p k at)),
+    )
+
+pub standing_given : (rows cols : SheetLines) (k : CellKey) → IsSome (place_at rows cols k) → AreGivenOut rows cols k
+standing_given rows cols k some = standing-by rows cols k (place_at rows cols k) refl some
 
 -- a table that is put in place among those of the rows, or of the columns
 pub renewed_rows : (axis : Axis) → axis ≡ Rows → (sheet : ℕ) (rule : ℕ → Option ℕ) (rows cols rows' : SheetLines) (table : LineTable) → AreRenewed rule (table_of (along axis rows cols) sheet) table → table_of rows' sheet ≡ table

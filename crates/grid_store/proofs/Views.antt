@@ -37,6 +37,11 @@ each_key : {X : Type 0} (P : CellKey → Type 0) (es : List (CellKey × X)) → 
 each_key P [] h = tt
 each_key P (e ∷ es) h = (h e.0, each_key P es h)
 
+-- no key that rises from a key is that key
+pub above_none : {X : Type 0} (k : CellKey) (es : List (CellKey × X)) → AllByRecursion (λ x. key_cmp k x ≡ Less) (keys_of es) → kept es k ≡ None
+above_none k [] h = refl
+above_none k (e ∷ es) h = ap (λ o. cond (is_eq o) (Some e.1) (kept es k)) h.0 ∙ above_none k es h.1
+
 module _ (rows cols : SheetLines) where
   found : {X : Type 0} (es : List (CellKey × X)) (p : Place) (r : Option CellKey) → key_at rows cols p ≡ r → find place_cmp p (filter_map (placed rows cols) es) ≡ option_and_then (kept es) r
   found es p None e =
@@ -123,11 +128,6 @@ module _ (rows cols : SheetLines) where
   standing_inserted (Ok x) es fs at key cell f ok err stands =
       standing_after es fs key (Some cell) ok (λ h. ap is_some (place_of_key rows cols at key f)) stands
   standing_inserted (Err y) es fs at key cell f ok err stands = λ k some. stands k (subst (λ z. IsSome (kept z k)) err some)
-
-  -- no key that rises from a key is that key
-  above_none : {X : Type 0} (k : CellKey) (es : List (CellKey × X)) → AllByRecursion (λ x. key_cmp k x ≡ Less) (keys_of es) → kept es k ≡ None
-  above_none k [] h = refl
-  above_none k (e ∷ es) h = ap (λ o. cond (is_eq o) (Some e.1) (kept es k)) h.0 ∙ above_none k es h.1
 
   found_later : {X : Type 0} (k : CellKey) (e : CellKey × X) (b : Bool) (r : Option X) → IsSome r → IsSome (cond b (Some e.1) r)
   found_later k e true r h = refl

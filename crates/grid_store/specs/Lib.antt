@@ -1,3 +1,4 @@
 pub mod Keys
 pub mod Grid
+pub mod Draft
 pub mod internal

@@ -5,3 +5,4 @@ pub mod Ways
 pub mod Renewal
 pub mod Exchange
 pub mod Turned
+pub mod Drafting

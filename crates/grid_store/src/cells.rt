@@ -51,6 +51,13 @@ impl<V: Drop> Cells<V> {
         &self.by_rows
     }
 
+    // The cells, in the order of their keys.
+    pub(crate) fn into_rows(self) -> BTreeMap<CellKey, V>
+        ensures { result ≡ self }
+    {
+        self.by_rows
+    }
+
     // The turned keys in their order: by sheet, by the line of the column, by that of the row.
     pub(crate) fn by_cols(&self) -> &BTreeSet<CellKey>
         ensures { AreTurned self.now result.now }

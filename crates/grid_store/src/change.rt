@@ -1,12 +1,12 @@
 // Structural operations on the grid.
 ghost use Rattle.std.specs.Prelude.{◌≡◌, IfOk, OnOk, OnErr, IsSome, is_some};
-ghost use Rattle.stable_lines.specs.Sheets.{HasRoom, table_of};
+ghost use Rattle.stable_lines.specs.Sheets.{AreUnchanged, HasRoom, table_of};
 ghost use Rattle.stable_lines.specs.Lines.{AreRenewed};
 ghost use Rattle.cell_addr.specs.Axis.{limit_of};
 ghost use Rattle.shift_core.specs.Lines.{IsSoundEdit};
 ghost use Rattle.shift_core.specs.declared.form.Form.TheVariants.{Lines};
 ghost use Rattle.grid_store.specs.Grid.{KeepsLines, cells_of, items_of};
-ghost use Rattle.grid_store.specs.internal.Renewal.{along};
+ghost use Rattle.grid_store.specs.internal.Renewal.{IsRenewal, IsRenewalOver, along};
 ghost use Rattle.grid_store.specs.internal.Ways.{carried_map, form_goes, line_goes, lost_by, turned, whole};
 ghost use Rattle.std.specs.FinMap as map;
 ghost use Rattle.cell_addr.specs.declared.place.Place.{Place};
@@ -33,6 +33,7 @@ impl<V: Duplicate> Grid<V> {
         ensures carried { OnOk result (cells_of self.new ≡ carried_map (form_goes way (Lines sheet axis edit)) (cells_of self.old)) }
         ensures lost { IfOk result (λ list. items_of list ≡ lost_by (form_goes way (Lines sheet axis edit)) (cells_of self.old)) }
         ensures err { OnErr result (cells_of self.new ≡ cells_of self.old) }
+        ensures lines { OnOk result (IsRenewalOver axis sheet (line_goes (turned way) (limit_of axis) edit) self.old.rows self.old.cols self.new.rows self.new.cols) }
     {
         self.reserve(axis, sheet)?;
         let table = self.renewed(way, sheet, axis, edit)?;
@@ -44,8 +45,9 @@ impl<V: Duplicate> Grid<V> {
     // Keeps room for another table of the sheet's lines.
     pub(crate) fn reserve(&mut self, axis: Axis, sheet: u32) -> Result<(), AllocError>
         ensures cells { cells_of self.new ≡ cells_of self.old }
-        ensures keys { self.new.cells ≡ self.old.cells }
         ensures room { OnOk result (HasRoom (along axis self.new.rows self.new.cols) sheet) }
+        ensures rows { AreUnchanged self.old.rows self.new.rows }
+        ensures cols { AreUnchanged self.old.cols self.new.cols }
     {
         match axis {
             Axis::Rows => self.rows.reserve(sheet),
@@ -107,7 +109,7 @@ impl<V: Duplicate> Grid<V> {
         requires renewed { AreRenewed (line_goes (turned way) (limit_of axis) edit) (table_of (along axis self.old.rows self.old.cols) sheet) table }
         requires kept { (p : Place) → IsSome (map.get (cells_of self.old) p) → IsSome (form_goes way (Lines sheet axis edit) p) }
         ensures carried { cells_of self.new ≡ carried_map (form_goes way (Lines sheet axis edit)) (cells_of self.old) }
-        ensures keys { self.new.cells ≡ self.old.cells }
+        ensures lines { IsRenewal axis sheet (line_goes (turned way) (limit_of axis) edit) self.old.rows self.old.cols self.new.rows self.new.cols }
     {
         match axis {
             Axis::Rows => self.rows.replace(sheet, table),

@@ -2,12 +2,12 @@
 ghost use Rattle.std.specs.Prelude.{◌≡◌, ◌↔◌, ◌+◌, ◌<◌, false, IsTrue, OnOk};
 ghost use Rattle.std.specs.BTreeMap.{IsEmpty};
 ghost use Rattle.stable_lines.specs.Sheets.{table_of};
-ghost use Rattle.grid_store.specs.Grid.{HasAny, cells_of};
-ghost use Rattle.grid_store.specs.internal.Listing.{AreCellsOf, AreLinesAt, HasColumns, HasRows, LacksColumns, StillHas};
+ghost use Rattle.grid_store.specs.Grid.{HasAny};
+ghost use Rattle.grid_store.specs.internal.Listing.{AreCellsOf, AreLinesAt, HasColumns, HasRows, LacksColumns, StillHas, shown};
 
-use crate::grid::Grid;
 use crate::key::CellKey;
 use crate::listing::add;
+use crate::view::View;
 use cell_addr::{Block, COLS, Place, ROWS};
 use stable_lines::Run;
 use std::alloc::AllocError;
@@ -18,16 +18,16 @@ pub(crate) fn is_of_columns(area: Block) -> bool {
     area.top == 0 && ROWS - 1 <= area.bottom && (0 < area.left || area.right < COLS - 1)
 }
 
-impl<V: Drop> Grid<V> {
-    // Finds the filled cells of the block, by its runs of columns whose lines follow one another.
-    pub(crate) fn find_by_cols<'a>(
-        &'a self,
+impl<'a, V: Drop> View<'a, V> {
+    // Finds the seen cells of the block, by its runs of columns whose lines follow one another.
+    pub(crate) fn find_by_cols(
+        &self,
         area: Block,
         found: &mut BTreeMap<Place, &'a V>,
     ) -> Result<(), AllocError>
         requires { IsEmpty found.old }
-        ensures cells { OnOk result (AreCellsOf area (cells_of self.now) found.new) }
-        ensures rows { OnOk result (HasRows area (cells_of self.now) 0 (area.bottom + 1) found.new) }
+        ensures cells { OnOk result (AreCellsOf area (shown self.now) found.new) }
+        ensures rows { OnOk result (HasRows area (shown self.now) 0 (area.bottom + 1) found.new) }
     {
         let table = self.cols.table(area.sheet);
         let mut col = area.left;
@@ -42,18 +42,18 @@ impl<V: Drop> Grid<V> {
         Ok(())
     }
 
-    // Finds the filled cells of the block that are on these lines of columns, among all that are kept on them.
-    fn find_on_cols<'a>(
-        &'a self,
+    // Finds the seen cells of the block that are on these lines of columns, among all that are kept on them.
+    fn find_on_cols(
+        &self,
         area: Block,
         lines: Run,
         found: &mut BTreeMap<Place, &'a V>,
     ) -> Result<(), AllocError>
-        requires cells { AreCellsOf area (cells_of self.now) found.old }
-        requires lines { AreLinesAt (table_of self.now.cols area.sheet) lines }
+        requires cells { AreCellsOf area (shown self.now) found.old }
+        requires lines { AreLinesAt (table_of self.now.cols.now area.sheet) lines }
         requires sum { lines.to + lines.count < 18446744073709551616 }
-        ensures cells { OnOk result (AreCellsOf area (cells_of self.now) found.new) }
-        ensures columns { OnOk result (HasColumns area (cells_of self.now) lines.from (lines.from + lines.count) found.new) }
+        ensures cells { OnOk result (AreCellsOf area (shown self.now) found.new) }
+        ensures columns { OnOk result (HasColumns area (shown self.now) lines.from (lines.from + lines.count) found.new) }
         ensures still { OnOk result (StillHas found.old found.new) }
     {
         let sheet = area.sheet;
@@ -80,9 +80,9 @@ impl<V: Drop> Grid<V> {
         Ok(())
     }
 
-    // Whether a cell of the block is filled, by its runs of columns whose lines follow one another.
+    // Whether a cell of the block is seen, by its runs of columns whose lines follow one another.
     pub(crate) fn has_any_by_cols(&self, area: Block) -> bool
-        ensures { IsTrue result ↔ HasAny area (cells_of self.now) }
+        ensures { IsTrue result ↔ HasAny area (shown self.now) }
     {
         let table = self.cols.table(area.sheet);
         let mut col = area.left;
@@ -99,12 +99,12 @@ impl<V: Drop> Grid<V> {
         false
     }
 
-    // Whether a cell of the block on these lines of columns is filled.
+    // Whether a cell of the block on these lines of columns is seen.
     fn has_any_on_cols(&self, area: Block, lines: Run) -> bool
-        requires lines { AreLinesAt (table_of self.now.cols area.sheet) lines }
+        requires lines { AreLinesAt (table_of self.now.cols.now area.sheet) lines }
         requires sum { lines.to + lines.count < 18446744073709551616 }
-        ensures found { IsTrue result → HasAny area (cells_of self.now) }
-        ensures none { result ≡ false → LacksColumns area (cells_of self.now) lines.from (lines.from + lines.count) }
+        ensures found { IsTrue result → HasAny area (shown self.now) }
+        ensures none { result ≡ false → LacksColumns area (shown self.now) lines.from (lines.from + lines.count) }
     {
         let sheet = area.sheet;
         let first = CellKey {

@@ -16,3 +16,13 @@ impl Duplicate for Scalar {
         self.copy(alloc)
     }
 }
+
+/// Where there is a value, an equal one.
+impl<V: Duplicate> Duplicate for Option<V> {
+    fn duplicate(&self, alloc: Global) -> Result<Option<V>, AllocError> {
+        match self {
+            Some(value) => Ok(Some(value.duplicate(alloc)?)),
+            None => Ok(None),
+        }
+    }
+}

@@ -97,7 +97,7 @@ impl<V: Drop> Grid<V> {
     }
 
     // Fills the cell at the place, and drops what it held.
-    fn set(&mut self, at: Place, cell: V) -> Result<(), AllocError>
+    pub(crate) fn set(&mut self, at: Place, cell: V) -> Result<(), AllocError>
         requires { IsInside at }
         ensures ok { OnOk result (cells_of self.new ≡ map.insert (cells_of self.old) at cell) }
         ensures err { OnErr result (cells_of self.new ≡ cells_of self.old) }

@@ -6,7 +6,8 @@ ghost use Rattle.grid_store.specs.Keys.{key_cmp, place_at};
 ghost use Rattle.grid_store.specs.declared.key.CellKey.{CellKey};
 
 use crate::cells::Cells;
-use crate::key::CellKey;
+use crate::key::{CellKey, key_in, place_in};
+use crate::view::View;
 use cell_addr::{Axis, COLS, Place, ROWS};
 use stable_lines::SheetLines;
 use std::alloc::{AllocError, Global};
@@ -29,6 +30,7 @@ impl<V: Drop> Grid<V> {
     ghost use Rattle.cell_addr.specs.Place.{IsInside};
     ghost use Rattle.grid_store.specs.Grid.{KeepsLines, cells_of};
     ghost use Rattle.grid_store.specs.Keys.{key_at};
+    ghost use Rattle.grid_store.specs.internal.Listing.{shown};
 
     /// A grid without cells.
     pub fn new(alloc: Global) -> Result<Grid<V>, AllocError>
@@ -46,26 +48,25 @@ impl<V: Drop> Grid<V> {
     pub(crate) fn key(&self, at: Place) -> Option<CellKey>
         ensures { result ≡ key_at self.now.rows self.now.cols at }
     {
-        let row = self.rows.table(at.sheet).line(at.row)?;
-        let col = self.cols.table(at.sheet).line(at.col)?;
-        Some(CellKey {
-            sheet: at.sheet,
-            row,
-            col,
-        })
+        key_in(&self.rows, &self.cols, at)
     }
 
     // The place where a key's lines stand.
     pub(crate) fn place(&self, key: CellKey) -> Option<Place>
         ensures { result ≡ place_at self.now.rows self.now.cols key }
     {
-        let row = self.rows.table(key.sheet).position(key.row)?;
-        let col = self.cols.table(key.sheet).position(key.col)?;
-        Some(Place {
-            sheet: key.sheet,
-            row,
-            col,
-        })
+        place_in(&self.rows, &self.cols, key)
+    }
+
+    // The cells, seen through the lines of the grid.
+    pub(crate) fn view(&self) -> View<V>
+        ensures { shown result ≡ cells_of self.now }
+    {
+        View {
+            cells: &self.cells,
+            rows: &self.rows,
+            cols: &self.cols,
+        }
     }
 
     /// What the cell at the place holds; `None` where it is empty. Costs the logarithm of the number of filled cells.

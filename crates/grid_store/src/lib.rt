@@ -4,7 +4,8 @@
 //! ([`Duplicate`]). It keeps each cell under the lines of its row and its column, which stay as other rows and columns are
 //! inserted, deleted or moved. So such an operation costs the number of cells that it loses, and not that of all cells. A block
 //! is listed by what is filled in its rows; whole columns by what is filled in them, since the keys stand in a second order too,
-//! by columns.
+//! by columns. Several changes that are to be made together or not at all are made on the side first, by a [`Draft`], at no more
+//! cost.
 //!
 //! ```text
 //! grid.put(at, Cell::Number(n))?;
@@ -19,6 +20,8 @@ mod change;
 mod clearing;
 mod columns;
 mod copy;
+mod draft;
+mod drafting;
 mod duplicate;
 mod exchange;
 mod grid;
@@ -28,9 +31,11 @@ mod listing;
 mod moving;
 mod pushing;
 mod restoring;
+mod view;
 mod way;
 
 pub use cell::Cell;
+pub use draft::Draft;
 pub use duplicate::Duplicate;
 pub use grid::Grid;
 pub use list::CellList;

@@ -5,13 +5,14 @@ ghost use Rattle.cell_addr.specs.Order.{place_cmp};
 ghost use Rattle.std.specs.FinMap as map;
 ghost use Rattle.stable_lines.specs.Sheets.{table_of};
 ghost use Rattle.grid_store.specs.Grid.{cells_of, items_of, seen_items, within};
-ghost use Rattle.grid_store.specs.internal.Listing.{AreCellsOf, AreLinesAt, HasCols, HasLines, HasRows, IsAdded, KeepsNone, StillHas};
+ghost use Rattle.grid_store.specs.internal.Listing.{AreCellsOf, AreLinesAt, HasCols, HasLines, HasRows, IsAdded, KeepsNone, StillHas, shown};
 
 use crate::columns::is_of_columns;
 use crate::duplicate::Duplicate;
 use crate::grid::Grid;
 use crate::key::CellKey;
 use crate::list::CellList;
+use crate::view::View;
 use cell_addr::{Block, Place};
 use stable_lines::Run;
 use std::alloc::{AllocError, Global};
@@ -48,16 +49,33 @@ impl<V: Drop> Grid<V> {
     pub fn listed_refs(&self, area: Block) -> Result<Vec<(Place, &V)>, AllocError>
         ensures { IfOk result (λ list. seen_items list.items ≡ map.entries (within area (cells_of self.now))) }
     {
-        let mut found = BTreeMap::new(self.alloc);
+        self.view().listed_refs(self.alloc, area)
+    }
+}
+
+impl<'a, V: Drop> View<'a, V> {
+    // The seen cells of the block, row by row.
+    pub(crate) fn listed_refs(
+        &self,
+        alloc: Global,
+        area: Block,
+    ) -> Result<Vec<(Place, &'a V)>, AllocError>
+        ensures { IfOk result (λ list. seen_items list.items ≡ map.entries (within area (shown self.now))) }
+    {
+        let mut found = BTreeMap::new(alloc);
         self.find(area, &mut found)?;
-        in_order(self.alloc, found)
+        in_order(alloc, found)
     }
 
-    // Finds the filled cells of the block, by its columns or by its rows.
-    fn find<'a>(&'a self, area: Block, found: &mut BTreeMap<Place, &'a V>) -> Result<(), AllocError>
+    // Finds the seen cells of the block, by its columns or by its rows.
+    pub(crate) fn find(
+        &self,
+        area: Block,
+        found: &mut BTreeMap<Place, &'a V>,
+    ) -> Result<(), AllocError>
         requires { IsEmpty found.old }
-        ensures cells { OnOk result (AreCellsOf area (cells_of self.now) found.new) }
-        ensures rows { OnOk result (HasRows area (cells_of self.now) 0 (area.bottom + 1) found.new) }
+        ensures cells { OnOk result (AreCellsOf area (shown self.now) found.new) }
+        ensures rows { OnOk result (HasRows area (shown self.now) 0 (area.bottom + 1) found.new) }
     {
         if is_of_columns(area) {
             self.find_by_cols(area, found)
@@ -66,15 +84,15 @@ impl<V: Drop> Grid<V> {
         }
     }
 
-    // Finds the filled cells of the block, by its runs of rows whose lines follow one another.
-    fn find_by_rows<'a>(
-        &'a self,
+    // Finds the seen cells of the block, by its runs of rows whose lines follow one another.
+    fn find_by_rows(
+        &self,
         area: Block,
         found: &mut BTreeMap<Place, &'a V>,
     ) -> Result<(), AllocError>
         requires { IsEmpty found.old }
-        ensures cells { OnOk result (AreCellsOf area (cells_of self.now) found.new) }
-        ensures rows { OnOk result (HasRows area (cells_of self.now) 0 (area.bottom + 1) found.new) }
+        ensures cells { OnOk result (AreCellsOf area (shown self.now) found.new) }
+        ensures rows { OnOk result (HasRows area (shown self.now) 0 (area.bottom + 1) found.new) }
     {
         let table = self.rows.table(area.sheet);
         let mut row = area.top;
@@ -89,18 +107,18 @@ impl<V: Drop> Grid<V> {
         Ok(())
     }
 
-    // Finds the filled cells of the block that are on these lines of rows, one after the other of those that hold any.
-    fn find_on<'a>(
-        &'a self,
+    // Finds the seen cells of the block that are on these lines of rows, one after the other of those that hold any.
+    fn find_on(
+        &self,
         area: Block,
         lines: Run,
         found: &mut BTreeMap<Place, &'a V>,
     ) -> Result<(), AllocError>
-        requires cells { AreCellsOf area (cells_of self.now) found.old }
-        requires lines { AreLinesAt (table_of self.now.rows area.sheet) lines }
+        requires cells { AreCellsOf area (shown self.now) found.old }
+        requires lines { AreLinesAt (table_of self.now.rows.now area.sheet) lines }
         requires sum { lines.to + lines.count < 18446744073709551616 }
-        ensures cells { OnOk result (AreCellsOf area (cells_of self.now) found.new) }
-        ensures rows { OnOk result (HasRows area (cells_of self.now) lines.from (lines.from + lines.count) found.new) }
+        ensures cells { OnOk result (AreCellsOf area (shown self.now) found.new) }
+        ensures rows { OnOk result (HasRows area (shown self.now) lines.from (lines.from + lines.count) found.new) }
         ensures still { OnOk result (StillHas found.old found.new) }
     {
         let end = lines.to + lines.count;
@@ -112,15 +130,15 @@ impl<V: Drop> Grid<V> {
         Ok(())
     }
 
-    // Finds the filled cells of the block that are on one line of rows, by its runs of columns whose lines follow one another.
-    fn find_in_row<'a>(
-        &'a self,
+    // Finds the seen cells of the block that are on one line of rows, by its runs of columns whose lines follow one another.
+    fn find_in_row(
+        &self,
         area: Block,
         row: u64,
         found: &mut BTreeMap<Place, &'a V>,
     ) -> Result<(), AllocError>
-        requires { AreCellsOf area (cells_of self.now) found.old }
-        ensures cells { OnOk result (AreCellsOf area (cells_of self.now) found.new) }
+        requires { AreCellsOf area (shown self.now) found.old }
+        ensures cells { OnOk result (AreCellsOf area (shown self.now) found.new) }
         ensures line { OnOk result (HasLines self.now area row (row + 1) found.new) }
         ensures still { OnOk result (StillHas found.old found.new) }
     {
@@ -137,18 +155,18 @@ impl<V: Drop> Grid<V> {
         Ok(())
     }
 
-    // Finds the filled cells of the block that are on one line of rows and these lines of columns.
-    fn find_between<'a>(
-        &'a self,
+    // Finds the seen cells of the block that are on one line of rows and these lines of columns.
+    fn find_between(
+        &self,
         area: Block,
         row: u64,
         lines: Run,
         found: &mut BTreeMap<Place, &'a V>,
     ) -> Result<(), AllocError>
-        requires cells { AreCellsOf area (cells_of self.now) found.old }
-        requires lines { AreLinesAt (table_of self.now.cols area.sheet) lines }
+        requires cells { AreCellsOf area (shown self.now) found.old }
+        requires lines { AreLinesAt (table_of self.now.cols.now area.sheet) lines }
         requires sum { lines.to + lines.count < 18446744073709551616 }
-        ensures cells { OnOk result (AreCellsOf area (cells_of self.now) found.new) }
+        ensures cells { OnOk result (AreCellsOf area (shown self.now) found.new) }
         ensures cols { OnOk result (HasCols self.now area row lines.from (lines.from + lines.count) found.new) }
         ensures still { OnOk result (StillHas found.old found.new) }
     {
@@ -206,7 +224,7 @@ pub(crate) fn add<'a, V>(
 }
 
 // The found cells, in the order of their places.
-fn in_order<'a, V>(
+pub(crate) fn in_order<'a, V>(
     alloc: Global,
     found: BTreeMap<Place, &'a V>,
 ) -> Result<Vec<(Place, &'a V)>, AllocError>
@@ -221,7 +239,10 @@ fn in_order<'a, V>(
 }
 
 // Copies of the cells.
-fn copies<V: Duplicate>(alloc: Global, cells: &[(Place, &V)]) -> Result<CellList<V>, AllocError>
+pub(crate) fn copies<V: Duplicate>(
+    alloc: Global,
+    cells: &[(Place, &V)],
+) -> Result<CellList<V>, AllocError>
     ensures { IfOk result (λ list. items_of list ≡ seen_items cells.now) }
 {
     let mut list = CellList::new(alloc)?;

@@ -21,9 +21,9 @@ use std::alloc::{AllocError, Global};
 impl<V: Duplicate> Grid<V> {
     /// Does the operation: each cell goes where its place goes. The cells whose places are lost are handed out with those places, row by row.
     ///
-    /// An insert, a deletion or a move of rows or columns costs the number of runs of its lines that follow one another, and each
-    /// cell that it loses the logarithm of the number of filled cells; a dropped sheet costs its cells; a move of a block those of
-    /// its two blocks. For want of memory the grid is as it was.
+    /// An insert, a deletion or a move of rows or columns costs what the edit of its table of lines does, and each cell that it
+    /// loses the logarithm of the number of filled cells; a dropped sheet costs its cells; a move of a block those of its two
+    /// blocks. For want of memory the grid is as it was.
     pub fn apply(&mut self, s: &Shift) -> Result<CellList<V>, AllocError>
         requires { IsSound s.now }
         ensures moved { OnOk result (cells_of self.new ≡ moved_map s.now (cells_of self.old)) }
@@ -42,9 +42,8 @@ impl<V: Duplicate> Grid<V> {
 
     /// Takes the operation back: the removed cells come to their places, and each other cell to the place that it came from.
     ///
-    /// Costs what the operation does, the cells that are put back, and where there are some the runs of lines of all sheets. Where cells
-    /// stand that an edit of lines loses as it is taken back, of which an operation leaves none, it costs the number of filled cells.
-    /// For want of memory the grid is as it was.
+    /// Costs what the operation does, the cells that are put back, and where there are some the number of sheets whose lines were ever
+    /// edited. For want of memory the grid is as it was.
     pub fn put_back(&mut self, s: &Shift, removed: CellList<V>) -> Result<(), AllocError>
         requires sound { IsSound s.now }
         requires inside { AreListedInside (items_of removed) }
@@ -101,7 +100,7 @@ impl<V: Duplicate> Grid<V> {
 }
 
 // The block whose cells are moved, and the one that they come to.
-fn blocks(way: Way, source: Block, to: Place) -> (Block, Block)
+pub(crate) fn blocks(way: Way, source: Block, to: Place) -> (Block, Block)
     requires { IsSoundForm (Cells source to) }
     ensures from { result.0 ≡ from_block way source to }
     ensures onto { result.1 ≡ onto_block way source to }
@@ -120,7 +119,7 @@ fn blocks(way: Way, source: Block, to: Place) -> (Block, Block)
 }
 
 // The places of the cells of both lists.
-fn both_places<V: Drop>(
+pub(crate) fn both_places<V: Drop>(
     alloc: Global,
     first: &CellList<V>,
     second: &CellList<V>,
@@ -148,7 +147,7 @@ fn beside<V: Drop>(alloc: Global, list: CellList<V>, area: Block) -> Result<Cell
 }
 
 // More cells, and behind them those of the list where their places go, those of lost places gone.
-fn carried<V: Drop>(
+pub(crate) fn carried<V: Drop>(
     way: Way,
     source: Block,
     to: Place,

@@ -5,13 +5,14 @@ ghost use Rattle.cell_addr.specs.declared.place.Place.{Place};
 ghost use Rattle.shift_core.specs.declared.form.Form.TheVariants.{Lines};
 ghost use Rattle.stable_lines.specs.Sheets.{table_of};
 ghost use Rattle.grid_store.specs.Grid.{HasAny, PushesEntryOff, cells_of};
-ghost use Rattle.grid_store.specs.internal.Listing.{AreLinesAt, HasNone, LacksCols, LacksLines};
+ghost use Rattle.grid_store.specs.internal.Listing.{AreLinesAt, HasNone, LacksCols, LacksLines, shown};
 ghost use Rattle.grid_store.specs.internal.Ways.{form_goes};
 
 use crate::change::whole;
 use crate::columns::is_of_columns;
 use crate::grid::Grid;
 use crate::key::CellKey;
+use crate::view::View;
 use crate::way::{Way, lost_lines};
 use cell_addr::{Axis, Block};
 use shift_core::{Edit, Form, Shift};
@@ -34,18 +35,20 @@ impl<V: Drop> Grid<V> {
     }
 
     // Whether the edit loses a filled cell on this way.
-    pub(crate) fn loses_any(&self, way: Way, sheet: u32, axis: Axis, edit: Edit) -> bool
+    fn loses_any(&self, way: Way, sheet: u32, axis: Axis, edit: Edit) -> bool
         ensures { IsTrue result ↔ ((p : Place) × IsSome (map.get (cells_of self.now) p) × (form_goes way (Lines sheet axis edit) p ≡ None)) }
     {
         match lost_lines(way, edit, axis.limit()) {
-            Some(span) => self.has_any(whole(sheet).with_span(axis, span)),
+            Some(span) => self.view().has_any(whole(sheet).with_span(axis, span)),
             None => false,
         }
     }
+}
 
-    // Whether a cell of the block is filled, by its columns or by its rows.
-    fn has_any(&self, area: Block) -> bool
-        ensures { IsTrue result ↔ HasAny area (cells_of self.now) }
+impl<V: Drop> View<'_, V> {
+    // Whether a cell of the block is seen, by its columns or by its rows.
+    pub(crate) fn has_any(&self, area: Block) -> bool
+        ensures { IsTrue result ↔ HasAny area (shown self.now) }
     {
         if is_of_columns(area) {
             self.has_any_by_cols(area)
@@ -54,9 +57,9 @@ impl<V: Drop> Grid<V> {
         }
     }
 
-    // Whether a cell of the block is filled, by its runs of rows whose lines follow one another.
+    // Whether a cell of the block is seen, by its runs of rows whose lines follow one another.
     fn has_any_by_rows(&self, area: Block) -> bool
-        ensures { IsTrue result ↔ HasAny area (cells_of self.now) }
+        ensures { IsTrue result ↔ HasAny area (shown self.now) }
     {
         let table = self.rows.table(area.sheet);
         let mut row = area.top;
@@ -73,12 +76,12 @@ impl<V: Drop> Grid<V> {
         false
     }
 
-    // Whether a cell of the block on these lines of rows is filled.
+    // Whether a cell of the block on these lines of rows is seen.
     fn has_any_on(&self, area: Block, lines: Run) -> bool
-        requires lines { AreLinesAt (table_of self.now.rows area.sheet) lines }
+        requires lines { AreLinesAt (table_of self.now.rows.now area.sheet) lines }
         requires sum { lines.to + lines.count < 18446744073709551616 }
-        ensures found { IsTrue result → HasAny area (cells_of self.now) }
-        ensures none { result ≡ false → HasNone area (cells_of self.now) lines.from (lines.from + lines.count) }
+        ensures found { IsTrue result → HasAny area (shown self.now) }
+        ensures none { result ≡ false → HasNone area (shown self.now) lines.from (lines.from + lines.count) }
     {
         let end = lines.to + lines.count;
         let mut row = lines.to;
@@ -91,9 +94,9 @@ impl<V: Drop> Grid<V> {
         false
     }
 
-    // Whether a cell of the block on one line of rows is filled.
+    // Whether a cell of the block on one line of rows is seen.
     fn has_any_in_row(&self, area: Block, row: u64) -> bool
-        ensures found { IsTrue result → HasAny area (cells_of self.now) }
+        ensures found { IsTrue result → HasAny area (shown self.now) }
         ensures none { result ≡ false → LacksLines self.now area row (row + 1) }
     {
         let table = self.cols.table(area.sheet);
@@ -111,11 +114,11 @@ impl<V: Drop> Grid<V> {
         false
     }
 
-    // Whether a cell of the block on one line of rows and these lines of columns is filled.
+    // Whether a cell of the block on one line of rows and these lines of columns is seen.
     fn has_any_between(&self, area: Block, row: u64, lines: Run) -> bool
-        requires lines { AreLinesAt (table_of self.now.cols area.sheet) lines }
+        requires lines { AreLinesAt (table_of self.now.cols.now area.sheet) lines }
         requires sum { lines.to + lines.count < 18446744073709551616 }
-        ensures found { IsTrue result → HasAny area (cells_of self.now) }
+        ensures found { IsTrue result → HasAny area (shown self.now) }
         ensures none { result ≡ false → LacksCols self.now area row lines.from (lines.from + lines.count) }
     {
         let sheet = area.sheet;

@@ -10,24 +10,21 @@ use Rattle.std.specs.declared.ops.Bound.TheVariants.{Included, Unbounded}
 use Rattle.std.specs.Cmp.{nat_cmp_is, ranks}
 use Rattle.std.specs.List.{AllByRecursion}
 use Rattle.std.specs.List.Sorted.{IsStrictlySortedBy}
-use Rattle.std.specs.Map.{lookup, keys_of}
+use Rattle.std.specs.Map.{keys_of}
 use Rattle.std.specs.Option.{option_cmp, option_eq}
 use Rattle.std.specs.Ordering.{MatchOrdering, is_eq, is_le, match_ordering, nat_cmp, ordering_reverse, ordering_then}
 use Rattle.std.proofs.lemmas.Bool.{both_ways, eq-eqb, false_from_ne_true, eqb-true, ne_eqb}
 use Rattle.std.proofs.lemmas.List.{append-nil}
 use Rattle.name_table.specs.Scopes.{key_cmp, key_of}
 use Rattle.name_table.specs.declared.key.NameKey.{NameKey}
+use Rattle.name_table.specs.internal.Fresh.{under}
 use Rattle.name_table.proofs.KeyOrder.{key_cmp-IsTotalOrder, key_cmp-IsAntisymmetric}
-
--- what is kept under a key
-abbrev pub kept : List (NameKey × ℕ) → NameKey → Option ℕ
-kept es k = lookup (is_at (key_cmp k)) es
 
 -- the word of each key is one of so many
 abbrev pub AreKnown : ℕ → List (NameKey × ℕ) → Type 0
-AreKnown n es = (k : NameKey) → IsSome (kept es k) → k.word < n
+AreKnown n es = (k : NameKey) → IsSome (under es k) → k.word < n
 
-is-equal : (r : Ordering) → is_eq r ≡ true → r ≡ Equal
+pub is-equal : (r : Ordering) → is_eq r ≡ true → r ≡ Equal
 is-equal Less e = cc
 is-equal Equal e = refl
 is-equal Greater e = cc
@@ -37,15 +34,15 @@ known-or n key k true change old e here there some = subst (λ (z : NameKey). z.
 known-or n key k false change old e here there some = there some
 
 -- the words are known after a change at a key whose word is
-pub known-after : (n : ℕ) (es fs : List (NameKey × ℕ)) (key : NameKey) (change : Option ℕ) → ((k : NameKey) → kept fs k ≡ cond (is_at (key_cmp key) k) change (kept es k))
+pub known-after : (n : ℕ) (es fs : List (NameKey × ℕ)) (key : NameKey) (change : Option ℕ) → ((k : NameKey) → under fs k ≡ cond (is_at (key_cmp key) k) change (under es k))
     → (IsSome change → key.word < n) → AreKnown n es → AreKnown n fs
-known-after n es fs key change h here known k some = known-or n key k (is_at (key_cmp key) k) change (kept es k) refl here (known k) (subst IsSome (h k) some)
+known-after n es fs key change h here known k some = known-or n key k (is_at (key_cmp key) k) change (under es k) refl here (known k) (subst IsSome (h k) some)
 
 -- and where the change may want memory
 pub known-inserted : {A B : Type 0} (r : Result A B) (n : ℕ) (es fs : List (NameKey × ℕ)) (key : NameKey) (holder : ℕ)
-    → OnOk r ((k : NameKey) → kept fs k ≡ cond (is_at (key_cmp key) k) (Some holder) (kept es k)) → OnErr r (fs ≡ es) → key.word < n → AreKnown n es → AreKnown n fs
+    → OnOk r ((k : NameKey) → under fs k ≡ cond (is_at (key_cmp key) k) (Some holder) (under es k)) → OnErr r (fs ≡ es) → key.word < n → AreKnown n es → AreKnown n fs
 known-inserted (Ok x) n es fs key holder ok err below known = known-after n es fs key (Some holder) ok (λ some. below) known
-known-inserted (Err y) n es fs key holder ok err below known = λ k some. known k (subst (λ z. IsSome (kept z k)) err some)
+known-inserted (Err y) n es fs key holder ok err below known = λ k some. known k (subst (λ z. IsSome (under z k)) err some)
 
 rises : (k : NameKey) (es : List (NameKey × ℕ)) (e : NameKey × ℕ) (rest : List (NameKey × ℕ)) → AllByRecursion (λ x. key_cmp k x ≡ Less) (keys_of (es ++ (e ∷ rest))) → key_cmp k e.0 ≡ Less
 rises k [] e rest h = h.0

@@ -3,5 +3,6 @@ pub mod Listed
 pub mod Words
 pub mod Scopes
 pub mod Named
+pub mod Drafts
 pub mod internal
 pub mod Laws

@@ -18,6 +18,11 @@ key_cmp a b = ordering_then (option_cmp nat_cmp a.scope b.scope) (nat_cmp a.word
 abbrev pub NameMap : Type 0
 NameMap = fin.FinMap key_cmp ℕ
 
+-- the names where this one has this holder, or there is none
+abbrev pub with_holder : NameKey → Option ℕ → NameMap → NameMap
+with_holder key None names = fin.remove names key
+with_holder key (Some holder) names = fin.insert names key holder
+
 -- the holder of a scope's own name, with the scope
 abbrev pub found_in : NameMap → ℕ → Option ℕ → Option (Option ℕ × ℕ)
 found_in names word scope = option_map (λ holder. (scope, holder)) (fin.get names (key_of scope word))

@@ -1,3 +1,4 @@
 -- What only the proofs of bodies need.
+pub mod Fresh
 pub mod Spellings
 pub mod WordList

@@ -1,12 +1,13 @@
 // Copies of a table of names.
-ghost use Rattle.std.specs.Prelude.{◌≡◌, [], IfOk, OnOk};
+ghost use Rattle.std.specs.Prelude.{◌≡◌, IfOk, OnOk};
 ghost use Rattle.std.specs.BTreeMap.{insert_entry};
+ghost use Rattle.cell_addr.specs.Sheets.{AreSheets};
 ghost use Rattle.name_table.specs.Listed.{listed};
 ghost use Rattle.name_table.specs.Named.{KeepsNames};
 ghost use Rattle.name_table.specs.Scopes.{key_cmp};
 
 use crate::key::NameKey;
-use crate::names::Names;
+use crate::names::{Names, put_in};
 use cell_addr::Text;
 use indexmap::IndexMap;
 use std::alloc::{AllocError, Global};
@@ -18,26 +19,31 @@ impl Names {
         ensures sheets { IfOk result (λ copy. listed copy ≡ listed self.now) }
         ensures names { IfOk result (λ copy. KeepsNames self.now copy) }
     {
-        let mut copy = self.without_sheets()?;
-        'sheets: for (id, name) in self.sheets.iter() {
-            let index = copy.len();
-            copy.add_sheet(index, *id, name.as_str())?;
-        }
-        Ok(copy)
-    }
-
-    // The words and named expressions without the sheets.
-    fn without_sheets(&self) -> Result<Names, AllocError>
-        ensures sheets { IfOk result (λ copy. listed copy ≡ []) }
-        ensures names { IfOk result (λ copy. KeepsNames self.now copy) }
-    {
         Ok(Names {
             alloc: self.alloc,
-            sheets: IndexMap::new(self.alloc),
+            sheets: copied_sheets(self.alloc, &self.sheets)?,
             words: self.words.copied()?,
             holders: copied_holders(self.alloc, &self.holders)?,
         })
     }
+}
+
+// An equal list of sheets.
+pub(crate) fn copied_sheets(
+    alloc: Global,
+    sheets: &IndexMap<u32, Text>,
+) -> Result<IndexMap<u32, Text>, AllocError>
+    requires { AreSheets sheets.now.entries }
+    ensures sheets { IfOk result (λ copy. copy.entries ≡ sheets.now.entries) }
+    ensures proper { IfOk result (λ copy. AreSheets copy.entries) }
+{
+    let mut copy = IndexMap::new(alloc);
+    'sheets: for (id, name) in sheets.iter() {
+        let index = copy.len();
+        let name = name.copy(alloc)?;
+        put_in(&mut copy, index, *id, name)?;
+    }
+    Ok(copy)
 }
 
 // The same holders under the same keys.

@@ -15,14 +15,18 @@
 #![tactic(auto)]
 
 mod copy;
+mod draft;
 mod key;
 mod laws;
 mod list;
 mod named;
 mod names;
+mod placing;
 mod words;
 
+pub use draft::NameDraft;
 pub use key::NameKey;
 pub use laws::words_are_numbered;
 pub use list::NameList;
 pub use names::Names;
+pub use placing::BegunDraft;

@@ -1,5 +1,5 @@
 // Words and named expressions.
-ghost use Rattle.std.specs.Prelude.{◌≡◌, ◌<◌, IfOk, IfSome, OnOk, OnErr, length, slice_get, option_copied};
+ghost use Rattle.std.specs.Prelude.{◌≡◌, ◌<◌, IfOk, IfSome, IsOk, IsSome, OnOk, OnErr, length, slice_get, option_copied};
 ghost use Rattle.std.specs.FinMap as map;
 ghost use Rattle.name_table.specs.Named.{KeepsSheets, items_of, names_of, words_of};
 ghost use Rattle.name_table.specs.Scopes.{found, found_in, in_scope, key_of};
@@ -42,12 +42,13 @@ impl Names {
         self.words.spelling(word)
     }
 
-    /// Gives the scope a name of the word, with a holder, in place of the holder that the name had. The word is known. For want
-    /// of memory the table is as it was. Costs the logarithm of the number of names.
+    /// Gives the scope a name of the word, with a holder, in place of the holder that the name had. The word is known. Where the
+    /// name had one this takes no memory. For want of memory the table is as it was. Costs the logarithm of the number of names.
     pub fn add(&mut self, scope: Option<u32>, word: u64, holder: u64) -> Result<(), AllocError>
         requires known { word < length (words_of self.old) }
         ensures ok { OnOk result (names_of self.new ≡ map.insert (names_of self.old) (key_of scope word) holder) }
         ensures err { OnErr result (names_of self.new ≡ names_of self.old) }
+        ensures held { IsSome (map.get (names_of self.old) (key_of scope word)) → IsOk result }
         ensures words { words_of self.new ≡ words_of self.old }
         ensures sheets { KeepsSheets self.old self.new }
     {

@@ -131,7 +131,7 @@ impl SheetNames for Names {
 }
 
 // Puts a sheet in at the index.
-fn put_in(
+pub(crate) fn put_in(
     sheets: &mut IndexMap<u32, Text>,
     index: usize,
     id: u32,
@@ -162,7 +162,7 @@ fn put_again(sheets: &mut IndexMap<u32, Text>, id: u32, name: Text) -> Result<()
 }
 
 // Takes a sheet out.
-fn take_out(sheets: &mut IndexMap<u32, Text>, id: u32) -> Option<(usize, Text)>
+pub(crate) fn take_out(sheets: &mut IndexMap<u32, Text>, id: u32) -> Option<(usize, Text)>
     requires { AreSheets sheets.old.entries }
     ensures proper { AreSheets sheets.new.entries }
     ensures index { option_map (λ r. r.0) result ≡ index_in id sheets.old.entries }

@@ -1,5 +1,5 @@
 -- How far the cells of a block have been found.
-use Rattle.std.specs.Prelude.{◌≡◌, ℕ, ◌+◌, ◌<◌, ◌≤◌, true, if◌then◌else◌, Option, Some, IsSome, option_copied}
+use Rattle.std.specs.Prelude.{◌≡◌, ℕ, ◌+◌, ◌<◌, ◌≤◌, true, if◌then◌else◌, Option, Some, IsSome, option_copied, filter_map}
 use Rattle.std.specs.Borrow.{Bor}
 use Rattle.std.specs.BTreeMap as tree
 use Rattle.std.specs.BTreeMap.{BTreeMap, is_at}
@@ -13,8 +13,13 @@ use Rattle.stable_lines.specs.Lines.{line_at}
 use Rattle.stable_lines.specs.declared.run.Run.{Run}
 use Rattle.stable_lines.specs.declared.table.LineTable.{LineTable}
 use Rattle.grid_store.specs.Keys.{key_cmp, place_at}
-use Rattle.grid_store.specs.declared.grid.Grid.{Grid}
+use Rattle.grid_store.specs.Grid.{placed}
 use Rattle.grid_store.specs.declared.key.CellKey.{CellKey}
+use Rattle.grid_store.specs.declared.view.View.{View}
+
+-- the map that is seen
+abbrev pub shown : {X : Type 0} → View X → PlaceMap X
+shown v = map.from_entries (filter_map (placed v.rows.now v.cols.now) v.cells.now.entries)
 
 -- what was found at a place
 abbrev pub look : {X : Type 0} → BTreeMap Place (Bor X) → Place → Option X
@@ -55,24 +60,24 @@ abbrev pub HasNone : {X : Type 0} → Block → PlaceMap X → ℕ → ℕ → T
 HasNone area m low high = (q : Place) → covers area q ≡ true → IsSome (map.get m q) → low ≤ q.row → q.row < high → ⊥
 
 -- the block's cells on lines of rows from `low` to before `high` are found
-abbrev pub HasLines : {X : Type 0} → Grid X → Block → ℕ → ℕ → BTreeMap Place (Bor X) → Type 0
-HasLines g area low high found =
-    (k : CellKey) (q : Place) → IsSome (tree.get key_cmp g.cells k) → place_at g.rows g.cols k ≡ Some q → covers area q ≡ true → low ≤ k.row → k.row < high → IsSome (look found q)
+abbrev pub HasLines : {X : Type 0} → View X → Block → ℕ → ℕ → BTreeMap Place (Bor X) → Type 0
+HasLines v area low high found =
+    (k : CellKey) (q : Place) → IsSome (tree.get key_cmp v.cells.now k) → place_at v.rows.now v.cols.now k ≡ Some q → covers area q ≡ true → low ≤ k.row → k.row < high → IsSome (look found q)
 
 -- the block's cells on one line of rows, in the columns from `low` to before `high`, are found
-abbrev pub HasCols : {X : Type 0} → Grid X → Block → ℕ → ℕ → ℕ → BTreeMap Place (Bor X) → Type 0
-HasCols g area row low high found =
-    (k : CellKey) (q : Place) → IsSome (tree.get key_cmp g.cells k) → k.row ≡ row → place_at g.rows g.cols k ≡ Some q → covers area q ≡ true → low ≤ q.col → q.col < high → IsSome (look found q)
+abbrev pub HasCols : {X : Type 0} → View X → Block → ℕ → ℕ → ℕ → BTreeMap Place (Bor X) → Type 0
+HasCols v area row low high found =
+    (k : CellKey) (q : Place) → IsSome (tree.get key_cmp v.cells.now k) → k.row ≡ row → place_at v.rows.now v.cols.now k ≡ Some q → covers area q ≡ true → low ≤ q.col → q.col < high → IsSome (look found q)
 
 -- no cell is kept on the sheet's lines of rows from `low` to before `high`
-abbrev pub KeepsNone : {X : Type 0} → Grid X → ℕ → ℕ → ℕ → Type 0
-KeepsNone g sheet low high = (k : CellKey) → IsSome (tree.get key_cmp g.cells k) → k.sheet ≡ sheet → low ≤ k.row → k.row < high → ⊥
+abbrev pub KeepsNone : {X : Type 0} → View X → ℕ → ℕ → ℕ → Type 0
+KeepsNone v sheet low high = (k : CellKey) → IsSome (tree.get key_cmp v.cells.now k) → k.sheet ≡ sheet → low ≤ k.row → k.row < high → ⊥
 
 -- no cell of the block is on lines of rows from `low` to before `high`
-abbrev pub LacksLines : {X : Type 0} → Grid X → Block → ℕ → ℕ → Type 0
-LacksLines g area low high = (k : CellKey) (q : Place) → IsSome (tree.get key_cmp g.cells k) → place_at g.rows g.cols k ≡ Some q → covers area q ≡ true → low ≤ k.row → k.row < high → ⊥
+abbrev pub LacksLines : {X : Type 0} → View X → Block → ℕ → ℕ → Type 0
+LacksLines v area low high = (k : CellKey) (q : Place) → IsSome (tree.get key_cmp v.cells.now k) → place_at v.rows.now v.cols.now k ≡ Some q → covers area q ≡ true → low ≤ k.row → k.row < high → ⊥
 
 -- no cell of the block is on one line of rows, in the columns from `low` to before `high`
-abbrev pub LacksCols : {X : Type 0} → Grid X → Block → ℕ → ℕ → ℕ → Type 0
-LacksCols g area row low high =
-    (k : CellKey) (q : Place) → IsSome (tree.get key_cmp g.cells k) → k.row ≡ row → place_at g.rows g.cols k ≡ Some q → covers area q ≡ true → low ≤ q.col → q.col < high → ⊥
+abbrev pub LacksCols : {X : Type 0} → View X → Block → ℕ → ℕ → ℕ → Type 0
+LacksCols v area row low high =
+    (k : CellKey) (q : Place) → IsSome (tree.get key_cmp v.cells.now k) → k.row ≡ row → place_at v.rows.now v.cols.now k ≡ Some q → covers area q ≡ true → low ≤ q.col → q.col < high → ⊥

@@ -17,5 +17,7 @@ returns-in-Some _ c =
     let g = c.args.self.now in
     let lost = subst (λ n. (line : ℕ) → line < n → span_has (Some c.in-Some.span) line ≡ is_none (line_goes c.args.way n c.args.edit line)) c.limit.ensures c.in-Some.ensures.lost in
     let area : c.with_span.result ≡ with_span c.args.axis c.in-Some.span (whole c.args.sheet) = c.with_span.ensures ∙ ap (with_span c.args.axis c.in-Some.span) c.whole.ensures in
-    let any = any_lost c.args.way c.args.sheet c.args.axis c.args.edit c.in-Some.span (cells_of g) (seen_inside g.rows g.cols g.cells.entries g.rows_limit g.cols_limit) lost in
-    (λ t. any.0 (subst (λ b. HasAny b (cells_of g)) area (c.has_any.ensures.0 t)), λ h. c.has_any.ensures.1 (subst (λ b. HasAny b (cells_of g)) (sym area) (any.1 h)))
+    let any = any_lost c.args.way c.args.sheet c.args.axis c.args.edit c.in-Some.span (cells_of g) (seen_inside g.rows g.cols g.cells.entries g.rows_limit g.cols_limit) lost in (
+      λ t. any.0 (subst (λ b. HasAny b (cells_of g)) area (subst (HasAny c.with_span.result) c.view.ensures (c.has_any.ensures.0 t))),
+      λ h. c.has_any.ensures.1 (subst (HasAny c.with_span.result) (sym c.view.ensures) (subst (λ b. HasAny b (cells_of g)) (sym area) (any.1 h))),
+    )

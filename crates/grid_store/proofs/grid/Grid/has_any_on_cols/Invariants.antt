@@ -1,5 +1,0 @@
-use Rattle.grid_store.proofs.ColumnKeys.{Search}
-use Rattle.grid_store.proofs.grid.Grid.has_any_on_cols.Given as goal
-
-abbrev pub invariant-loop-turned : goal.invariant-loop-turned
-invariant-loop-turned _ l = Search l.self.rows l.self.cols l.self.cells.entries l.area l.fn.lines l.turned-iterator
