@@ -434,8 +434,8 @@ impl<C: Customs> Engine<C> {
     }
 
     /// Goes back to the whole workbook from before the last step. No formula is touched. Costs the cells, names and sheets that
-    /// the step changed and the lines that its operations edited; a step that changed names or sheets copies their table once,
-    /// and one of several operations of which one is structural the cells.
+    /// the step changed, each with the logarithm of the number of those that there are, and the lines that its operations edited;
+    /// where the step changed a sheet, the number of sheets too. Neither the filled cells nor the names are copied.
     ///
     /// Where the step is one structural operation that has an opposite, what is kept of values goes back with it: marked are the
     /// cells that come back, the formulas that it may have bent, those that ask where a reference is or have lost one, and the
@@ -576,7 +576,8 @@ impl<C: Customs> Engine<C> {
     /// The cells and then the names whose formulas need a cell by a reference or a range of their own: cells by the number
     /// of their sheet, row and column, names of the whole workbook before those of each sheet, by the bytes of their words
     /// in capitals. Costs the sorting of its answer, about the number of links to the cell and to the ranges that cover it,
-    /// and the links of the formulas that changed since a value was read; where no values are kept, those of all formulas.
+    /// and the links of the formulas that changed since a value or dependents were read; where no values are kept, those of
+    /// all formulas.
     ///
     /// # Errors
     /// `NoSheet`, `Outside`.

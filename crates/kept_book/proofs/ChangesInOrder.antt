@@ -15,8 +15,9 @@ use Rattle.kept_book.specs.Walk.{Leads, back_all, forth_all}
 use Rattle.kept_book.specs.declared.part.NameChange.{NameChange}
 use Rattle.kept_book.specs.declared.part.Part.{Part}
 use Rattle.kept_book.specs.declared.part.SheetChange.{SheetChange}
+use Rattle.kept_book.specs.declared.passing.Side.TheVariants.{Before, After}
 use Rattle.kept_book.specs.internal.Dropped.{AreGone}
-use Rattle.kept_book.specs.internal.Stepping.{CanRepeat, CanReturn, ChangesNoNames, cells_back, cells_forth, names_back, names_forth, sheets_back, sheets_forth}
+use Rattle.kept_book.specs.internal.Stepping.{CanRepeat, CanReturn, cells_back, cells_forth, frame_on, names_back, names_forth, sheets_back, sheets_forth}
 
 -- one part, one change of a sheet, and one of a name, in front of those behind it
 pub parts-at : (ps : List Part) (i : ℕ) (p : Part) → i < length ps → p ≡ get_or ps i p → changes_of (drop i ps) ≡ change_of p ∷ changes_of (drop (i + 1) ps)
@@ -35,6 +36,9 @@ forth-last line (d ∷ cs) c m none = forth-last line cs c (cells_after (shift_o
 pub sheets-at : (cs : List SheetChange) (i : ℕ) (c : SheetChange) → i < length cs → c ≡ get_or cs i c → map sheet_change (drop i cs) ≡ sheet_change c ∷ map sheet_change (drop (i + 1) cs)
 sheets-at cs i c l is = ap (map sheet_change) (drop_more cs i c l ∙ ap (λ x. x ∷ drop (i + 1) cs) (sym is))
 
+pub names-at : (cs : List NameChange) (i : ℕ) (d : NameChange) → i < length cs → map name_change (drop i cs) ≡ name_change (get_or cs i d) ∷ map name_change (drop (i + 1) cs)
+names-at cs i d l = ap (map name_change) (drop_more cs i d l)
+
 -- what holds of all holds of those from one on
 pub known-from : (words : Words) (cs : List NameChange) (i : ℕ) → AreKnown words (map name_change cs) → AreKnown words (map name_change (drop i cs))
 known-from words cs zero h = h
@@ -50,23 +54,6 @@ pub return-from : (words : Words) (ps : List Part) (i : ℕ) (sheets : List (ℕ
 return-from words ps zero sheets h = h
 return-from words [] (suc i) sheets h = tt
 return-from words (p ∷ ps) (suc i) sheets h = return-from words ps i sheets h.2
-
--- over changes that list no name and no sheet nothing changes
-pub plain-names-back : (cs : List Change) (names : NameMap) → ChangesNoNames cs → names ≡ names_back cs names
-plain-names-back [] names h = refl
-plain-names-back (c ∷ cs) names h = plain-names-back cs names h.2 ∙ sym (ap (λ l. names_with (λ x. x.0) l (names_back cs names)) h.0)
-
-pub plain-sheets-back : (cs : List Change) (sheets : List (ℕ × List ℕ)) → ChangesNoNames cs → sheets ≡ sheets_back cs sheets
-plain-sheets-back [] sheets h = refl
-plain-sheets-back (c ∷ cs) sheets h = plain-sheets-back cs sheets h.2 ∙ sym (ap (λ l. sheets_with (λ x. x.0) l (sheets_back cs sheets)) h.1)
-
-pub plain-names-forth : (cs : List Change) (names : NameMap) → ChangesNoNames cs → names ≡ names_forth cs names
-plain-names-forth [] names h = refl
-plain-names-forth (c ∷ cs) names h = plain-names-forth cs names h.2 ∙ sym (ap (λ l. names_forth cs (names_with (λ x. x.1) l names)) h.0)
-
-pub plain-sheets-forth : (cs : List Change) (sheets : List (ℕ × List ℕ)) → ChangesNoNames cs → sheets ≡ sheets_forth cs sheets
-plain-sheets-forth [] sheets h = refl
-plain-sheets-forth (c ∷ cs) sheets h = plain-sheets-forth cs sheets h.2 ∙ sym (ap (λ l. sheets_forth cs (sheets_with (λ x. x.1) l sheets)) h.1)
 
 -- the frame before changes, part by part
 pub back-cells : (line : Line) (cs : List Change) (f : Frame) → (back_all line cs f).cells ≡ cells_back line cs f.cells
@@ -93,6 +80,13 @@ forth-sheets line (c ∷ cs) f = forth-sheets line cs (forth line c f)
 pub forth-names : (line : Line) (cs : List Change) (f : Frame) → (forth_all line cs f).names ≡ names_forth cs f.names
 forth-names line [] f = refl
 forth-names line (c ∷ cs) f = forth-names line cs (forth line c f)
+
+-- the frame at the position of one side of changes
+pub frame-back : (position : ℕ) (line : Line) (cs : List Change) (f : Frame) → position ≡ (back_all line cs f).position → frame_on Before position line cs f ≡ back_all line cs f
+frame-back position line cs f there i = record { position = there i; cells = sym (back-cells line cs f) i; sheets = sym (back-sheets line cs f) i; names = sym (back-names line cs f) i }
+
+pub frame-forth : (position : ℕ) (line : Line) (cs : List Change) (f : Frame) → position ≡ (forth_all line cs f).position → frame_on After position line cs f ≡ forth_all line cs f
+frame-forth position line cs f there i = record { position = there i; cells = sym (forth-cells line cs f) i; sheets = sym (forth-sheets line cs f) i; names = sym (forth-names line cs f) i }
 
 -- changes that lead here lead back
 pub leads-back : (line : Line) (words : Words) (cs : List Change) (f g : Frame) → Leads line words cs f g → back_all line cs g ≡ f

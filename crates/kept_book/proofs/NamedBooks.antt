@@ -20,6 +20,7 @@ use Rattle.lazy_store.specs.Kept.{at, standing_at}
 use Rattle.lazy_store.specs.Standing.{Standing}
 use Rattle.lazy_store.specs.Store.{at_in}
 use Rattle.lazy_store.specs.declared.lazy.Lazy.{Lazy}
+use Rattle.name_table.proofs.DraftedNames.{get-with_holder}
 use Rattle.name_table.proofs.WordNumbers.{number-spelled}
 use Rattle.name_table.specs.Listed.{listed}
 use Rattle.name_table.specs.Named.{names_of, words_of}
@@ -41,7 +42,7 @@ use Rattle.kept_book.specs.internal.Naming.{Gives}
 use Rattle.kept_book.specs.internal.Writing.{AreReplaced}
 use Rattle.kept_book.proofs.Inserted.{at-fresh, none-stands}
 use Rattle.kept_book.proofs.Joining.{plain-joins}
-use Rattle.kept_book.proofs.NamesLeft.{get-with_id, same_ids}
+use Rattle.kept_book.proofs.NamesLeft.{same_ids}
 use Rattle.kept_book.proofs.NamesPut.{more-word, names-put}
 use Rattle.kept_book.proofs.NamesSeen.{is_id_key}
 use Rattle.kept_book.proofs.ShiftedBooks.{frame_with}
@@ -118,7 +119,7 @@ module _ (lazy lazy2 : Lazy) (grid : Grid Cell) (names names2 : Names) (n : ℕ)
   pub named-stands : scope ≢ Some NO_SHEET → Stands (at_in lazy2) (words_of names2) (frame_with lazy2 grid names2)
   named-stands scoped = subst (Stands (at_in lazy2) (words_of names2)) is-named (record {
     cells = (stays-stand (frame_with lazy grid names) (at_in lazy) (at_in lazy2) (words_of names) (words_of names2) names.words.proper names2.words.proper more (λ j x h. stays j lazy.line.cursor x h) stand).cells;
-    names = λ key i e. named-there scoped key i (eq_by_cmp table.key_cmp key (table.key_of scope word)) refl (sym (get-with_id (table.key_of scope word) id (names_of names) key) ∙ e);
+    names = λ key i e. named-there scoped key i (eq_by_cmp table.key_cmp key (table.key_of scope word)) refl (sym (get-with_holder (table.key_of scope word) id (names_of names) key) ∙ e);
   })
 
   pub named-keeps : KeepsUpTo lazy.line.cursor (shift_at lazy.line) (shift_at lazy2.line) (at_in lazy) (at_in lazy2) (words_of names) (words_of names2)
@@ -126,8 +127,8 @@ module _ (lazy lazy2 : Lazy) (grid : Grid Cell) (names names2 : Names) (n : ℕ)
 
   back-at : (before : Option ℕ) → before ≡ fin.get (names_of names) (table.key_of scope word) → with_id (table.key_of scope word) before (with_id (table.key_of scope word) id (names_of names)) ≡ names_of names
   back-at before was = same_ids _ _ (λ key.
-      get-with_id (table.key_of scope word) before (with_id (table.key_of scope word) id (names_of names)) key
-      ∙ ap (cond (eq_by_cmp table.key_cmp key (table.key_of scope word)) before) (get-with_id (table.key_of scope word) id (names_of names) key)
+      get-with_holder (table.key_of scope word) before (with_id (table.key_of scope word) id (names_of names)) key
+      ∙ ap (cond (eq_by_cmp table.key_cmp key (table.key_of scope word)) before) (get-with_holder (table.key_of scope word) id (names_of names) key)
       ∙ go key (eq_by_cmp table.key_cmp key (table.key_of scope word)) refl)
     where
       go : (key : NameKey) (b : Bool) → eq_by_cmp table.key_cmp key (table.key_of scope word) ≡ b → cond b before (cond b id (fin.get (names_of names) key)) ≡ fin.get (names_of names) key

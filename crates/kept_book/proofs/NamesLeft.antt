@@ -4,18 +4,19 @@ use Rattle.std.proofs.Common.{◌≡◌, ◌∙◌, sym, ap, refl, ℕ, ◌<◌,
 use Rattle.std.proofs.lemmas.Bool.{eqb-true, eq-eqb}
 use Rattle.std.proofs.lemmas.Option.{same_Some}
 use Rattle.std.specs.FinMap as fin
-use Rattle.std.specs.FinMap.{find, get-entries, get-insert, get-remove, same_map}
+use Rattle.std.specs.FinMap.{find, get-entries, same_map}
 use Rattle.std.specs.List.{AllByRecursion}
 use Rattle.std.specs.Option.{option_eq}
 use Rattle.std.specs.Ordering.{eq_by_cmp}
 use Rattle.std.specs.Prelude.{nat_eq}
 use Rattle.formula_tree.specs.Links.{same_scope}
+use Rattle.name_table.proofs.DraftedNames.{get-with_holder}
 use Rattle.name_table.proofs.KeyOrder.{key_cmp-IsAntisymmetric, key_cmp-IsTotalOrder}
 use Rattle.name_table.specs.Scopes.{NameMap, in_scope, key_cmp, key_of}
 use Rattle.name_table.specs.declared.key.NameKey.{NameKey}
 use Rattle.shift_core.specs.declared.form.Form.{Form}
 use Rattle.shift_core.specs.declared.form.Form.TheVariants as form
-use Rattle.kept_book.specs.Change.{AreKnown, id_stays, names_with, with_id}
+use Rattle.kept_book.specs.Change.{AreKnown, id_stays, names_with}
 use Rattle.kept_book.specs.Frame.{Words}
 use Rattle.kept_book.specs.internal.Dropped.{AreGone, gone, ids_left}
 use Rattle.kept_book.proofs.NamesSeen.{is_id_key, same_id_key}
@@ -27,10 +28,6 @@ Listed = List (NameKey × (Option ℕ × Option ℕ))
 pub same_ids : (m n : NameMap) → ((k : NameKey) → fin.get m k ≡ fin.get n k) → m ≡ n
 same_ids m n h = same_map key_cmp-IsTotalOrder key_cmp-IsAntisymmetric m n h
 
-pub get-with_id : (key : NameKey) (id : Option ℕ) (names : NameMap) (k : NameKey) → fin.get (with_id key id names) k ≡ cond (eq_by_cmp key_cmp k key) id (fin.get names k)
-get-with_id key None names k = get-remove key_cmp-IsTotalOrder names key k
-get-with_id key (Some n) names k = get-insert key_cmp-IsTotalOrder names key n k
-
 -- what a side of a listed name says, in place of what there is
 abbrev pub listed_or : (Option ℕ × Option ℕ → Option ℕ) → Option (Option ℕ × Option ℕ) → Option ℕ → Option ℕ
 listed_or side None r = r
@@ -39,7 +36,7 @@ listed_or side (Some x) r = side x
 pub get-names_with : (side : Option ℕ × Option ℕ → Option ℕ) (cs : Listed) (names : NameMap) (k : NameKey) → fin.get (names_with side cs names) k ≡ listed_or side (find key_cmp k cs) (fin.get names k)
 get-names_with side [] names k = refl
 get-names_with side (c ∷ cs) names k =
-    get-with_id c.0 (side c.1) (names_with side cs names) k ∙ go (eq_by_cmp key_cmp k c.0) (get-names_with side cs names k)
+    get-with_holder c.0 (side c.1) (names_with side cs names) k ∙ go (eq_by_cmp key_cmp k c.0) (get-names_with side cs names k)
   where
     go : (b : Bool) → fin.get (names_with side cs names) k ≡ listed_or side (find key_cmp k cs) (fin.get names k)
         → cond b (side c.1) (fin.get (names_with side cs names) k) ≡ listed_or side (cond b (Some c.1) (find key_cmp k cs)) (fin.get names k)

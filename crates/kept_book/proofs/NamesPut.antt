@@ -7,6 +7,7 @@ use Rattle.std.specs.Prelude.{option_and_then, slice_get}
 use Rattle.cell_addr.specs.Text.{folded}
 use Rattle.formula_tree.specs.Term.{Term}
 use Rattle.formula_tree.specs.declared.reference.Corner.{Corner}
+use Rattle.name_table.proofs.DraftedNames.{get-with_holder}
 use Rattle.name_table.specs.Scopes as table
 use Rattle.name_table.specs.Words.{AreWords, number_in, with_word}
 use Rattle.name_table.specs.declared.key.NameKey.{NameKey}
@@ -16,7 +17,6 @@ use Rattle.book_model.specs.Names.{key_cmp, with_tree}
 use Rattle.kept_book.specs.Change.{with_id}
 use Rattle.kept_book.specs.Frame.{Words, names_seen}
 use Rattle.kept_book.specs.Kept.{IsMore}
-use Rattle.kept_book.proofs.NamesLeft.{get-with_id}
 use Rattle.kept_book.proofs.NamesSeen.{get-seen, is_key, number_of, same_names, seen_key, spelled-has, tests-agree}
 
 -- the word of a text is one more, or known already
@@ -42,7 +42,7 @@ module _ (words : Words) (h : AreWords words) (trees : ℕ → Term Corner) (nam
       go true t = absurd (none-some key.word (sym is ∙ ap (λ k. number_of words k.word) (is_key q (seen_key key w) t) ∙ spelled-has words w key.word h spelt))
       go false t = refl
   put-at q (Some n) is =
-      ap (option_map trees) (get-with_id key id names (table.key_of q.scope n)) ∙ go (eq_by_cmp table.key_cmp (table.key_of q.scope n) key)
+      ap (option_map trees) (get-with_holder key id names (table.key_of q.scope n)) ∙ go (eq_by_cmp table.key_cmp (table.key_of q.scope n) key)
       ∙ sym (ap (λ b. cond b (option_map trees id) (option_map trees (fin.get names (table.key_of q.scope n)))) (tests-agree words q key w n h spelt is))
     where
       go : (b : Bool) → option_map trees (cond b id (fin.get names (table.key_of q.scope n))) ≡ cond b (option_map trees id) (option_map trees (fin.get names (table.key_of q.scope n)))

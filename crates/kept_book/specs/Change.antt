@@ -49,8 +49,7 @@ cells_after (Some s) c m = moved_map s m
 
 -- the names where this one has this id, or there is none
 abbrev pub with_id : NameKey → Option ℕ → table.NameMap → table.NameMap
-with_id key None names = fin.remove names key
-with_id key (Some id) names = fin.insert names key id
+with_id = table.with_holder
 
 -- the names with what one side of the changes says, before or after
 abbrev pub names_with : (Option ℕ × Option ℕ → Option ℕ) → List (NameKey × (Option ℕ × Option ℕ)) → table.NameMap → table.NameMap

@@ -26,6 +26,7 @@ mod naming;
 mod part;
 mod passing;
 mod pasting;
+mod renaming;
 mod setting;
 mod sheets;
 mod shifting;

@@ -1,21 +1,17 @@
-// The grid and the table of names as changes are taken back or done again.
-ghost use Rattle.std.specs.Prelude.{◌≡◌, ◌<◌, [], false, length, map, IfOk, IfSome, IsTrue, OnOk, OnErr, unwrap_or};
+// The cells as changes are taken back or done again.
+ghost use Rattle.std.specs.Prelude.{◌≡◌, IfOk, IfSome, OnOk, OnErr};
+ghost use Rattle.grid_store.specs.Draft.{IsDraftOf, drafted};
 ghost use Rattle.grid_store.specs.Grid.{cells_of, items_of};
-ghost use Rattle.name_table.specs.Listed.{listed};
-ghost use Rattle.name_table.specs.Named.{KeepsNames, KeepsSheets, names_of, words_of};
-ghost use Rattle.name_table.specs.Scopes.{key_of};
 ghost use Rattle.shift_line.specs.Track.{shift_at};
 ghost use Rattle.lazy_store.specs.Kept.{IsSoundLine};
-ghost use Rattle.kept_book.specs.Change.{AreKnown, HasSlot, HaveSlots, cells_after, cells_before, names_with, sheets_with, shift_of, with_id, with_slot};
-ghost use Rattle.kept_book.specs.Kept.{change_of, changes_of, name_change, sheet_change};
+ghost use Rattle.kept_book.specs.Change.{cells_after, cells_before, shift_of};
+ghost use Rattle.kept_book.specs.Kept.{change_of, changes_of};
 ghost use Rattle.kept_book.specs.internal.Exchange.{IsPlacedInside, Makes};
-ghost use Rattle.kept_book.specs.internal.Stepping.{CanRepeat, CanReturn, ChangesNoNames, cells_back, cells_forth, names_back, names_forth, of_side, sheets_back, sheets_forth};
+ghost use Rattle.kept_book.specs.internal.Stepping.{cells_back, cells_forth, cells_on};
 
 use crate::exchange::Exchange;
-use crate::part::{NameChange, Part, SheetChange};
-use cell_addr::Text;
-use grid_store::{Cell, CellList, Grid};
-use name_table::Names;
+use crate::part::Part;
+use grid_store::{Cell, CellList, Draft, Grid};
 use shift_core::Shift;
 use shift_line::Line;
 use std::alloc::{AllocError, Global};
@@ -27,9 +23,27 @@ pub(crate) enum Side {
     After,
 }
 
+// Takes the cells to one side of the parts.
+pub(crate) fn step(
+    alloc: Global,
+    line: &Line,
+    grid: &mut Grid<Cell>,
+    parts: &[Part],
+    side: Side,
+) -> Result<(), AllocError>
+    requires sound { IsSoundLine line.now }
+    ensures ok { OnOk result (cells_of grid.new ≡ cells_on side (shift_at line.now) (changes_of parts.now) (cells_of grid.old)) }
+    ensures err { OnErr result (cells_of grid.new ≡ cells_of grid.old) }
+{
+    match side {
+        Side::Before => step_back(alloc, line, grid, parts),
+        Side::After => step_forth(alloc, line, grid, parts),
+    }
+}
+
 // Takes the cells back over the parts: in place over one, and over several that have no operation, by one exchange of cells; over
-// others on a copy that takes the grid's place.
-pub(crate) fn step_back(
+// others by a draft.
+fn step_back(
     alloc: Global,
     line: &Line,
     grid: &mut Grid<Cell>,
@@ -45,16 +59,15 @@ pub(crate) fn step_back(
     if let Some(exchange) = exchange_back(alloc, line, parts)? {
         return exchange.run(alloc, grid);
     }
-    let mut copy = grid.copied()?;
+    let mut draft = Draft::new(grid)?;
     for index in (0..parts.len()).rev() {
-        cells_behind(alloc, line, &mut copy, &parts[index])?;
+        draft_behind(alloc, line, grid, &mut draft, &parts[index])?;
     }
-    *grid = copy;
-    Ok(())
+    draft.finish(grid)
 }
 
 // Takes the cells forth over the parts, likewise.
-pub(crate) fn step_forth(
+fn step_forth(
     alloc: Global,
     line: &Line,
     grid: &mut Grid<Cell>,
@@ -70,12 +83,11 @@ pub(crate) fn step_forth(
     if let Some(exchange) = exchange_forth(alloc, line, parts)? {
         return exchange.run(alloc, grid);
     }
-    let mut copy = grid.copied()?;
+    let mut draft = Draft::new(grid)?;
     for part in parts {
-        cells_ahead(alloc, line, &mut copy, part)?;
+        draft_ahead(alloc, line, grid, &mut draft, part)?;
     }
-    *grid = copy;
-    Ok(())
+    draft.finish(grid)
 }
 
 // The exchange that takes the cells back over the parts, if none of them has an operation. What a part replaced counts before what
@@ -171,6 +183,52 @@ fn cells_ahead(
     }
 }
 
+// Takes a draft of the cells back over one part.
+fn draft_behind(
+    alloc: Global,
+    line: &Line,
+    grid: &Grid<Cell>,
+    draft: &mut Draft<Cell>,
+    part: &Part,
+) -> Result<(), AllocError>
+    requires sound { IsSoundLine line.now }
+    requires of { IsDraftOf grid.now draft.old }
+    ensures ok { OnOk result (drafted grid.now draft.new ≡ cells_before (shift_of (shift_at line.now) (change_of part.now)) (change_of part.now) (drafted grid.now draft.old)) }
+    ensures of { OnOk result (IsDraftOf grid.now draft.new) }
+{
+    let replaced = copied(alloc, &part.replaced)?;
+    match shift_of(line, part) {
+        Some(s) => draft.put_back(grid, &s, replaced),
+        None => {
+            let written = part.written.places(alloc)?;
+            draft.exchange(&written, replaced)
+        }
+    }
+}
+
+// Takes a draft of the cells forth over one part.
+fn draft_ahead(
+    alloc: Global,
+    line: &Line,
+    grid: &Grid<Cell>,
+    draft: &mut Draft<Cell>,
+    part: &Part,
+) -> Result<(), AllocError>
+    requires sound { IsSoundLine line.now }
+    requires of { IsDraftOf grid.now draft.old }
+    ensures ok { OnOk result (drafted grid.now draft.new ≡ cells_after (shift_of (shift_at line.now) (change_of part.now)) (change_of part.now) (drafted grid.now draft.old)) }
+    ensures of { OnOk result (IsDraftOf grid.now draft.new) }
+{
+    match shift_of(line, part) {
+        Some(s) => draft.apply(grid, &s),
+        None => {
+            let written = copied(alloc, &part.written)?;
+            let replaced = part.replaced.places(alloc)?;
+            draft.exchange(&replaced, written)
+        }
+    }
+}
+
 // An equal list of cells.
 pub(crate) fn copied(alloc: Global, cells: &CellList<Cell>) -> Result<CellList<Cell>, AllocError>
     ensures { IfOk result (λ copy. items_of copy ≡ items_of cells.now) }
@@ -180,141 +238,4 @@ pub(crate) fn copied(alloc: Global, cells: &CellList<Cell>) -> Result<CellList<C
         copy.push(*at, cell.copied(alloc)?)?;
     }
     Ok(copy)
-}
-
-// Whether some part changed a name or a sheet.
-fn changes_names(parts: &[Part]) -> bool
-    ensures { result ≡ false → ChangesNoNames (changes_of parts.now) }
-{
-    for part in parts {
-        if !is_plain(part) {
-            return true;
-        }
-    }
-    false
-}
-
-// Whether a part changed no name and no sheet.
-fn is_plain(part: &Part) -> bool
-    ensures { IsTrue result → ((change_of part.now).names ≡ []) × ((change_of part.now).sheets ≡ []) }
-{
-    part.names.is_empty() && part.sheets.is_empty()
-}
-
-// The table of names before the parts, where one of them changed it.
-pub(crate) fn names_behind(names: &Names, parts: &[Part]) -> Result<Option<Names>, AllocError>
-    requires can { CanReturn (words_of names.now) (changes_of parts.now) (listed names.now) }
-    ensures sheets { IfOk result (λ r. listed (unwrap_or r names.now) ≡ sheets_back (changes_of parts.now) (listed names.now)) }
-    ensures names { IfOk result (λ r. names_of (unwrap_or r names.now) ≡ names_back (changes_of parts.now) (names_of names.now)) }
-    ensures words { IfOk result (λ r. words_of (unwrap_or r names.now) ≡ words_of names.now) }
-{
-    if !changes_names(parts) {
-        return Ok(None);
-    }
-    let mut copy = names.copied()?;
-    for index in (0..parts.len()).rev() {
-        put(&mut copy, &parts[index], Side::Before)?;
-    }
-    Ok(Some(copy))
-}
-
-// The table of names after the parts, where one of them changed it.
-pub(crate) fn names_ahead(names: &Names, parts: &[Part]) -> Result<Option<Names>, AllocError>
-    requires can { CanRepeat (words_of names.now) (changes_of parts.now) (listed names.now) }
-    ensures sheets { IfOk result (λ r. listed (unwrap_or r names.now) ≡ sheets_forth (changes_of parts.now) (listed names.now)) }
-    ensures names { IfOk result (λ r. names_of (unwrap_or r names.now) ≡ names_forth (changes_of parts.now) (names_of names.now)) }
-    ensures words { IfOk result (λ r. words_of (unwrap_or r names.now) ≡ words_of names.now) }
-{
-    if !changes_names(parts) {
-        return Ok(None);
-    }
-    let mut copy = names.copied()?;
-    for part in parts {
-        put(&mut copy, part, Side::After)?;
-    }
-    Ok(Some(copy))
-}
-
-// Puts names and sheets to what they were on one side of a part.
-fn put(names: &mut Names, part: &Part, side: Side) -> Result<(), AllocError>
-    requires slots { HaveSlots (of_side side) (map sheet_change part.now.sheets.items) (listed names.old) }
-    requires known { AreKnown (words_of names.old) (map name_change part.now.names.items) }
-    ensures sheets { OnOk result (listed names.new ≡ sheets_with (of_side side) (map sheet_change part.now.sheets.items) (listed names.old)) }
-    ensures names { OnOk result (names_of names.new ≡ names_with (of_side side) (map name_change part.now.names.items) (names_of names.old)) }
-    ensures words { words_of names.new ≡ words_of names.old }
-{
-    put_sheets(names, part.sheets.as_slice(), side)?;
-    put_names(names, part.names.as_slice(), side)
-}
-
-// Puts sheets to what they were on one side of the changes, the last one first.
-fn put_sheets(names: &mut Names, changes: &[SheetChange], side: Side) -> Result<(), AllocError>
-    requires { HaveSlots (of_side side) (map sheet_change changes.now) (listed names.old) }
-    ensures sheets { OnOk result (listed names.new ≡ sheets_with (of_side side) (map sheet_change changes.now) (listed names.old)) }
-    ensures names { KeepsNames names.old names.new }
-{
-    for index in (0..changes.len()).rev() {
-        let change = &changes[index];
-        match side {
-            Side::Before => set_sheet(names, change.id, &change.before)?,
-            Side::After => set_sheet(names, change.id, &change.after)?,
-        }
-    }
-    Ok(())
-}
-
-// Puts names to what they were on one side of the changes, the last one first.
-pub(crate) fn put_names(
-    names: &mut Names,
-    changes: &[NameChange],
-    side: Side,
-) -> Result<(), AllocError>
-    requires { AreKnown (words_of names.old) (map name_change changes.now) }
-    ensures names { OnOk result (names_of names.new ≡ names_with (of_side side) (map name_change changes.now) (names_of names.old)) }
-    ensures words { words_of names.new ≡ words_of names.old }
-    ensures sheets { KeepsSheets names.old names.new }
-{
-    for index in (0..changes.len()).rev() {
-        let change = &changes[index];
-        let id = match side {
-            Side::Before => change.before,
-            Side::After => change.after,
-        };
-        set_name(names, change.scope, change.word, id)?;
-    }
-    Ok(())
-}
-
-// Gives a name the id of a formula, or takes it away.
-fn set_name(
-    names: &mut Names,
-    scope: Option<u32>,
-    word: u64,
-    id: Option<u64>,
-) -> Result<(), AllocError>
-    requires known { word < length (words_of names.old) }
-    ensures names { OnOk result (names_of names.new ≡ with_id (key_of scope word) id (names_of names.old)) }
-    ensures words { words_of names.new ≡ words_of names.old }
-    ensures sheets { KeepsSheets names.old names.new }
-{
-    match id {
-        Some(id) => names.add(scope, word, id),
-        None => {
-            names.remove(scope, word);
-            Ok(())
-        }
-    }
-}
-
-// Gives a sheet its place in the list and its name, or takes it out.
-fn set_sheet(names: &mut Names, id: u32, to: &Option<(usize, Text)>) -> Result<(), AllocError>
-    requires slot { HasSlot id to.now (listed names.old) }
-    ensures sheets { OnOk result (listed names.new ≡ with_slot id to.now (listed names.old)) }
-    ensures names { KeepsNames names.old names.new }
-{
-    names.remove_sheet(id);
-    match to {
-        Some((index, name)) => names.add_sheet(*index, id, name.as_str()),
-        None => Ok(()),
-    }
 }

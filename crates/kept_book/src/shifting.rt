@@ -32,7 +32,7 @@ impl Book {
     /// cursor isn't touched; after an undo those beyond it come back to it, and those that came beyond it are dropped.
     /// Where the cursor is the greatest position, that is want of memory too. For want of memory the workbook is as it was.
     ///
-    /// Costs what the grid's operation does; after an undo the number of formulas too.
+    /// Costs what the grid's operation does; after an undo what [`Lazy::return_born`] does too.
     pub fn shift(&mut self, pool: &mut Pool, s: &Shift) -> Result<Part, AllocError>
         requires sound { IsSound s.now }
         requires inside { AreInside (workbook self.old).cells }

@@ -21,7 +21,7 @@ use Rattle.grid_store.specs.Grid.{items_of, with_entries, without_places}
 use Rattle.grid_store.specs.internal.Exchange.{is_among}
 use Rattle.grid_store.specs.declared.cell.Cell.{Cell}
 use Rattle.grid_store.specs.declared.cell.Cell.TheVariants as cell
-use Rattle.kept_book.proofs.NamesLeft.{get-with_id}
+use Rattle.name_table.proofs.DraftedNames.{get-with_holder}
 use Rattle.kept_book.specs.Change.{Change, back, cells_after, cells_before, forth, names_with, places_of, shift_of}
 use Rattle.kept_book.specs.Frame.{Frame, Line}
 use Rattle.kept_book.specs.Kept.{change_of, changes_of, name_change}
@@ -167,7 +167,7 @@ names-on : (side : Option ℕ × Option ℕ → Option ℕ) (on : NameChange →
     → fin.get (names_with side (map name_change cs) names) key ≡ Some id → (has (flat_map (λ c. option_to_list (on c)) cs) id ≡ true) ⊎ (fin.get names key ≡ Some id)
 names-on side on same [] names key id h = inr h
 names-on side on same (c ∷ cs) names key id h =
-    go (names-on side on same cs names key id) (eq_by_cmp key_cmp key (name_change c).0) (sym (get-with_id (name_change c).0 (side (name_change c).1) (names_with side (map name_change cs) names) key) ∙ h)
+    go (names-on side on same cs names key id) (eq_by_cmp key_cmp key (name_change c).0) (sym (get-with_holder (name_change c).0 (side (name_change c).1) (names_with side (map name_change cs) names) key) ∙ h)
   where
     rest : (has (flat_map (λ d. option_to_list (on d)) cs) id ≡ true) ⊎ (fin.get names key ≡ Some id) → (has (flat_map (λ d. option_to_list (on d)) (c ∷ cs)) id ≡ true) ⊎ (fin.get names key ≡ Some id)
     rest (inl e) = inl (has-behind (option_to_list (on c)) (flat_map (λ d. option_to_list (on d)) cs) id e)

@@ -19,7 +19,7 @@ use Rattle.book_model.specs.Changes.{with_name}
 use Rattle.book_model.specs.Names.{key_cmp}
 use Rattle.book_model.specs.Workbook.{Workbook, has_name}
 use Rattle.kept_book.proofs.Joining.{no-shift}
-use Rattle.kept_book.proofs.NamesLeft.{get-with_id}
+use Rattle.name_table.proofs.DraftedNames.{get-with_holder}
 use Rattle.kept_book.proofs.NamesPut.{names-put}
 use Rattle.kept_book.proofs.NamesSeen.{same_id_key, same_key}
 use Rattle.kept_book.specs.Change.{AreKnown, Change, Joins, cells_after, cells_before, names_with, sheets_with, shift_of, with_id}
@@ -83,7 +83,7 @@ module _ (t : Timeline) (h : AreWords t.words) (f g : Frame) (key : NameKey) (ha
     (position : g.position ≡ f.position) (cells : g.cells ≡ f.cells) (sheets : g.sheets ≡ f.sheets) (before : f.names ≡ with_id key had g.names) (after : g.names ≡ with_id key has f.names)
     (stand_f : StandIn t f) (stand_g : StandIn t g) where
   own : (names : table.NameMap) (id : Option ℕ) → fin.get (with_id key id names) key ≡ id
-  own names id = get-with_id key id names key ∙ ap (λ b. cond b id (fin.get names key)) (same_id_key key key refl)
+  own names id = get-with_holder key id names key ∙ ap (λ b. cond b id (fin.get names key)) (same_id_key key key refl)
 
   scope-of : (o : Option ℕ) (x : Frame) → StandIn t x → fin.get x.names key ≡ o → is_some o ≡ true → key.scope ≢ Some NO_SHEET
   scope-of None x stand is some = absurd (false≢true some)

@@ -59,9 +59,8 @@ impl Session {
     /// formula. Where it is several changes, so it is of each of them, from one workbook between them to the next. For want of
     /// memory the session is as it was.
     ///
-    /// Costs the cells, names and sheets that the step lists, and what taking its operations back costs the grid; for a step of
-    /// several operations, of which one is structural, a copy of the grid; and for one that changes names or sheets a copy of their
-    /// table.
+    /// Costs the cells, names and sheets that the step lists, and what taking its operations back costs the grid; where it changed a
+    /// sheet, the number of sheets too.
     pub fn undo(&mut self) -> Result<(), AllocError>
         requires closed { self.old.batch ≡ None }
         ensures ok { OnOk result (state_of self.new ≡ undone (state_of self.old).undo (state_of self.old)) }

@@ -1,10 +1,10 @@
 -- The cells, the sheets and the names of a frame over several changes.
-use Rattle.std.specs.Prelude.{◌≡◌, ⊤, ℕ, List, [], ◌∷◌}
+use Rattle.std.specs.Prelude.{⊤, ℕ, List, [], ◌∷◌}
 use Rattle.grid_store.specs.declared.cell.Cell.{Cell}
 use Rattle.name_table.specs.Scopes.{NameMap}
 use Rattle.shift_core.specs.Maps.{PlaceMap}
 use Rattle.kept_book.specs.Change.{AreKnown, Change, HaveSlots, cells_after, cells_before, names_with, sheets_with, shift_of}
-use Rattle.kept_book.specs.Frame.{Line, Words}
+use Rattle.kept_book.specs.Frame.{Frame, Line, Words}
 use Rattle.kept_book.specs.declared.passing.Side.{Side}
 use Rattle.kept_book.specs.declared.passing.Side.TheVariants.{Before, After}
 
@@ -41,12 +41,29 @@ abbrev pub CanRepeat : Words → List Change → List (ℕ × List ℕ) → Type
 CanRepeat words [] sheets = ⊤
 CanRepeat words (c ∷ cs) sheets = HaveSlots (λ x. x.1) c.sheets sheets × AreKnown words c.names × CanRepeat words cs (sheets_with (λ x. x.1) c.sheets sheets)
 
--- none of the changes lists a name or a sheet
-abbrev pub ChangesNoNames : List Change → Type 0
-ChangesNoNames [] = ⊤
-ChangesNoNames (c ∷ cs) = (c.names ≡ []) × (c.sheets ≡ []) × ChangesNoNames cs
-
 -- one side of a change
 abbrev pub of_side : {X : Type 0} → Side → X × X → X
 of_side Before x = x.0
 of_side After x = x.1
+
+-- the cells, the sheets and the names on one side of changes
+abbrev pub cells_on : Side → Line → List Change → PlaceMap Cell → PlaceMap Cell
+cells_on Before = cells_back
+cells_on After = cells_forth
+
+abbrev pub sheets_on : Side → List Change → List (ℕ × List ℕ) → List (ℕ × List ℕ)
+sheets_on Before = sheets_back
+sheets_on After = sheets_forth
+
+abbrev pub names_on : Side → List Change → NameMap → NameMap
+names_on Before = names_back
+names_on After = names_forth
+
+-- the frame there, at a position
+abbrev pub frame_on : Side → ℕ → Line → List Change → Frame → Frame
+frame_on side position line cs f = record { position = position; cells = cells_on side line cs f.cells; sheets = sheets_on side cs f.sheets; names = names_on side cs f.names }
+
+-- what the changes list of sheets and names can be put to that side
+abbrev pub CanPass : Side → Words → List Change → List (ℕ × List ℕ) → Type 0
+CanPass Before = CanReturn
+CanPass After = CanRepeat

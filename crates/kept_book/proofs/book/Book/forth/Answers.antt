@@ -1,22 +1,17 @@
 use Rattle.std.proofs.Common.{◌≡◌, ◌∙◌, ◌-◌, ◌≤◌, sym, ap, subst, arith, length, Some, rules}
-use Rattle.std.specs.Prelude.{option_and_then, slice_get}
-use Rattle.grid_store.specs.Grid.{cells_of}
-use Rattle.lazy_store.specs.Kept.{at}
-use Rattle.name_table.specs.Listed.{listed}
-use Rattle.name_table.specs.Named.{names_of, words_of}
-use Rattle.shift_line.specs.Track.{last, shift_at}
+use Rattle.std.proofs.lemmas.Result.{on_ok_weaker}
+use Rattle.std.specs.Prelude.{slice_get}
+use Rattle.name_table.specs.Named.{words_of}
+use Rattle.shift_line.specs.Track.{last}
 use Rattle.kept_book.specs.Kept.{changes_of, frame_of, line_of}
-use Rattle.kept_book.specs.internal.Stepping.{cells_forth}
-use Rattle.kept_book.proofs.ChangesInOrder.{forth-cells, forth-names, forth-sheets, last-position, leads-forth, leads-order, leads-repeat}
+use Rattle.kept_book.proofs.ChangesInOrder.{frame-forth, last-position, leads-forth, leads-order, leads-repeat}
 use Rattle.kept_book.proofs.book.Book.forth.Goals as goal
 
-pub names_ahead-requires : goal.names_ahead-requires
-names_ahead-requires c = record {
-  can = leads-repeat (line_of c.args.self.now) (words_of c.args.self.now.names) (changes_of c.args.parts.now) (frame_of c.args.self.now) c.requires.leads.0 c.requires.leads.1;
-}
+pub pass-requires-clause-can : goal.pass-requires-clause-can
+pass-requires-clause-can c = leads-repeat (line_of c.args.self.now) (words_of c.args.self.now.names) (changes_of c.args.parts.now) (frame_of c.args.self.now) c.requires.leads.0 c.requires.leads.1
 
-pub reach-requires-clause-first : goal.reach-requires-clause-first
-reach-requires-clause-first c =
+pub pass-requires-clause-first : goal.pass-requires-clause-first
+pass-requires-clause-first c =
     let line = line_of c.args.self.now in
     let words = words_of c.args.self.now.names in
     let cs = changes_of c.args.parts.now in
@@ -28,8 +23,8 @@ reach-requires-clause-first c =
     subst (λ t. t.first ≤ t.cursor) c.line-2.ensures (subst (λ n. c.line-2.result.now.first ≤ n) c.cursor.ensures.result c.cursor.ensures.first) in
     omega (arith, end, order, from)
 
-pub reach-requires-clause-last : goal.reach-requires-clause-last
-reach-requires-clause-last c =
+pub pass-requires-clause-last : goal.pass-requires-clause-last
+pass-requires-clause-last c =
     let is : slice_get c.args.parts.now (length c.args.parts.now - 1) ≡ Some c.in-Some.end.now = search rules in
     let end = last-position (line_of c.args.self.now) c.args.parts.now c.in-Some.end.now (frame_of c.args.self.now) is in
     subst (λ n. n ≤ last c.args.self.now.lazy.line) (sym end) c.requires.last
@@ -37,14 +32,6 @@ reach-requires-clause-last c =
 pub returns-clause-ok : goal.returns-clause-ok
 returns-clause-ok c =
     let line = line_of c.args.self.now in
-    let cs = changes_of c.args.parts.now in
     let f = frame_of c.args.self.now in
     let is : slice_get c.args.parts.now (length c.args.parts.now - 1) ≡ Some c.in-Some.end.now = search rules in
-    let position = ap (λ t. t.cursor) c.reach.ensures.line ∙ last-position line c.args.parts.now c.in-Some.end.now f is in
-    let cells = ap cells_of c.reach.ensures.grid ∙ c.in_ok-step_forth.ensures.ok ∙ ap (λ t. cells_forth (shift_at t) cs (cells_of c.args.self.now.grid)) c.line-3.ensures ∙ sym (forth-cells line cs f) in
-    let sheets = ap listed c.reach.ensures.names ∙ c.in_ok-names.ensures.sheets ∙ sym (forth-sheets line cs f) in
-    let names = ap names_of c.reach.ensures.names ∙ c.in_ok-names.ensures.names ∙ sym (forth-names line cs f) in
-    λ i. record { position = position i; cells = cells i; sheets = sheets i; names = names i }
-
-pub returns-clause-standings : goal.returns-clause-standings
-returns-clause-standings c = λ id k i. option_and_then (λ h. at (c.reach.ensures.line i) h k) (c.reach.ensures.kept id i)
+    on_ok_weaker c.pass.result (λ there. there ∙ frame-forth c.in-Some.end.now.to line (changes_of c.args.parts.now) f (last-position line c.args.parts.now c.in-Some.end.now f is)) c.pass.ensures.ok
