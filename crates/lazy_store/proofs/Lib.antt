@@ -10,3 +10,4 @@ pub mod Changes
 pub mod Positions
 pub mod Born
 pub mod Runs
+pub mod Noted

@@ -1,18 +1,23 @@
 -- Tables of holders after one of them changed, and in the order of their keys. Serves the calls that take formulas
 -- along the line.
-use Rattle.std.proofs.Common.{◌≡◌, ◌≢◌, ◌∙◌, sym, ap, refl, subst, arith, ℕ, suc, ◌+◌, ◌<◌, ◌≤◌, ◌⊎◌, inl, inr, Bool, true, false, ◌&&◌, cond, nat_eq, nat_le, eqb-true, ne_eqb, le-ltb, true≢false, List, [], ◌∷◌, length, slice_get, Option, Some, None, option_map, option_and_then}
+use Rattle.std.proofs.Common.{◌≡◌, ◌≢◌, ◌∙◌, sym, ap, refl, subst, arith, ℕ, suc, ◌+◌, ◌<◌, ◌≤◌, ◌⊎◌, inl, inr, Bool, true, false, ◌&&◌, ◌||◌, cond, nat_eq, nat_le, eqb-true, ne_eqb, le-ltb, true≢false, List, [], ◌∷◌, length, slice_get, Option, Some, None, option_map, option_and_then}
 use Rattle.std.proofs.lemmas.Bool.{cases_eq, cases_lt}
-use Rattle.std.proofs.lemmas.Map.Entries.{length-keys_of}
-use Rattle.std.proofs.lemmas.Option.{none-some, same_Some}
+use Rattle.std.proofs.lemmas.Cmp.{nat_eq_equiv}
+use Rattle.std.proofs.lemmas.List.Folds.{list_any_at}
+use Rattle.std.proofs.lemmas.Option.{get_or_from_slice_get, none-some, same_Some, slice_get_within}
 use Rattle.std.specs.HashMap as hash
 use Rattle.std.specs.HashMap.{HashMap}
+use Rattle.std.specs.List.{list_any}
 use Rattle.std.specs.Map.{keys_of, lookup}
 use Rattle.shift_line.specs.Track.{Track}
 use Rattle.lazy_store.specs.Holders.{AreCoherent, kept_of, kept_under}
 use Rattle.lazy_store.specs.Kept.{IsCoherent, Kept, at}
+use Rattle.lazy_store.specs.declared.among.Among.{Among}
+use Rattle.lazy_store.specs.declared.among.Among.TheVariants.{All, These}
 use Rattle.lazy_store.specs.declared.holder.Holder.{Holder}
 use Rattle.lazy_store.specs.declared.holders.Side.{Side}
 use Rattle.lazy_store.specs.declared.holders.Side.TheVariants.{Before, Beyond, Returning}
+use Rattle.lazy_store.specs.internal.Recent.{IsIn, ids_among}
 use Rattle.lazy_store.specs.internal.Steps.{CutsOff, GoesAlong}
 use Rattle.lazy_store.specs.internal.Sweeps.{ArePlaced, Both, Brings, Cuts, StandAlong, Sweeps, is_off}
 
@@ -88,18 +93,11 @@ stand-trans line old mid new a b = record {
 }
 
 module _ {S : Type 0} (line : Track) (side : Side) (to : ℕ) where
-  -- of the formulas whose keys stand before the index none is off
-  pub record IsDone (index : ℕ) (m : HashMap ℕ Holder S) : Type 0 where
-    pub done : (i id : ℕ) (h : Kept) → i < index → slice_get (hash.keys m) i ≡ Some id → kept_under m id ≡ Some h → is_off side to h ≡ false
-
   pub sweep-starts : (m : HashMap ℕ Holder S) → AreCoherent line m → Sweeps line side to m m
   sweep-starts m coherent = record {
     along = (brings-none line 0 m coherent).along;
     others = λ id h there off. there;
   }
-
-  pub none-done : (m : HashMap ℕ Holder S) → IsDone 0 m
-  none-done m = record { done = λ i id h under. absurd (omega (arith, under)) }
 
   pub sweep-more : (old mid new : HashMap ℕ Holder S) (id : ℕ) → Sweeps line side to old mid → Brings line id mid new → ((h : Kept) → kept_under mid id ≡ Some h → is_off side to h ≡ true) → Sweeps line side to old new
   sweep-more old mid new id swept brought off = record {
@@ -118,59 +116,97 @@ module _ {S : Type 0} (line : Track) (side : Side) (to : ℕ) where
       by (inl e) = inr (there h (ap (kept_under new) (sym e) ∙ kept))
       by (inr ne) = placed other h (sym (brought.others other ne) ∙ kept)
 
-  pub done-more : (mid new : HashMap ℕ Holder S) (id index : ℕ) → IsDone index mid → Brings line id mid new → slice_get (hash.keys mid) index ≡ Some id → ((h : Kept) → kept_under new id ≡ Some h → h.position ≡ to) → IsDone (index + 1) new
-  done-more mid new id index done brought here there = record { done = λ i other h under key kept. by i other h under (ap (λ ks. slice_get ks i) (sym brought.along.keys) ∙ key) kept (cases_eq other id) (cases_lt i index) }
+  -- where a formula is off it was off before
+  pub off-before : (old mid : HashMap ℕ Holder S) → Sweeps line side to old mid → (id : ℕ) (h : Kept) → kept_under mid id ≡ Some h → is_off side to h ≡ true → (g : Kept) × (kept_under old id ≡ Some g) × (is_off side to g ≡ true)
+  off-before old mid swept id h f off = by (kept_under old id) refl
     where
-      by : (i other : ℕ) (h : Kept) → i < index + 1 → slice_get (hash.keys mid) i ≡ Some other → kept_under new other ≡ Some h → (other ≡ id) ⊎ (other ≡ id → ⊥) → (i < index) ⊎ (index ≤ i) → is_off side to h ≡ false
-      by i other h under key kept (inl e) place = not-off side to h (there h (ap (kept_under new) (sym e) ∙ kept))
-      by i other h under key kept (inr ne) (inl before) = done.done i other h before key (sym (brought.others other ne) ∙ kept)
-      by i other h under key kept (inr ne) (inr at) =
-          let same : index ≡ i = omega (arith, under, at) in
-          let both : Some id ≡ Some other = sym here ∙ ap (slice_get (hash.keys mid)) same ∙ key in
-          absurd (ne (sym (same_Some id other both)))
+      on_side : (g : Kept) → kept_under old id ≡ Some g → (b : Bool) → is_off side to g ≡ b → (k : Kept) × (kept_under old id ≡ Some k) × (is_off side to k ≡ true)
+      on_side g e true away = (g, e, away)
+      on_side g e false on = absurd (true≢false (sym off ∙ ap (λ k. is_off side to k) (same_Some h g (sym f ∙ swept.others id g e on)) ∙ on))
 
-  pub done-passes : (m : HashMap ℕ Holder S) (index : ℕ) → IsDone index m → ((id : ℕ) (h : Kept) → slice_get (hash.keys m) index ≡ Some id → kept_under m id ≡ Some h → is_off side to h ≡ false) → IsDone (index + 1) m
-  done-passes m index done on = record { done = λ i id h under key kept. by i id h under key kept (cases_lt i index) }
-    where
-      by : (i id : ℕ) (h : Kept) → i < index + 1 → slice_get (hash.keys m) i ≡ Some id → kept_under m id ≡ Some h → (i < index) ⊎ (index ≤ i) → is_off side to h ≡ false
-      by i id h under key kept (inl before) = done.done i id h before key kept
-      by i id h under key kept (inr at) = let same : i ≡ index = omega (arith, under, at) in on id h (ap (slice_get (hash.keys m)) (sym same) ∙ key) kept
+      by : (o : Option Kept) → kept_under old id ≡ o → (g : Kept) × (kept_under old id ≡ Some g) × (is_off side to g ≡ true)
+      by None e = absurd (none-some h.live (sym (ap (option_map (λ k. k.live)) e) ∙ sym (swept.along.live id) ∙ ap (option_map (λ k. k.live)) f))
+      by (Some g) e = on_side g e (is_off side to g) refl
 
-  pub all-done : (m : HashMap ℕ Holder S) (index : ℕ) → IsDone index m → length m.entries ≤ index → (id : ℕ) (h : Kept) → kept_under m id ≡ Some h → is_off side to h ≡ false
-  all-done m index done whole id h kept =
-      let (x, found, same) = mapped-some kept_of (hash.get nat_eq m id) h kept in
-      let (i, under, key) = key-place m.entries id x found in
-      done.done i id h (omega (arith, under, whole)) key kept
-
-  -- a formula that is off was there before, and off
+  -- so it has a standing at the position where all that were off had one
   pub still-there : (old mid : HashMap ℕ Holder S) (id : ℕ) → Sweeps line side to old mid → ((id : ℕ) (h : Kept) → kept_under old id ≡ Some h → is_off side to h ≡ true → at line h to ≢ None)
       → ((h : Kept) → kept_under mid id ≡ Some h → is_off side to h ≡ true) → (h : Kept) → kept_under mid id ≡ Some h → at line h to ≢ None
-  still-there old mid id swept there off h f none = by (kept_under old id) refl
-    where
-      on_side : (g : Kept) → kept_under old id ≡ Some g → (b : Bool) → is_off side to g ≡ b → ⊥
-      on_side g e true away =
-          there id g e away (sym (ap (option_and_then (λ k. at line k to)) e) ∙ sym (swept.along.at id to) ∙ ap (option_and_then (λ k. at line k to)) f ∙ none)
-      on_side g e false on = true≢false (sym (off h f) ∙ ap (λ k. is_off side to k) (same_Some h g (sym f ∙ swept.others id g e on)) ∙ on)
-
-      by : (o : Option Kept) → kept_under old id ≡ o → ⊥
-      by None e = none-some h.live (sym (ap (option_map (λ k. k.live)) e) ∙ sym (swept.along.live id) ∙ ap (option_map (λ k. k.live)) f)
-      by (Some g) e = on_side g e (is_off side to g) refl
+  still-there old mid id swept there off h f none =
+      let (g, was, away) = off-before old mid swept id h f (off h f) in
+      there id g was away (sym (ap (option_and_then (λ k. at line k to)) was) ∙ sym (swept.along.at id to) ∙ ap (option_and_then (λ k. at line k to)) f ∙ none)
 
   -- where none was off before, none is
   pub none-off : (old mid : HashMap ℕ Holder S) (id : ℕ) → Sweeps line side to old mid → ((id : ℕ) (h : Kept) → kept_under old id ≡ Some h → is_off side to h ≡ false)
       → hash.get nat_eq mid id ≢ None → ((h : Kept) → kept_under mid id ≡ Some h → is_off side to h ≡ true) → ⊥
-  none-off old mid id swept on some off = by (kept_under old id) refl (hash.get nat_eq mid id) refl
+  none-off old mid id swept on some off = by (hash.get nat_eq mid id) refl
     where
-      by : (o : Option Kept) → kept_under old id ≡ o → (p : Option Holder) → hash.get nat_eq mid id ≡ p → ⊥
-      by o e None f = some f
-      by None e (Some x) f = none-some x.live (sym (ap (option_map (λ k. k.live)) e) ∙ sym (swept.along.live id) ∙ ap (λ p. option_map (λ k. k.live) (option_map kept_of p)) f)
-      by (Some g) e (Some x) f =
-          let there : kept_under mid id ≡ Some (kept_of x) = ap (option_map kept_of) f in
-          true≢false (sym (off (kept_of x) there) ∙ ap (λ k. is_off side to k) (same_Some (kept_of x) g (sym there ∙ swept.others id g e (on id g e))) ∙ on id g e)
+      by : (o : Option Holder) → hash.get nat_eq mid id ≡ o → ⊥
+      by None e = some e
+      by (Some x) e =
+          let there : kept_under mid id ≡ Some (kept_of x) = ap (option_map kept_of) e in
+          let (g, was, away) = off-before old mid swept id (kept_of x) there (off (kept_of x) there) in
+          true≢false (sym away ∙ on id g was)
 
--- tables with the same keys have as many entries
-pub same-count : {X Y : Type 0} (es : List (ℕ × X)) (fs : List (ℕ × Y)) → keys_of es ≡ keys_of fs → length es ≡ length fs
-same-count es fs same = sym (length-keys_of es) ∙ ap length same ∙ length-keys_of fs
+-- ---- ids in order
+
+-- an id that stands at a place of a list is in it, and the opposite
+pub in-at : (id : ℕ) (ids : List ℕ) (i : ℕ) → slice_get ids i ≡ Some id → IsIn id ids
+in-at id ids i there = list_any_at (nat_eq id) ids i 0 (slice_get_within ids i id there) (ap (nat_eq id) (get_or_from_slice_get ids i id 0 there) ∙ nat_eq_equiv.refl id)
+
+pub in-place : (id : ℕ) (ids : List ℕ) → IsIn id ids → (i : ℕ) × (i < length ids) × (slice_get ids i ≡ Some id)
+in-place id [] is = absurd (true≢false (sym is))
+in-place id (x ∷ xs) is = by (nat_eq id x) refl (in-place id xs)
+  where
+    by : (b : Bool) → nat_eq id x ≡ b → (IsIn id xs → (i : ℕ) × (i < length xs) × (slice_get xs i ≡ Some id)) → (i : ℕ) × (i < length (x ∷ xs)) × (slice_get (x ∷ xs) i ≡ Some id)
+    by true same rest = (0, omega arith, ap (λ k. Some k) (sym (eqb-true id x same)))
+    by false apart rest = let (i, under, there) = rest (sym (ap (λ b. b || list_any (nat_eq id) xs) apart) ∙ is) in (suc i, omega (arith, under), there)
+
+module _ {S : Type 0} where
+  -- what is found in a table is among all its ids
+  pub found-in : (m : HashMap ℕ Holder S) (id : ℕ) (h : Holder) → hash.get nat_eq m id ≡ Some h → IsIn id (hash.keys m)
+  found-in m id h found = let (i, under, there) = key-place m.entries id h found in in-at id (hash.keys m) i there
+
+  -- tables with the same keys have the same ids among them
+  pub same-ids : (among : Among) (old new : HashMap ℕ Holder S) → hash.keys new ≡ hash.keys old → ids_among among new ≡ ids_among among old
+  same-ids All old new same = same
+  same-ids (These ids) old new same = refl
+
+module _ {S : Type 0} (line : Track) (side : Side) (to : ℕ) (ids : List ℕ) where
+  -- of the formulas whose ids stand before the index none is off
+  pub record IsDone (index : ℕ) (m : HashMap ℕ Holder S) : Type 0 where
+    pub done : (i id : ℕ) (h : Kept) → i < index → slice_get ids i ≡ Some id → kept_under m id ≡ Some h → is_off side to h ≡ false
+
+  pub none-done : (m : HashMap ℕ Holder S) → IsDone 0 m
+  none-done m = record { done = λ i id h under. absurd (omega (arith, under)) }
+
+  pub done-more : (mid new : HashMap ℕ Holder S) (id index : ℕ) → IsDone index mid → Brings line id mid new → slice_get ids index ≡ Some id → ((h : Kept) → kept_under new id ≡ Some h → h.position ≡ to) → IsDone (index + 1) new
+  done-more mid new id index done brought here there = record { done = λ i other h under key kept. by i other h under key kept (cases_eq other id) (cases_lt i index) }
+    where
+      by : (i other : ℕ) (h : Kept) → i < index + 1 → slice_get ids i ≡ Some other → kept_under new other ≡ Some h → (other ≡ id) ⊎ (other ≡ id → ⊥) → (i < index) ⊎ (index ≤ i) → is_off side to h ≡ false
+      by i other h under key kept (inl e) place = not-off side to h (there h (ap (kept_under new) (sym e) ∙ kept))
+      by i other h under key kept (inr ne) (inl before) = done.done i other h before key (sym (brought.others other ne) ∙ kept)
+      by i other h under key kept (inr ne) (inr at) =
+          let same : index ≡ i = omega (arith, under, at) in
+          absurd (ne (sym (same_Some id other (sym here ∙ ap (slice_get ids) same ∙ key))))
+
+  pub done-passes : (m : HashMap ℕ Holder S) (index : ℕ) → IsDone index m → ((id : ℕ) (h : Kept) → slice_get ids index ≡ Some id → kept_under m id ≡ Some h → is_off side to h ≡ false) → IsDone (index + 1) m
+  done-passes m index done on = record { done = λ i id h under key kept. by i id h under key kept (cases_lt i index) }
+    where
+      by : (i id : ℕ) (h : Kept) → i < index + 1 → slice_get ids i ≡ Some id → kept_under m id ≡ Some h → (i < index) ⊎ (index ≤ i) → is_off side to h ≡ false
+      by i id h under key kept (inl before) = done.done i id h before key kept
+      by i id h under key kept (inr at) = let same : i ≡ index = omega (arith, under, at) in on id h (ap (slice_get ids) (sym same) ∙ key) kept
+
+  -- where all that were off are among the ids, none is left
+  pub all-done : (old m : HashMap ℕ Holder S) (index : ℕ) → Sweeps line side to old m → ((id : ℕ) (h : Kept) → kept_under old id ≡ Some h → is_off side to h ≡ true → IsIn id ids)
+      → IsDone index m → length ids ≤ index → (id : ℕ) (h : Kept) → kept_under m id ≡ Some h → is_off side to h ≡ false
+  all-done old m index swept among done whole id h kept = by (is_off side to h) refl
+    where
+      by : (b : Bool) → is_off side to h ≡ b → is_off side to h ≡ false
+      by false on = on
+      by true off =
+          let (g, was, away) = off-before line side to old m swept id h kept off in
+          let (i, under, key) = in-place id ids (among id g was away) in
+          done.done i id h (omega (arith, under, whole)) key kept
 
 -- ---- saved trees cut off
 

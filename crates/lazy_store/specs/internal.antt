@@ -1,4 +1,5 @@
 -- What only the proofs of bodies need.
 pub mod Props
+pub mod Recent
 pub mod Steps
 pub mod Sweeps

@@ -1,13 +1,15 @@
 // The formulas of a store, taken along the line one after the other.
-ghost use Rattle.std.specs.Prelude.{◌≡◌, ◌≢◌, ℕ, ◌≤◌, true, false, Some, None, IfSome, OnOk, IsOk, if◌then◌else◌, nat_eq, option_and_then, option_map, slice_get};
+ghost use Rattle.std.specs.Prelude.{◌≡◌, ◌≢◌, ℕ, ◌<◌, ◌≤◌, true, false, Some, None, IfSome, OnOk, IsOk, if◌then◌else◌, nat_eq, option_and_then, option_map, slice_get};
 ghost use Rattle.std.specs.HashMap as hash;
 ghost use Rattle.std.specs.HashSet.{contains};
 ghost use Rattle.formula_tree.specs.Pooled.{held};
 ghost use Rattle.shift_line.specs.Track.{last};
 ghost use Rattle.lazy_store.specs.Holders.{AreCoherent, IsFront, kept_of, kept_under};
 ghost use Rattle.lazy_store.specs.Kept.{IsSoundLine, Kept, at};
+ghost use Rattle.lazy_store.specs.internal.Recent.{IsIn, ids_among};
 ghost use Rattle.lazy_store.specs.internal.Sweeps.{ArePlaced, Brings, Cuts, CutsAll, Sweeps, holder_born_by, is_off};
 
+use crate::among::Among;
 use crate::holder::Holder;
 use formula_tree::Pool;
 use indexmap::{IndexMap, IndexSet};
@@ -61,21 +63,29 @@ pub(crate) fn bring(
     }
 }
 
-// The id of the formula at the index, where it is to be taken to the position.
-fn off_at(holders: &IndexMap<u64, Holder>, index: usize, side: Side, position: u64) -> Option<u64>
-    ensures off { IfSome result (λ id. slice_get (hash.keys holders.now) index ≡ Some id) }
+// The id of the formula at the index of those that are looked at, where it is to be taken to the position.
+fn off_at(
+    holders: &IndexMap<u64, Holder>,
+    among: Among,
+    index: usize,
+    side: Side,
+    position: u64,
+) -> Option<u64>
+    ensures off { IfSome result (λ id. slice_get (ids_among among.entry holders.now) index ≡ Some id) }
     ensures there { IfSome result (λ id. hash.get nat_eq holders.now id ≢ None) }
     ensures kept { IfSome result (λ id. (h : Kept) → kept_under holders.now id ≡ Some h → is_off side position h ≡ true) }
-    ensures none { result ≡ None → (id : ℕ) (h : Kept) → slice_get (hash.keys holders.now) index ≡ Some id → kept_under holders.now id ≡ Some h → is_off side position h ≡ false }
+    ensures none { result ≡ None → (id : ℕ) (h : Kept) → slice_get (ids_among among.entry holders.now) index ≡ Some id → kept_under holders.now id ≡ Some h → is_off side position h ≡ false }
 {
-    let (id, holder) = holders.get_index(index)?;
-    side.is_off(position, holder).then_some(*id)
+    let id = among.id_at(holders, index)?;
+    let holder = holders.get(&id)?;
+    side.is_off(position, holder).then_some(id)
 }
 
-// Takes all formulas of a side to the position. For want of memory some may be there.
+// Takes all formulas of a side to the position; all of them are looked at. For want of memory some may be there.
 pub(crate) fn bring_all(
     alloc: Global,
     holders: &mut IndexMap<u64, Holder>,
+    among: Among,
     line: &Line,
     pool: &mut Pool,
     side: Side,
@@ -85,26 +95,19 @@ pub(crate) fn bring_all(
     requires coherent { AreCoherent line.now holders.old }
     requires within { position ≤ last line.now }
     requires there { (id : ℕ) (h : Kept) → kept_under holders.old id ≡ Some h → is_off side position h ≡ true → at line.now h position ≢ None }
+    requires among { (id : ℕ) (h : Kept) → kept_under holders.old id ≡ Some h → is_off side position h ≡ true → IsIn id (ids_among among holders.old) }
     ensures sweeps { Sweeps line.now side position holders.old holders.new }
     ensures ok { OnOk result ((id : ℕ) (h : Kept) → kept_under holders.new id ≡ Some h → is_off side position h ≡ false) }
     ensures placed { OnOk result (ArePlaced position holders.old holders.new) }
     ensures free { ((id : ℕ) (h : Kept) → kept_under holders.old id ≡ Some h → is_off side position h ≡ false) → IsOk result }
     ensures pool { IsFront (held pool.old) (held pool.new) }
 {
-    'holders: for index in 0..holders.len() {
-        if let Some(id) = off_at(holders, index, side, position) {
+    'holders: for index in 0..among.len(holders) {
+        if let Some(id) = off_at(holders, among, index, side, position) {
             bring(alloc, holders, line, pool, id, position)?;
         }
     }
     Ok(())
-}
-
-// The id of the formula at the index.
-fn id_at(holders: &IndexMap<u64, Holder>, index: usize) -> Option<u64>
-    ensures { result ≡ slice_get (hash.keys holders.now) index }
-{
-    let (id, _) = holders.get_index(index)?;
-    Some(*id)
 }
 
 // Drops the trees of the formula under the id that were saved before the position.
@@ -122,19 +125,63 @@ pub(crate) fn cut_all(holders: &mut IndexMap<u64, Holder>, position: u64)
     ensures spare { hash.spare holders.new ≡ hash.spare holders.old }
 {
     'holders: for index in 0..holders.len() {
-        if let Some(id) = id_at(holders, index) {
+        if let Some(id) = Among::All.id_at(holders, index) {
             cut(holders, id, position);
         }
     }
 }
 
-// Drops the formulas that were born beyond the position.
-pub(crate) fn drop_born_beyond(holders: &mut IndexMap<u64, Holder>, position: u64)
+// Drops the formulas that were born beyond the position; all of them are looked at.
+pub(crate) fn drop_born_beyond(holders: &mut IndexMap<u64, Holder>, among: Among, position: u64)
+    requires { (id : ℕ) (h : Holder) → hash.get nat_eq holders.old id ≡ Some h → position < h.birth → IsIn id (ids_among among holders.old) }
+    ensures found { (id : ℕ) → hash.get nat_eq holders.new id ≡ option_and_then (holder_born_by position) (hash.get nat_eq holders.old id) }
+    ensures spare { hash.spare holders.old ≤ hash.spare holders.new }
+{
+    match among {
+        Among::All => drop_all_born_beyond(holders, position),
+        Among::These(ids) => drop_these_born_beyond(holders, ids, position),
+    }
+}
+
+// Drops the formulas that were born beyond the position, by a look at each.
+fn drop_all_born_beyond(holders: &mut IndexMap<u64, Holder>, position: u64)
     ensures found { (id : ℕ) → hash.get nat_eq holders.new id ≡ option_and_then (holder_born_by position) (hash.get nat_eq holders.old id) }
     ensures spare { hash.spare holders.old ≤ hash.spare holders.new }
 {
     prove!(holders.len() <= holders.capacity());
     holders.retain(|_, holder| holder.birth <= position);
+}
+
+// Drops the formulas that were born beyond the position; each of them has one of these ids.
+fn drop_these_born_beyond(holders: &mut IndexMap<u64, Holder>, ids: &[u64], position: u64)
+    requires { (id : ℕ) (h : Holder) → hash.get nat_eq holders.old id ≡ Some h → position < h.birth → IsIn id ids.now }
+    ensures found { (id : ℕ) → hash.get nat_eq holders.new id ≡ option_and_then (holder_born_by position) (hash.get nat_eq holders.old id) }
+    ensures spare { hash.spare holders.old ≤ hash.spare holders.new }
+{
+    'ids: for index in 0..ids.len() {
+        drop_if_born_beyond(holders, ids[index], position);
+    }
+}
+
+// Drops the formula under the id where it was born beyond the position.
+fn drop_if_born_beyond(holders: &mut IndexMap<u64, Holder>, id: u64, position: u64)
+    ensures found { hash.get nat_eq holders.new id ≡ option_and_then (holder_born_by position) (hash.get nat_eq holders.old id) }
+    ensures others { (other : ℕ) → nat_eq id other ≡ false → hash.get nat_eq holders.new other ≡ hash.get nat_eq holders.old other }
+    ensures spare { hash.spare holders.old ≤ hash.spare holders.new }
+{
+    if is_born_beyond(holders, id, position) {
+        let _ = holders.swap_remove(&id);
+    }
+}
+
+// Whether there is a formula under the id that was born beyond the position.
+fn is_born_beyond(holders: &IndexMap<u64, Holder>, id: u64, position: u64) -> bool
+    ensures { option_and_then (holder_born_by position) (hash.get nat_eq holders.now id) ≡ (if result then None else hash.get nat_eq holders.now id) }
+{
+    match holders.get(&id) {
+        Some(holder) => position < holder.birth,
+        None => false,
+    }
 }
 
 // Drops the formulas whose ids aren't among these.

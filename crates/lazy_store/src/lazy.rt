@@ -10,10 +10,13 @@ ghost use Rattle.shift_line.specs.Track.{forgotten, last, pushed, with_spare};
 ghost use Rattle.tree_rewrite.specs.References.{FitsSheets};
 ghost use Rattle.lazy_store.specs.Holders.{AreCoherent, IsFront};
 ghost use Rattle.lazy_store.specs.Kept.{IsSoundLine, fresh, standing_at, with_live};
+ghost use Rattle.lazy_store.specs.internal.Recent.{AreNoted};
 ghost use Rattle.lazy_store.specs.internal.Props.{are_coherent-prop, is_sound_line-prop};
 
+use crate::among::Among;
 use crate::holder::Holder;
 use crate::holders::{Side, bring, bring_all, cut_all, drop_born_beyond, keep_among};
+use crate::recent::Recent;
 use crate::stored::Stored;
 use formula_tree::{Home, Pool, Tree};
 use indexmap::{IndexMap, IndexSet};
@@ -27,10 +30,13 @@ pub struct Lazy {
     alloc: Global,
     line: Line,
     holders: IndexMap<u64, Holder>,
+    // Of the formulas that are kept as of late positions, so that who cuts the line needn't look at all.
+    recent: Recent,
     // Each operation of the line can be done.
     pub ghost sound: { IsSoundLine line } by { is_sound_line-prop line },
     // Each formula goes along the line with its standings, and what operations lost of it is saved.
     pub ghost coherent: { AreCoherent line holders } by { are_coherent-prop line holders },
+    ghost noted: { AreNoted recent holders },
 }
 
 impl Lazy {
@@ -45,6 +51,7 @@ impl Lazy {
             alloc,
             line: Line::new(alloc)?,
             holders: IndexMap::new(alloc),
+            recent: Recent::new(alloc),
         })
     }
 
@@ -69,6 +76,7 @@ impl Lazy {
         ensures room { 0 < spare_in self.old → IsOk result }
         ensures spare { spare_in self.old ≤ spare_in self.new + 1 }
     {
+        self.recent.note(id, self.line.last(), self.holders.len());
         let holder = Holder::new(self.alloc, self.line.cursor(), home, tree);
         self.holders.insert(id, holder)?;
         Ok(())
@@ -207,6 +215,7 @@ impl Lazy {
         ensures spare { spare_in self.new ≡ spare_in self.old }
         ensures pool { IsFront (held pool.old) (held pool.new) }
     {
+        self.recent.note(id, self.line.last(), self.holders.len());
         let cursor = self.line.cursor();
         bring(self.alloc, &mut self.holders, &self.line, pool, id, cursor)?;
         let Some(holder) = self.holders.get(&id) else {
@@ -242,8 +251,9 @@ impl Lazy {
     /// Takes each formula, live or removed, that was born up to the cursor and is kept as of a position beyond it back to the
     /// cursor. Then only formulas that were born beyond it are kept as of a position beyond it, and `forget_beyond` drops
     /// them. No formula's standings change, whatever the answer; for want of memory some formulas may be back, or have come
-    /// part of the way. Takes no memory where all are back. Costs the number of formulas, and for each the operations that
-    /// it is taken over; nothing for formulas where the cursor is at the line's last position.
+    /// part of the way. Takes no memory where all are back. Costs the formulas that were read or added of late, and for each the
+    /// operations that it is taken over; a look at all formulas where one in so many of them was read or added since a position
+    /// beyond the cursor; nothing for formulas where the cursor is at the line's last position.
     pub fn return_born(&mut self, pool: &mut Pool) -> Result<(), AllocError>
         ensures standings { StandsAsBefore self.old self.new }
         ensures placed { OnOk result (ReturnTo self.old.line.cursor self.old self.new) }
@@ -255,18 +265,28 @@ impl Lazy {
         ensures spare { spare_in self.new ≡ spare_in self.old }
         ensures pool { IsFront (held pool.old) (held pool.new) }
     {
-        let cursor = self.line.cursor();
-        if self.line.last() <= cursor {
+        let (cursor, last) = (self.line.cursor(), self.line.last());
+        if last <= cursor {
             return Ok(());
         }
+        self.recent.let_go_behind(cursor, last);
+        let among = self.recent.beyond(cursor, &self.holders);
         let (alloc, side) = (self.alloc, Side::Returning);
-        bring_all(alloc, &mut self.holders, &self.line, pool, side, cursor)
+        bring_all(
+            alloc,
+            &mut self.holders,
+            among,
+            &self.line,
+            pool,
+            side,
+            cursor,
+        )
     }
 
     /// Drops each formula, live or removed, that was born beyond the cursor; all others are kept as they were. Up to the
     /// cursor no standing changes. Where `return_born` went before, no formula is kept as of a position beyond the cursor
-    /// then, so that `shift` can follow. Takes no memory. Costs the number of formulas; nothing where the cursor is at the
-    /// line's last position.
+    /// then, so that `shift` can follow. Takes no memory. Costs what [`Lazy::return_born`] looks at; nothing where the cursor is at
+    /// the line's last position.
     pub fn forget_beyond(&mut self)
         ensures kept { (id : ℕ) → kept_in self.new id ≡ option_and_then (if_born_by self.old.line.cursor) (kept_in self.old id) }
         ensures standings { StandsUpTo self.old.line.cursor self.old self.new }
@@ -278,7 +298,8 @@ impl Lazy {
         if self.line.last() <= cursor {
             return;
         }
-        drop_born_beyond(&mut self.holders, cursor);
+        let among = self.recent.beyond(cursor, &self.holders);
+        drop_born_beyond(&mut self.holders, among, cursor);
     }
 
     /// Drops each formula, live or removed, whose id isn't one of these; all others are kept as they were. Takes no memory.
@@ -305,12 +326,24 @@ impl Lazy {
         ensures spare { spare_in self.new ≡ spare_in self.old }
         ensures pool { IsFront (held pool.old) (held pool.new) }
     {
-        let cursor = self.line.cursor();
-        if self.line.last() <= cursor {
+        let (cursor, last) = (self.line.cursor(), self.line.last());
+        if last <= cursor {
             return Ok(());
         }
+        self.recent.let_go_behind(cursor, last);
+        let among = self.recent.beyond(cursor, &self.holders);
         let (alloc, side) = (self.alloc, Side::Beyond);
-        bring_all(alloc, &mut self.holders, &self.line, pool, side, cursor)
+        bring_all(
+            alloc,
+            &mut self.holders,
+            among,
+            &self.line,
+            pool,
+            side,
+            cursor,
+        )?;
+        self.recent.let_go(cursor);
+        Ok(())
     }
 
     /// Takes every formula, live or removed, that is kept as of a position before this one to it, and forgets the operations
@@ -332,8 +365,17 @@ impl Lazy {
         ensures pool { IsFront (held pool.old) (held pool.new) }
     {
         prove!(self.line.cursor() <= self.line.last());
+        self.recent.let_go(self.line.last());
         let (alloc, side) = (self.alloc, Side::Before);
-        bring_all(alloc, &mut self.holders, &self.line, pool, side, position)?;
+        bring_all(
+            alloc,
+            &mut self.holders,
+            Among::All,
+            &self.line,
+            pool,
+            side,
+            position,
+        )?;
         self.line.forget_before(position);
         cut_all(&mut self.holders, position);
         Ok(())

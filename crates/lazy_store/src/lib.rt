@@ -18,12 +18,14 @@
 //! ```
 #![tactic(auto)]
 
+mod among;
 mod holder;
 mod holders;
 mod homes;
 pub mod laws;
 mod lazy;
 mod lookup;
+mod recent;
 mod stored;
 
 pub use lazy::Lazy;

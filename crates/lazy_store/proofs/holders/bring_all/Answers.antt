@@ -1,9 +1,10 @@
-use Rattle.std.proofs.Common.{◌≡◌, ◌≤◌, ◌+◌, sym, subst, arith, rules, length, None}
+use Rattle.std.proofs.Common.{◌≡◌, ◌≤◌, ◌+◌, ◌∙◌, ap, sym, subst, arith, rules, length, slice_get, None}
 use Rattle.formula_tree.specs.Pooled.{held}
 use Rattle.lazy_store.specs.Holders.{IsFront}
+use Rattle.lazy_store.specs.internal.Recent.{ids_among}
 use Rattle.lazy_store.specs.internal.Sweeps.{ArePlaced, Sweeps}
 use Rattle.lazy_store.proofs.Stepping.{front-trans}
-use Rattle.lazy_store.proofs.Tables.{IsDone, all-done, done-more, done-passes, none-off, place-more, same-count, still-there, sweep-more}
+use Rattle.lazy_store.proofs.Tables.{IsDone, all-done, done-more, done-passes, none-off, place-more, same-ids, still-there, sweep-more}
 use Rattle.lazy_store.proofs.holders.bring_all.Goals as goal
 use Rattle.lazy_store.proofs.holders.bring_all.Goals.{in-Some+in_ok-bring, in_default}
 
@@ -22,13 +23,15 @@ holders-preserved c =
     let mid = c.holders.holders in
     let index = c.holders.index in
     let so_far = c.holders.invariant in
+    let ids = ids_among c.args.among old in
+    let same : ids_among c.args.among mid ≡ ids = same-ids c.args.among old mid so_far.swept.along.keys in
     elim c.match-off_at.branch [
       | in-Some+in_ok-bring w ↦ record {
         swept = subst (Sweeps line c.args.side c.args.position old) (sym w.holders-is) (sweep-more line c.args.side c.args.position old mid w.bring.new.holders w.in-Some.id so_far.swept w.bring.ensures.brings w.in-Some.ensures.kept);
         placed = subst (ArePlaced c.args.position old) (sym w.holders-is)
             (place-more line c.args.side c.args.position old mid w.bring.new.holders w.in-Some.id so_far.placed w.bring.ensures.brings w.in_ok-bring.ensures.ok);
-        done = subst (IsDone line c.args.side c.args.position (index + 1)) (sym w.holders-is)
-            (done-more line c.args.side c.args.position mid w.bring.new.holders w.in-Some.id index so_far.done w.bring.ensures.brings w.in-Some.ensures.off w.in_ok-bring.ensures.ok);
+        done = subst (IsDone line c.args.side c.args.position ids (index + 1)) (sym w.holders-is)
+            (done-more line c.args.side c.args.position ids mid w.bring.new.holders w.in-Some.id index so_far.done w.bring.ensures.brings (sym (ap (λ xs. slice_get xs index) same) ∙ w.in-Some.ensures.off) w.in_ok-bring.ensures.ok);
         pool = subst (λ p. IsFront (held c.args.pool.now) (held p)) (sym w.pool-is) (front-trans (held c.args.pool.now) (held c.holders.pool) (held w.bring.new.pool) so_far.pool w.bring.ensures.pool);
       }
       | in_default w ↦
@@ -36,14 +39,15 @@ holders-preserved c =
           record {
             swept = subst (Sweeps line c.args.side c.args.position old) (sym w.holders-is) so_far.swept;
             placed = subst (ArePlaced c.args.position old) (sym w.holders-is) so_far.placed;
-            done = subst (IsDone line c.args.side c.args.position (index + 1)) (sym w.holders-is) (done-passes line c.args.side c.args.position mid index so_far.done (c.off_at.ensures.none none));
+            done = subst (IsDone line c.args.side c.args.position ids (index + 1)) (sym w.holders-is)
+                (done-passes line c.args.side c.args.position ids mid index so_far.done (λ id h there. c.off_at.ensures.none none id h (ap (λ xs. slice_get xs index) same ∙ there)));
             pool = subst (λ p. IsFront (held c.args.pool.now) (held p)) (sym w.pool-is) so_far.pool;
           }
     ]
 
 pub returns-clause-ok : goal.returns-clause-ok
 returns-clause-ok c =
-    let count = c.len-index-end.ensures.len in
-    let same = same-count c.holders.holders.entries c.args.holders.now.entries c.holders.invariant.swept.along.keys in
-    let whole : length c.holders.holders.entries ≤ c.holders.index = omega (arith, count, same, c.holders-test.false) in
-    all-done c.args.line.now c.args.side c.args.position c.holders.holders c.holders.index c.holders.invariant.done whole
+    let ids = ids_among c.args.among c.args.holders.now in
+    let count = c.len-index-end.ensures in
+    let whole : length ids ≤ c.holders.index = omega (arith, count, c.holders-test.false) in
+    all-done c.args.line.now c.args.side c.args.position ids c.args.holders.now c.holders.holders c.holders.index c.holders.invariant.swept c.requires.among c.holders.invariant.done whole

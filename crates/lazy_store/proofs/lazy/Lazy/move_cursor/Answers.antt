@@ -11,6 +11,7 @@ invariant_of-self c =
     record {
       sound = subst IsSoundLine (sym c.move_to.ensures) store.sound;
       coherent = subst (λ line. AreCoherent line store.holders) (sym c.move_to.ensures) (all-anywhere store.line c.args.position store.line.spare store.holders store.coherent);
+      noted = store.noted;
     }
 
 pub returns-clause-standings : goal.returns-clause-standings

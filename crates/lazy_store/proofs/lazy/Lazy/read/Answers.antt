@@ -1,11 +1,22 @@
-use Rattle.std.proofs.Common.{◌≡◌, ◌∙◌, ap, sym, rules, Some, option_and_then, option_map}
+use Rattle.std.proofs.Common.{◌≡◌, ◌∙◌, ap, arith, sym, rules, Some, option_and_then, option_map}
 use Rattle.formula_tree.specs.Relative.{relative}
 use Rattle.formula_tree.specs.StandsFor.{at_home}
 use Rattle.lazy_store.specs.Holders.{kept_of, kept_under}
 use Rattle.lazy_store.specs.Kept.{Kept, at, standing}
 use Rattle.lazy_store.specs.Store.{at_in}
+use Rattle.lazy_store.proofs.Noted.{noted-after, noted-brought}
 use Rattle.lazy_store.proofs.Stores.{at-own}
 use Rattle.lazy_store.proofs.lazy.Lazy.read.Goals as goal
+
+pub invariant_of-self : goal.invariant_of-self
+invariant_of-self c =
+    let store = c.args.self.now in
+    record {
+      sound = store.sound;
+      coherent = c.bring.ensures.brings.along.coherent;
+      noted = noted-brought c.note.new.self store.holders c.bring.new.holders store.line c.args.id c.bring.ensures.brings (λ k to. c.note.ensures.noted k (omega (arith, to, c.last.ensures)))
+          (noted-after store.holders store.line store.recent c.note.new.self store.coherent store.noted (λ id k to. c.note.ensures.others id k (omega (arith, to, c.last.ensures))));
+    }
 
 pub returns-clause-tree : goal.returns-clause-tree
 returns-clause-tree c =

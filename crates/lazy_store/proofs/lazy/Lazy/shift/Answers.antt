@@ -31,4 +31,5 @@ invariant_of-self c =
     record {
       sound = tried-sound c.args.s mid.line c.push.new.self c.requires.sound mid.sound from within attempt;
       coherent = tried-coherent c.args.s mid.line c.push.new.self c.requires.sound mid.sound from within mid.holders mid.coherent (subst (λ (l : Track). StandBehind l.cursor mid.holders) (sym told.line) told.behind) attempt;
+      noted = mid.noted;
     }

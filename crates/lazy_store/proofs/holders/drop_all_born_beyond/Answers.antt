@@ -5,7 +5,7 @@ use Rattle.std.specs.HashMap as hash
 use Rattle.std.specs.Map.{lookup}
 use Rattle.indexmap.proofs.CallerLemmas.{filter-RetainsPairs}
 use Rattle.lazy_store.proofs.Born.{filtered-born}
-use Rattle.lazy_store.proofs.holders.drop_born_beyond.Goals as goal
+use Rattle.lazy_store.proofs.holders.drop_all_born_beyond.Goals as goal
 
 pub returns-clause-found : goal.returns-clause-found
 returns-clause-found c = λ id.
