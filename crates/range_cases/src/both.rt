@@ -6,7 +6,7 @@ ghost use Rattle.range_table.specs.Ranges.{table_of};
 ghost use Rattle.range_table.specs.Table.{AreFolds};
 
 use crate::grid::Grid;
-use crate::plain::plain_summary;
+use crate::plain::{plain_count, plain_summary};
 use cell_addr::{Block, Place};
 use cell_value::{Scalar, Summary};
 use range_table::Ranges;
@@ -69,6 +69,14 @@ impl Both {
     // The summary of a block, worked out plainly.
     pub(crate) fn plain_summary(&self, b: Block) -> Summary {
         plain_summary(&self.grid, b)
+    }
+
+    // How many cells of a block aren't empty; of no block none.
+    pub(crate) fn plain_count(&self, b: Option<Block>) -> u64 {
+        match b {
+            Some(b) => plain_count(&self.grid, b),
+            None => 0,
+        }
     }
 
     // Goes on with a copy of the kept summaries; whether it has merged as many cells.

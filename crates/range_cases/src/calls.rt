@@ -89,11 +89,11 @@ pub(crate) fn a_longer_block_goes_on<L: Ledger>(
     Ok(goes_on(&mut both, steps)? && is_given_up(&mut both, steps)?)
 }
 
-// Whether four rows are summed up, and then the three that go before.
+// Whether four rows are summed up, of which the last is empty, and then the three that go before.
 fn goes_on<L: Ledger>(both: &mut Both, steps: &mut Steps<L>) -> Result<bool, AllocError> {
     let all = both.summary(rows(0, 3), steps)?;
     let shorter = both.summary(rows(0, 2), steps)?;
-    Ok(all == Some((expected(), 4)) && shorter == Some((expected(), 3)))
+    Ok(all == Some((expected(), 3)) && shorter == Some((expected(), 3)))
 }
 
 // Whether a fault in the fourth row gives up the summary that holds it alone.
@@ -150,17 +150,20 @@ impl Change {
 }
 
 // An operation, the first and the last row of a block that is summed up before it, those of the block that it should be
-// after, and how many cells are to be merged for that.
+// after, and how many cells are to be merged for that: no empty ones.
 type Case = (Change, (u32, u32), (u32, u32), u64);
 
 // The last row of a sheet.
 const LAST: u32 = ROWS - 1;
 
+// The first rows, and the last ones, in which each cell holds a truth value.
+const FILLED: [(u32, u32); 2] = [(0, 12), (LAST - 4, LAST + 1)];
+
 // What operations do to summaries of three rows.
 const CASES: [Case; 11] = [
     // Put in above, between and under.
     (Change::Insert { at: 0 }, (2, 4), (4, 6), 0),
-    (Change::Insert { at: 3 }, (2, 4), (2, 6), 5),
+    (Change::Insert { at: 3 }, (2, 4), (2, 6), 3),
     (Change::Insert { at: 5 }, (2, 4), (2, 4), 0),
     // Cut at the end of the sheet, and not.
     (Change::Insert { at: 0 }, (LAST - 2, LAST), (LAST, LAST), 1),
@@ -194,7 +197,7 @@ const CASES: [Case; 11] = [
         },
         (2, 4),
         (2, 4),
-        3,
+        1,
     ),
     (
         Change::Carry {
@@ -223,10 +226,21 @@ pub(crate) fn operations_move_or_give_up<L: Ledger>(
 // Whether so many cells are merged for the block after the operation.
 fn holds<L: Ledger>(alloc: Global, case: &Case, steps: &mut Steps<L>) -> Result<bool, AllocError> {
     let mut both = Both::new(alloc)?;
+    fill(&mut both)?;
     merges(&mut both, case, steps)
 }
 
-// Whether so many cells of an empty grid are merged.
+// Fills the first rows and the last ones.
+fn fill(both: &mut Both) -> Result<(), AllocError> {
+    'parts: for &(first, end) in &FILLED {
+        'rows: for row in first..end {
+            both.put(cell(row), Scalar::Truth(true))?;
+        }
+    }
+    Ok(())
+}
+
+// Whether so many cells of such a grid are merged.
 fn merges<L: Ledger>(
     both: &mut Both,
     case: &Case,

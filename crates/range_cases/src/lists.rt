@@ -188,16 +188,17 @@ impl List {
     }
 
     // Asks for the summary of a block on the sheet: it is to be the plain one, and no more and no fewer cells are to be merged
-    // than those that aren't in a kept summary.
+    // than those that aren't in a kept summary and aren't empty.
     fn ask<L: Ledger>(&mut self, b: Block, steps: &mut Steps<L>) -> Result<(), AllocError> {
         let Some((summary, merged)) = self.both.summary(b, steps)? else {
             return Ok(());
         };
-        let expected = self.expected.merged_for(b)?;
+        let left = self.expected.to_merge(b)?;
         self.tally.summaries = self.tally.summaries.saturating_add(1);
-        if merged == 0 {
+        if left.is_none() {
             self.tally.kept = self.tally.kept.saturating_add(1);
         }
+        let expected = self.both.plain_count(left);
         let same = self.is_plain(b, summary);
         self.compare(same && merged == expected);
         Ok(())

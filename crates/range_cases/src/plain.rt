@@ -14,17 +14,27 @@ pub(crate) fn plain_summary(grid: &Grid, b: Block) -> Summary {
     let mut summary = Summary::new();
     'rows: for row in b.top..b.bottom.saturating_add(1) {
         'cols: for col in b.left..b.right.saturating_add(1) {
-            let at = Place {
-                sheet: b.sheet,
-                row,
-                col,
-            };
+            let at = place(b, row, col);
             if at.inside() {
                 count_value(&mut summary, grid.value(at));
             }
         }
     }
     summary
+}
+
+// How many cells of a block aren't empty.
+pub(crate) fn plain_count(grid: &Grid, b: Block) -> u64 {
+    let mut count = 0_u64;
+    'rows: for row in b.top..b.bottom.saturating_add(1) {
+        'cols: for col in b.left..b.right.saturating_add(1) {
+            let at = place(b, row, col);
+            if at.inside() && !grid.value(at).is_empty() {
+                count = count.saturating_add(1);
+            }
+        }
+    }
+    count
 }
 
 // Counts one value more.
@@ -92,24 +102,21 @@ impl Expected {
         Ok(())
     }
 
-    // How many cells are to be merged for a block's summary; it is kept from then on.
-    pub(crate) fn merged_for(&mut self, b: Block) -> Result<u64, AllocError> {
+    // The block whose cells are to be merged for a block's summary, which is kept from then on: none where it was kept.
+    pub(crate) fn to_merge(&mut self, b: Block) -> Result<Option<Block>, AllocError> {
         if self.blocks.contains(&b) {
-            return Ok(0);
+            return Ok(None);
         }
-        let width = u64::from(b.right.saturating_sub(b.left)).saturating_add(1);
-        let height = u64::from(b.bottom.saturating_sub(b.top)).saturating_add(1);
         let shorter = Block {
             bottom: b.bottom.saturating_sub(1),
             ..b
         };
-        let merged = if b.top < b.bottom && self.blocks.contains(&shorter) {
-            width
-        } else {
-            height.saturating_mul(width)
-        };
+        let goes_on = b.top < b.bottom && self.blocks.contains(&shorter);
         self.blocks.push(b)?;
-        Ok(merged)
+        Ok(Some(Block {
+            top: if goes_on { b.bottom } else { b.top },
+            ..b
+        }))
     }
 }
 

@@ -1,5 +1,5 @@
 -- The cells of a block and of its last row, and their numbers. Serves the summary of a block.
-use Rattle.std.proofs.Common.{◌≡◌, ◌∙◌, sym, ap, ap₂, refl, subst, arith, ℕ, zero, suc, ◌+◌, ◌-◌, ◌*◌, ◌<◌, ◌≤◌, ◌^◌, Bool, true, false, cond, [], ◌++◌, length, length-append, Option, Some, None}
+use Rattle.std.proofs.Common.{◌≡◌, ◌∙◌, sym, ap, ap₂, refl, subst, arith, ℕ, zero, suc, ◌+◌, ◌-◌, ◌*◌, ◌<◌, ◌≤◌, ◌^◌, Bool, true, false, cond, List, [], ◌++◌, length, length-append, Option, Some, None}
 use Rattle.std.specs.FinMap as fin
 use Rattle.std.specs.List.{flat_map, range_with_len}
 use Rattle.std.specs.Option.{IfSome}
@@ -16,10 +16,10 @@ use Rattle.cell_value.specs.Summary.{no_values, summary_of}
 use Rattle.cell_value.specs.declared.scalar.Scalar.{Scalar}
 use Rattle.cell_value.specs.declared.summary.Summary.{Summary}
 use Rattle.range_table.specs.Blocks.{BlockMap}
-use Rattle.range_table.specs.Cells.{block_values, cells_in, fold, height, row_values, width}
-use Rattle.range_table.specs.Table.{AreFolds, begun, without_last_row}
-use Rattle.range_table.specs.internal.Rows.{Begins, last_row}
-use Rattle.range_table.proofs.Sums.{flat-more, summary_of-count}
+use Rattle.range_table.specs.Cells.{block_values, cells_in, fold, height, nonempty, nonempty_in, row_values, width}
+use Rattle.range_table.specs.Table.{AreFolds, begun, last_row, without_last_row}
+use Rattle.range_table.specs.internal.Rows.{Begins}
+use Rattle.range_table.proofs.Sums.{flat-more, nonempty-append, nonempty-few, summary_of-count}
 
 pub nothing_yet : no_values ≡ summary_of []
 unfolding summary_of
@@ -46,6 +46,26 @@ rows-length values b from (suc n) =
 
 pub fold_count : (values : Place → Scalar) (b : Block) → (fold values b).count ≤ cells_in b
 fold_count values b = let all = rows-length values b b.top (height b) in let few = summary_of-count (block_values values b) in omega (arith, all, few)
+
+-- no more cells aren't empty than there are
+pub nonempty_fit : (values : Place → Scalar) (b : Block) → nonempty_in values b ≤ cells_in b
+nonempty_fit values b = let all = rows-length values b b.top (height b) in let few = nonempty-few (block_values values b) in omega (arith, all, few)
+
+-- and no more in the last row than in all
+pub last_is_part : (values : Place → Scalar) (b : Block) → b.top ≤ b.bottom → nonempty_in values (last_row b) ≤ nonempty_in values b
+last_is_part values b rows =
+    let f = row_values values b in
+    let n = b.bottom - b.top in
+    let above = flat_map f (range_with_len b.top n) in
+    let one : suc b.bottom - b.bottom ≡ 1 = omega arith in
+    let end : b.top + n ≡ b.bottom = omega (arith, rows) in
+    let all : height b ≡ n + 1 = omega (arith, rows) in
+    let last : block_values values (last_row b) ≡ f b.bottom = ap (λ k. flat_map f (range_with_len b.bottom k)) one ∙ append-nil (f b.bottom) in
+    let whole : nonempty (block_values values b) ≡ nonempty above ++ nonempty (f b.bottom) =
+    ap (λ k. nonempty (flat_map f (range_with_len b.top k))) all ∙ ap nonempty (flat-more f b.top n b.bottom end) ∙ nonempty-append above (f b.bottom) in
+    let of_last = ap (λ (xs : List Scalar). length (nonempty xs)) last in
+    let of_whole = ap (λ (xs : List Scalar). length xs) whole ∙ length-append (nonempty above) (nonempty (f b.bottom)) in
+    omega (arith, of_last, of_whole)
 
 shorter-by : (b rest : Block) (t : Bool) → nat_lt b.top b.bottom ≡ t → cond t (Some (record b { bottom = b.bottom - 1 })) None ≡ Some rest → (b.top < b.bottom) × (record b { bottom = b.bottom - 1 } ≡ rest)
 shorter-by b rest true e h = (grind (arith, nat_tests), same_Some (record b { bottom = b.bottom - 1 }) rest h)

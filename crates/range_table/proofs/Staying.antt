@@ -1,8 +1,7 @@
 -- Kept summaries that stay right, and how many cells are merged. Serves the laws.
-use Rattle.std.proofs.Common.{◌≡◌, ◌∙◌, sym, ap, ap₂, refl, arith, ℕ, zero, suc, ◌+◌, ◌*◌, ◌<◌, ◌≤◌, Bool, true, false, cond, not, List, ◌∷◌, ◌++◌, map, Option, Some, None, IsSome, is_some, add-zero}
+use Rattle.std.proofs.Common.{◌≡◌, ◌∙◌, sym, ap, ap₂, refl, arith, ℕ, zero, suc, ◌+◌, ◌<◌, ◌≤◌, Bool, true, false, cond, not, List, ◌∷◌, ◌++◌, map, Option, Some, None, IsSome, is_some, add-zero}
 use Rattle.std.specs.FinMap.{empty, get, get-empty, get-insert, get-retain_keys, insert}
 use Rattle.std.specs.List.{flat_map, range_with_len}
-use Rattle.std.proofs.Math.Nat.{mul-le-mul_right, suc-mul, zero-mul}
 use Rattle.std.specs.Ordering.{eq_by_cmp}
 use Rattle.std.proofs.lemmas.Option.{same_Some}
 use Rattle.cell_addr.specs.Place.{covers}
@@ -12,11 +11,12 @@ use Rattle.cell_value.specs.Summary.{summary_of}
 use Rattle.cell_value.specs.declared.scalar.Scalar.{Scalar}
 use Rattle.cell_value.specs.declared.summary.Summary.{Summary}
 use Rattle.range_table.specs.Blocks.{BlockMap, block_cmp}
-use Rattle.range_table.specs.Cells.{cells_in, fold, height, row_values, width}
+use Rattle.range_table.specs.Cells.{cells_in, fold, height, nonempty_in, row_values, width}
 use Rattle.range_table.specs.Laws.{FewCellsAreMerged, TouchedTablesStayRight}
-use Rattle.range_table.specs.Table.{AreFolds, begun, cells_left}
+use Rattle.range_table.specs.Table.{AreFolds, begun, cells_left, last_row}
 use Rattle.shift_core.proofs.CarriedEntries.{eq_by_cmp-decides}
 use Rattle.shift_core.proofs.CellMoves.{covers-from_Covers}
+use Rattle.range_table.proofs.Rows.{last_is_part, nonempty_fit, one_row}
 use Rattle.range_table.proofs.Orders.{block_cmp-IsAntisymmetric, block_cmp-IsTotalOrder}
 
 -- what is the same of each number of two ranges, one after the other, is the same of both
@@ -65,21 +65,17 @@ touched_stay_right before after changed kept same right b s is =
     (sym (get-retain_keys kept (λ x. not (covers x changed)) b (λ x tied. ap (λ y. not (covers y changed)) (sym (block_cmp-IsAntisymmetric b x tied)))) ∙ is) in
     right b s had ∙ folds_alike before after b (λ p holds. sym (same p (λ e. let bad = sym apart ∙ ap (covers b) (sym e) ∙ holds in cc)))
 
-one_row_fits : (b : Block) → b.top ≤ b.bottom → width b ≤ cells_in b
-one_row_fits b rows =
-    let more : 1 * width b ≤ height b * width b = mul-le-mul_right {m = 1} {n = height b} (width b) (omega arith) in
-    let one = suc-mul 0 (width b) in
-    let none = zero-mul (width b) in
-    omega (arith, more, one, none)
-
-few-by : (b : Block) → width b ≤ cells_in b → (r q : Option Summary)
-    → (cond (is_some r) 0 (cells_left b q) ≤ cells_in b) × (IsSome r → cond (is_some r) 0 (cells_left b q) ≡ 0) × (IsSome q → cond (is_some r) 0 (cells_left b q) ≤ width b) × (r ≡ None → width b ≤ cond (is_some r) 0 (cells_left b q))
-few-by b one (Some s) q = (omega arith, (λ some. refl), (λ some. omega arith), (λ none. cc))
-few-by b one None (Some t) = (one, (λ some. cc), (λ some. omega arith), (λ none. omega arith))
-few-by b one None None = (omega arith, (λ some. cc), (λ some. cc), (λ none. one))
+few-by : (values : Place → Scalar) (b : Block) → nonempty_in values b ≤ cells_in b → nonempty_in values (last_row b) ≤ width b → nonempty_in values (last_row b) ≤ nonempty_in values b → (r q : Option Summary)
+    → (cond (is_some r) 0 (cells_left values b q) ≤ cells_in b) × (IsSome r → cond (is_some r) 0 (cells_left values b q) ≡ 0) × (IsSome q → cond (is_some r) 0 (cells_left values b q) ≤ width b) × (r ≡ None → nonempty_in values (last_row b) ≤ cond (is_some r) 0 (cells_left values b q))
+few-by values b all last part (Some s) q = (omega arith, (λ some. refl), (λ some. omega arith), (λ none. cc))
+few-by values b all last part None (Some t) = (omega (arith, all, part), (λ some. cc), (λ some. last), (λ none. omega arith))
+few-by values b all last part None None = (all, (λ some. cc), (λ some. cc), (λ none. part))
 
 pub few_are_merged : FewCellsAreMerged
-few_are_merged kept b inside = few-by b (one_row_fits b inside.0) (get kept b) (begun kept b)
+few_are_merged values kept b inside =
+    let row = nonempty_fit values (last_row b) in
+    let one = one_row b in
+    few-by values b (nonempty_fit values b) (omega (arith, row, one)) (last_is_part values b inside.0) (get kept b) (begun kept b)
 
 -- nothing kept is right
 pub nothing_right : (values : Place → Scalar) → AreFolds values empty

@@ -11,9 +11,9 @@ use Rattle.shift_core.specs.Sound.{IsSound}
 use Rattle.shift_core.specs.Tables.{place_after}
 use Rattle.shift_core.specs.declared.shift.Shift.{Shift}
 use Rattle.range_table.specs.Blocks.{BlockMap}
-use Rattle.range_table.specs.Cells.{cells_in, width}
+use Rattle.range_table.specs.Cells.{cells_in, nonempty_in, width}
 use Rattle.range_table.specs.Shifted.{KeepsBlock}
-use Rattle.range_table.specs.Table.{AreFolds, begun, cells_to_merge, without_holders}
+use Rattle.range_table.specs.Table.{AreFolds, begun, cells_to_merge, last_row, without_holders}
 
 -- summaries that are right stay so where one place gets another value and those whose blocks hold it are given up
 abbrev pub TouchedTablesStayRight : Type 0
@@ -22,14 +22,14 @@ TouchedTablesStayRight =
     ((p : Place) → ¬ (p ≡ changed) → after p ≡ before p) → AreFolds before kept → AreFolds after (without_holders changed kept)
 
 -- never more cells are merged than the block has, none where its summary is kept, no more than its width where that of the
--- block without its last row is kept, and at least its width where its own isn't
+-- block without its last row is kept, and at least those of its last row that aren't empty where its own isn't
 abbrev pub FewCellsAreMerged : Type 0
 FewCellsAreMerged =
-    (kept : BlockMap Summary) (b : Block) → IsBlockInside b →
-    (cells_to_merge kept b ≤ cells_in b)
-    × (IsSome (map.get kept b) → cells_to_merge kept b ≡ 0)
-    × (IsSome (begun kept b) → cells_to_merge kept b ≤ width b)
-    × (map.get kept b ≡ None → width b ≤ cells_to_merge kept b)
+    (values : Place → Scalar) (kept : BlockMap Summary) (b : Block) → IsBlockInside b →
+    (cells_to_merge values kept b ≤ cells_in b)
+    × (IsSome (map.get kept b) → cells_to_merge values kept b ≡ 0)
+    × (IsSome (begun kept b) → cells_to_merge values kept b ≤ width b)
+    × (map.get kept b ≡ None → nonempty_in values (last_row b) ≤ cells_to_merge values kept b)
 
 -- each place of a block that keeps its summary moves to the same offset in the block that this one moves to
 abbrev pub KeptBlocksTakeTheirCells : Type 0

@@ -7,7 +7,7 @@ pub fn touched_tables_stay_right()
 {}
 
 /// Never more cells are merged for a block than it has, none where its summary is kept, no more than its width where that
-/// of the block without its last row is kept, and at least its width where its own isn't.
+/// of the block without its last row is kept, and at least those of its last row that aren't empty where its own isn't.
 pub fn few_cells_are_merged()
     ensures { FewCellsAreMerged }
 {}

@@ -2,7 +2,8 @@
 //!
 //! A [`Ranges`] stands for a finite map from blocks to summaries. [`Ranges::summary`] answers that of a block of cells that
 //! have values, as [`Cells`] tells them, and keeps it. Where that of the block without its last row is kept, only the last
-//! row is merged, so prefix sums over n rows cost n cells and not their square. [`Ranges::touch`] gives up the summaries
+//! row is merged, so prefix sums over n rows cost n cells and not their square; and of a block that is large beside the
+//! number of all filled cells only these are gone over. [`Ranges::touch`] gives up the summaries
 //! whose blocks hold a cell that gets another value; these are found by slots, with no scan of all blocks.
 //! [`Ranges::shift`] takes the summaries along with a structural operation. They are kept by the numbers of the lines of
 //! their blocks ([`place_lines`]), which stay while operations move these, so that it looks only at the blocks that the
@@ -24,6 +25,8 @@ mod files;
 mod giving_up;
 mod kept;
 mod laws;
+mod listing;
+mod merging;
 mod ranges;
 mod shifting;
 mod state;
@@ -33,4 +36,5 @@ mod table;
 pub use cell_value::Summary;
 pub use cells::Cells;
 pub use laws::{few_cells_are_merged, kept_blocks_take_their_cells, touched_tables_stay_right};
+pub use listing::add_nonempty;
 pub use ranges::Ranges;

@@ -47,7 +47,7 @@ impl Ranges {
         })
     }
 
-    /// How many cells were merged so far; the count stays at the greatest number of 64 bits.
+    /// How many cells were merged so far, of which none was empty; the count stays at the greatest number of 64 bits.
     pub fn merged(&self) -> u64
         ensures { result ≡ (table_of self.now).merged }
     {
@@ -72,10 +72,11 @@ impl Ranges {
     /// kept summary that was right is right. Where there is no memory, or where the numbers of lines are used up, after more
     /// edits than fit a lifetime, all is as it was.
     ///
-    /// Costs the runs of lines of all edited sheets, which are copied, a search for each run of the lines that the operation
-    /// loses or displaces, and what it finds: the blocks that it bends, cuts, tears or takes along, of those kept at some
-    /// time; for each that it takes along the number of its slots. What it only carries along isn't looked at. Now and then,
-    /// where operations may have left behind more than is kept, all is made anew, which costs what [`Ranges::copied`] does.
+    /// Costs what the edit of the tables of lines does, and a count for each edited sheet; a search for each run of the lines
+    /// that the operation loses or displaces; and what it finds: the blocks that it bends, cuts, tears or takes along, of those
+    /// kept at some time, and for each that it takes along the number of its slots. What it only carries along isn't looked at.
+    /// Now and then, where operations may have left behind more than is kept, all is made anew, which costs what
+    /// [`Ranges::copied`] does.
     pub fn shift(&mut self, s: &Shift) -> Result<(), AllocError>
         requires { IsSound s.now }
         ensures moved { OnOk result (AreMoved s.now (table_of self.old).kept (table_of self.new).kept) }
@@ -91,8 +92,11 @@ impl Ranges {
 
     /// What the numbers of the block's cells come to, where each kept summary is that of its block. The summary is kept
     /// from now on, and those that were kept stay. A step is counted for each cell that is merged: none where the block's
-    /// summary is kept, those of its last row where that of the block without it is, and else all. `merged` rises by as
-    /// much. For want of memory all is as it was, and no step was counted.
+    /// summary is kept, those of its last row where that of the block without it is, and else all, but none that is empty.
+    /// `merged` rises by as much. For want of memory all is as it was, and no step was counted.
+    ///
+    /// Costs a reading of each cell that is to be merged or is empty, or, of blocks that are large beside the number of all
+    /// filled cells ([`Cells::filled`]), what the list of those that aren't empty does ([`Cells::listed`]).
     pub fn summary<C: Cells, L: Ledger>(
         &mut self,
         b: Block,
@@ -103,9 +107,9 @@ impl Ranges {
         requires right { AreFolds (C.values cells.now) (table_of self.old).kept }
         ensures fold { IfOk result (λ s. s ≡ fold (C.values cells.now) b) }
         ensures bounded { IfOk result IsBounded }
-        ensures kept { OnOk result (table_of self.new ≡ with_summary b (fold (C.values cells.now) b) (table_of self.old)) }
+        ensures kept { OnOk result (table_of self.new ≡ with_summary (C.values cells.now) b (table_of self.old)) }
         ensures right { OnOk result (AreFolds (C.values cells.now) (table_of self.new).kept) }
-        ensures steps { OnOk result (steps.new ≡ steps.old + cells_to_merge (table_of self.old).kept b) }
+        ensures steps { OnOk result (steps.new ≡ steps.old + cells_to_merge (C.values cells.now) (table_of self.old).kept b) }
         ensures err { OnErr result (table_of self.new ≡ table_of self.old) }
         ensures err_steps { OnErr result (steps.new ≡ steps.old) }
     {

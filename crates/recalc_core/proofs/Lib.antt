@@ -10,6 +10,7 @@ pub mod Moves
 pub mod CopiedValues
 pub mod Held
 pub mod FilledBlocks
+pub mod ListedValues
 pub mod Edits
 pub mod Shifted
 pub mod MovedMarks

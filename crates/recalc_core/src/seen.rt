@@ -1,7 +1,9 @@
 // What the formula that is worked out sees.
-ghost use Rattle.std.specs.Prelude.{◌≡◌, ◌+◌, ◌≤◌, IfOk, true};
+ghost use Rattle.std.specs.Prelude.{◌≡◌, ◌+◌, ◌≤◌, IfOk, map, true};
 ghost use Rattle.std.specs.Option.{option_map};
 ghost use Rattle.cell_value.specs.declared.scalar.Scalar.TheVariants as scalar;
+ghost use Rattle.calc_eval.specs.Filled.{seen_cells};
+ghost use Rattle.range_table.specs.Cells.{nonempty, seen_values};
 ghost use Rattle.range_table.specs.Ranges.{table_of};
 ghost use Rattle.range_table.specs.Table.{AreFolds};
 ghost use Rattle.recalc_core.specs.internal.KeptValues.{kept_by};
@@ -13,7 +15,7 @@ use calc_eval::{NameView, View, filled_area};
 use cell_addr::{Block, Place, same_folded};
 use cell_value::{Area, Scalar, Summary};
 use dep_graph::Node;
-use range_table::Ranges;
+use range_table::{Ranges, add_nonempty};
 use std::alloc::{AllocError, Global};
 use std::sync::ledger::Ledger;
 use steps::Steps;
@@ -21,6 +23,7 @@ use steps::Steps;
 // What places and names show by the values that are kept.
 #[derive(Drop)]
 pub(crate) struct Shown<'a> {
+    alloc: Global,
     kept: &'a KeptValues,
     empty: Scalar,
 
@@ -30,10 +33,11 @@ pub(crate) struct Shown<'a> {
 
 impl<'a> Shown<'a> {
     // By these values.
-    fn by(kept: &'a KeptValues) -> Shown<'a>
+    fn by(alloc: Global, kept: &'a KeptValues) -> Shown<'a>
         ensures { result.kept.now ≡ kept.now }
     {
         Shown {
+            alloc,
             kept,
             empty: Scalar::Empty,
         }
@@ -56,6 +60,26 @@ impl range_table::Cells for Shown<'_> {
     fn value(&self, at: Place) -> &Scalar {
         self.of(Node::Cell(at))
     }
+
+    fn listed(&self, b: Block) -> Result<Vec<&Scalar>, AllocError> {
+        let kept = self.kept.listed(b)?;
+        nonempty(self.alloc, &kept)
+    }
+
+    fn filled(&self) -> u64 {
+        self.kept.cells.filled()
+    }
+}
+
+// The values that aren't empty.
+fn nonempty<'a>(alloc: Global, cells: &[(Place, &'a Scalar)]) -> Result<Vec<&'a Scalar>, AllocError>
+    ensures { IfOk result (λ list. seen_values list.items ≡ nonempty (map (λ cell. cell.1) (seen_cells cells.now))) }
+{
+    let mut list = Vec::new(alloc);
+    'cells: for cell in cells {
+        add_nonempty(cell.1, &mut list)?;
+    }
+    Ok(list)
 }
 
 // What a formula sees: kept values, the names that it reads, kept summaries, and the day.
@@ -73,6 +97,7 @@ pub(crate) struct Seen<'a> {
 impl<'a> Seen<'a> {
     // By these values, where each summary is that of its block's cells.
     pub(crate) fn new(
+        alloc: Global,
         kept: &'a KeptValues,
         names: &'a [ReadName],
         ranges: Ranges,
@@ -84,7 +109,7 @@ impl<'a> Seen<'a> {
         ensures day { result.day ≡ day }
     {
         Seen {
-            shown: Shown::by(kept),
+            shown: Shown::by(alloc, kept),
             names,
             ranges,
             day,

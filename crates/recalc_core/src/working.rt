@@ -73,7 +73,7 @@ impl Recalc {
         let names = read_names(self.alloc, trees, tree, home.sheet())?;
         let none = Ranges::new(self.alloc)?;
         let ranges = mem::replace(&mut self.ranges, none);
-        let mut seen = Seen::new(&self.kept, &names, ranges, day);
+        let mut seen = Seen::new(self.alloc, &self.kept, &names, ranges, day);
         let value = eval(self.alloc, tree, home, &mut seen, customs, steps);
         self.ranges = seen.into_ranges();
         value

@@ -1,6 +1,6 @@
 use Rattle.std.proofs.Common.{◌∙◌, ap₂, arith, ◌*◌}
 use Rattle.range_table.proofs.Rows.{cells_fit}
-use Rattle.range_table.proofs.summing.cells_in.Goals as goal
+use Rattle.range_table.proofs.merging.cells_in.Goals as goal
 
 pub overflow_mul-result : goal.overflow_mul-result
 overflow_mul-result c =

@@ -1,0 +1,14 @@
+use Rattle.range_table.specs.Ranges.{table_of}
+use Rattle.calc_eval.proofs.BlockFilling.{fits_ends}
+use Rattle.range_table.proofs.Staying.{few_are_merged}
+use Rattle.recalc_core.specs.internal.KeptValues.{kept_by}
+use Rattle.recalc_core.specs.internal.Seen.{shown_at}
+use Rattle.recalc_core.proofs.ListedValues.{most_steps}
+use Rattle.recalc_core.proofs.seen.SeenView.summary.Goals as goal
+
+pub returns-clause-most : goal.returns-clause-most
+returns-clause-most g c =
+    let seen = c.args.self.now in
+    let ends = fits_ends c.args.block c.requires in
+    most_steps c.summary.result c.args.steps.now c.summary.new.steps _ _ c.summary.ensures.steps c.summary.ensures.err_steps
+    (few_are_merged (shown_at (kept_by seen.shown.kept.now)) (table_of seen.ranges).kept c.args.block (ends.rows, ends.bottom, ends.cols, ends.right)).0
