@@ -34,8 +34,18 @@ pub(crate) fn run(rt: &HostRuntime, formulas: &str, operations: Option<u32>) -> 
 // Times a store of so many formulas, and one of a single formula; whether both could be read.
 fn time_both(rt: &HostRuntime, formulas: u64, operations: u64) -> io::Result<bool> {
     let mut pool = Pool::new(rt.alloc())?;
-    let many = time_many(rt, &mut pool, formulas, operations)?;
-    let one = time_one(rt, &mut pool, operations)?;
+    time_stores(rt, &mut pool, formulas, operations)
+}
+
+// The same, with a pool of their trees.
+fn time_stores(
+    rt: &HostRuntime,
+    pool: &mut Pool,
+    formulas: u64,
+    operations: u64,
+) -> io::Result<bool> {
+    let many = time_many(rt, pool, formulas, operations)?;
+    let one = time_one(rt, pool, operations)?;
     Ok(many && one)
 }
 

@@ -73,13 +73,24 @@ const CASES: [(Edits, &'static str, u32, u32, u32); 8] = [
 pub(crate) fn run(rt: &HostRuntime) -> io::Result<bool> {
     'cases: for &(edits, name, cells, stretches, length) in &CASES {
         let mut grid = filled(rt.alloc(), cells)?;
-        'stretches: for stretch in 0..stretches {
-            let from = stretch.wrapping_mul(length);
-            let time = time_stretch(rt, &mut grid, edits, from, length)?;
-            println!(rt; "{cells} cells, {name}, from {from} on: {time} ns")?;
-        }
+        time_stretches(rt, &mut grid, (edits, name, cells, stretches, length))?;
     }
     Ok(true)
+}
+
+// Times the stretches of a case over its grid, and prints a line for each.
+fn time_stretches(
+    rt: &HostRuntime,
+    grid: &mut Grid<Scalar>,
+    case: (Edits, &str, u32, u32, u32),
+) -> io::Result<()> {
+    let (edits, name, cells, stretches, length) = case;
+    'stretches: for stretch in 0..stretches {
+        let from = stretch.wrapping_mul(length);
+        let time = time_stretch(rt, grid, edits, from, length)?;
+        println!(rt; "{cells} cells, {name}, from {from} on: {time} ns")?;
+    }
+    Ok(())
 }
 
 // How many nanoseconds an edit takes, over so many from that of a number on.

@@ -1,11 +1,14 @@
 // How long kept summaries take: of growing, rolling and single blocks, and over rows that are put in.
+ghost use Rattle.std.specs.Prelude.{◌≡◌, ◌++◌, OnOk};
+ghost use Rattle.cell_addr.specs.Place.{IsBlockInside};
+ghost use Rattle.range_table.specs.Cells.{nonempty, row_values, seen_values};
 ghost use Rattle.range_table.specs.Ranges.{table_of};
 ghost use Rattle.range_table.specs.Table.{AreFolds};
 
 use cell_addr::{Block, Place};
 use cell_value::Scalar;
 use fix_num::Fixed;
-use range_table::{Cells, Ranges};
+use range_table::{Cells, Ranges, add_nonempty};
 use shift_core::{Shift, sound};
 use std::alloc::{AllocError, Global};
 use std::io;
@@ -16,14 +19,57 @@ use steps::Steps;
 // Cells that all have one value.
 #[derive(Drop)]
 struct Alike {
+    alloc: Global,
     value: Scalar,
+}
+
+impl Alike {
+    // The value of a place.
+    fn value_at(&self, _at: Place) -> &Scalar
+        ensures { result.now ≡ self.now.value }
+    {
+        &self.value
+    }
+
+    // Adds the values of one row of a block, unless they are empty.
+    fn list_row<'a>(
+        &'a self,
+        b: Block,
+        row: u32,
+        list: &mut Vec<&'a Scalar>,
+    ) -> Result<(), AllocError>
+        requires { IsBlockInside b }
+        ensures { OnOk result (seen_values list.new.items ≡ seen_values list.old.items ++ nonempty (row_values (λ at. self.now.value) b row)) }
+    {
+        'cols: for col in b.left..b.right + 1 {
+            let at = Place {
+                sheet: b.sheet,
+                row,
+                col,
+            };
+            add_nonempty(self.value_at(at), list)?;
+        }
+        Ok(())
+    }
 }
 
 impl Cells for Alike {
     ghost values = { λ cells at. cells.value };
 
-    fn value(&self, _at: Place) -> &Scalar {
-        &self.value
+    fn value(&self, at: Place) -> &Scalar {
+        self.value_at(at)
+    }
+
+    fn listed(&self, b: Block) -> Result<Vec<&Scalar>, AllocError> {
+        let mut list = Vec::new(self.alloc);
+        'rows: for row in b.top..b.bottom + 1 {
+            self.list_row(b, row, &mut list)?;
+        }
+        Ok(list)
+    }
+
+    fn filled(&self) -> u64 {
+        u64::MAX
     }
 }
 
@@ -39,6 +85,7 @@ impl Summed {
     fn new(alloc: Global) -> Result<Summed, AllocError> {
         Ok(Summed {
             cells: Alike {
+                alloc,
                 value: Scalar::from(Fixed::from_int(1)),
             },
             ranges: Ranges::new(alloc)?,

@@ -109,11 +109,23 @@ fn run_all<L: Ledger>(
     registry: &Registry,
     steps: &mut Steps<L>,
 ) -> io::Result<Tally> {
-    let mut whole = run_words(rt)?;
-    println!(rt; "words of functions: {whole}")?;
-    let mut kind = Kind::Calls;
+    let of_words = run_words(rt)?;
+    println!(rt; "words of functions: {of_words}")?;
     let mut words = env::args(rt)?;
     let _program = words.next();
+    let words: Vec<String> = words.collect(rt.alloc())?;
+    Ok(of_words.with(run_named(rt, &words, registry, steps)?))
+}
+
+// Runs the cases of the files that words name, each of the kind that the last word before it says.
+fn run_named<L: Ledger>(
+    rt: &HostRuntime,
+    words: &[String],
+    registry: &Registry,
+    steps: &mut Steps<L>,
+) -> io::Result<Tally> {
+    let mut whole = Tally::default();
+    let mut kind = Kind::Calls;
     'words: for word in words {
         match word.as_str() {
             "calls" => kind = Kind::Calls,
@@ -154,10 +166,22 @@ fn run_text<L: Ledger>(
     steps: &mut Steps<L>,
 ) -> io::Result<Tally> {
     let mut page = FormulaPage::new(rt.alloc())?;
+    run_lines(rt, kind, &mut page, text, registry, steps)
+}
+
+// The same over a page.
+fn run_lines<L: Ledger>(
+    rt: &HostRuntime,
+    kind: Kind,
+    page: &mut FormulaPage,
+    text: &str,
+    registry: &Registry,
+    steps: &mut Steps<L>,
+) -> io::Result<Tally> {
     let mut tally = Tally::default();
     'lines: for line in text.lines() {
         if is_row(kind, line) {
-            run_row(rt, kind, &mut page, line, registry, steps, &mut tally)?;
+            run_row(rt, kind, page, line, registry, steps, &mut tally)?;
         }
     }
     Ok(tally)
