@@ -3,8 +3,9 @@
 //! A [`Source`] gives bytes, a [`Sink`] takes them and a [`Folder`] has files by name; each of them
 //! counts its faults. [`StdSource`], [`StdSink`] and [`DiskFolder`] are those of the system,
 //! [`MemSource`], [`MemSink`] and [`MemFolder`] stand in memory and fail at will, and
-//! [`CalmSource`], [`CalmSink`] and [`CalmFolder`] stand in memory and never fail. [`read_all`]
-//! reads a source to its end, [`Records`] reads CSV, and [`read_book`] says which sheet a file is:
+//! [`CalmSource`], [`CalmSink`] and [`CalmFolder`] stand in memory and have no faults; a sink that
+//! grows still wants memory. [`read_all`] reads a source to its end, [`Records`] reads CSV, and
+//! [`read_book`] says which sheet a file is:
 //!
 //! ```text
 //! let mut folder = DiskFolder::new(&rt);
