@@ -56,11 +56,19 @@ def asked(times):
     yield from ("dependents,A1\n" for _ in range(times))
 
 
+def asked_over_changes(times):
+    """Formulas are set, and the dependents of a cell are asked for after each."""
+    for row in range(1, times + 1):
+        yield f"set,C{row},=A{row}\n"
+        yield f"dependents,A{row + 1}\n"
+
+
 CASES = [
     ("2,000 formulas pasted", lambda: column(2_000), lambda: pasted(2_000, 10), 10),
     ("a block of 100 by 100 moved", block, lambda: moved(100), 100),
     ("dependents among 5,000 formulas", lambda: column(5_000), lambda: asked(10), 10),
     ("dependents among 10,000 formulas", lambda: column(10_000), lambda: asked(10), 10),
+    ("a change and dependents, of 10,000", lambda: column(10_000), lambda: asked_over_changes(1_000), 1_000),
 ]
 
 

@@ -90,6 +90,15 @@ def turns(times):
         yield "redo"
 
 
+def returns(times):
+    """A row put in after an undo, which it cuts off, and ten formulas read, which the undo leaves beyond."""
+    for index in range(times):
+        yield "insert-rows,Sheet1,50,1"
+        for col in range(WIDTH):
+            yield f"formula,{column(col + 1)}{index % 40 + 1}"
+        yield "undo"
+
+
 def links(times):
     """The precedents of the formula that mentions a name."""
     for _ in range(times):
@@ -113,6 +122,7 @@ WORKLOADS = (
     ("a number set, a thousand steps kept", ["--undo-limit", "1000"], SIZES, formulas, sets),
     ("a row put in, and deleted, a thousand steps kept", ["--undo-limit", "1000"], SIZES, formulas, inserts),
     ("a formula read after a thousand operations", [], SIZES, lambda n: chained(formulas(n), inserts(1_000)), reads),
+    ("a row put in after an undo, ten formulas read, and undone", [], SIZES, formulas, returns),
     ("the precedents of a formula with a name", [], FEW, names, links),
 )
 # What one formula takes of memory.
