@@ -1,7 +1,7 @@
 -- Operations that lead from a position on, as they lie in the line. Serves the slices of a line.
-use Rattle.std.proofs.Common.{◌≡◌, ◌∙◌, sym, ap, subst, arith, ℕ, zero, suc, ◌+◌, ◌-◌, ◌<◌, ◌≤◌, if◌then◌else◌, List, ◌∷◌, ◌++◌, length, get_or, take, drop, Some, None}
+use Rattle.std.proofs.Common.{◌≡◌, ◌∙◌, sym, ap, subst, arith, ℕ, zero, suc, ◌+◌, ◌-◌, ◌<◌, ◌≤◌, if◌then◌else◌, List, ◌∷◌, ◌++◌, length, get_or, length-append, take, drop, Some, None}
 use Rattle.std.proofs.lemmas.Bool.{le-leb}
-use Rattle.std.proofs.lemmas.List.{drop-append-le, length-drop, take-append-le}
+use Rattle.std.proofs.lemmas.List.{drop-append-le, length-drop, length-take-le, take-append-le}
 use Rattle.std.proofs.lemmas.Option.{slice_get-get_or}
 use Rattle.std.proofs.Math.Seq.{drop-append-add, drop-cons}
 use Rattle.std.specs.List.{slice_get}
@@ -43,3 +43,20 @@ module _ (t : Track) (front back : List Shift) (all : front ++ back ≡ t.shifts
       ap (λ r. take (end - start) (drop start r)) (sym all) ∙ ap (λ k. take (end - start) (drop k (front ++ back))) index ∙ ap (take (end - start)) (drop-append-add front back (start - length front))
       ∙ ap (λ n. take n (drop (start - length front) back)) (sym count) in
       subst (λ r. IsRun t from r) same (subst (λ k. IsRun t k (take (end - start) (drop start t.shifts))) there (run-at t (end - start) start (omega (arith, order, fits))))
+
+  -- they end at the position in front of which the last of them leads
+  pub run-front-to : (to : ℕ) → t.first + end ≡ to → end ≤ length front → end ≤ length t.shifts → IsRun t (to - length (take (end - start) (drop start front))) (take (end - start) (drop start front))
+  run-front-to to is within fits =
+      let count : length (take (end - start) (drop start front)) ≡ end - start = length-take-le (end - start) (drop start front) (omega (arith, order, within, length-drop start front)) in
+      let place : from ≡ to - length (take (end - start) (drop start front)) = omega (arith, count, is, there, order) in
+      subst (λ k. IsRun t k (take (end - start) (drop start front))) place (run-front within fits)
+
+  pub run-back-to : (to : ℕ) → t.first + end ≡ to → length front ≤ start → end ≤ length t.shifts
+      → IsRun t (to - length (take (end - length front - (start - length front)) (drop (start - length front) back))) (take (end - length front - (start - length front)) (drop (start - length front) back))
+  run-back-to to is past fits =
+      let all_of : length front + length back ≡ length t.shifts = sym (length-append front back) ∙ ap length all in
+      let some = drop (start - length front) back in
+      let n = end - length front - (start - length front) in
+      let count : length (take n some) ≡ n = length-take-le n some (omega (arith, order, past, fits, all_of, length-drop (start - length front) back)) in
+      let place : from ≡ to - length (take n some) = omega (arith, count, is, there, order, past) in
+      subst (λ k. IsRun t k (take n some)) place (run-back past fits)

@@ -102,6 +102,26 @@ impl Line {
         }
     }
 
+    /// The operations from one position up to another one, in order: as many as lie side by side in front of the latter,
+    /// which is at least one where one is kept there. Costs the same however many there are.
+    pub fn run_to(&self, from: u64, to: u64) -> &[Shift]
+        ensures run { IsRun self.now (to - length result.now) result.now }
+        ensures within { length result.now ≤ to - from }
+        ensures some { from < to → self.now.first < to → to ≤ last self.now → 0 < length result.now }
+    {
+        let (front, back) = self.shifts.as_slices();
+        let start = from.max(self.first);
+        if self.last() < to || to <= start {
+            return &front[..0];
+        }
+        let (start, end) = ((start - self.first) as usize, (to - self.first) as usize);
+        if end <= front.len() {
+            &front[start..end]
+        } else {
+            &back[start.max(front.len()) - front.len()..end - front.len()]
+        }
+    }
+
     /// How many operations more fit without memory.
     pub fn spare(&self) -> usize
         ensures { result ≡ self.now.spare }
