@@ -7,13 +7,16 @@ use Rattle.formula_tree.specs.Reference.{block_of}
 use Rattle.formula_tree.specs.Term.{Term, number, text, truth, fault, cell, area, name, prefix, percent, binary, call, paren, Terms, no_terms, term}
 use Rattle.formula_tree.specs.declared.reference.Corner.{Corner}
 use Rattle.shift_core.specs.Carried.{first_place, last_place}
-use Rattle.shift_core.specs.Tables.{block_after, place_after}
+use Rattle.shift_core.specs.Tables.{block_after, block_before, place_after, place_before}
 use Rattle.shift_core.specs.declared.shift.Shift.{Shift}
 use Rattle.tree_rewrite.proofs.CallerLemmas.{fit-stays}
 use Rattle.tree_rewrite.specs.References.{FitsSheets}
-use Rattle.tree_rewrite.specs.Rewritten.{area_at, cell_at, placed_by, rewritten}
+use Rattle.tree_rewrite.specs.Rewritten.{area_at, cell_at, placed_by, returned, rewritten}
 use Rattle.tree_rewrite.specs.internal.Passage.{all_placed_by}
-use Rattle.run_walk.specs.Run.{AreSound, block_over, place_over, tree_over}
+use Rattle.run_walk.specs.Run.{AreSound, block_back, block_over, place_back, place_over, tree_back, tree_over}
+use Rattle.run_walk.specs.internal.Walked.{block_along, place_along, tree_along}
+use Rattle.run_walk.specs.declared.direction.Direction.{Direction}
+use Rattle.run_walk.specs.declared.direction.Direction.TheVariants.{Forward, Backward}
 use Rattle.run_walk.proofs.Over.{option-all}
 
 -- a corner that is at another place already, at a third one
@@ -64,11 +67,19 @@ walked-some : (s : Shift) (run : List Shift) (t : Term Corner) → tree_over (s 
 walked-some s [] t = sym (λ i. placed_by (λ p. option-all (place_after s p) i) (λ b. option-all (block_after s b) i) t)
 walked-some s (z ∷ run) t = walked-some z run (rewritten s t) ∙ fused (place_after s) (place_over (z ∷ run)) (block_after s) (block_over (z ∷ run)) t
 
-pub walked : (run : List Shift) (t : Term Corner) → run ≢ [] → tree_over run t ≡ placed_by (place_over run) (block_over run) t
-walked [] t some = absurd (some refl)
-walked (s ∷ run) t some = walked-some s run t
+-- and back over them
+walked-back : (s : Shift) (run : List Shift) (t : Term Corner) → tree_back (s ∷ run) t ≡ placed_by (place_back (s ∷ run)) (block_back (s ∷ run)) t
+walked-back s [] t = refl
+walked-back s (z ∷ run) t = ap (returned s) (walked-back z run t) ∙ fused (place_back (z ∷ run)) (place_before s) (block_back (z ∷ run)) (block_before s) t
+
+pub walked : (d : Direction) (run : List Shift) (t : Term Corner) → run ≢ [] → tree_along d run t ≡ placed_by (place_along d run) (block_along d run) t
+walked d [] t some = absurd (some refl)
+walked Forward (s ∷ run) t some = walked-some s run t
+walked Backward (s ∷ run) t some = walked-back s run t
 
 -- references and blocks within the limits of a sheet stay so
-pub fits-over : (run : List Shift) (t : Term Corner) → AreSound run → FitsSheets t → FitsSheets (tree_over run t)
-fits-over [] t sound fits = fits
-fits-over (s ∷ run) t sound fits = fits-over run (rewritten s t) sound.1 (fit-stays s t sound.0 fits).0
+pub fits-along : (d : Direction) (run : List Shift) (t : Term Corner) → AreSound run → FitsSheets t → FitsSheets (tree_along d run t)
+fits-along Forward [] t sound fits = fits
+fits-along Forward (s ∷ run) t sound fits = fits-along Forward run (rewritten s t) sound.1 (fit-stays s t sound.0 fits).0
+fits-along Backward [] t sound fits = fits
+fits-along Backward (s ∷ run) t sound fits = (fit-stays s (tree_back run t) sound.0 (fits-along Backward run t sound.1 fits)).1

@@ -11,19 +11,22 @@ use Rattle.formula_tree.specs.declared.reference.Home.{Home}
 use Rattle.formula_tree.specs.declared.reference.Ref.{Ref}
 use Rattle.shift_core.specs.Carried.{first_place, last_place}
 use Rattle.shift_core.specs.Sound.{IsSound}
-use Rattle.shift_core.specs.Tables.{block_after, place_after}
+use Rattle.shift_core.specs.Tables.{block_after, block_before, place_after, place_before}
 use Rattle.shift_core.specs.declared.shift.Shift.{Shift}
 use Rattle.tree_rewrite.proofs.EachReferences.{mapped-seen}
-use Rattle.shift_core.proofs.BlockLaws.{block_moved_inside}
-use Rattle.shift_core.proofs.PlaceLaws.{place_moved_inside}
+use Rattle.shift_core.proofs.BlockLaws.{block_moved_inside, block_returned_inside}
+use Rattle.shift_core.proofs.PlaceLaws.{place_moved_inside, place_returned_inside}
 use Rattle.shift_core.specs.Form.{form_of}
 use Rattle.tree_rewrite.proofs.Inside.{fits-back}
 use Rattle.tree_rewrite.specs.References.{EachReference, EachReferenceOfAll, FitsSheets}
 use Rattle.tree_rewrite.specs.Rewritten.{area_at, cell_at, placed_by}
-use Rattle.run_walk.specs.Run.{AreSound, block_over, over_all, place_over, tree_over}
+use Rattle.run_walk.specs.Run.{AreSound, back_all, over_all}
+use Rattle.run_walk.specs.declared.direction.Direction.{Direction}
+use Rattle.run_walk.specs.declared.direction.Direction.TheVariants.{Forward, Backward}
 use Rattle.run_walk.specs.internal.Freed.{AllFit}
-use Rattle.run_walk.specs.internal.Walked.{TakesArea, TakesCell, area_walked, cell_walked}
-use Rattle.run_walk.proofs.Fusion.{fits-over, walked}
+use Rattle.run_walk.specs.internal.Walked.{TakesArea, TakesCell, area_walked, block_along, cell_walked, home_along, place_along, tree_along}
+use Rattle.run_walk.proofs.Fusion.{fits-along, walked}
+use Rattle.run_walk.proofs.Over.{home_back-inside, home_over-inside}
 
 -- ---- places and blocks within the limits of a sheet stay so
 
@@ -36,29 +39,43 @@ module _ {X : Type 0} (step : Shift → X → Option X) (P : X → Type 0) (stay
   stays-over [] x z sound p is = subst P (same_Some x z is) p
   stays-over (s ∷ run) x z sound p is = each-stays s run x z sound.0 p (λ y q e. stays-over run y z sound.1 q e) (step s x) refl is
 
-pub place_over-inside : (run : List Shift) (p q : Place) → AreSound run → IsInside p → place_over run p ≡ Some q → IsInside q
-place_over-inside = stays-over place_after IsInside (λ s x y sound inside is. place_moved_inside (form_of s) x y sound inside is)
+  last-stays : (s : Shift) (z : X) (o : Option X) → IsSound s → ((y : X) → o ≡ Some y → P y) → option_and_then (step s) o ≡ Some z → P z
+  last-stays s z None sound each is = absurd (none-some z is)
+  last-stays s z (Some y) sound each is = stays s y z sound (each y refl) is
 
-block_over-inside : (run : List Shift) (b c : Block) → AreSound run → IsBlockInside b → block_over run b ≡ Some c → IsBlockInside c
-block_over-inside = stays-over block_after IsBlockInside (λ s x y sound inside is. block_moved_inside (form_of s) x y sound inside is)
+  stays-back : (run : List Shift) (x z : X) → AreSound run → P x → back_all step run x ≡ Some z → P z
+  stays-back [] x z sound p is = subst P (same_Some x z is) p
+  stays-back (s ∷ run) x z sound p is = last-stays s z (back_all step run x) sound.0 (λ y e. stays-back run x y sound.1 p e) is
 
-pub corners-inside : (run : List Shift) (b c : Block) → AreSound run → IsBlockInside b → block_over run b ≡ Some c → IsInside (first_place c) × IsInside (last_place c)
-corners-inside run b c sound inside is = let i = block_over-inside run b c sound inside is in ((omega arith, omega arith), (omega arith, omega arith))
+pub place_along-inside : (d : Direction) (run : List Shift) (p q : Place) → AreSound run → IsInside p → place_along d run p ≡ Some q → IsInside q
+place_along-inside Forward = stays-over place_after IsInside (λ s x y sound inside is. place_moved_inside (form_of s) x y sound inside is)
+place_along-inside Backward = stays-back place_before IsInside (λ s x y sound inside is. place_returned_inside (form_of s) y x sound inside is)
+
+block_along-inside : (d : Direction) (run : List Shift) (b c : Block) → AreSound run → IsBlockInside b → block_along d run b ≡ Some c → IsBlockInside c
+block_along-inside Forward = stays-over block_after IsBlockInside (λ s x y sound inside is. block_moved_inside (form_of s) x y sound inside is)
+block_along-inside Backward = stays-back block_before IsBlockInside (λ s x y sound inside is. block_returned_inside (form_of s) x y sound inside is)
+
+pub corners-inside : (d : Direction) (run : List Shift) (b c : Block) → AreSound run → IsBlockInside b → block_along d run b ≡ Some c → IsInside (first_place c) × IsInside (last_place c)
+corners-inside d run b c sound inside is = let i = block_along-inside d run b c sound inside is in ((omega arith, omega arith), (omega arith, omega arith))
+
+pub home_along-inside : (d : Direction) (run : List Shift) (home to : Home) → AreSound run → IsHomeInside home → home_along d run home ≡ Some to → IsHomeInside to
+home_along-inside Forward = home_over-inside
+home_along-inside Backward = home_back-inside
 
 -- ---- trees
 
 -- what a walk makes of each reference is what the run makes of the tree
-pub walked-each : (run : List Shift) (from to : Home) (t : Term Ref) → mapped (cell_walked run from to) (area_walked run from to) t ≡ from_home to (placed_by (place_over run) (block_over run) (at_home from t))
-walked-each run from to t = mapped-seen (corner_at (base_of from)) (λ c. cell_at c (place_over run c.at)) (λ c d. area_at c d (block_over run (record { sheet = c.at.sheet; top = c.at.row; left = c.at.col; bottom = d.at.row; right = d.at.col }))) (ref_from (base_of to)) t
+pub walked-each : (d : Direction) (run : List Shift) (from to : Home) (t : Term Ref) → mapped (cell_walked d run from to) (area_walked d run from to) t ≡ from_home to (placed_by (place_along d run) (block_along d run) (at_home from t))
+walked-each d run from to t = mapped-seen (corner_at (base_of from)) (λ c. cell_at c (place_along d run c.at)) (λ c e. area_at c e (block_along d run (record { sheet = c.at.sheet; top = c.at.row; left = c.at.col; bottom = e.at.row; right = e.at.col }))) (ref_from (base_of to)) t
 
--- placed at the home behind the run it is what the operations make of it
-pub walked-at_home : (run : List Shift) (from to : Home) (t u : Term Ref) → run ≢ [] → AreSound run → FitsSheets (at_home from t) → u ≡ mapped (cell_walked run from to) (area_walked run from to) t → at_home to u ≡ tree_over run (at_home from t)
-walked-at_home run from to t u some sound fits is =
-    ap (at_home to) (is ∙ walked-each run from to t ∙ ap (from_home to) (sym (walked run (at_home from t) some)))
-    ∙ fits-back to (tree_over run (at_home from t)) (fits-over run (at_home from t) sound fits)
+-- placed at the home at the other end of the run it is what the operations make of it
+pub walked-at_home : (d : Direction) (run : List Shift) (from to : Home) (t u : Term Ref) → run ≢ [] → AreSound run → FitsSheets (at_home from t) → u ≡ mapped (cell_walked d run from to) (area_walked d run from to) t → at_home to u ≡ tree_along d run (at_home from t)
+walked-at_home d run from to t u some sound fits is =
+    ap (at_home to) (is ∙ walked-each d run from to t ∙ ap (from_home to) (sym (walked d run (at_home from t) some)))
+    ∙ fits-back to (tree_along d run (at_home from t)) (fits-along d run (at_home from t) sound fits)
 
-pub walked-fits : (run : List Shift) (from to : Home) (t u : Term Ref) → AreSound run → FitsSheets (at_home from t) → at_home to u ≡ tree_over run (at_home from t) → FitsSheets (at_home to u)
-walked-fits run from to t u sound fits is = subst FitsSheets (sym is) (fits-over run (at_home from t) sound fits)
+pub walked-fits : (d : Direction) (run : List Shift) (from to : Home) (t u : Term Ref) → AreSound run → FitsSheets (at_home from t) → at_home to u ≡ tree_along d run (at_home from t) → FitsSheets (at_home to u)
+walked-fits d run from to t u sound fits is = subst FitsSheets (sym is) (fits-along d run (at_home from t) sound fits)
 
 -- a walk takes all references that fit
 mutual

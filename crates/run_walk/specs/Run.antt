@@ -6,9 +6,9 @@ use Rattle.formula_tree.specs.Term.{Term}
 use Rattle.formula_tree.specs.declared.reference.Corner.{Corner}
 use Rattle.formula_tree.specs.declared.reference.Home.{Home}
 use Rattle.shift_core.specs.Sound.{IsSound}
-use Rattle.shift_core.specs.Tables.{place_after, block_after}
+use Rattle.shift_core.specs.Tables.{place_after, block_after, place_before, block_before}
 use Rattle.shift_core.specs.declared.shift.Shift.{Shift}
-use Rattle.tree_rewrite.specs.Rewritten.{ComesBack, home_after, rewritten}
+use Rattle.tree_rewrite.specs.Rewritten.{ComesBack, home_after, home_before, returned, rewritten}
 
 -- each operation of the run can be done
 abbrev pub AreSound : List Shift → Type 0
@@ -39,3 +39,23 @@ tree_over (s ∷ run) t = tree_over run (rewritten s t)
 abbrev pub NoneLoses : List Shift → Term Corner → Type 0
 NoneLoses [] t = Unit {0}
 NoneLoses (s ∷ run) t = ComesBack s t × NoneLoses run (rewritten s t)
+
+-- where something was before the operations, from the last one back to the first; none where it came from nowhere
+abbrev pub back_all : {X : Type 0} → (Shift → X → Option X) → List Shift → X → Option X
+back_all step [] x = Some x
+back_all step (s ∷ run) x = option_and_then (step s) (back_all step run x)
+
+-- a place, a block and a home
+abbrev pub place_back : List Shift → Place → Option Place
+place_back = back_all place_before
+
+abbrev pub block_back : List Shift → Block → Option Block
+block_back = back_all block_before
+
+abbrev pub home_back : List Shift → Home → Option Home
+home_back = back_all home_before
+
+-- the tree before the operations, as far as the tree after each of them tells
+abbrev pub tree_back : List Shift → Term Corner → Term Corner
+tree_back [] t = t
+tree_back (s ∷ run) t = returned s (tree_back run t)

@@ -8,12 +8,13 @@ ghost use Rattle.run_walk.specs.Run.{AreSound, home_over, tree_over};
 ghost use Rattle.tree_rewrite.specs.Pooled.{HoldsChanged};
 ghost use Rattle.tree_rewrite.specs.References.{FitsSheets};
 
-use crate::run::{block_over, first_place, home_over, last_place, place_over};
-use cell_value::FaultKind;
-use formula_tree::{Corner, Home, Node, Pool, Ref, Tree};
+use crate::direction::Direction;
+use crate::run::home_over;
+use crate::walk::Walk;
+use formula_tree::{Home, Pool, Tree};
 use shift_core::Shift;
 use std::alloc::{AllocError, Global};
-use tree_rewrite::{Replacement, changed_area, changed_cell, replaced};
+use tree_rewrite::replaced;
 
 /// The tree and the home of a formula after all operations of the run: as [`tree_rewrite::forward`] over one after the
 /// other gives them, but that only the last tree is made.
@@ -47,61 +48,11 @@ pub fn forward_over(
         unreachable!()
     };
     let walk = Walk {
+        direction: Direction::Forward,
         run,
         from: home,
         to,
     };
     let tree = replaced(alloc, pool, &walk, tree)?;
     Ok((tree, to))
-}
-
-// The way of a formula over a run of operations, some of them: the home at either end.
-#[derive(Clone, Copy, Drop)]
-struct Walk<'a> {
-    run: &'a [Shift],
-    from: Home,
-    to: Home,
-}
-
-impl<'a> Replacement for Walk<'a> {
-    ghost use Rattle.run_walk.specs.internal.Walked.{TakesArea, TakesCell, area_walked, cell_walked};
-
-    ghost TakesCell = { λ w r. TakesCell w.run.now w.from w.to r };
-
-    ghost TakesArea = { λ w r q. TakesArea w.run.now w.from w.to r q };
-
-    ghost for_cell = { λ w r. cell_walked w.run.now w.from w.to r };
-
-    ghost for_area = { λ w r q. area_walked w.run.now w.from w.to r q };
-
-    fn reference(&self, reference: Ref) -> Option<Node> {
-        let corner = reference.at(self.from);
-        let Some(at) = place_over(self.run, corner.at) else {
-            return Some(Node::Fault(FaultKind::Ref));
-        };
-        let new = Ref::of(Corner { at, ..corner }, self.to);
-        changed_cell(new, reference)
-    }
-
-    fn area(&self, first: Ref, last: Ref) -> Option<Node> {
-        let (top, bottom) = (first.at(self.from), last.at(self.from));
-        let Some(block) = block_over(self.run, top.block_to(bottom)) else {
-            return Some(Node::Fault(FaultKind::Ref));
-        };
-        let new_first = Ref::of(
-            Corner {
-                at: first_place(block),
-                ..top
-            },
-            self.to,
-        );
-        let new_last = Ref::of(
-            Corner {
-                at: last_place(block),
-                ..bottom
-            },
-            self.to,
-        );
-        changed_area((new_first, new_last), (first, last))
-    }
 }

@@ -3,7 +3,9 @@
 //! [`forward_over`] takes a formula's shared tree and its home over a run of [`shift_core::Shift`]s as
 //! [`tree_rewrite::forward`] over one after the other would: each reference is taken over the whole run before the next
 //! one, so no tree is made in between. [`free_run`] says beforehand over how many operations from the front of the run
-//! nothing of the tree is lost, so that whoever wants to go back keeps the tree where something is.
+//! nothing of the tree is lost, so that whoever wants to go back keeps the tree where something is. [`backward_over`]
+//! takes tree and home back over a run, as [`tree_rewrite::backward`] over one after the other would, from the last to
+//! the first.
 //!
 //! A row inserted before row 2, another one, and then row 5 deleted, seen from cell A1 (rows counted from 1):
 //!
@@ -13,10 +15,14 @@
 //! ```
 #![tactic(auto)]
 
+mod backward;
+mod direction;
 mod forward;
 mod free;
 mod run;
+mod walk;
 
+pub use backward::backward_over;
 pub use forward::forward_over;
 pub use free::free_run;
-pub use run::home_over;
+pub use run::{home_back, home_over};

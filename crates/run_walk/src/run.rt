@@ -1,11 +1,11 @@
 // Places, blocks and homes over runs of operations.
 ghost use Rattle.std.specs.Prelude.{◌≡◌, ◌≤◌, length, take};
 ghost use Rattle.shift_core.specs.Carried.{first_place, last_place};
-ghost use Rattle.run_walk.specs.Run.{AreSound, block_over, home_over, place_over};
+ghost use Rattle.run_walk.specs.Run.{AreSound, block_back, block_over, home_back, home_over, place_back, place_over};
 
 use cell_addr::{Block, Place};
 use formula_tree::Home;
-use shift_core::{Shift, moved_block, moved_place};
+use shift_core::{Shift, back_block, back_place, moved_block, moved_place};
 
 // So many operations from the front of the run.
 pub(crate) fn front(run: &[Shift], count: usize) -> &[Shift]
@@ -49,6 +49,42 @@ pub fn home_over(run: &[Shift], home: Home) -> Option<Home>
 {
     match home {
         Home::Cell(at) => Some(Home::Cell(place_over(run, at)?)),
+        Home::Name { .. } => Some(home),
+    }
+}
+
+// Where the place was before the operations, from the last one back to the first; None where it came from nowhere.
+pub(crate) fn place_back(run: &[Shift], p: Place) -> Option<Place>
+    requires { AreSound run.now }
+    ensures { result ≡ place_back run.now p }
+{
+    let mut at = p;
+    'run: for index in (0..run.len()).rev() {
+        at = back_place(&run[index], at)?;
+    }
+    Some(at)
+}
+
+// Where the block was before them; None where one of its ends came from nowhere.
+pub(crate) fn block_back(run: &[Shift], b: Block) -> Option<Block>
+    requires { AreSound run.now }
+    ensures { result ≡ block_back run.now b }
+{
+    let mut at = b;
+    'run: for index in (0..run.len()).rev() {
+        at = back_block(&run[index], at)?;
+    }
+    Some(at)
+}
+
+/// Where the home was before the operations, from the last one back to the first; None where it came from nowhere. They
+/// are sound. Costs about their number, and nothing for the home of a name.
+pub fn home_back(run: &[Shift], home: Home) -> Option<Home>
+    requires { AreSound run.now }
+    ensures { result ≡ home_back run.now home }
+{
+    match home {
+        Home::Cell(at) => Some(Home::Cell(place_back(run, at)?)),
         Home::Name { .. } => Some(home),
     }
 }

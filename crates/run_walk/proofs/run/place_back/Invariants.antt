@@ -1,0 +1,8 @@
+use Rattle.std.proofs.Common.{◌≡◌, take}
+use Rattle.shift_core.specs.Tables.{place_before}
+use Rattle.run_walk.specs.Run.{back_all}
+use Rattle.run_walk.proofs.run.place_back.Given as goal
+
+-- what is left of the run takes it back from here as the whole run takes it back
+abbrev pub invariant-run : goal.invariant-run
+invariant-run l = back_all place_before (take l.index l.run) l.at ≡ back_all place_before l.run l.fn.p
