@@ -4,7 +4,13 @@ use Rattle.std.proofs.lemmas.Option.{none-some}
 use Rattle.std.proofs.lemmas.Bool.{cases_lt}
 use Rattle.std.proofs.lemmas.Bool.Decides.{nat_tests}
 use Rattle.std.specs.BTreeMap as tree
-use Rattle.std.specs.Ordering.{nat_cmp, is_eq}
+use Rattle.std.specs.BTreeMap.{BTreeMap}
+use Rattle.std.specs.BTreeMap.Range.{IsRangeOf}
+use Rattle.std.specs.Option.{IsSome}
+use Rattle.std.specs.Ordering.{nat_cmp, is_eq, is_gt, is_lt}
+use Rattle.std.specs.declared.cmp.Ordering.TheVariants.{Less}
+use Rattle.std.specs.declared.ops.Bound.TheVariants.{Excluded, Included}
+use Rattle.std.proofs.lemmas.Map.Keys.{ge_from_not_lt}
 use Rattle.std.specs.declared.alloc.Global.{Global}
 use Rattle.std.specs.declared.rc.Rc.{Rc}
 use Rattle.formula_tree.specs.Relative.{relative}
@@ -121,6 +127,14 @@ none-further line h k to x from past there lost = by (at line h to) refl
     by None e = e
     by (Some y) e = absurd (at-has line h (k + 1) to (omega (arith, from)) (omega (arith, past)) (λ none. none-some y (sym none ∙ e)) (at-next line h k from ∙ ap (option_and_then (over line k)) there ∙ lost))
 
+-- nor is there one behind a position at which there is none
+pub none-past : (line : Track) (h : Kept) (k to : ℕ) → h.position ≤ k → k ≤ to → at line h k ≡ None → at line h to ≡ None
+none-past line h k to from past none = by (at line h to) refl
+  where
+    by : (o : Option Standing) → at line h to ≡ o → at line h to ≡ None
+    by None e = e
+    by (Some y) e = absurd (at-has line h k to from past (λ gone. none-some y (sym gone ∙ e)) none)
+
 -- the standing after an operation, by its home and its shared tree
 pub after-found : (s : Shift) (x : Standing) (home : Home) (tree : Rc Node Global) → home_after s x.home ≡ Some home → StandsFor tree home (rewritten s x.tree) → after s x ≡ Some (standing_at home (relative tree.value))
 after-found s x home tree there stands = ap (option_map (rewritten_at s x)) there ∙ ap (λ t. Some (at_tree home t)) (sym stands)
@@ -131,6 +145,32 @@ ends-there line k x none = ap (option_and_then (λ t. after t x)) none
 
 pub home-lost : (line : Track) (k : ℕ) (s : Shift) (x : Standing) → shift_at line k ≡ Some s → home_after s x.home ≡ None → over line k x ≡ None
 home-lost line k s x is none = ap (option_and_then (λ t. after t x)) is ∙ ap (option_map (rewritten_at s x)) none
+
+-- ---- saved trees
+
+ge-range : (a b : ℕ) → a ≤ b → is_gt (nat_cmp a b) ≡ false
+ge-range a b le = grind (arith, nat_tests)
+
+from-range : (a b : ℕ) → is_gt (nat_cmp a b) ≡ false → a ≤ b
+from-range a b le = grind (arith, nat_tests)
+
+lt-range : (a b : ℕ) → a < b → nat_cmp a b ≡ Less
+lt-range a b lt = grind (arith, nat_tests)
+
+-- behind the last of a range, up to its end, nothing is saved
+module _ {X : Type 0} (m : BTreeMap ℕ X) (from to last : ℕ) (v : X) (front all : List (ℕ × X)) (of : IsRangeOf nat_cmp (Included from) (Excluded to) m all) (ends : all ≡ front ++ (last, v) ∷ []) where
+  pub none-behind : (k : ℕ) → last + 1 ≤ k → k < to → tree.get nat_cmp m k ≡ None
+  none-behind k past under = by (tree.get nat_cmp m k) refl
+    where
+      start : from ≤ last
+      start = from-range from last (of.3 (last, v) front ends).0.0
+
+      none-greater : IsSome (tree.get nat_cmp m k) → is_lt (nat_cmp last k) ≡ false
+      none-greater some = of.4 (last, v) front ends k (ge-range from k (omega (arith, start, past)), lt-range k to under) some
+
+      by : (o : Option X) → tree.get nat_cmp m k ≡ o → tree.get nat_cmp m k ≡ None
+      by None e = e
+      by (Some x) e = let least = ge_from_not_lt last k (none-greater (subst IsSome (sym e) refl)) in absurd (omega (arith, least, past))
 
 -- ---- saved trees dropped
 

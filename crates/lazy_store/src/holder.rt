@@ -4,13 +4,13 @@ ghost use Rattle.std.specs.Ordering.{nat_cmp};
 ghost use Rattle.std.specs.Prelude.{◌≡◌, ◌≢◌, ℕ, ◌+◌, ◌≤◌, ◌<◌, ◌-◌, None, Some, IfOk, IfSome, OnOk, OnErr, length};
 ghost use Rattle.formula_tree.specs.Pooled.{held};
 ghost use Rattle.shift_core.specs.Sound.{IsSound};
-ghost use Rattle.run_walk.specs.Run.{AreSound, home_over};
+ghost use Rattle.run_walk.specs.Run.{AreSound, home_back, home_over};
 ghost use Rattle.shift_line.specs.Track.{last};
 ghost use Rattle.tree_rewrite.specs.Rewritten.{home_after, home_before};
 
 use crate::homes::home_before;
 use formula_tree::{Home, Pool, Tree};
-use run_walk::{forward_over, free_run};
+use run_walk::{backward_over, forward_over, free_run};
 use shift_core::Shift;
 use shift_line::Line;
 use std::alloc::{AllocError, Global};
@@ -35,7 +35,7 @@ impl Holder {
     ghost use Rattle.lazy_store.specs.Holders.{IsFront, kept_of};
     ghost use Rattle.lazy_store.specs.Kept.{IsCoherent, IsSoundLine, at, fresh, standing, standing_at};
     ghost use Rattle.lazy_store.specs.Standing.{IsFit, before};
-    ghost use Rattle.lazy_store.specs.internal.Steps.{CutsOff, GoesAlong, GoesBack, GoesOn, GoesOver, Saves, Takes};
+    ghost use Rattle.lazy_store.specs.internal.Steps.{CutsOff, GoesAlong, GoesBack, GoesBackOver, GoesOn, GoesOver, Saves, Takes};
     ghost use Rattle.formula_tree.specs.Relative.{relative};
 
     // A live formula that comes at this position.
@@ -81,6 +81,14 @@ impl Holder {
             self.go_on(alloc, pool, &s)?;
         }
         'back: while position < self.position {
+            let passed = line.run_to(
+                unsaved_from(&self.saved, position, self.position),
+                self.position,
+            );
+            if !passed.is_empty() {
+                self.go_back_over(alloc, pool, passed)?;
+                continue;
+            }
             let Some(s) = line.at(self.position - 1) else {
                 unreachable!()
             };
@@ -103,6 +111,28 @@ impl Holder {
         self.tree = tree;
         self.home = home;
         self.position += run.len() as u64;
+        Ok(())
+    }
+
+    // Takes the formula back over operations up to its position, all at once. Over none of them a tree is to be saved.
+    fn go_back_over(
+        &mut self,
+        alloc: Global,
+        pool: &mut Pool,
+        run: &[Shift],
+    ) -> Result<(), AllocError>
+        requires sound { AreSound run.now }
+        requires room { length run.now ≤ self.old.position }
+        requires fit { IsFit (standing (kept_of self.old)) }
+        requires kept { home_back run.now self.old.home ≢ None }
+        ensures ok { OnOk result (GoesBackOver run.now (kept_of self.old) (kept_of self.new)) }
+        ensures err { OnErr result (kept_of self.new ≡ kept_of self.old) }
+        ensures pool { IsFront (held pool.old) (held pool.new) }
+    {
+        let (tree, home) = backward_over(alloc, pool, &self.tree, self.home, run)?;
+        self.tree = tree;
+        self.home = home;
+        self.position -= run.len() as u64;
         Ok(())
     }
 
@@ -192,6 +222,19 @@ impl Holder {
         ensures { CutsOff position (kept_of self.old) (kept_of self.new) }
     {
         drop_before(&mut self.saved, position);
+    }
+}
+
+// The first position from which on, up to another one, no tree is saved; none before `from`.
+pub(crate) fn unsaved_from(saved: &BTreeMap<u64, Tree>, from: u64, to: u64) -> u64
+    requires { from ≤ to }
+    ensures from { from ≤ result }
+    ensures to { result ≤ to }
+    ensures unsaved { (k : ℕ) → result ≤ k → k < to → get nat_cmp saved.now k ≡ None }
+{
+    match saved.range(from..to).next_back() {
+        Some((last, _)) => *last + 1,
+        None => from,
     }
 }
 

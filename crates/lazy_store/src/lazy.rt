@@ -150,7 +150,8 @@ impl Lazy {
 
     /// Home and tree of a formula at any position, live or removed, with the pool for new trees; `None` exactly where the store
     /// has no formula under the id, or it has no standing there. No formula is touched. Costs the operations between the
-    /// position and the one as of which the formula is kept, each about the nodes of the tree.
+    /// position and the one as of which the formula is kept, each about the references of the tree, with one new tree for all
+    /// of them forward, and back as [`Lazy::read`].
     pub fn tree_at(
         &self,
         pool: &mut Pool,
@@ -203,7 +204,7 @@ impl Lazy {
     /// standing at the cursor. No formula's standings change, and no other formula is touched; the pool may get trees. For
     /// want of memory the formula may have come part of the way. Costs the operations between: forward each about the
     /// references of the tree, with one new tree for all that lose nothing of it one after the other, and one for each
-    /// that does; back each about the nodes of the tree.
+    /// that does; back each about the references of the tree, with one new tree for all between two saved ones.
     pub fn read(&mut self, pool: &mut Pool, id: u64) -> Result<Tree, AllocError>
         requires live { live_in self.old id ≡ Some true }
         requires there { at_in self.old id self.old.line.cursor ≢ None }

@@ -8,9 +8,10 @@ ghost use Rattle.lazy_store.specs.Standing.{IsFit, before};
 ghost use Rattle.shift_core.specs.Sound.{IsSound};
 ghost use Rattle.tree_rewrite.specs.Rewritten.{home_before};
 
-use crate::holder::Holder;
-use crate::homes::{home_after, home_before};
+use crate::holder::{Holder, unsaved_from};
+use crate::homes::home_before;
 use formula_tree::{Home, Pool, Tree};
+use run_walk::{backward_over, forward_over, home_over};
 use shift_core::Shift;
 use shift_line::Line;
 use std::alloc::{AllocError, Global};
@@ -57,16 +58,17 @@ impl Holder {
         let mut tree = self.tree.clone()?;
         let mut here = self.position;
         'later: while here < position {
-            let Some(s) = line.at(here) else {
-                return Ok(None);
-            };
-            if home_after(home, &s).is_none() {
+            let run = line.run_from(here, position);
+            if run.is_empty() {
                 return Ok(None);
             }
-            let (next, to) = tree_rewrite::forward(alloc, pool, &tree, home, &s)?;
+            if home_over(run, home).is_none() {
+                return Ok(None);
+            }
+            let (next, to) = forward_over(alloc, pool, &tree, home, run)?;
             tree = next;
             home = to;
-            here += 1;
+            here += run.len() as u64;
         }
         Ok(Some((home, tree)))
     }
@@ -90,6 +92,14 @@ impl Holder {
         let mut tree = self.tree.clone()?;
         let mut here = self.position;
         'earlier: while position < here {
+            let run = line.run_to(unsaved_from(&self.saved, position, here), here);
+            if !run.is_empty() {
+                let (next, to) = backward_over(alloc, pool, &tree, home, run)?;
+                tree = next;
+                home = to;
+                here -= run.len() as u64;
+                continue;
+            }
             here -= 1;
             let Some(s) = line.at(here) else {
                 unreachable!()

@@ -7,8 +7,8 @@ use crate::holder::Holder;
 use indexmap::IndexMap;
 use std::alloc::Global;
 
-// So many formulas stand behind each id that is noted at most, and so many ids are noted in any case: whoever has to look at
-// all formulas has noted one for each so many of them before.
+// So many formulas stand behind each id that is noted at most, and so many ids are noted in any case: but for a settle, and for
+// want of memory, whoever has to look at all formulas has noted one for each so many of them before.
 const FORMULAS_AN_ID: usize = 64;
 
 // Ids of formulas: of each that is kept as of a position beyond `from`, and of others.

@@ -1,6 +1,6 @@
 -- What the steps of a holder along the line do to what it keeps.
 use Rattle.std.specs.Prelude.{◌≡◌, ◌≢◌, ℕ, ◌+◌, ◌<◌, ◌≤◌, List, length, Some, None}
-use Rattle.run_walk.specs.Run.{home_over, tree_over}
+use Rattle.run_walk.specs.Run.{home_back, home_over, tree_back, tree_over}
 use Rattle.shift_core.specs.declared.shift.Shift.{Shift}
 use Rattle.shift_line.specs.Track.{Track}
 use Rattle.lazy_store.specs.Kept.{Kept, IsCoherent, at, standing}
@@ -30,6 +30,15 @@ pub record GoesOver (run : List Shift) (old new : Kept) : Type 0 where
   pub position : new.position ≡ old.position + length run
   pub home : home_over run old.home ≡ Some new.home
   pub tree : (standing new).tree ≡ tree_over run (standing old).tree
+  pub saved : (k : ℕ) → new.saved k ≡ old.saved k
+  pub birth : new.birth ≡ old.birth
+  pub live : new.live ≡ old.live
+
+-- and back over a run of operations, with the tree that the way back makes of them; no saved tree is taken
+pub record GoesBackOver (run : List Shift) (old new : Kept) : Type 0 where
+  pub position : old.position ≡ new.position + length run
+  pub home : home_back run old.home ≡ Some new.home
+  pub tree : (standing new).tree ≡ tree_back run (standing old).tree
   pub saved : (k : ℕ) → new.saved k ≡ old.saved k
   pub birth : new.birth ≡ old.birth
   pub live : new.live ≡ old.live

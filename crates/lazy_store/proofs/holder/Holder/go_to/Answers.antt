@@ -1,13 +1,14 @@
-use Rattle.std.proofs.Common.{◌≡◌, ◌∙◌, sym, ap, refl, subst, arith, ◌-◌, max, take}
+use Rattle.std.proofs.Common.{◌≡◌, ◌∙◌, sym, ap, refl, subst, arith, ℕ, ◌-◌, ◌<◌, ◌≤◌, length, max, take, None, option_map}
 use Rattle.std.proofs.lemmas.List.{length-take-le}
 use Rattle.formula_tree.specs.Pooled.{held}
+use Rattle.formula_tree.specs.Relative.{relative}
 use Rattle.shift_line.specs.Track.{shift_at}
 use Rattle.lazy_store.specs.Holders.{kept_of}
 use Rattle.lazy_store.specs.Kept.{history, lowest, standing}
 use Rattle.lazy_store.specs.internal.Steps.{GoesAlong}
 use Rattle.lazy_store.proofs.Passing.{back-home, goes-back, goes-on}
 use Rattle.lazy_store.proofs.Reaching.{reaches, went-along}
-use Rattle.lazy_store.proofs.Runs.{goes-over, over-home, run-front, run-sound}
+use Rattle.lazy_store.proofs.Runs.{goes-back-over, goes-over, over-home, over_back-home, run-front, run-sound}
 use Rattle.lazy_store.proofs.Stepping.{front-refl, front-trans, lowest-below}
 use Rattle.lazy_store.proofs.holder.Holder.go_to.Goals as goal
 
@@ -86,6 +87,54 @@ returns-in_err-go_on-clause-along c =
     let so_far = c.forward.invariant in
     subst (GoesAlong line h) (sym c.in_err-go_on.ensures.err)
     (went-along line c.args.position h (kept_of c.forward.self) c.requires.sound c.requires.coherent c.requires.there c.requires.within so_far.along so_far.birth so_far.live)
+
+pub go_back_over-requires-clause-sound : goal.go_back_over-requires-clause-sound
+go_back_over-requires-clause-sound c =
+    let run = c.run_to-passed.result.now in
+    run-sound c.args.line.now (c.back.self.position - length run) run c.requires.sound c.run_to-passed.ensures.run
+
+pub go_back_over-requires-clause-kept : goal.go_back_over-requires-clause-kept
+go_back_over-requires-clause-kept c =
+    let line = c.args.line.now in
+    let h = kept_of c.args.self.now in
+    let run = c.run_to-passed.result.now in
+    let least = lowest-below line h c.args.position c.requires.coherent c.requires.there in
+    let start = c.back.self.position - length run in
+    let within = c.run_to-passed.ensures.within in
+    let from = c.unsaved_from.ensures.from in
+    let to = c.unsaved_from.ensures.to in
+    let none : (j : ℕ) → start ≤ j → j < c.back.self.position → (kept_of c.back.self).saved j ≡ None = (λ j above under. ap (option_map (λ t. relative t.value)) (c.unsaved_from.ensures.unsaved j (omega (arith, above, within, to)) under)) in
+    over_back-home line c.requires.sound (lowest line h) (max h.position c.args.position) (history line h) (kept_of c.back.self) c.back.invariant.along run c.run_to-passed.ensures.run (omega (arith, within)) (omega (arith, within, from, to, least)) none
+
+pub back-preserved-then-not-is_empty : goal.back-preserved-then-not-is_empty
+back-preserved-then-not-is_empty c =
+    let line = c.args.line.now in
+    let h = kept_of c.args.self.now in
+    let so_far = c.back.invariant in
+    let run = c.run_to-passed.result.now in
+    let least = lowest-below line h c.args.position c.requires.coherent c.requires.there in
+    let start = c.back.self.position - length run in
+    let within = c.run_to-passed.ensures.within in
+    let from = c.unsaved_from.ensures.from in
+    let to = c.unsaved_from.ensures.to in
+    let none : (j : ℕ) → start ≤ j → j < c.back.self.position → (kept_of c.back.self).saved j ≡ None = (λ j above under. ap (option_map (λ t. relative t.value)) (c.unsaved_from.ensures.unsaved j (omega (arith, above, within, to)) under)) in
+    let goes = c.in_ok-go_back_over.ensures.ok in
+    let step = goes.position in
+    record {
+      along = goes-back-over line c.requires.sound (lowest line h) (max h.position c.args.position) (history line h) (kept_of c.back.self) so_far.along run c.run_to-passed.ensures.run (omega (arith, within)) (omega (arith, within, from, to, least)) none (kept_of c.go_back_over.new.self) goes;
+      birth = goes.birth ∙ so_far.birth;
+      live = goes.live ∙ so_far.live;
+      past = omega (arith, step, within, from, to);
+      pool = front-trans (held c.args.pool.now) (held c.back.pool) (held c.go_back_over.new.pool) so_far.pool c.go_back_over.ensures.pool;
+    }
+
+pub returns-in_err-go_back_over-clause-along : goal.returns-in_err-go_back_over-clause-along
+returns-in_err-go_back_over-clause-along c =
+    let line = c.args.line.now in
+    let h = kept_of c.args.self.now in
+    let so_far = c.back.invariant in
+    subst (GoesAlong line h) (sym c.in_err-go_back_over.ensures.err)
+    (went-along line c.args.position h (kept_of c.back.self) c.requires.sound c.requires.coherent c.requires.there c.requires.within so_far.along so_far.birth so_far.live)
 
 pub go_back-requires-clause-kept : goal.go_back-requires-clause-kept
 go_back-requires-clause-kept c =
