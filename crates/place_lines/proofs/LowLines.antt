@@ -6,7 +6,6 @@ use Rattle.stable_lines.specs.Sheets.{AreUnchanged, table_of}
 use Rattle.stable_lines.specs.declared.sheets.SheetLines.{SheetLines}
 use Rattle.stable_lines.specs.declared.table.LineTable.{LineTable}
 use Rattle.place_lines.specs.internal.Low.{HasLowLines}
-use Rattle.place_lines.specs.declared.past.TheConstants.{PAST}
 
 same_low : (t u : LineTable) → AreSame t u → HasLowLines u → HasLowLines t
 same_low t u same low position line found = low position line (sym (same.2 position) ∙ found)

@@ -1,5 +1,5 @@
 // Lines after structural operations.
-ghost use Rattle.std.specs.Prelude.{◌≡◌, ◌==◌, false, ℕ, IfOk, IsTrue};
+ghost use Rattle.std.specs.Prelude.{◌≡◌, ◌==◌, false, ℕ, IfOk};
 ghost use Rattle.cell_addr.specs.Axis.{limit_of};
 ghost use Rattle.cell_addr.specs.declared.axis.Axis.{Axis};
 ghost use Rattle.shift_core.specs.Form.{form_of};
@@ -13,7 +13,6 @@ ghost use Rattle.place_lines.specs.Moved.{AllStay, AreMoved};
 ghost use Rattle.place_lines.specs.internal.Low.{HasLowLines};
 
 use crate::lines::PlaceLines;
-use crate::past::PAST;
 use cell_addr::Axis;
 use shift_core::{Edit, Form, Shift};
 use stable_lines::{LineTable, SheetLines};
@@ -87,17 +86,5 @@ fn renewed(table: &LineTable, alloc: Global, edit: Edit) -> Result<LineTable, Al
     ensures renewed { IfOk result (AreRenewed (line_before table.now.limit edit) table.now) }
     ensures low { IfOk result HasLowLines }
 {
-    let new = table.edited(alloc, edit)?;
-    if has_low_lines(&new) {
-        Ok(new)
-    } else {
-        Err(AllocError)
-    }
-}
-
-// Whether each line has a lower number than the positions past the sheet's end.
-fn has_low_lines(table: &LineTable) -> bool
-    ensures { IsTrue result → HasLowLines table.now }
-{
-    table.next() <= PAST
+    table.edited(alloc, edit)
 }
