@@ -6,6 +6,10 @@
 //! a word is numbered by its place in it. The named expressions are a finite map from [`NameKey`]s, each a scope and a word, to
 //! holders, numbers under which the caller keeps their formulas.
 //!
+//! Changes of names and sheets that are to be made together, or not at all, go over a [`NameDraft`]: [`Names::begin`] takes all
+//! memory that they want, and behind what else may want memory [`Names::finish`] puts them in place, or [`Names::cancel`] gives
+//! them up.
+//!
 //! ```text
 //! let rate = names.word("Rate")?;                       // and the same number for RATE
 //! names.add(None, rate, 7)?;                            // for the whole workbook
