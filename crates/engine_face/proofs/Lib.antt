@@ -1,0 +1,4 @@
+mod Numbered
+mod Changing
+mod Answering
+mod Linking

@@ -1,0 +1,106 @@
+-- What a question for links is by what the engine answered and what was written.
+use Rattle.std.proofs.Common.{◌≡◌, ◌∙◌, ◌+◌, sym, ap, subst, refl, ℕ, suc, Bool, ◌&&◌, List, [], ◌∷◌, length, Option, None}
+use Rattle.std.specs.Prelude.{Result, Ok, Err}
+use Rattle.formula_tree.specs.declared.link.Link.{Link}
+use Rattle.book_model.specs.Operation.{Operation}
+use Rattle.book_model.specs.Session.{next}
+use Rattle.book_model.specs.Workbook.{State}
+use Rattle.book_engine.specs.Engine.{Does}
+use Rattle.book_engine.specs.declared.stop.Stop.{Stop}
+use Rattle.book_engine.specs.declared.stop.Stop.TheVariants as stop
+use Rattle.rule_table.specs.Rules.{rules_of}
+use Rattle.engine_face.specs.Links.{EndCounts, EndLinks, LinksTold, ListFits, link_counts, link_rows, link_word, link_words}
+use Rattle.engine_face.specs.Session.{AsksFor, Stands, Told, Wrote}
+use Rattle.engine_face.specs.Shown.{filled, fits}
+use Rattle.engine_face.specs.declared.links.LinkCounts.{LinkCounts}
+use Rattle.engine_face.specs.declared.links.LinkRow.{LinkRow}
+use Rattle.engine_face.specs.declared.session.Session.{Session}
+use Rattle.engine_face.specs.declared.status.Status.{Status}
+use Rattle.engine_face.specs.declared.status.Status.TheVariants.{Done, Refused, NoMemory, NoRoom, NotOpen, NotUtf8, BadLimit, BadTable, StillOpen}
+
+-- the rooms have a place for both
+abbrev pub have_place : List LinkRow → List ℕ → List Link → Bool
+have_place room bytes links = fits (link_rows 0 links) room && fits (link_words links) bytes
+
+-- what the engine answered is what the session of the plain machine has there, and a question leaves the session
+module _ {X : Type 0} (op : Operation) (items : X → List Link) (answer : State → List Link) (still : (d : State) (P : State → Type 0) → P (next op d) → P d) (old new : Session) (room room_new : List LinkRow) (bytes bytes_new : List ℕ) where
+  abbrev Answers : Result X Stop → Type 0
+  Answers end = Does rules_of op (λ d x. items x ≡ answer d) old.engine new.engine end
+
+  abbrev Written : Result X Stop → Status → Type 0
+  Written end status = EndLinks items end room room_new bytes bytes_new status
+
+  pub asked_links : (end : Result X Stop) (status : Status) → Answers end → Written end status → AsksFor op (λ d. have_place room bytes (answer d)) old new status
+  asked_links (Ok x) Done h f = λ d stands. let a = h d stands in (a.0, ap (have_place room bytes) (sym a.1) ∙ f.0, a.2)
+  asked_links (Ok x) NoRoom h f = λ d stands. let a = h d stands in (a.0, ap (have_place room bytes) (sym a.1) ∙ f.0, a.2)
+  asked_links (Ok x) NoMemory h f = λ d stands. still d (Stands new) (h d stands).2
+  asked_links (Ok x) (Refused r) h f = absurd f
+  asked_links (Ok x) NotOpen h f = absurd f
+  asked_links (Ok x) NotUtf8 h f = absurd f
+  asked_links (Ok x) BadLimit h f = absurd f
+  asked_links (Ok x) BadTable h f = absurd f
+  asked_links (Ok x) StillOpen h f = absurd f
+  asked_links (Err (stop.Refused r)) status h f = let P : Status → Type 0 = AsksFor op (λ d. have_place room bytes (answer d)) old new in subst P (sym f.0) h
+  asked_links (Err stop.NoMemory) status h f = let P : Status → Type 0 = AsksFor op (λ d. have_place room bytes (answer d)) old new in subst P (sym f.0) h
+
+  pub wrote_rows : (end : Result X Stop) (status : Status) → Answers end → Written end status → Wrote (λ d. link_rows 0 (answer d)) room room_new old status
+  wrote_rows (Ok x) Done h f = λ d stands. f.1 ∙ ap (λ (links : List Link). filled (link_rows 0 links) room) (h d stands).1
+  wrote_rows (Ok x) NoRoom h f = f.1
+  wrote_rows (Ok x) NoMemory h f = f.0
+  wrote_rows (Ok x) (Refused r) h f = absurd f
+  wrote_rows (Ok x) NotOpen h f = absurd f
+  wrote_rows (Ok x) NotUtf8 h f = absurd f
+  wrote_rows (Ok x) BadLimit h f = absurd f
+  wrote_rows (Ok x) BadTable h f = absurd f
+  wrote_rows (Ok x) StillOpen h f = absurd f
+  wrote_rows (Err (stop.Refused r)) status h f = let P : Status → Type 0 = Wrote (λ d. link_rows 0 (answer d)) room room_new old in subst P (sym f.0) f.1
+  wrote_rows (Err stop.NoMemory) status h f = let P : Status → Type 0 = Wrote (λ d. link_rows 0 (answer d)) room room_new old in subst P (sym f.0) f.1
+
+  pub wrote_words : (end : Result X Stop) (status : Status) → Answers end → Written end status → Wrote (λ d. link_words (answer d)) bytes bytes_new old status
+  wrote_words (Ok x) Done h f = λ d stands. f.2 ∙ ap (λ (links : List Link). filled (link_words links) bytes) (h d stands).1
+  wrote_words (Ok x) NoRoom h f = f.2
+  wrote_words (Ok x) NoMemory h f = f.1
+  wrote_words (Ok x) (Refused r) h f = absurd f
+  wrote_words (Ok x) NotOpen h f = absurd f
+  wrote_words (Ok x) NotUtf8 h f = absurd f
+  wrote_words (Ok x) BadLimit h f = absurd f
+  wrote_words (Ok x) BadTable h f = absurd f
+  wrote_words (Ok x) StillOpen h f = absurd f
+  wrote_words (Err (stop.Refused r)) status h f = let P : Status → Type 0 = Wrote (λ d. link_words (answer d)) bytes bytes_new old in subst P (sym f.0) f.2
+  wrote_words (Err stop.NoMemory) status h f = let P : Status → Type 0 = Wrote (λ d. link_words (answer d)) bytes bytes_new old in subst P (sym f.0) f.2
+
+  pub told_counts : (had now : LinkCounts) (end : Result X Stop) (status : Status) → Answers end → Written end status → EndCounts items end had now status → Told (λ d. link_counts (answer d)) had now old status
+  told_counts had now (Ok x) Done h f t = λ d stands. t ∙ ap link_counts (h d stands).1
+  told_counts had now (Ok x) NoRoom h f t = λ d stands. t ∙ ap link_counts (h d stands).1
+  told_counts had now (Ok x) NoMemory h f t = t
+  told_counts had now (Ok x) (Refused r) h f t = absurd f
+  told_counts had now (Ok x) NotOpen h f t = absurd f
+  told_counts had now (Ok x) NotUtf8 h f t = absurd f
+  told_counts had now (Ok x) BadLimit h f t = absurd f
+  told_counts had now (Ok x) BadTable h f t = absurd f
+  told_counts had now (Ok x) StillOpen h f t = absurd f
+  told_counts had now (Err (stop.Refused r)) status h f t = let P : Status → Type 0 = Told (λ d. link_counts (answer d)) had now old in subst P (sym f.0) t
+  told_counts had now (Err stop.NoMemory) status h f t = let P : Status → Type 0 = Told (λ d. link_counts (answer d)) had now old in subst P (sym f.0) t
+
+rows-length : (start : ℕ) (links : List Link) → length (link_rows start links) ≡ length links
+rows-length start [] = refl
+rows-length start (link ∷ links) = ap suc (rows-length (start + length (link_word link)) links)
+
+-- of links that were listed their number and the bytes of their words are told, written or not
+module _ (links : List Link) (rows room room_new : List LinkRow) (words bytes bytes_new : List ℕ) (had now : LinkCounts) (listed_rows : rows ≡ link_rows 0 links) (listed_words : words ≡ link_words links) (some : now.links ≡ length rows) (long : now.words ≡ length words) where
+  counted : now ≡ link_counts links
+  counted =
+      let p = some ∙ ap (λ (r : List LinkRow). length r) listed_rows ∙ rows-length 0 links in
+      let q = long ∙ ap (λ (w : List ℕ). length w) listed_words in
+      λ i. record { links = p i; words = q i }
+
+  pub told_written : (status : Status) → ListFits rows words room room_new bytes bytes_new status → LinksTold links had now status
+  told_written Done f = counted
+  told_written NoRoom f = counted
+  told_written (Refused r) f = absurd f
+  told_written NoMemory f = absurd f
+  told_written NotOpen f = absurd f
+  told_written NotUtf8 f = absurd f
+  told_written BadLimit f = absurd f
+  told_written BadTable f = absurd f
+  told_written StillOpen f = absurd f

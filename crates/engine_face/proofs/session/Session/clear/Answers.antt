@@ -1,0 +1,10 @@
+use Rattle.std.proofs.Common.{subst, sym}
+use Rattle.book_model.specs.Operation as op
+use Rattle.book_engine.specs.Engine.{NoAnswer}
+use Rattle.engine_face.specs.Session.{Asks}
+use Rattle.engine_face.specs.declared.status.Status.{Status}
+use Rattle.engine_face.proofs.Changing.{asked}
+use Rattle.engine_face.proofs.session.Session.clear.Goals as goal
+
+pub returns : goal.returns
+returns c = let P : Status → Type 0 = Asks (op.clear c.args.area) c.args.self.now (record { alloc = c.args.self.now.alloc; engine = c.clear.new.self }) in subst P (sym c.of.ensures) (asked (op.clear c.args.area) NoAnswer c.args.self.now (record { alloc = c.args.self.now.alloc; engine = c.clear.new.self }) c.clear.result c.clear.ensures.does)

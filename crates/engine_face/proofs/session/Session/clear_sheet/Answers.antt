@@ -1,0 +1,10 @@
+use Rattle.std.proofs.Common.{subst, sym}
+use Rattle.book_model.specs.Operation as op
+use Rattle.book_engine.specs.Engine.{NoAnswer}
+use Rattle.engine_face.specs.Session.{Asks}
+use Rattle.engine_face.specs.declared.status.Status.{Status}
+use Rattle.engine_face.proofs.Changing.{asked}
+use Rattle.engine_face.proofs.session.Session.clear_sheet.Goals as goal
+
+pub returns : goal.returns
+returns c = let P : Status → Type 0 = Asks (op.clear_sheet c.args.sheet) c.args.self.now (record { alloc = c.args.self.now.alloc; engine = c.clear_sheet.new.self }) in subst P (sym c.of.ensures) (asked (op.clear_sheet c.args.sheet) NoAnswer c.args.self.now (record { alloc = c.args.self.now.alloc; engine = c.clear_sheet.new.self }) c.clear_sheet.result c.clear_sheet.ensures.does)

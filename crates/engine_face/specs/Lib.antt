@@ -1,0 +1,4 @@
+pub mod Status
+pub mod Shown
+pub mod Links
+pub mod Session

@@ -1,0 +1,76 @@
+-- What the calls of a session do and tell. Source: this project's own.
+use Rattle.std.specs.Prelude.{◌≡◌, ◌≤◌, ◌<◌, ◌==◌, if◌then◌else◌, ℕ, ℤ, Bool, true, false, List, [], length, Option, None, Some, Result, Ok, Err, ⊤}
+use Rattle.cell_addr.specs.declared.place.TheConstants.{NO_SHEET}
+use Rattle.custom_fn.specs.declared.rule.Rule.{Rule}
+use Rattle.book_model.specs.Given.{session_given}
+use Rattle.book_model.specs.declared.limits.TheConstants.{MAX_UNDO}
+use Rattle.book_model.specs.Operation.{Operation}
+use Rattle.book_model.specs.Refusals.{cause}
+use Rattle.book_model.specs.Session.{next}
+use Rattle.book_model.specs.Workbook.{State}
+use Rattle.book_model.specs.declared.refusal.Refusal.TheVariants.{NoSheet}
+use Rattle.book_engine.specs.Engine.{StandsFor}
+use Rattle.rule_table.specs.Rules.{rules_of}
+use Rattle.engine_face.specs.Shown.{Fits, filled}
+use Rattle.engine_face.specs.declared.session.Session.{Session}
+use Rattle.engine_face.specs.declared.status.Status.{Status}
+use Rattle.engine_face.specs.declared.status.Status.TheVariants.{Done, Refused, NoMemory, NoRoom, BadLimit, BadTable}
+
+-- the session's engine is in this session of the plain machine
+abbrev pub Stands : Session → State → Type 0
+Stands s d = StandsFor rules_of s.engine d
+
+-- a call for an operation that answers nothing, whichever session it is made in: where it is done no cause holds, and where
+-- it is refused the cause is the operation's, and it leads to the next session; for want of memory the session stays; and it
+-- ends in no other way
+abbrev pub Asks : Operation → Session → Session → Status → Type 0
+Asks op old new Done = (d : State) → Stands old d → (cause op d ≡ None) × Stands new (next op d)
+Asks op old new (Refused r) = (d : State) → Stands old d → (cause op d ≡ Some r) × Stands new (next op d)
+Asks op old new NoMemory = (d : State) → Stands old d → Stands new d
+Asks op old new status = ⊥
+
+-- a call for an operation that answers something, for which there is a place in the room or not: as above, but where there is
+-- none the call ends so
+abbrev pub AsksFor : Operation → (State → Bool) → Session → Session → Status → Type 0
+AsksFor op has_place old new Done = (d : State) → Stands old d → (cause op d ≡ None) × (has_place d ≡ true) × Stands new (next op d)
+AsksFor op has_place old new NoRoom = (d : State) → Stands old d → (cause op d ≡ None) × (has_place d ≡ false) × Stands new (next op d)
+AsksFor op has_place old new (Refused r) = (d : State) → Stands old d → (cause op d ≡ Some r) × Stands new (next op d)
+AsksFor op has_place old new NoMemory = (d : State) → Stands old d → Stands new d
+AsksFor op has_place old new status = ⊥
+
+-- a call that is always done
+abbrev pub AsksAlways : Operation → Session → Session → Type 0
+AsksAlways op old new = (d : State) → Stands old d → Stands new (next op d)
+
+-- what such a call wrote into a room: the items of the answer at its head where it is done, else nothing
+abbrev pub Wrote : {X : Type 0} → (State → List X) → List X → List X → Session → Status → Type 0
+Wrote items room written old Done = (d : State) → Stands old d → written ≡ filled (items d) room
+Wrote items room written old status = written ≡ room
+
+-- what it told beside: this of the session where it is done and where the answer has no place, else nothing
+abbrev pub Told : {X : Type 0} → (State → X) → X → X → Session → Status → Type 0
+Told answer had told old Done = (d : State) → Stands old d → told ≡ answer d
+Told answer had told old NoRoom = (d : State) → Stands old d → told ≡ answer d
+Told answer had told old status = told ≡ had
+
+-- the scope of a number: the whole workbook where no sheet can have the number
+abbrev pub scope_of : ℕ → Option ℕ
+scope_of n = if n == NO_SHEET then None else Some n
+
+-- a session is opened with the functions that are told, where so many steps can be undone, or it is said why not
+abbrev pub IsOpened : ℕ → ℤ → Option (List (List ℕ × Rule)) → Result Session Status → Type 0
+IsOpened limit day (Some rules) (Ok s) = (limit ≤ MAX_UNDO) × Stands s (session_given limit rules day [])
+IsOpened limit day told (Err BadLimit) = MAX_UNDO < limit
+IsOpened limit day told (Err BadTable) = told ≡ None
+IsOpened limit day told (Err NoMemory) = ⊤
+IsOpened limit day told end = ⊥
+
+-- the text of a sheet's name in the room, or that there is no such sheet
+abbrev pub NameFits : Option (List ℕ) → List ℕ → List ℕ → Status → Type 0
+NameFits None room written status = (status ≡ Refused NoSheet) × (written ≡ room)
+NameFits (Some name) room written status = Fits name room written status
+
+-- how long it is
+abbrev pub NameTold : Option (List ℕ) → ℕ → ℕ → Type 0
+NameTold None had told = told ≡ had
+NameTold (Some name) had told = told ≡ length name

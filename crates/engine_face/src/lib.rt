@@ -1,0 +1,26 @@
+//! What a face of the engine for another language stands on: a workbook as plain calls with statuses, numbers and bytes.
+//!
+//! A [`Session`] is an engine of one type, whose custom functions are rules that a [`RuleTable`] of numbers and bytes
+//! tells. Each of its calls ends with a [`Status`], which has a number. A question writes its answer into the caller's
+//! room: a value as a [`Shown`], a text at the head of a slice, links as a list of [`LinkRow`].
+//!
+//! ```text
+//! let mut session = Session::build(alloc, 20, 45_292, &table)?;
+//! session.set(a1, "=2*3")                        // Status::Done
+//! session.value(a1, &mut room, &mut shown)       // Status::Done, and shown.number is 6,000,000
+//! ```
+#![tactic(auto)]
+
+mod asking;
+mod links;
+mod questions;
+mod room;
+mod session;
+mod shown;
+mod status;
+
+pub use links::{LinkCounts, LinkRow};
+pub use rule_table::{RulePair, RuleRow, RuleTable};
+pub use session::Session;
+pub use shown::Shown;
+pub use status::Status;
