@@ -1,0 +1,269 @@
+/* Calls the library as a caller does, each call at least once, and as it shouldn't. Prints what failed, and answers 1 then. */
+#include "fazhundel.h"
+
+#include <stdio.h>
+#include <string.h>
+
+static int failures;
+
+#define CHECK(what) check((what), #what, __LINE__)
+
+static void check(bool holds, const char *what, int line)
+{
+    if (!holds) {
+        printf("line %d: %s\n", line, what);
+        failures++;
+    }
+}
+
+enum { TODAY = 45292 };
+
+/* A workbook with one sheet, number 0. */
+static fz_book opened(void)
+{
+    fz_book book = FZ_CLOSED;
+    uint32_t number = 7;
+    CHECK(fz_open(&book, 20, TODAY, NULL, 0, NULL, 0, NULL, 0) == FZ_DONE);
+    CHECK(fz_add_sheet(&book, "Plan", 4, &number) == FZ_DONE && number == 0);
+    return book;
+}
+
+static fz_status set(fz_book *book, uint32_t row, uint32_t col, const char *text)
+{
+    return fz_set(book, 0, row, col, text, strlen(text));
+}
+
+/* Whether the cell's formula is this text; no text for a cell without one. */
+static bool reads(fz_book *book, uint32_t row, uint32_t col, const char *text)
+{
+    char room[256];
+    size_t length = 0;
+    return fz_formula(book, 0, row, col, room, sizeof room, &length) == FZ_DONE && length == strlen(text)
+        && memcmp(room, text, length) == 0;
+}
+
+static bool shows(fz_book *book, uint32_t row, uint32_t col, const char *text)
+{
+    char room[256];
+    size_t length = 0;
+    return fz_value_text(book, 0, row, col, room, sizeof room, &length) == FZ_DONE && length == strlen(text)
+        && memcmp(room, text, length) == 0;
+}
+
+static void cells_and_values(void)
+{
+    fz_book book = opened();
+    char room[8] = "........";
+    fz_shown value = {9, 9, 9};
+    CHECK(set(&book, 0, 0, "-1.5") == FZ_DONE);
+    CHECK(fz_value(&book, 0, 0, 0, NULL, 0, &value) == FZ_DONE);
+    CHECK(value.kind == FZ_NUMBER && value.number == -1500000 && value.length == 0);
+    CHECK(set(&book, 0, 1, "=A1<0") == FZ_DONE);
+    CHECK(fz_value(&book, 0, 0, 1, NULL, 0, &value) == FZ_DONE && value.kind == FZ_TRUTH && value.number == 1);
+    CHECK(set(&book, 0, 2, "=1/0") == FZ_DONE);
+    CHECK(fz_value(&book, 0, 0, 2, NULL, 0, &value) == FZ_DONE && value.kind == FZ_FAULT && value.number == FZ_DIV0);
+    CHECK(fz_value(&book, 0, 9, 9, NULL, 0, &value) == FZ_DONE && value.kind == FZ_EMPTY && value.number == 0);
+    CHECK(set(&book, 0, 3, "h\xc3\xbcte") == FZ_DONE);
+    CHECK(fz_value(&book, 0, 0, 3, room, sizeof room, &value) == FZ_DONE);
+    CHECK(value.kind == FZ_TEXT && value.length == 5 && memcmp(room, "h\xc3\xbcte...", 8) == 0);
+    CHECK(shows(&book, 0, 0, "-1.5") && shows(&book, 0, 1, "TRUE") && shows(&book, 0, 2, "#DIV/0!"));
+    CHECK(reads(&book, 0, 1, "=A1<0") && reads(&book, 0, 0, "") && reads(&book, 9, 9, ""));
+    CHECK(fz_clear(&book, 0, 0, 0, 0, 3) == FZ_DONE && shows(&book, 0, 3, ""));
+    fz_close(&book);
+}
+
+/* The room is tested before anything is written, and the length that is needed is told. */
+static void short_rooms(void)
+{
+    fz_book book = opened();
+    char room[6] = "......";
+    size_t length = 99;
+    fz_shown value;
+    CHECK(set(&book, 0, 0, "'=1+1") == FZ_DONE && set(&book, 1, 0, "=SUM(A1,2)") == FZ_DONE);
+    CHECK(fz_content(&book, 0, 0, 0, room, 4, &length) == FZ_NO_ROOM && length == 5);
+    CHECK(memcmp(room, "......", 6) == 0);
+    CHECK(fz_content(&book, 0, 0, 0, room, 5, &length) == FZ_DONE && memcmp(room, "'=1+1.", 6) == 0);
+    CHECK(fz_formula(&book, 0, 1, 0, NULL, 0, &length) == FZ_NO_ROOM && length == 10);
+    CHECK(fz_value(&book, 0, 0, 0, NULL, 0, &value) == FZ_NO_ROOM && value.kind == FZ_TEXT && value.length == 4);
+    CHECK(fz_value_text(&book, 0, 0, 0, NULL, 0, &length) == FZ_NO_ROOM && length == 4);
+    CHECK(fz_sheet_name(&book, 0, room, 3, &length) == FZ_NO_ROOM && length == 4);
+    length = 99;
+    CHECK(fz_formula(&book, 0, 40000, 0, room, sizeof room, &length) == FZ_OUTSIDE && length == 99);
+    CHECK(fz_sheet_name(&book, 5, room, sizeof room, &length) == FZ_NO_SHEET && length == 99);
+    CHECK(memcmp(room, "'=1+1.", 6) == 0);
+    fz_close(&book);
+}
+
+static void formulas_follow(void)
+{
+    fz_book book = opened();
+    CHECK(set(&book, 0, 0, "=B5+B9") == FZ_DONE);
+    CHECK(fz_insert_rows(&book, 0, 2, 2) == FZ_DONE && reads(&book, 0, 0, "=B7+B11"));
+    CHECK(fz_delete_rows(&book, 0, 10, 1) == FZ_DONE && reads(&book, 0, 0, "=B7+#REF!"));
+    CHECK(fz_move_rows(&book, 0, 6, 1, 3) == FZ_DONE && reads(&book, 0, 0, "=B4+#REF!"));
+    CHECK(fz_insert_cols(&book, 0, 1, 1) == FZ_DONE && reads(&book, 0, 0, "=C4+#REF!"));
+    CHECK(fz_move_cols(&book, 0, 2, 1, 5) == FZ_DONE && reads(&book, 0, 0, "=E4+#REF!"));
+    CHECK(fz_delete_cols(&book, 0, 1, 1) == FZ_DONE && reads(&book, 0, 0, "=D4+#REF!"));
+    CHECK(fz_move_block(&book, 0, 0, 0, 0, 0, 0, 5, 5) == FZ_DONE && reads(&book, 5, 5, "=D4+#REF!"));
+    CHECK(fz_insert_rows(&book, 0, 0, 0) == FZ_BAD_SPAN && fz_insert_rows(&book, 3, 0, 1) == FZ_NO_SHEET);
+    fz_close(&book);
+}
+
+static void sheets_and_names(void)
+{
+    fz_book book = opened();
+    uint32_t number = 9;
+    char room[16];
+    size_t length;
+    fz_shown value;
+    CHECK(fz_add_sheet(&book, "plan", 4, &number) == FZ_SHEET_NAME_TAKEN && number == 9);
+    CHECK(fz_add_sheet(&book, "Two", 3, &number) == FZ_DONE && number == 1);
+    CHECK(fz_sheet_count(&book) == 2 && fz_sheet_at(&book, 1) == 1 && fz_sheet_at(&book, 2) == FZ_NO_NUMBER);
+    CHECK(fz_rename_sheet(&book, 1, "Zwei", 4) == FZ_DONE && fz_sheet_id(&book, "ZWEI", 4) == 1);
+    CHECK(fz_sheet_id(&book, "Two", 3) == FZ_NO_NUMBER);
+    CHECK(fz_sheet_name(&book, 1, room, sizeof room, &length) == FZ_DONE && length == 4 && memcmp(room, "Zwei", 4) == 0);
+    CHECK(fz_add_name(&book, "rate", 4, FZ_WORKBOOK, "=Plan!$A$1", 10) == FZ_DONE);
+    CHECK(fz_add_name(&book, "rate", 4, 1, "=2", 2) == FZ_DONE && set(&book, 0, 0, "3") == FZ_DONE);
+    CHECK(fz_name_value(&book, "RATE", 4, 0, NULL, 0, &value) == FZ_DONE && value.number == 3000000);
+    CHECK(fz_name_value(&book, "rate", 4, 1, NULL, 0, &value) == FZ_DONE && value.number == 2000000);
+    CHECK(fz_change_name(&book, "rate", 4, 1, "=4", 2) == FZ_DONE);
+    CHECK(fz_name_value(&book, "rate", 4, 1, NULL, 0, &value) == FZ_DONE && value.number == 4000000);
+    CHECK(fz_remove_name(&book, "rate", 4, 1) == FZ_DONE && fz_remove_name(&book, "rate", 4, 1) == FZ_NO_SUCH_NAME);
+    CHECK(fz_try(&book, 1, "=rate*2", 7, NULL, 0, &value) == FZ_DONE && value.number == 6000000);
+    CHECK(fz_clear_sheet(&book, 0) == FZ_DONE && shows(&book, 0, 0, ""));
+    CHECK(fz_drop_sheet(&book, 1) == FZ_DONE && fz_sheet_count(&book) == 1);
+    fz_close(&book);
+}
+
+static void steps_and_batches(void)
+{
+    fz_book book = opened();
+    fz_shown value = {7, 7, 7};
+    CHECK(fz_begin(&book) == FZ_DONE && fz_has_batch(&book) && fz_begin(&book) == FZ_BATCH_OPEN);
+    CHECK(set(&book, 0, 0, "1") == FZ_DONE && set(&book, 0, 1, "2") == FZ_DONE && !fz_can_undo(&book));
+    CHECK(fz_value(&book, 0, 0, 0, NULL, 0, &value) == FZ_SUSPENDED && value.kind == 7 && value.number == 7);
+    CHECK(fz_commit(&book) == FZ_DONE && !fz_has_batch(&book) && fz_commit(&book) == FZ_NO_BATCH);
+    CHECK(fz_can_undo(&book) && !fz_can_redo(&book) && fz_undo(&book) == FZ_DONE);
+    CHECK(shows(&book, 0, 0, "") && shows(&book, 0, 1, "") && fz_can_redo(&book));
+    CHECK(fz_redo(&book) == FZ_DONE && shows(&book, 0, 1, "2") && fz_redo(&book) == FZ_NOTHING_TO_REDO);
+    CHECK(fz_suspend(&book) == FZ_DONE && fz_is_suspended(&book));
+    CHECK(fz_value(&book, 0, 0, 0, NULL, 0, &value) == FZ_SUSPENDED);
+    CHECK(fz_resume(&book) == FZ_DONE && !fz_is_suspended(&book) && shows(&book, 0, 0, "1"));
+    fz_close(&book);
+}
+
+static void blocks_are_pasted(void)
+{
+    fz_book book = opened();
+    CHECK(set(&book, 0, 0, "=B1") == FZ_DONE && fz_is_clipboard_empty(&book));
+    CHECK(fz_copy(&book, 0, 0, 0, 0, 0) == FZ_DONE && !fz_is_clipboard_empty(&book));
+    CHECK(fz_paste(&book, 0, 1, 1) == FZ_DONE && reads(&book, 1, 1, "=C2"));
+    CHECK(fz_cut(&book, 0, 0, 0, 0, 0) == FZ_DONE && fz_paste(&book, 0, 2, 0) == FZ_DONE);
+    CHECK(reads(&book, 2, 0, "=B1") && reads(&book, 0, 0, "") && fz_paste(&book, 0, 4, 0) == FZ_NOTHING_TO_PASTE);
+    fz_close(&book);
+}
+
+static void links_are_listed(void)
+{
+    fz_book book = opened();
+    fz_link links[3];
+    char words[8] = "........";
+    fz_counts counts = {0, 0};
+    CHECK(fz_add_name(&book, "rate", 4, FZ_WORKBOOK, "=Plan!$A$1", 10) == FZ_DONE);
+    CHECK(set(&book, 2, 0, "=SUM(A1:B1)+A1+rate") == FZ_DONE);
+    CHECK(fz_precedents(&book, 0, 2, 0, links, 2, words, sizeof words, &counts) == FZ_NO_ROOM);
+    CHECK(counts.links == 3 && counts.words == 4 && words[0] == '.');
+    CHECK(fz_precedents(&book, 0, 2, 0, links, 3, words, sizeof words, &counts) == FZ_DONE);
+    CHECK(links[0].kind == FZ_LINK_BLOCK && links[0].right == 1 && links[0].bottom == 0);
+    CHECK(links[1].kind == FZ_LINK_CELL && links[1].sheet == 0 && links[1].top == 0 && links[1].left == 0);
+    CHECK(links[2].kind == FZ_LINK_NAME && links[2].sheet == FZ_WORKBOOK && links[2].word_start == 0);
+    CHECK(links[2].word_length == 4 && memcmp(words, "RATE....", 8) == 0);
+    CHECK(fz_dependents(&book, 0, 0, 0, links, 3, words, sizeof words, &counts) == FZ_DONE);
+    CHECK(counts.links == 2 && links[0].kind == FZ_LINK_CELL && links[0].top == 2 && links[1].kind == FZ_LINK_NAME);
+    CHECK(fz_dependents(&book, 0, 9, 9, NULL, 0, NULL, 0, &counts) == FZ_DONE && counts.links == 0 && counts.words == 0);
+    fz_close(&book);
+}
+
+static void rules_are_called(void)
+{
+    static const fz_pair pairs[] = {{0, 1500000}, {500000, 2750000}, {0, 100000}, {1000000000, 200000}};
+    fz_rule rules[] = {{0, 4, 0, 2, false}, {4, 3, 2, 2, true}};
+    fz_book book = FZ_CLOSED;
+    uint32_t sheet;
+    CHECK(fz_open(&book, 20, TODAY, rules, 2, pairs, 4, "POSTTAX", 7) == FZ_DONE);
+    CHECK(fz_add_sheet(&book, "Plan", 4, &sheet) == FZ_DONE);
+    CHECK(set(&book, 0, 0, "=Post(0.5)") == FZ_DONE && shows(&book, 0, 0, "2.75"));
+    CHECK(set(&book, 0, 0, "=POST(-1)") == FZ_DONE && shows(&book, 0, 0, "#N/A"));
+    CHECK(set(&book, 0, 0, "=tax(2000)") == FZ_DONE && shows(&book, 0, 0, "300"));
+    fz_close(&book);
+    rules[1].word_length = 4;
+    CHECK(fz_open(&book, 20, TODAY, rules, 2, pairs, 4, "POSTTAX", 7) == FZ_BAD_TABLE && !fz_is_open(&book));
+    rules[1] = rules[0];
+    CHECK(fz_open(&book, 20, TODAY, rules, 2, pairs, 4, "POSTTAX", 7) == FZ_BAD_TABLE);
+    rules[0] = (fz_rule){0, 3, 0, 2, false};
+    CHECK(fz_open(&book, 20, TODAY, rules, 1, pairs, 4, "SUM", 3) == FZ_BAD_TABLE);
+    CHECK(fz_open(&book, 20, TODAY, rules, 1, pairs, 4, "\xff\xfe\xfd", 3) == FZ_BAD_TABLE);
+    rules[0] = (fz_rule){0, 3, SIZE_MAX, 2, false};
+    CHECK(fz_open(&book, 20, TODAY, rules, 1, pairs, 4, "TAX", 3) == FZ_BAD_TABLE);
+}
+
+/* Bytes that are no UTF-8 change nothing, whatever the call. */
+static void bytes_that_are_no_text(void)
+{
+    fz_book book = opened();
+    uint32_t number = 9;
+    fz_shown value = {7, 7, 7};
+    CHECK(fz_set(&book, 0, 0, 0, "\xff", 1) == FZ_NOT_UTF8 && !shows(&book, 0, 0, "\xff"));
+    CHECK(fz_add_sheet(&book, "\xc3", 1, &number) == FZ_NOT_UTF8 && number == 9);
+    CHECK(fz_rename_sheet(&book, 0, "\xc3", 1) == FZ_NOT_UTF8);
+    CHECK(fz_add_name(&book, "a\xff", 2, FZ_WORKBOOK, "=1", 2) == FZ_NOT_UTF8);
+    CHECK(fz_add_name(&book, "ab", 2, FZ_WORKBOOK, "=\xff", 2) == FZ_NOT_UTF8);
+    CHECK(fz_change_name(&book, "ab", 2, FZ_WORKBOOK, "=\xff", 2) == FZ_NOT_UTF8);
+    CHECK(fz_remove_name(&book, "\xff", 1, FZ_WORKBOOK) == FZ_NOT_UTF8);
+    CHECK(fz_name_value(&book, "\xff", 1, 0, NULL, 0, &value) == FZ_NOT_UTF8 && value.kind == 7);
+    CHECK(fz_try(&book, 0, "=\xff", 2, NULL, 0, &value) == FZ_NOT_UTF8 && value.kind == 7);
+    CHECK(fz_sheet_id(&book, "\xff", 1) == FZ_NO_NUMBER && fz_sheet_count(&book) == 1);
+    fz_close(&book);
+}
+
+/* A book that holds no workbook answers so, and is closed as often as one likes. */
+static void closed_books(void)
+{
+    fz_book book = FZ_CLOSED;
+    fz_shown value = {7, 7, 7};
+    size_t length = 7;
+    uint32_t number = 7;
+    fz_counts counts = {7, 7};
+    CHECK(sizeof book == 16 && !fz_is_open(&book));
+    fz_close(&book);
+    CHECK(set(&book, 0, 0, "1") == FZ_NOT_OPEN && fz_undo(&book) == FZ_NOT_OPEN && fz_suspend(&book) == FZ_NOT_OPEN);
+    CHECK(fz_add_sheet(&book, "Plan", 4, &number) == FZ_NOT_OPEN && number == 7);
+    CHECK(fz_value(&book, 0, 0, 0, NULL, 0, &value) == FZ_NOT_OPEN && value.kind == 7);
+    CHECK(fz_formula(&book, 0, 0, 0, NULL, 0, &length) == FZ_NOT_OPEN && length == 7);
+    CHECK(fz_precedents(&book, 0, 0, 0, NULL, 0, NULL, 0, &counts) == FZ_NOT_OPEN && counts.links == 7);
+    CHECK(fz_sheet_name(&book, 0, NULL, 0, &length) == FZ_NOT_OPEN && length == 7);
+    CHECK(!fz_can_undo(&book) && !fz_can_redo(&book) && !fz_has_batch(&book) && !fz_is_suspended(&book));
+    CHECK(fz_is_clipboard_empty(&book) && fz_sheet_count(&book) == 0 && fz_sheet_at(&book, 0) == FZ_NO_NUMBER);
+    CHECK(fz_open(&book, 1001, TODAY, NULL, 0, NULL, 0, NULL, 0) == FZ_BAD_LIMIT && !fz_is_open(&book));
+    CHECK(fz_open(&book, 1000, TODAY, NULL, 0, NULL, 0, NULL, 0) == FZ_DONE && fz_is_open(&book));
+    CHECK(fz_open(&book, 20, TODAY, NULL, 0, NULL, 0, NULL, 0) == FZ_STILL_OPEN && fz_is_open(&book));
+    fz_close(&book);
+    fz_close(&book);
+    CHECK(fz_begin(&book) == FZ_NOT_OPEN && fz_drop_sheet(&book, 0) == FZ_NOT_OPEN);
+}
+
+int main(void)
+{
+    cells_and_values();
+    short_rooms();
+    formulas_follow();
+    sheets_and_names();
+    steps_and_batches();
+    blocks_are_pasted();
+    links_are_listed();
+    rules_are_called();
+    bytes_that_are_no_text();
+    closed_books();
+    printf(failures == 0 ? "all as it should be\n" : "%d otherwise\n", failures);
+    return failures != 0;
+}

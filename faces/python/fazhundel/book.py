@@ -1,0 +1,317 @@
+"""Workbooks."""
+from contextlib import contextmanager
+from ctypes import byref, c_size_t, c_uint32, create_string_buffer
+from datetime import date
+from threading import get_ident
+from typing import Callable, Iterator, List, Mapping, Optional, Union
+
+from . import library
+from .library import CALLED, NO_NUMBER
+from .rules import Bands, Tiers, table
+from .statuses import NO_ROOM, check
+from .values import Block, Fault, Link, Name, Place, Value, decimal
+
+# The day whose serial number is 0.
+DAY_0 = date(1899, 12, 30)
+
+# How many bytes, and how many links, a first try has room for.
+ROOM, LINK_ROOM = 256, 16
+
+
+class Workbook:
+    """A workbook without sheets, of which `undo_limit` steps can be undone, at most 1,000.
+
+    Formulas see `today` as the day, and can call the functions of `rules` by their words.
+    """
+
+    def __init__(
+        self,
+        undo_limit: int = 20,
+        today: Optional[date] = None,
+        rules: Optional[Mapping[str, Union[Bands, Tiers]]] = None,
+    ) -> None:
+        self._book = library.Book()
+        self._thread = get_ident()
+        told = table(rules or {})
+        day = ((today or date.today()) - DAY_0).days
+        self._do("open", undo_limit, day, told.rules, len(told.rules), told.pairs, len(told.pairs), told.words, len(told.words))
+
+    def __enter__(self) -> "Workbook":
+        return self
+
+    def __exit__(self, *_: object) -> None:
+        self.close()
+
+    def close(self) -> None:
+        """Frees the workbook, after which its calls raise ValueError. Once more does nothing."""
+        self._call("close")
+
+    # Cells, rows and columns.
+
+    def set(self, at: Place, text: str) -> None:
+        """Gives a cell the content that the text says."""
+        self._do("set", *at, *_text(text))
+
+    def clear(self, area: Block) -> None:
+        """Empties the cells of a block."""
+        self._do("clear", *area)
+
+    def insert_rows(self, sheet: int, at: int, count: int) -> None:
+        """Puts so many rows before a row of the sheet."""
+        self._do("insert_rows", sheet, at, count)
+
+    def delete_rows(self, sheet: int, at: int, count: int) -> None:
+        """Deletes so many rows of the sheet from a row on."""
+        self._do("delete_rows", sheet, at, count)
+
+    def move_rows(self, sheet: int, start: int, count: int, before: int) -> None:
+        """Moves so many rows of the sheet from a row on to before another row."""
+        self._do("move_rows", sheet, start, count, before)
+
+    def insert_cols(self, sheet: int, at: int, count: int) -> None:
+        """Puts so many columns before a column of the sheet."""
+        self._do("insert_cols", sheet, at, count)
+
+    def delete_cols(self, sheet: int, at: int, count: int) -> None:
+        """Deletes so many columns of the sheet from a column on."""
+        self._do("delete_cols", sheet, at, count)
+
+    def move_cols(self, sheet: int, start: int, count: int, before: int) -> None:
+        """Moves so many columns of the sheet from a column on to before another column."""
+        self._do("move_cols", sheet, start, count, before)
+
+    def move_block(self, source: Block, to: Place) -> None:
+        """Moves the cells of a block to the block of the same size that begins at a place."""
+        self._do("move_block", *source, *to)
+
+    # Sheets.
+
+    def add_sheet(self, name: str) -> int:
+        """Adds a sheet at the end of the list, and answers its number."""
+        number = c_uint32()
+        self._do("add_sheet", *_text(name), byref(number))
+        return number.value
+
+    def drop_sheet(self, sheet: int) -> None:
+        """Drops a sheet with its cells and the names of its scope."""
+        self._do("drop_sheet", sheet)
+
+    def rename_sheet(self, sheet: int, name: str) -> None:
+        """Gives a sheet another name."""
+        self._do("rename_sheet", sheet, *_text(name))
+
+    def clear_sheet(self, sheet: int) -> None:
+        """Empties the cells of a sheet."""
+        self._do("clear_sheet", sheet)
+
+    def sheets(self) -> List[int]:
+        """The numbers of the sheets, in the order of their list."""
+        return [self._call("sheet_at", place) for place in range(self._call("sheet_count"))]
+
+    def sheet_id(self, name: str) -> Optional[int]:
+        """The number of the sheet of this name, in any case of its ASCII letters."""
+        number = self._call("sheet_id", *_text(name))
+        return None if number == NO_NUMBER else number
+
+    def sheet_name(self, sheet: int) -> str:
+        """The name of a sheet."""
+        return self._text("sheet_name", sheet)
+
+    # Named expressions: of the whole workbook, where there is no scope.
+
+    def add_name(self, name: str, text: str, scope: Optional[int] = None) -> None:
+        """Adds a name with the formula of the text."""
+        self._do("add_name", *_text(name), _scope(scope), *_text(text))
+
+    def change_name(self, name: str, text: str, scope: Optional[int] = None) -> None:
+        """Gives a name another formula."""
+        self._do("change_name", *_text(name), _scope(scope), *_text(text))
+
+    def remove_name(self, name: str, scope: Optional[int] = None) -> None:
+        """Takes a name away."""
+        self._do("remove_name", *_text(name), _scope(scope))
+
+    # What is copied, cut and pasted.
+
+    def copy(self, area: Block) -> None:
+        """Copies a block, which then waits to be pasted."""
+        self._do("copy", *area)
+
+    def cut(self, area: Block) -> None:
+        """Cuts a block, which is moved where it is pasted."""
+        self._do("cut", *area)
+
+    def paste(self, at: Place) -> None:
+        """Pastes what waits, its first cell at a place."""
+        self._do("paste", *at)
+
+    def is_clipboard_empty(self) -> bool:
+        """Whether nothing waits to be pasted."""
+        return self._call("is_clipboard_empty")
+
+    # Steps, batches and suspended evaluation.
+
+    def undo(self) -> None:
+        """Takes the newest step back."""
+        self._do("undo")
+
+    def redo(self) -> None:
+        """Does the step again that was taken back last."""
+        self._do("redo")
+
+    def can_undo(self) -> bool:
+        """Whether undo would be accepted now."""
+        return self._call("can_undo")
+
+    def can_redo(self) -> bool:
+        """Whether redo would be accepted now."""
+        return self._call("can_redo")
+
+    def begin(self) -> None:
+        """Opens a batch."""
+        self._do("begin")
+
+    def commit(self) -> None:
+        """Closes the batch."""
+        self._do("commit")
+
+    def has_batch(self) -> bool:
+        """Whether a batch is open."""
+        return self._call("has_batch")
+
+    @contextmanager
+    def batch(self) -> Iterator[None]:
+        """The changes inside are one step. It ends with what was done before an exception too."""
+        self.begin()
+        try:
+            yield
+        finally:
+            self.commit()
+
+    def suspend(self) -> None:
+        """Stops the computation of values."""
+        self._do("suspend")
+
+    def resume(self) -> None:
+        """Lets the computation of values go on."""
+        self._do("resume")
+
+    def is_suspended(self) -> bool:
+        """Whether the computation of values is suspended."""
+        return self._call("is_suspended")
+
+    @contextmanager
+    def suspended(self) -> Iterator[None]:
+        """Values aren't worked out inside."""
+        self.suspend()
+        try:
+            yield
+        finally:
+            self.resume()
+
+    # Values, texts and links.
+
+    def value(self, at: Place) -> Value:
+        """What a cell shows."""
+        return self._value("value", *at)
+
+    def value_text(self, at: Place) -> str:
+        """What a person sees of what a cell shows."""
+        return self._text("value_text", *at)
+
+    def name_value(self, name: str, sheet: int) -> Value:
+        """What a name shows that the word finds on the sheet."""
+        return self._value("name_value", *_text(name), sheet)
+
+    def try_formula(self, sheet: int, text: str) -> Value:
+        """What the formula of the text would show in the first cell of the sheet."""
+        return self._value("try", sheet, *_text(text))
+
+    def formula(self, at: Place) -> Optional[str]:
+        """The text of a cell's formula, if it has one."""
+        return self._text("formula", *at) or None
+
+    def content(self, at: Place) -> str:
+        """The text that gives a cell its content."""
+        return self._text("content", *at)
+
+    def precedents(self, at: Place) -> List[Link]:
+        """What a cell's formula needs."""
+        return self._links("precedents", at)
+
+    def dependents(self, at: Place) -> List[Link]:
+        """The cells and then the names whose formulas need a cell."""
+        return self._links("dependents", at)
+
+    # The calls of the library.
+
+    def _call(self, name: str, *words: object) -> int:
+        if get_ident() != self._thread:
+            raise RuntimeError("a workbook is used by the thread that opened it")
+        return getattr(CALLED, f"fz_{name}")(byref(self._book), *words)
+
+    def _do(self, name: str, *words: object) -> None:
+        check(self._call(name, *words))
+
+    # Asks with a small room, and once more with one that is long enough where that was too short.
+    def _ask(self, ask: Callable[[int], int], needed: Callable[[], int]) -> None:
+        status = ask(ROOM)
+        if status == NO_ROOM:
+            status = ask(needed())
+        check(status)
+
+    def _text(self, name: str, *words: object) -> str:
+        length, rooms = c_size_t(), []
+
+        def ask(size: int) -> int:
+            rooms.append(create_string_buffer(size))
+            return self._call(name, *words, rooms[-1], size, byref(length))
+
+        self._ask(ask, lambda: length.value)
+        return rooms[-1].raw[: length.value].decode()
+
+    def _value(self, name: str, *words: object) -> Value:
+        shown, rooms = library.Shown(), []
+
+        def ask(size: int) -> int:
+            rooms.append(create_string_buffer(size))
+            return self._call(name, *words, rooms[-1], size, byref(shown))
+
+        self._ask(ask, lambda: shown.length)
+        return (
+            lambda: None,
+            lambda: decimal(shown.number),
+            lambda: rooms[-1].raw[: shown.length].decode(),
+            lambda: shown.number == 1,
+            lambda: Fault(shown.number),
+        )[shown.kind]()
+
+    def _links(self, name: str, at: Place) -> List[Link]:
+        counts, size, words_size = library.Counts(), LINK_ROOM, ROOM
+        while True:
+            rows, words = (library.Link * size)(), create_string_buffer(words_size)
+            status = self._call(name, *at, rows, size, words, words_size, byref(counts))
+            if status != NO_ROOM:
+                break
+            size, words_size = counts.links, max(counts.words, 1)
+        check(status)
+        return [_link(row, words.raw) for row in rows[: counts.links]]
+
+
+def _text(text: str) -> tuple:
+    """A text as the library takes it: its bytes and their number."""
+    encoded = text.encode()
+    return encoded, len(encoded)
+
+
+def _scope(scope: Optional[int]) -> int:
+    return NO_NUMBER if scope is None else scope
+
+
+def _link(row: library.Link, words: bytes) -> Link:
+    if row.kind == 0:
+        return Place(row.sheet, row.top, row.left)
+    if row.kind == 1:
+        return Block(row.sheet, row.top, row.left, row.bottom, row.right)
+    word = words[row.word_start : row.word_start + row.word_length].decode()
+    return Name(None if row.sheet == NO_NUMBER else row.sheet, word)

@@ -1,0 +1,104 @@
+"""The shared library, its structs and the types of its calls.
+
+It is looked for where FAZHUNDEL_LIBRARY says, else beside the faces, where `faces/build.sh` puts it.
+"""
+import os
+from ctypes import CDLL, POINTER, Array, Structure, c_bool, c_char_p, c_int32, c_int64, c_size_t, c_uint8, c_uint32, c_void_p
+from pathlib import Path
+
+NO_NUMBER = 2**32 - 1
+
+
+class Book(Structure):
+    """What holds a workbook."""
+
+    _fields_ = [("is_open", c_bool), ("held", c_void_p)]
+
+
+class Rule(Structure):
+    _fields_ = [
+        ("word_start", c_size_t),
+        ("word_length", c_size_t),
+        ("pairs_start", c_size_t),
+        ("pairs_count", c_size_t),
+        ("has_tiers", c_bool),
+    ]
+
+
+class Pair(Structure):
+    _fields_ = [("start", c_int64), ("gives", c_int64)]
+
+
+class Shown(Structure):
+    _fields_ = [("kind", c_uint32), ("number", c_int64), ("length", c_size_t)]
+
+
+class Link(Structure):
+    _fields_ = [
+        ("kind", c_uint32),
+        ("sheet", c_uint32),
+        ("top", c_uint32),
+        ("left", c_uint32),
+        ("bottom", c_uint32),
+        ("right", c_uint32),
+        ("word_start", c_size_t),
+        ("word_length", c_size_t),
+    ]
+
+
+class Counts(Structure):
+    _fields_ = [("links", c_size_t), ("words", c_size_t)]
+
+
+U32, BYTES, ROOM = [c_uint32], [c_char_p, c_size_t], [c_char_p, c_size_t]
+PLACE, BLOCK = U32 * 3, U32 * 5
+LENGTH, SHOWN = [POINTER(c_size_t)], [POINTER(Shown)]
+LINKS = [POINTER(Link), c_size_t, *ROOM, POINTER(Counts)]
+
+# The parameters of each call behind the book, and what it answers.
+CALLS = {
+    "open": (U32 + [c_int32, POINTER(Rule), c_size_t, POINTER(Pair), c_size_t, *BYTES], c_uint8),
+    "close": ([], None),
+    "set": (PLACE + BYTES, c_uint8),
+    "clear": (BLOCK, c_uint8),
+    "move_block": (BLOCK + PLACE, c_uint8),
+    **{f"{what}_{lines}": (U32 * 3, c_uint8) for what in ("insert", "delete") for lines in ("rows", "cols")},
+    **{f"move_{lines}": (U32 * 4, c_uint8) for lines in ("rows", "cols")},
+    "add_sheet": (BYTES + [POINTER(c_uint32)], c_uint8),
+    "drop_sheet": (U32, c_uint8),
+    "rename_sheet": (U32 + BYTES, c_uint8),
+    "clear_sheet": (U32, c_uint8),
+    "add_name": (BYTES + U32 + BYTES, c_uint8),
+    "change_name": (BYTES + U32 + BYTES, c_uint8),
+    "remove_name": (BYTES + U32, c_uint8),
+    "paste": (PLACE, c_uint8),
+    "copy": (BLOCK, c_uint8),
+    "cut": (BLOCK, c_uint8),
+    **{name: ([], c_uint8) for name in ("undo", "redo", "begin", "commit", "suspend", "resume")},
+    "value": (PLACE + ROOM + SHOWN, c_uint8),
+    "value_text": (PLACE + ROOM + LENGTH, c_uint8),
+    "name_value": (BYTES + U32 + ROOM + SHOWN, c_uint8),
+    "try": (U32 + BYTES + ROOM + SHOWN, c_uint8),
+    "formula": (PLACE + ROOM + LENGTH, c_uint8),
+    "content": (PLACE + ROOM + LENGTH, c_uint8),
+    "precedents": (PLACE + LINKS, c_uint8),
+    "dependents": (PLACE + LINKS, c_uint8),
+    **{name: ([], c_bool) for name in ("can_undo", "can_redo", "has_batch", "is_suspended", "is_clipboard_empty")},
+    "sheet_count": ([], c_size_t),
+    "sheet_at": ([c_size_t], c_uint32),
+    "sheet_id": (BYTES, c_uint32),
+    "sheet_name": (U32 + ROOM + LENGTH, c_uint8),
+}
+
+
+def load() -> CDLL:
+    """The library, with the types of its calls."""
+    beside = Path(__file__).resolve().parents[2] / "out" / "libfazhundel.so"
+    found = CDLL(os.environ.get("FAZHUNDEL_LIBRARY", str(beside)))
+    for name, (parameters, answer) in CALLS.items():
+        call = getattr(found, f"fz_{name}")
+        call.argtypes, call.restype = [POINTER(Book), *parameters], answer
+    return found
+
+
+CALLED = load()

@@ -1,0 +1,66 @@
+"""Places, values and links."""
+from decimal import Decimal
+from enum import IntEnum
+from typing import NamedTuple, Optional, Union
+
+MILLION = 1_000_000
+
+
+class Place(NamedTuple):
+    """A cell: the number of its sheet, its row and its column, both counted from 0."""
+
+    sheet: int
+    row: int
+    col: int
+
+
+class Block(NamedTuple):
+    """A rectangle of cells, by its first and last row and column."""
+
+    sheet: int
+    top: int
+    left: int
+    bottom: int
+    right: int
+
+
+class Name(NamedTuple):
+    """A named expression: its scope, which is a sheet's number or None for the whole workbook, and its word in capitals."""
+
+    scope: Optional[int]
+    word: str
+
+
+class Fault(IntEnum):
+    """Why a cell has no value."""
+
+    DIV0 = 1
+    NAME = 2
+    VALUE = 3
+    NUM = 4
+    NA = 5
+    CYCLE = 6
+    REF = 7
+    ERROR = 8
+
+
+#: What a cell shows: None where it is empty.
+Value = Union[None, Decimal, str, bool, Fault]
+
+#: What a formula needs, or what needs a cell.
+Link = Union[Place, Block, Name]
+
+
+def decimal(millionths: int) -> Decimal:
+    """The number of so many millionths, without zeros behind it."""
+    whole, rest = divmod(abs(millionths), MILLION)
+    text = f"{whole}.{rest:06}".rstrip("0").rstrip(".")
+    return Decimal(f"-{text}" if millionths < 0 else text)
+
+
+def millionths(number: Union[Decimal, int]) -> int:
+    """The number as a whole number of millionths. ValueError where it is none of 64 bits."""
+    scaled = Decimal(number) * MILLION
+    if scaled != int(scaled) or not -(2**63) <= int(scaled) < 2**63:
+        raise ValueError(f"{number} is no number of millionths")
+    return int(scaled)
