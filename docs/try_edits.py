@@ -9,7 +9,7 @@
 The gate tries the edits of must-fail/ alone. The others stand beside them in edits/, and are tried here: in a scratch
 copy of the repository, where they stand in must-fail/, by `rt must-fail`. docs/edits.lock has a line for each crate:
 its name, how many edits were refused, of how many, and a checksum of all that this rests on: sources and definitions
-of the crate and of those below it, and the crate's edits.
+of the crate and of those below it, without comments, and the crate's edits.
 """
 import hashlib
 import re
@@ -23,6 +23,8 @@ ROOT = Path(__file__).resolve().parent.parent
 LOCK = ROOT / "docs" / "edits.lock"
 HEAD = "# A line a crate: its name, its edits that were refused, all its edits, a checksum (docs/try_edits.py writes it).\n"
 TOLD = re.compile(r"^(?:rt: )?must-fail (\w+)/(\S+): (.*)$")
+# What a line begins with that is a comment, by the end of the file's name; no line has NEVER.
+COMMENTS, NEVER = {".rt": b"//", ".antt": b"--"}, b"\n"
 # An edit that is refused, though not by the contract that it tries.
 WEAK = ("only because a proof file names", "only by a limit of the prover")
 
@@ -56,9 +58,10 @@ def checksum(name, named):
     files = [file for part in parts for file in sorted(part.rglob("*")) if file.is_file()]
     told = hashlib.sha256()
     for file in [*files, *edits_of(name)]:
-        # where an edit stands of the two folders tells nothing of what it tries
+        # where an edit stands of the two folders tells nothing of what it tries, nor does a comment
         path = file.name if file.suffix == ".edit" else file.relative_to(ROOT).as_posix()
-        told.update(repr((path, file.read_bytes())).encode())
+        lines = [line for line in file.read_bytes().splitlines() if not line.lstrip().startswith(COMMENTS.get(file.suffix, NEVER))]
+        told.update(repr((path, lines)).encode())
     return told.hexdigest()[:24]
 
 
