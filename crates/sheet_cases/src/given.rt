@@ -125,7 +125,11 @@ fn put_file(alloc: Global, files: &mut FileMap, value: &Value) -> Result<bool, A
 }
 
 // Puts the lines that fill so many cells at the end of a script, column by column; those of the columns A to Z at most.
-fn push_filling(alloc: Global, script: &mut Vec<u8>, count: u32) -> Result<(), AllocError> {
+pub(crate) fn push_filling(
+    alloc: Global,
+    script: &mut Vec<u8>,
+    count: u32,
+) -> Result<(), AllocError> {
     let mut left = count;
     'columns: for column in COLUMNS.chars() {
         let rows = left.min(ROWS);

@@ -1,6 +1,7 @@
 //! Runs cases that are data: each has words, files, a script, what is printed and the status. The program
 //! takes the names of files of cases, runs each case through `sheet_cli::run` over a folder and streams in memory,
-//! and prints a line a case, each difference, and at the end how many cases it ran.
+//! and prints a line a case, each difference, and at the end how many cases it ran. A case that is a script alone is run a second
+//! time, by an engine that is taken apart after each command and joined again, and must print the same.
 //!
 //! ```toml
 //! [[case]]
@@ -19,6 +20,7 @@
 //! memory or no output.
 #![tactic(auto)]
 
+mod apart;
 mod case;
 mod given;
 
@@ -26,6 +28,8 @@ ghost use Rattle.std.specs.Prelude.{◌≡◌, ◌<◌};
 ghost use Rattle.custom_fn.specs.Rule.{rule_value};
 ghost use Rattle.tariffs.specs.Tariffs as tariff;
 
+use apart::{answered, is_script};
+use calc_eval::Customs;
 use case::{Case, cases_of};
 use case_files::Tally;
 use cell_value::Scalar;
@@ -120,29 +124,33 @@ fn value_holds<L: Ledger>(
     holds(rt, &case, &mut given, steps)
 }
 
-// Whether the run of a case answers as it should.
+// Whether the run of a case answers as it should, and so the second one, where the case is a script alone.
 fn holds<L: Ledger>(
     rt: &HostRuntime,
     case: &Case,
     given: &mut Given,
     steps: &mut Steps<L>,
 ) -> io::Result<bool> {
-    let status = u32::from(answer(rt.alloc(), given, case.day, steps)?);
-    let out = given.out.bytes();
     let wanted = printed(rt.alloc(), case)?;
-    if status == case.status && out == wanted.as_bytes() {
-        println!(rt; "    {}", case.shows)?;
+    let ran = answer(rt.alloc(), case, given, Way::Run, steps)?;
+    if u32::from(ran.status) != case.status || ran.out.as_slice() != wanted.as_bytes() {
+        println!(rt; "    DIFFERS: {}", case.shows)?;
+        println!(rt; "        status {}, wanted {}", ran.status, case.status)?;
+        print_differences(rt, &ran.out, &wanted)?;
+        return Ok(false);
+    }
+    if is_script(case) {
+        let apart = answer(rt.alloc(), case, given, Way::TakenApart, steps)?;
+        if apart.out.as_slice() != wanted.as_bytes() {
+            println!(rt; "    DIFFERS TAKEN APART: {}", case.shows)?;
+            print_differences(rt, &apart.out, &wanted)?;
+            return Ok(false);
+        }
+        println!(rt; "    {} (and taken apart)", case.shows)?;
         return Ok(true);
     }
-    println!(rt; "    DIFFERS: {}", case.shows)?;
-    if status != case.status {
-        println!(rt; "        status {status}, wanted {}", case.status)?;
-    }
-    match str::from_utf8(out) {
-        Ok(out) => print_differences(rt, out, &wanted)?,
-        Err(_) => println!(rt; "        what was printed isn't UTF-8")?,
-    }
-    Ok(false)
+    println!(rt; "    {}", case.shows)?;
+    Ok(true)
 }
 
 // What the run of a case must print.
@@ -152,13 +160,30 @@ fn printed(alloc: Global, case: &Case) -> Result<String, AllocError> {
     Ok(prints)
 }
 
-// The status of a run. The custom functions are those of the program.
+// How a case is answered.
+#[derive(Clone, Copy)]
+enum Way {
+    // By the program's run, over all that the case gives.
+    Run,
+    // By an engine that is taken apart after each command, over the script alone.
+    TakenApart,
+}
+
+// What a run of a case ended with, and what it printed.
+#[derive(Drop)]
+struct Output {
+    status: u8,
+    out: Vec<u8>,
+}
+
+// Answers a case. The custom functions are those of the program.
 fn answer<L: Ledger>(
     alloc: Global,
+    case: &Case,
     given: &mut Given,
-    day: i32,
+    way: Way,
     steps: &mut Steps<L>,
-) -> Result<u8, AllocError> {
+) -> Result<Output, AllocError> {
     let by_weight = Box::new(
         alloc,
         |x: &Scalar| -> Scalar
@@ -172,6 +197,23 @@ fn answer<L: Ledger>(
         { levy(x) },
     )?;
     let registry = customs(alloc, by_weight, on_amount)?;
+    match way {
+        Way::Run => answer_by_run(alloc, given, case.day, registry, steps),
+        Way::TakenApart => Ok(Output {
+            status: 0,
+            out: answered(alloc, case, registry, steps)?,
+        }),
+    }
+}
+
+// Answers a case by the program's run.
+fn answer_by_run<C: Customs, L: Ledger>(
+    alloc: Global,
+    given: &mut Given,
+    day: i32,
+    registry: C,
+    steps: &mut Steps<L>,
+) -> Result<Output, AllocError> {
     let status = sheet_cli::run(
         alloc,
         &given.words,
@@ -182,11 +224,21 @@ fn answer<L: Ledger>(
         registry,
         steps,
     );
-    Ok(status)
+    let mut out = Vec::new(alloc);
+    out.extend_from_slice(given.out.bytes())?;
+    Ok(Output { status, out })
 }
 
 // Prints each line that isn't the wanted one, and those that are too many.
-fn print_differences(rt: &HostRuntime, printed: &str, wanted: &str) -> io::Result<()> {
+fn print_differences(rt: &HostRuntime, out: &[u8], wanted: &str) -> io::Result<()> {
+    match str::from_utf8(out) {
+        Ok(printed) => print_lines(rt, printed, wanted),
+        Err(_) => println!(rt; "        what was printed isn't UTF-8"),
+    }
+}
+
+// The same of lines.
+fn print_lines(rt: &HostRuntime, printed: &str, wanted: &str) -> io::Result<()> {
     let mut printed = printed.lines();
     'lines: for (i, line) in wanted.lines().enumerate() {
         let shown = printed.next().unwrap_or("(nothing)");
