@@ -24,4 +24,8 @@ pub mod SortedKeys
 pub mod RaisedKeys
 pub mod NeedingCells
 pub mod NeedingNames
+pub mod LeastAreas
+pub mod FilledPlaces
+pub mod ListedNames
+pub mod IdleReads
 mod TriedCosts

@@ -77,27 +77,27 @@ scopes-equal None (Some y) e = cc
 scopes-equal (Some x) None e = cc
 scopes-equal (Some x) (Some y) e = ap Some (nat_cmp-IsAntisymmetric x y e)
 
-shown_cmp-IsAntisymmetric : IsAntisymmetric shown_cmp
+pub shown_cmp-IsAntisymmetric : IsAntisymmetric shown_cmp
 shown_cmp-IsAntisymmetric x y e =
     let scope = scopes-equal x.scope y.scope (first-equal _ (slice_cmp nat_cmp x.word y.word) e) in
     let word = slice_cmp-IsAntisymmetric nat_cmp-IsAntisymmetric x.word y.word (second-equal (option_cmp nat_cmp x.scope y.scope) _ e) in
     λ i. record { scope = scope i; word = word i }
 
 -- the key of a name from how it is shown
-abbrev key_shown : ShownName → Key
+abbrev pub key_shown : ShownName → Key
 key_shown n = key_of n.scope n.word
 
 -- the key of a name has its word in small letters
-abbrev IsSmall : Key → Type 0
+abbrev pub IsSmall : Key → Type 0
 IsSmall k = key_shown (shown_name k) ≡ k
 
 key-small : (scope : Option ℕ) (word : List ℕ) → IsSmall (key_of scope word)
 key-small scope word = ap (λ w. record { scope = scope; word = w }) (ap folded (capitals-folded word) ∙ folded-capitals word)
 
-keys-decide : (x y : Key) → (eq_by_cmp key_cmp x y ≡ true → x ≡ y) × (x ≡ y → eq_by_cmp key_cmp x y ≡ true)
+pub keys-decide : (x y : Key) → (eq_by_cmp key_cmp x y ≡ true → x ≡ y) × (x ≡ y → eq_by_cmp key_cmp x y ≡ true)
 keys-decide x y = (is-key x y, key-itself x y)
 
-shown-decide : (x y : ShownName) → (eq_by_cmp shown_cmp x y ≡ true → x ≡ y) × (x ≡ y → eq_by_cmp shown_cmp x y ≡ true)
+pub shown-decide : (x y : ShownName) → (eq_by_cmp shown_cmp x y ≡ true → x ≡ y) × (x ≡ y → eq_by_cmp shown_cmp x y ≡ true)
 shown-decide x y = let d = eq_by_cmp-decides shown_cmp-IsTotalOrder shown_cmp-IsAntisymmetric x y in (d.0, d.1)
 
 module _ (at : Place) (q : ShownName) where
@@ -182,7 +182,7 @@ module _ (m : NameMap) (cells : Contents) (words : List (List ℕ)) (proper : Ar
           same_name : (k l : Key) → Some (book.name k) ≡ Some (book.name l) → k ≡ l
           same_name k l e = cc
 
-  all-small : (key : Key) (t : Term Corner) → fin.get m key ≡ Some t → IsSmall key
+  pub all-small : (key : Key) (t : Term Corner) → fin.get m key ≡ Some t → IsSmall key
   all-small key t is = let (a, at) = numbered.all key (ap is_some (tree_in-entries m key ∙ is)) in node-small a key at
 
   module _ (at : Place) (nodes : List Node) (users : (a : Node) → has a nodes ≡ mentions_at b words at a) (q : ShownName) where

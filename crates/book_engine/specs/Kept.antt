@@ -38,7 +38,7 @@ use Rattle.kept_values.specs.Values.{marks_in, merged_in}
 use Rattle.kept_values.specs.declared.values.Values.{Values}
 use Rattle.session_values.specs.Following.{book_of, words_in}
 use Rattle.session_values.specs.Naming.{MarksAddition, MarksChange, MarksRemoval}
-use Rattle.session_values.specs.Refreshed.{TakesStepsIn}
+use Rattle.session_values.specs.Refreshed.{IsUnmarked, TakesStepsIn}
 use Rattle.session_values.specs.Shifting.{MarksShift, MarksShiftBack, is_replaced_cell}
 use Rattle.session_values.specs.Touched.{AreTouched, AreTouchedAtMost}
 use Rattle.book_engine.specs.Seen.{state_of}
@@ -110,6 +110,10 @@ KeepsAtPaste clip old new = KeepsInUse old new
 -- what is kept of values, if anything is
 abbrev pub values_kept : {C : Type 0} {G : Ghosts C} → Engine C G → Option Values
 values_kept e = e.parts.values.values
+
+-- something is kept, and nothing of it is marked
+abbrev pub IsIdle : {C : Type 0} {G : Ghosts C} → Engine C G → Type 0
+IsIdle e = IsUnmarked (values_kept e)
 
 -- its marks, where anything is kept
 abbrev pub marks_kept : {C : Type 0} {G : Ghosts C} → Engine C G → Option (List Node)

@@ -1,6 +1,7 @@
 pub mod Seen
 pub mod Engine
 pub mod Kept
+pub mod Areas
 pub mod TakenApart
 pub mod Calls
 pub mod internal

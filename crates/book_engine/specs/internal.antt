@@ -11,3 +11,5 @@ pub mod FormulaProp
 pub mod FitsProp
 pub mod FollowProp
 pub mod WaitingProp
+pub mod Areas
+pub mod Listing

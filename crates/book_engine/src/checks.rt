@@ -138,7 +138,7 @@ impl Parts {
     }
 
     // Whether there is such a scope: the whole workbook, or a sheet.
-    fn has_scope(&self, scope: Option<u32>) -> bool
+    pub(crate) fn has_scope(&self, scope: Option<u32>) -> bool
         ensures { result ≡ has_scope (state_of self.now).book scope }
     {
         match scope {

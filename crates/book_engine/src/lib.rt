@@ -16,12 +16,14 @@
 #![tactic(auto)]
 
 mod absolute;
+mod areas;
 mod asking;
 mod checks;
 mod copying;
 mod engine;
 pub mod laws;
 mod links;
+mod listing;
 mod naming;
 mod parts;
 mod reading;
@@ -35,7 +37,9 @@ mod taken_apart;
 mod undoing;
 mod waiting;
 
+pub use areas::Kind;
 pub use engine::Engine;
 pub use kept_steps::Entry;
+pub use listing::NameEntry;
 pub use stop::Stop;
 pub use taken_apart::EngineParts;

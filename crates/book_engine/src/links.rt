@@ -234,7 +234,7 @@ fn scope_at(number: u32) -> Option<u32>
 }
 
 // Puts a key into a set, if there is one.
-fn add<K: Ord + Drop>(set: &mut BTreeSet<K>, key: Option<K>) -> Result<(), AllocError>
+pub(crate) fn add<K: Ord + Drop>(set: &mut BTreeSet<K>, key: Option<K>) -> Result<(), AllocError>
     ensures { OnOk result ((q : K) → contains K.cmp set.new q ≡ (passes (λ k. eq_by_cmp K.cmp k q) key || contains K.cmp set.old q)) }
 {
     if let Some(key) = key {

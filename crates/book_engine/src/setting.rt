@@ -90,7 +90,7 @@ pub(crate) fn touch_filled_or_forget(session: &Session, values: &mut SessionValu
 }
 
 // All places of a sheet.
-fn whole_sheet(sheet: u32) -> Block
+pub(crate) fn whole_sheet(sheet: u32) -> Block
     ensures { result ≡ whole_sheet sheet }
 {
     Block {

@@ -5,12 +5,14 @@
 ghost use Rattle.std.specs.Prelude.{◌≤◌};
 ghost use Rattle.book_model.specs.declared.limits.TheConstants.{MAX_UNDO};
 
+mod areas;
 mod cells;
 mod counted;
 mod groups;
 mod no_customs;
 mod on_heap;
 
+use areas::areas_are_read;
 use book_engine::{Engine, Stop};
 use book_model::{BookCell, BookCells, BookSheet};
 use cell_addr::Text;
@@ -29,6 +31,7 @@ enum Group {
     Given,
     Limit,
     Counted,
+    Areas,
     Over(Calls),
 }
 
@@ -50,10 +53,11 @@ enum Calls {
 }
 
 impl Group {
-    const ALL: [(Group, &'static str); 13] = [
+    const ALL: [(Group, &'static str); 14] = [
         (Group::Given, "begins with given sheets"),
         (Group::Limit, "steps are kept up to the limit"),
         (Group::Counted, "formulas are worked out once"),
+        (Group::Areas, "areas are read"),
         (Group::Over(Calls::Sheets), "sheets come and go"),
         (Group::Over(Calls::Rows), "formulas follow rows"),
         (
@@ -75,6 +79,7 @@ impl Group {
             Group::Given => begins_with_given_sheets(alloc),
             Group::Limit => steps_are_kept_up_to_the_limit(alloc),
             Group::Counted => formulas_are_worked_out_once(alloc),
+            Group::Areas => areas_are_read(alloc),
             Group::Over(calls) => held(alloc, 20, calls),
         }
     }

@@ -1,6 +1,6 @@
 -- A run of operations that loses nothing of a formula keeps every history of it, as each of them alone does; so does the
 -- way back over one over which nothing is saved. Serves the walks over all of them at once.
-use Rattle.std.proofs.Common.{◌≡◌, ◌≢◌, ◌∙◌, sym, ap, refl, subst, arith, ℕ, zero, suc, ◌+◌, ◌-◌, ◌<◌, ◌≤◌, ◌⊎◌, inl, inr, List, [], ◌∷◌, length, take, Option, Some, None, option_map, option_and_then}
+use Rattle.std.proofs.Common.{◌≡◌, ◌≢◌, ◌∙◌, sym, ap, refl, subst, arith, ℕ, zero, suc, ◌+◌, ◌-◌, ◌<◌, ◌≤◌, ◌⊎◌, inl, inr, List, [], ◌∷◌, ◌++◌, length, take, drop, Option, Some, None, option_map, option_and_then}
 use Rattle.std.proofs.lemmas.Bool.{cases_eq, cases_lt}
 use Rattle.std.proofs.lemmas.Option.{none-some, same_Some, slice_get_past}
 use Rattle.formula_tree.specs.Term.{Term}
@@ -26,6 +26,17 @@ run-front line (suc n) k (s ∷ run) is = (is.0, run-front line n (k + 1) run is
 pub run-sound : (line : Track) (k : ℕ) (run : List Shift) → IsSoundLine line → IsRun line k run → AreSound run
 run-sound line k [] sound is = tt
 run-sound line k (s ∷ run) sound is = (sound k s is.0, run-sound line (k + 1) run sound is.1)
+
+-- one operation more
+pub run-push : (line : Track) (run : List Shift) (k : ℕ) (s : Shift) → IsRun line k run → shift_at line (k + length run) ≡ Some s → IsRun line k (run ++ s ∷ [])
+run-push line [] k s is there = let e : k + 0 ≡ k = omega arith in (subst (λ j. shift_at line j ≡ Some s) e there, tt)
+run-push line (z ∷ run) k s is there = let e : k + suc (length run) ≡ k + 1 + length run = omega arith in (is.0, run-push line run (k + 1) s is.1 (subst (λ j. shift_at line j ≡ Some s) e there))
+
+-- those behind some of them
+pub run-behind : (line : Track) (n k : ℕ) (run : List Shift) → IsRun line k run → IsRun line (k + n) (drop n run)
+run-behind line zero k run is = let e : k ≡ k + 0 = omega arith in subst (λ j. IsRun line j run) e is
+run-behind line (suc n) k [] is = tt
+run-behind line (suc n) k (s ∷ run) is = let e : k + 1 + n ≡ k + suc n = omega arith in subst (λ j. IsRun line j (drop n run)) e (run-behind line n (k + 1) run is.1)
 
 -- home and tree after an operation
 after-parts : (s : Shift) (x y : Standing) → after s x ≡ Some y → (home_after s x.home ≡ Some y.home) × (y.tree ≡ rewritten s x.tree)

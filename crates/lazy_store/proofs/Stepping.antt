@@ -115,11 +115,7 @@ lowest-below line h k coherent some = ⊎_elim
 
 -- ---- looked up
 
--- one operation further the standing is taken over it
-pub next-found : (line : Track) (h : Kept) (k : ℕ) (s : Shift) (x y : Standing) → h.position ≤ k → at line h k ≡ Some x → shift_at line k ≡ Some s → after s x ≡ Some y → at line h (k + 1) ≡ Some y
-next-found line h k s x y from there is goes = at-next line h k from ∙ ap (option_and_then (over line k)) there ∙ ap (option_and_then (λ t. after t x)) is ∙ goes
-
--- where the line ends, or the home is lost, there is no standing further on
+-- where no operation leads on there is no standing further on
 pub none-further : (line : Track) (h : Kept) (k to : ℕ) (x : Standing) → h.position ≤ k → k < to → at line h k ≡ Some x → over line k x ≡ None → at line h to ≡ None
 none-further line h k to x from past there lost = by (at line h to) refl
   where
@@ -135,16 +131,9 @@ none-past line h k to from past none = by (at line h to) refl
     by None e = e
     by (Some y) e = absurd (at-has line h k to from past (λ gone. none-some y (sym gone ∙ e)) none)
 
--- the standing after an operation, by its home and its shared tree
-pub after-found : (s : Shift) (x : Standing) (home : Home) (tree : Rc Node Global) → home_after s x.home ≡ Some home → StandsFor tree home (rewritten s x.tree) → after s x ≡ Some (standing_at home (relative tree.value))
-after-found s x home tree there stands = ap (option_map (rewritten_at s x)) there ∙ ap (λ t. Some (at_tree home t)) (sym stands)
-
--- there is none where the line has no operation, or the home is lost
+-- there is none where the line has no operation
 pub ends-there : (line : Track) (k : ℕ) (x : Standing) → shift_at line k ≡ None → over line k x ≡ None
 ends-there line k x none = ap (option_and_then (λ t. after t x)) none
-
-pub home-lost : (line : Track) (k : ℕ) (s : Shift) (x : Standing) → shift_at line k ≡ Some s → home_after s x.home ≡ None → over line k x ≡ None
-home-lost line k s x is none = ap (option_and_then (λ t. after t x)) is ∙ ap (option_map (rewritten_at s x)) none
 
 -- ---- saved trees
 

@@ -3,3 +3,4 @@ pub mod Props
 pub mod Recent
 pub mod Steps
 pub mod Sweeps
+pub mod Pending

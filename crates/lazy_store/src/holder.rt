@@ -1,7 +1,7 @@
 // One formula, and its steps along the line.
 ghost use Rattle.std.specs.BTreeMap.{IsEmpty, IsLowerBound, get};
 ghost use Rattle.std.specs.Ordering.{nat_cmp};
-ghost use Rattle.std.specs.Prelude.{◌≡◌, ◌≢◌, ℕ, ◌+◌, ◌≤◌, ◌<◌, ◌-◌, None, Some, IfOk, IfSome, OnOk, OnErr, length};
+ghost use Rattle.std.specs.Prelude.{◌≡◌, ◌≢◌, ℕ, ◌+◌, ◌≤◌, ◌<◌, ◌-◌, ⊤, None, Some, MatchOption, IfOk, IfSome, OnOk, OnErr, length, take};
 ghost use Rattle.formula_tree.specs.Pooled.{held};
 ghost use Rattle.shift_core.specs.Sound.{IsSound};
 ghost use Rattle.run_walk.specs.Run.{AreSound, home_back, home_over};
@@ -9,8 +9,9 @@ ghost use Rattle.shift_line.specs.Track.{last};
 ghost use Rattle.tree_rewrite.specs.Rewritten.{home_after, home_before};
 
 use crate::homes::home_before;
+use crate::pending::{Listed, Pending, between};
 use formula_tree::{Home, Pool, Tree};
-use run_walk::{backward_over, forward_over, free_run};
+use run_walk::{backward_over, forward_by, free_by};
 use shift_core::Shift;
 use shift_line::Line;
 use std::alloc::{AllocError, Global};
@@ -35,6 +36,7 @@ impl Holder {
     ghost use Rattle.lazy_store.specs.Holders.{IsFront, kept_of};
     ghost use Rattle.lazy_store.specs.Kept.{IsCoherent, IsSoundLine, at, fresh, standing, standing_at};
     ghost use Rattle.lazy_store.specs.Standing.{IsFit, before};
+    ghost use Rattle.lazy_store.specs.internal.Pending.{IsListed, shifts_of};
     ghost use Rattle.lazy_store.specs.internal.Steps.{CutsOff, GoesAlong, GoesBack, GoesBackOver, GoesOn, GoesOver, Saves, Takes};
     ghost use Rattle.formula_tree.specs.Relative.{relative};
 
@@ -52,15 +54,18 @@ impl Holder {
         }
     }
 
-    // Takes the formula to the position, over the operations between. For want of memory it stays at one on the way.
+    // Takes the formula to the position, over the operations between, by a list of those where there is one. For want of
+    // memory it stays at one on the way.
     pub(crate) fn go_to(
         &mut self,
         alloc: Global,
         pool: &mut Pool,
         line: &Line,
+        listed: Option<&Listed>,
         position: u64,
     ) -> Result<(), AllocError>
         requires sound { IsSoundLine line.now }
+        requires listed { MatchOption listed ⊤ (λ l. IsListed line.now position l.now) }
         requires coherent { IsCoherent line.now (kept_of self.old) }
         requires within { position ≤ last line.now }
         requires there { at line.now (kept_of self.old) position ≢ None }
@@ -69,10 +74,10 @@ impl Holder {
         ensures pool { IsFront (held pool.old) (held pool.new) }
     {
         'forward: while self.position < position {
-            let pending = line.run_from(self.position, position);
-            let free = free_run(&self.tree, self.home, pending);
+            let pending = between(line, listed, self.position, position);
+            let free = free_by(&self.tree, self.home, &pending);
             if free > 0 {
-                self.go_over(alloc, pool, &pending[..free])?;
+                self.go_over(alloc, pool, &pending, free)?;
                 continue;
             }
             let Some(s) = line.at(self.position) else {
@@ -97,20 +102,27 @@ impl Holder {
         Ok(())
     }
 
-    // Takes the formula over operations from its position on, all at once. They are to lose nothing of it.
-    fn go_over(&mut self, alloc: Global, pool: &mut Pool, run: &[Shift]) -> Result<(), AllocError>
-        requires sound { AreSound run.now }
-        requires room { self.old.position + length run.now ≤ u64.MAX }
+    // Takes the formula over so many operations from its position on, all at once. They are to lose nothing of it.
+    fn go_over(
+        &mut self,
+        alloc: Global,
+        pool: &mut Pool,
+        way: &Pending<'_>,
+        count: usize,
+    ) -> Result<(), AllocError>
+        requires sound { AreSound (shifts_of way.now) }
+        requires within { count ≤ length (shifts_of way.now) }
+        requires room { self.old.position + count ≤ u64.MAX }
         requires fit { IsFit (standing (kept_of self.old)) }
-        requires kept { home_over run.now self.old.home ≢ None }
-        ensures ok { OnOk result (GoesOver run.now (kept_of self.old) (kept_of self.new)) }
+        requires kept { home_over (take count (shifts_of way.now)) self.old.home ≢ None }
+        ensures ok { OnOk result (GoesOver (take count (shifts_of way.now)) (kept_of self.old) (kept_of self.new)) }
         ensures err { OnErr result (kept_of self.new ≡ kept_of self.old) }
         ensures pool { IsFront (held pool.old) (held pool.new) }
     {
-        let (tree, home) = forward_over(alloc, pool, &self.tree, self.home, run)?;
+        let (tree, home) = forward_by(alloc, pool, &self.tree, self.home, way, count)?;
         self.tree = tree;
         self.home = home;
-        self.position += run.len() as u64;
+        self.position += count as u64;
         Ok(())
     }
 

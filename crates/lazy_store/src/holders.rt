@@ -1,16 +1,18 @@
 // The formulas of a store, taken along the line one after the other.
-ghost use Rattle.std.specs.Prelude.{◌≡◌, ◌≢◌, ℕ, ◌<◌, ◌≤◌, true, false, Some, None, IfSome, OnOk, IsOk, if◌then◌else◌, nat_eq, option_and_then, option_map, slice_get};
+ghost use Rattle.std.specs.Prelude.{◌≡◌, ◌≢◌, ℕ, ◌<◌, ◌≤◌, true, false, ⊤, Some, None, MatchOption, IfSome, OnOk, IsOk, if◌then◌else◌, nat_eq, option_and_then, option_map, slice_get};
 ghost use Rattle.std.specs.HashMap as hash;
 ghost use Rattle.std.specs.HashSet.{contains};
 ghost use Rattle.formula_tree.specs.Pooled.{held};
 ghost use Rattle.shift_line.specs.Track.{last};
 ghost use Rattle.lazy_store.specs.Holders.{AreCoherent, IsFront, kept_of, kept_under};
 ghost use Rattle.lazy_store.specs.Kept.{IsSoundLine, Kept, at};
+ghost use Rattle.lazy_store.specs.internal.Pending.{IsListed};
 ghost use Rattle.lazy_store.specs.internal.Recent.{IsIn, ids_among};
 ghost use Rattle.lazy_store.specs.internal.Sweeps.{ArePlaced, Brings, Cuts, CutsAll, Sweeps, holder_born_by, is_off};
 
 use crate::among::Among;
 use crate::holder::Holder;
+use crate::pending::Listed;
 use formula_tree::Pool;
 use indexmap::{IndexMap, IndexSet};
 use shift_line::Line;
@@ -40,16 +42,18 @@ impl Side {
     }
 }
 
-// Takes the formula under the id to the position.
+// Takes the formula under the id to the position, by a list of the operations before that where there is one.
 pub(crate) fn bring(
     alloc: Global,
     holders: &mut IndexMap<u64, Holder>,
     line: &Line,
+    listed: Option<&Listed>,
     pool: &mut Pool,
     id: u64,
     position: u64,
 ) -> Result<(), AllocError>
     requires sound { IsSoundLine line.now }
+    requires listed { MatchOption listed ⊤ (λ l. IsListed line.now position l.now) }
     requires coherent { AreCoherent line.now holders.old }
     requires within { position ≤ last line.now }
     requires there { (h : Kept) → kept_under holders.old id ≡ Some h → at line.now h position ≢ None }
@@ -58,7 +62,7 @@ pub(crate) fn bring(
     ensures pool { IsFront (held pool.old) (held pool.new) }
 {
     match holders.get_mut(&id) {
-        Some(holder) => holder.go_to(alloc, pool, line, position),
+        Some(holder) => holder.go_to(alloc, pool, line, listed, position),
         None => Ok(()),
     }
 }
@@ -81,17 +85,20 @@ fn off_at(
     side.is_off(position, holder).then_some(id)
 }
 
-// Takes all formulas of a side to the position; all of them are looked at. For want of memory some may be there.
+// Takes all formulas of a side to the position, by a list of the operations before that where there is one; all of them are
+// looked at. For want of memory some may be there.
 pub(crate) fn bring_all(
     alloc: Global,
     holders: &mut IndexMap<u64, Holder>,
     among: Among,
     line: &Line,
+    listed: Option<&Listed>,
     pool: &mut Pool,
     side: Side,
     position: u64,
 ) -> Result<(), AllocError>
     requires sound { IsSoundLine line.now }
+    requires listed { MatchOption listed ⊤ (λ l. IsListed line.now position l.now) }
     requires coherent { AreCoherent line.now holders.old }
     requires within { position ≤ last line.now }
     requires there { (id : ℕ) (h : Kept) → kept_under holders.old id ≡ Some h → is_off side position h ≡ true → at line.now h position ≢ None }
@@ -104,7 +111,7 @@ pub(crate) fn bring_all(
 {
     'holders: for index in 0..among.len(holders) {
         if let Some(id) = off_at(holders, among, index, side, position) {
-            bring(alloc, holders, line, pool, id, position)?;
+            bring(alloc, holders, line, listed, pool, id, position)?;
         }
     }
     Ok(())

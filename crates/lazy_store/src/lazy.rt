@@ -10,12 +10,14 @@ ghost use Rattle.shift_line.specs.Track.{forgotten, last, pushed, with_spare};
 ghost use Rattle.tree_rewrite.specs.References.{FitsSheets};
 ghost use Rattle.lazy_store.specs.Holders.{AreCoherent, IsFront};
 ghost use Rattle.lazy_store.specs.Kept.{IsSoundLine, fresh, standing_at, with_live};
+ghost use Rattle.lazy_store.specs.internal.Pending.{IsListed};
 ghost use Rattle.lazy_store.specs.internal.Recent.{AreNoted};
 ghost use Rattle.lazy_store.specs.internal.Props.{are_coherent-prop, is_sound_line-prop};
 
 use crate::among::Among;
 use crate::holder::Holder;
 use crate::holders::{Side, bring, bring_all, cut_all, drop_born_beyond, keep_among};
+use crate::pending::Listed;
 use crate::recent::Recent;
 use crate::stored::Stored;
 use formula_tree::{Home, Pool, Tree};
@@ -218,7 +220,15 @@ impl Lazy {
     {
         self.recent.note(id, self.line.last(), self.holders.len());
         let cursor = self.line.cursor();
-        bring(self.alloc, &mut self.holders, &self.line, pool, id, cursor)?;
+        bring(
+            self.alloc,
+            &mut self.holders,
+            &self.line,
+            None,
+            pool,
+            id,
+            cursor,
+        )?;
         let Some(holder) = self.holders.get(&id) else {
             unreachable!()
         };
@@ -278,6 +288,7 @@ impl Lazy {
             &mut self.holders,
             among,
             &self.line,
+            None,
             pool,
             side,
             cursor,
@@ -339,6 +350,7 @@ impl Lazy {
             &mut self.holders,
             among,
             &self.line,
+            None,
             pool,
             side,
             cursor,
@@ -351,7 +363,9 @@ impl Lazy {
     /// and the saved trees before it. The position is from the line's first to the cursor, and each formula that is kept as
     /// of one before has a standing there. Standings from the position on stay; so does the place of a formula that is kept
     /// as of the position or a later one. Where there is no memory line and standings stay as they were. Costs the number
-    /// of formulas, and for each the operations that it is taken over, as [`Lazy::read`] does.
+    /// of formulas and of operations before the position, and for each formula the operations that meet the sheets of its
+    /// references, as [`Lazy::read`] does; they are listed by sheets for the call, where there are some formulas and there is
+    /// memory for that, and else each is taken over all.
     pub fn settle(&mut self, pool: &mut Pool, position: u64) -> Result<(), AllocError>
         requires first { self.old.line.first ≤ position }
         requires cursor { position ≤ self.old.line.cursor }
@@ -367,12 +381,14 @@ impl Lazy {
     {
         prove!(self.line.cursor() <= self.line.last());
         self.recent.let_go(self.line.last());
+        let listed = listed_for(self.alloc, &self.line, self.holders.len(), position);
         let (alloc, side) = (self.alloc, Side::Before);
         bring_all(
             alloc,
             &mut self.holders,
             Among::All,
             &self.line,
+            listed.as_ref(),
             pool,
             side,
             position,
@@ -381,4 +397,18 @@ impl Lazy {
         cut_all(&mut self.holders, position);
         Ok(())
     }
+}
+
+// So few formulas are taken along without lists, which cost a look at each operation.
+const FEW_FORMULAS: usize = 8;
+
+// The operations before the position, listed for so many formulas; None for a few of them, or where there is no memory.
+fn listed_for(alloc: Global, line: &Line, formulas: usize, position: u64) -> Option<Listed>
+    requires { line.now.first ≤ position }
+    ensures { IfSome result (λ l. IsListed line.now position l) }
+{
+    if formulas < FEW_FORMULAS {
+        return None;
+    }
+    Listed::of(alloc, line, line.first(), position).ok()
 }

@@ -25,6 +25,7 @@ mod homes;
 pub mod laws;
 mod lazy;
 mod lookup;
+mod pending;
 mod recent;
 mod stored;
 

@@ -13,7 +13,7 @@ use Rattle.tree_rewrite.specs.References.{FitsSheets}
 use Rattle.tree_rewrite.specs.internal.Walk.{term_of, terms_in}
 use Rattle.run_walk.specs.Run.{NoneLoses}
 use Rattle.run_walk.specs.internal.Freed.{AllFit, NoneLosesOfAll}
-use Rattle.run_walk.proofs.Freeing.{free-fewer, free-front, free-term}
+use Rattle.run_walk.proofs.Freeing.{free-fewer, free-term}
 
 -- shared trees as the arguments of a call in a formula at the home
 abbrev pub all_at : Home → List (Rc Node Global) → Terms Corner
@@ -25,9 +25,9 @@ module _ (home : Home) (items : List (Rc Node Global)) (i : ℕ) (item : Rc Node
   fits-next fit = let both = subst (λ xs. AllFit (all_at home xs)) (drop-item items i item there is) fit in (both.0, both.1)
 
   -- nothing is lost of those from it on where nothing is lost of it and of those behind it
-  pub free-next : (run front : List Shift) (whole : Terms Corner) (m n k : ℕ) → m ≤ n → k ≤ m → front ≡ take n run → ((j : ℕ) → j ≤ n → NoneLosesOfAll (take j run) (all_at home (drop i items)) → NoneLosesOfAll (take j run) whole)
-      → NoneLoses (take m front) (at_home home (term_of item)) → NoneLosesOfAll (take k run) (all_at home (drop (i + 1) items)) → NoneLosesOfAll (take k run) whole
-  free-next run front whole m n k le fewer is_front before one rest =
+  pub free-next : (run : List Shift) (whole : Terms Corner) (m n k : ℕ) → m ≤ n → k ≤ m → ((j : ℕ) → j ≤ n → NoneLosesOfAll (take j run) (all_at home (drop i items)) → NoneLosesOfAll (take j run) whole)
+      → NoneLoses (take m run) (at_home home (term_of item)) → NoneLosesOfAll (take k run) (all_at home (drop (i + 1) items)) → NoneLosesOfAll (take k run) whole
+  free-next run whole m n k le fewer before one rest =
       before k (omega (arith, le, fewer))
       (subst (λ xs. NoneLosesOfAll (take k run) (all_at home xs)) (sym (drop-item items i item there is))
-      (free-term (take k run) (at_home home (term_of item)) (all_at home (drop (i + 1) items)) (free-fewer k m run (at_home home (term_of item)) fewer (free-front m n run front (at_home home (term_of item)) le is_front one)) rest))
+      (free-term (take k run) (at_home home (term_of item)) (all_at home (drop (i + 1) items)) (free-fewer k m run (at_home home (term_of item)) fewer one) rest))

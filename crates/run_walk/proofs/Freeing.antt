@@ -17,8 +17,8 @@ use Rattle.shift_core.proofs.PlaceLaws.{place_moved_inside, place_moved_returns}
 use Rattle.tree_rewrite.proofs.Returns.{area-at_ends}
 use Rattle.tree_rewrite.specs.Rewritten.{ComesBack, area_at, cell_at, returned, rewritten}
 use Rattle.tree_rewrite.specs.internal.Passage.{all_placed_by}
-use Rattle.run_walk.specs.Run.{AreSound, NoneLoses, block_over, place_over}
-use Rattle.run_walk.specs.internal.Freed.{IsCarriedOver, NoneLosesOfAll}
+use Rattle.run_walk.specs.Run.{AreSound, IsCarriedOver, NoneLoses, block_over, place_over}
+use Rattle.run_walk.specs.internal.Freed.{NoneLosesOfAll}
 
 -- ---- fewer operations lose nothing either
 
@@ -27,7 +27,7 @@ free-take zero run t free = tt
 free-take (suc n) [] t free = tt
 free-take (suc n) (s ∷ run) t free = (free.0, free-take n run (rewritten s t) free.1)
 
-take-take : (m n : ℕ) (run : List Shift) → m ≤ n → take m (take n run) ≡ take m run
+pub take-take : (m n : ℕ) (run : List Shift) → m ≤ n → take m (take n run) ≡ take m run
 take-take zero n run le = refl
 take-take (suc m) zero run le = absurd (omega (arith, le))
 take-take (suc m) (suc n) [] le = refl
@@ -35,13 +35,6 @@ take-take (suc m) (suc n) (s ∷ run) le = ap (λ r. s ∷ r) (take-take m n run
 
 pub free-fewer : (m n : ℕ) (run : List Shift) (t : Term Corner) → m ≤ n → NoneLoses (take n run) t → NoneLoses (take m run) t
 free-fewer m n run t le free = subst (λ r. NoneLoses r t) (take-take m n run le) (free-take m (take n run) t free)
-
--- a look at the first n operations alone
-pub free-within : (m n : ℕ) (run : List Shift) (t : Term Corner) → m ≤ n → NoneLoses (take m (take n run)) t → NoneLoses (take m run) t
-free-within m n run t le free = subst (λ r. NoneLoses r t) (take-take m n run le) free
-
-pub free-front : (m n : ℕ) (run front : List Shift) (t : Term Corner) → m ≤ n → front ≡ take n run → NoneLoses (take m front) t → NoneLoses (take m run) t
-free-front m n run front t le is free = free-within m n run t le (subst (λ r. NoneLoses (take m r) t) is free)
 
 -- ---- nodes
 

@@ -29,6 +29,17 @@ sound-take (suc n) (s ∷ run) sound = (sound.0, sound-take n run sound.1)
 pub not-empty : (run : List Shift) → false ≡ (length run == 0) → run ≢ []
 not-empty run is none = let no : false ≡ true = is ∙ ap (λ r. length r == 0) none in cc
 
+-- all of them
+pub take-whole : (run : List Shift) → take (length run) run ≡ run
+take-whole [] = refl
+take-whole (s ∷ run) = ap (λ r. s ∷ r) (take-whole run)
+
+-- some of the operations are some
+pub some-taken : (n : ℕ) (run : List Shift) → n ≤ length run → 0 < n → take n run ≢ []
+some-taken zero run within some none = absurd (omega (arith, some))
+some-taken (suc n) [] within some none = absurd (omega (arith, within))
+some-taken (suc n) (s ∷ run) within some none = let e : 0 ≡ suc (length (take n run)) = sym (ap length none) in absurd (omega (arith, e))
+
 -- ---- one operation more
 
 pub option-all : {X : Type 0} (o : Option X) → option_and_then (λ x. Some x) o ≡ o

@@ -1,5 +1,5 @@
 -- References and blocks of a formula over a run, as they are seen from its homes. Serves the walk over a run.
-use Rattle.std.proofs.Common.{◌≡◌, ◌≢◌, ◌∙◌, sym, ap, refl, subst, arith, List, [], Option, Some, None, option_and_then, ◌∷◌}
+use Rattle.std.proofs.Common.{◌≡◌, ◌≢◌, ◌∙◌, sym, ap, refl, subst, arith, ℕ, ◌≤◌, length, List, [], Option, Some, None, option_and_then, ◌∷◌}
 use Rattle.std.proofs.lemmas.Option.{none-some, same_Some}
 use Rattle.cell_addr.specs.Place.{IsBlockInside, IsInside}
 use Rattle.cell_addr.specs.declared.place.Block.{Block}
@@ -79,20 +79,20 @@ walked-fits d run from to t u sound fits is = subst FitsSheets (sym is) (fits-al
 
 -- a walk takes all references that fit
 mutual
-  pub taken-each : (run : List Shift) (from to : Home) → AreSound run → IsHomeInside to → (t : Term Ref) → FitsSheets (at_home from t) → EachReference (TakesCell run from to) (TakesArea run from to) t
-  taken-each run from to s h (number m) f = tt
-  taken-each run from to s h (text w) f = tt
-  taken-each run from to s h (truth b) f = tt
-  taken-each run from to s h (fault k) f = tt
-  taken-each run from to s h (cell r) f = (s, h, f)
-  taken-each run from to s h (area r q) f = (s, h, f)
-  taken-each run from to s h (name w) f = tt
-  taken-each run from to s h (prefix o t) f = taken-each run from to s h t f
-  taken-each run from to s h (percent t) f = taken-each run from to s h t f
-  taken-each run from to s h (binary o l r) f = (taken-each run from to s h l f.0, taken-each run from to s h r f.1)
-  taken-each run from to s h (call w ts) f = all-taken run from to s h ts f
-  taken-each run from to s h (paren t) f = taken-each run from to s h t f
+  pub taken-each : (run : List Shift) (count : ℕ) (from to : Home) → AreSound run → count ≤ length run → IsHomeInside to → (t : Term Ref) → FitsSheets (at_home from t) → EachReference (TakesCell run count from to) (TakesArea run count from to) t
+  taken-each run count from to s w h (number m) f = tt
+  taken-each run count from to s w h (text n) f = tt
+  taken-each run count from to s w h (truth b) f = tt
+  taken-each run count from to s w h (fault k) f = tt
+  taken-each run count from to s w h (cell r) f = (s, w, h, f)
+  taken-each run count from to s w h (area r q) f = (s, w, h, f)
+  taken-each run count from to s w h (name n) f = tt
+  taken-each run count from to s w h (prefix o t) f = taken-each run count from to s w h t f
+  taken-each run count from to s w h (percent t) f = taken-each run count from to s w h t f
+  taken-each run count from to s w h (binary o l r) f = (taken-each run count from to s w h l f.0, taken-each run count from to s w h r f.1)
+  taken-each run count from to s w h (call n ts) f = all-taken run count from to s w h ts f
+  taken-each run count from to s w h (paren t) f = taken-each run count from to s w h t f
 
-  all-taken : (run : List Shift) (from to : Home) → AreSound run → IsHomeInside to → (ts : Terms Ref) → AllFit (each_corner_all (corner_at (base_of from)) ts) → EachReferenceOfAll (TakesCell run from to) (TakesArea run from to) ts
-  all-taken run from to s h no_terms f = tt
-  all-taken run from to s h (term t ts) f = (taken-each run from to s h t f.0, all-taken run from to s h ts f.1)
+  all-taken : (run : List Shift) (count : ℕ) (from to : Home) → AreSound run → count ≤ length run → IsHomeInside to → (ts : Terms Ref) → AllFit (each_corner_all (corner_at (base_of from)) ts) → EachReferenceOfAll (TakesCell run count from to) (TakesArea run count from to) ts
+  all-taken run count from to s w h no_terms f = tt
+  all-taken run count from to s w h (term t ts) f = (taken-each run count from to s w h t f.0, all-taken run count from to s w h ts f.1)

@@ -1,5 +1,5 @@
 -- Formulas over runs of structural operations, one after the other. Source: this project's own.
-use Rattle.std.specs.Prelude.{List, [], ◌∷◌, Option, Some, option_and_then}
+use Rattle.std.specs.Prelude.{◌≡◌, List, [], ◌∷◌, Option, Some, MatchOption, option_and_then}
 use Rattle.cell_addr.specs.declared.place.Place.{Place}
 use Rattle.cell_addr.specs.declared.place.Block.{Block}
 use Rattle.formula_tree.specs.Term.{Term}
@@ -39,6 +39,11 @@ tree_over (s ∷ run) t = tree_over run (rewritten s t)
 abbrev pub NoneLoses : List Shift → Term Corner → Type 0
 NoneLoses [] t = Unit {0}
 NoneLoses (s ∷ run) t = ComesBack s t × NoneLoses run (rewritten s t)
+
+-- the block comes back from each operation with the same ends
+abbrev pub IsCarriedOver : List Shift → Block → Type 0
+IsCarriedOver [] b = Unit {0}
+IsCarriedOver (s ∷ run) b = MatchOption (block_after s b) ⊥ (λ after. (block_before s after ≡ Some b) × IsCarriedOver run after)
 
 -- where something was before the operations, from the last one back to the first; none where it came from nowhere
 abbrev pub back_all : {X : Type 0} → (Shift → X → Option X) → List Shift → X → Option X

@@ -11,6 +11,7 @@ ghost use Rattle.tree_rewrite.specs.References.{FitsSheets};
 use crate::direction::Direction;
 use crate::run::home_back;
 use crate::walk::Walk;
+use crate::way::Steps;
 use formula_tree::{Home, Pool, Tree};
 use shift_core::Shift;
 use std::alloc::{AllocError, Global};
@@ -50,7 +51,8 @@ pub fn backward_over(
     };
     let walk = Walk {
         direction: Direction::Backward,
-        run,
+        way: &Steps::over(run),
+        count: run.len(),
         from: home,
         to,
     };

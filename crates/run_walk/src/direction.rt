@@ -1,10 +1,10 @@
 // The two directions over a run of operations.
-ghost use Rattle.std.specs.Prelude.{◌≡◌};
+ghost use Rattle.std.specs.Prelude.{◌≡◌, ◌≤◌, length, take};
 ghost use Rattle.run_walk.specs.Run.{AreSound};
 
-use crate::run::{block_back, block_over, place_back, place_over};
+use crate::run::{block_back, front, place_back};
+use crate::way::{Way, block_by, place_by};
 use cell_addr::{Block, Place};
-use shift_core::Shift;
 
 // A direction over a run.
 #[derive(Clone, Copy)]
@@ -18,25 +18,27 @@ pub(crate) enum Direction {
 impl Direction {
     ghost use Rattle.run_walk.specs.internal.Walked.{block_along, place_along};
 
-    // Where the operations take a place; None where it is lost, or came from nowhere.
-    pub(crate) fn place(self, run: &[Shift], p: Place) -> Option<Place>
-        requires { AreSound run.now }
-        ensures { result ≡ place_along self run.now p }
+    // Where the first `count` operations of the way take a place; None where it is lost, or came from nowhere.
+    pub(crate) fn place<W: Way>(self, way: &W, count: usize, p: Place) -> Option<Place>
+        requires sound { AreSound (W.shifts way.now) }
+        requires within { count ≤ length (W.shifts way.now) }
+        ensures { result ≡ place_along self (take count (W.shifts way.now)) p }
     {
         match self {
-            Direction::Forward => place_over(run, p),
-            Direction::Backward => place_back(run, p),
+            Direction::Forward => place_by(way, count, p),
+            Direction::Backward => place_back(front(way.run(), count), p),
         }
     }
 
     // Where they take a block; None where it is lost, or an end of it came from nowhere.
-    pub(crate) fn block(self, run: &[Shift], b: Block) -> Option<Block>
-        requires { AreSound run.now }
-        ensures { result ≡ block_along self run.now b }
+    pub(crate) fn block<W: Way>(self, way: &W, count: usize, b: Block) -> Option<Block>
+        requires sound { AreSound (W.shifts way.now) }
+        requires within { count ≤ length (W.shifts way.now) }
+        ensures { result ≡ block_along self (take count (W.shifts way.now)) b }
     {
         match self {
-            Direction::Forward => block_over(run, b),
-            Direction::Backward => block_back(run, b),
+            Direction::Forward => block_by(way, count, b),
+            Direction::Backward => block_back(front(way.run(), count), b),
         }
     }
 }

@@ -1,5 +1,5 @@
 // Formulas taken over a run of operations, and their trees shared.
-ghost use Rattle.std.specs.Prelude.{◌≡◌, ◌≢◌, None, Some, IfOk, OnErr};
+ghost use Rattle.std.specs.Prelude.{◌≡◌, ◌≢◌, ◌≤◌, None, Some, IfOk, OnErr, length, take};
 ghost use Rattle.formula_tree.specs.Pooled.{held};
 ghost use Rattle.formula_tree.specs.Reference.{IsHomeInside};
 ghost use Rattle.formula_tree.specs.Relative.{relative};
@@ -9,8 +9,8 @@ ghost use Rattle.tree_rewrite.specs.Pooled.{HoldsChanged};
 ghost use Rattle.tree_rewrite.specs.References.{FitsSheets};
 
 use crate::direction::Direction;
-use crate::run::home_over;
 use crate::walk::Walk;
+use crate::way::{Steps, Way, home_by};
 use formula_tree::{Home, Pool, Tree};
 use shift_core::Shift;
 use std::alloc::{AllocError, Global};
@@ -41,15 +41,41 @@ pub fn forward_over(
     ensures held { IfOk result (λ r. HoldsChanged (held pool.old) (relative tree.now.value) (relative r.0.value) (held pool.new)) }
     ensures err { OnErr result (held pool.new ≡ held pool.old) }
 {
-    if run.is_empty() {
+    forward_by(alloc, pool, tree, home, &Steps::over(run), run.len())
+}
+
+/// The same after the first `count` operations of the way. For each reference or block it costs what the way does where
+/// that tells, and else the operations.
+pub fn forward_by<W: Way>(
+    alloc: Global,
+    pool: &mut Pool,
+    tree: &Tree,
+    home: Home,
+    way: &W,
+    count: usize,
+) -> Result<(Tree, Home), AllocError>
+    requires sound { AreSound (W.shifts way.now) }
+    requires within { count ≤ length (W.shifts way.now) }
+    requires home { IsHomeInside home }
+    requires fits { FitsSheets (at_home home (relative tree.now.value)) }
+    requires kept { home_over (take count (W.shifts way.now)) home ≢ None }
+    ensures home { IfOk result (λ r. home_over (take count (W.shifts way.now)) home ≡ Some r.1) }
+    ensures tree { IfOk result (λ r. StandsFor r.0 r.1 (tree_over (take count (W.shifts way.now)) (at_home home (relative tree.now.value)))) }
+    ensures inside { IfOk result (λ r. IsHomeInside r.1) }
+    ensures fits { IfOk result (λ r. FitsSheets (at_home r.1 (relative r.0.value))) }
+    ensures held { IfOk result (λ r. HoldsChanged (held pool.old) (relative tree.now.value) (relative r.0.value) (held pool.new)) }
+    ensures err { OnErr result (held pool.new ≡ held pool.old) }
+{
+    if count == 0 {
         return Ok((tree.clone()?, home));
     }
-    let Some(to) = home_over(run, home) else {
+    let Some(to) = home_by(way, count, home) else {
         unreachable!()
     };
     let walk = Walk {
         direction: Direction::Forward,
-        run,
+        way,
+        count,
         from: home,
         to,
     };

@@ -4,13 +4,14 @@ ghost use Rattle.formula_tree.specs.Reference.{base_of, corner_at};
 ghost use Rattle.formula_tree.specs.Relative.{relative, relative_list};
 ghost use Rattle.formula_tree.specs.StandsFor.{at_home};
 ghost use Rattle.formula_tree.specs.Term.{area, each_corner_all};
-ghost use Rattle.run_walk.specs.Run.{AreSound, NoneLoses, place_over};
-ghost use Rattle.run_walk.specs.internal.Freed.{AllFit, IsCarriedOver, NoneLosesOfAll};
+ghost use Rattle.run_walk.specs.Run.{AreSound, IsCarriedOver, NoneLoses, place_over};
+ghost use Rattle.run_walk.specs.internal.Freed.{AllFit, NoneLosesOfAll};
 ghost use Rattle.shift_core.specs.Sound.{IsSound};
 ghost use Rattle.shift_core.specs.Tables.{block_after, block_before};
 ghost use Rattle.tree_rewrite.specs.References.{FitsSheets};
 
 use crate::run::front;
+use crate::way::{Steps, Way};
 use cell_addr::{Block, Place};
 use formula_tree::{Corner, Home, Node, Tree, TreeList};
 use shift_core::{Shift, back_block, moved_block, moved_place};
@@ -33,59 +34,84 @@ pub fn free_run(tree: &Tree, home: Home, run: &[Shift]) -> usize
     ensures within { result ≤ length run.now }
     ensures free { NoneLoses (take result run.now) (at_home home (relative tree.now.value)) }
 {
+    free_by(tree, home, &Steps::over(run))
+}
+
+/// The same of the operations of the way. For each reference or block it costs what the way does where that tells, and
+/// else the operations.
+pub fn free_by<W: Way>(tree: &Tree, home: Home, way: &W) -> usize
+    requires sound { AreSound (W.shifts way.now) }
+    requires fits { FitsSheets (at_home home (relative tree.now.value)) }
+    ensures within { result ≤ length (W.shifts way.now) }
+    ensures free { NoneLoses (take result (W.shifts way.now)) (at_home home (relative tree.now.value)) }
+{
+    let count = way.run().len();
     let mut ahead = AHEAD;
-    'ahead: while ahead < run.len() {
-        let free = free_of(tree, home, front(run, ahead));
+    'ahead: while ahead < count {
+        let free = free_of(tree, home, way, ahead);
         if free < ahead {
             return free;
         }
         ahead = ahead.saturating_mul(FURTHER);
     }
-    free_of(tree, home, run)
+    free_of(tree, home, way, count)
 }
 
-// The same, where all operations of the run are looked at.
+// The same, where the first `count` operations are looked at.
 #[cycle(free)]
-fn free_of(tree: &Node, home: Home, run: &[Shift]) -> usize
-    requires sound { AreSound run.now }
+fn free_of<W: Way>(tree: &Node, home: Home, way: &W, count: usize) -> usize
+    requires sound { AreSound (W.shifts way.now) }
+    requires count { count ≤ length (W.shifts way.now) }
     requires fits { FitsSheets (at_home home (relative tree.now)) }
-    ensures within { result ≤ length run.now }
-    ensures free { NoneLoses (take result run.now) (at_home home (relative tree.now)) }
+    ensures within { result ≤ count }
+    ensures free { NoneLoses (take result (W.shifts way.now)) (at_home home (relative tree.now)) }
 {
     match tree {
-        Node::Number(_) | Node::Text(_) | Node::Truth(_) | Node::Fault(_) | Node::Name(_) => {
-            run.len()
-        }
-        Node::Cell(reference) => free_of_place(run, reference.at(home).at),
-        Node::Area(first, last) => free_of_area(run, first.at(home), last.at(home)),
-        Node::Prefix(_, part) => free_of(part, home, run),
-        Node::Percent(part) => free_of(part, home, run),
-        Node::Paren(part) => free_of(part, home, run),
+        Node::Number(_) | Node::Text(_) | Node::Truth(_) | Node::Fault(_) | Node::Name(_) => count,
+        Node::Cell(reference) => free_of_place(way, count, reference.at(home).at),
+        Node::Area(first, last) => free_of_area(way, count, first.at(home), last.at(home)),
+        Node::Prefix(_, part) => free_of(part, home, way, count),
+        Node::Percent(part) => free_of(part, home, way, count),
+        Node::Paren(part) => free_of(part, home, way, count),
         Node::Binary(_, left, right) => {
-            let free = free_of(left, home, run);
-            free_of(right, home, front(run, free))
+            let free = free_of(left, home, way, count);
+            free_of(right, home, way, free)
         }
-        Node::Call(_, list) => free_of_all(list, home, run),
+        Node::Call(_, list) => free_of_all(list, home, way, count),
     }
 }
 
 // How many operations lose nothing of any of the arguments.
 #[cycle(free)]
-fn free_of_all(list: &TreeList, home: Home, run: &[Shift]) -> usize
-    requires sound { AreSound run.now }
+fn free_of_all<W: Way>(list: &TreeList, home: Home, way: &W, count: usize) -> usize
+    requires sound { AreSound (W.shifts way.now) }
+    requires count { count ≤ length (W.shifts way.now) }
     requires fits { AllFit (each_corner_all (corner_at (base_of home)) (relative_list list.now)) }
-    ensures within { result ≤ length run.now }
-    ensures free { NoneLosesOfAll (take result run.now) (each_corner_all (corner_at (base_of home)) (relative_list list.now)) }
+    ensures within { result ≤ count }
+    ensures free { NoneLosesOfAll (take result (W.shifts way.now)) (each_corner_all (corner_at (base_of home)) (relative_list list.now)) }
 {
-    let mut free = run.len();
+    let mut free = count;
     'arguments: for argument in list.items() {
-        free = free_of(argument, home, front(run, free));
+        free = free_of(argument, home, way, free);
     }
     free
 }
 
-// How many operations don't lose the place.
-fn free_of_place(run: &[Shift], p: Place) -> usize
+// How many of the first `count` operations don't lose the place.
+fn free_of_place<W: Way>(way: &W, count: usize, p: Place) -> usize
+    requires sound { AreSound (W.shifts way.now) }
+    requires count { count ≤ length (W.shifts way.now) }
+    ensures within { result ≤ count }
+    ensures free { place_over (take result (W.shifts way.now)) p ≢ None }
+{
+    match way.place(count, p) {
+        Some(_) => count,
+        None => steps_of_place(front(way.run(), count), p),
+    }
+}
+
+// The same, one operation after the other.
+fn steps_of_place(run: &[Shift], p: Place) -> usize
     requires { AreSound run.now }
     ensures within { result ≤ length run.now }
     ensures free { place_over (take result run.now) p ≢ None }
@@ -101,26 +127,40 @@ fn free_of_place(run: &[Shift], p: Place) -> usize
 }
 
 // How many operations give the block between the corners back. One between corners of two sheets never comes back.
-fn free_of_area(run: &[Shift], first: Corner, last: Corner) -> usize
-    requires { AreSound run.now }
-    ensures within { result ≤ length run.now }
-    ensures free { NoneLoses (take result run.now) (area first last) }
+fn free_of_area<W: Way>(way: &W, count: usize, first: Corner, last: Corner) -> usize
+    requires sound { AreSound (W.shifts way.now) }
+    requires count { count ≤ length (W.shifts way.now) }
+    ensures within { result ≤ count }
+    ensures free { NoneLoses (take result (W.shifts way.now)) (area first last) }
 {
     if first.at.sheet != last.at.sheet {
         return 0;
     }
-    free_of_block(run, first.block_to(last))
+    free_of_block(way, count, first.block_to(last))
 }
 
-// How many operations give the block back.
-fn free_of_block(run: &[Shift], b: Block) -> usize
+// How many of the first `count` operations give the block back.
+fn free_of_block<W: Way>(way: &W, count: usize, b: Block) -> usize
+    requires sound { AreSound (W.shifts way.now) }
+    requires count { count ≤ length (W.shifts way.now) }
+    ensures within { result ≤ count }
+    ensures free { IsCarriedOver (take result (W.shifts way.now)) b }
+{
+    match way.carried(count, b) {
+        Some(_) => count,
+        None => steps_of_block(front(way.run(), count), b),
+    }
+}
+
+// The same, one operation after the other.
+fn steps_of_block(run: &[Shift], b: Block) -> usize
     requires { AreSound run.now }
     ensures within { result ≤ length run.now }
     ensures free { IsCarriedOver (take result run.now) b }
 {
     let mut at = b;
     'run: for (index, s) in run.iter().enumerate() {
-        let Some(next) = carried(s, at) else {
+        let Some(next) = carried_block(s, at) else {
             return index;
         };
         at = next;
@@ -128,8 +168,8 @@ fn free_of_block(run: &[Shift], b: Block) -> usize
     run.len()
 }
 
-// Where the operation takes a block that comes back from there; None for another block.
-fn carried(s: &Shift, b: Block) -> Option<Block>
+/// Where the operation takes a block that comes back from there; `None` for another block. The operation is sound.
+pub fn carried_block(s: &Shift, b: Block) -> Option<Block>
     requires { IsSound s.now }
     ensures after { IfSome result (λ after. block_after s.now b ≡ Some after) }
     ensures back { IfSome result (λ after. block_before s.now after ≡ Some b) }

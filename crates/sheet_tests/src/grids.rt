@@ -8,7 +8,7 @@ use grid_store::{Cell, CellList, Grid};
 use shift_core::{Shift, sound};
 use std::alloc::{AllocError, Global};
 
-type Spot = (u32, u32, u32);
+pub(crate) type Spot = (u32, u32, u32);
 
 // The place of a sheet, a row and a column.
 fn place(at: Spot) -> Place {
@@ -20,7 +20,7 @@ fn place(at: Spot) -> Place {
 }
 
 // Puts a cell at each place, which holds the number of its place in the list.
-fn fill(grid: &mut Grid<Cell>, places: &[Spot]) -> Result<(), AllocError> {
+pub(crate) fn fill(grid: &mut Grid<Cell>, places: &[Spot]) -> Result<(), AllocError> {
     for (number, at) in places.iter().enumerate() {
         let at = place(*at);
         if at.inside() {
@@ -31,7 +31,7 @@ fn fill(grid: &mut Grid<Cell>, places: &[Spot]) -> Result<(), AllocError> {
 }
 
 // Whether the grid has these cells, each with this number, and no others.
-fn has(grid: &Grid<Cell>, cells: &[(Spot, u64)]) -> bool {
+pub(crate) fn has(grid: &Grid<Cell>, cells: &[(Spot, u64)]) -> bool {
     let all = cells.iter().all(|cell| stands(grid, cell.0, cell.1));
     all && grid.filled() == cells.len() as u64
 }
@@ -56,7 +56,7 @@ fn lists(list: &CellList<Cell>, places: &[Spot]) -> bool {
     rest.is_empty()
 }
 
-const FILLED: [Spot; 7] = [
+pub(crate) const FILLED: [Spot; 7] = [
     (0, 0, 0),
     (0, 3, 1),
     (0, 3, 2),
@@ -66,7 +66,7 @@ const FILLED: [Spot; 7] = [
     (1, 3, 1),
 ];
 
-const AS_FILLED: [(Spot, u64); 7] = [
+pub(crate) const AS_FILLED: [(Spot, u64); 7] = [
     ((0, 0, 0), 0),
     ((0, 3, 1), 1),
     ((0, 3, 2), 2),
@@ -77,9 +77,9 @@ const AS_FILLED: [(Spot, u64); 7] = [
 ];
 
 // An operation, the cells after it, and the places of the removed ones.
-type Operation = (Shift, &'static [(Spot, u64)], &'static [Spot]);
+pub(crate) type Operation = (Shift, &'static [(Spot, u64)], &'static [Spot]);
 
-const OPERATIONS: &[Operation] = &[
+pub(crate) const OPERATIONS: &[Operation] = &[
     (
         Shift::DeleteRows {
             sheet: 0,

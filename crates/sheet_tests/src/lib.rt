@@ -16,6 +16,8 @@ mod folders;
 #[cfg(test)]
 mod generated;
 #[cfg(test)]
+mod grid_drafts;
+#[cfg(test)]
 mod grids;
 #[cfg(test)]
 mod kept_steps;
@@ -23,6 +25,8 @@ mod kept_steps;
 mod line_tables;
 #[cfg(test)]
 mod lists;
+#[cfg(test)]
+mod name_drafts;
 #[cfg(test)]
 mod names;
 #[cfg(test)]

@@ -1,5 +1,6 @@
-ghost use Rattle.std.specs.Prelude.{◌≡◌, []};
+ghost use Rattle.std.specs.Prelude.{◌≡◌, ◌<◌, IfOk, [], length};
 ghost use Rattle.name_table.specs.Listed.{listed};
+ghost use Rattle.name_table.specs.Named.{words_of};
 
 use cell_addr::SheetNames;
 use name_table::{NameKey, Names};
@@ -59,12 +60,14 @@ fn sheets_keep_their_order(rt: HostRuntime) -> Result<(), AllocError> {
 }
 
 // Gives the scope a name of the text's word, where it has none. Answers the word's number.
-fn define(
+pub(crate) fn define(
     names: &mut Names,
     scope: Option<u32>,
     text: &str,
     holder: u64,
-) -> Result<u64, AllocError> {
+) -> Result<u64, AllocError>
+    ensures { IfOk result (λ word. word < length (words_of names.new)) }
+{
     let word = names.word(text)?;
     if names.holder(scope, word).is_none() {
         names.add(scope, word, holder)?;

@@ -1,6 +1,6 @@
 -- References and blocks of a formula over a run of operations, in either direction, as they are seen from the homes at its
 -- ends.
-use Rattle.std.specs.Prelude.{List, Option}
+use Rattle.std.specs.Prelude.{ℕ, ◌≤◌, List, length, Option}
 use Rattle.cell_addr.specs.declared.place.Block.{Block}
 use Rattle.cell_addr.specs.declared.place.Place.{Place}
 use Rattle.formula_tree.specs.Reference.{IsHomeInside, base_of, block_of, corner_at}
@@ -33,13 +33,13 @@ abbrev pub tree_along : Direction → List Shift → Term Corner → Term Corner
 tree_along Forward = tree_over
 tree_along Backward = tree_back
 
--- the operations are sound, and the home behind them and the reference or block in front of them lie within the limits
--- of a sheet
-abbrev pub TakesCell : List Shift → Home → Home → Ref → Type 0
-TakesCell run from to r = AreSound run × IsHomeInside to × IsReferenceInside (corner_at (base_of from) r)
+-- the operations are sound, so many are walked over, and the home behind those and the reference or block in front of them
+-- lie within the limits of a sheet
+abbrev pub TakesCell : List Shift → ℕ → Home → Home → Ref → Type 0
+TakesCell run count from to r = AreSound run × (count ≤ length run) × IsHomeInside to × IsReferenceInside (corner_at (base_of from) r)
 
-abbrev pub TakesArea : List Shift → Home → Home → Ref → Ref → Type 0
-TakesArea run from to r q = AreSound run × IsHomeInside to × IsAreaInside (corner_at (base_of from) r) (corner_at (base_of from) q)
+abbrev pub TakesArea : List Shift → ℕ → Home → Home → Ref → Ref → Type 0
+TakesArea run count from to r q = AreSound run × (count ≤ length run) × IsHomeInside to × IsAreaInside (corner_at (base_of from) r) (corner_at (base_of from) q)
 
 -- what a reference becomes, and a block
 abbrev pub cell_walked : Direction → List Shift → Home → Home → Ref → Term Ref

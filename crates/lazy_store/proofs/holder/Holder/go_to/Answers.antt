@@ -5,6 +5,7 @@ use Rattle.formula_tree.specs.Relative.{relative}
 use Rattle.shift_line.specs.Track.{shift_at}
 use Rattle.lazy_store.specs.Holders.{kept_of}
 use Rattle.lazy_store.specs.Kept.{history, lowest, standing}
+use Rattle.lazy_store.specs.internal.Pending.{shifts_of}
 use Rattle.lazy_store.specs.internal.Steps.{GoesAlong}
 use Rattle.lazy_store.proofs.Passing.{back-home, goes-back, goes-on}
 use Rattle.lazy_store.proofs.Reaching.{reaches, went-along}
@@ -33,28 +34,25 @@ forward-preserved c =
       pool = front-trans (held c.args.pool.now) (held c.forward.pool) (held c.go_on.new.pool) so_far.pool c.go_on.ensures.pool;
     }
 
-pub free_run-free-requires-clause-sound : goal.free_run-free-requires-clause-sound
-free_run-free-requires-clause-sound c = run-sound c.args.line.now c.forward.self.position c.run_from-pending.result.now c.requires.sound c.run_from-pending.ensures.run
+pub free_by-free-requires-clause-sound : goal.free_by-free-requires-clause-sound
+free_by-free-requires-clause-sound c = run-sound c.args.line.now c.forward.self.position (shifts_of c.between-pending.result) c.requires.sound c.between-pending.ensures.run
 
 pub go_over-requires-clause-sound : goal.go_over-requires-clause-sound
-go_over-requires-clause-sound c =
-    let line = c.args.line.now in
-    let k = c.forward.self.position in
-    run-sound line k (take c.free_run-free.result c.run_from-pending.result.now) c.requires.sound (run-front line c.free_run-free.result k c.run_from-pending.result.now c.run_from-pending.ensures.run)
+go_over-requires-clause-sound c = run-sound c.args.line.now c.forward.self.position (shifts_of c.between-pending.result) c.requires.sound c.between-pending.ensures.run
 
 pub go_over-requires-clause-room : goal.go_over-requires-clause-room
 go_over-requires-clause-room c =
-    let short = length-take-le c.free_run-free.result c.run_from-pending.result.now c.free_run-free.ensures.within in
-    omega (arith, short, c.free_run-free.ensures.within, c.run_from-pending.ensures.within, c.forward-test.true)
+    let short = length-take-le c.free_by-free.result (shifts_of c.between-pending.result) c.free_by-free.ensures.within in
+    omega (arith, short, c.free_by-free.ensures.within, c.between-pending.ensures.within, c.forward-test.true)
 
 pub go_over-requires-clause-kept : goal.go_over-requires-clause-kept
 go_over-requires-clause-kept c =
     let line = c.args.line.now in
     let h = kept_of c.args.self.now in
-    let short = length-take-le c.free_run-free.result c.run_from-pending.result.now c.free_run-free.ensures.within in
-    over-home line (lowest line h) (max h.position c.args.position) (history line h) (kept_of c.forward.self) (take c.free_run-free.result c.run_from-pending.result.now) c.forward.invariant.along
-    (run-front line c.free_run-free.result c.forward.self.position c.run_from-pending.result.now c.run_from-pending.ensures.run)
-    (omega (arith, short, c.free_run-free.ensures.within, c.run_from-pending.ensures.within, c.forward-test.true))
+    let short = length-take-le c.free_by-free.result (shifts_of c.between-pending.result) c.free_by-free.ensures.within in
+    over-home line (lowest line h) (max h.position c.args.position) (history line h) (kept_of c.forward.self) (take c.free_by-free.result (shifts_of c.between-pending.result)) c.forward.invariant.along
+    (run-front line c.free_by-free.result c.forward.self.position (shifts_of c.between-pending.result) c.between-pending.ensures.run)
+    (omega (arith, short, c.free_by-free.ensures.within, c.between-pending.ensures.within, c.forward-test.true))
 
 pub forward-preserved-then-free-gt0 : goal.forward-preserved-then-free-gt0
 forward-preserved-then-free-gt0 c =
@@ -62,11 +60,11 @@ forward-preserved-then-free-gt0 c =
     let h = kept_of c.args.self.now in
     let so_far = c.forward.invariant in
     let goes = c.in_ok-go_over.ensures.ok in
-    let short = length-take-le c.free_run-free.result c.run_from-pending.result.now c.free_run-free.ensures.within in
+    let short = length-take-le c.free_by-free.result (shifts_of c.between-pending.result) c.free_by-free.ensures.within in
     record {
-      along = goes-over line (lowest line h) (max h.position c.args.position) (history line h) (kept_of c.forward.self) (take c.free_run-free.result c.run_from-pending.result.now) so_far.along
-          (run-front line c.free_run-free.result c.forward.self.position c.run_from-pending.result.now c.run_from-pending.ensures.run)
-          (omega (arith, short, c.free_run-free.ensures.within, c.run_from-pending.ensures.within, c.forward-test.true)) (kept_of c.go_over.new.self) c.free_run-free.ensures.free goes;
+      along = goes-over line (lowest line h) (max h.position c.args.position) (history line h) (kept_of c.forward.self) (take c.free_by-free.result (shifts_of c.between-pending.result)) so_far.along
+          (run-front line c.free_by-free.result c.forward.self.position (shifts_of c.between-pending.result) c.between-pending.ensures.run)
+          (omega (arith, short, c.free_by-free.ensures.within, c.between-pending.ensures.within, c.forward-test.true)) (kept_of c.go_over.new.self) c.free_by-free.ensures.free goes;
       birth = goes.birth ∙ so_far.birth;
       live = goes.live ∙ so_far.live;
       pool = front-trans (held c.args.pool.now) (held c.forward.pool) (held c.go_over.new.pool) so_far.pool c.go_over.ensures.pool;

@@ -1,0 +1,72 @@
+-- What stays over reads that come one after the other. Serves reads of areas.
+use Rattle.std.proofs.Common.{◌≡◌, ◌∙◌, sym, ap, subst, refl, arith, ◌⊎◌, inl, inr, ℕ, ◌≤◌, List, Option, Some, None, Result, Ok, Err}
+use Rattle.std.proofs.lemmas.Option.{none-some}
+use Rattle.custom_fn.specs.declared.rule.Rule.{Rule}
+use Rattle.calc_eval.specs.declared.customs.Customs.{Ghosts}
+use Rattle.book_model.specs.Operation.{Operation}
+use Rattle.book_model.specs.Refusals.{cause}
+use Rattle.book_model.specs.Session.{done, next, unless_refused}
+use Rattle.book_model.specs.Workbook.{State}
+use Rattle.book_model.specs.declared.refusal.Refusal.{Refusal}
+use Rattle.book_engine.specs.Areas.{Answered}
+use Rattle.book_engine.specs.Calls.{Stays}
+use Rattle.book_engine.specs.Engine.{Does, StandsFor}
+use Rattle.book_engine.specs.Kept.{IsIdle, KeepsLine, KeepsValues, WorksOut}
+use Rattle.book_engine.specs.declared.engine.Engine.{Engine}
+use Rattle.book_engine.specs.declared.stop.Stop.{Stop}
+use Rattle.book_engine.specs.declared.stop.Stop.TheVariants.{Refused, NoMemory}
+use Rattle.book_engine.proofs.IdleReads.{fewer, idle, line_on, line_same, nothing, values_on, values_same}
+use Rattle.area_reads.specs.Reads.{AreOneRead, AreQuiet}
+
+same_either : (r : Option Refusal) (d : State) → unless_refused r d d ≡ d
+same_either None d = refl
+same_either (Some r) d = refl
+
+-- an operation that changes nothing leaves the session, whether it is refused or not
+stays_next : (op : Operation) (d : State) → done op d ≡ d → next op d ≡ d
+stays_next op d same = ap (λ e. unless_refused (cause op d) e d) same ∙ same_either (cause op d) d
+
+module _ {C X : Type 0} {G : Ghosts C} (customs : C → List (List ℕ × Rule)) (op : Operation) (Answers : State → X → Type 0) (reads : (d : State) → done op d ≡ d) (old new : Engine C G) where
+  pub read_stays : (r : Result X Stop) → Does customs op Answers old new r → Stays customs old new
+  read_stays (Ok x) does d stands = subst (StandsFor customs new) (stays_next op d (reads d)) (does d stands).2
+  read_stays (Err (Refused r)) does d stands = subst (StandsFor customs new) (stays_next op d (reads d)) (does d stands).1
+  read_stays (Err NoMemory) does d stands = does d stands
+
+  -- one that has no cause isn't refused
+  pub fails : {Y : Type 0} (e : Stop) (d : State) (Holds : Y → Type 0) → Does customs op Answers old new (Err e) → StandsFor customs old d → cause op d ≡ None → Answered None Holds (Err e)
+  fails (Refused r) d Holds does stands none = absurd (none-some r (sym none ∙ (does d stands).0))
+  fails NoMemory d Holds does stands none = tt
+
+module _ {C : Type 0} {G : Ghosts C} (customs : C → List (List ℕ × Rule)) where
+  -- no read is one, and is quiet
+  pub no_read : (e : Engine C G) (n : ℕ) → AreOneRead customs e e n n
+  no_read e n = record { stays = λ d stands. stands; line = line_same e; least = omega arith; most = nothing e n }
+
+  pub quiet_none : (e : Engine C G) → AreQuiet customs e e
+  quiet_none e = record { stays = λ d stands. stands; line = line_same e; values = values_same e }
+
+  -- nothing was read, or nothing is marked any more
+  abbrev pub IsStill : Engine C G → Engine C G → ℕ → ℕ → Type 0
+  IsStill first old start before = ((old ≡ first) × (before ≡ start)) ⊎ IsIdle old
+
+  works_on : (first old : Engine C G) (start before after : ℕ) → WorksOut first start before → IsStill first old start before → WorksOut old before after → WorksOut first start after
+  works_on first old start before after worked (inl (same, none)) works = subst (λ n. WorksOut first n after) none (subst (λ e. WorksOut e before after) same works)
+  works_on first old start before after worked (inr still) works = fewer first start before after worked (idle old before after still works)
+
+  -- one more value
+  pub read_on : (first old new : Engine C G) (start before after : ℕ) → AreOneRead customs first old start before → IsStill first old start before → Stays customs old new → KeepsLine old new → before ≤ after → WorksOut old before after
+      → AreOneRead customs first new start after
+  read_on first old new start before after read still stays line least most = record {
+    stays = λ d stands. stays d (read.stays d stands);
+    line = line_on first old new read.line line;
+    least = (let earlier = read.least in omega (arith, earlier, least));
+    most = works_on first old start before after read.most still most;
+  }
+
+  -- and one more text
+  pub quiet_on : (first old new : Engine C G) → AreQuiet customs first old → Stays customs old new → KeepsLine old new → KeepsValues old new → AreQuiet customs first new
+  quiet_on first old new quiet stays line values = record {
+    stays = λ d stands. stays d (quiet.stays d stands);
+    line = line_on first old new quiet.line line;
+    values = values_on first old new quiet.values values;
+  }

@@ -1,0 +1,3 @@
+pub mod Staying
+pub mod Listing
+pub mod Going
