@@ -31,7 +31,7 @@ no_sum f (a ∷ nodes) none =
 
 module _ (b : Workbook) (words : List (List ℕ)) where
   no_mark : (marks : List Node) (x : book.Node) → marks ≡ [] → ReachesMark b words marks x → ⊥
-  no_mark marks x none (m, y, marked, rest) = false≢true (ap (has m) (sym none) ∙ marked)
+  no_mark marks x none (m, y, marked, there, leads) = false≢true (ap (has m) (sym none) ∙ marked)
 
   free : (marks nodes : List Node) → marks ≡ [] → ((a : Node) (x : book.Node) → has a nodes ≡ true → node_at words a ≡ Some x → ReachesMark b words marks x) → (a : Node) → has a nodes ≡ true → node_cost b words a ≡ 0
   free marks nodes none reach a there = go (node_at words a) refl
