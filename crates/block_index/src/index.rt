@@ -13,7 +13,6 @@ use std::alloc::{AllocError, Global};
 use std::ops::Range;
 
 /// Numbers filed under the slots of blocks.
-#[derive(Drop)]
 pub struct BlockIndex {
     alloc: Global,
     // The slots that have a list.
@@ -24,6 +23,18 @@ pub struct BlockIndex {
     sizes: Vec<Size>,
     pub ghost counts: { length lists.items ≡ length slots.keys },
     ghost sized: { AreSized slots.keys sizes.items },
+}
+
+// Written out, so that whoever drops one calls one function.
+impl Drop for BlockIndex {
+    fn drop(self) {
+        let BlockIndex {
+            alloc: _,
+            slots: _slots,
+            lists: _lists,
+            sizes: _sizes,
+        } = self;
+    }
 }
 
 impl BlockIndex {

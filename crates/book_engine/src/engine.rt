@@ -50,7 +50,6 @@ use undo_book::UndoBook;
 /// changes they follow one after the other. After those of a dropped sheet, and of a block that was moved among other changes, the
 /// next read works the whole workbook out. Each change says by a clause, `marks`, `left` or `values`, which marks there are after it;
 /// of undo and redo of one change of a name [`SessionValues::name_turned`] says it, and of a step of several changes no clause does.
-#[derive(Drop)]
 pub struct Engine<C: Customs> {
     pub(crate) parts: Parts,
     pub(crate) waiting: Waiting,
@@ -58,6 +57,36 @@ pub struct Engine<C: Customs> {
     pub(crate) day: i32,
     ghost fits: { Fits parts } by { fits-prop parts },
     ghost follow: { ValuesFollow (C.customs customs) day parts } by { follow-prop (C.customs customs) day parts },
+}
+
+// Written out, so that whoever drops an engine calls one function.
+impl<C: Customs> Drop for Engine<C> {
+    fn drop(self) {
+        let Engine {
+            parts: _parts,
+            waiting: _waiting,
+            customs: _customs,
+            day: _,
+        } = self;
+    }
+}
+
+impl<C: Customs> Engine<C> {
+    // What it consists of.
+    pub(crate) fn into_fields(self) -> (Parts, Waiting, C, i32)
+        ensures parts { result.0 ≡ self.parts }
+        ensures waiting { result.1 ≡ self.waiting }
+        ensures customs { result.2 ≡ self.customs }
+        ensures day { result.3 ≡ self.day }
+    {
+        let Engine {
+            parts,
+            waiting,
+            customs,
+            day,
+        } = self;
+        (parts, waiting, customs, day)
+    }
 }
 
 #[tactic(auto, unfolding(crate::specs::Engine::StandsFor))]

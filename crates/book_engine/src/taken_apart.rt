@@ -75,12 +75,9 @@ impl<C: Customs> Engine<C> {
         ensures marks { option_map marks_in result.values ≡ marks_kept self }
         ensures merged { merged_in_any result.values ≡ merged_kept self }
     {
-        let Engine {
-            parts: Parts { session, values },
-            waiting: Waiting { clip },
-            customs,
-            day,
-        } = self;
+        let (parts, waiting, customs, day) = self.into_fields();
+        let Parts { session, values } = parts;
+        let Waiting { clip } = waiting;
         let Session {
             pool,
             book,

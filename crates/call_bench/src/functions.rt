@@ -34,47 +34,73 @@ pub(crate) fn run(rt: &HostRuntime, name: &str, numbers: [Option<u32>; 3]) -> io
     let [Some(rows), Some(filled), Some(times)] = numbers else {
         return Ok(false);
     };
-    let Some((function, args)) = arguments_of(rt.alloc(), name, rows, filled)? else {
-        return Ok(false);
-    };
-    let mut value = Scalar::Empty;
-    'times: for _ in 0..times {
-        value = function.value(rt.alloc(), &args)?;
+    let mut args = Vec::new(rt.alloc());
+    match add_arguments(rt.alloc(), &mut args, name, rows, filled)? {
+        Some(function) => {
+            time(rt, function, &args, times)?;
+            Ok(true)
+        }
+        None => Ok(false),
     }
-    println!(rt; "{}", value.shown(rt.alloc())?.as_str())?;
-    Ok(true)
 }
 
-// The function of a case and its arguments: a column of so many rows, of which so many are filled with
+// Works the function out so many times, and prints its value of the last time.
+fn time(rt: &HostRuntime, function: Function, args: &[Arg], times: u32) -> io::Result<()> {
+    let mut value = Scalar::Empty;
+    'times: for _ in 0..times {
+        value = function.value(rt.alloc(), args)?;
+    }
+    println!(rt; "{}", value.shown(rt.alloc())?.as_str())?;
+    Ok(())
+}
+
+// The function of a case; adds its arguments: a column of so many rows, of which so many are filled with
 // their numbers, and what is sought in it, or a text of so many bytes. `None` where there is no such case.
-fn arguments_of(
+fn add_arguments(
     alloc: Global,
+    args: &mut Vec<Arg>,
     name: &str,
     rows: u32,
     filled: u32,
-) -> Result<Option<(Function, Vec<Arg>)>, AllocError> {
+) -> Result<Option<Function>, AllocError> {
     if let Some(function) = TextFn::named(name) {
-        return Ok(Some((Function::Text(function), long_texts(alloc, function, rows)?)));
+        add_long_texts(alloc, args, function, rows)?;
+        return Ok(Some(Function::Text(function)));
     }
-    let mut args = Vec::new(alloc);
-    let last = number(i64::from(rows) - 1);
     if let Some(function) = LookFn::named(name) {
-        args.push(Arg::One(last))?;
-        args.push(cells(alloc, rows, filled)?)?;
-        if function == LookFn::VLookup {
-            args.push(Arg::One(number(1)))?;
-        }
-        args.push(Arg::One(number(0)))?;
-        return Ok(Some((Function::Look(function), args)));
+        add_column_sought(alloc, args, function, rows, filled)?;
+        return Ok(Some(Function::Look(function)));
     }
     let Some(function) = MathFn::named(name) else {
         return Ok(None);
     };
-    args.push(cells(alloc, rows, filled)?)?;
+    add(args, cells(alloc, rows, filled)?)?;
     if function == MathFn::CountIf || function == MathFn::SumIf {
-        args.push(Arg::One(text(alloc, "<>5")?))?;
+        add(args, Arg::One(text(alloc, "<>5")?))?;
     }
-    Ok(Some((Function::Math(function), args)))
+    Ok(Some(Function::Math(function)))
+}
+
+// Adds an argument.
+fn add(args: &mut Vec<Arg>, argument: Arg) -> Result<(), AllocError> {
+    args.push(argument)?;
+    Ok(())
+}
+
+// Adds the arguments of a look-up: what is sought, the column, and how it is sought.
+fn add_column_sought(
+    alloc: Global,
+    args: &mut Vec<Arg>,
+    function: LookFn,
+    rows: u32,
+    filled: u32,
+) -> Result<(), AllocError> {
+    add(args, Arg::One(number(i64::from(rows) - 1)))?;
+    add(args, cells(alloc, rows, filled)?)?;
+    if function == LookFn::VLookup {
+        add(args, Arg::One(number(1)))?;
+    }
+    add(args, Arg::One(number(0)))
 }
 
 // A column as an argument. Without rows it is one empty value.
@@ -85,23 +111,36 @@ fn cells(alloc: Global, rows: u32, filled: u32) -> Result<Arg, AllocError> {
     Ok(Arg::Many(column(alloc, rows, filled)?))
 }
 
-// Arguments of a function of texts: for FIND a text of half the bytes, all `a` but its last, and one of all
+// Adds the arguments of a function of texts: for FIND a text of half the bytes, all `a` but its last, and one of all
 // bytes, all `a`; for SUBSTITUTE the second one, the first one, and a short one; for others the second.
-fn long_texts(alloc: Global, function: TextFn, size: u32) -> Result<Vec<Arg>, AllocError> {
-    let mut args = Vec::new(alloc);
-    let mut sought = letters(alloc, size / 2)?;
-    sought.push('b')?;
+fn add_long_texts(
+    alloc: Global,
+    args: &mut Vec<Arg>,
+    function: TextFn,
+    size: u32,
+) -> Result<(), AllocError> {
     if function == TextFn::Find {
-        args.push(Arg::One(Scalar::Text(Text::new(sought))))?;
-        args.push(Arg::One(Scalar::Text(Text::new(letters(alloc, size)?))))?;
-        return Ok(args);
+        add(args, Arg::One(sought(alloc, size)?))?;
+        return add(args, Arg::One(searched(alloc, size)?));
     }
-    args.push(Arg::One(Scalar::Text(Text::new(letters(alloc, size)?))))?;
+    add(args, Arg::One(searched(alloc, size)?))?;
     if function == TextFn::Substitute {
-        args.push(Arg::One(Scalar::Text(Text::new(sought))))?;
-        args.push(Arg::One(text(alloc, "c")?))?;
+        add(args, Arg::One(sought(alloc, size)?))?;
+        add(args, Arg::One(text(alloc, "c")?))?;
     }
-    Ok(args)
+    Ok(())
+}
+
+// The text of all bytes.
+fn searched(alloc: Global, size: u32) -> Result<Scalar, AllocError> {
+    Ok(Scalar::Text(Text::new(letters(alloc, size)?)))
+}
+
+// The text of half the bytes.
+fn sought(alloc: Global, size: u32) -> Result<Scalar, AllocError> {
+    let mut made = letters(alloc, size / 2)?;
+    made.push('b')?;
+    Ok(Scalar::Text(Text::new(made)))
 }
 
 // So many letters `a`.

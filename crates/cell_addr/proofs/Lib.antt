@@ -11,3 +11,4 @@ pub mod Rows
 pub mod SamePlaces
 pub mod Splits
 pub mod Spots
+pub mod Wholes

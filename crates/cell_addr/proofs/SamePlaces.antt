@@ -1,9 +1,14 @@
--- The tests of places and of blocks decide equality. Serves lists of places and of blocks, each once.
+-- The tests of places, of blocks and of whole ranges decide equality. Serves lists of them, each once.
 use Rattle.std.proofs.Common.{◌≡◌, refl, subst, ℕ, true, ◌&&◌, ◌==◌, eqb-true, eq-eqb}
 use Rattle.std.proofs.lemmas.Bool.{and_from, and_parts}
 use Rattle.cell_addr.specs.declared.place.Place.{Place}
 use Rattle.cell_addr.specs.declared.place.Block.{Block}
+use Rattle.cell_addr.specs.declared.axis.Axis.{Axis}
+use Rattle.cell_addr.specs.declared.axis.Axis.TheVariants.{Rows, Cols}
+use Rattle.cell_addr.specs.declared.whole.Whole.{Whole}
+use Rattle.cell_addr.specs.Axis.{same_axis}
 use Rattle.cell_addr.specs.Place.{same_place, same_block}
+use Rattle.cell_addr.specs.Whole.{same_whole}
 
 same-number : (n : ℕ) → (n == n) ≡ true
 same-number n = eq-eqb n n refl
@@ -44,3 +49,33 @@ same_place-decides p q = (same_place-equal p q, λ e. subst (λ r. same_place p 
 
 pub same_block-decides : (b c : Block) → (same_block b c ≡ true → b ≡ c) × (b ≡ c → same_block b c ≡ true)
 same_block-decides b c = (same_block-equal b c, λ e. subst (λ d. same_block b d ≡ true) e (same_block-self b))
+
+pub same_axis-self : (a : Axis) → same_axis a a ≡ true
+same_axis-self Rows = refl
+same_axis-self Cols = refl
+
+pub same_axis-equal : (a b : Axis) → same_axis a b ≡ true → a ≡ b
+same_axis-equal Rows Rows h = refl
+same_axis-equal Cols Cols h = refl
+same_axis-equal Rows Cols h = absurd (cc)
+same_axis-equal Cols Rows h = absurd (cc)
+
+same_whole-self : (w : Whole) → same_whole w w ≡ true
+same_whole-self w =
+    and_from (w.sheet == w.sheet && same_axis w.axis w.axis) _
+    (and_from (w.sheet == w.sheet) _ (same-number w.sheet) (same_axis-self w.axis))
+    (and_from (w.first == w.first) _ (same-number w.first) (same-number w.last))
+
+same_whole-equal : (v w : Whole) → same_whole v w ≡ true → v ≡ w
+same_whole-equal v w h =
+    let (on, ends) = and_parts (v.sheet == w.sheet && same_axis v.axis w.axis) _ h in
+    let (s, a) = and_parts (v.sheet == w.sheet) (same_axis v.axis w.axis) on in
+    let (f, l) = and_parts (v.first == w.first) (v.last == w.last) ends in
+    let sheet = eqb-true v.sheet w.sheet s in
+    let axis = same_axis-equal v.axis w.axis a in
+    let first = eqb-true v.first w.first f in
+    let last = eqb-true v.last w.last l in
+    λ i. record { sheet = sheet i; axis = axis i; first = first i; last = last i }
+
+pub same_whole-decides : (v w : Whole) → (same_whole v w ≡ true → v ≡ w) × (v ≡ w → same_whole v w ≡ true)
+same_whole-decides v w = (same_whole-equal v w, λ e. subst (λ u. same_whole v u ≡ true) e (same_whole-self v))

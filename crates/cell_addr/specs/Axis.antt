@@ -1,12 +1,23 @@
 -- The lines of places and blocks along one axis of a sheet, its rows or its columns. Source: this
 -- project's own.
-use Rattle.std.specs.Prelude.{ℕ}
+use Rattle.std.specs.Prelude.{ℕ, Bool, true, false}
 use Rattle.cell_addr.specs.declared.axis.Axis.{Axis}
 use Rattle.cell_addr.specs.declared.axis.Axis.TheVariants.{Rows, Cols}
 use Rattle.cell_addr.specs.declared.axis.Span.{Span}
 use Rattle.cell_addr.specs.declared.place.Place.{Place}
 use Rattle.cell_addr.specs.declared.place.Block.{Block}
 use Rattle.cell_addr.specs.declared.place.TheConstants.{ROWS, COLS}
+
+-- the other axis
+abbrev pub across : Axis → Axis
+across Rows = Cols
+across Cols = Rows
+
+-- the test whether two axes are the same
+abbrev pub same_axis : Axis → Axis → Bool
+same_axis Rows Rows = true
+same_axis Cols Cols = true
+same_axis a b = false
 
 -- how many such lines a sheet has
 abbrev pub limit_of : Axis → ℕ

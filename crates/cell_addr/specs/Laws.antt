@@ -4,8 +4,11 @@ use Rattle.std.specs.List.{list_all}
 use Rattle.std.specs.Char.{is_ascii_uppercase}
 use Rattle.cell_addr.specs.declared.place.Place.{Place}
 use Rattle.cell_addr.specs.declared.place.Block.{Block}
+use Rattle.cell_addr.specs.declared.whole.Whole.{Whole}
 use Rattle.cell_addr.specs.declared.place.TheConstants.{COLS}
+use Rattle.cell_addr.specs.Axis.{line_of}
 use Rattle.cell_addr.specs.Place.{IsInside, Covers, covers, same_place, same_block}
+use Rattle.cell_addr.specs.Whole.{whole_block, same_whole}
 use Rattle.cell_addr.specs.Text.{folded}
 use Rattle.cell_addr.specs.Address.{column_letters, column_of, row_of, place_letters, is_row, address_of, spot_at, spot_of}
 use Rattle.cell_addr.specs.Parts.{strip_prefix}
@@ -45,9 +48,15 @@ AddressesAreRead = (text : List ℕ) (row col : ℕ)
 abbrev pub BlocksCover : Type 0
 BlocksCover = (b : Block) (p : Place) → (covers b p ≡ true) ↔ Covers b p
 
--- places and blocks are the same exactly where they are equal
+-- the block of a whole range covers, of the places of the sheet, those on its lines
+abbrev pub WholesCoverTheirLines : Type 0
+WholesCoverTheirLines = (w : Whole) (p : Place) → IsInside p
+    → Covers (whole_block w) p ↔ ((w.sheet ≡ p.sheet) × (w.first ≤ line_of w.axis p) × (line_of w.axis p ≤ w.last))
+
+-- places, blocks and whole ranges are the same exactly where they are equal
 abbrev pub SameIsEqual : Type 0
 SameIsEqual = ((p q : Place) → (same_place p q ≡ true) ↔ (p ≡ q)) × ((b c : Block) → (same_block b c ≡ true) ↔ (b ≡ c))
+    × ((v w : Whole) → (same_whole v w ≡ true) ↔ (v ≡ w))
 
 -- the number and the name of a listed sheet are found by each other, the name in any case of its letters
 abbrev pub SheetsAreFound : Type 0

@@ -8,5 +8,6 @@ pub mod Quoted
 pub mod SheetName
 pub mod Sheets
 pub mod Text
+pub mod Whole
 pub mod Word
 pub mod internal

@@ -1,6 +1,6 @@
 // The two axes of a sheet, its rows and its columns, so that a rule for lines is said once for both.
 ghost use Rattle.std.specs.Prelude.{◌≡◌};
-ghost use Rattle.cell_addr.specs.Axis.{limit_of, line_of, with_line, span_of, with_span};
+ghost use Rattle.cell_addr.specs.Axis.{across, limit_of, line_of, with_line, span_of, with_span};
 
 use crate::place::{Block, COLS, Place, ROWS};
 
@@ -21,6 +21,16 @@ pub struct Span {
 }
 
 impl Axis {
+    /// The other axis.
+    pub fn across(self) -> Axis
+        ensures { result ≡ across self }
+    {
+        match self {
+            Axis::Rows => Axis::Cols,
+            Axis::Cols => Axis::Rows,
+        }
+    }
+
     /// How many such lines a sheet has: [`ROWS`] or [`COLS`].
     pub fn limit(self) -> u32
         ensures { result ≡ limit_of self }

@@ -1,5 +1,5 @@
 // Laws of the definitions: each function states one, and does nothing.
-ghost use Rattle.cell_addr.specs.Laws.{ColumnsAreReadBack, ColumnsDiffer, PlacesAreReadBack, PlacesAreWritten, ContentsAreRead, AddressesAreRead, BlocksCover, SameIsEqual, SheetsAreFound, FoundSheetsAreListed};
+ghost use Rattle.cell_addr.specs.Laws.{ColumnsAreReadBack, ColumnsDiffer, PlacesAreReadBack, PlacesAreWritten, ContentsAreRead, AddressesAreRead, BlocksCover, WholesCoverTheirLines, SameIsEqual, SheetsAreFound, FoundSheetsAreListed};
 
 /// What [`crate::column_text`] writes of a column is read back as that column.
 pub fn columns_are_read_back()
@@ -37,7 +37,12 @@ pub fn blocks_cover()
     ensures { BlocksCover }
 {}
 
-/// The tests whether two places or two blocks are the same say that they are equal.
+/// The block of a whole range covers, of the places of the sheet, those on its lines.
+pub fn wholes_cover_their_lines()
+    ensures { WholesCoverTheirLines }
+{}
+
+/// The tests whether two places, two blocks or two whole ranges are the same say that they are equal.
 pub fn same_is_equal()
     ensures { SameIsEqual }
 {}

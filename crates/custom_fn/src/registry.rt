@@ -27,13 +27,22 @@ pub enum RegError {
 }
 
 /// Custom functions of different names, in the order in which they were added.
-#[derive(Drop)]
 pub struct Registry {
     alloc: Global,
     customs: IndexMap<FoldedKey<'static>, Custom>,
 
     // Each function stands under its name.
     ghost keyed: { AreKeyed customs.entries },
+}
+
+// Written out, so that whoever drops one calls one function.
+impl Drop for Registry {
+    fn drop(self) {
+        let Registry {
+            alloc: _,
+            customs: _customs,
+        } = self;
+    }
 }
 
 impl Registry {

@@ -23,7 +23,6 @@ use std::ops::Range;
 // that the range can be filed anew where an operation bends it: the filings that it had before are then nobody's. Where
 // lines come in between its own, these get a filing beside the ones that the range has. A filing serves its node only once
 // all that belongs to the operation is done, so that one which was left half made for want of memory never does.
-#[derive(Drop)]
 pub(crate) struct Files {
     pub(crate) alloc: Global,
     // The filings under slots.
@@ -40,6 +39,20 @@ pub(crate) struct Files {
     pub ghost owned: { (n f : ℕ) → filing_of current n ≡ Some f → owner_at owners f ≡ Some n },
     pub ghost served: { (n f : ℕ) → filing_of current n ≡ Some f → serves_at serves f ≡ true },
     pub ghost within: { (sheet row col f : ℕ) → finds index sheet row col f ≡ true → f < length owners.items },
+}
+
+// Written out, so that whoever drops one calls one function.
+impl Drop for Files {
+    fn drop(self) {
+        let Files {
+            alloc: _,
+            index: _index,
+            owners: _owners,
+            serves: _serves,
+            current: _current,
+            filed: _,
+        } = self;
+    }
 }
 
 impl Files {

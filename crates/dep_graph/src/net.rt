@@ -22,7 +22,6 @@ use node_links::Links;
 use std::alloc::{AllocError, Global};
 
 // Nodes under numbers, with their links.
-#[derive(Drop)]
 pub(crate) struct Net {
     pub(crate) alloc: Global,
     // The nodes that were linked to others or that others were linked to.
@@ -42,6 +41,20 @@ pub(crate) struct Net {
     pub ghost filed: { AreFilings nodes files },
     pub ghost used: { (a n : ℕ) → has n (needs_of links a) ≡ true → IsFiled nodes files n },
     pub ghost indexed: { AreIndexed nodes touches },
+}
+
+// Written out, so that whoever drops one calls one function.
+impl Drop for Net {
+    fn drop(self) {
+        let Net {
+            alloc: _,
+            nodes: _nodes,
+            links: _links,
+            files: _files,
+            touches: _touches,
+            left_behind: _,
+        } = self;
+    }
 }
 
 impl Net {

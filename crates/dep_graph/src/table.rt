@@ -10,7 +10,6 @@ use place_lines::PlaceLines;
 use std::alloc::{AllocError, Global};
 
 // The nodes that were linked to others or that others were linked to, under numbers from 0 on.
-#[derive(Drop)]
 pub(crate) struct NodeTable {
     // Where their lines stand.
     pub(crate) lines: PlaceLines,
@@ -18,6 +17,16 @@ pub(crate) struct NodeTable {
     pub(crate) keys: IndexSet<Key, NearHash>,
     pub ghost once: { AreKeysOnce keys.keys },
     pub ghost narrow: { AreNarrow keys.keys },
+}
+
+// Written out, so that whoever drops one calls one function.
+impl Drop for NodeTable {
+    fn drop(self) {
+        let NodeTable {
+            lines: _lines,
+            keys: _keys,
+        } = self;
+    }
 }
 
 impl NodeTable {

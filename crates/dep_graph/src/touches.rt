@@ -20,12 +20,21 @@ use std::alloc::{AllocError, Global};
 use touch_index::{TouchIndex, hands_on};
 
 // Nodes under their numbers. What is kept is never taken out.
-#[derive(Drop)]
 pub(crate) struct Touches {
     // The cells and the ranges within the limits of their sheets.
     pub(crate) index: TouchIndex,
     // The numbers of the others, each of which any operation may touch.
     pub(crate) odd: IndexSet<usize, NearHash>,
+}
+
+// Written out, so that whoever drops one calls one function.
+impl Drop for Touches {
+    fn drop(self) {
+        let Touches {
+            index: _index,
+            odd: _odd,
+        } = self;
+    }
 }
 
 impl Touches {

@@ -20,11 +20,21 @@ use std::rc::Rc;
 
 /// Where trees are shared: a list of distinct trees, each as it is seen from the homes of its formulas.
 /// Trees that differ share their equal references, names and other leaves.
-#[derive(Drop)]
 pub struct Pool {
     alloc: Global,
     trees: IndexSet<Entry>,
     leaves: Leaves,
+}
+
+// Written out, so that whoever drops one calls one function.
+impl Drop for Pool {
+    fn drop(self) {
+        let Pool {
+            alloc: _,
+            trees: _trees,
+            leaves: _leaves,
+        } = self;
+    }
 }
 
 impl Pool {

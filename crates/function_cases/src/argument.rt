@@ -15,9 +15,20 @@ pub(crate) fn arguments_of(
     function: Option<Function>,
 ) -> Result<Option<Vec<Arg>>, AllocError> {
     let mut args = Vec::new(alloc);
-    if text.is_empty() {
-        return Ok(Some(args));
+    if text.is_empty() || add_arguments(alloc, text, function, &mut args)? {
+        Ok(Some(args))
+    } else {
+        Ok(None)
     }
+}
+
+// Adds the arguments that the text holds; whether each can be read.
+fn add_arguments(
+    alloc: Global,
+    text: &str,
+    function: Option<Function>,
+    args: &mut Vec<Arg>,
+) -> Result<bool, AllocError> {
     let mut open = String::new(alloc);
     'pieces: for piece in text.split(',') {
         open.push_str(piece)?;
@@ -25,13 +36,28 @@ pub(crate) fn arguments_of(
             open.push(',')?;
             continue;
         }
-        match argument_of(alloc, &open, takes_block(function, args.len()))? {
-            Some(argument) => args.push(argument)?,
-            None => return Ok(None),
+        if !add_argument(alloc, &open, takes_block(function, args.len()), args)? {
+            return Ok(false);
         }
         open.clear();
     }
-    Ok(if open.is_empty() { Some(args) } else { None })
+    Ok(open.is_empty())
+}
+
+// Adds the argument that the text holds; whether it can be read.
+fn add_argument(
+    alloc: Global,
+    text: &str,
+    is_block: bool,
+    args: &mut Vec<Arg>,
+) -> Result<bool, AllocError> {
+    match argument_of(alloc, text, is_block)? {
+        Some(argument) => {
+            args.push(argument)?;
+            Ok(true)
+        }
+        None => Ok(false),
+    }
 }
 
 // Whether the argument at this place, from 0, is a list or a block.

@@ -1,5 +1,5 @@
 // Blocks of cells.
-ghost use Rattle.std.specs.Prelude.{◌<◌, IfSome};
+ghost use Rattle.std.specs.Prelude.{◌<◌, IfOk, IfSome};
 
 use crate::argument::literal;
 use crate::sheet::value_at;
@@ -34,20 +34,42 @@ pub(crate) fn of_sheet(alloc: Global, spot: &Spot) -> Result<Area, AllocError> {
 /// rows. `None` where a value has no form of one, or the rows aren't of one length.
 pub(crate) fn written(alloc: Global, text: &str) -> Result<Option<Area>, AllocError> {
     let mut values = Vec::new(alloc);
+    match add_rows(alloc, text, &mut values)? {
+        Some((rows, cols)) => Ok(Some(filled(alloc, rows, cols, values)?)),
+        None => Ok(None),
+    }
+}
+
+// Adds the values that are written out, row by row; how many rows and columns they make.
+fn add_rows(
+    alloc: Global,
+    text: &str,
+    values: &mut Vec<Scalar>,
+) -> Result<Option<(u32, u32)>, AllocError>
+    ensures { IfOk result (λ sides. IfSome sides (λ s. (0 < s.0) × (0 < s.1))) }
+{
     let mut rows = 0u32;
     'rows: for row in text.split(';') {
         rows = rows.saturating_add(1);
-        'cells: for cell in row.split(',') {
-            match value_in(alloc, cell)? {
-                Some(value) => values.push(value)?,
-                None => return Ok(None),
-            }
+        if !add_row(alloc, row, values)? {
+            return Ok(None);
         }
     }
-    let Some(cols) = width(rows, values.len()) else {
-        return Ok(None);
-    };
-    Ok(Some(filled(alloc, rows, cols, values)?))
+    match width(rows, values.len()) {
+        Some(cols) => Ok(Some((rows, cols))),
+        None => Ok(None),
+    }
+}
+
+// Adds the values of a row; whether each has a form of one.
+fn add_row(alloc: Global, row: &str, values: &mut Vec<Scalar>) -> Result<bool, AllocError> {
+    'cells: for cell in row.split(',') {
+        match value_in(alloc, cell)? {
+            Some(value) => values.push(value)?,
+            None => return Ok(false),
+        }
+    }
+    Ok(true)
 }
 
 /// The value that is written out, which is empty where nothing is written; `None` where it has no form of one.

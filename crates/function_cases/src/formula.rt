@@ -27,12 +27,23 @@ const HOME: Home = Home::Cell(Place {
 const NAMES: Home = Home::Name { sheet: 0 };
 
 /// A page, and what its formulas are read with.
-#[derive(Drop)]
 pub(crate) struct FormulaPage {
     alloc: Global,
     page: Page,
     pool: Pool,
     sheets: OneSheet,
+}
+
+// Written out, so that whoever drops one calls one function.
+impl Drop for FormulaPage {
+    fn drop(self) {
+        let FormulaPage {
+            alloc: _,
+            page: _page,
+            pool: _pool,
+            sheets: _sheets,
+        } = self;
+    }
 }
 
 impl FormulaPage {

@@ -212,7 +212,7 @@ fn run_row<L: Ledger>(
     };
     if head.starts_with('=') {
         let value = case_value(rt.alloc(), kind, page, head, registry, steps)?;
-        tally.count(holds(rt, head, value, second)?);
+        tally.count(holds(rt, head, value.as_ref(), second)?);
     } else if !page.give(head, second, registry, steps)? {
         tally.count(false);
         println!(rt; "    NOT GIVEN: {head}")?;
@@ -247,12 +247,12 @@ fn call_value(alloc: Global, call: &str) -> Result<Option<Scalar>, AllocError> {
 }
 
 // Whether the case has the value; where it hasn't, both are printed.
-fn holds(rt: &HostRuntime, head: &str, value: Option<Scalar>, wanted: &str) -> io::Result<bool> {
+fn holds(rt: &HostRuntime, head: &str, value: Option<&Scalar>, wanted: &str) -> io::Result<bool> {
     let Some(value) = value else {
         println!(rt; "    NO CALL: {head}")?;
         return Ok(false);
     };
-    if is_wanted(rt.alloc(), &value, wanted)? {
+    if is_wanted(rt.alloc(), value, wanted)? {
         return Ok(true);
     }
     let shown = value.shown(rt.alloc())?;

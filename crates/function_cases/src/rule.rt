@@ -17,17 +17,35 @@ pub(crate) fn value_by_rule(alloc: Global, call: &str) -> Result<Option<Scalar>,
     let Some((pairs, number)) = pairs_and_number(arguments) else {
         return Ok(None);
     };
-    let (Some(pairs), Some(number)) = (pairs_of(alloc, pairs)?, value_in(alloc, number)?) else {
+    match value_in(alloc, number)? {
+        Some(number) => value_of(alloc, word, pairs, &number),
+        None => Ok(None),
+    }
+}
+
+// The value that the rule of the word and these pairs has of the number.
+fn value_of(
+    alloc: Global,
+    word: &str,
+    pairs: &str,
+    number: &Scalar,
+) -> Result<Option<Scalar>, AllocError> {
+    let Some(pairs) = pairs_of(alloc, pairs)? else {
         return Ok(None);
     };
-    let rule = match word {
-        "BANDS" => Rule::bands(pairs),
-        "TIERS" => Rule::tiers(pairs),
-        _ => return Ok(None),
-    };
-    match rule {
-        Some(rule) => Ok(Some(rule.value_of(&number))),
-        None => Ok(Some(Scalar::Text(Text::from_str(alloc, "no rule")?))),
+    match rule_of(word, pairs) {
+        Some(Some(rule)) => Ok(Some(rule.value_of(number))),
+        Some(None) => Ok(Some(Scalar::Text(Text::from_str(alloc, "no rule")?))),
+        None => Ok(None),
+    }
+}
+
+// The rule of the word, or that the pairs make none; `None` where the word is no rule's.
+fn rule_of(word: &str, pairs: Vec<(Fixed, Fixed)>) -> Option<Option<Rule>> {
+    match word {
+        "BANDS" => Some(Rule::bands(pairs)),
+        "TIERS" => Some(Rule::tiers(pairs)),
+        _ => None,
     }
 }
 

@@ -235,7 +235,7 @@ module _ {X : Type 0} (g : Grid X) (d : Draft X) (made left : BTreeMap CellKey X
       all_left k ∙ ap (λ r. cond (is_one_of d.lost.items k && is_none r) None (kept made.entries k)) (place_of_key rows cols q k e) ∙ ap (λ b. cond b None (kept made.entries k)) (and_none (is_one_of d.lost.items k)) ∙ all_made k
       ∙ sym (λ i. unwrap_or (get-seen_at rows cols changes q k e i) (get-seen_at rows cols g.cells.entries q k e i))
 
-  pub finished_cells : seen rows cols left.entries ≡ drafted g d
+  finished_cells : seen rows cols left.entries ≡ drafted g d
   finished_cells = same_places _ _ (λ q. get-seen rows cols left.entries q ∙ shown_at q (key_at rows cols q) refl ∙ sym (get-changed (seen rows cols changes) (seen rows cols g.cells.entries) q))
 
   never_left : (k : CellKey) → place_at rows cols k ≡ None → IsDraftOf g d → (b : Bool) → is_one_of d.lost.items k ≡ b → (r : Option (Option X)) → kept changes k ≡ r → IsSome (cond (b && true) None (unwrap_or r (kept g.cells.entries k))) → ⊥
@@ -252,5 +252,26 @@ module _ {X : Type 0} (g : Grid X) (d : Draft X) (made left : BTreeMap CellKey X
       absurd (never_left k e of (is_one_of d.lost.items k) refl (kept changes k) refl
       (subst IsSome (all_left k ∙ (λ i. cond (is_one_of d.lost.items k && is_none (e i)) None (all_made k i))) some))
 
-  pub finished_standing : IsDraftOf g d → (k : CellKey) → IsSome (kept left.entries k) → IsSome (place_at rows cols k)
+  finished_standing : IsDraftOf g d → (k : CellKey) → IsSome (kept left.entries k) → IsSome (place_at rows cols k)
   finished_standing of k some = standing_by k of some (place_at rows cols k) refl
+
+-- the same where the draft is taken apart before
+module _ {X : Type 0} (g : Grid X) (d : Draft X) (made left : BTreeMap CellKey X) (changes : BTreeMap CellKey (Option X)) (rows cols : SheetLines) (lost : List CellKey)
+    (changes_are : changes ≡ d.changes.cells) (rows_are : rows ≡ d.changes.rows) (cols_are : cols ≡ d.changes.cols) (lost_are : lost ≡ d.lost.items)
+    (all_made : AreMade changes g.cells made) (all_left : AreTakenOut (is_gone rows cols lost) made left) where
+  made_so : AreMade d.changes.cells g.cells made
+  made_so = subst (λ (m : BTreeMap CellKey (Option X)). AreMade m g.cells made) changes_are all_made
+
+  left_so : AreTakenOut (is_gone d.changes.rows d.changes.cols d.lost.items) made left
+  left_so =
+      subst (λ (r : SheetLines). AreTakenOut (is_gone r d.changes.cols d.lost.items) made left) rows_are
+      (subst (λ (s : SheetLines). AreTakenOut (is_gone rows s d.lost.items) made left) cols_are
+      (subst (λ ks. AreTakenOut (is_gone rows cols ks) made left) lost_are all_left))
+
+  pub placed_cells : seen rows cols left.entries ≡ drafted g d
+  placed_cells = (λ i. seen (rows_are i) (cols_are i) left.entries) ∙ finished_cells g d made left made_so left_so
+
+  pub placed_standing : IsDraftOf g d → (k : CellKey) → IsSome (kept left.entries k) → IsSome (place_at rows cols k)
+  placed_standing of k some =
+      subst (λ (r : SheetLines). IsSome (place_at r cols k)) (sym rows_are)
+      (subst (λ (s : SheetLines). IsSome (place_at d.changes.rows s k)) (sym cols_are) (finished_standing g d made left made_so left_so of k some))

@@ -12,10 +12,19 @@ use std::collections::{BTreeMap, BTreeSet};
 use std::marker::Model;
 
 // Cells under their keys, by rows. Each key stands besides, turned, in a second order: by columns. Seen as the first order.
-#[derive(Drop)]
 pub(crate) struct Cells<V> {
     by_rows: BTreeMap<CellKey, V>,
     by_cols: BTreeSet<CellKey>,
+}
+
+// Written out, so that whoever drops one calls one function.
+impl<V: Drop> Drop for Cells<V> {
+    fn drop(self) {
+        let Cells {
+            by_rows: _by_rows,
+            by_cols: _by_cols,
+        } = self;
+    }
 }
 
 impl<V> Model for Cells<V> {
@@ -55,7 +64,11 @@ impl<V: Drop> Cells<V> {
     pub(crate) fn into_rows(self) -> BTreeMap<CellKey, V>
         ensures { result ≡ self }
     {
-        self.by_rows
+        let Cells {
+            by_rows,
+            by_cols: _by_cols,
+        } = self;
+        by_rows
     }
 
     // The turned keys in their order: by sheet, by the line of the column, by that of the row.

@@ -35,12 +35,21 @@ use std::collections::BTreeMap;
 /// A draft holds the lines that its changes lead to and what they place and empty, and finds all else in the grid. So each change
 /// costs what it costs the grid, and none the number of filled cells. The grid is to stay as it is until the changes are put in
 /// place. A draft is of no more use after a call that failed.
-#[derive(Drop)]
 pub struct Draft<V> {
     // What the changes place, and `None` where they empty a place, on the lines that they lead to.
     pub(crate) changes: Grid<Option<V>>,
     // The keys of the grid's cells that were on lines that are lost.
     pub(crate) lost: Vec<CellKey>,
+}
+
+// Written out, so that whoever drops one calls one function.
+impl<V: Drop> Drop for Draft<V> {
+    fn drop(self) {
+        let Draft {
+            changes: _changes,
+            lost: _lost,
+        } = self;
+    }
 }
 
 impl<V: Duplicate> Draft<V> {
@@ -276,14 +285,10 @@ impl<V: Duplicate> Draft<V> {
         ensures ok { OnOk result (cells_of grid.new ≡ drafted grid.old self) }
         ensures err { OnErr result (cells_of grid.new ≡ cells_of grid.old) }
     {
-        let Grid {
-            cells,
-            rows,
-            cols,
-            ..
-        } = self.changes;
+        let Draft { changes, lost } = self;
+        let (cells, rows, cols) = changes.into_parts();
         grid.cells.change(grid.alloc, cells)?;
-        grid.cells.leave_lost(&rows, &cols, &self.lost);
+        grid.cells.leave_lost(&rows, &cols, &lost);
         grid.rows = rows;
         grid.cols = cols;
         Ok(())

@@ -13,7 +13,6 @@ use stable_lines::SheetLines;
 use std::alloc::{AllocError, Global};
 
 /// The filled cells of a workbook: a finite map from places to what they hold.
-#[derive(Drop)]
 pub struct Grid<V> {
     pub(crate) alloc: Global,
     pub(crate) cells: Cells<V>,
@@ -22,6 +21,18 @@ pub struct Grid<V> {
     pub ghost rows_limit: { rows.plain.limit ≡ ROWS },
     pub ghost cols_limit: { cols.plain.limit ≡ COLS },
     pub ghost standing: { (k : CellKey) → IsSome (tree.get key_cmp cells k) → IsSome (place_at rows cols k) },
+}
+
+// Written out, so that whoever drops one calls one function.
+impl<V: Drop> Drop for Grid<V> {
+    fn drop(self) {
+        let Grid {
+            alloc: _,
+            cells: _cells,
+            rows: _rows,
+            cols: _cols,
+        } = self;
+    }
 }
 
 impl<V: Drop> Grid<V> {
@@ -108,5 +119,20 @@ impl<V: Drop> Grid<V> {
     {
         let key = self.key(at)?;
         self.cells.remove(&key)
+    }
+
+    // The cells, and the lines of rows and of columns.
+    pub(crate) fn into_parts(self) -> (Cells<V>, SheetLines, SheetLines)
+        ensures cells { result.0 ≡ self.cells }
+        ensures rows { result.1 ≡ self.rows }
+        ensures cols { result.2 ≡ self.cols }
+    {
+        let Grid {
+            alloc: _,
+            cells,
+            rows,
+            cols,
+        } = self;
+        (cells, rows, cols)
     }
 }

@@ -36,16 +36,17 @@ impl Session {
         ensures { IfOk result (λ s. state_of s ≡ session_given limit [] (pos 0) (given_sheets books.now)) }
     {
         let mut pool = Pool::new(alloc)?;
+        let steps = UndoBook::new(alloc, limit)?;
         let book = Book::given(alloc, &mut pool, books)?;
-        let sweep_at = next_sweep(book.next_id, book.next_id);
+        let next_id = book.next_id;
         Ok(Session {
             pool,
             book,
-            steps: UndoBook::new(alloc, limit)?,
+            steps,
             batch: None,
             suspended: false,
             next_sheet: books.len() as u32,
-            sweep_at,
+            sweep_at: next_sweep(next_id, next_id),
         })
     }
 }

@@ -69,7 +69,7 @@ impl Session {
     {
         let listed = self.listed()?;
         let book = &self.book;
-        let ids = going_on(book.alloc, &book.lazy, &mut self.pool, &listed, base)?;
+        let ids = going_on(book.alloc, &book.lazy, &listed, base)?;
         keep_only(&mut self.book, &ids);
         self.sweep_at = next_sweep(self.book.next_id, ids.len() as u64);
         settle(&mut self.book, &mut self.pool, base)?;
@@ -102,7 +102,6 @@ fn open_start(batch: &Option<Entry>) -> Option<u64>
 fn going_on(
     alloc: Global,
     lazy: &Lazy,
-    pool: &mut Pool,
     listed: &IndexSet<u64>,
     position: u64,
 ) -> Result<IndexSet<u64>, AllocError>
@@ -110,21 +109,17 @@ fn going_on(
 {
     let mut ids = IndexSet::new(alloc);
     for id in listed.as_slice() {
-        let goes = goes_on(lazy, pool, *id, position)?;
+        let goes = goes_on(lazy, *id, position);
         add(&mut ids, goes.then_some(*id))?;
     }
     Ok(ids)
 }
 
 // Whether a formula is kept as of the position or a later one, or has a standing there.
-fn goes_on(lazy: &Lazy, pool: &mut Pool, id: u64, position: u64) -> Result<bool, AllocError>
-    ensures { IfOk result (λ answer. answer ≡ goes_on lazy.now position id) }
+fn goes_on(lazy: &Lazy, id: u64, position: u64) -> bool
+    ensures { result ≡ goes_on lazy.now position id }
 {
-    if is_from(lazy, id, position) {
-        return Ok(true);
-    }
-    let standing = lazy.tree_at(pool, id, position)?;
-    Ok(standing.is_some())
+    is_from(lazy, id, position) || lazy.stands_at(id, position)
 }
 
 // Whether a formula is kept as of the position or a later one.

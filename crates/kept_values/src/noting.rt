@@ -19,11 +19,21 @@ use std::alloc::{AllocError, Global};
 
 /// The nodes whose formulas were found to ask where a reference is, those whose formulas were found to have a lost reference, and
 /// those whose formulas were found to use a word that finds no name, under each such word.
-#[derive(Drop)]
 pub(crate) struct Noted {
     pub(crate) asking: IndexSet<Node>,
     pub(crate) losing: IndexSet<Node>,
     pub(crate) seeking: Sought,
+}
+
+// Written out, so that whoever drops them calls one function.
+impl Drop for Noted {
+    fn drop(self) {
+        let Noted {
+            asking: _asking,
+            losing: _losing,
+            seeking: _seeking,
+        } = self;
+    }
 }
 
 impl Noted {

@@ -14,13 +14,25 @@ use std::alloc::{AllocError, Global};
 /// What is kept of the values of a workbook: the links of its formulas, which of these ask where a reference is, which have lost one
 /// and which use a word that finds no name, by that word, the values of its cells and names, the marks of what was touched since
 /// they were worked out, and which of these were marked since they were last linked.
-#[derive(Drop)]
 pub struct Values {
     pub(crate) alloc: Global,
     pub(crate) graph: Graph,
     pub(crate) noted: Noted,
     pub(crate) unlinked: IndexSet<Node>,
     pub(crate) recalc: Recalc,
+}
+
+// Written out, so that whoever drops them calls one function.
+impl Drop for Values {
+    fn drop(self) {
+        let Values {
+            alloc: _,
+            graph: _graph,
+            noted: _noted,
+            unlinked: _unlinked,
+            recalc: _recalc,
+        } = self;
+    }
 }
 
 impl Values {

@@ -22,10 +22,16 @@ pub(crate) enum Change {
 }
 
 /// A store of formulas under ids below [`IDS`].
-#[derive(Drop)]
 pub(crate) struct Guarded {
     store: Lazy,
     ghost ids: { (id : ℕ) → IDS ≤ id → live_in store id ≡ None },
+}
+
+// Written out, so that whoever drops one calls one function.
+impl Drop for Guarded {
+    fn drop(self) {
+        let Guarded { store: _store } = self;
+    }
 }
 
 impl Guarded {

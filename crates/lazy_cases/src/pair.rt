@@ -11,12 +11,23 @@ use shift_core::Shift;
 use std::alloc::{AllocError, Global};
 
 /// A store and the plain machine, which share a pool.
-#[derive(Drop)]
 pub(crate) struct Pair {
     alloc: Global,
     pool: Pool,
     store: Guarded,
     plain: Plain,
+}
+
+// Written out, so that whoever drops one calls one function.
+impl Drop for Pair {
+    fn drop(self) {
+        let Pair {
+            alloc: _,
+            pool: _pool,
+            store: _store,
+            plain: _plain,
+        } = self;
+    }
 }
 
 impl Pair {

@@ -138,11 +138,21 @@ pub(crate) const REMOVED_AND_BACK: [Step; 11] = [
 ];
 
 /// A store, and the pool of its trees.
-#[derive(Drop)]
 struct Scene {
     alloc: Global,
     pool: Pool,
     store: Guarded,
+}
+
+// Written out, so that whoever drops one calls one function.
+impl Drop for Scene {
+    fn drop(self) {
+        let Scene {
+            alloc: _,
+            pool: _pool,
+            store: _store,
+        } = self;
+    }
 }
 
 impl Scene {

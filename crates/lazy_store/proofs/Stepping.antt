@@ -1,5 +1,5 @@
 -- What a holder's steps are made of. Serves the bodies that take a holder over one operation.
-use Rattle.std.proofs.Common.{◌≡◌, ◌≢◌, ◌∙◌, sym, ap, refl, subst, arith, ℕ, ◌+◌, ◌-◌, ◌<◌, ◌≤◌, ⊎_elim, cond, is_some, false, List, [], ◌∷◌, ◌++◌, append_assoc, append-nil, Option, Some, None, option_map, option_and_then}
+use Rattle.std.proofs.Common.{◌≡◌, ◌≢◌, ◌∙◌, sym, ap, refl, subst, arith, ℕ, ◌+◌, ◌-◌, ◌<◌, ◌≤◌, nat_le, ⊎_elim, cond, is_some, false, List, [], ◌∷◌, ◌++◌, append_assoc, append-nil, Option, Some, None, option_map, option_and_then}
 use Rattle.std.proofs.lemmas.Option.{none-some}
 use Rattle.std.proofs.lemmas.Bool.{cases_lt}
 use Rattle.std.proofs.lemmas.Bool.Decides.{nat_tests}
@@ -24,11 +24,11 @@ use Rattle.shift_line.specs.Track.{Track, shift_at}
 use Rattle.tree_rewrite.specs.Pooled.{HoldsChanged}
 use Rattle.tree_rewrite.specs.Rewritten.{ComesBack, Loses, home_after, home_before, returned, rewritten}
 use Rattle.lazy_store.specs.Holders.{IsFront, kept_of}
-use Rattle.lazy_store.specs.Kept.{IsCoherent, Kept, at, lowest, over, standing, standing_at}
+use Rattle.lazy_store.specs.Kept.{IsCoherent, IsSoundLine, Kept, at, history, lowest, over, standing, standing_at}
 use Rattle.lazy_store.specs.Standing.{IsSavedOver, Standing, after, before, returned_at, rewritten_at}
 use Rattle.lazy_store.specs.declared.holder.Holder.{Holder}
 use Rattle.lazy_store.specs.internal.Steps.{GoesBack, GoesOn, Saves, Takes}
-use Rattle.lazy_store.proofs.Histories.{at-below, at-next, at_tree}
+use Rattle.lazy_store.proofs.Histories.{at-below, at-is, at-next, at_tree}
 use Rattle.lazy_store.proofs.Reaching.{at-has}
 
 -- ---- what a pool held stays at its front
@@ -130,6 +130,13 @@ none-past line h k to from past none = by (at line h to) refl
     by : (o : Option Standing) → at line h to ≡ o → at line h to ≡ None
     by None e = e
     by (Some y) e = absurd (at-has line h k to from past (λ gone. none-some y (sym gone ∙ e)) none)
+
+-- in front of its own position a formula stands from its lowest one on
+pub stands-earlier : (line : Track) (h : Kept) (k : ℕ) → IsSoundLine line → IsCoherent line h → k < h.position → nat_le (lowest line h) k ≡ is_some (at line h k)
+stands-earlier line h k sound coherent down = ⊎_elim
+    (λ (below : k < lowest line h). grind (arith, nat_tests, below) ∙ sym (ap is_some (at-below line h k down below)))
+    (λ (from : lowest line h ≤ k). grind (arith, nat_tests, from) ∙ sym (ap is_some (at-is line sound (lowest line h) h.position (history line h) h coherent.along refl k from (omega (arith, down)))))
+    (cases_lt k (lowest line h))
 
 -- there is none where the line has no operation
 pub ends-there : (line : Track) (k : ℕ) (x : Standing) → shift_at line k ≡ None → over line k x ≡ None

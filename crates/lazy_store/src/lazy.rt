@@ -1,5 +1,5 @@
 // The line with its formulas.
-ghost use Rattle.std.specs.Prelude.{◌≡◌, ◌≢◌, [], ℕ, ◌+◌, ◌<◌, ◌≤◌, true, false, None, Some, IfOk, IfSome, OnOk, OnErr, IsOk, if◌then◌else◌, nat_eq, option_map, option_and_then};
+ghost use Rattle.std.specs.Prelude.{◌≡◌, ◌≢◌, [], ℕ, ◌+◌, ◌<◌, ◌≤◌, true, false, None, Some, IfOk, IfSome, OnOk, OnErr, IsOk, if◌then◌else◌, is_some, nat_eq, option_map, option_and_then};
 ghost use Rattle.std.specs.HashSet.{contains};
 ghost use Rattle.formula_tree.specs.Pooled.{held};
 ghost use Rattle.formula_tree.specs.Reference.{IsHomeInside};
@@ -27,7 +27,6 @@ use shift_line::Line;
 use std::alloc::{AllocError, Global};
 
 /// A line of structural operations and formulas along it, each under an id.
-#[derive(Drop)]
 pub struct Lazy {
     alloc: Global,
     line: Line,
@@ -39,6 +38,18 @@ pub struct Lazy {
     // Each formula goes along the line with its standings, and what operations lost of it is saved.
     pub ghost coherent: { AreCoherent line holders } by { are_coherent-prop line holders },
     ghost noted: { AreNoted recent holders },
+}
+
+// Written out, so that whoever drops one calls one function.
+impl Drop for Lazy {
+    fn drop(self) {
+        let Lazy {
+            alloc: _,
+            line: _line,
+            holders: _holders,
+            recent: _recent,
+        } = self;
+    }
 }
 
 impl Lazy {
@@ -166,6 +177,18 @@ impl Lazy {
         match self.holders.get(&id) {
             Some(holder) => holder.found_at(self.alloc, pool, &self.line, position),
             None => Ok(None),
+        }
+    }
+
+    /// Whether a formula, live or removed, has a standing at any position. No formula is touched, and no memory is taken. Costs the
+    /// operations from the position as of which the formula is kept up to this one, each by the formula's home alone; nothing
+    /// where this one lies before.
+    pub fn stands_at(&self, id: u64, position: u64) -> bool
+        ensures { result ≡ is_some (at_in self.now id position) }
+    {
+        match self.holders.get(&id) {
+            Some(holder) => holder.stands_at(&self.line, position),
+            None => false,
         }
     }
 

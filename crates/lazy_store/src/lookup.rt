@@ -1,5 +1,5 @@
 // A formula looked up at a position of the line, without being taken there.
-ghost use Rattle.std.specs.Prelude.{◌≡◌, ◌≢◌, ◌+◌, ◌≤◌, ◌<◌, None, Some, IfOk, option_map};
+ghost use Rattle.std.specs.Prelude.{◌≡◌, ◌≢◌, ◌+◌, ◌≤◌, ◌<◌, None, Some, IfOk, is_some, option_map};
 ghost use Rattle.formula_tree.specs.Pooled.{held};
 ghost use Rattle.formula_tree.specs.Relative.{relative};
 ghost use Rattle.lazy_store.specs.Holders.{IsFront, kept_of};
@@ -40,7 +40,41 @@ impl Holder {
         Ok(Some(found))
     }
 
-    // The same at a position from the formula's own on.
+    // Whether the formula has a standing at the position.
+    pub(crate) fn stands_at(&self, line: &Line, position: u64) -> bool
+        requires sound { IsSoundLine line.now }
+        requires coherent { IsCoherent line.now (kept_of self.now) }
+        ensures { result ≡ is_some (at line.now (kept_of self.now) position) }
+    {
+        if position < self.position {
+            return line.first().max(self.birth) <= position;
+        }
+        self.stands_later(line, position)
+    }
+
+    // The same of a position from the formula's own on: its home alone is taken there.
+    fn stands_later(&self, line: &Line, position: u64) -> bool
+        requires sound { IsSoundLine line.now }
+        requires from { self.now.position ≤ position }
+        ensures { result ≡ is_some (at line.now (kept_of self.now) position) }
+    {
+        let mut home = self.home;
+        let mut here = self.position;
+        'later: while here < position {
+            let run = line.run_from(here, position);
+            if run.is_empty() {
+                return false;
+            }
+            let Some(next) = home_over(run, home) else {
+                return false;
+            };
+            home = next;
+            here += run.len() as u64;
+        }
+        true
+    }
+
+    // Home and tree at a position from the formula's own on.
     fn found_later(
         &self,
         alloc: Global,

@@ -16,7 +16,6 @@ use std::collections::BTreeMap;
 
 /// The sheets of a workbook by number and name, in order; words by their numbers; and holders of named expressions by
 /// scope and word.
-#[derive(Drop)]
 pub struct Names {
     pub(crate) alloc: Global,
     pub(crate) sheets: IndexMap<u32, Text>,
@@ -25,6 +24,18 @@ pub struct Names {
     ghost proper: { AreSheets sheets.entries },
     // The word of each named expression is known.
     pub ghost known: { (k : NameKey) → IsSome (tree.get key_cmp holders k) → k.word < length (map text_of words.spellings.keys) },
+}
+
+// Written out, so that whoever drops one calls one function.
+impl Drop for Names {
+    fn drop(self) {
+        let Names {
+            alloc: _,
+            sheets: _sheets,
+            words: _words,
+            holders: _holders,
+        } = self;
+    }
 }
 
 impl Names {

@@ -17,7 +17,6 @@ use std::alloc::{AllocError, Global};
 ///
 /// The lines of a sheet have numbers below 2 to the 63rd; the position p past a sheet's end, where no line is, counts
 /// as a line with the number 2 to the 63rd and p.
-#[derive(Drop)]
 pub struct PlaceLines {
     pub(crate) rows: SheetLines,
     pub(crate) cols: SheetLines,
@@ -25,6 +24,16 @@ pub struct PlaceLines {
     pub ghost col_limit: { cols.plain.limit ≡ limit_of Cols },
     pub ghost low_rows: { (sheet position line : ℕ) → line_at (table_of rows sheet) position ≡ Some line → line < PAST },
     pub ghost low_cols: { (sheet position line : ℕ) → line_at (table_of cols sheet) position ≡ Some line → line < PAST },
+}
+
+// Written out, so that whoever drops one calls one function.
+impl Drop for PlaceLines {
+    fn drop(self) {
+        let PlaceLines {
+            rows: _rows,
+            cols: _cols,
+        } = self;
+    }
 }
 
 impl PlaceLines {

@@ -15,13 +15,23 @@ use std::ops::Range;
 use touch_index::TouchIndex;
 
 // Blocks filed under their numbers. What is filed is never taken out.
-#[derive(Drop)]
 pub(crate) struct Files {
     alloc: Global,
     // By this operations find them.
     pub(crate) touches: TouchIndex,
     // By this cells find the blocks that hold them.
     pub(crate) cells: BlockIndex,
+}
+
+// Written out, so that whoever drops one calls one function.
+impl Drop for Files {
+    fn drop(self) {
+        let Files {
+            alloc: _,
+            touches: _touches,
+            cells: _cells,
+        } = self;
+    }
 }
 
 impl Files {

@@ -18,7 +18,6 @@ use cell_value::Summary;
 use std::alloc::{AllocError, Global};
 
 // Kept summaries of blocks.
-#[derive(Drop)]
 pub(crate) struct Kept {
     pub(crate) alloc: Global,
     // The blocks under numbers, with their summaries.
@@ -30,6 +29,18 @@ pub(crate) struct Kept {
     pub ghost stands: { AllStand table },
     pub ghost found: { AreFound table files },
     pub ghost bounded: { AreBounded table },
+}
+
+// Written out, so that whoever drops one calls one function.
+impl Drop for Kept {
+    fn drop(self) {
+        let Kept {
+            alloc: _,
+            table: _table,
+            files: _files,
+            left_behind: _,
+        } = self;
+    }
 }
 
 impl Kept {

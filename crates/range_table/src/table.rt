@@ -11,7 +11,6 @@ use std::alloc::{AllocError, Global};
 
 // The blocks that were kept at some time, under numbers from 0 on, by the numbers of their lines. So what an operation only
 // carries along stands as it stood.
-#[derive(Drop)]
 pub(crate) struct Table {
     // Where the lines stand.
     pub(crate) lines: PlaceLines,
@@ -21,6 +20,17 @@ pub(crate) struct Table {
     pub(crate) states: Vec<State>,
     pub ghost counts: { length states.items ≡ length keys.keys },
     pub ghost once: { AreOnce keys.keys },
+}
+
+// Written out, so that whoever drops one calls one function.
+impl Drop for Table {
+    fn drop(self) {
+        let Table {
+            lines: _lines,
+            keys: _keys,
+            states: _states,
+        } = self;
+    }
 }
 
 impl Table {

@@ -18,7 +18,6 @@ use std::alloc::{AllocError, Global};
 use std::collections::HashMap;
 
 // A finite map from nodes to values.
-#[derive(Drop)]
 pub(crate) struct KeptValues {
     // Those of places within the limits of a sheet.
     pub(crate) cells: Grid<Scalar>,
@@ -26,6 +25,17 @@ pub(crate) struct KeptValues {
     pub(crate) beyond: HashMap<Node, Scalar>,
     // Those of names.
     pub(crate) names: HashMap<Node, Scalar>,
+}
+
+// Written out, so that whoever drops one calls one function.
+impl Drop for KeptValues {
+    fn drop(self) {
+        let KeptValues {
+            cells: _cells,
+            beyond: _beyond,
+            names: _names,
+        } = self;
+    }
 }
 
 impl KeptValues {

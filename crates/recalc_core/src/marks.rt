@@ -10,7 +10,6 @@ use std::alloc::{AllocError, Global};
 use std::collections::HashSet;
 
 // Marked nodes, each once, in the order in which they were marked.
-#[derive(Drop)]
 pub(crate) struct Marks {
     pub(crate) list: Nodes,
     set: HashSet<Node>,
@@ -18,6 +17,16 @@ pub(crate) struct Marks {
     // The set has what the list has.
     pub ghost same: { (a : Node) → hash.contains same_node set a ≡ has a (items_of list) },
     pub ghost once: { IsOnce (items_of list) },
+}
+
+// Written out, so that whoever drops one calls one function.
+impl Drop for Marks {
+    fn drop(self) {
+        let Marks {
+            list: _list,
+            set: _set,
+        } = self;
+    }
 }
 
 impl Marks {

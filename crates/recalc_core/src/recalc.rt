@@ -20,7 +20,6 @@ use std::alloc::{AllocError, Global};
 ///
 /// It stands for a finite map from nodes to values, for the list of marks, each of which stands once, and for the number of
 /// cells that were merged for summaries.
-#[derive(Drop)]
 pub struct Recalc {
     pub(crate) alloc: Global,
     pub(crate) kept: KeptValues,
@@ -29,6 +28,18 @@ pub struct Recalc {
 
     // Each summary is that of its block's cells.
     pub ghost right: { AreFolds (shown_at (kept_by kept)) (table_of ranges).kept },
+}
+
+// Written out, so that whoever drops one calls one function.
+impl Drop for Recalc {
+    fn drop(self) {
+        let Recalc {
+            alloc: _,
+            kept: _kept,
+            marks: _marks,
+            ranges: _ranges,
+        } = self;
+    }
 }
 
 impl Recalc {

@@ -80,7 +80,7 @@ fn said<T>(number: u8, value: Option<T>) -> Result<T, ScriptError>
 }
 
 // The first cell, on no sheet.
-fn no_spot() -> Spot
+pub(crate) fn no_spot() -> Spot
     ensures { result ≡ no_spot }
 {
     Spot {

@@ -5,12 +5,14 @@ ghost use Rattle.script_lang.specs.Arguments.{no_arguments, read_from};
 ghost use Rattle.script_lang.specs.Command.{Says, command_of, command_with, word_in};
 ghost use Rattle.script_lang.specs.internal.Reading.{field};
 
-use crate::arguments::Arguments;
+use crate::arguments::{Arguments, no_spot};
 use crate::error::ScriptError;
 use crate::word::{FieldKind, MAX_FIELDS, Word};
 use book_model::Command;
+use cell_addr::{Spot, Text};
 use csv::ByteRecord;
 use std::alloc::Global;
+use std::mem;
 
 /// The command that a record says. The first field is its word, and the fields behind it are its arguments.
 ///
@@ -28,8 +30,8 @@ pub fn command(alloc: Global, fields: &ByteRecord) -> Result<Command, ScriptErro
     if fields.len() != kinds.len() + 1 {
         return Err(ScriptError::FieldCount);
     }
-    let arguments = read_arguments(alloc, kinds, fields)?;
-    Ok(command_with(word, arguments))
+    let mut arguments = read_arguments(alloc, kinds, fields)?;
+    Ok(command_with(alloc, word, &mut arguments))
 }
 
 // The word that the first field spells.
@@ -68,9 +70,9 @@ fn field(fields: &ByteRecord, number: u8) -> &[u8]
     }
 }
 
-// The command of a word and its arguments.
-fn command_with(word: Word, arguments: Arguments) -> Command
-    ensures { result ≡ command_with word arguments }
+// The command of a word and its arguments, which are taken out of their slots.
+fn command_with(alloc: Global, word: Word, arguments: &mut Arguments) -> Command
+    ensures { result ≡ command_with word arguments.old }
 {
     let Arguments {
         place,
@@ -83,37 +85,55 @@ fn command_with(word: Word, arguments: Arguments) -> Command
         text,
     } = arguments;
     match word {
-        Word::Set => Command::Set(place, text),
-        Word::Clear => Command::Clear(block),
-        Word::InsertRows => Command::InsertRows(sheet, line, count),
-        Word::DeleteRows => Command::DeleteRows(sheet, line, count),
-        Word::InsertCols => Command::InsertCols(sheet, line, count),
-        Word::DeleteCols => Command::DeleteCols(sheet, line, count),
-        Word::MoveRows => Command::MoveRows(sheet, line, count, before),
-        Word::MoveCols => Command::MoveCols(sheet, line, count, before),
-        Word::AddSheet => Command::AddSheet(name),
-        Word::DropSheet => Command::DropSheet(sheet),
-        Word::RenameSheet => Command::RenameSheet(sheet, name),
-        Word::ClearSheet => Command::ClearSheet(sheet),
-        Word::AddName => Command::AddName(name, sheet, text),
-        Word::ChangeName => Command::ChangeName(name, sheet, text),
-        Word::RemoveName => Command::RemoveName(name, sheet),
-        Word::Copy => Command::Copy(block),
-        Word::Cut => Command::Cut(block),
-        Word::Paste => Command::Paste(place),
-        Word::MoveBlock => Command::MoveBlock(block, place),
+        Word::Set => Command::Set(take_spot(place), take(alloc, text)),
+        Word::Clear => Command::Clear(take_spot(block)),
+        Word::InsertRows => Command::InsertRows(take(alloc, sheet), *line, *count),
+        Word::DeleteRows => Command::DeleteRows(take(alloc, sheet), *line, *count),
+        Word::InsertCols => Command::InsertCols(take(alloc, sheet), *line, *count),
+        Word::DeleteCols => Command::DeleteCols(take(alloc, sheet), *line, *count),
+        Word::MoveRows => Command::MoveRows(take(alloc, sheet), *line, *count, *before),
+        Word::MoveCols => Command::MoveCols(take(alloc, sheet), *line, *count, *before),
+        Word::AddSheet => Command::AddSheet(take(alloc, name)),
+        Word::DropSheet => Command::DropSheet(take(alloc, sheet)),
+        Word::RenameSheet => Command::RenameSheet(take(alloc, sheet), take(alloc, name)),
+        Word::ClearSheet => Command::ClearSheet(take(alloc, sheet)),
+        Word::AddName => Command::AddName(take(alloc, name), take(alloc, sheet), take(alloc, text)),
+        Word::ChangeName => Command::ChangeName(
+            take(alloc, name),
+            take(alloc, sheet),
+            take(alloc, text),
+        ),
+        Word::RemoveName => Command::RemoveName(take(alloc, name), take(alloc, sheet)),
+        Word::Copy => Command::Copy(take_spot(block)),
+        Word::Cut => Command::Cut(take_spot(block)),
+        Word::Paste => Command::Paste(take_spot(place)),
+        Word::MoveBlock => Command::MoveBlock(take_spot(block), take_spot(place)),
         Word::Begin => Command::Begin,
         Word::Commit => Command::Commit,
         Word::Suspend => Command::Suspend,
         Word::Resume => Command::Resume,
         Word::Undo => Command::Undo,
         Word::Redo => Command::Redo,
-        Word::Value => Command::Value(place),
-        Word::Formula => Command::Formula(place),
-        Word::Content => Command::Content(place),
-        Word::Precedents => Command::Precedents(place),
-        Word::Dependents => Command::Dependents(place),
-        Word::NameValue => Command::NameValue(name, sheet),
-        Word::Try => Command::Try(sheet, text),
+        Word::Value => Command::Value(take_spot(place)),
+        Word::Formula => Command::Formula(take_spot(place)),
+        Word::Content => Command::Content(take_spot(place)),
+        Word::Precedents => Command::Precedents(take_spot(place)),
+        Word::Dependents => Command::Dependents(take_spot(place)),
+        Word::NameValue => Command::NameValue(take(alloc, name), take(alloc, sheet)),
+        Word::Try => Command::Try(take(alloc, sheet), take(alloc, text)),
     }
+}
+
+// Takes an address out of its slot.
+fn take_spot(slot: &mut Spot) -> Spot
+    ensures { result ≡ slot.old }
+{
+    mem::replace(slot, no_spot())
+}
+
+// Takes a text out of its slot.
+fn take(alloc: Global, slot: &mut Text) -> Text
+    ensures { result ≡ slot.old }
+{
+    mem::replace(slot, Text::new(String::new(alloc)))
 }

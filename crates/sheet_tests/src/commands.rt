@@ -22,24 +22,19 @@ const CAUSES: &[Cause] = &[
 
 // Whether the fields say no command for this cause.
 fn is_cause(alloc: Global, fields: &[&[u8]], cause: &ScriptError) -> Result<bool, AllocError> {
-    match said(alloc, fields) {
-        Ok(_) => Ok(false),
-        Err(ScriptError::NoMemory) => Err(AllocError),
-        Err(found) => Ok(found == *cause),
+    match said(alloc, fields).err() {
+        None => Ok(false),
+        Some(ScriptError::NoMemory) => Err(AllocError),
+        Some(found) => Ok(found == *cause),
     }
 }
 
-// Whether the command takes the last step back.
-fn is_undo(command: &Command) -> bool {
-    matches!(command, Command::Undo)
-}
-
-// Whether the field `undo` alone says that command.
+// Whether the field `undo` alone says the command that takes the last step back.
 fn says_undo(alloc: Global) -> bool {
-    match said(alloc, &[b"undo"]) {
-        Ok(command) => is_undo(&command),
-        Err(_) => false,
-    }
+    let found = said(alloc, &[b"undo"]);
+    let is_undo = matches!(&found, Ok(Command::Undo));
+    drop(found);
+    is_undo
 }
 
 #[test]

@@ -158,7 +158,7 @@ cases_by_span sheet axis F b after h =
 by_span_on : (sheet : ℕ) (axis : Axis) (F : Span → Option Span) (b : Block) (t : Span) → b.sheet ≡ sheet → F (span_of axis b) ≡ Some t → by_span sheet axis F b ≡ Some (with_span axis t b)
 by_span_on sheet axis F b t e h = cond-true (eqb b.sheet sheet) _ _ (eq-eqb b.sheet sheet e) ∙ ap (option_map (λ span. with_span axis span b)) h
 
-by_span_off : (sheet : ℕ) (axis : Axis) (F : Span → Option Span) (b : Block) → b.sheet ≢ sheet → by_span sheet axis F b ≡ Some b
+pub by_span_off : (sheet : ℕ) (axis : Axis) (F : Span → Option Span) (b : Block) → b.sheet ≢ sheet → by_span sheet axis F b ≡ Some b
 by_span_off sheet axis F b n = cond-false (eqb b.sheet sheet) _ _ (ne_eqb b.sheet sheet n)
 
 by_span_lost : (sheet : ℕ) (axis : Axis) (F : Span → Option Span) (b : Block) → b.sheet ≡ sheet → F (span_of axis b) ≡ None → by_span sheet axis F b ≡ None

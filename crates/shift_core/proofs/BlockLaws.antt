@@ -50,11 +50,11 @@ returned_block_inside source to b d i h =
     (omega arith, omega arith, omega arith, omega arith)
 
 -- the first where `a`, else the second
-cases_else : (a : Bool) (x b after : Block) → cond a (Some x) (Some b) ≡ Some after → ((a ≡ true) × (after ≡ x)) ⊎ ((a ≡ false) × (after ≡ b))
+pub cases_else : (a : Bool) (x b after : Block) → cond a (Some x) (Some b) ≡ Some after → ((a ≡ true) × (after ≡ x)) ⊎ ((a ≡ false) × (after ≡ b))
 cases_else true x b after h = inl (refl, cc)
 cases_else false x b after h = inr (refl, cc)
 
-kept_block : (sheet : ℕ) (b after : Block) → block_moved (Sheet sheet) b ≡ Some after → (b.sheet ≢ sheet) × (after ≡ b)
+pub kept_block : (sheet : ℕ) (b after : Block) → block_moved (Sheet sheet) b ≡ Some after → (b.sheet ≢ sheet) × (after ≡ b)
 kept_block sheet b after h = grind (arith, nat_tests)
 
 kept_place : (sheet : ℕ) (p : Place) → p.sheet ≢ sheet → place_moved (Sheet sheet) p ≡ Some p

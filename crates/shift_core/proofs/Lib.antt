@@ -6,5 +6,6 @@ pub mod PlaceLaws
 pub mod BlockLaws
 pub mod UnbentBlocks
 pub mod Opposites
+pub mod WholeMoves
 pub mod CarriedEntries
 pub mod MovedMaps

@@ -69,7 +69,7 @@ same_ends : (b c : Block) → b.sheet ≡ c.sheet → b.top ≡ c.top → b.left
 same_ends b c sheets tops lefts bottoms rights = λ i. record { sheet = sheets i; top = tops i; left = lefts i; bottom = bottoms i; right = rights i }
 
 -- a block that is moved back is where it was
-comes_home : (source : Block) (to : Place) → IsBlockInside source → destination (destination source to) (first_place source) ≡ source
+pub comes_home : (source : Block) (to : Place) → IsBlockInside source → destination (destination source to) (first_place source) ≡ source
 comes_home source to i = same_ends _ source refl (omega arith) (omega arith) (omega arith) (omega arith)
 
 cells_back_sound : (source : Block) (to : Place) → IsSoundForm (Cells source to) → IsSoundForm (Cells (destination source to) (first_place source))

@@ -55,7 +55,7 @@ unbent_keeps (Cells source to) b after p sound none i still whole h c = absurd n
 unbent_keeps (Sheet sheet) b after p sound none i still whole h c = dropped_offset sheet b after p h c
 
 -- a block that a move of cells carries along is carried back, and another stays
-same_block : (b c : Block) → b.sheet ≡ c.sheet → b.top ≡ c.top → b.left ≡ c.left → b.bottom ≡ c.bottom → b.right ≡ c.right → b ≡ c
+pub same_block : (b c : Block) → b.sheet ≡ c.sheet → b.top ≡ c.top → b.left ≡ c.left → b.bottom ≡ c.bottom → b.right ≡ c.right → b ≡ c
 same_block b c sheets tops lefts bottoms rights = λ i. record { sheet = sheets i; top = tops i; left = lefts i; bottom = bottoms i; right = rights i }
 
 both : (a b : Bool) → a ≡ true → b ≡ true → (a && b) ≡ true

@@ -1,9 +1,9 @@
 -- The three forms of structural operations: an edit of the lines of a sheet along one axis, a move of cells, and
 -- a dropped sheet. A line is a row or a column, counted from 0. Source: this project's own.
 use Rattle.std.specs.Prelude.{ℕ, ◌+◌, ◌-◌, ◌≤◌, nat_lt, if◌then◌else◌}
-use Rattle.cell_addr.specs.declared.axis.Axis.{Axis}
 use Rattle.cell_addr.specs.declared.axis.Axis.TheVariants.{Rows, Cols}
 use Rattle.cell_addr.specs.declared.axis.Span.{Span}
+pub use Rattle.cell_addr.specs.Axis.{across}
 use Rattle.shift_core.specs.declared.edit.Edit.{Edit}
 use Rattle.shift_core.specs.declared.edit.Edit.TheVariants.{Insert, Delete, Move}
 use Rattle.shift_core.specs.declared.form.Form.{Form}
@@ -29,11 +29,6 @@ opposite (Delete start count) = Insert start count
 opposite (Move start count before) =
     if nat_lt (start + count) before then Move (before - count) count start
     else Move before count (start + count)
-
--- the other axis
-abbrev pub across : Axis → Axis
-across Rows = Cols
-across Cols = Rows
 
 -- the line is from the first to the last, both included
 abbrev pub IsWithin : Span → ℕ → Type 0

@@ -1,11 +1,13 @@
--- What the tables of moved places and blocks have in common, in words of the places alone.
+-- What the tables of moved places, blocks and whole ranges have in common, in words of the places alone.
 use Rattle.std.specs.Prelude.{◌≡◌, ◌↔◌, ℕ, ◌+◌, ◌-◌, ◌<◌, ◌≤◌, ◌⊎◌, ⊤, ◌&&◌, if◌then◌else◌, Some, None, option_map}
 use Rattle.cell_addr.specs.declared.axis.Axis.{Axis}
 use Rattle.cell_addr.specs.declared.axis.Span.{Span}
 use Rattle.cell_addr.specs.declared.place.Place.{Place}
 use Rattle.cell_addr.specs.declared.place.Block.{Block}
+use Rattle.cell_addr.specs.declared.whole.Whole.{Whole}
 use Rattle.cell_addr.specs.Axis.{limit_of, line_of, span_of}
 use Rattle.cell_addr.specs.Place.{IsInside, IsBlockInside, Covers}
+use Rattle.cell_addr.specs.Whole.{IsWholeInside, whole_block}
 use Rattle.shift_core.specs.declared.edit.Edit.{Edit}
 use Rattle.shift_core.specs.declared.edit.Edit.TheVariants.{Insert, Move}
 use Rattle.shift_core.specs.declared.form.Form.{Form}
@@ -18,6 +20,7 @@ use Rattle.shift_core.specs.Lines.{IsSoundEdit, is_among, line_after_move}
 use Rattle.shift_core.specs.Opposite.{opposite_of}
 use Rattle.shift_core.specs.Sound.{IsSound}
 use Rattle.shift_core.specs.Tables.{place_after, block_after, place_before, block_before, place_moved, place_returned, by_span}
+use Rattle.shift_core.specs.Wholes.{whole_after, whole_before, IsAcross, IsWholeBent}
 
 -- a place that isn't lost comes back to where it was
 abbrev pub PlacesComeBack : Type 0
@@ -164,3 +167,35 @@ abbrev pub UnbentBlocksGoByOpposites : Type 0
 UnbentBlocksGoByOpposites =
     (s back : Shift) (b after : Block) → IsSound s → opposite_of s ≡ Some back → IsBlockInside b → ¬ IsBent s b → ¬ IsCut s b →
     block_after s b ≡ Some after → (block_after back after ≡ Some b) × (¬ IsBent back after) × (¬ IsCut back after)
+
+-- whole ranges of the sheet move to whole ranges of the sheet, and came from whole ranges of the sheet
+abbrev pub WholesStayInside : Type 0
+WholesStayInside =
+    (s : Shift) (w v : Whole) → IsSound s → IsWholeInside w → ((whole_after s w ≡ Some v → IsWholeInside v) × (whole_before s w ≡ Some v → IsWholeInside v))
+
+-- unless lines across it are edited on its sheet, a whole range goes, and came from, where its block does
+abbrev pub WholesMoveAsBlocks : Type 0
+WholesMoveAsBlocks =
+    (s : Shift) (w : Whole) → IsSound s → ¬ IsAcross s w →
+    (block_after s (whole_block w) ≡ option_map whole_block (whole_after s w)) × (block_before s (whole_block w) ≡ option_map whole_block (whole_before s w))
+
+-- a lost whole range is bent
+abbrev pub LostWholesAreBent : Type 0
+LostWholesAreBent = (s : Shift) (w : Whole) → whole_after s w ≡ None → IsWholeBent s w
+
+-- unless the operation is a move of cells, the places of a whole range that isn't bent keep their offsets in it
+abbrev pub UnbentWholesKeepOffsets : Type 0
+UnbentWholesKeepOffsets =
+    (s : Shift) (w after : Whole) (p : Place) → IsSound s → MovesNoBlock s → IsWholeInside w → ¬ IsWholeBent s w →
+    whole_after s w ≡ Some after → Covers (whole_block w) p → place_after s p ≡ Some (carried_place (whole_block w) (first_place (whole_block after)) p)
+
+-- a whole range that isn't bent comes back to where it was
+abbrev pub UnbentWholesComeBack : Type 0
+UnbentWholesComeBack =
+    (s : Shift) (w after : Whole) → IsSound s → IsWholeInside w → ¬ IsWholeBent s w → whole_after s w ≡ Some after → whole_before s after ≡ Some w
+
+-- by the opposite operation it goes to where it was, and isn't bent
+abbrev pub UnbentWholesGoByOpposites : Type 0
+UnbentWholesGoByOpposites =
+    (s back : Shift) (w after : Whole) → IsSound s → opposite_of s ≡ Some back → IsWholeInside w → ¬ IsWholeBent s w →
+    whole_after s w ≡ Some after → (whole_after back after ≡ Some w) × (¬ IsWholeBent back after)

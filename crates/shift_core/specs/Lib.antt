@@ -6,6 +6,7 @@ pub mod Sound
 pub mod Tables
 pub mod Maps
 pub mod Bent
+pub mod Wholes
 pub mod Opposite
 pub mod Laws
 pub mod internal

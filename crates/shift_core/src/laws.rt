@@ -1,5 +1,5 @@
-// What the tables of moved places and blocks have in common, as laws over every operation.
-ghost use Rattle.shift_core.specs.Laws.{PlacesComeBack, PlacesGoForth, NoTwoMeet, PlacesStayInside, BlocksStayInside, BlocksCoverWhatMoves, BlocksAreLostWithTheirPlaces, MovedBlocksEndAtTheirLines, OneCellsMoveAlike, OppositesAreSound, OppositesGoBack, PlacesGoByOpposites, UnbentBlocksComeBack, UnbentBlocksGoByOpposites, UnbentBlocksKeepOffsets};
+// What the tables of moved places, blocks and whole ranges have in common, as laws over every operation.
+ghost use Rattle.shift_core.specs.Laws.{PlacesComeBack, PlacesGoForth, NoTwoMeet, PlacesStayInside, BlocksStayInside, BlocksCoverWhatMoves, BlocksAreLostWithTheirPlaces, MovedBlocksEndAtTheirLines, OneCellsMoveAlike, OppositesAreSound, OppositesGoBack, PlacesGoByOpposites, UnbentBlocksComeBack, UnbentBlocksGoByOpposites, UnbentBlocksKeepOffsets, WholesStayInside, WholesMoveAsBlocks, LostWholesAreBent, UnbentWholesKeepOffsets, UnbentWholesComeBack, UnbentWholesGoByOpposites};
 ghost use Rattle.shift_core.specs.Maps.{MovedEntriesAreFound, MovedEntriesStayInside, LostEntriesRestore};
 
 /// A place of the sheet that isn't lost comes back to where it was.
@@ -78,6 +78,36 @@ pub fn places_go_by_opposites()
 /// By the opposite of a sound operation, a block that was neither bent nor cut goes to where it was, neither bent nor cut.
 pub fn unbent_blocks_go_by_opposites()
     ensures { UnbentBlocksGoByOpposites }
+{}
+
+/// Whole ranges of the sheet move to whole ranges of the sheet, and came from whole ranges of the sheet.
+pub fn wholes_stay_inside()
+    ensures { WholesStayInside }
+{}
+
+/// Unless lines across it are edited on its sheet, a whole range goes, and came from, where its block does.
+pub fn wholes_move_as_blocks()
+    ensures { WholesMoveAsBlocks }
+{}
+
+/// A whole range that is lost is bent.
+pub fn lost_wholes_are_bent()
+    ensures { LostWholesAreBent }
+{}
+
+/// Unless a block of cells is moved, the places of a whole range that isn't bent keep their offsets in it.
+pub fn unbent_wholes_keep_offsets()
+    ensures { UnbentWholesKeepOffsets }
+{}
+
+/// Over every sound operation, a whole range that isn't bent comes back to where it was.
+pub fn unbent_wholes_come_back()
+    ensures { UnbentWholesComeBack }
+{}
+
+/// By the opposite of a sound operation, a whole range that wasn't bent goes to where it was, and isn't bent.
+pub fn unbent_wholes_go_by_opposites()
+    ensures { UnbentWholesGoByOpposites }
 {}
 
 /// In a moved map, a place of the sheet has the entry of the place that it came from. `X` is the type of what the places have.

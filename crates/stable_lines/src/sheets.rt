@@ -8,11 +8,20 @@ use std::alloc::{AllocError, Global};
 use std::collections::BTreeMap;
 
 /// The lines of each sheet of a workbook along one axis. A sheet that was never edited has each line at the position of its own number.
-#[derive(Drop)]
 pub struct SheetLines {
     plain: LineTable,
     edited: BTreeMap<u32, LineTable>,
     pub ghost limits: { (sheet : ℕ) → (unwrap_or (tree.get nat_cmp edited sheet) plain).limit ≡ plain.limit },
+}
+
+// Written out, so that whoever drops one calls one function.
+impl Drop for SheetLines {
+    fn drop(self) {
+        let SheetLines {
+            plain: _plain,
+            edited: _edited,
+        } = self;
+    }
 }
 
 impl SheetLines {

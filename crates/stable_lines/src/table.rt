@@ -27,7 +27,6 @@ const NEAR: usize = 48;
 /// edit makes a few more of them in a small table, which is composed with larger ones as it fills, and copies share all
 /// of them. So an edit costs as much as that table has runs, and over many edits the logarithm of their number more. A
 /// look-up either way halves each level, of which there is one until some edits came.
-#[derive(Drop)]
 pub struct LineTable {
     limit: u32,
     // No line has this number or a greater one.
@@ -60,6 +59,19 @@ pub struct LineTable {
     pub ghost filled: { (p : ℕ) → p < limit → is_some (image lines.items p) ≡ true },
     pub ghost within: { (p l : ℕ) → image lines.items p ≡ Some l → p < limit },
     pub ghost below: { (p l : ℕ) → image lines.items p ≡ Some l → l < next },
+}
+
+// Written out, so that whoever drops one calls one function.
+impl Drop for LineTable {
+    fn drop(self) {
+        let LineTable {
+            limit: _,
+            next: _,
+            base: _,
+            lines: _lines,
+            positions: _positions,
+        } = self;
+    }
 }
 
 impl LineTable {

@@ -19,7 +19,6 @@ use std::ops::Range;
 ///
 /// What is kept is never taken out: a number keeps the lines that it was added with. It costs a search for each line of
 /// a cell and of a block's first corner, and about the logarithm of the lines for each run of the others.
-#[derive(Drop)]
 pub struct TouchIndex {
     pub(crate) alloc: Global,
     // The cells.
@@ -29,6 +28,19 @@ pub struct TouchIndex {
     // The rows of blocks but their first ones, and so the columns, each as the rows of one column.
     pub(crate) rows: BlockIndex,
     pub(crate) cols: BlockIndex,
+}
+
+// Written out, so that whoever drops one calls one function.
+impl Drop for TouchIndex {
+    fn drop(self) {
+        let TouchIndex {
+            alloc: _,
+            cells: _cells,
+            firsts: _firsts,
+            rows: _rows,
+            cols: _cols,
+        } = self;
+    }
 }
 
 impl TouchIndex {

@@ -17,10 +17,19 @@ use std::collections::BTreeSet;
 use std::ops::Range;
 
 // Numbers at spots, each kept by its row and by its column.
-#[derive(Drop)]
 pub(crate) struct Points {
     by_rows: BTreeSet<Point>,
     by_cols: BTreeSet<Point>,
+}
+
+// Written out, so that whoever drops one calls one function.
+impl Drop for Points {
+    fn drop(self) {
+        let Points {
+            by_rows: _by_rows,
+            by_cols: _by_cols,
+        } = self;
+    }
 }
 
 impl Points {

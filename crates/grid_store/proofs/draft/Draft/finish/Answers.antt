@@ -1,9 +1,9 @@
 -- Each key that is kept stands in the draft's lines, under which its cells are seen.
-use Rattle.std.proofs.Common.{subst, IsSome}
-use Rattle.grid_store.specs.internal.Drafting.{AreTakenOut, is_gone}
-use Rattle.grid_store.proofs.Drafts.{finished_cells, finished_standing}
+use Rattle.std.proofs.Common.{◌∙◌, ap, subst, IsSome}
+use Rattle.grid_store.proofs.Drafts.{placed_cells, placed_standing}
 use Rattle.grid_store.proofs.SameKeys.{same_seen}
 use Rattle.grid_store.proofs.TurnedKeys.{on_err}
+use Rattle.stable_lines.specs.declared.sheets.SheetLines.{SheetLines}
 use Rattle.grid_store.proofs.draft.Draft.finish.Goals as goal
 
 pub invariant_of-grid : goal.invariant_of-grid
@@ -17,13 +17,13 @@ invariant_of-grid _ c =
 pub invariant_of-grid-2 : goal.invariant_of-grid-2
 invariant_of-grid-2 _ c =
     let d = c.args.self in
-    let made = c.change.new.self in
-    let left = c.leave_lost.new.self in
-    let out = subst (λ ks. AreTakenOut (is_gone d.changes.rows d.changes.cols ks) made left) c.deref.ensures.value c.leave_lost.ensures in
+    let parts = c.into_parts-cells.ensures in
     record {
-      rows_limit = d.changes.rows_limit;
-      cols_limit = d.changes.cols_limit;
-      standing = finished_standing c.args.grid.now d made left c.in_ok-change.ensures.ok out c.requires;
+      rows_limit = ap (λ (r : SheetLines). r.plain.limit) parts.rows ∙ d.changes.rows_limit;
+      cols_limit = ap (λ (s : SheetLines). s.plain.limit) parts.cols ∙ d.changes.cols_limit;
+      standing =
+          placed_standing c.args.grid.now d c.change.new.self c.leave_lost.new.self _ _ _ _ parts.cells parts.rows parts.cols c.deref.ensures.value
+          c.in_ok-change.ensures.ok c.leave_lost.ensures c.requires;
     }
 
 pub returns-in_err-change-clause-err : goal.returns-in_err-change-clause-err
@@ -32,8 +32,6 @@ returns-in_err-change-clause-err _ c =
 
 pub returns-clause-ok : goal.returns-clause-ok
 returns-clause-ok _ c =
-    let d = c.args.self in
-    let made = c.change.new.self in
-    let left = c.leave_lost.new.self in
-    let out = subst (λ ks. AreTakenOut (is_gone d.changes.rows d.changes.cols ks) made left) c.deref.ensures.value c.leave_lost.ensures in
-    finished_cells c.args.grid.now d made left c.in_ok-change.ensures.ok out
+    let parts = c.into_parts-cells.ensures in
+    placed_cells c.args.grid.now c.args.self c.change.new.self c.leave_lost.new.self _ _ _ _ parts.cells parts.rows parts.cols c.deref.ensures.value
+    c.in_ok-change.ensures.ok c.leave_lost.ensures
