@@ -66,6 +66,14 @@ impl Ranges {
         }
     }
 
+    /// Gives up all kept summaries. The count of merged cells stays. Takes no memory, and costs their number.
+    pub fn clear(&mut self)
+        ensures nothing { table_of self.new ≡ record { kept = map.empty; merged = (table_of self.old).merged } }
+        ensures right { (values : Place → Scalar) → AreFolds values (table_of self.new).kept }
+    {
+        self.kept = None;
+    }
+
     /// Takes the kept summaries along with a structural operation: each moves with its block. Given up are those of a block
     /// that the operation bends, cuts at the sheet's end, or takes some but not all cells out of or puts cells over. So a
     /// block that keeps its summary has the same cells after the operation, and where each cell takes its value along, a

@@ -1,6 +1,8 @@
 // Kept values, marks and kept summaries over structural operations.
 ghost use Rattle.std.specs.Prelude.{◌≡◌, ◌↔◌, ℕ, if◌then◌else◌, IfOk, IsTrue, None, OnErr, OnOk, Some};
 ghost use Rattle.std.specs.HashMap as hash;
+ghost use Rattle.cell_addr.specs.declared.place.Place.{Place};
+ghost use Rattle.cell_value.specs.declared.scalar.Scalar.{Scalar};
 ghost use Rattle.shift_core.specs.Form.{form_of};
 ghost use Rattle.shift_core.specs.Sound.{IsSound};
 ghost use Rattle.dep_graph.specs.Laws.{IsNoRange};
@@ -8,6 +10,9 @@ ghost use Rattle.dep_graph.specs.Nodes.{has, same_node};
 ghost use Rattle.dep_graph.specs.Walks.{IsOnce};
 ghost use Rattle.dep_graph.specs.declared.node.Node.{Node};
 ghost use Rattle.dep_graph.specs.declared.node.Node.TheVariants.{Cell, Name};
+ghost use Rattle.range_table.specs.Ranges.{table_of};
+ghost use Rattle.range_table.specs.Shifted.{TakesValues};
+ghost use Rattle.range_table.specs.Table.{AreFolds};
 ghost use Rattle.recalc_core.specs.Moves.{carried_kept};
 ghost use Rattle.recalc_core.specs.Recalc.{kept_in, marks_in, merged_in};
 ghost use Rattle.recalc_core.specs.Shifted.{drops_scope, from_over};
@@ -22,6 +27,7 @@ use crate::recalc::Recalc;
 use cell_addr::Place;
 use cell_value::Scalar;
 use dep_graph::Node;
+use range_table::Ranges;
 use shift_core::{Form, Shift, moved_place};
 use std::alloc::{AllocError, Global};
 use std::collections::HashMap;
@@ -31,8 +37,9 @@ impl Recalc {
     /// that it was, and is marked where that one was; nothing is kept of one that was nowhere, and it isn't marked. Marks of
     /// ranges go. A summary moves with its block, as [`Ranges::shift`](range_table::Ranges::shift) says.
     ///
-    /// For want of memory all is as it was. Costs what [`Grid::apply`](grid_store::Grid::apply) does for the values, the
-    /// number of the marks and twice what the shift of the summaries does; a dropped sheet costs the number of names too.
+    /// For want of memory all is as it was, unless the summaries alone lack it: then these are given up. Costs what
+    /// [`Grid::apply`](grid_store::Grid::apply) does for the values, the number of the marks and what the shift of the
+    /// summaries does; a dropped sheet costs the number of names too.
     pub fn shift(&mut self, s: &Shift) -> Result<(), AllocError>
         requires { IsSound s.now }
         ensures kept { OnOk result ((a : Node) → IsNoRange a → kept_in self.new a ≡ carried_kept (from_over s.now) (kept_in self.old) a) }
@@ -43,12 +50,21 @@ impl Recalc {
         ensures marks_err { OnErr result (marks_in self.new ≡ marks_in self.old) }
     {
         let marks = gone_marks(self.alloc, self.marks.list.items(), s)?;
-        let mut ranges = self.ranges.copied()?;
-        ranges.shift(s)?;
         self.kept.shift(s)?;
         self.marks = marks;
-        self.ranges = ranges;
+        shift_summaries(&mut self.ranges, s);
         Ok(())
+    }
+}
+
+// Takes the summaries along with the operation. Where there is no memory for that, all are given up.
+fn shift_summaries(ranges: &mut Ranges, s: &Shift)
+    requires { IsSound s.now }
+    ensures right { (before after : Place → Scalar) → TakesValues s.now before after → AreFolds before (table_of ranges.old).kept → AreFolds after (table_of ranges.new).kept }
+    ensures merged { (table_of ranges.new).merged ≡ (table_of ranges.old).merged }
+{
+    if ranges.shift(s).is_err() {
+        ranges.clear();
     }
 }
 
