@@ -63,8 +63,9 @@ fn shift_summaries(ranges: &mut Ranges, s: &Shift)
     ensures right { (before after : Place → Scalar) → TakesValues s.now before after → AreFolds before (table_of ranges.old).kept → AreFolds after (table_of ranges.new).kept }
     ensures merged { (table_of ranges.new).merged ≡ (table_of ranges.old).merged }
 {
-    if ranges.shift(s).is_err() {
-        ranges.clear();
+    match ranges.shift(s) {
+        Ok(()) => {}
+        Err(_) => ranges.clear(),
     }
 }
 
