@@ -12,8 +12,8 @@ settle-requires-clause-cursor c =
     let same : c.keep_only.new.book.lazy.line.cursor ≡ s.book.lazy.line.cursor = ap (λ l. l.cursor) c.keep_only.ensures.line in
     omega (arith, upto, same, c.requires)
 
-pub invariant_of-self-2 : goal.invariant_of-self-2
-invariant_of-self-2 c = record { fits = (settling c.args.self.now.book c.keep_only.new.book c.settle.new.book c.args.self.now.steps c.args.self.now.batch c.args.self.now.suspended c.args.self.now.next_sheet c.args.self.now.fits c.in_ok-listed.listed c.in_ok-ids.ids c.args.base c.requires c.in_ok-listed.ensures c.in_ok-ids.ensures c.keep_only.ensures.kept c.keep_only.ensures.line c.keep_only.ensures.frame c.keep_only.ensures.names c.settle.result c.settle.ensures.line c.settle.ensures.standings c.settle.ensures.line_err c.settle.ensures.err c.settle.ensures.grid c.settle.ensures.names).0 }
+pub invariant_of-self : goal.invariant_of-self
+invariant_of-self c = record { fits = (settling c.args.self.now.book c.keep_only.new.book c.settle.new.book c.args.self.now.steps c.args.self.now.batch c.args.self.now.suspended c.args.self.now.next_sheet c.args.self.now.fits c.in_ok-listed.listed c.in_ok-ids.ids c.args.base c.requires c.in_ok-listed.ensures c.in_ok-ids.ensures c.keep_only.ensures.kept c.keep_only.ensures.line c.keep_only.ensures.frame c.keep_only.ensures.names c.settle.result c.settle.ensures.line c.settle.ensures.standings c.settle.ensures.line_err c.settle.ensures.err c.settle.ensures.grid c.settle.ensures.names).0 }
 
 pub returns-in_err-settle-clause-state : goal.returns-in_err-settle-clause-state
 returns-in_err-settle-clause-state c = (settling c.args.self.now.book c.keep_only.new.book c.settle.new.book c.args.self.now.steps c.args.self.now.batch c.args.self.now.suspended c.args.self.now.next_sheet c.args.self.now.fits c.in_ok-listed.listed c.in_ok-ids.ids c.args.base c.requires c.in_ok-listed.ensures c.in_ok-ids.ensures c.keep_only.ensures.kept c.keep_only.ensures.line c.keep_only.ensures.frame c.keep_only.ensures.names c.settle.result c.settle.ensures.line c.settle.ensures.standings c.settle.ensures.line_err c.settle.ensures.err c.settle.ensures.grid c.settle.ensures.names).1
