@@ -79,6 +79,7 @@ static struct call begun(napi_env env, napi_callback_info info)
     struct call call = {.env = env, .count = MOST_ARGUMENTS, .is_good = true};
     void *errors = NULL;
     napi_get_cb_info(env, info, &call.count, call.arguments, NULL, &errors);
+    call.count = call.count < MOST_ARGUMENTS ? call.count : MOST_ARGUMENTS;
     call.errors = errors;
     return call;
 }

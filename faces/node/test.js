@@ -336,14 +336,25 @@ test('workers have workbooks of their own', async () => {
 });
 
 test('forgotten workbooks are freed', () => {
+  // Each takes 1 MB, and all of them at once would take 200.
   const works = `
     const { Workbook } = require(process.argv[1]);
-    const opened = () => new Workbook().addSheet('Plan');
-    const rounds = Number(process.argv[2]);
-    const wait = () => new Promise(setImmediate);
+    const fill = () => {
+      const book = new Workbook();
+      const sheet = book.addSheet('Plan');
+      for (let row = 0; row < 128; row++) {
+        book.set({ sheet, row, col: 0 }, 'x'.repeat(8_000));
+      }
+    };
+    const collected = () => { global.gc(); return new Promise(setImmediate); };
     (async () => {
-      for (let i = 0; i < rounds; i++) { opened(); if (i % 5 === 4) { global.gc(); await wait(); } }
+      for (let i = 0; i < 200; i++) {
+        fill();
+        await collected();
+      }
+      console.log(process.memoryUsage().rss);
     })();`;
-  const ran = spawnSync(process.execPath, ['--expose-gc', '-e', works, require.resolve('./index.js'), '20']);
+  const ran = spawnSync(process.execPath, ['--expose-gc', '-e', works, require.resolve('./index.js')]);
   assert.equal(ran.status, 0, ran.stderr.toString());
+  assert.ok(Number(ran.stdout) < 150_000_000, `${ran.stdout} bytes`);
 });
