@@ -1,0 +1,287 @@
+'use strict';
+
+/**
+ * A workbook engine: sheets, formulas that follow rows and columns, undo.
+ *
+ *     const { Workbook, decimal, place } = require('fazhundel');
+ *
+ *     const book = new Workbook();
+ *     const sheet = book.addSheet('Invoice');
+ *     book.set(place(sheet, 'A1'), '=2*10.5');
+ *     decimal(book.value(place(sheet, 'A1')));   // '21'
+ *     book.close();
+ *
+ * index.d.ts has the types of all calls. The addon is looked for where FAZHUNDEL_ADDON says, else beside the faces, where
+ * faces/build.sh puts it.
+ */
+const path = require('node:path');
+
+const { FazhundelError } = require('./errors.js');
+const { bands, table, tiers } = require('./rules.js');
+const { Fault, Faults, address, block, decimal, linkOf, millionths, place, shown, valueOf } = require('./values.js');
+
+const ADDON = process.env.FAZHUNDEL_ADDON ?? path.join(__dirname, '..', 'out', 'fazhundel.node');
+const calls = require(path.resolve(ADDON))(FazhundelError);
+
+const NOT_UTF8 = 67;
+const DAY = 86_400_000;
+
+/** The serial number of 1970-01-01. */
+const UNIX_DAY = 25_569;
+
+/** A text of whole characters: half of a surrogate pair can't be told in UTF-8. */
+function textOf(text) {
+  if (typeof text !== 'string') {
+    throw new TypeError('a string was expected');
+  }
+  if (/\p{Surrogate}/u.test(text)) {
+    throw new FazhundelError(NOT_UTF8);
+  }
+  return text;
+}
+
+/** The serial number of a day, counted from 1899-12-30; of a Date it is that of its local day. */
+function serial(day) {
+  if (!(day instanceof Date)) {
+    return day;
+  }
+  return Date.UTC(day.getFullYear(), day.getMonth(), day.getDate()) / DAY + UNIX_DAY;
+}
+
+class Workbook {
+  #book;
+
+  constructor({ undoLimit = 20, today = new Date(), rules = {} } = {}) {
+    const { rows, pairs, words } = table(rules);
+    this.#book = calls.open(undoLimit, serial(today), rows, pairs, textOf(words));
+  }
+
+  close() {
+    calls.close(this.#book);
+  }
+
+  get isOpen() {
+    return calls.isOpen(this.#book);
+  }
+
+  // Cells, rows and columns.
+
+  set({ sheet, row, col }, text) {
+    calls.set(this.#book, sheet, row, col, textOf(text));
+  }
+
+  clear({ sheet, top, left, bottom, right }) {
+    calls.clear(this.#book, sheet, top, left, bottom, right);
+  }
+
+  insertRows(sheet, at, count) {
+    calls.insertRows(this.#book, sheet, at, count);
+  }
+
+  insertCols(sheet, at, count) {
+    calls.insertCols(this.#book, sheet, at, count);
+  }
+
+  deleteRows(sheet, at, count) {
+    calls.deleteRows(this.#book, sheet, at, count);
+  }
+
+  deleteCols(sheet, at, count) {
+    calls.deleteCols(this.#book, sheet, at, count);
+  }
+
+  moveRows(sheet, from, count, before) {
+    calls.moveRows(this.#book, sheet, from, count, before);
+  }
+
+  moveCols(sheet, from, count, before) {
+    calls.moveCols(this.#book, sheet, from, count, before);
+  }
+
+  moveBlock({ sheet, top, left, bottom, right }, to) {
+    calls.moveBlock(this.#book, sheet, top, left, bottom, right, to.sheet, to.row, to.col);
+  }
+
+  // Sheets.
+
+  addSheet(name) {
+    return calls.addSheet(this.#book, textOf(name));
+  }
+
+  dropSheet(sheet) {
+    calls.dropSheet(this.#book, sheet);
+  }
+
+  renameSheet(sheet, name) {
+    calls.renameSheet(this.#book, sheet, textOf(name));
+  }
+
+  clearSheet(sheet) {
+    calls.clearSheet(this.#book, sheet);
+  }
+
+  get sheetCount() {
+    return calls.sheetCount(this.#book);
+  }
+
+  sheetAt(index) {
+    return calls.sheetAt(this.#book, index);
+  }
+
+  sheets() {
+    return Array.from({ length: this.sheetCount }, (_, index) => this.sheetAt(index));
+  }
+
+  sheetId(name) {
+    return calls.sheetId(this.#book, textOf(name));
+  }
+
+  sheetName(sheet) {
+    return calls.sheetName(this.#book, sheet);
+  }
+
+  // Named expressions: of the whole workbook, where the scope is null.
+
+  addName(name, text, scope = null) {
+    calls.addName(this.#book, textOf(name), scope, textOf(text));
+  }
+
+  changeName(name, text, scope = null) {
+    calls.changeName(this.#book, textOf(name), scope, textOf(text));
+  }
+
+  removeName(name, scope = null) {
+    calls.removeName(this.#book, textOf(name), scope);
+  }
+
+  nameValue(name, sheet) {
+    return valueOf(calls.nameValue(this.#book, textOf(name), sheet));
+  }
+
+  // What is copied, cut and pasted.
+
+  copy({ sheet, top, left, bottom, right }) {
+    calls.copy(this.#book, sheet, top, left, bottom, right);
+  }
+
+  cut({ sheet, top, left, bottom, right }) {
+    calls.cut(this.#book, sheet, top, left, bottom, right);
+  }
+
+  paste({ sheet, row, col }) {
+    calls.paste(this.#book, sheet, row, col);
+  }
+
+  get isClipboardEmpty() {
+    return calls.isClipboardEmpty(this.#book);
+  }
+
+  // Steps, batches and suspended evaluation.
+
+  undo() {
+    calls.undo(this.#book);
+  }
+
+  redo() {
+    calls.redo(this.#book);
+  }
+
+  get canUndo() {
+    return calls.canUndo(this.#book);
+  }
+
+  get canRedo() {
+    return calls.canRedo(this.#book);
+  }
+
+  begin() {
+    calls.begin(this.#book);
+  }
+
+  commit() {
+    calls.commit(this.#book);
+  }
+
+  get hasBatch() {
+    return calls.hasBatch(this.#book);
+  }
+
+  batch(inside) {
+    this.begin();
+    try {
+      return inside(this);
+    } finally {
+      this.commit();
+    }
+  }
+
+  suspend() {
+    calls.suspend(this.#book);
+  }
+
+  resume() {
+    calls.resume(this.#book);
+  }
+
+  get isSuspended() {
+    return calls.isSuspended(this.#book);
+  }
+
+  suspended(inside) {
+    this.suspend();
+    try {
+      return inside(this);
+    } finally {
+      this.resume();
+    }
+  }
+
+  // Values, texts and links.
+
+  value({ sheet, row, col }) {
+    return valueOf(calls.value(this.#book, sheet, row, col));
+  }
+
+  valueText({ sheet, row, col }) {
+    return calls.valueText(this.#book, sheet, row, col);
+  }
+
+  *values({ sheet, top, left, bottom, right }) {
+    for (let row = top; row <= bottom; row++) {
+      for (let col = left; col <= right; col++) {
+        const at = { sheet, row, col };
+        const value = this.value(at);
+        if (value !== null || this.formula(at) !== null) {
+          yield [at, value];
+        }
+      }
+    }
+  }
+
+  tryFormula(sheet, text) {
+    return valueOf(calls.tryFormula(this.#book, sheet, textOf(text)));
+  }
+
+  formula({ sheet, row, col }) {
+    return calls.formula(this.#book, sheet, row, col) || null;
+  }
+
+  content({ sheet, row, col }) {
+    return calls.content(this.#book, sheet, row, col);
+  }
+
+  precedents({ sheet, row, col }) {
+    return calls.precedents(this.#book, sheet, row, col).map(linkOf);
+  }
+
+  dependents({ sheet, row, col }) {
+    return calls.dependents(this.#book, sheet, row, col).map(linkOf);
+  }
+}
+
+// A `using` declaration closes it, where Node has those.
+if (Symbol.dispose) {
+  Object.defineProperty(Workbook.prototype, Symbol.dispose, { value: Workbook.prototype.close });
+}
+
+module.exports = { Fault, Faults, FazhundelError, Workbook, address, bands, block, decimal, millionths, place, shown, tiers };

@@ -1,0 +1,360 @@
+'use strict';
+
+// Makes each call at least once, and as it shouldn't be made: node --test faces/node/test.js.
+const assert = require('node:assert/strict');
+const { spawnSync } = require('node:child_process');
+const { test } = require('node:test');
+const { Worker } = require('node:worker_threads');
+
+const { Faults, FazhundelError, Workbook, address, bands, block, decimal, millionths, place, shown, tiers } = require('./index.js');
+
+const TODAY = 45_292;
+
+/** Runs what is given on a workbook with one sheet, number 0. */
+function opened(inside, options = {}) {
+  const book = new Workbook({ today: TODAY, ...options });
+  try {
+    assert.equal(book.addSheet('Plan'), 0);
+    inside(book);
+  } finally {
+    book.close();
+  }
+}
+
+const at = (text) => place(0, text);
+const over = (text) => block(0, text);
+
+/** That a call throws the error of this name. */
+function fails(name, call) {
+  assert.throws(call, (error) => error instanceof FazhundelError && error.name === name);
+}
+
+function shows(book, where, text) {
+  assert.equal(book.valueText(at(where)), text);
+  assert.equal(shown(book.value(at(where))), text);
+}
+
+test('cells and values', () => opened((book) => {
+  book.set(at('A1'), '-1.5');
+  book.set(at('B1'), '=A1<0');
+  book.set(at('C1'), '=1/0');
+  book.set(at('D1'), 'hüte \u{1f600}');
+  assert.equal(book.value(at('A1')), -1_500_000n);
+  assert.equal(book.value(at('B1')), true);
+  assert.equal(book.value(at('C1')), Faults.DIV0);
+  assert.equal(book.value(at('D1')), 'hüte \u{1f600}');
+  assert.equal(book.value(at('J10')), null);
+  shows(book, 'A1', '-1.5');
+  shows(book, 'B1', 'TRUE');
+  shows(book, 'C1', '#DIV/0!');
+  assert.equal(book.formula(at('B1')), '=A1<0');
+  assert.equal(book.formula(at('A1')), null);
+  assert.equal(book.content(at('C1')), '=1/0');
+  book.clear(over('A1:D1'));
+  shows(book, 'D1', '');
+}));
+
+test('filled cells are listed', () => opened((book) => {
+  book.set(at('B2'), '7');
+  book.set(at('A3'), '=Z9');
+  book.set(at('C2'), 'x');
+  book.set(at('D2'), 'outside');
+  assert.deepEqual([...book.values(over('A1:C3'))], [
+    [at('B2'), 7_000_000n],
+    [at('C2'), 'x'],
+    [at('A3'), null],
+  ]);
+  assert.deepEqual([...book.values(over('F1:G9'))], []);
+  fails('NoSheet', () => [...book.values(block(9, 'A1'))]);
+}));
+
+test('long answers come whole', () => opened((book) => {
+  const long = 'long ü '.repeat(1_000);
+  book.set(at('A1'), long);
+  assert.equal(book.value(at('A1')), long);
+  assert.equal(book.valueText(at('A1')), long);
+  assert.equal(book.content(at('A1')), long);
+  for (const length of [255, 256, 257]) {
+    book.set(at('A2'), 'x'.repeat(length));
+    assert.equal(book.valueText(at('A2')).length, length);
+  }
+  const cells = Array.from({ length: 100 }, (_, row) => `B${row + 1}`);
+  const formula = `=CONCATENATE(${cells.join(',')})`;
+  book.set(at('C1'), formula);
+  assert.equal(book.precedents(at('C1')).length, 100);
+  assert.equal(book.formula(at('C1')), formula);
+  for (let row = 2; row <= 40; row++) {
+    book.set({ sheet: 0, row, col: 3 }, '=A1');
+    book.addName(`name_${'w'.repeat(20)}_${row}`, '=Plan!$A$1');
+  }
+  const links = book.dependents(at('A1'));
+  assert.equal(links.length, 78);
+  assert.equal(links[39].scope, null);
+  assert.match(links[77].word, /^NAME_W{20}_\d+$/);
+  book.renameSheet(0, 'n'.repeat(100));
+  assert.equal(book.sheetName(0).length, 100);
+  fails('TextLimit', () => book.set(at('A1'), 'x'.repeat(8_193)));
+}));
+
+test('formulas follow', () => opened((book) => {
+  const reads = (where, text) => assert.equal(book.formula(at(where)), text);
+  book.set(at('A1'), '=B5+B9');
+  book.insertRows(0, 2, 2);
+  reads('A1', '=B7+B11');
+  book.deleteRows(0, 10, 1);
+  reads('A1', '=B7+#REF!');
+  book.moveRows(0, 6, 1, 3);
+  reads('A1', '=B4+#REF!');
+  book.insertCols(0, 1, 1);
+  reads('A1', '=C4+#REF!');
+  book.moveCols(0, 2, 1, 5);
+  reads('A1', '=E4+#REF!');
+  book.deleteCols(0, 1, 1);
+  reads('A1', '=D4+#REF!');
+  book.moveBlock(over('A1'), at('F6'));
+  reads('F6', '=D4+#REF!');
+  fails('BadSpan', () => book.insertRows(0, 0, 0));
+  fails('NoSheet', () => book.insertRows(3, 0, 1));
+  fails('Outside', () => book.set({ sheet: 0, row: 40_000, col: 0 }, '1'));
+}));
+
+test('sheets', () => opened((book) => {
+  fails('SheetNameTaken', () => book.addSheet('plan'));
+  fails('SheetNameInvalid', () => book.addSheet(''));
+  assert.equal(book.addSheet('Two'), 1);
+  assert.deepEqual([book.sheetCount, book.sheetAt(1), book.sheetAt(2)], [2, 1, null]);
+  book.renameSheet(1, 'Zwei');
+  assert.deepEqual([book.sheetId('ZWEI'), book.sheetId('Two'), book.sheetName(1)], [1, null, 'Zwei']);
+  fails('NoSheet', () => book.sheetName(5));
+  book.set(at('A1'), '3');
+  book.clearSheet(0);
+  shows(book, 'A1', '');
+  book.dropSheet(0);
+  assert.deepEqual(book.sheets(), [1]);
+}));
+
+test('names', () => opened((book) => {
+  book.addSheet('Two');
+  book.addName('rate', '=Plan!$A$1');
+  book.addName('rate', '=2', 1);
+  book.set(at('A1'), '3');
+  assert.equal(book.nameValue('RATE', 0), 3_000_000n);
+  assert.equal(book.nameValue('rate', 1), 2_000_000n);
+  book.changeName('rate', '=4', 1);
+  assert.equal(book.nameValue('rate', 1), 4_000_000n);
+  book.removeName('rate', 1);
+  fails('NoSuchName', () => book.removeName('rate', 1));
+  assert.equal(book.tryFormula(1, '=rate*2'), 6_000_000n);
+  fails('BadFormula', () => book.tryFormula(1, 'rate'));
+  // The number that stands for the whole workbook in C is that of no sheet.
+  fails('NoSheet', () => book.removeName('rate', 2 ** 32 - 1));
+  book.removeName('rate', null);
+}));
+
+test('steps and batches', () => opened((book) => {
+  book.begin();
+  assert.equal(book.hasBatch, true);
+  fails('BatchOpen', () => book.begin());
+  book.set(at('A1'), '1');
+  book.set(at('B1'), '2');
+  assert.equal(book.canUndo, false);
+  fails('Suspended', () => book.value(at('A1')));
+  book.commit();
+  assert.equal(book.hasBatch, false);
+  fails('NoBatch', () => book.commit());
+  assert.deepEqual([book.canUndo, book.canRedo], [true, false]);
+  book.undo();
+  shows(book, 'A1', '');
+  assert.equal(book.canRedo, true);
+  book.redo();
+  shows(book, 'B1', '2');
+  fails('NothingToRedo', () => book.redo());
+  book.suspend();
+  assert.equal(book.isSuspended, true);
+  fails('Suspended', () => book.value(at('A1')));
+  book.resume();
+  assert.equal(book.isSuspended, false);
+}));
+
+test('batches of functions', () => opened((book) => {
+  assert.equal(book.batch((same) => same.set(at('A1'), '1') ?? 2), 2);
+  // What came before an error stays, as one step.
+  fails('BadSpan', () => book.batch(() => {
+    book.set(at('A1'), '3');
+    book.insertRows(0, 0, 0);
+  }));
+  assert.equal(book.hasBatch, false);
+  shows(book, 'A1', '3');
+  book.undo();
+  shows(book, 'A1', '1');
+  assert.throws(() => book.suspended(() => assert.fail('meant')), /meant/);
+  assert.equal(book.suspended(() => book.isSuspended), true);
+  assert.equal(book.isSuspended, false);
+}));
+
+test('blocks are pasted', () => opened((book) => {
+  book.set(at('A1'), '=B1');
+  assert.equal(book.isClipboardEmpty, true);
+  book.copy(over('A1'));
+  assert.equal(book.isClipboardEmpty, false);
+  book.paste(at('B2'));
+  assert.equal(book.formula(at('B2')), '=C2');
+  book.cut(over('A1:A1'));
+  book.paste(at('A3'));
+  assert.equal(book.formula(at('A3')), '=B1');
+  fails('NothingToPaste', () => book.paste(at('A5')));
+}));
+
+test('links are listed', () => opened((book) => {
+  book.addName('rate', '=Plan!$A$1');
+  book.addName('own', '=$A$1', 0);
+  book.set(at('A3'), '=SUM(A1:B1)+A1+rate');
+  assert.deepEqual(book.precedents(at('A3')), [over('A1:B1'), at('A1'), { scope: null, word: 'RATE' }]);
+  const [rate, own] = [{ scope: null, word: 'RATE' }, { scope: 0, word: 'OWN' }];
+  assert.deepEqual(book.dependents(at('A1')), [at('A3'), rate, own]);
+  assert.deepEqual(book.dependents(at('J10')), []);
+  fails('Outside', () => book.precedents({ sheet: 0, row: 0, col: 18_278 }));
+}));
+
+test('rules are called', () => {
+  const POST = bands([['0', '1.5'], ['0.5', 2_750_000n]]);
+  const TAX = tiers([['0', '0.1'], ['1000', '0.2']]);
+  opened((book) => {
+    for (const [text, says] of [['=Post(0.5)', '2.75'], ['=POST(-1)', '#N/A'], ['=tax(2000)', '300']]) {
+      book.set(at('A1'), text);
+      shows(book, 'A1', says);
+    }
+  }, { rules: { POST, TAX } });
+  const bad = (rules) => fails('BadTable', () => new Workbook({ rules }));
+  bad({ POST, post: POST });
+  bad({ SUM: POST });
+  bad({ TAX: bands([]) });
+  bad({ TAX: tiers([['1', '1'], ['2', '1']]) });
+  bad({ TAX: bands([['2', '1'], ['2', '1']]) });
+  assert.throws(() => new Workbook({ rules: { TAX: (x) => x } }), TypeError);
+  assert.throws(() => bands([[1, 2]]), TypeError);
+  assert.throws(() => bands([[10n ** 18n, 0n]]), RangeError);
+});
+
+test('what is given as it should not be', () => opened((book) => {
+  fails('NotUtf8', () => book.set(at('A1'), 'half \ud83d'));
+  fails('NotUtf8', () => book.addSheet('\udc00'));
+  fails('NotUtf8', () => new Workbook({ rules: { 'a\ud800': bands([['0', '0']]) } }));
+  assert.throws(() => book.set(at('A1'), 7), TypeError);
+  assert.throws(() => book.set({ sheet: 0, row: 0 }, '7'), TypeError);
+  assert.throws(() => book.set({ sheet: 0, row: '0', col: 0 }, '7'), TypeError);
+  assert.throws(() => book.set(undefined, '7'), TypeError);
+  for (const row of [-1, 0.5, NaN, Infinity, 2 ** 32]) {
+    assert.throws(() => book.set({ sheet: 0, row, col: 0 }, '7'), RangeError);
+  }
+  assert.throws(() => book.addName('rate', '=1', 'Plan'), TypeError);
+  assert.throws(() => Workbook.prototype.undo.call({}), TypeError);
+  assert.equal(book.canUndo, true);
+  book.undo();
+  assert.equal(book.canUndo, false);
+}));
+
+test('books are opened and closed', () => {
+  fails('BadLimit', () => new Workbook({ undoLimit: 1_001 }));
+  assert.throws(() => new Workbook({ undoLimit: -1 }), RangeError);
+  assert.throws(() => new Workbook({ today: new Date(NaN) }), RangeError);
+  const book = new Workbook({ undoLimit: 0, today: new Date(2024, 1, 29, 23, 59) });
+  book.addSheet('Plan');
+  fails('NothingToUndo', () => book.undo());
+  assert.equal(book.tryFormula(0, '=TODAY()'), 45_351_000_000n);
+  assert.equal(book.isOpen, true);
+  book.close();
+  book.close();
+  assert.equal(book.isOpen, false);
+  fails('NotOpen', () => book.set(at('A1'), '1'));
+  fails('NotOpen', () => book.value(at('A1')));
+  fails('NotOpen', () => book.canUndo);
+  fails('NotOpen', () => book.sheets());
+  fails('NotOpen', () => book.sheetId('Plan'));
+  assert.equal(new Workbook()[Symbol.dispose]?.(), undefined);
+});
+
+test('errors say what they are', () => opened((book) => {
+  assert.throws(() => book.undo() ?? book.undo(), (error) => {
+    assert.equal(`${error}`, 'NothingToUndo: there is no step to take back');
+    assert.deepEqual([error.status, error.isRefusal], [11, true]);
+    return true;
+  });
+  const [memory, other] = [64, 99].map((status) => new FazhundelError(status));
+  assert.deepEqual([memory.name, memory.isRefusal, other.name], ['NoMemory', false, 'Unknown']);
+}));
+
+test('numbers are read and printed', () => {
+  const read = {
+    0: 0n, '-3': -3_000_000n, '.5': 500_000n, '7.': 7_000_000n, '+0001.250': 1_250_000n, '0.0000005': 1n, '-0.0000005': -1n,
+    '0.00000049': 0n, '0.9999999': 1_000_000n, '999999999999.999999': 999_999_999_999_999_999n,
+  };
+  for (const [text, number] of Object.entries(read)) {
+    assert.equal(millionths(text), number);
+  }
+  for (const text of ['', '.', '-', '+-1', '1e3', '1 ', '1\n', '1.2.3', '1000000000000', '999999999999.9999995']) {
+    assert.throws(() => millionths(text), RangeError);
+  }
+  for (const [number, text] of [[0n, '0'], [-500_000n, '-0.5'], [1_250_000n, '1.25'], [100_000_000n, '100'], [-1n, '-0.000001']]) {
+    assert.equal(decimal(number), text);
+  }
+  assert.throws(() => millionths(1), TypeError);
+  assert.throws(() => decimal(1), TypeError);
+  assert.deepEqual([null, 'x', false, Faults.CYCLE].map(shown), ['', 'x', 'FALSE', '#CYCLE!']);
+});
+
+test('addresses are read and printed', () => {
+  for (const [text, row, col] of [['A1', 0, 0], ['Z9', 8, 25], ['AA10', 9, 26], ['ZZZ40000', 39_999, 18_277]]) {
+    assert.deepEqual(place(3, text), { sheet: 3, row, col });
+    assert.equal(address({ sheet: 3, row, col }), text);
+  }
+  assert.deepEqual(place(0, 'ab12'), { sheet: 0, row: 11, col: 27 });
+  assert.deepEqual(block(0, 'A5:B1'), { sheet: 0, top: 0, left: 0, bottom: 4, right: 1 });
+  assert.deepEqual(block(0, 'C3'), { sheet: 0, top: 2, left: 2, bottom: 2, right: 2 });
+  assert.equal(address(over('B5:A1')), 'A1:B5');
+  for (const text of ['', 'A', '1', 'A0', 'A01', 'AAAA1', 'A12345678', '$A$1', 'A1 ', 'Ä1', 'A1:B2', 'Plan!A1']) {
+    assert.throws(() => place(0, text), RangeError);
+  }
+  for (const text of ['', ':', 'A1:', ':A1', 'A1:B2:C3']) {
+    assert.throws(() => block(0, text), RangeError);
+  }
+});
+
+test('workers have workbooks of their own', async () => {
+  const works = `
+    const { parentPort, workerData } = require('node:worker_threads');
+    const { Workbook } = require(workerData);
+    const book = new Workbook();
+    const sheet = book.addSheet('Plan');
+    book.set({ sheet, row: 0, col: 0 }, '=6*7');
+    parentPort.postMessage(book.valueText({ sheet, row: 0, col: 0 }));`;
+  const answers = [1, 2].map(() => new Promise((resolve, reject) => {
+    const worker = new Worker(works, { eval: true, workerData: require.resolve('./index.js') });
+    worker.on('message', resolve).on('error', reject);
+  }));
+  assert.deepEqual(await Promise.all(answers), ['42', '42']);
+});
+
+test('forgotten workbooks are freed', () => {
+  // Each takes 1 MB, and all of them at once would take 200.
+  const works = `
+    const { Workbook } = require(process.argv[1]);
+    const fill = () => {
+      const book = new Workbook();
+      const sheet = book.addSheet('Plan');
+      for (let row = 0; row < 128; row++) {
+        book.set({ sheet, row, col: 0 }, 'x'.repeat(8_000));
+      }
+    };
+    const collected = () => { global.gc(); return new Promise(setImmediate); };
+    (async () => {
+      for (let i = 0; i < 200; i++) {
+        fill();
+        await collected();
+      }
+      console.log(process.memoryUsage().rss);
+    })();`;
+  const ran = spawnSync(process.execPath, ['--expose-gc', '-e', works, require.resolve('./index.js')]);
+  assert.equal(ran.status, 0, ran.stderr.toString());
+  assert.ok(Number(ran.stdout) < 150_000_000, `${ran.stdout} bytes`);
+});
