@@ -1,6 +1,6 @@
 -- How many steps arguments take. Serves the walk.
 use Rattle.std.proofs.Common.{◌≡◌, subst, refl, arith, ℕ, zero, suc, ◌+◌, ◌≤◌, Some}
-use Rattle.formula_tree.specs.Term.{Term, number, text, truth, fault, cell, area, name, prefix, percent, binary, call, paren, Terms, no_terms, term}
+use Rattle.formula_tree.specs.Term.{Term, number, text, truth, fault, cell, area, whole, name, prefix, percent, binary, call, paren, Terms, no_terms, term}
 use Rattle.formula_tree.specs.declared.reference.Corner.{Corner}
 use Rattle.calc_terms.specs.Cost.{block_size, cost, cost_all}
 use Rattle.calc_terms.specs.References.{argument_size, reference_of}
@@ -18,6 +18,7 @@ block_within w sheet (truth b) = omega arith
 block_within w sheet (fault k) = omega arith
 block_within w sheet (cell c) = omega arith
 block_within w sheet (area c d) = omega arith
+block_within w sheet (whole axis c d) = omega arith
 block_within w sheet (name word) = omega arith
 block_within w sheet (prefix s t) = omega arith
 block_within w sheet (percent t) = omega arith

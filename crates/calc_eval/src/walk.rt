@@ -69,6 +69,7 @@ fn value<V: View, C: Customs, L: Ledger>(
         Node::Fault(fault) => Ok(Scalar::Fault(*fault)),
         Node::Cell(corner) => view.scalar(corner.at(home).at).copy(alloc),
         Node::Area(_, _) => Ok(Scalar::Fault(FaultKind::Value)),
+        Node::WholeRows(_, _, _) | Node::WholeCols(_, _, _) => Ok(Scalar::Fault(FaultKind::Value)),
         Node::Name(word) => named_value(alloc, view, word.as_str(), home.sheet()),
         Node::Prefix(sign, part) => {
             let operand = value(alloc, part, home, view, customs, steps)?;

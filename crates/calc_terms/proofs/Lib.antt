@@ -2,3 +2,4 @@ pub mod Choosing
 pub mod CellsAlike
 pub mod Reading
 pub mod LinkedPlaces
+pub mod WholeBlocks

@@ -6,11 +6,12 @@ use Rattle.cell_addr.specs.declared.place.Place.{Place}
 use Rattle.cell_addr.specs.Place.{covers, same_place}
 use Rattle.formula_tree.specs.Links.{links_in, links_in_all, is_place_word}
 use Rattle.formula_tree.specs.Reference.{block_of}
-use Rattle.formula_tree.specs.Term.{Term, number, text, truth, fault, cell, area, name, prefix, percent, binary, call, paren, Terms, no_terms, term, is_reference}
+use Rattle.formula_tree.specs.Term.{Term, number, text, truth, fault, cell, area, whole, name, prefix, percent, binary, call, paren, Terms, no_terms, term, is_reference}
 use Rattle.formula_tree.specs.declared.link.Link.{Link}
 use Rattle.formula_tree.specs.declared.reference.Corner.{Corner}
 use Rattle.calc_terms.specs.Laws.{is_link_to}
 use Rattle.calc_terms.specs.Needs.{mentions, mentions_any}
+use Rattle.calc_terms.specs.References.{full_block}
 
 or-false : (b : Bool) → b ≡ (b || false)
 or-false true = refl
@@ -29,6 +30,7 @@ mutual
   mentions-links (fault f) p = refl
   mentions-links (cell c) p = or-false (same_place c.at p)
   mentions-links (area c d) p = or-false (covers (block_of c d) p)
+  mentions-links (whole axis c d) p = or-false (covers (full_block axis c d) p)
   mentions-links (name w) p = refl
   mentions-links (prefix s t) p = mentions-links t p
   mentions-links (percent t) p = mentions-links t p

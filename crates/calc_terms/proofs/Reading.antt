@@ -15,7 +15,7 @@ use Rattle.custom_fn.specs.Registry.{custom_named}
 use Rattle.custom_fn.specs.declared.rule.Rule.{Rule}
 use Rattle.formula_tree.specs.Links.{is_place_word, names_in, names_in_all}
 use Rattle.formula_tree.specs.Reference.{base_of, sheet_of, block_of}
-use Rattle.formula_tree.specs.Term.{Term, number, text, truth, fault, cell, area, name, prefix, percent, binary, call, paren, Terms, no_terms, term, is_reference}
+use Rattle.formula_tree.specs.Term.{Term, number, text, truth, fault, cell, area, whole, name, prefix, percent, binary, call, paren, Terms, no_terms, term, is_reference}
 use Rattle.formula_tree.specs.declared.reference.Corner.{Corner}
 use Rattle.formula_tree.specs.declared.reference.Home.{Home}
 use Rattle.operators.specs.Operators.{combined, hundredth, signed_value}
@@ -25,7 +25,7 @@ use Rattle.calc_terms.specs.Choices.{choice_value}
 use Rattle.calc_terms.specs.Laws.{NameAlike, ReadsNeeds, ShowAlike}
 use Rattle.calc_terms.specs.Meaning.{evaluated, meaning, value_named}
 use Rattle.calc_terms.specs.Needs.{mentions, mentions_any}
-use Rattle.calc_terms.specs.References.{argument_cells, argument_of, argument_value, data_arguments, own_reference, reference_named, reference_of}
+use Rattle.calc_terms.specs.References.{argument_cells, argument_of, argument_value, data_arguments, full_block, own_reference, reference_named, reference_of}
 use Rattle.calc_terms.specs.Words.{function_named, takes_block}
 use Rattle.calc_terms.specs.World.{Named, World}
 use Rattle.calc_terms.specs.declared.argument.Argument.{Argument}
@@ -89,6 +89,7 @@ module _ (v w : World) (customs : List (List ℕ × Rule)) (home : Home) (today 
   own_alike : (t : Term Corner) → ShowAlike v w t → CellsAlike (own_reference t)
   own_alike (cell c) shown = shown c.at (same_place-self c.at)
   own_alike (area c d) shown = area_alike (block_of c d) (fits (block_of c d)) shown
+  own_alike (whole axis c d) shown = area_alike (full_block axis c d) (fits (full_block axis c d)) shown
   own_alike (number m) shown = tt
   own_alike (text s) shown = tt
   own_alike (truth b) shown = tt
@@ -122,6 +123,7 @@ module _ (v w : World) (customs : List (List ℕ × Rule)) (home : Home) (today 
   reference_alike (name word) shown names = named_alike (v.named word sheet) (w.named word sheet) (name_itself word names)
   reference_alike (cell c) shown names = own_alike (cell c) shown
   reference_alike (area c d) shown names = own_alike (area c d) shown
+  reference_alike (whole axis c d) shown names = own_alike (whole axis c d) shown
   reference_alike (number m) shown names = tt
   reference_alike (text s) shown names = tt
   reference_alike (truth b) shown names = tt
@@ -136,6 +138,7 @@ module _ (v w : World) (customs : List (List ℕ × Rule)) (home : Home) (today 
   reference_same (name word) names = named_same (v.named word sheet) (w.named word sheet) (name_itself word names)
   reference_same (cell c) names = refl
   reference_same (area c d) names = refl
+  reference_same (whole axis c d) names = refl
   reference_same (number m) names = refl
   reference_same (text s) names = refl
   reference_same (truth b) names = refl
@@ -196,6 +199,7 @@ module _ (v w : World) (customs : List (List ℕ × Rule)) (home : Home) (today 
       → argument_of (reference_of v sheet t) (meaning v customs home t) ≡ argument_of (reference_of w sheet t) (meaning w customs home t)
   reference_itself (cell c) h = refl
   reference_itself (area c d) h = refl
+  reference_itself (whole axis c d) h = refl
   reference_itself (number m) h = absurd (false≢true h)
   reference_itself (text s) h = absurd (false≢true h)
   reference_itself (truth b) h = absurd (false≢true h)
@@ -232,6 +236,7 @@ module _ (v w : World) (customs : List (List ℕ × Rule)) (home : Home) (today 
     reads (fault k) shown names = refl
     reads (cell c) shown names = shown c.at (same_place-self c.at)
     reads (area c d) shown names = refl
+    reads (whole axis c d) shown names = refl
     reads (name word) shown names = value_same (v.named word sheet) (w.named word sheet) (name_itself word names)
     reads (prefix s t) shown names = ap (signed_value s) (reads t shown names)
     reads (percent t) shown names = ap hundredth (reads t shown names)

@@ -1,6 +1,6 @@
 -- How many steps a formula's tree takes at most. Source: this project's own.
 use Rattle.std.specs.Prelude.{ℕ, ◌+◌, Option, Some}
-use Rattle.formula_tree.specs.Term.{Term, area, name, prefix, percent, binary, call, paren, Terms, no_terms, term}
+use Rattle.formula_tree.specs.Term.{Term, area, whole, name, prefix, percent, binary, call, paren, Terms, no_terms, term}
 use Rattle.formula_tree.specs.declared.reference.Corner.{Corner}
 use Rattle.calc_terms.specs.Cells.{size_of}
 use Rattle.calc_terms.specs.References.{reference_of}
@@ -14,10 +14,11 @@ block_size (Some (reference.Area b)) = size_of b
 block_size _ = 0
 
 abbrev mutual
-  -- the number of the tree's nodes and of the cells of each block that it holds, or that one of its names stands for
-  -- on this sheet; each occurrence counts
+  -- the number of the tree's nodes and of the cells of each block and whole range that it holds, or that one of its
+  -- names stands for on this sheet; each occurrence counts
   pub cost : World → ℕ → Term Corner → ℕ
   cost w sheet (area c d) = block_size (reference_of w sheet (area c d)) + 1
+  cost w sheet (whole axis c d) = block_size (reference_of w sheet (whole axis c d)) + 1
   cost w sheet (name word) = block_size (reference_of w sheet (name word)) + 1
   cost w sheet (prefix s t) = cost w sheet t + 1
   cost w sheet (percent t) = cost w sheet t + 1

@@ -3,6 +3,7 @@ use Rattle.std.specs.Prelude.{◌≡◌, ℕ, ⊤, Bool, true, false, List, Opti
 use Rattle.std.specs.List.{list_any}
 use Rattle.cell_addr.specs.declared.place.Place.{Place}
 use Rattle.cell_addr.specs.Place.{covers, same_place}
+use Rattle.cell_addr.specs.Whole.{whole_block}
 use Rattle.custom_fn.specs.declared.rule.Rule.{Rule}
 use Rattle.formula_tree.specs.Links.{links_in}
 use Rattle.formula_tree.specs.Reference.{sheet_of}
@@ -37,10 +38,11 @@ pub record AreAlike (v w : World) (sheet : ℕ) (t : Term Corner) : Type 0 where
 abbrev pub ReadsNeeds : Type 0
 ReadsNeeds = (v w : World) (customs : List (List ℕ × Rule)) (home : Home) (t : Term Corner) → AreAlike v w (sheet_of home) t → meaning v customs home t ≡ meaning w customs home t
 
--- a link is to the place, or to a block that covers it; a name is no place
+-- a link is to the place, or to a block or whole range that covers it; a name is no place
 abbrev pub is_link_to : Place → Link → Bool
 is_link_to p (links.Cell q) = same_place q p
 is_link_to p (links.Area b) = covers b p
+is_link_to p (links.Whole w) = covers (whole_block w) p
 is_link_to p (links.Name scope w) = false
 
 -- a tree mentions the places that its links lead to, and no others

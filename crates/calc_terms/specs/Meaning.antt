@@ -1,5 +1,6 @@
--- What a formula's tree means. Source: OpenFormula; that a block is #VALUE! where one value is wanted, and that a
--- name as an argument of a function stands for the reference or block that its own tree is, is this project's own.
+-- What a formula's tree means. Source: OpenFormula; that a block or a whole range is #VALUE! where one value is wanted,
+-- and that a name as an argument of a function stands for the reference, block or whole range that its own tree is, is
+-- this project's own.
 use Rattle.std.specs.Prelude.{ℕ, List, [], ◌∷◌, Option, Some, None}
 use Rattle.cell_value.specs.declared.fault.FaultKind.TheVariants as fault
 use Rattle.cell_value.specs.declared.scalar.Scalar.{Scalar}
@@ -7,7 +8,7 @@ use Rattle.cell_value.specs.declared.scalar.Scalar.TheVariants as scalar
 use Rattle.custom_fn.specs.Registry.{custom_named}
 use Rattle.custom_fn.specs.declared.rule.Rule.{Rule}
 use Rattle.formula_tree.specs.Reference.{base_of, sheet_of}
-use Rattle.formula_tree.specs.Term.{Term, number, text, truth, fault, cell, area, name, prefix, percent, binary, call, paren, Terms, no_terms, term}
+use Rattle.formula_tree.specs.Term.{Term, number, text, truth, fault, cell, area, whole, name, prefix, percent, binary, call, paren, Terms, no_terms, term}
 use Rattle.formula_tree.specs.declared.reference.Corner.{Corner}
 use Rattle.formula_tree.specs.declared.reference.Home.{Home}
 use Rattle.operators.specs.Operators.{combined, hundredth, signed_value}
@@ -31,6 +32,7 @@ abbrev mutual
   meaning w customs home (fault k) = scalar.Fault k
   meaning w customs home (cell c) = w.shown c.at
   meaning w customs home (area c d) = scalar.Fault fault.Value
+  meaning w customs home (whole axis c d) = scalar.Fault fault.Value
   meaning w customs home (name word) = value_named (w.named word (sheet_of home))
   meaning w customs home (prefix s t) = signed_value s (meaning w customs home t)
   meaning w customs home (percent t) = hundredth (meaning w customs home t)

@@ -1,7 +1,10 @@
 -- References as arguments of functions, and the data that arguments become before a function sees them. Source:
--- OpenFormula; that a name stands for the reference or block that its own tree is, is this project's own.
+-- OpenFormula; that a name stands for the reference, block or whole range that its own tree is, is this project's
+-- own.
 use Rattle.std.specs.Prelude.{ℕ, ◌+◌, Bool, if◌then◌else◌, List, [], ◌∷◌, Option, Some, None, Result, Ok, Err}
+use Rattle.cell_addr.specs.declared.axis.Axis.{Axis}
 use Rattle.cell_addr.specs.declared.place.Block.{Block}
+use Rattle.cell_addr.specs.Whole.{whole_block}
 use Rattle.cell_value.specs.declared.argument.Arg.{Arg}
 use Rattle.cell_value.specs.declared.argument.Arg.TheVariants.{One, Many}
 use Rattle.cell_value.specs.declared.fault.FaultKind.{FaultKind}
@@ -10,7 +13,8 @@ use Rattle.cell_value.specs.declared.scalar.Scalar.{Scalar}
 use Rattle.cell_value.specs.declared.scalar.Scalar.TheVariants.{Fault}
 use Rattle.cell_value.specs.Cells.{Cells}
 use Rattle.formula_tree.specs.Reference.{block_of}
-use Rattle.formula_tree.specs.Term.{Term, cell, area, name}
+use Rattle.formula_tree.specs.Term.{Term, cell, area, whole, name}
+use Rattle.formula_tree.specs.Whole.{whole_between}
 use Rattle.formula_tree.specs.declared.reference.Corner.{Corner}
 use Rattle.calc_terms.specs.Cells.{cells_in, fits, size_of}
 use Rattle.calc_terms.specs.World.{Named, World}
@@ -23,10 +27,15 @@ use Rattle.calc_terms.specs.declared.reference.Reference.TheVariants as referenc
 abbrev pub area_reference : Block → Option Reference
 area_reference b = if fits b then Some (reference.Area b) else None
 
--- the reference that a tree is itself
+-- the block of all cells of a whole range, by its first and its last cell
+abbrev pub full_block : Axis → Corner → Corner → Block
+full_block axis c d = whole_block (whole_between axis c d)
+
+-- the reference that a tree is itself; a whole range is its block
 abbrev pub own_reference : Term Corner → Option Reference
 own_reference (cell c) = Some (reference.Cell c.at)
 own_reference (area c d) = area_reference (block_of c d)
+own_reference (whole axis c d) = area_reference (full_block axis c d)
 own_reference t = None
 
 abbrev pub reference_named : Option Named → Option Reference

@@ -6,12 +6,13 @@ ghost use Rattle.formula_tree.specs.StandsFor.{at_home};
 ghost use Rattle.formula_tree.specs.Term.{each_corner_all, is_reference};
 ghost use Rattle.calc_terms.specs.Needs as needs;
 
-use cell_addr::Place;
+use crate::reference::full_block;
+use cell_addr::{Axis, Place};
 use formula_tree::{Home, Node, Tree, TreeList, is_place_word};
 
-/// Whether the formula mentions the place itself, by a reference to it or a block that covers it, in whatever branch. A
-/// reference or block that is itself the argument of ROW, COLUMN, ROWS or COLUMNS doesn't count. Takes no memory, and
-/// costs about the nodes of the tree.
+/// Whether the formula mentions the place itself, by a reference to it or a block or whole range that covers it, in
+/// whatever branch. A reference, block or whole range that is itself the argument of ROW, COLUMN, ROWS or COLUMNS
+/// doesn't count. Takes no memory, and costs about the nodes of the tree.
 pub fn mentions(tree: &Tree, home: Home, at: Place) -> bool
     ensures { result ≡ needs.mentions (at_home home (relative tree.now.value)) at }
 {
@@ -26,6 +27,12 @@ fn node_mentions(node: &Node, home: Home, at: Place) -> bool
     match node {
         Node::Cell(corner) => corner.at(home).at == at,
         Node::Area(first, last) => first.at(home).block_to(last.at(home)).holds(at),
+        Node::WholeRows(sheet, first, last) => {
+            full_block(Axis::Rows, *sheet, *first, *last, home).holds(at)
+        }
+        Node::WholeCols(sheet, first, last) => {
+            full_block(Axis::Cols, *sheet, *first, *last, home).holds(at)
+        }
         Node::Prefix(_, part) => node_mentions(part, home, at),
         Node::Percent(part) => node_mentions(part, home, at),
         Node::Paren(part) => node_mentions(part, home, at),

@@ -1,1 +1,2 @@
 pub mod LastInside
+pub mod WholePastes

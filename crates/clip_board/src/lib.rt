@@ -8,6 +8,7 @@
 //! =A1+$A$1 of B2    pasted at C4    is    =B3+$A$1
 //! =A1+$A$1 of B2    pasted at A1    is    =#REF!+$A$1
 //! =SUM(A$5:A6) of C6    pasted at C3    is    =SUM(A3:A$5)
+//! =SUM(A:$B) of C6    pasted at E6    is    =SUM($B:C)
 //! ```
 #![tactic(auto)]
 

@@ -9,7 +9,7 @@ ghost use Rattle.tree_rewrite.specs.Pasted as pasting;
 ghost use Rattle.tree_rewrite.specs.Pasted.{address_pasted, is_inside, line_pasted, sheet_if, sheet_pasted};
 ghost use Rattle.tree_rewrite.specs.Pooled.{HoldsChanged};
 
-use cell_addr::{COLS, ROWS, SheetNames};
+use cell_addr::{Axis, COLS, ROWS, SheetNames};
 use cell_value::FaultKind;
 use formula_tree::{Address, Corner, Home, NO_LINE, Node, Pool, Ref, Tree};
 use std::alloc::{AllocError, Global};
@@ -19,8 +19,8 @@ use tree_rewrite::{Replacement, changed_area, changed_cell, replaced};
 ///
 /// A row or column without `$` goes as far as the formula does. A reference to the sheet of `from` becomes one to that of
 /// `to`. Then what is off the sheet, or on a sheet that isn't listed, is the fault `#REF!`, a block where one of its corners
-/// is; and the corners of a block are in order again, each row and each column with its `$`. Both homes lie within the
-/// limits of a sheet.
+/// is, and a range of whole rows or columns where one of its ends is; and the corners of a block, and the ends of such a
+/// range, are in order again, each row and each column with its `$`. Both homes lie within the limits of a sheet.
 ///
 /// A tree that stays the same as seen from its home is answered as it is, and the pool stays as it was; another one is
 /// shared in the pool. Where there is no memory the pool stays as it was. Costs about the nodes of the tree, and asking for
@@ -97,11 +97,11 @@ impl<'a, S: SheetNames> Replacement for Paste<'a, S> {
 
     ghost TakesCell = { λ p r. AreHomesInside p.from p.to };
 
-    ghost TakesArea = { λ p r q. AreHomesInside p.from p.to };
+    ghost TakesArea = { λ p lines r q. AreHomesInside p.from p.to };
 
     ghost for_cell = { λ p r. cell_moved (S.sheets p.sheets.now) p.from p.to r };
 
-    ghost for_area = { λ p r q. area_moved (S.sheets p.sheets.now) p.from p.to r q };
+    ghost for_area = { λ p lines r q. area_moved (S.sheets p.sheets.now) p.from p.to lines r q };
 
     fn reference(&self, reference: Ref) -> Option<Node> {
         let corner = reference.at(self.from);
@@ -113,7 +113,7 @@ impl<'a, S: SheetNames> Replacement for Paste<'a, S> {
         changed_cell(new, reference)
     }
 
-    fn area(&self, first: Ref, last: Ref) -> Option<Node> {
+    fn area(&self, lines: Option<Axis>, first: Ref, last: Ref) -> Option<Node> {
         let (top, bottom) = (first.at(self.from), last.at(self.from));
         let (a, b) = (self.address(top), self.address(bottom));
         let Some(sheet) = self.sheet(top.at.sheet, both_inside(a, b)) else {
@@ -121,7 +121,7 @@ impl<'a, S: SheetNames> Replacement for Paste<'a, S> {
         };
         let (low, high) = Address::in_order(a, b);
         let new = (self.seen(sheet, low), self.seen(sheet, high));
-        changed_area(new, (first, last))
+        changed_area(lines, new, (first, last))
     }
 }
 

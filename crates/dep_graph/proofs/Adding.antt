@@ -7,7 +7,6 @@ use Rattle.std.proofs.lemmas.Bool.Decides.{nat_tests}
 use Rattle.std.proofs.lemmas.List.{get_or_past, length_push, map-append, take_more}
 use Rattle.std.proofs.lemmas.List.Folds.{position_or_len_push}
 use Rattle.std.proofs.lemmas.Option.{same_Some}
-use Rattle.cell_addr.specs.declared.place.Block.{Block}
 use Rattle.needs_order.specs.Needs as plain
 use Rattle.needs_order.proofs.Lists as lists
 use Rattle.node_links.specs.Nodes.{needs_of}
@@ -17,15 +16,15 @@ use Rattle.dep_graph.specs.declared.files.Files.{Files}
 use Rattle.dep_graph.specs.declared.key.Key.{Key}
 use Rattle.dep_graph.specs.declared.net.Net.{Net}
 use Rattle.dep_graph.specs.declared.node.Node.{Node}
-use Rattle.dep_graph.specs.declared.node.Node.TheVariants.{Name, Range}
+use Rattle.dep_graph.specs.declared.node.Node.TheVariants.{Name}
 use Rattle.dep_graph.specs.declared.table.NodeTable.{NodeTable}
-use Rattle.dep_graph.specs.internal.Files.{FilesOn, FindsBy, FindsNode, HoldsBlock, IsServing}
+use Rattle.dep_graph.specs.internal.Files.{FilesOn, FindsBy, HoldsNode, IsServing}
 use Rattle.dep_graph.specs.internal.Filings.{filing_of, owner_at, serves_at, since}
 use Rattle.dep_graph.specs.internal.Keys.{AreNarrow, is_narrow, own_key, same_key}
 use Rattle.dep_graph.specs.internal.Nets.{Grows}
-use Rattle.dep_graph.specs.internal.Numbers.{AreFilings, IsAlive, IsFiled, count_of, found_at, found_under, is_range, node_at, place_of}
+use Rattle.dep_graph.specs.internal.Numbers.{AreFilings, IsAlive, IsFiled, IsHeld, count_of, found_at, found_under, is_range, node_at, place_of}
 use Rattle.dep_graph.specs.internal.Touches.{IsIndexed}
-use Rattle.dep_graph.proofs.Filed.{finds_alike, holds_as, kept_holds, present_serving}
+use Rattle.dep_graph.proofs.Filed.{finds_alike, held_node, holds_as, kept_holds, node_held, present_serving}
 use Rattle.dep_graph.proofs.Growing.{found_more, grown_map, known_inside}
 use Rattle.dep_graph.proofs.Numbers.{alive_inside, at_place, gets-more, got}
 use Rattle.dep_graph.proofs.Served.{holds_by, holds_node}
@@ -89,6 +88,7 @@ abbrev with_current : (files : Files) (current : Vec (Option ℕ) Global) → ((
 with_current files current same = record {
   alloc = files.alloc;
   index = files.index;
+  wholes = files.wholes;
   owners = files.owners;
   serves = files.serves;
   current = current;
@@ -97,6 +97,7 @@ with_current files current same = record {
   owned = λ n f e. files.owned n f (sym (same n) ∙ e);
   served = λ n f e. files.served n f (sym (same n) ∙ e);
   within = files.within;
+  within_wholes = files.within_wholes;
 }
 
 module _ (net : Net) (keys more : List Key) (behind : keys ≡ net.nodes.keys.keys ++ more) where
@@ -115,18 +116,19 @@ module _ (net : Net) (keys more : List Key) (behind : keys ≡ net.nodes.keys.ke
       (still_alive a first, still_alive n second)
 
   pub filed_more : (current : Vec (Option ℕ) Global) (n : ℕ) → n < count_of net.nodes → filing_of current n ≡ filing_of net.files.current n → IsFiled net.nodes net.files n
-      → (b : Block) → found_under net.nodes.lines keys n ≡ Some (Range b) → IsSome (filing_of current n)
-  filed_more current n low same filed b e = subst IsSome (sym same) (filed b (sym (same_found n low) ∙ e))
+      → is_range (found_under net.nodes.lines keys n) ≡ true → IsSome (filing_of current n)
+  filed_more current n low same filed range = subst IsSome (sym same) (filed (ap is_range (sym (same_found n low)) ∙ range))
 
   pub filings_more : (current : Vec (Option ℕ) Global) → (same : (n : ℕ) → filing_of current n ≡ filing_of net.files.current n) → (n f : ℕ) → filing_of current n ≡ Some f
-      → (is_range (found_under net.nodes.lines keys n) ≡ true) × ((b : Block) → found_under net.nodes.lines keys n ≡ Some (Range b) → HoldsBlock net.nodes.lines (FindsNode (with_current net.files current same) n) b)
+      → IsHeld net.nodes.lines keys (with_current net.files current same) n
   filings_more current same n f e =
       let was : filing_of net.files.current n ≡ Some f = sym (same n) ∙ e in
-      let found : found_under net.nodes.lines keys n ≡ found_at net.nodes n = same_found n (filed_inside net n f was) in
-      (ap is_range found ∙ (net.filed n f was).0, λ b at. holds_node (with_current net.files current same) net.nodes.lines n f b e (holds_by net.files net.nodes.lines n f b was ((net.filed n f was).1 b (sym found ∙ at))))
+      let (a, at, holds) = held_node net.nodes.lines net.nodes.keys.keys net.files n (net.filed n f was) in
+      node_held net.nodes.lines keys (with_current net.files current same) n a (same_found n (filed_inside net n f was) ∙ at)
+      (holds_node (with_current net.files current same) net.nodes.lines n f a e (holds_by net.files net.nodes.lines n f a was holds))
 
   pub used_more : (links : ℕ → List ℕ) (current : Vec (Option ℕ) Global) → ((n : ℕ) → links n ≡ needs_of net.links n) → ((n : ℕ) → filing_of current n ≡ filing_of net.files.current n)
-      → (a n : ℕ) → plain.has n (links a) ≡ true → (b : Block) → found_under net.nodes.lines keys n ≡ Some (Range b) → IsSome (filing_of current n)
+      → (a n : ℕ) → plain.has n (links a) ≡ true → is_range (found_under net.nodes.lines keys n) ≡ true → IsSome (filing_of current n)
   used_more links current same filings a n h =
       let before : plain.has n (needs_of net.links a) ≡ true = subst (λ l. plain.has n l ≡ true) (same a) h in
       filed_more current n (known_inside net a n before) (filings n) (net.used a n before)
@@ -179,7 +181,7 @@ was_need new old node is a n h = by (eqb a node) (subst (λ l. plain.has n l ≡
 
 -- what is no range needs no filing
 pub cell_filed : (t : NodeTable) (files : Files) (n : ℕ) (a : Node) → found_at t n ≡ Some a → is_range (Some a) ≡ false → IsFiled t files n
-cell_filed t files n a is none b e = absurd (false≢true (sym none ∙ ap is_range (sym is ∙ e)))
+cell_filed t files n a is none range = absurd (false≢true (sym none ∙ (ap is_range (sym is) ∙ range)))
 
 -- ---- by results
 
@@ -217,13 +219,11 @@ each_number numbers more number P is before here n h = ⊎_elim
 pub filings_on : (t : NodeTable) (old new : Files) → AreFilings t old → FilesOn old new → AreFilings t new
 filings_on t old new filed on n f e =
     let was : filing_of old.current n ≡ Some f = sym (ap (λ c. filing_of c n) on.current) ∙ e in
-    ((filed n f was).0, λ b at. holds_node new t.lines n f b e (kept_holds t.lines old new n (since f) b on (present_serving old n f was) (holds_by old t.lines n f b was ((filed n f was).1 b at))))
-
-one_range : (a b : Block) → Range a ≡ Range b → a ≡ b
-one_range a b e = cc
+    let (a, at, holds) = held_node t.lines t.keys.keys old n (filed n f was) in
+    node_held t.lines t.keys.keys new n a at (holds_node new t.lines n f a e (kept_holds t.lines old new n (since f) a on (present_serving old n f was) (holds_by old t.lines n f a was holds)))
 
 -- where one of them serves a node, and those of the node before no longer do
-module _ (t : NodeTable) (mid new : Files) (number filing : ℕ) (index : new.index ≡ mid.index) (owners : new.owners ≡ mid.owners) (serves : (f : ℕ) → serves_at new.serves f ≡ (serves_at mid.serves f || eqb f filing))
+module _ (t : NodeTable) (mid new : Files) (number filing : ℕ) (index : new.index ≡ mid.index) (wholes : new.wholes ≡ mid.wholes) (owners : new.owners ≡ mid.owners) (serves : (f : ℕ) → serves_at new.serves f ≡ (serves_at mid.serves f || eqb f filing))
     (kept : (n : ℕ) → filing_of new.current n ≡ cond (eqb n number) (Some filing) (filing_of mid.current n)) (owner : owner_at mid.owners filing ≡ Some number) where
   -- the filings of the node from this one on
   own_serving : (f : ℕ) → IsServing mid number (since filing) f ↔ IsServing new number (since filing) f
@@ -257,36 +257,38 @@ module _ (t : NodeTable) (mid new : Files) (number filing : ℕ) (index : new.in
         ),
   )
 
-  pub filings_kept : (block : Block) → AreFilings t mid → found_at t number ≡ Some (Range block) → HoldsBlock t.lines (FindsBy mid number (since filing)) block → AreFilings t new
-  filings_kept block filed found holds n f e = held (by (eqb n number) refl (sym (kept n) ∙ e))
+  pub filings_kept : (range : Node) → AreFilings t mid → found_at t number ≡ Some range → HoldsNode t.lines (FindsBy mid number (since filing)) range → AreFilings t new
+  filings_kept range filed found holds n f e = held (by (eqb n number) refl (sym (kept n) ∙ e))
     where
       Held : ℕ → ℕ → Type 0
-      Held m g = (is_range (found_at t m) ≡ true) × ((b : Block) → found_at t m ≡ Some (Range b) → HoldsBlock t.lines (FindsBy new m (since g)) b)
+      Held m g = (a : Node) × (found_at t m ≡ Some a) × HoldsNode t.lines (FindsBy new m (since g)) a
 
-      held : Held n f → (is_range (found_at t n) ≡ true) × ((b : Block) → found_at t n ≡ Some (Range b) → HoldsBlock t.lines (FindsNode new n) b)
-      held (range, holds) = (range, λ b at. holds_node new t.lines n f b e (holds b at))
+      held : Held n f → IsHeld t.lines t.keys.keys new n
+      held (a, at, holds) = node_held t.lines t.keys.keys new n a at (holds_node new t.lines n f a e holds)
 
       own : Held number filing
       own = (
-        ap is_range found,
-        λ b at. holds_as t.lines (FindsBy mid number (since filing)) (FindsBy new number (since filing)) b (λ spot. finds_alike mid new number (since filing) (since filing) spot index own_serving)
-            (subst (λ x. HoldsBlock t.lines (FindsBy mid number (since filing)) x) (one_range block b (same_Some (Range block) (Range b) (sym found ∙ at))) holds),
+        range,
+        found,
+        holds_as t.lines (FindsBy mid number (since filing)) (FindsBy new number (since filing)) range (λ spot. finds_alike mid new number (since filing) (since filing) spot index wholes own_serving) holds,
       )
 
       by : (c : Bool) → eqb n number ≡ c → cond c (Some filing) (filing_of mid.current n) ≡ Some f → Held n f
       by true is same = subst (λ m. Held m f) (sym (eqb-true n number is)) (subst (Held number) (same_Some filing f same) own)
-      by false is same = (
-        (filed n f same).0,
-        λ b at. holds_as t.lines (FindsBy mid n (since f)) (FindsBy new n (since f)) b
-            (λ spot. finds_alike mid new n (since f) (since f) spot index (λ g. others_serving n f g (λ here. false≢true (sym is ∙ eq-eqb n number here)))) (holds_by mid t.lines n f b same ((filed n f same).1 b at)),
-      )
+      by false is same =
+          let (a, at, holds) = held_node t.lines t.keys.keys mid n (filed n f same) in (
+            a,
+            at,
+            holds_as t.lines (FindsBy mid n (since f)) (FindsBy new n (since f)) a
+                (λ spot. finds_alike mid new n (since f) (since f) spot index wholes (λ g. others_serving n f g (λ here. false≢true (sym is ∙ eq-eqb n number here)))) (holds_by mid t.lines n f a same holds),
+          )
 
 pub still_filed : (t : NodeTable) (mid new : Files) (number filing : ℕ) → ((n : ℕ) → filing_of new.current n ≡ cond (eqb n number) (Some filing) (filing_of mid.current n)) → (n : ℕ) → IsFiled t mid n → IsFiled t new n
-still_filed t mid new number filing kept n filed b at = subst IsSome (sym (kept n)) (by (eqb n number) (filed b at))
+still_filed t mid new number filing kept n filed range = subst IsSome (sym (kept n)) (by (eqb n number) (filed range))
   where
     by : (c : Bool) → IsSome (filing_of mid.current n) → IsSome (cond c (Some filing) (filing_of mid.current n))
     by true h = refl
     by false h = h
 
 pub now_filed : (t : NodeTable) (mid new : Files) (number filing : ℕ) → ((n : ℕ) → filing_of new.current n ≡ cond (eqb n number) (Some filing) (filing_of mid.current n)) → IsFiled t new number
-now_filed t mid new number filing kept b at = subst IsSome (sym (kept number ∙ ap (λ c. cond c (Some filing) (filing_of mid.current number)) (eq-eqb number number refl))) refl
+now_filed t mid new number filing kept range = subst IsSome (sym (kept number ∙ ap (λ c. cond c (Some filing) (filing_of mid.current number)) (eq-eqb number number refl))) refl

@@ -1,13 +1,14 @@
 -- Blocks that filings hold: a new filing holds its block, others stay, and structural operations carry along what they don't
 -- bend. Serves the needs of the graph by its filings.
-use Rattle.std.proofs.Common.{◌≡◌, ◌∙◌, sym, ap, refl, subst, arith, ℕ, ◌<◌, ◌↔◌, ⊎_elim, inl, inr, ◌⊎◌, true, length, nat_lt, Some, IsTrue}
-use Rattle.std.proofs.lemmas.Bool.{and_from, and_parts, le-leb, leb-true, lt-ltb, ltb-true, or_cases, or_left, or_right}
-use Rattle.block_index.specs.Index.{finds}
+use Rattle.std.proofs.Common.{◌≡◌, ◌∙◌, sym, ap, refl, subst, arith, ℕ, ◌<◌, ◌↔◌, ⊎_elim, inl, inr, ◌⊎◌, true, List, length, nat_lt, Option, Some, None, IsTrue}
+use Rattle.std.proofs.lemmas.Bool.{and_from, and_parts, false≢true, le-leb, leb-true, lt-ltb, ltb-true, or_cases, or_left, or_right}
+use Rattle.std.proofs.lemmas.Option.{same_Some}
 use Rattle.cell_addr.specs.Place.{IsBlockInside, covers}
 use Rattle.cell_addr.specs.declared.axis.Axis.{Axis}
 use Rattle.cell_addr.specs.declared.axis.Axis.TheVariants.{Cols, Rows}
 use Rattle.cell_addr.specs.declared.place.Block.{Block}
 use Rattle.cell_addr.specs.declared.place.Place.{Place}
+use Rattle.cell_addr.specs.declared.whole.Whole as whole
 use Rattle.shift_core.specs.Bent.{BendsBlock, CutsBlock, IsBent, IsCut}
 use Rattle.shift_core.specs.Carried.{first_place, last_place}
 use Rattle.shift_core.specs.Form.{form_of}
@@ -26,11 +27,18 @@ use Rattle.place_lines.proofs.Known.{same_number, spot_known, spot_was_there, st
 use Rattle.place_lines.proofs.Places.{one_block, one_place, one_spot, same_area}
 use Rattle.touch_index.specs.Handed.{IsHandedOn, fresh_part}
 use Rattle.touch_index.proofs.Handing.{handed_on}
+use Rattle.dep_graph.specs.Nodes.{covers_node}
 use Rattle.dep_graph.specs.declared.files.Files.{Files}
+use Rattle.dep_graph.specs.declared.key.Key.{Key}
+use Rattle.dep_graph.specs.declared.node.Node.{Node}
+use Rattle.dep_graph.specs.declared.node.Node.TheVariants as node
 use Rattle.dep_graph.specs.declared.serving.Serving.{Serving}
-use Rattle.dep_graph.specs.internal.Files.{AreServing, FilesOn, FindsBy, HasSpot, HoldsBlock, IsServing, finds_filing}
+use Rattle.dep_graph.specs.internal.Files.{AreServing, FilesOn, FindsBy, FindsNode, HasSpot, HoldsBlock, HoldsNode, IsServing, IsSpotOf, finds_filing}
 use Rattle.dep_graph.specs.internal.Filings.{filing_of, owner_at, serves_at, since}
-use Rattle.dep_graph.proofs.FiledCells.{owner_inside, served_inside}
+use Rattle.dep_graph.specs.internal.Numbers.{IsHeld, found_under, is_range}
+use Rattle.dep_graph.specs.internal.Wholes.{HoldsWhole}
+use Rattle.dep_graph.proofs.FiledCells.{finds_same, owner_inside, served_inside}
+use Rattle.dep_graph.proofs.Wholes.{lines_hold, whole_covers}
 
 -- ---- known lines, as tests
 
@@ -64,23 +72,83 @@ known_after form old new spot moved passes = known_passes new spot (stays_known 
 
 -- ---- filings that hold blocks
 
--- what holds a block by a test does so by another that passes the same
-pub holds_as : (lines : PlaceLines) (old new : Spot → Type 0) (b : Block) → ((spot : Spot) → old spot ↔ new spot) → HoldsBlock lines old b → HoldsBlock lines new b
-holds_as lines old new b same holds = record {
+-- what holds a range by a test does so by another that passes the same
+pub holds_as : (lines : PlaceLines) (old new : Spot → Type 0) (a : Node) → ((spot : Spot) → old spot ↔ new spot) → HoldsNode lines old a → HoldsNode lines new a
+holds_as lines old new (node.Cell p) same holds = absurd holds
+holds_as lines old new (node.Name scope word) same holds = absurd holds
+holds_as lines old new (node.Range b) same holds = record {
   exact = λ p. (λ found. (holds.exact p).0 ((same (spot_of lines p)).1 found), λ covered. (same (spot_of lines p)).0 ((holds.exact p).1 covered));
   known = λ spot found. holds.known spot ((same spot).1 found);
 }
-
--- a new filing that just the spots of a block find holds the block
-pub held : (lines : PlaceLines) (old files : Files) (n f : ℕ) (b : Block) → FilesOn old files → length old.owners.items ≡ f → owner_at files.owners f ≡ Some n
-    → ((spot : Spot) → IsTrue (finds_filing files spot f) ↔ HasSpot lines b spot) → HoldsBlock lines (FindsBy files n (since f)) b
-held lines old files n f b on fresh owner finds = record {
-  exact = λ p. (
-    λ found. let (q, covered, is) = (finds (spot_of lines p)).0 (by (spot_of lines p) found) in subst (λ r. covers b r ≡ true) (one_place lines q p is) covered,
-    λ covered. (f, (owner, omega arith, inl refl), (finds (spot_of lines p)).1 (p, covered, refl)),
+holds_as lines old new (node.Whole w) same holds = record {
+  sheet = λ spot found. holds.sheet spot ((same spot).1 found);
+  exact = λ spot position sheet is. (
+    λ found. (holds.exact spot position sheet is).0 ((same spot).1 found),
+    λ within. (same spot).0 ((holds.exact spot position sheet is).1 within),
   );
-  known = λ spot found. let (q, covered, is) = (finds spot).0 (by spot found) in subst (λ s. is_known lines s ≡ true) is (known_passes lines (spot_of lines q) (spot_known lines q));
+  known = λ spot found. holds.known spot ((same spot).1 found);
 }
+
+one_range : (b c : Block) → node.Range b ≡ node.Range c → b ≡ c
+one_range b c e = cc
+
+range_whole : (b : Block) (w : whole.Whole) → node.Range b ≡ node.Whole w → ⊥
+range_whole b w e = cc
+
+same_whole : (v w : whole.Whole) → node.Whole v ≡ node.Whole w → v ≡ w
+same_whole v w e = cc
+
+-- of all places just those of its cells pass the test
+pub node_covers : (lines : PlaceLines) (test : Spot → Type 0) (a : Node) (p : Place) → HoldsNode lines test a → test (spot_of lines p) ↔ IsTrue (covers_node a (node.Cell p))
+node_covers lines test (node.Cell q) p holds = absurd holds
+node_covers lines test (node.Name scope word) p holds = absurd holds
+node_covers lines test (node.Range b) p holds = holds.exact p
+node_covers lines test (node.Whole w) p holds = whole_covers lines test w p holds
+
+-- a number that is held is that of a range which its cells find
+pub held_node : (lines : PlaceLines) (keys : List Key) (files : Files) (n : ℕ) → IsHeld lines keys files n → (a : Node) × (found_under lines keys n ≡ Some a) × HoldsNode lines (FindsNode files n) a
+held_node lines keys files n (range, blocks, wholes) = by (found_under lines keys n) refl range
+  where
+    by : (o : Option Node) → found_under lines keys n ≡ o → is_range o ≡ true → (a : Node) × (found_under lines keys n ≡ Some a) × HoldsNode lines (FindsNode files n) a
+    by (Some (node.Range b)) found h = (node.Range b, found, blocks b found)
+    by (Some (node.Whole w)) found h = (node.Whole w, found, wholes w found)
+    by (Some (node.Cell p)) found h = absurd (false≢true h)
+    by (Some (node.Name scope word)) found h = absurd (false≢true h)
+    by None found h = absurd (false≢true h)
+
+-- and the other way round
+pub node_held : (lines : PlaceLines) (keys : List Key) (files : Files) (n : ℕ) (a : Node) → found_under lines keys n ≡ Some a → HoldsNode lines (FindsNode files n) a → IsHeld lines keys files n
+node_held lines keys files n (node.Cell p) found holds = absurd holds
+node_held lines keys files n (node.Name scope word) found holds = absurd holds
+node_held lines keys files n (node.Range b) found holds = (
+  ap is_range found,
+  λ c at. subst (HoldsBlock lines (FindsNode files n)) (one_range b c (same_Some (node.Range b) (node.Range c) (sym found ∙ at))) holds,
+  λ w at. absurd (range_whole b w (same_Some (node.Range b) (node.Whole w) (sym found ∙ at))),
+)
+node_held lines keys files n (node.Whole w) found holds = (
+  ap is_range found,
+  λ b at. absurd (range_whole b w (sym (same_Some (node.Whole w) (node.Range b) (sym found ∙ at)))),
+  λ v at. subst (HoldsWhole lines (FindsNode files n)) (same_whole w v (same_Some (node.Whole w) (node.Whole v) (sym found ∙ at))) holds,
+)
+
+-- what just the spots of a range pass holds it
+spots_hold : (lines : PlaceLines) (test : Spot → Type 0) (a : Node) → is_range (Some a) ≡ true → ((spot : Spot) → test spot ↔ IsSpotOf lines a spot) → HoldsNode lines test a
+spots_hold lines test (node.Cell p) range same = absurd (false≢true range)
+spots_hold lines test (node.Name scope word) range same = absurd (false≢true range)
+spots_hold lines test (node.Range b) range same = record {
+  exact = λ p. (
+    λ passes. let (q, covered, is) = (same (spot_of lines p)).0 passes in subst (λ r. covers b r ≡ true) (one_place lines q p is) covered,
+    λ covered. (same (spot_of lines p)).1 (p, covered, refl),
+  );
+  known = λ spot passes. let (q, covered, is) = (same spot).0 passes in subst (λ s. is_known lines s ≡ true) is (known_passes lines (spot_of lines q) (spot_known lines q));
+}
+spots_hold lines test (node.Whole w) range same = lines_hold lines test w same
+
+-- a new filing that just the spots of a range find holds the range
+pub held : (lines : PlaceLines) (old files : Files) (n f : ℕ) (a : Node) → is_range (Some a) ≡ true → FilesOn old files → length old.owners.items ≡ f → owner_at files.owners f ≡ Some n
+    → ((spot : Spot) → IsTrue (finds_filing files spot f) ↔ IsSpotOf lines a spot) → HoldsNode lines (FindsBy files n (since f)) a
+held lines old files n f a range on fresh owner finds =
+    spots_hold lines (FindsBy files n (since f)) a range (λ spot. (λ found. (finds spot).0 (by spot found), λ is. (f, (owner, omega arith, inl refl), (finds spot).1 is)))
   where
     by : (spot : Spot) → FindsBy files n (since f) spot → finds_filing files spot f ≡ true
     by spot (g, (owns, from, which), found) = elim which [
@@ -106,8 +174,8 @@ kept_finds old new n all spot on are = (goes, comes)
         let low : f < length old.owners.items = inside f which in
         (f, (sym (on.owners f low) ∙ owner, from, elim which [ inl same ↦ inl same | inr serves ↦ inr (sym (on.serves f) ∙ serves) ]), sym (on.finds f low spot) ∙ found)
 
-pub kept_holds : (lines : PlaceLines) (old new : Files) (n : ℕ) (all : Serving) (b : Block) → FilesOn old new → AreServing old n all → HoldsBlock lines (FindsBy old n all) b → HoldsBlock lines (FindsBy new n all) b
-kept_holds lines old new n all b on are holds = holds_as lines (FindsBy old n all) (FindsBy new n all) b (λ spot. kept_finds old new n all spot on are) holds
+pub kept_holds : (lines : PlaceLines) (old new : Files) (n : ℕ) (all : Serving) (a : Node) → FilesOn old new → AreServing old n all → HoldsNode lines (FindsBy old n all) a → HoldsNode lines (FindsBy new n all) a
+kept_holds lines old new n all a on are holds = holds_as lines (FindsBy old n all) (FindsBy new n all) a (λ spot. kept_finds old new n all spot on are) holds
 
 -- and they serve it still
 pub kept_serving : (old new : Files) (n : ℕ) (all : Serving) → FilesOn old new → AreServing old n all → AreServing new n all
@@ -121,10 +189,10 @@ pub present_serving : (files : Files) (n f : ℕ) → filing_of files.current n 
 present_serving files n f at = ((files.owned n f at, omega arith, inl refl), (files.owned n f at, omega arith, inl refl))
 
 -- what serves a node by other filings finds the same
-pub finds_alike : (old new : Files) (n : ℕ) (all more : Serving) (spot : Spot) → new.index ≡ old.index → ((f : ℕ) → IsServing old n all f ↔ IsServing new n more f) → FindsBy old n all spot ↔ FindsBy new n more spot
-finds_alike old new n all more spot index same = (
-  λ h. let (f, serves, found) = h in (f, (same f).0 serves, ap (λ x. finds x spot.sheet spot.row spot.col f) index ∙ found),
-  λ h. let (f, serves, found) = h in (f, (same f).1 serves, sym (ap (λ x. finds x spot.sheet spot.row spot.col f) index) ∙ found),
+pub finds_alike : (old new : Files) (n : ℕ) (all more : Serving) (spot : Spot) → new.index ≡ old.index → new.wholes ≡ old.wholes → ((f : ℕ) → IsServing old n all f ↔ IsServing new n more f) → FindsBy old n all spot ↔ FindsBy new n more spot
+finds_alike old new n all more spot index wholes same = (
+  λ h. let (f, serves, found) = h in (f, (same f).0 serves, finds_same old new index wholes spot f ∙ found),
+  λ h. let (f, serves, found) = h in (f, (same f).1 serves, sym (finds_same old new index wholes spot f) ∙ found),
 )
 
 -- ---- structural operations

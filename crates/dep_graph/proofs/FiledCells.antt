@@ -1,5 +1,5 @@
 -- Filings under rows by columns of a sheet, and those that there were before. Serves the filing of ranges.
-use Rattle.std.proofs.Common.{◌≡◌, ◌∙◌, sym, ap, refl, subst, arith, ℕ, zero, suc, ◌<◌, ◌≤◌, inl, inr, ⊎_elim, Bool, true, false, cond, List, [], ◌∷◌, ◌++◌, length, get_or, nat_eq, eqb-true, Some, None}
+use Rattle.std.proofs.Common.{◌≡◌, ◌∙◌, sym, ap, refl, subst, arith, ℕ, zero, suc, ◌<◌, ◌≤◌, inl, inr, ⊎_elim, Bool, true, false, cond, ◌||◌, List, [], ◌∷◌, ◌++◌, length, get_or, nat_eq, eqb-true, Some, None}
 use Rattle.std.specs.Prelude.{slice_get}
 use Rattle.std.specs.declared.alloc.Global.{Global}
 use Rattle.std.specs.declared.ops.Range.{Range}
@@ -20,7 +20,8 @@ use Rattle.place_lines.specs.declared.spot.Spot.{Spot}
 use Rattle.place_lines.proofs.Places.{same_spot}
 use Rattle.dep_graph.specs.declared.files.Files.{Files}
 use Rattle.dep_graph.specs.internal.Filings.{owner_at, serves_at}
-use Rattle.dep_graph.specs.internal.Files.{FilesCells, FilesOn, HasSpot, finds_filing, in_area, in_row, in_run}
+use Rattle.dep_graph.specs.internal.Wholes.{finds_along, is_on_sheet}
+use Rattle.dep_graph.specs.internal.Files.{FilesOn, FilesSpots, HasSpot, finds_filing, in_area, in_row, in_run}
 
 -- ---- tests
 
@@ -161,16 +162,32 @@ pub got_last : (xs : List ℕ) (x : ℕ) → slice_get (xs ++ x ∷ []) (length 
 got_last [] x = refl
 got_last (y ∷ xs) x = got_last xs x
 
+-- each filing that is found is one of those that there are
+filing_inside : (files : Files) (spot : Spot) (f : ℕ) → finds_filing files spot f ≡ true → f < length files.owners.items
+filing_inside files spot f found = elim (or_cases (finds files.index spot.sheet spot.row spot.col f) _ found) [
+  | inl range ↦ files.within spot.sheet spot.row spot.col f range
+  | inr along ↦ elim (or_cases (finds_along Rows files.wholes spot f) (finds_along Cols files.wholes spot f) along) [
+    | inl row ↦ files.within_wholes spot.sheet spot.row 0 f (and_parts (is_on_sheet Rows spot) (finds files.wholes spot.sheet spot.row 0 f) row).1
+    | inr col ↦ files.within_wholes spot.sheet spot.col 1 f (and_parts (is_on_sheet Cols spot) (finds files.wholes spot.sheet spot.col 1 f) col).1
+  ]
+]
+
+-- where the slots are the same, the same filings are found
+pub finds_same : (old new : Files) → new.index ≡ old.index → new.wholes ≡ old.wholes → (spot : Spot) (f : ℕ) → finds_filing new spot f ≡ finds_filing old spot f
+finds_same old new index wholes spot f =
+    ap (λ x. finds x spot.sheet spot.row spot.col f || (finds_along Rows new.wholes spot f || finds_along Cols new.wholes spot f)) index
+    ∙ ap (λ y. finds old.index spot.sheet spot.row spot.col f || (finds_along Rows y spot f || finds_along Cols y spot f)) wholes
+
 -- a new filing leaves those that there were
-module _ (test : Spot → Bool) (filing : ℕ) (old mid new : Files) (index : mid.index ≡ old.index) (fresh : length old.owners.items ≤ filing) (filed : FilesCells test filing mid new) where
+module _ (test : Spot → Type 0) (filing : ℕ) (old mid new : Files) (index : mid.index ≡ old.index) (wholes : mid.wholes ≡ old.wholes) (fresh : length old.owners.items ≤ filing) (filed : FilesSpots test filing mid new) where
   was_found : (spot : Spot) (f : ℕ) → finds_filing mid spot f ≡ finds_filing old spot f
-  was_found spot f = ap (λ x. finds x spot.sheet spot.row spot.col f) index
+  was_found spot f = finds_same old mid index wholes spot f
 
   others_stay : (f : ℕ) → f < length old.owners.items → (spot : Spot) → finds_filing new spot f ≡ finds_filing old spot f
   others_stay f below spot = same_test (finds_filing new spot f) (finds_filing old spot f)
       (λ found. ⊎_elim
       (λ (before : finds_filing mid spot f ≡ true). sym (was_found spot f) ∙ before)
-      (λ (is : (test spot ≡ true) × (f ≡ filing)). absurd (omega (arith, is.1, below, fresh)))
+      (λ (is : test spot × (f ≡ filing)). absurd (omega (arith, is.1, below, fresh)))
       (filed.only spot f found))
       (λ found. filed.grows spot f (was_found spot f ∙ found))
 
@@ -185,8 +202,8 @@ module _ (test : Spot → Bool) (filing : ℕ) (old mid new : Files) (index : mi
   }
 
   -- nothing found the new filing before, so what finds it now passes the test
-  pub only_new : (spot : Spot) → finds_filing new spot filing ≡ true → test spot ≡ true
+  pub only_new : (spot : Spot) → finds_filing new spot filing ≡ true → test spot
   only_new spot found = ⊎_elim
-      (λ (before : finds_filing mid spot filing ≡ true). absurd (omega (arith, fresh, old.within spot.sheet spot.row spot.col filing (sym (was_found spot filing) ∙ before))))
-      (λ (is : (test spot ≡ true) × (filing ≡ filing)). is.0)
+      (λ (before : finds_filing mid spot filing ≡ true). absurd (omega (arith, fresh, filing_inside old spot filing (sym (was_found spot filing) ∙ before))))
+      (λ (is : test spot × (filing ≡ filing)). is.0)
       (filed.only spot filing found)

@@ -1,5 +1,8 @@
 pub mod Places
+pub mod Wholes
+pub mod FiledSlots
 pub mod Numbers
+pub mod LineRuns
 pub mod FiledCells
 pub mod Put
 pub mod Filed

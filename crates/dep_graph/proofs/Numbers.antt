@@ -20,13 +20,15 @@ use Rattle.place_lines.proofs.Narrow.{narrow_block, narrow_numbers, narrow_place
 use Rattle.place_lines.proofs.Places.{area_returns, block_returns, one_block, one_place, place_returns, spot_returns}
 use Rattle.needs_order.specs.Needs as plain
 use Rattle.needs_order.proofs.Lists as lists
+use Rattle.dep_graph.specs.declared.ends.Ends.{Ends}
 use Rattle.dep_graph.specs.declared.key.Key.{Key}
 use Rattle.dep_graph.specs.declared.key.Key.TheVariants as key
 use Rattle.dep_graph.specs.declared.node.Node.{Node}
-use Rattle.dep_graph.specs.declared.node.Node.TheVariants.{Cell, Name, Range}
+use Rattle.dep_graph.specs.declared.node.Node.TheVariants.{Cell, Name, Range, Whole}
 use Rattle.dep_graph.specs.declared.table.NodeTable.{NodeTable}
-use Rattle.dep_graph.specs.internal.Keys.{AreNarrow, is_narrow, is_narrow_line, key_of, node_of, own_key, same_key, same_keys}
+use Rattle.dep_graph.specs.internal.Keys.{AreNarrow, ends_of, is_narrow, is_narrow_line, key_of, node_of, own_key, same_key, same_keys, whole_at}
 use Rattle.dep_graph.specs.internal.Numbers.{IsAlive, count_of, found_at, found_under, key_at, key_place, node_at, place_of}
+use Rattle.dep_graph.proofs.Wholes.{ends_return, one_whole, whole_returns}
 
 -- ---- keys of lists
 
@@ -111,8 +113,11 @@ node_returns lines (Range b) h =
     let (bottom, right) = and_parts (is_narrow_line (area_of lines b).bottom) (is_narrow_line (area_of lines b).right) last in
     ap (option_map Range) (block_returns lines b (narrow_block lines b (low_line (area_of lines b).top top) (low_line (area_of lines b).left left)
     (low_line (area_of lines b).bottom bottom) (low_line (area_of lines b).right right)))
+node_returns lines (Whole w) h =
+    let (first, last) = and_parts (is_narrow_line (ends_of lines w).first) (is_narrow_line (ends_of lines w).last) h in
+    ap (option_map Whole) (whole_returns lines w first last)
 
-mapped : {A : Type 0} (f : A → Node) (o : Option A) (a : Node) → option_map f o ≡ Some a → (x : A) × (o ≡ Some x) × (a ≡ f x)
+pub mapped : {A : Type 0} (f : A → Node) (o : Option A) (a : Node) → option_map f o ≡ Some a → (x : A) × (o ≡ Some x) × (a ≡ f x)
 mapped f None a e = absurd (none e)
   where
     none : None ≡ Some a → ⊥
@@ -128,6 +133,21 @@ key_returns lines (key.Name scope word) a e = ap (key_of lines) (sym (same_Some 
 key_returns lines (key.Range area) a e =
     let (b, at, is) = mapped Range (block_at lines area) a e in
     ap (key_of lines) is ∙ ap key.Range (area_returns lines area b at)
+key_returns lines (key.Whole ends) a e =
+    let (w, at, is) = mapped Whole (whole_at lines ends) a e in
+    ap (key_of lines) is ∙ ap key.Whole (ends_return lines ends w at)
+
+cell_whole : (s : Spot) (e : Ends) → key.Cell s ≡ key.Whole e → ⊥
+cell_whole s e h = cc
+
+name_whole : (scope word : ℕ) (e : Ends) → key.Name scope word ≡ key.Whole e → ⊥
+name_whole scope word e h = cc
+
+range_whole : (a : Area) (e : Ends) → key.Range a ≡ key.Whole e → ⊥
+range_whole a e h = cc
+
+same_ends : (d e : Ends) → key.Whole d ≡ key.Whole e → d ≡ e
+same_ends d e h = cc
 
 -- no two nodes have one key
 pub one_node : (lines : PlaceLines) (a b : Node) → key_of lines a ≡ key_of lines b → a ≡ b
@@ -143,6 +163,7 @@ one_node lines (Cell p) (Range b) e = absurd (apart e)
   where
     apart : key.Cell (spot_of lines p) ≡ key.Range (area_of lines b) → ⊥
     apart e = cc
+one_node lines (Cell p) (Whole w) e = absurd (cell_whole (spot_of lines p) (ends_of lines w) e)
 one_node lines (Name scope word) (Cell q) e = absurd (apart e)
   where
     apart : key.Name scope word ≡ key.Cell (spot_of lines q) → ⊥
@@ -155,6 +176,7 @@ one_node lines (Name scope word) (Range b) e = absurd (apart e)
   where
     apart : key.Name scope word ≡ key.Range (area_of lines b) → ⊥
     apart e = cc
+one_node lines (Name scope word) (Whole w) e = absurd (name_whole scope word (ends_of lines w) e)
 one_node lines (Range b) (Cell q) e = absurd (apart e)
   where
     apart : key.Range (area_of lines b) ≡ key.Cell (spot_of lines q) → ⊥
@@ -167,6 +189,11 @@ one_node lines (Range b) (Range c) e = ap Range (one_block lines b c (same_range
   where
     same_range : (a d : Area) → key.Range a ≡ key.Range d → a ≡ d
     same_range a d e = cc
+one_node lines (Range b) (Whole w) e = absurd (range_whole (area_of lines b) (ends_of lines w) e)
+one_node lines (Whole w) (Cell p) e = absurd (cell_whole (spot_of lines p) (ends_of lines w) (sym e))
+one_node lines (Whole w) (Name scope word) e = absurd (name_whole scope word (ends_of lines w) (sym e))
+one_node lines (Whole w) (Range b) e = absurd (range_whole (area_of lines b) (ends_of lines w) (sym e))
+one_node lines (Whole v) (Whole w) e = ap Whole (one_whole lines v w (same_ends (ends_of lines v) (ends_of lines w) e))
 
 -- ---- nodes under numbers
 

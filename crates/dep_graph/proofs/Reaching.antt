@@ -6,7 +6,6 @@ use Rattle.std.proofs.lemmas.Bool.Decides.{nat_tests}
 use Rattle.std.proofs.lemmas.List.{get_or_default}
 use Rattle.needs_order.specs.Needs as plain
 use Rattle.needs_order.proofs.Lists as lists
-use Rattle.block_index.specs.Index.{slot_count, slots_of}
 use Rattle.node_reach.specs.Arrows as arrows
 use Rattle.node_reach.specs.Arrows.{LeadsTo}
 use Rattle.dep_graph.specs.Needs.{Chain, Reaches}
@@ -96,14 +95,14 @@ true_lt : (v n : ℕ) → nat_lt v n ≡ true → v < n
 true_lt v n h = grind (arith, nat_tests)
 
 -- starts are nodes and slots
-pub starts_inside : (net : Net) (nodes : List Node) → ((sheet row col s : ℕ) → plain.has s (slots_of net.files.index sheet row col) ≡ true → s < slot_count net.files.index) → (v : ℕ) → plain.has v (flat_map (starts_of net) nodes) ≡ true → v < total net
-starts_inside net nodes inside v h =
+pub starts_inside : (net : Net) (nodes : List Node) → (v : ℕ) → plain.has v (flat_map (starts_of net) nodes) ≡ true → v < total net
+starts_inside net nodes v h =
     let (m, listed, start) = has_starts (starts_of net) nodes v h in
     ⊎_elim
     (λ (m_in : place_of net.nodes m < node_total net).
     let same : place_of net.nodes m ≡ v = one (place_of net.nodes m) v (subst (λ l. plain.has v l ≡ true) (starts_low net m m_in) start) in
     omega (arith, same, m_in))
-    (λ (past : node_total net ≤ place_of net.nodes m). behind_inside net (key_of net.nodes.lines m) v (subst (λ l. plain.has v l ≡ true) (starts_high net m past) start) inside)
+    (λ (past : node_total net ≤ place_of net.nodes m). behind_inside net (key_of net.nodes.lines m) v (subst (λ l. plain.has v l ≡ true) (starts_high net m past) start))
     (cases_lt (place_of net.nodes m) (node_total net))
   where
     one : (x a : ℕ) → plain.has a (x ∷ []) ≡ true → x ≡ a

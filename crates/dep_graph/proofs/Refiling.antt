@@ -23,31 +23,35 @@ use Rattle.place_lines.specs.declared.spot.Spot.{Spot}
 use Rattle.shift_core.specs.Form.{form_of}
 use Rattle.shift_core.specs.Sound.{IsSound}
 use Rattle.shift_core.specs.Tables.{place_after}
+use Rattle.shift_core.specs.declared.form.Form.{Form}
 use Rattle.shift_core.specs.declared.shift.Shift.{Shift}
 use Rattle.touch_index.specs.Handed.{IsHandedOn, fresh_part}
 use Rattle.touch_index.proofs.Staying.{block_is_somewhere}
 use Rattle.dep_graph.specs.Shifted.{node_after}
 use Rattle.dep_graph.specs.declared.files.Files.{Files}
+use Rattle.dep_graph.specs.declared.ends.Ends.{Ends}
 use Rattle.dep_graph.specs.declared.key.Key.TheVariants as key
 use Rattle.dep_graph.specs.declared.net.Net.{Net}
 use Rattle.dep_graph.specs.declared.node.Node.{Node}
-use Rattle.dep_graph.specs.declared.node.Node.TheVariants.{Cell, Name, Range}
+use Rattle.dep_graph.specs.declared.node.Node.TheVariants.{Cell, Name, Range, Whole}
 use Rattle.dep_graph.specs.declared.table.NodeTable.{NodeTable}
 use Rattle.dep_graph.specs.internal.Arrows.{is_used}
 use Rattle.dep_graph.specs.declared.serving.Serving.{Serving}
-use Rattle.dep_graph.specs.internal.Files.{AreServing, FilesOn, FindsBy, HasSpot, HoldsBlock, finds_filing}
+use Rattle.dep_graph.specs.internal.Files.{AreServing, FilesOn, FindsBy, FindsNode, HoldsNode, IsSpotOf, finds_filing}
 use Rattle.dep_graph.specs.internal.Filings.{filing_of, filing_then, is_given, owner_at, serves_at, since}
-use Rattle.dep_graph.specs.internal.Keys.{key_of}
+use Rattle.dep_graph.specs.internal.Keys.{ends_of, key_of}
 use Rattle.dep_graph.specs.internal.Numbers.{count_of, found_at, is_range, key_place}
-use Rattle.dep_graph.specs.internal.ShiftedNumbers.{AreAllRefiled, AreFilingsUnder, AreTargets, AreUnfiled, BecomesRange, IsRefiled, StillFiled, after_at, block_in, is_linked}
-use Rattle.dep_graph.specs.internal.Touches.{FindsTouched, IsHandedAt, IsUntouched}
-use Rattle.dep_graph.proofs.Filed.{carried, kept_holds, kept_serving, present_serving, served}
+use Rattle.dep_graph.specs.internal.ShiftedNumbers.{AreAllRefiled, AreFilingsUnder, AreTargets, AreUnfiled, BecomesRange, IsRefiled, StillFiled, after_at, is_linked, range_in}
+use Rattle.dep_graph.specs.internal.Touches.{FindsTouched, IsHandedAt, IsHandedNode, IsUntouched, fresh_node}
+use Rattle.dep_graph.specs.internal.Wholes.{fresh_whole}
+use Rattle.dep_graph.proofs.Filed.{carried, held_node, kept_holds, kept_serving, present_serving, served}
 use Rattle.dep_graph.proofs.FiledCells.{owner_inside, served_inside}
-use Rattle.dep_graph.proofs.Numbers.{alive_inside, found_key, key_stands}
+use Rattle.dep_graph.proofs.Numbers.{alive_inside, found_key, key_stands, mapped}
 use Rattle.dep_graph.proofs.Served.{holds_by}
 use Rattle.dep_graph.proofs.Targets.{Few, linked_alive, own_target}
 use Rattle.dep_graph.proofs.Untouched.{taken_before, taken_cases, taken_here}
 use Rattle.dep_graph.proofs.Walking.{some_of}
+use Rattle.dep_graph.proofs.Wholes.{IsHandedWhole, whole_served}
 
 -- ---- filings added
 
@@ -69,7 +73,7 @@ one_area : (a b : Area) → key.Range a ≡ key.Range b → a ≡ b
 one_area a b e = cc
 
 -- a range that keeps its number and its corners is handed on
-pub handed_block : (s : Shift) (lines : PlaceLines) (net : Net) (n : ℕ) (after : Block) → IsSound s → AreMoved (form_of s) net.nodes.lines lines → IsHandedAt (form_of s) (found_at net.nodes n) after
+handed_block : (s : Shift) (lines : PlaceLines) (net : Net) (n : ℕ) (after : Block) → IsSound s → AreMoved (form_of s) net.nodes.lines lines → IsHandedAt (form_of s) (found_at net.nodes n) after
     → slice_get net.nodes.keys.keys n ≡ Some (key_of lines (Range after)) → (b : Block) × (found_at net.nodes n ≡ Some (Range b)) × IsHandedOn (form_of s) net.nodes.lines lines b after
 handed_block s lines net n after sound moved (b, found, (inside, within, many)) stands =
     let there : Some (key.Range (area_of net.nodes.lines b)) ≡ Some (key.Range (area_of lines after))
@@ -78,22 +82,79 @@ handed_block s lines net n after sound moved (b, found, (inside, within, many)) 
     = one_area (area_of net.nodes.lines b) (area_of lines after) (same_Some (key.Range (area_of net.nodes.lines b)) (key.Range (area_of lines after)) there) in
     (b, found, record { sound = sound; moved = moved; here = inside; there = within; area = area; count = many })
 
+one_ends : (a b : Ends) → key.Whole a ≡ key.Whole b → a ≡ b
+one_ends a b e = cc
+
+-- the first node is a range, whole or not, that is handed on to the second
+abbrev IsNodeHandedOn : Form → PlaceLines → PlaceLines → Node → Node → Type 0
+IsNodeHandedOn f old new (Range b) (Range c) = IsHandedOn f old new b c
+IsNodeHandedOn f old new (Whole v) (Whole w) = IsHandedWhole f old new v w
+IsNodeHandedOn f old new a c = ⊥
+
+handed_node : (s : Shift) (lines : PlaceLines) (net : Net) (n : ℕ) (after : Node) → IsSound s → AreMoved (form_of s) net.nodes.lines lines → IsHandedNode (form_of s) (found_at net.nodes n) after
+    → slice_get net.nodes.keys.keys n ≡ Some (key_of lines after) → (a : Node) × (found_at net.nodes n ≡ Some a) × IsNodeHandedOn (form_of s) net.nodes.lines lines a after
+handed_node s lines net n (Cell p) sound moved handed stands = absurd handed
+handed_node s lines net n (Name scope word) sound moved handed stands = absurd handed
+handed_node s lines net n (Range c) sound moved handed stands = let (b, found, on) = handed_block s lines net n c sound moved handed stands in (Range b, found, on)
+handed_node s lines net n (Whole w) sound moved (v, found, (inside, within, many)) stands =
+    let there : Some (key.Whole (ends_of net.nodes.lines v)) ≡ Some (key.Whole (ends_of lines w))
+    = sym (found_key net.nodes.lines net.nodes.keys.keys n (Whole v) found) ∙ stands in
+    let ends : ends_of net.nodes.lines v ≡ ends_of lines w
+    = one_ends (ends_of net.nodes.lines v) (ends_of lines w) (same_Some (key.Whole (ends_of net.nodes.lines v)) (key.Whole (ends_of lines w)) there) in
+    (Whole v, found, record { sound = sound; moved = moved; here = inside; there = within; ends = ends; count = many })
+
+-- the spot is one of the part of the node that comes in
+abbrev IsFresh : Form → PlaceLines → Node → Spot → Type 0
+IsFresh form lines after spot = (part : Node) × (fresh_node form after ≡ Some part) × IsSpotOf lines part spot
+
+-- what holds a range that is handed on holds what it becomes, with the lines that come in
+node_served : (form : Form) (old new : PlaceLines) (before test : Spot → Type 0) (a after : Node) → IsNodeHandedOn form old new a after → ((spot : Spot) → test spot → before spot ⊎ IsFresh form new after spot)
+    → ((spot : Spot) → before spot → test spot) → ((spot : Spot) → IsFresh form new after spot → test spot) → HoldsNode old before a → HoldsNode new test after
+node_served form old new before test (Cell p) after on only grows added holds = absurd holds
+node_served form old new before test (Name scope word) after on only grows added holds = absurd holds
+node_served form old new before test (Range b) (Cell q) on only grows added holds = absurd on
+node_served form old new before test (Range b) (Name scope word) on only grows added holds = absurd on
+node_served form old new before test (Range b) (Whole w) on only grows added holds = absurd on
+node_served form old new before test (Whole v) (Cell q) on only grows added holds = absurd on
+node_served form old new before test (Whole v) (Name scope word) on only grows added holds = absurd on
+node_served form old new before test (Whole v) (Range c) on only grows added holds = absurd on
+node_served form old new before test (Range b) (Range c) on only grows added holds =
+    served form old new before test b c on
+    (λ spot h. elim (only spot h) [
+      | inl was ↦ inl was
+      | inr (part, is_part, has) ↦ let (x, at, same) = mapped Range (fresh_part form c) part is_part in inr (x, at, subst (λ y. IsSpotOf new y spot) same has)
+    ])
+    grows (λ part spot is has. added spot (Range part, ap (option_map Range) is, has)) holds
+node_served form old new before test (Whole v) (Whole w) on only grows added holds =
+    whole_served form old new before test v w on
+    (λ spot h. elim (only spot h) [
+      | inl was ↦ inl was
+      | inr (part, is_part, has) ↦ let (x, at, same) = mapped Whole (fresh_whole form w) part is_part in inr (x, at, subst (λ y. IsSpotOf new y spot) same has)
+    ])
+    grows (λ part spot is has. added spot (Whole part, ap (option_map Whole) is, has)) holds
+
+-- what a filing serves, where it is told which node that is
+held_there : (net : Net) (n first : ℕ) (a : Node) → filing_of net.files.current n ≡ Some first → found_at net.nodes n ≡ Some a → HoldsNode net.nodes.lines (FindsBy net.files n (since first)) a
+held_there net n first a at found =
+    let (x, there, holds) = held_node net.nodes.lines net.nodes.keys.keys net.files n (net.filed n first at) in
+    holds_by net.files net.nodes.lines n first a at (subst (HoldsNode net.nodes.lines (FindsNode net.files n)) (same_Some x a (sym there ∙ found)) holds)
+
 -- its filings serve what it becomes
-module _ (s : Shift) (lines : PlaceLines) (net : Net) (n first : ℕ) (after : Block) (sound : IsSound s) (moved : AreMoved (form_of s) net.nodes.lines lines) (handed : IsHandedAt (form_of s) (found_at net.nodes n) after)
-    (stands : slice_get net.nodes.keys.keys n ≡ Some (key_of lines (Range after))) (at : filing_of net.files.current n ≡ Some first) where
+module _ (s : Shift) (lines : PlaceLines) (net : Net) (n first : ℕ) (after : Node) (sound : IsSound s) (moved : AreMoved (form_of s) net.nodes.lines lines) (handed : IsHandedNode (form_of s) (found_at net.nodes n) after)
+    (stands : slice_get net.nodes.keys.keys n ≡ Some (key_of lines after)) (at : filing_of net.files.current n ≡ Some first) where
   -- where no lines come in between
-  pub present_serves : fresh_part (form_of s) after ≡ None → HoldsBlock lines (FindsBy net.files n (since first)) after
+  pub present_serves : fresh_node (form_of s) after ≡ None → HoldsNode lines (FindsBy net.files n (since first)) after
   present_serves none =
-      let (b, found, on) = handed_block s lines net n after sound moved handed stands in
-      served (form_of s) net.nodes.lines lines (FindsBy net.files n (since first)) (FindsBy net.files n (since first)) b after on (λ spot h. inl h) (λ spot h. h) (λ part spot is has. absurd (no_part part (sym none ∙ is)))
-      (holds_by net.files net.nodes.lines n first b at ((net.filed n first at).1 b found))
+      let (a, found, on) = handed_node s lines net n after sound moved handed stands in
+      node_served (form_of s) net.nodes.lines lines (FindsBy net.files n (since first)) (FindsBy net.files n (since first)) a after on (λ spot h. inl h) (λ spot h. h) (λ spot put. absurd (no_part put.0 (sym none ∙ put.1)))
+      (held_there net n first a at found)
     where
-      no_part : (part : Block) → None ≡ Some part → ⊥
+      no_part : (part : Node) → None ≡ Some part → ⊥
       no_part part e = cc
 
   -- or with a filing of those that do
-  module _ (files : Files) (last : ℕ) (part : Block) (is_part : fresh_part (form_of s) after ≡ Some part) (on : FilesOn net.files files) (behind : length net.files.owners.items ≡ last)
-      (owner : owner_at files.owners last ≡ Some n) (exact : (spot : Spot) → IsTrue (finds_filing files spot last) ↔ HasSpot lines part spot) where
+  module _ (files : Files) (last : ℕ) (part : Node) (is_part : fresh_node (form_of s) after ≡ Some part) (on : FilesOn net.files files) (behind : length net.files.owners.items ≡ last)
+      (owner : owner_at files.owners last ≡ Some n) (exact : (spot : Spot) → IsTrue (finds_filing files spot last) ↔ IsSpotOf lines part spot) where
     abbrev both : Serving
     both = record { first = first; last = last }
 
@@ -109,10 +170,10 @@ module _ (s : Shift) (lines : PlaceLines) (net : Net) (n first : ℕ) (after : B
       (owner, omega (arith, first_low, behind), inl refl),
     )
 
-    only : (spot : Spot) → FindsBy files n both spot → FindsBy net.files n (since first) spot ⊎ ((p : Block) × (fresh_part (form_of s) after ≡ Some p) × HasSpot lines p spot)
+    only : (spot : Spot) → FindsBy files n both spot → FindsBy net.files n (since first) spot ⊎ IsFresh (form_of s) lines after spot
     only spot (f, (owns, from, which), found) = by which
       where
-        by : (f ≡ last) ⊎ (serves_at files.serves f ≡ true) → FindsBy net.files n (since first) spot ⊎ ((p : Block) × (fresh_part (form_of s) after ≡ Some p) × HasSpot lines p spot)
+        by : (f ≡ last) ⊎ (serves_at files.serves f ≡ true) → FindsBy net.files n (since first) spot ⊎ IsFresh (form_of s) lines after spot
         by (inl same) = inr (part, is_part, (exact spot).0 (subst (λ g. finds_filing files spot g ≡ true) same found))
         by (inr serves) =
             let was : serves_at net.files.serves f ≡ true = sym (on.serves f) ∙ serves in
@@ -124,14 +185,14 @@ module _ (s : Shift) (lines : PlaceLines) (net : Net) (n first : ℕ) (after : B
         let low : f < length net.files.owners.items = owner_inside net.files.owners.items f n owns in
         (f, (on.owners f low ∙ owns, from, elim which [ inl same ↦ inr (ap (serves_at files.serves) same ∙ first_serves) | inr serves ↦ inr (on.serves f ∙ serves) ]), on.finds f low spot ∙ found)
 
-    added : (p : Block) (spot : Spot) → fresh_part (form_of s) after ≡ Some p → HasSpot lines p spot → FindsBy files n both spot
-    added p spot is has =
-        (last, (owner, omega (arith, first_low, behind), inl refl), (exact spot).1 (subst (λ x. HasSpot lines x spot) (same_Some p part (sym is ∙ is_part)) has))
+    added : (spot : Spot) → IsFresh (form_of s) lines after spot → FindsBy files n both spot
+    added spot (p, is, has) =
+        (last, (owner, omega (arith, first_low, behind), inl refl), (exact spot).1 (subst (λ x. IsSpotOf lines x spot) (same_Some p part (sym is ∙ is_part)) has))
 
-    pub both_hold : HoldsBlock lines (FindsBy files n both) after
+    pub both_hold : HoldsNode lines (FindsBy files n both) after
     both_hold =
-        let (b, found, handed_on) = handed_block s lines net n after sound moved handed stands in
-        served (form_of s) net.nodes.lines lines (FindsBy net.files n (since first)) (FindsBy files n both) b after handed_on only grows added (holds_by net.files net.nodes.lines n first b at ((net.filed n first at).1 b found))
+        let (a, found, handed_on) = handed_node s lines net n after sound moved handed stands in
+        node_served (form_of s) net.nodes.lines lines (FindsBy net.files n (since first)) (FindsBy files n both) a after handed_on only grows added (held_there net n first a at found)
 
 -- ---- filings by the lines after the operation
 
@@ -144,12 +205,6 @@ Given = tree.BTreeMap ℕ (Option Serving)
 
 nothing : {A : Type 0} (x : A) → None ≡ Some x → ⊥
 nothing x e = cc
-
-range_is : (o : Option Node) → is_range o ≡ true → (b : Block) × (o ≡ Some (Range b))
-range_is (Some (Range b)) h = (b, refl)
-range_is (Some (Cell p)) h = absurd (false≢true h)
-range_is (Some (Name scope word)) h = absurd (false≢true h)
-range_is None h = absurd (false≢true h)
 
 since_of : (o : Option ℕ) (all : Serving) → option_map since o ≡ Some all → (f : ℕ) × (o ≡ Some f) × (since f ≡ all)
 since_of (Some f) all e = (f, refl, same_Some (since f) all e)
@@ -170,40 +225,46 @@ others_serve s lines net found filings sound moved finds are n all e = elim (has
 ]
   where
     Under : Serving → Type 0
-    Under more = AreServing net.files n more × ((b : Block) × (slice_get net.nodes.keys.keys n ≡ Some (key_of lines (Range b))) × HoldsBlock lines (FindsBy net.files n more) b)
+    Under more = AreServing net.files n more × ((a : Node) × (slice_get net.nodes.keys.keys n ≡ Some (key_of lines a)) × HoldsNode lines (FindsBy net.files n more) a)
 
     by : has n found ≡ false → (f : ℕ) → filing_of net.files.current n ≡ Some f → Under (since f)
     by other f at =
-        let (b, is) = range_is (found_at net.nodes n) (net.filed n f at).0 in
-        let untouched : IsUntouched s (Range b) = elim (finds n (Range b) is) [ inl h ↦ absurd (false≢true (sym other ∙ h)) | inr u ↦ u ] in
-        let (after, goes, same) = block_is_somewhere (form_of s) net.nodes.lines lines b sound moved untouched.0 untouched.1 in (
-          present_serving net.files n f at,
-          (
-            after,
-            found_key net.nodes.lines net.nodes.keys.keys n (Range b) is ∙ ap Some (ap key.Range same),
-            carried s net.nodes.lines lines (FindsBy net.files n (since f)) b after sound moved untouched.0 (λ bent. untouched.1 (inl bent)) (λ cut. untouched.1 (inr (inl cut))) goes same (holds_by net.files net.nodes.lines n f b at ((net.filed n f at).1 b is)),
-          ),
-        )
+        let (a, is, holds) = held_node net.nodes.lines net.nodes.keys.keys net.files n (net.filed n f at) in
+        let untouched : IsUntouched s a = elim (finds n a is) [ inl h ↦ absurd (false≢true (sym other ∙ h)) | inr u ↦ u ] in
+        (present_serving net.files n f at, there f a is untouched (holds_by net.files net.nodes.lines n f a at holds))
+      where
+        -- it is a range that is carried along
+        there : (f : ℕ) (a : Node) → found_at net.nodes n ≡ Some a → IsUntouched s a → HoldsNode net.nodes.lines (FindsBy net.files n (since f)) a
+            → (c : Node) × (slice_get net.nodes.keys.keys n ≡ Some (key_of lines c)) × HoldsNode lines (FindsBy net.files n (since f)) c
+        there f (Cell p) is untouched holds = absurd holds
+        there f (Name scope word) is untouched holds = absurd holds
+        there f (Whole w) is untouched holds = absurd untouched
+        there f (Range b) is untouched holds =
+            let (after, goes, same) = block_is_somewhere (form_of s) net.nodes.lines lines b sound moved untouched.0 untouched.1 in (
+              Range after,
+              found_key net.nodes.lines net.nodes.keys.keys n (Range b) is ∙ ap Some (ap key.Range same),
+              carried s net.nodes.lines lines (FindsBy net.files n (since f)) b after sound moved untouched.0 (λ bent. untouched.1 (inl bent)) (λ cut. untouched.1 (inr (inl cut))) goes same holds,
+            )
 
 module _ (lines : PlaceLines) (a b : Net) (nodes : b.nodes ≡ a.nodes) (on : FilesOn a.files b.files) where
   -- those that there were are as they were
   pub under_on : (filing : Filing) → AreFilingsUnder lines a filing → AreFilingsUnder lines b filing
   under_on filing under n all e =
       let (are, range) = under n all e in
-      let (block, stands, holds) = range in
-      (kept_serving a.files b.files n all on are, (block, subst (λ (t : NodeTable). slice_get t.keys.keys n ≡ Some (key_of lines (Range block))) (sym nodes) stands, kept_holds lines a.files b.files n all block on are holds))
+      let (x, stands, holds) = range in
+      (kept_serving a.files b.files n all on are, (x, subst (λ (t : NodeTable). slice_get t.keys.keys n ≡ Some (key_of lines x)) (sym nodes) stands, kept_holds lines a.files b.files n all x on are holds))
 
   -- and one more
-  pub under_next : (old new : Filing) (target : ℕ) (filing : Serving) (after : Block) → AreFilingsUnder lines a old
+  pub under_next : (old new : Filing) (target : ℕ) (filing : Serving) (after : Node) → AreFilingsUnder lines a old
       → ((n : ℕ) → new n ≡ cond (eqb n target) (Some filing) (old n)) → AreServing b.files target filing
-      → slice_get a.nodes.keys.keys target ≡ Some (key_of lines (Range after)) → HoldsBlock lines (FindsBy b.files target filing) after → AreFilingsUnder lines b new
+      → slice_get a.nodes.keys.keys target ≡ Some (key_of lines after) → HoldsNode lines (FindsBy b.files target filing) after → AreFilingsUnder lines b new
   under_next old new target filing after under kept are stands holds n all e = by (eqb n target) refl (sym (kept n) ∙ e)
     where
-      there : slice_get b.nodes.keys.keys target ≡ Some (key_of lines (Range after))
-      there = subst (λ (t : NodeTable). slice_get t.keys.keys target ≡ Some (key_of lines (Range after))) (sym nodes) stands
+      there : slice_get b.nodes.keys.keys target ≡ Some (key_of lines after)
+      there = subst (λ (t : NodeTable). slice_get t.keys.keys target ≡ Some (key_of lines after)) (sym nodes) stands
 
       Under : ℕ → Serving → Type 0
-      Under m more = AreServing b.files m more × ((block : Block) × (slice_get b.nodes.keys.keys m ≡ Some (key_of lines (Range block))) × HoldsBlock lines (FindsBy b.files m more) block)
+      Under m more = AreServing b.files m more × ((x : Node) × (slice_get b.nodes.keys.keys m ≡ Some (key_of lines x)) × HoldsNode lines (FindsBy b.files m more) x)
 
       by : (t : Bool) → eqb n target ≡ t → cond t (Some filing) (old n) ≡ Some all → Under n all
       by true here same = subst (λ m. Under m all) (sym (eqb-true n target here)) (subst (Under target) (same_Some filing all same) (are, (after, there, holds)))
@@ -284,8 +345,8 @@ module _ (s : Shift) (lines : PlaceLines) (a b : Net) (nodes : b.nodes ≡ a.nod
     inside = λ n t low e. subst (λ (u : NodeTable). t < count_of u) (sym nodes) (are.inside n t (subst (λ (u : NodeTable). n < count_of u) nodes low) e);
   }
 
-  pub becomes_before : (n t : ℕ) (after : Block) → BecomesRange s b target n t after → BecomesRange s a target n t after
-  becomes_before n t after (used, is, moves) = (subst (λ (l : Links). nat_lt 0 (length (users_of l n)) ≡ true) links used, is, sym (same_after n) ∙ moves)
+  pub becomes_before : (n t : ℕ) (after : Node) → BecomesRange s b target n t after → BecomesRange s a target n t after
+  becomes_before n t after (used, is, moves, range) = (subst (λ (l : Links). nat_lt 0 (length (users_of l n)) ≡ true) links used, is, sym (same_after n) ∙ moves, range)
 
   pub refiled_before : (n : ℕ) (filing : Filing) → IsRefiled s a target n filing → IsRefiled s b target n filing
   refiled_before n filing refiled t after becomes = refiled t after (becomes_before n t after becomes)
@@ -295,20 +356,20 @@ module _ (s : Shift) (lines : PlaceLines) (a b : Net) (nodes : b.nodes ≡ a.nod
 pub no_some : {A : Type 0} (x : A) → None ≡ Some x → ⊥
 no_some x e = cc
 
-pub block_is : (o : Option Node) (b : Block) → block_in o ≡ Some b → o ≡ Some (Range b)
-block_is (Some (Range c)) b e = ap (λ x. Some (Range x)) (same_Some c b e)
-block_is (Some (Cell p)) b e = absurd (none e)
-  where
-    none : None ≡ Some b → ⊥
-    none e = cc
-block_is (Some (Name scope word)) b e = absurd (none e)
-  where
-    none : None ≡ Some b → ⊥
-    none e = cc
-block_is None b e = absurd (none e)
-  where
-    none : None ≡ Some b → ⊥
-    none e = cc
+-- what is taken for a range is one
+pub range_is : (o : Option Node) (a : Node) → range_in o ≡ Some a → (o ≡ Some a) × (is_range (Some a) ≡ true)
+range_is (Some (Range c)) a e = (e, ap is_range (sym e))
+range_is (Some (Whole w)) a e = (e, ap is_range (sym e))
+range_is (Some (Cell p)) a e = absurd (no_some a e)
+range_is (Some (Name scope word)) a e = absurd (no_some a e)
+range_is None a e = absurd (no_some a e)
+
+-- and a range is taken for one
+pub is_taken : (a : Node) → is_range (Some a) ≡ true → range_in (Some a) ≡ Some a
+is_taken (Range b) h = refl
+is_taken (Whole w) h = refl
+is_taken (Cell p) h = absurd (false≢true h)
+is_taken (Name scope word) h = absurd (false≢true h)
 
 -- the key of what a used number becomes stands at its target
 pub target_stands : (s : Shift) (lines : PlaceLines) (net : Net) (target : ℕ → Option ℕ) (n t : ℕ) (x : Node) → AreTargets s lines net target → is_linked net n ≡ true → target n ≡ Some t
@@ -327,18 +388,16 @@ still_refiled s net target n old new still refiled t after becomes = still t (re
 
 -- ---- used ranges that aren't found
 
-range_before : (s : Shift) (o : Option Node) (after : Block) → option_and_then (node_after s) o ≡ Some (Range after) → (b : Block) × (o ≡ Some (Range b))
-range_before s None after e = absurd (nothing (Range after) e)
-range_before s (Some (Range b)) after e = (b, refl)
-range_before s (Some (Cell p)) after e = absurd (by (place_after s p) e)
+range_before : (s : Shift) (o : Option Node) (after : Node) → option_and_then (node_after s) o ≡ Some after → is_range (Some after) ≡ true → is_range o ≡ true
+range_before s None after e h = absurd (nothing after e)
+range_before s (Some (Range b)) after e h = refl
+range_before s (Some (Whole w)) after e h = refl
+range_before s (Some (Cell p)) after e h = absurd (by (place_after s p) e)
   where
-    by : (o : Option Place) → option_map Cell o ≡ Some (Range after) → ⊥
-    by None e = nothing (Range after) e
-    by (Some q) e = cc
-range_before s (Some (Name scope word)) after e = absurd (apart e)
-  where
-    apart : Some (Name scope word) ≡ Some (Range after) → ⊥
-    apart e = cc
+    by : (o : Option Place) → option_map Cell o ≡ Some after → ⊥
+    by None e = nothing after e
+    by (Some q) e = false≢true (ap is_range e ∙ h)
+range_before s (Some (Name scope word)) after e h = absurd (false≢true (ap is_range e ∙ h))
 
 -- they stay themselves, and are filed as they were
 pub all_refiled : (s : Shift) (net : Net) (few : Few) (found : List ℕ) (filing : Filing) → ((n : ℕ) → is_among few n ≡ true → has n found ≡ true) → ((n : ℕ) → has n found ≡ true → IsRefiled s net (few_target few) n filing)
@@ -349,9 +408,8 @@ all_refiled s net few found filing among refiled still n t after becomes = elim 
 ]
   where
     by : has n found ≡ false → BecomesRange s net (few_target few) n t after → IsSome (filing t)
-    by other (used, is, moves) =
-        let (b, found_b) = range_before s (found_at net.nodes n) after moves in
+    by other (used, is, moves, range) =
         let (user, uses) = some_of (users_of net.links n) used in
-        let filed : IsSome (filing_of net.files.current n) = net.used user n (sym (net.links.exact user n) ∙ uses) b found_b in
+        let filed : IsSome (filing_of net.files.current n) = net.used user n (sym (net.links.exact user n) ∙ uses) (range_before s (found_at net.nodes n) after moves range) in
         let same : n ≡ t = same_Some n t (sym (own_target few n (λ h. false≢true (sym other ∙ among n h))) ∙ is) in
         subst (λ m. IsSome (filing m)) same (still n other filed)

@@ -3,18 +3,17 @@ use Rattle.std.proofs.Common.{◌≡◌, ◌∙◌, sym, ap, refl, ℕ, ◌≤�
 use Rattle.std.specs.List.{cons_option, filter_map}
 use Rattle.std.proofs.lemmas.Bool.{and_from, and_parts, false≢true, le-leb, leb-true}
 use Rattle.std.proofs.lemmas.Option.{same_Some}
-use Rattle.block_index.specs.Index.{filed_in, slots_of}
-use Rattle.block_index.proofs.Filing.{found_under, slot_with}
 use Rattle.block_index.proofs.Tests.{any_has, has_any}
-use Rattle.cell_addr.specs.declared.place.Block.{Block}
 use Rattle.needs_order.specs.Needs as plain
 use Rattle.needs_order.proofs.Lists as lists
 use Rattle.place_lines.specs.declared.lines.PlaceLines.{PlaceLines}
 use Rattle.place_lines.specs.declared.spot.Spot.{Spot}
 use Rattle.dep_graph.specs.declared.files.Files.{Files}
-use Rattle.dep_graph.specs.internal.Files.{FindsBy, FindsNode, HoldsBlock, IsServing, if_present, owner_of}
+use Rattle.dep_graph.specs.declared.node.Node.{Node}
+use Rattle.dep_graph.specs.internal.Files.{FindsBy, FindsNode, HoldsNode, IsServing, filed_at, if_present, owner_of, slots_over}
 use Rattle.dep_graph.specs.internal.Filings.{filing_of, is_since, owner_at, serves_at, since}
 use Rattle.dep_graph.proofs.Filed.{holds_as}
+use Rattle.dep_graph.proofs.FiledSlots.{found_at_slot, slot_of_filing}
 
 module _ (files : Files) where
   -- the filing serves the node at present
@@ -82,24 +81,24 @@ module _ (files : Files) where
   found_by n first spot at = (goes, comes)
     where
       slots : List ℕ
-      slots = slots_of files.index spot.sheet spot.row spot.col
+      slots = slots_over files spot
 
       under : ℕ → Bool
-      under s = plain.has n (filter_map (owner_of files) (filed_in files.index s))
+      under s = plain.has n (filter_map (owner_of files) (filed_at files s))
 
       goes : FindsNode files n spot → FindsBy files n (since first) spot
       goes h =
           let (s, slot, is) = has_any under slots h in
-          let (f, filed, (g, here, serves)) = owner_has (filed_in files.index s) n is in
-          (f, subst (λ k. IsServing files n (since k) f) (same_Some g first (sym here ∙ at)) serves, found_under files.index spot.sheet spot.row spot.col s f slot filed)
+          let (f, filed, (g, here, serves)) = owner_has (filed_at files s) n is in
+          (f, subst (λ k. IsServing files n (since k) f) (same_Some g first (sym here ∙ at)) serves, found_at_slot files spot s f slot filed)
 
       comes : FindsBy files n (since first) spot → FindsNode files n spot
       comes (f, serves, found) =
-          let (s, slot, filed) = slot_with files.index spot.sheet spot.row spot.col f found in
-          any_has under slots s slot (has_owner (filed_in files.index s) f n filed (first, at, serves))
+          let (s, slot, filed) = slot_of_filing files spot f found in
+          any_has under slots s slot (has_owner (filed_at files s) f n filed (first, at, serves))
 
-  pub holds_by : (lines : PlaceLines) (n first : ℕ) (b : Block) → filing_of files.current n ≡ Some first → HoldsBlock lines (FindsNode files n) b → HoldsBlock lines (FindsBy files n (since first)) b
-  holds_by lines n first b at holds = holds_as lines (FindsNode files n) (FindsBy files n (since first)) b (λ spot. found_by n first spot at) holds
+  pub holds_by : (lines : PlaceLines) (n first : ℕ) (a : Node) → filing_of files.current n ≡ Some first → HoldsNode lines (FindsNode files n) a → HoldsNode lines (FindsBy files n (since first)) a
+  holds_by lines n first a at holds = holds_as lines (FindsNode files n) (FindsBy files n (since first)) a (λ spot. found_by n first spot at) holds
 
-  pub holds_node : (lines : PlaceLines) (n first : ℕ) (b : Block) → filing_of files.current n ≡ Some first → HoldsBlock lines (FindsBy files n (since first)) b → HoldsBlock lines (FindsNode files n) b
-  holds_node lines n first b at holds = holds_as lines (FindsBy files n (since first)) (FindsNode files n) b (λ spot. let (goes, comes) = found_by n first spot at in (comes, goes)) holds
+  pub holds_node : (lines : PlaceLines) (n first : ℕ) (a : Node) → filing_of files.current n ≡ Some first → HoldsNode lines (FindsBy files n (since first)) a → HoldsNode lines (FindsNode files n) a
+  holds_node lines n first a at holds = holds_as lines (FindsBy files n (since first)) (FindsNode files n) a (λ spot. let (goes, comes) = found_by n first spot at in (comes, goes)) holds

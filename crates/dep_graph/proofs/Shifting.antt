@@ -4,7 +4,6 @@ use Rattle.std.specs.Prelude.{IsSome}
 use Rattle.std.specs.Option.{option_and_then, option_map}
 use Rattle.std.proofs.lemmas.Bool.{eq-eqb, eqb-true, or_cases, or_left, or_right}
 use Rattle.std.proofs.lemmas.Option.{same_Some}
-use Rattle.cell_addr.specs.declared.place.Block.{Block}
 use Rattle.needs_order.specs.Needs as plain
 use Rattle.node_links.specs.Nodes.{needs_of}
 use Rattle.node_links.specs.Redirect.{AreRedirected}
@@ -18,16 +17,15 @@ use Rattle.dep_graph.specs.Shifted.{AreShifted, node_after}
 use Rattle.dep_graph.specs.declared.files.Files.{Files}
 use Rattle.dep_graph.specs.declared.net.Net.{Net}
 use Rattle.dep_graph.specs.declared.node.Node.{Node}
-use Rattle.dep_graph.specs.declared.node.Node.TheVariants.{Range}
 use Rattle.dep_graph.specs.declared.table.NodeTable.{NodeTable}
 use Rattle.dep_graph.specs.declared.serving.Serving.{Serving}
-use Rattle.dep_graph.specs.internal.Files.{AreServing, FindsBy, FindsNode, HoldsBlock, IsServing}
+use Rattle.dep_graph.specs.internal.Files.{AreServing, FindsBy, HoldsNode, IsServing}
 use Rattle.dep_graph.specs.internal.Filings.{filing_of, is_last, owner_at, serves_at, since}
 use Rattle.dep_graph.specs.internal.Keys.{key_of}
 use Rattle.dep_graph.specs.internal.Nets.{Grows, links_in}
-use Rattle.dep_graph.specs.internal.Numbers.{IsAlive, found_at, is_range, key_place, linked, node_at, place_of}
+use Rattle.dep_graph.specs.internal.Numbers.{IsAlive, IsHeld, found_at, is_range, key_place, linked, node_at, place_of}
 use Rattle.dep_graph.specs.internal.ShiftedNumbers.{AreAllRefiled, AreFilingsUnder, AreTargets, after_at, is_linked}
-use Rattle.dep_graph.proofs.Filed.{finds_alike, holds_as}
+use Rattle.dep_graph.proofs.Filed.{finds_alike, holds_as, node_held}
 use Rattle.dep_graph.proofs.Growing.{grown_links}
 use Rattle.dep_graph.proofs.Numbers.{alive_inside, alive_is, alive_number, at_place, found_place, key_found, place_found}
 use Rattle.dep_graph.proofs.Places.{has_map, map_has}
@@ -122,13 +120,12 @@ module _ (s : Shift) (lines : PlaceLines) (net : Net) (target_of : ℕ → Optio
     all_shifted a b = (came a b, λ link. goes a b link.0 link.1 link.2 link.3 link.4)
 
     -- the range that a used one becomes is filed
-    pub used_filed : (filing : ℕ → Option Serving) → AreAllRefiled s net target_of filing → (a n : ℕ) → plain.has n (needs_of links a) ≡ true → (b : Block) → found_at after n ≡ Some (Range b) → IsSome (filing n)
-    used_filed filing refiled a n h b range =
+    pub used_filed : (filing : ℕ → Option Serving) → AreAllRefiled s net target_of filing → (a n : ℕ) → plain.has n (needs_of links a) ≡ true → is_range (found_at after n) ≡ true → IsSome (filing n)
+    used_filed filing refiled a n h range =
         let (k, m, from, there, to) = (redirected a n).0 h in
         let linked_m : is_linked net m ≡ true = used_linked net k m there in
         let (y, moves_y, found_y) = target_node m n linked_m to in
-        let is : y ≡ Range b = same_Some y (Range b) (sym found_y ∙ range) in
-        refiled m n b (used_by net k m there, to, moves_to (node_after s) (found_at net.nodes m) (node_at net.nodes m) (linked_alive net m linked_m) ∙ (moves_y ∙ ap Some is))
+        refiled m n y (used_by net k m there, to, moves_to (node_after s) (found_at net.nodes m) (node_at net.nodes m) (linked_alive net m linked_m) ∙ moves_y, ap is_range (sym found_y) ∙ range)
 
 -- ---- filings that were put
 
@@ -164,24 +161,18 @@ module _ (old new : Files) (filing : ℕ → Option Serving) (owners : new.owner
           )
 
   -- and are those of ranges
-  pub filings_after : (lines : PlaceLines) (net : Net) → net.files ≡ old → AreFilingsUnder lines net filing → new.index ≡ old.index → (n f : ℕ) → filing_of new.current n ≡ Some f
-      → (is_range (found_at (by_lines lines net.nodes) n) ≡ true) × ((b : Block) → found_at (by_lines lines net.nodes) n ≡ Some (Range b) → HoldsBlock lines (FindsNode new n) b)
-  filings_after lines net files under index n f e =
+  pub filings_after : (lines : PlaceLines) (net : Net) → net.files ≡ old → AreFilingsUnder lines net filing → new.index ≡ old.index → new.wholes ≡ old.wholes → (n f : ℕ) → filing_of new.current n ≡ Some f
+      → IsHeld lines net.nodes.keys.keys new n
+  filings_after lines net files under index wholes n f e =
       let (all, is, first) = first_of (filing n) f (sym (kept n) ∙ e) in
       let (serving, range) = under n all is in
-      let (block, stands, holds) = range in
-      let found : found_at (by_lines lines net.nodes) n ≡ Some (Range block) = key_found lines net.nodes.keys.keys n (Range block) net.nodes.narrow stands in
+      let (a, stands, holds) = range in
+      let found : found_at (by_lines lines net.nodes) n ≡ Some a = key_found lines net.nodes.keys.keys n a net.nodes.narrow stands in
       let are : AreServing old n all = subst (λ (x : Files). AreServing x n all) files serving in
-      let here : HoldsBlock lines (FindsBy old n all) block = subst (λ (x : Files). HoldsBlock lines (FindsBy x n all) block) files holds in
-      let there : HoldsBlock lines (FindsBy new n (since all.first)) block
-      = holds_as lines (FindsBy old n all) (FindsBy new n (since all.first)) block (λ spot. finds_alike old new n all (since all.first) spot index (put_serving n all is are)) here in (
-        ap is_range found,
-        λ b at. holds_node new lines n f b e
-            (subst (λ g. HoldsBlock lines (FindsBy new n (since g)) b) first (subst (HoldsBlock lines (FindsBy new n (since all.first))) (one_range block b (same_Some (Range block) (Range b) (sym found ∙ at))) there)),
-      )
-    where
-      one_range : (a b : Block) → Range a ≡ Range b → a ≡ b
-      one_range a b e = cc
+      let here : HoldsNode lines (FindsBy old n all) a = subst (λ (x : Files). HoldsNode lines (FindsBy x n all) a) files holds in
+      let there : HoldsNode lines (FindsBy new n (since all.first)) a
+      = holds_as lines (FindsBy old n all) (FindsBy new n (since all.first)) a (λ spot. finds_alike old new n all (since all.first) spot index wholes (put_serving n all is are)) here in
+      node_held lines net.nodes.keys.keys new n a found (holds_node new lines n f a e (subst (λ g. HoldsNode lines (FindsBy new n (since g)) a) first there))
 
   pub still_served : (n : ℕ) → IsSome (filing n) → IsSome (filing_of new.current n)
   still_served n h = subst IsSome (sym (kept n)) (some_first (filing n) h)

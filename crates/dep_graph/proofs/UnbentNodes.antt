@@ -8,15 +8,17 @@ use Rattle.shift_core.specs.Bent.{HaveOtherSizes, IsBent, MeetsDisplaced}
 use Rattle.shift_core.specs.Form.{form_of}
 use Rattle.shift_core.specs.Sound.{IsSound}
 use Rattle.shift_core.specs.Tables.{block_after, place_after}
+use Rattle.shift_core.specs.Wholes.{whole_after}
 use Rattle.shift_core.specs.declared.shift.Shift.{Shift}
 use Rattle.shift_core.proofs.PlaceLaws.{place_moved_apart, place_moved_returns}
 use Rattle.shift_core.proofs.UnbentBlocks.{unbent_returns}
+use Rattle.shift_core.proofs.WholeMoves.{lost_whole_bent, unbent_whole_returns}
 use Rattle.dep_graph.specs.Bent.{Bends}
 use Rattle.dep_graph.specs.Laws.{GoesAndComesBack, IsNoRange, IsNodeInside, UnbentNodesKeepTheirLinks}
 use Rattle.dep_graph.specs.Nodes.{has}
 use Rattle.dep_graph.specs.Shifted.{node_after}
 use Rattle.dep_graph.specs.declared.node.Node.{Node}
-use Rattle.dep_graph.specs.declared.node.Node.TheVariants.{Cell, Name, Range}
+use Rattle.dep_graph.specs.declared.node.Node.TheVariants.{Cell, Name, Range, Whole}
 
 -- what came out of a map
 pub mapped : {A B : Type 0} (f : A → B) (o : Option A) (y : B) → option_map f o ≡ Some y → (x : A) × (o ≡ Some x) × (f x ≡ y)
@@ -42,6 +44,9 @@ module _ (s : Shift) (sound : IsSound s) where
   goes_and_comes_back (Range b) inside still =
       let (c, goes) = is_some (block_after s b) (λ lost. still (inl (lost_bends s b lost))) in
       (Range c, (ap (option_map Range) goes, ap (option_map Range) (unbent_returns (form_of s) b c sound inside (λ bent. still (inl bent)) (λ cut. still (inr cut)) goes)))
+  goes_and_comes_back (Whole w) inside still =
+      let (v, goes) = is_some (whole_after s w) (λ lost. still (lost_whole_bent (form_of s) w lost)) in
+      (Whole v, (ap (option_map Whole) goes, ap (option_map Whole) (unbent_whole_returns (form_of s) w v sound inside still goes)))
 
   -- no other node inside moves to where a cell or a name has moved
   apart : (a x after : Node) → IsNodeInside a → IsNodeInside x → IsNoRange a → node_after s a ≡ Some after → node_after s x ≡ Some after → x ≡ a
@@ -57,6 +62,10 @@ module _ (s : Shift) (sound : IsSound s) where
       let (there, p_goes, p_is) = mapped Cell (place_after s p) after p_to in
       let (here, b_goes, b_is) = mapped Range (block_after s b) after q_to in
       absurd (cc)
+  apart (Cell p) (Whole w) after p_in q_in one p_to q_to =
+      let (there, p_goes, p_is) = mapped Cell (place_after s p) after p_to in
+      let (here, w_goes, w_is) = mapped Whole (whole_after s w) after q_to in
+      absurd (cc)
   apart (Name scope word) (Cell q) after p_in q_in one p_to q_to =
       let (here, q_goes, q_is) = mapped Cell (place_after s q) after q_to in
       absurd (cc)
@@ -64,7 +73,11 @@ module _ (s : Shift) (sound : IsSound s) where
   apart (Name scope word) (Range b) after p_in q_in one p_to q_to =
       let (here, b_goes, b_is) = mapped Range (block_after s b) after q_to in
       absurd (cc)
+  apart (Name scope word) (Whole w) after p_in q_in one p_to q_to =
+      let (here, w_goes, w_is) = mapped Whole (whole_after s w) after q_to in
+      absurd (cc)
   apart (Range b) x after p_in q_in one p_to q_to = absurd one
+  apart (Whole w) x after p_in q_in one p_to q_to = absurd one
 
 -- the links of a cell or a name that isn't bent
 pub unbent_links : UnbentNodesKeepTheirLinks

@@ -11,10 +11,12 @@ use Rattle.std.proofs.lemmas.Option.{same_Some}
 use Rattle.cell_addr.specs.Place.{IsBlockInside, IsInside}
 use Rattle.cell_addr.specs.declared.axis.Axis.TheVariants.{Cols, Rows}
 use Rattle.cell_addr.specs.declared.place.Block.{Block}
+use Rattle.cell_addr.specs.declared.place.Place.{Place}
+use Rattle.cell_addr.specs.declared.whole.Whole as whole
 use Rattle.needs_order.specs.Needs.{has}
 use Rattle.needs_order.proofs.Lists.{at_has, has-append_cases, has-append_left, has-append_right, has_cases, has_first, has_or_not}
 use Rattle.place_lines.specs.Moved.{AreMoved, IsKnown, is_known}
-use Rattle.place_lines.specs.Spots.{area_of, first_spot, last_spot, number_of, spot_of, table_along}
+use Rattle.place_lines.specs.Spots.{area_of, block_at, first_spot, last_spot, number_of, place_at, spot_of, table_along}
 use Rattle.place_lines.specs.declared.area.Area.{Area}
 use Rattle.place_lines.specs.declared.lines.PlaceLines.{PlaceLines}
 use Rattle.place_lines.proofs.Known.{spot_known, spot_was_there, stays_known}
@@ -34,14 +36,14 @@ use Rattle.dep_graph.specs.Shifted.{node_after}
 use Rattle.dep_graph.specs.declared.key.Key.{Key}
 use Rattle.dep_graph.specs.declared.key.Key.TheVariants as key
 use Rattle.dep_graph.specs.declared.node.Node.{Node}
-use Rattle.dep_graph.specs.declared.node.Node.TheVariants.{Cell, Name, Range}
+use Rattle.dep_graph.specs.declared.node.Node.TheVariants.{Cell, Name, Range, Whole}
 use Rattle.dep_graph.specs.declared.table.NodeTable.{NodeTable}
 use Rattle.dep_graph.specs.declared.touches.Touches.{Touches}
 use Rattle.dep_graph.specs.internal.Keys.{is_narrow, key_of, node_of}
 use Rattle.dep_graph.specs.internal.Numbers.{count_of, found_at, found_under, key_at}
 use Rattle.dep_graph.specs.internal.Touches.{AddsBetween, AddsKnown, AreIndexed, AreInside, AreKept, FindsTouched, IsHandedAt, IsIndexed, IsKept, IsMore, IsUntouched, KeepsNode, is_known_key}
 use Rattle.dep_graph.proofs.Filed.{known_passes, passes_known}
-use Rattle.dep_graph.proofs.Numbers.{found_key, gets, got, key_returns, node_returns, one_node}
+use Rattle.dep_graph.proofs.Numbers.{found_key, gets, got, key_returns, mapped, node_returns, one_node}
 
 -- ---- the first numbers of a list
 
@@ -73,12 +75,14 @@ abbrev IsKnownKey : PlaceLines → Key → Type 0
 IsKnownKey lines (key.Cell spot) = IsKnown lines spot
 IsKnownKey lines (key.Name scope word) = ⊤
 IsKnownKey lines (key.Range area) = IsKnown lines (first_spot area) × IsKnown lines (last_spot area)
+IsKnownKey lines (key.Whole ends) = ⊥
 
 key_passes : (lines : PlaceLines) (k : Key) → IsKnownKey lines k → is_known_key lines k ≡ true
 key_passes lines (key.Cell spot) known = known_passes lines spot known
 key_passes lines (key.Name scope word) known = refl
 key_passes lines (key.Range area) (first, last) =
     and_from (is_known lines (first_spot area)) (is_known lines (last_spot area)) (known_passes lines (first_spot area) first) (known_passes lines (last_spot area) last)
+key_passes lines (key.Whole ends) known = absurd known
 
 passes_key : (lines : PlaceLines) (k : Key) → is_known_key lines k ≡ true → IsKnownKey lines k
 passes_key lines (key.Cell spot) passes = passes_known lines spot passes
@@ -86,12 +90,30 @@ passes_key lines (key.Name scope word) passes = tt
 passes_key lines (key.Range area) passes =
     let (first, last) = and_parts (is_known lines (first_spot area)) (is_known lines (last_spot area)) passes in
     (passes_known lines (first_spot area) first, passes_known lines (last_spot area) last)
+passes_key lines (key.Whole ends) passes = absurd (false≢true passes)
 
--- the key of a node is known
-known_key : (lines : PlaceLines) (a : Node) → IsKnownKey lines (key_of lines a)
-known_key lines (Cell p) = spot_known lines p
-known_key lines (Name scope word) = tt
-known_key lines (Range b) = (spot_known lines (first_place b), spot_known lines (last_place b))
+-- the key of a node that is kept is known
+known_key : (lines : PlaceLines) (x : TouchIndex) (n : ℕ) (a : Node) → KeepsNode x lines n a → IsKnownKey lines (key_of lines a)
+known_key lines x n (Cell p) kept = spot_known lines p
+known_key lines x n (Name scope word) kept = tt
+known_key lines x n (Range b) kept = (spot_known lines (first_place b), spot_known lines (last_place b))
+known_key lines x n (Whole w) kept = absurd kept
+
+-- the key of a whole range isn't taken for known
+whole_unknown : (lines : PlaceLines) (k : Key) (w : whole.Whole) → node_of lines k ≡ Some (Whole w) → is_known_key lines k ≡ true → ⊥
+whole_unknown lines (key.Whole ends) w is known = false≢true known
+whole_unknown lines (key.Name scope word) w is known = apart is
+  where
+    apart : Some (Name scope word) ≡ Some (Whole w) → ⊥
+    apart e = cc
+whole_unknown lines (key.Cell spot) w is known = let (p, at, same) = mapped Cell (place_at lines spot) (Whole w) is in apart p same
+  where
+    apart : (p : Place) → Whole w ≡ Cell p → ⊥
+    apart p e = cc
+whole_unknown lines (key.Range area) w is known = let (b, at, same) = mapped Range (block_at lines area) (Whole w) is in apart b same
+  where
+    apart : (b : Block) → Whole w ≡ Range b → ⊥
+    apart b e = cc
 
 -- ---- numbers that are odd, or the nodes of which are kept
 
@@ -108,6 +130,7 @@ opened lines t n k indexed = elim (has_or_not n t.odd.keys) [
     by other (Cell p) is = (indexed other).1 p is
     by other (Name scope word) is = tt
     by other (Range b) is = (indexed other).2 b is
+    by other (Whole w) is = absurd (whole_unknown lines k w is (indexed other).0)
 
 closed : (lines : PlaceLines) (t : Touches) (n : ℕ) (k : Key) → Either lines t n k → IsIndexed lines t n k
 closed lines t n k either other = elim either [
@@ -120,6 +143,7 @@ closed lines t n k either other = elim either [
 pub index_more : (x y : TouchIndex) (lines : PlaceLines) (n : ℕ) (a : Node) → Grows x y → KeepsNode x lines n a → KeepsNode y lines n a
 index_more x y lines n (Cell p) grows (inside, kept) = (inside, grows.0 (spot_of lines p) n kept)
 index_more x y lines n (Name scope word) grows kept = tt
+index_more x y lines n (Whole w) grows kept = absurd kept
 index_more x y lines n (Range b) grows (inside, (first, rows, cols)) = (
   inside,
   (
@@ -158,7 +182,7 @@ node_indexed lines t n k a is kept =
     elim kept [
       | inl odd ↦ closed lines t n k (inl odd)
       | inr keeps ↦ closed lines t n k (inr (
-        subst (IsKnownKey lines) (key_returns lines k a is) (known_key lines a),
+        subst (IsKnownKey lines) (key_returns lines k a is) (known_key lines t.index n a keeps),
         λ b at. subst (KeepsNode t.index lines n) (same_Some a b (sym is ∙ at)) keeps,
       ))
     ]
@@ -173,6 +197,7 @@ found_of_key lines nodes n k a low is found = ap (node_of lines) is ∙ (sym (ap
 pub untouched_still : (s : Shift) (a : Node) → IsUntouched s a → ¬ Bends s a
 untouched_still s (Cell p) untouched lost = untouched.1 (inl lost)
 untouched_still s (Name scope word) untouched bends = bends
+untouched_still s (Whole w) untouched bends = untouched
 untouched_still s (Range b) untouched bends =
     elim bends [
       | inl bent ↦ untouched.1 (inl bent)
@@ -190,6 +215,7 @@ module _ (s : Shift) (sound : IsSound s) (old new : PlaceLines) (moved : AreMove
         λ (kept : IsInside p × KeepsCell x old p n). (place_moved_inside (form_of s) p q sound untouched.0 goes, subst (λ spot. keeps_cell x spot n ≡ true) same kept.1),
       )
   stays x n (Name scope word) untouched = (Name scope word, refl, refl, λ kept. tt)
+  stays x n (Whole w) untouched = absurd untouched
   stays x n (Range b) untouched =
       let (c, goes, same) = block_is_somewhere (form_of s) old new b sound moved untouched.0 untouched.1 in (
         Range c,
@@ -220,6 +246,7 @@ module _ (s : Shift) (sound : IsSound s) (old new : PlaceLines) (moved : AreMove
   stays_known_key : (k : Key) → IsKnownKey old k → IsKnownKey new k
   stays_known_key (key.Cell spot) known = stays_known (form_of s) old new spot moved known
   stays_known_key (key.Name scope word) known = tt
+  stays_known_key (key.Whole ends) known = absurd known
   stays_known_key (key.Range area) known = (
     stays_known (form_of s) old new (first_spot area) moved known.0,
     stays_known (form_of s) old new (last_spot area) moved known.1,
@@ -229,6 +256,7 @@ module _ (s : Shift) (sound : IsSound s) (old new : PlaceLines) (moved : AreMove
   had_key : (a : Node) → IsKnownKey old (key_of new a) → (b : Node) × (key_of old b ≡ key_of new a)
   had_key (Cell q) known = let (p, is, within, narrow) = spot_was_there (form_of s) old new q moved known in (Cell p, ap key.Cell is)
   had_key (Name scope word) known = (Name scope word, refl)
+  had_key (Whole w) known = absurd known
   had_key (Range b) known =
       let (p, p_is, p_within, p_narrow) = spot_was_there (form_of s) old new (first_place b) moved known.0 in
       let (q, q_is, q_within, q_narrow) = spot_was_there (form_of s) old new (last_place b) moved known.1 in
@@ -306,6 +334,7 @@ finds_all s nodes t touched first found indexed cells blocks one two n a is =
     untouched : has n found ≡ false → (b : Node) → KeepsNode t.index nodes.lines n b → IsUntouched s b
     untouched other (Cell p) (inside, kept) = (inside, λ touches. apart other (cells p n inside kept touches))
     untouched other (Name scope word) kept = tt
+    untouched other (Whole w) kept = absurd kept
     untouched other (Range b) (inside, kept) = (inside, λ touches. apart other (blocks b n inside kept touches))
 
 -- where keys are added behind, and their numbers to those found

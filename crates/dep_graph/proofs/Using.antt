@@ -12,7 +12,7 @@ use Rattle.dep_graph.specs.Nodes.{covers_node, has}
 use Rattle.dep_graph.specs.Users.{AreLinkedTo, AreUsers, IsUserOf, is_over}
 use Rattle.dep_graph.specs.declared.net.Net.{Net}
 use Rattle.dep_graph.specs.declared.node.Node.{Node}
-use Rattle.dep_graph.specs.declared.node.Node.TheVariants.{Cell, Name, Range}
+use Rattle.dep_graph.specs.declared.node.Node.TheVariants.{Cell, Name, Range, Whole}
 use Rattle.dep_graph.specs.internal.Arrows.{from_slot, node_total}
 use Rattle.dep_graph.specs.internal.Nets.{links_in}
 use Rattle.dep_graph.specs.internal.Numbers.{IsAlive, count_of, found_at, node_at, place_of}
@@ -44,6 +44,7 @@ has_flat f (k ∷ ns) v h = ⊎_elim
 
 over_cell : (p : Place) (a : Node) → covers_node a (Cell p) ≡ true → is_over p a ≡ true
 over_cell p (Range b) h = h
+over_cell p (Whole w) h = h
 over_cell p (Cell q) h = absurd (false≢true h)
 over_cell p (Name scope word) h = absurd (false≢true h)
 
@@ -108,6 +109,10 @@ module _ (net : Net) where
       let (inside, (s, slot, under)) = covered_slot net (Range b) p over (a, link) in
       lists.has-append_right (place_of net.nodes (Range b)) (own_number net (Cell p)) (flat_map (from_slot net) (spot_slots net p))
       (flat_has (from_slot net) (spot_slots net p) s (place_of net.nodes (Range b)) slot under)
+  over_all p a (Whole w) link over =
+      let (inside, (s, slot, under)) = covered_slot net (Whole w) p over (a, link) in
+      lists.has-append_right (place_of net.nodes (Whole w)) (own_number net (Cell p)) (flat_map (from_slot net) (spot_slots net p))
+      (flat_has (from_slot net) (spot_slots net p) s (place_of net.nodes (Whole w)) slot under)
 
   -- ---- users
 

@@ -4,30 +4,29 @@ use Rattle.std.proofs.lemmas.Bool.{cases_lt, false≢true}
 use Rattle.std.proofs.lemmas.Bool.Decides.{nat_tests}
 use Rattle.std.specs.Prelude.{IsSome}
 use Rattle.std.proofs.lemmas.Option.{same_Some}
-use Rattle.cell_addr.specs.Place.{covers}
-use Rattle.cell_addr.specs.declared.place.Block.{Block}
 use Rattle.cell_addr.specs.declared.place.Place.{Place}
 use Rattle.place_lines.specs.Spots.{spot_of}
 use Rattle.needs_order.specs.Needs as plain
 use Rattle.needs_order.proofs.Lists as lists
 use Rattle.node_links.specs.Nodes.{needs_of, users_of}
 use Rattle.node_reach.specs.Arrows.{LeadsTo, at_once, after}
-use Rattle.block_index.specs.Index.{filed_in, slot_count, slots_of}
 use Rattle.block_index.proofs.Tests.{any_has, has_any}
 use Rattle.dep_graph.specs.Needs as needs
 use Rattle.dep_graph.specs.Needs.{Chain, IsUsed, Needs}
 use Rattle.dep_graph.specs.Nodes.{covers_node, has}
 use Rattle.dep_graph.specs.declared.net.Net.{Net}
 use Rattle.dep_graph.specs.declared.node.Node.{Node}
-use Rattle.dep_graph.specs.declared.node.Node.TheVariants.{Cell, Name, Range}
+use Rattle.dep_graph.specs.declared.node.Node.TheVariants.{Cell, Name, Range, Whole}
 use Rattle.dep_graph.specs.internal.Arrows.{cell_slots, from_node, from_slot, is_used, node_total, slots_behind, starts_of, targets_of, total, under_slot}
 use Rattle.dep_graph.specs.internal.Numbers.{IsAlive, found_at, is_range, key_at, node_at, place_of}
-use Rattle.dep_graph.specs.internal.Files.{FindsNode}
+use Rattle.dep_graph.specs.internal.Files.{FindsNode, filed_at, slot_total, slots_over}
 use Rattle.dep_graph.specs.internal.Filings.{filing_of}
 use Rattle.dep_graph.specs.internal.Keys.{key_of}
 use Rattle.dep_graph.specs.internal.Nets.{links_in}
 use Rattle.dep_graph.specs.declared.key.Key.{Key}
 use Rattle.dep_graph.specs.declared.key.Key.TheVariants as key
+use Rattle.dep_graph.proofs.Filed.{held_node, node_covers}
+use Rattle.dep_graph.proofs.FiledSlots.{map_plus, plus_map, slots_inside}
 use Rattle.dep_graph.proofs.Growing.{unknown_links}
 use Rattle.dep_graph.proofs.Numbers.{alive_inside, alive_number, alive_place, at_place, found_place, key_is, place_is}
 use Rattle.dep_graph.proofs.Places.{has_map, map_has}
@@ -51,20 +50,6 @@ some_of (u ∷ xs) h = (u, lists.has_first u xs)
 pub of_some : (xs : List ℕ) (u : ℕ) → plain.has u xs ≡ true → nat_lt 0 (length xs) ≡ true
 of_some [] u h = absurd (false≢true h)
 of_some (x ∷ xs) u h = lt_true 0 (length (x ∷ xs)) (omega arith)
-
-pub map_plus : (n : ℕ) (ss : List ℕ) (c : ℕ) → plain.has c (map (λ s. n + s) ss) ≡ true → (s : ℕ) × (plain.has s ss ≡ true) × (n + s ≡ c)
-map_plus n [] c h = absurd (false≢true h)
-map_plus n (x ∷ ss) c h = ⊎_elim
-    (λ (same : n + x ≡ c). (x, lists.has_first x ss, same))
-    (λ (later : plain.has c (map (λ s. n + s) ss) ≡ true). let (s, there, is) = map_plus n ss c later in (s, lists.has-append_right s (x ∷ []) ss there, is))
-    (lists.has_cases c (n + x) (map (λ s. n + s) ss) h)
-
-pub plus_map : (n : ℕ) (ss : List ℕ) (s : ℕ) → plain.has s ss ≡ true → plain.has (n + s) (map (λ k. n + k) ss) ≡ true
-plus_map n [] s h = absurd (false≢true h)
-plus_map n (x ∷ ss) s h = ⊎_elim
-    (λ (same : x ≡ s). subst (λ k. plain.has (n + s) ((n + k) ∷ map (λ j. n + j) ss) ≡ true) (sym same) (lists.has_first (n + s) (map (λ j. n + j) ss)))
-    (λ (later : plain.has s ss ≡ true). lists.has-append_right (n + s) ((n + x) ∷ []) (map (λ j. n + j) ss) (plus_map n ss s later))
-    (lists.has_cases s x ss h)
 
 pub filter_has : (q : ℕ → Bool) (xs : List ℕ) (a : ℕ) → plain.has a (filter q xs) ≡ true → (plain.has a xs ≡ true) × (q a ≡ true)
 filter_has q [] a h = absurd (false≢true h)
@@ -97,6 +82,11 @@ cell_of : (a b : Node) → covers_node a b ≡ true → (p : Place) × (b ≡ Ce
 cell_of (Range x) (Cell p) h = (p, refl)
 cell_of (Range x) (Name scope word) h = absurd (false≢true h)
 cell_of (Range x) (Range y) h = absurd (false≢true h)
+cell_of (Range x) (Whole y) h = absurd (false≢true h)
+cell_of (Whole x) (Cell p) h = (p, refl)
+cell_of (Whole x) (Name scope word) h = absurd (false≢true h)
+cell_of (Whole x) (Range y) h = absurd (false≢true h)
+cell_of (Whole x) (Whole y) h = absurd (false≢true h)
 cell_of (Cell p) b h = absurd (false≢true h)
 cell_of (Name scope word) b h = absurd (false≢true h)
 
@@ -110,25 +100,20 @@ pub leads_on : {targets : ℕ → List ℕ} {a b c : ℕ} → LeadsTo targets a 
 leads_on (at_once x) rest = after x rest
 leads_on (after x led) rest = after x (leads_on led rest)
 
--- a range is one by the test, and the other way round
-range_is : (o : Option Node) → is_range o ≡ true → (b : Block) × (o ≡ Some (Range b))
-range_is (Some (Range b)) h = (b, refl)
-range_is (Some (Cell p)) h = absurd (false≢true h)
-range_is (Some (Name scope word)) h = absurd (false≢true h)
-range_is None h = absurd (false≢true h)
-
 some_filing : (o : Option ℕ) → IsSome o → (f : ℕ) × (o ≡ Some f)
 some_filing (Some f) h = (f, refl)
 some_filing None h = absurd (false≢true h)
 
-range_of : (a : Node) (p : Place) → covers_node a (Cell p) ≡ true → (b : Block) × (a ≡ Range b) × (covers b p ≡ true)
-range_of (Range b) p h = (b, refl, h)
-range_of (Cell q) p h = absurd (false≢true h)
-range_of (Name scope word) p h = absurd (false≢true h)
+-- what covers a cell is a range
+range_covers : (a : Node) (p : Place) → covers_node a (Cell p) ≡ true → is_range (Some a) ≡ true
+range_covers (Range b) p h = refl
+range_covers (Whole w) p h = refl
+range_covers (Cell q) p h = absurd (false≢true h)
+range_covers (Name scope word) p h = absurd (false≢true h)
 
 -- the slots that hold a place
 abbrev pub spot_slots : Net → Place → List ℕ
-spot_slots net p = slots_of net.files.index (spot_of net.nodes.lines p).sheet (spot_of net.nodes.lines p).row (spot_of net.nodes.lines p).col
+spot_slots net p = slots_over net.files (spot_of net.nodes.lines p)
 
 module _ (net : Net) where
   -- ---- arrows of one node
@@ -180,12 +165,12 @@ module _ (net : Net) where
       → (IsAlive net.nodes r) × (covers_node (node_at net.nodes r) (Cell p) ≡ true) × IsUsed (links_in net) (node_at net.nodes r)
   cover_used p s r slot under =
       let (owned, used) = filter_has (is_used net) (under_slot net s) r under in
-      let (first, at) = served_node net.files r (filed_in net.files.index s) owned in
+      let (first, at) = served_node net.files r (filed_at net.files s) owned in
       let (alive, is) = used_node r used in
-      let (b, range) = range_is (found_at net.nodes r) (net.filed r first at).0 in
+      let (a, found_a, holds) = held_node net.nodes.lines net.nodes.keys.keys net.files r (net.filed r first at) in
       let found : FindsNode net.files r (spot_of net.nodes.lines p) = any_has (λ t. plain.has r (under_slot net t)) (spot_slots net p) s slot owned in
-      let covered : covers b p ≡ true = (((net.filed r first at).1 b range).exact p).0 found in
-      (alive, subst (λ x. covers_node x (Cell p) ≡ true) (sym (same_Some (node_at net.nodes r) (Range b) (sym alive ∙ range))) covered, is)
+      let covered : covers_node a (Cell p) ≡ true = (node_covers net.nodes.lines (FindsNode net.files r) a p holds).0 found in
+      (alive, subst (λ x. covers_node x (Cell p) ≡ true) (sym (same_Some (node_at net.nodes r) a (sym alive ∙ found_a))) covered, is)
 
   -- so it needs the cell
   cover_need : (p : Place) (s r : ℕ) → plain.has s (spot_slots net p) ≡ true → plain.has r (from_slot net s) ≡ true → (IsAlive net.nodes r) × Needs (links_in net) (node_at net.nodes r) (Cell p)
@@ -196,10 +181,12 @@ module _ (net : Net) where
       → (place_of net.nodes a < node_total net) × ((s : ℕ) × (plain.has s (spot_slots net p) ≡ true) × (plain.has (place_of net.nodes a) (from_slot net s) ≡ true))
   covered_slot a p covers_it (c, h) =
       let (c_in, a_in, listed) = link_user c a h in
-      let (b, is, covered) = range_of a p covers_it in
-      let range : found_at net.nodes (place_of net.nodes a) ≡ Some (Range b) = found_place net.nodes a a_in ∙ ap Some is in
-      let (first, at) = some_filing (filing_of net.files.current (place_of net.nodes a)) (net.used (place_of net.nodes c) (place_of net.nodes a) listed b range) in
-      let found : FindsNode net.files (place_of net.nodes a) (spot_of net.nodes.lines p) = (((net.filed (place_of net.nodes a) first at).1 b range).exact p).1 covered in
+      let here : found_at net.nodes (place_of net.nodes a) ≡ Some a = found_place net.nodes a a_in in
+      let range : is_range (found_at net.nodes (place_of net.nodes a)) ≡ true = ap is_range here ∙ range_covers a p covers_it in
+      let (first, at) = some_filing (filing_of net.files.current (place_of net.nodes a)) (net.used (place_of net.nodes c) (place_of net.nodes a) listed range) in
+      let (x, there, holds) = held_node net.nodes.lines net.nodes.keys.keys net.files (place_of net.nodes a) (net.filed (place_of net.nodes a) first at) in
+      let found : FindsNode net.files (place_of net.nodes a) (spot_of net.nodes.lines p)
+      = (node_covers net.nodes.lines (FindsNode net.files (place_of net.nodes a)) x p holds).1 (subst (λ y. covers_node y (Cell p) ≡ true) (same_Some a x (sym here ∙ there)) covers_it) in
       let (s, slot, owned) = has_any (λ t. plain.has (place_of net.nodes a) (under_slot net t)) (spot_slots net p) found in
       (a_in, (s, slot, has_filter (is_used net) (under_slot net s) (place_of net.nodes a) owned (of_some (users_of net.links (place_of net.nodes a)) (place_of net.nodes c) (user_of c a h))))
 
@@ -228,9 +215,10 @@ module _ (net : Net) where
       to_cell p s r w slot (subst (λ n. plain.has r (from_slot net n) ≡ true) here under) ends
   from_behind (Name scope word) c w there f = absurd (false≢true there)
   from_behind (Range b) c w there f = absurd (false≢true there)
+  from_behind (Whole v) c w there f = absurd (false≢true there)
 
   pub behind_high : (k : Key) (c : ℕ) → plain.has c (slots_behind net k) ≡ true → node_total net ≤ c
-  behind_high k c there = let (s, slot, is) = map_plus (node_total net) (cell_slots net.files.index k) c there in omega (arith, is)
+  behind_high k c there = let (s, slot, is) = map_plus (node_total net) (cell_slots net.files k) c there in omega (arith, is)
 
   step : (v c w : ℕ) → w < node_total net → plain.has c (targets_of net v) ≡ true → (c ≡ w) ⊎ Fwd c w → Fwd v w
   step v c w w_in next led = record {
@@ -368,13 +356,14 @@ module _ (net : Net) where
 
   -- ---- all arrows lead to nodes and slots
 
-  pub behind_inside : (k : Key) (c : ℕ) → plain.has c (slots_behind net k) ≡ true → ((sheet row col s : ℕ) → plain.has s (slots_of net.files.index sheet row col) ≡ true → s < slot_count net.files.index) → c < total net
-  behind_inside (key.Cell x) c h inside =
-      let (s, slot, is) = map_plus (node_total net) (slots_of net.files.index x.sheet x.row x.col) c h in
-      let low : s < slot_count net.files.index = inside x.sheet x.row x.col s slot in
+  pub behind_inside : (k : Key) (c : ℕ) → plain.has c (slots_behind net k) ≡ true → c < total net
+  behind_inside (key.Cell x) c h =
+      let (s, slot, is) = map_plus (node_total net) (slots_over net.files x) c h in
+      let low : s < slot_total net.files = slots_inside net.files x s slot in
       omega (arith, low, is)
-  behind_inside (key.Name scope word) c h inside = absurd (false≢true h)
-  behind_inside (key.Range a) c h inside = absurd (false≢true h)
+  behind_inside (key.Name scope word) c h = absurd (false≢true h)
+  behind_inside (key.Range a) c h = absurd (false≢true h)
+  behind_inside (key.Whole a) c h = absurd (false≢true h)
 
   pub slot_targets_inside : (s c : ℕ) → plain.has c (from_slot net s) ≡ true → c < total net
   slot_targets_inside s c h =
@@ -382,11 +371,11 @@ module _ (net : Net) where
       let low : c < node_total net = alive_inside net.nodes c (used_node c used).0 in
       omega (arith, low)
 
-  pub targets_inside : ((sheet row col s : ℕ) → plain.has s (slots_of net.files.index sheet row col) ≡ true → s < slot_count net.files.index) → (v c : ℕ) → plain.has c (targets_of net v) ≡ true → c < total net
-  targets_inside inside v c h = ⊎_elim
+  pub targets_inside : (v c : ℕ) → plain.has c (targets_of net v) ≡ true → c < total net
+  targets_inside v c h = ⊎_elim
       (λ (v_in : v < node_total net). ⊎_elim
       (λ (user : plain.has c (users_of net.links v) ≡ true). let low : c < node_total net = alive_inside net.nodes c (user_alive v c user).0 in omega (arith, low))
-      (λ (slot : plain.has c (slots_behind net (key_at net.nodes v)) ≡ true). behind_inside (key_at net.nodes v) c slot inside)
+      (λ (slot : plain.has c (slots_behind net (key_at net.nodes v)) ≡ true). behind_inside (key_at net.nodes v) c slot)
       (lists.has-append_cases c (users_of net.links v) (slots_behind net (key_at net.nodes v)) (subst (λ l. plain.has c l ≡ true) (targets_low v v_in) h)))
       (λ (past : node_total net ≤ v). slot_targets_inside (v - node_total net) c (subst (λ l. plain.has c l ≡ true) (targets_high v past) h))
       (cases_lt v (node_total net))

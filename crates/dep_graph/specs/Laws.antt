@@ -1,6 +1,7 @@
 -- What a structural operation leaves of the links of nodes that it doesn't bend. Source: this project's own.
 use Rattle.std.specs.Prelude.{◌≡◌, List, Some, IsTrue, ⊤}
 use Rattle.cell_addr.specs.Place.{IsBlockInside, IsInside}
+use Rattle.cell_addr.specs.Whole.{IsWholeInside}
 use Rattle.shift_core.specs.Sound.{IsSound}
 use Rattle.shift_core.specs.declared.shift.Shift.{Shift}
 use Rattle.dep_graph.specs.Bent.{IsBentBy}
@@ -8,13 +9,14 @@ use Rattle.dep_graph.specs.Needs.{Links}
 use Rattle.dep_graph.specs.Nodes.{has}
 use Rattle.dep_graph.specs.Shifted.{AreShifted, node_after, node_before}
 use Rattle.dep_graph.specs.declared.node.Node.{Node}
-use Rattle.dep_graph.specs.declared.node.Node.TheVariants.{Cell, Name, Range}
+use Rattle.dep_graph.specs.declared.node.Node.TheVariants.{Cell, Name, Range, Whole}
 
 -- the cell or the range is within the limits of a sheet
 abbrev pub IsNodeInside : Node → Type 0
 IsNodeInside (Cell p) = IsInside p
 IsNodeInside (Name scope word) = ⊤
 IsNodeInside (Range b) = IsBlockInside b
+IsNodeInside (Whole w) = IsWholeInside w
 
 -- so is each node that is linked to another or that another is linked to
 abbrev pub AreLinksInside : Links → Type 0
@@ -23,7 +25,9 @@ AreLinksInside links = (a b : Node) → IsTrue (has b (links a)) → IsNodeInsid
 -- the node is a cell or a name: unlike ranges, no two of them become one
 abbrev pub IsNoRange : Node → Type 0
 IsNoRange (Range b) = ⊥
-IsNoRange _ = ⊤
+IsNoRange (Whole w) = ⊥
+IsNoRange (Cell p) = ⊤
+IsNoRange (Name scope word) = ⊤
 
 -- the operation moves the first node to the second, and the second goes back to where it was
 abbrev pub GoesAndComesBack : Shift → Node → Node → Type 0

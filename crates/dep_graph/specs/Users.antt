@@ -1,18 +1,20 @@
 -- Which nodes use a cell: those that are linked to it, or to a range that covers it. Source: this project's own.
 use Rattle.std.specs.Prelude.{◌↔◌, Bool, false, List, IsTrue}
 use Rattle.cell_addr.specs.Place.{covers, same_place}
+use Rattle.cell_addr.specs.Whole.{whole_block}
 use Rattle.cell_addr.specs.declared.place.Place.{Place}
 use Rattle.dep_graph.specs.Needs.{Links}
 use Rattle.dep_graph.specs.Nodes.{has}
 use Rattle.dep_graph.specs.Walks.{IsOnce}
 use Rattle.dep_graph.specs.declared.node.Node.{Node}
-use Rattle.dep_graph.specs.declared.node.Node.TheVariants.{Cell, Name, Range}
+use Rattle.dep_graph.specs.declared.node.Node.TheVariants.{Cell, Name, Range, Whole}
 
--- the node is the cell at a place, or a range that covers it
+-- the node is the cell at a place, or a range, whole or not, that covers it
 abbrev pub is_over : Place → Node → Bool
 is_over p (Cell q) = same_place q p
 is_over p (Name scope word) = false
 is_over p (Range b) = covers b p
+is_over p (Whole w) = covers (whole_block w) p
 
 -- the node is linked to one that is
 abbrev pub IsUserOf : Place → Links → Node → Type 0

@@ -2,6 +2,7 @@
 pub mod Hashed
 pub mod Keys
 pub mod Filings
+pub mod Wholes
 pub mod Files
 pub mod Numbers
 pub mod Touches

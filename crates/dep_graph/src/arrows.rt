@@ -1,8 +1,8 @@
 // The arrows of a net, from what is needed to what needs it.
 ghost use Rattle.std.specs.Prelude.{◌≡◌, ◌+◌, ◌<◌, ◌++◌, ◌∷◌, [], if◌then◌else◌, map, IfOk, OnOk};
 ghost use Rattle.std.specs.List.{flat_map};
-ghost use Rattle.block_index.specs.Index.{slot_count};
 ghost use Rattle.dep_graph.specs.internal.Arrows.{from_node, from_slot, node_total, slots_behind, starts_of, targets_of, total};
+ghost use Rattle.dep_graph.specs.internal.Files.{slot_total};
 
 use crate::key::Key;
 use crate::net::Net;
@@ -43,7 +43,7 @@ impl Net {
     {
         match key {
             Key::Cell(spot) => {
-                let slots = self.files.index.slots_at(spot.sheet, spot.row, spot.col)?;
+                let slots = self.files.slots_at(spot)?;
                 add_behind(found, self.nodes.len(), &slots)
             }
             _ => Ok(()),
@@ -52,7 +52,7 @@ impl Net {
 
     // The used ranges that are filed under a slot.
     pub(crate) fn from_slot(&self, alloc: Global, slot: usize) -> Result<Vec<usize>, AllocError>
-        requires { slot < slot_count self.now.files.index }
+        requires { slot < slot_total self.now.files }
         ensures { IfOk result (λ found. found.items ≡ from_slot self.now slot) }
     {
         let mut found = Vec::new(alloc);
@@ -89,7 +89,11 @@ impl Net {
 }
 
 // Adds slots as they are numbered behind so many nodes.
-fn add_behind(found: &mut Vec<usize>, count: usize, slots: &[usize]) -> Result<(), AllocError>
+pub(crate) fn add_behind(
+    found: &mut Vec<usize>,
+    count: usize,
+    slots: &[usize],
+) -> Result<(), AllocError>
     ensures { OnOk result (found.new.items ≡ found.old.items ++ map (λ s. count + s) slots.now) }
 {
     'slots: for slot in slots {

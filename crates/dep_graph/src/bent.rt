@@ -13,6 +13,7 @@ use crate::graph::Graph;
 use crate::net::Net;
 use crate::node::Node;
 use crate::nodes::Nodes;
+use crate::whole::bends_whole;
 use indexmap::IndexSet;
 use near_hash::NearHash;
 use shift_core::{Shift, is_bent, is_cut, moved_place};
@@ -20,9 +21,10 @@ use std::alloc::AllocError;
 
 impl Graph {
     /// Each node, once, that is linked to a cell that the operation loses, or to a range that it loses, whose size it
-    /// changes, in which it displaces lines, or which it cuts at the sheet's end. Costs a search for each run of the lines
-    /// that the operation loses or displaces, and for each node that it touches, or that isn't inside its sheet, about the
-    /// number of its users. Errs for want of memory.
+    /// changes, in which it displaces lines, or which it cuts at the sheet's end; or to a whole range with whose block
+    /// it does so, or across which it edits lines of its sheet. Costs a search for each run of the lines that the
+    /// operation loses or displaces, and for each node that it touches, or that isn't inside its sheet, and each whole
+    /// range, on whichever sheet, about the number of its users. Errs for want of memory.
     pub fn bent(&self, s: &Shift) -> Result<Nodes, AllocError>
         requires { IsSound s.now }
         ensures { IfOk result (λ nodes. AreBent s.now (links_of self.now) (items_of nodes)) }
@@ -112,5 +114,6 @@ fn bends(s: &Shift, node: Node) -> bool
         Node::Cell(at) => moved_place(s, at).is_none(),
         Node::Name { .. } => false,
         Node::Range(block) => is_bent(s, block) || is_cut(s, block),
+        Node::Whole(whole) => bends_whole(s, whole),
     }
 }

@@ -5,10 +5,11 @@ ghost use Rattle.std.specs.List.{filter_map};
 ghost use Rattle.std.specs.Option.{option_map, option_to_list};
 ghost use Rattle.std.specs.Ordering.{nat_cmp};
 ghost use Rattle.std.specs.declared.ops.Range.{Range};
-ghost use Rattle.block_index.specs.Index.{filed_in, finds, slot_count};
+ghost use Rattle.block_index.specs.Index.{finds};
 ghost use Rattle.dep_graph.specs.declared.serving.Serving.{Serving};
 ghost use Rattle.dep_graph.specs.internal.Filings.{AreLastServed, filing_of, filing_then, is_given, is_last, is_since, owner_at, serves_at};
 
+use crate::node::Node;
 use crate::serving::Serving;
 use block_index::BlockIndex;
 use cell_addr::{Axis, Block};
@@ -19,14 +20,17 @@ use std::ops::Range;
 
 // Ranges under the slots of their cells.
 //
-// A range is filed under the slots into which the numbers of its lines are cut. Its filing has a number of its own, so
+// A range is filed under the slots into which the numbers of its lines are cut, and a whole range under those of its lines
+// along its axis alone, since it has all lines across, also those that come in later. Its filing has a number of its own, so
 // that the range can be filed anew where an operation bends it: the filings that it had before are then nobody's. Where
 // lines come in between its own, these get a filing beside the ones that the range has. A filing serves its node only once
 // all that belongs to the operation is done, so that one which was left half made for want of memory never does.
 pub(crate) struct Files {
     pub(crate) alloc: Global,
-    // The filings under slots.
+    // The filings of ranges under slots.
     pub(crate) index: BlockIndex,
+    // Those of whole ranges under the slots of their lines, which stand there as the rows of one column: that of their axis.
+    pub(crate) wholes: BlockIndex,
     // For each filing the node that was filed.
     pub(crate) owners: Vec<usize>,
     // For each filing whether it may serve that node.
@@ -39,6 +43,7 @@ pub(crate) struct Files {
     pub ghost owned: { (n f : ℕ) → filing_of current n ≡ Some f → owner_at owners f ≡ Some n },
     pub ghost served: { (n f : ℕ) → filing_of current n ≡ Some f → serves_at serves f ≡ true },
     pub ghost within: { (sheet row col f : ℕ) → finds index sheet row col f ≡ true → f < length owners.items },
+    pub ghost within_wholes: { (sheet row col f : ℕ) → finds wholes sheet row col f ≡ true → f < length owners.items },
 }
 
 // Written out, so that whoever drops one calls one function.
@@ -47,6 +52,7 @@ impl Drop for Files {
         let Files {
             alloc: _,
             index: _index,
+            wholes: _wholes,
             owners: _owners,
             serves: _serves,
             current: _current,
@@ -57,7 +63,8 @@ impl Drop for Files {
 
 impl Files {
     ghost use Rattle.place_lines.specs.declared.spot.Spot.{Spot};
-    ghost use Rattle.dep_graph.specs.internal.Files.{AreServing, FilesCells, FilesOn, HasSpot, finds_filing, in_area, in_row, in_run, owner_of};
+    ghost use Rattle.dep_graph.specs.declared.node.Node.TheVariants as node;
+    ghost use Rattle.dep_graph.specs.internal.Files.{AreServing, FilesCells, FilesOn, FilesSpots, IsSpotOf, filed_at, finds_filing, in_area, in_row, in_run, owner_of, slot_total};
 
     // No range is filed, and there are no nodes.
     pub(crate) fn new(alloc: Global) -> Files
@@ -66,6 +73,7 @@ impl Files {
         Files {
             alloc,
             index: BlockIndex::new(alloc),
+            wholes: BlockIndex::new(alloc),
             owners: Vec::new(alloc),
             serves: Vec::new(alloc),
             current: Vec::new(alloc),
@@ -107,34 +115,73 @@ impl Files {
 
     // The nodes that are filed under a slot.
     pub(crate) fn nodes_under(&self, slot: usize) -> Result<Vec<usize>, AllocError>
-        requires { slot < slot_count self.now.index }
-        ensures { IfOk result (λ nodes. nodes.items ≡ filter_map (owner_of self.now) (filed_in self.now.index slot)) }
+        requires { slot < slot_total self.now }
+        ensures { IfOk result (λ nodes. nodes.items ≡ filter_map (owner_of self.now) (filed_at self.now slot)) }
     {
         let mut nodes = Vec::new(self.alloc);
-        'filed: for filing in self.index.filed(slot) {
+        'filed: for filing in self.filed(slot) {
             push_some(&mut nodes, self.owner(*filing))?;
         }
         Ok(nodes)
     }
 
-    // Files a node under the cells of a block, and answers the filing, which doesn't serve the node yet.
+    // Files a number under the cells of a range, and answers the filing, which doesn't serve the number's node yet.
     pub(crate) fn file(
         &mut self,
         lines: &PlaceLines,
-        block: Block,
-        node: usize,
+        range: Node,
+        number: usize,
     ) -> Result<usize, AllocError>
         ensures on { FilesOn self.old self.new }
         ensures new { IfOk result (λ f. length self.old.owners.items ≡ f) }
-        ensures owner { IfOk result (λ f. owner_at self.new.owners f ≡ Some node) }
-        ensures exact { IfOk result (λ f. (spot : Spot) → IsTrue (finds_filing self.new spot f) ↔ HasSpot lines.now block spot) }
+        ensures owner { IfOk result (λ f. owner_at self.new.owners f ≡ Some number) }
+        ensures exact { IfOk result (λ f. (spot : Spot) → IsTrue (finds_filing self.new spot f) ↔ IsSpotOf lines.now range spot) }
+    {
+        let filing = self.owners.len();
+        push_filing(&mut self.owners, &mut self.serves, number)?;
+        self.file_spots(lines, range, filing)?;
+        Ok(filing)
+    }
+
+    // Files the last filing under the cells of a range; under none for what is no range.
+    fn file_spots(
+        &mut self,
+        lines: &PlaceLines,
+        range: Node,
+        filing: usize,
+    ) -> Result<(), AllocError>
+        requires { filing < length self.old.owners.items }
+        ensures current { self.new.current ≡ self.old.current }
+        ensures owners { self.new.owners ≡ self.old.owners }
+        ensures serves { self.new.serves ≡ self.old.serves }
+        ensures filed { FilesSpots (IsSpotOf lines.now range) filing self.old self.new }
+        ensures found { OnOk result ((spot : Spot) → IsSpotOf lines.now range spot → finds_filing self.new spot filing ≡ true) }
+    {
+        match range {
+            Node::Range(block) => self.file_block(lines, block, filing),
+            Node::Whole(whole) => self.file_whole(lines, whole, filing),
+            Node::Cell(_) => Ok(()),
+            Node::Name { .. } => Ok(()),
+        }
+    }
+
+    // Files the last filing under the cells of a block.
+    fn file_block(
+        &mut self,
+        lines: &PlaceLines,
+        block: Block,
+        filing: usize,
+    ) -> Result<(), AllocError>
+        requires { filing < length self.old.owners.items }
+        ensures current { self.new.current ≡ self.old.current }
+        ensures owners { self.new.owners ≡ self.old.owners }
+        ensures serves { self.new.serves ≡ self.old.serves }
+        ensures filed { FilesSpots (IsSpotOf lines.now (node.Range block)) filing self.old self.new }
+        ensures found { OnOk result ((spot : Spot) → IsSpotOf lines.now (node.Range block) spot → finds_filing self.new spot filing ≡ true) }
     {
         let rows = lines.runs(self.alloc, Axis::Rows, block.sheet, block.span(Axis::Rows))?;
         let cols = lines.runs(self.alloc, Axis::Cols, block.sheet, block.span(Axis::Cols))?;
-        let filing = self.owners.len();
-        push_filing(&mut self.owners, &mut self.serves, node)?;
-        self.file_all(block.sheet, &rows, &cols, filing)?;
-        Ok(filing)
+        self.file_all(block.sheet, &rows, &cols, filing)
     }
 
     // Files the last filing under the cells of these rows and columns.
@@ -207,6 +254,7 @@ impl Files {
         ensures serves { (f : ℕ) → serves_at self.new.serves f ≡ (serves_at self.old.serves f || f == filing) }
         ensures owners { self.new.owners ≡ self.old.owners }
         ensures index { self.new.index ≡ self.old.index }
+        ensures wholes { self.new.wholes ≡ self.old.wholes }
     {
         self.current[node] = Some(filing);
         self.serves[filing] = true;
@@ -235,6 +283,7 @@ impl Files {
         ensures serves { (n f : ℕ) → owner_at self.old.owners f ≡ Some n → serves_at self.new.serves f ≡ (serves_at self.old.serves f || is_last (filing_then filings.now self.old.current n) f) }
         ensures owners { self.new.owners ≡ self.old.owners }
         ensures index { self.new.index ≡ self.old.index }
+        ensures wholes { self.new.wholes ≡ self.old.wholes }
     {
         put_filings(&mut self.current, filings);
         let_serve(&mut self.serves, filings);

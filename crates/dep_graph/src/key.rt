@@ -1,10 +1,11 @@
 // Under what nodes are kept.
 ghost use Rattle.std.specs.Prelude.{◌≡◌, true};
 ghost use Rattle.std.specs.Cmp.{partial_equiv_from_equiv};
-ghost use Rattle.dep_graph.specs.declared.key.Key.TheVariants.{Cell, Name, Range};
+ghost use Rattle.dep_graph.specs.declared.key.Key.TheVariants.{Cell, Name, Range, Whole};
 ghost use Rattle.dep_graph.specs.internal.Keys.{fed_key, is_narrow, key_of, keys_are_alike, node_of, same_key, same_key_fed};
 
-use crate::node::Node;
+use crate::ends::Ends;
+use crate::node::{Node, tag};
 use place_lines::{Area, PlaceLines, Spot};
 use std::hash::{Hash, Hasher};
 
@@ -14,6 +15,7 @@ pub(crate) enum Key {
     Cell(Spot),
     Name { scope: u32, word: u64 },
     Range(Area),
+    Whole(Ends),
 }
 
 impl Key {
@@ -26,6 +28,7 @@ impl Key {
             Node::Cell(at) => Key::Cell(lines.spot(at)),
             Node::Name { scope, word } => Key::Name { scope, word },
             Node::Range(block) => Key::Range(lines.area(block)),
+            Node::Whole(whole) => Key::Whole(Ends::of(lines, whole)),
         }
     }
 
@@ -37,6 +40,7 @@ impl Key {
             Key::Cell(spot) => Some(Node::Cell(lines.place(spot)?)),
             Key::Name { scope, word } => Some(Node::Name { scope, word }),
             Key::Range(area) => Some(Node::Range(lines.block(area)?)),
+            Key::Whole(ends) => Some(Node::Whole(ends.whole(lines)?)),
         }
     }
 
@@ -48,6 +52,7 @@ impl Key {
             Key::Cell(own) => own == spot,
             Key::Name { .. } => false,
             Key::Range(_) => false,
+            Key::Whole(_) => false,
         }
     }
 
@@ -59,6 +64,7 @@ impl Key {
             Key::Cell(_) => false,
             Key::Name { scope, word } => scope == in_scope && word == of_word,
             Key::Range(_) => false,
+            Key::Whole(_) => false,
         }
     }
 
@@ -70,6 +76,19 @@ impl Key {
             Key::Cell(_) => false,
             Key::Name { .. } => false,
             Key::Range(own) => own == area,
+            Key::Whole(_) => false,
+        }
+    }
+
+    // Whether it is that of the whole range of the ends.
+    fn is_whole(self, ends: Ends) -> bool
+        ensures { result ≡ same_key self (Whole ends) }
+    {
+        match self {
+            Key::Cell(_) => false,
+            Key::Name { .. } => false,
+            Key::Range(_) => false,
+            Key::Whole(own) => own == ends,
         }
     }
 }
@@ -84,6 +103,7 @@ impl PartialEq for Key {
             Key::Cell(spot) => self.is_cell(spot),
             Key::Name { scope, word } => self.is_name(scope, word),
             Key::Range(area) => self.is_range(area),
+            Key::Whole(ends) => self.is_whole(ends),
         }
     }
 }
@@ -118,6 +138,12 @@ impl Hash for Key {
                 state.write_u64(area.right);
                 state.write_u64(area.top);
                 state.write_u64(area.bottom);
+            }
+            Key::Whole(ends) => {
+                state.write_u8(tag(ends.axis));
+                state.write_u32(ends.sheet);
+                state.write_u64(ends.first);
+                state.write_u64(ends.last);
             }
         }
     }

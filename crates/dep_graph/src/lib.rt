@@ -1,14 +1,16 @@
 //! Which formulas need which cells, and what follows from it: what a change reaches, in which order it is computed anew,
 //! and what is on a cycle.
 //!
-//! A [`Node`] is a cell, a named expression, or a range that formulas read. A [`Graph`] stands for a finite map from
-//! nodes to the nodes that each of them was linked to. Beside these a range that some node is linked to needs each cell
-//! that it covers, without being linked to any. Ranges never list their cells: a range is filed under the few slots into
-//! which the numbers of its lines are cut, and a cell finds the ranges that cover it by its slots. So prefix sums over n rows cost about
-//! n and not the square of n. A structural operation takes the nodes along, and loses some with their links;
-//! [`Graph::bent`] tells beforehand which nodes are linked to one that it doesn't just carry along. Cells and ranges are
-//! kept under the numbers of their lines, which stay while operations move these, so that an operation looks only at what
-//! it touches, and not at what it carries along.
+//! A [`Node`] is a cell, a named expression, or a range that formulas read, of cells or of whole rows or columns. A
+//! [`Graph`] stands for a finite map from nodes to the nodes that each of them was linked to. Beside these a range that
+//! some node is linked to needs each cell that it covers, without being linked to any. Ranges never list their cells: a
+//! range is filed under the few slots into which the numbers of its lines are cut, and a cell finds the ranges that
+//! cover it by its slots. So prefix sums over n rows cost about n and not the square of n. A whole range has its lines
+//! along one axis alone under slots, since it has all lines across; a cell finds it by its own line. A structural
+//! operation takes the nodes along, and loses some with their links; [`Graph::bent`] tells beforehand which nodes are
+//! linked to one that it doesn't just carry along. Cells and ranges are kept under the numbers of their lines, which
+//! stay while operations move these, so that an operation looks only at what it touches, and at whole ranges, which are
+//! few, and not at what else it carries along.
 //!
 //! ```text
 //! let mut graph = Graph::new(alloc)?;
@@ -26,6 +28,8 @@
 mod arrows;
 mod bent;
 mod copy;
+mod ends;
+mod filed_wholes;
 mod files;
 mod found;
 mod graph;
@@ -37,10 +41,12 @@ mod nodes;
 mod refiled;
 mod serving;
 mod shifted;
+mod slots;
 mod table;
 mod touches;
 mod users;
 mod walk;
+mod whole;
 
 pub use graph::Graph;
 pub use laws::{links_stay_inside, unbent_nodes_keep_their_links};

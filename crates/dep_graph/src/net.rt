@@ -5,9 +5,8 @@ ghost use Rattle.needs_order.specs.Needs.{has};
 ghost use Rattle.node_links.specs.Nodes.{needs_of, node_count};
 ghost use Rattle.indexmap.specs.IndexSet.{spare};
 ghost use Rattle.dep_graph.specs.declared.node.Node.{Node};
-ghost use Rattle.dep_graph.specs.declared.node.Node.TheVariants.{Range};
 ghost use Rattle.dep_graph.specs.internal.Keys.{AreKeysOnce, is_narrow, same_key};
-ghost use Rattle.dep_graph.specs.internal.Numbers.{AreFilings, IsAlive, IsFiled, count_of, found_at, key_place, node_at, place_of};
+ghost use Rattle.dep_graph.specs.internal.Numbers.{AreFilings, IsAlive, IsFiled, count_of, found_at, is_range, key_place, node_at, place_of};
 ghost use Rattle.dep_graph.specs.internal.Touches.{AreIndexed, IsIndexed};
 
 use crate::files::Files;
@@ -15,7 +14,6 @@ use crate::key::Key;
 use crate::node::Node;
 use crate::table::NodeTable;
 use crate::touches::Touches;
-use cell_addr::Block;
 use indexmap::IndexSet;
 use near_hash::NearHash;
 use node_links::Links;
@@ -149,15 +147,17 @@ impl Net {
         ensures filed { OnOk result (IsFiled self.new.nodes self.new.files number) }
     {
         match a {
-            Node::Range(block) => self.file(block, number),
+            Node::Range(_) => self.file(a, number),
+            Node::Whole(_) => self.file(a, number),
             Node::Cell(_) => Ok(()),
             Node::Name { .. } => Ok(()),
         }
     }
 
     // Files a range under its slots, unless it is.
-    fn file(&mut self, block: Block, number: usize) -> Result<(), AllocError>
-        requires block { found_at self.old.nodes number ≡ Some (Range block) }
+    fn file(&mut self, range: Node, number: usize) -> Result<(), AllocError>
+        requires node { found_at self.old.nodes number ≡ Some range }
+        requires range { is_range (Some range) ≡ true }
         ensures grown { Grows self.old self.new }
         ensures nodes { self.new.nodes ≡ self.old.nodes }
         ensures filed { OnOk result (IsFiled self.new.nodes self.new.files number) }
@@ -165,7 +165,7 @@ impl Net {
         if self.files.filing(number).is_some() {
             return Ok(());
         }
-        let filing = self.files.file(self.nodes.lines(), block, number)?;
+        let filing = self.files.file(self.nodes.lines(), range, number)?;
         self.files.keep(number, filing);
         Ok(())
     }

@@ -8,19 +8,20 @@ ghost use Rattle.place_lines.specs.Moved.{AreMoved};
 ghost use Rattle.place_lines.specs.declared.spot.Spot.{Spot};
 ghost use Rattle.shift_core.specs.Form.{form_of};
 ghost use Rattle.shift_core.specs.Sound.{IsSound};
-ghost use Rattle.dep_graph.specs.declared.node.Node.TheVariants.{Range};
-ghost use Rattle.dep_graph.specs.internal.Files.{AreServing, FilesOn, FindsBy, HasSpot, HoldsBlock, finds_filing};
+ghost use Rattle.dep_graph.specs.declared.node.Node.TheVariants as node;
+ghost use Rattle.dep_graph.specs.internal.Files.{AreServing, FilesOn, FindsBy, HoldsNode, IsSpotOf, finds_filing};
 ghost use Rattle.dep_graph.specs.internal.Filings.{filing_of, filing_then, is_given, owner_at};
 ghost use Rattle.dep_graph.specs.internal.Keys.{key_of};
-ghost use Rattle.dep_graph.specs.internal.Numbers.{count_of, found_at};
-ghost use Rattle.dep_graph.specs.internal.ShiftedNumbers.{AreAllRefiled, AreFilingsUnder, AreTargets, AreUnfiled, IsRefiled, StillFiled, after_at, block_in};
-ghost use Rattle.dep_graph.specs.internal.Touches.{AreInside, FindsTouched, IsHandedAt};
+ghost use Rattle.dep_graph.specs.internal.Numbers.{count_of, found_at, is_range};
+ghost use Rattle.dep_graph.specs.internal.ShiftedNumbers.{AreAllRefiled, AreFilingsUnder, AreTargets, AreUnfiled, IsRefiled, StillFiled, after_at, range_in};
+ghost use Rattle.dep_graph.specs.internal.Touches.{AreInside, FindsTouched, IsHandedNode, fresh_node};
 
 use crate::net::Net;
 use crate::node::Node;
 use crate::serving::Serving;
 use crate::touches::handed_on;
-use cell_addr::Block;
+use crate::whole::{fresh_whole, hands_on_whole};
+use cell_addr::Whole;
 use node_links::few_target;
 use place_lines::PlaceLines;
 use shift_core::Shift;
@@ -94,13 +95,15 @@ impl Net {
     }
 
     // The range that the node of a number becomes; none where it becomes none.
-    fn moved_range(&self, s: &Shift, number: usize) -> Option<Block>
+    fn moved_range(&self, s: &Shift, number: usize) -> Option<Node>
         requires { IsSound s.now }
-        ensures { result ≡ block_in (after_at s.now self.now number) }
+        ensures { result ≡ range_in (after_at s.now self.now number) }
     {
-        match self.moved(s, number) {
-            Some(Node::Range(block)) => Some(block),
-            _ => None,
+        match self.moved(s, number)? {
+            Node::Range(block) => Some(Node::Range(block)),
+            Node::Whole(whole) => Some(Node::Whole(whole)),
+            Node::Cell(_) => None,
+            Node::Name { .. } => None,
         }
     }
 
@@ -112,12 +115,13 @@ impl Net {
         s: &Shift,
         number: usize,
         target: usize,
-        after: Block,
+        after: Node,
     ) -> Result<(), AllocError>
         requires sound { IsSound s.now }
         requires moved { AreMoved (form_of s.now) self.old.nodes.lines lines.now }
-        requires after { after_at s.now self.old number ≡ Some (Range after) }
-        requires target { slice_get self.old.nodes.keys.keys target ≡ Some (key_of lines.now (Range after)) }
+        requires after { after_at s.now self.old number ≡ Some after }
+        requires range { is_range (Some after) ≡ true }
+        requires target { slice_get self.old.nodes.keys.keys target ≡ Some (key_of lines.now after) }
         requires low { target < count_of self.old.nodes }
         requires inside { (n : ℕ) → is_given filings.old n ≡ true → n < count_of self.old.nodes }
         requires filings { AreFilingsUnder lines.now self.old (filing_then filings.old self.old.files.current) }
@@ -144,16 +148,17 @@ impl Net {
         s: &Shift,
         number: usize,
         target: usize,
-        after: Block,
+        after: Node,
     ) -> Result<Serving, AllocError>
         requires sound { IsSound s.now }
         requires moved { AreMoved (form_of s.now) self.old.nodes.lines lines.now }
-        requires target { slice_get self.old.nodes.keys.keys target ≡ Some (key_of lines.now (Range after)) }
+        requires range { is_range (Some after) ≡ true }
+        requires target { slice_get self.old.nodes.keys.keys target ≡ Some (key_of lines.now after) }
         ensures nodes { self.new.nodes ≡ self.old.nodes }
         ensures links { self.new.links ≡ self.old.links }
         ensures files { FilesOn self.old.files self.new.files }
         ensures serving { IfOk result (λ all. AreServing self.new.files target all) }
-        ensures holds { IfOk result (λ all. HoldsBlock lines.now (FindsBy self.new.files target all) after) }
+        ensures holds { IfOk result (λ all. HoldsNode lines.now (FindsBy self.new.files target all) after) }
     {
         if target == number && self.is_handed_on(s, number, after) {
             if let Some(first) = self.files.filing(number) {
@@ -165,10 +170,10 @@ impl Net {
     }
 
     // Whether the node of a number is a range which leaves its lines to what it becomes, if that has its corners.
-    fn is_handed_on(&self, s: &Shift, number: usize, after: Block) -> bool
-        ensures { IsTrue result → IsHandedAt (form_of s.now) (found_at self.now.nodes number) after }
+    fn is_handed_on(&self, s: &Shift, number: usize, after: Node) -> bool
+        ensures { IsTrue result → IsHandedNode (form_of s.now) (found_at self.now.nodes number) after }
     {
-        handed_on(s, self.nodes.node(number), Node::Range(after)).is_some()
+        is_handed_on(s, self.nodes.node(number), after)
     }
 
     // The present filings of a range that is handed on, and one more for the lines that come in between its own.
@@ -178,20 +183,20 @@ impl Net {
         s: &Shift,
         number: usize,
         first: usize,
-        after: Block,
+        after: Node,
     ) -> Result<Serving, AllocError>
         requires sound { IsSound s.now }
         requires moved { AreMoved (form_of s.now) self.old.nodes.lines lines.now }
-        requires key { slice_get self.old.nodes.keys.keys number ≡ Some (key_of lines.now (Range after)) }
-        requires handed { IsHandedAt (form_of s.now) (found_at self.old.nodes number) after }
+        requires key { slice_get self.old.nodes.keys.keys number ≡ Some (key_of lines.now after) }
+        requires handed { IsHandedNode (form_of s.now) (found_at self.old.nodes number) after }
         requires first { filing_of self.old.files.current number ≡ Some first }
         ensures nodes { self.new.nodes ≡ self.old.nodes }
         ensures links { self.new.links ≡ self.old.links }
         ensures files { FilesOn self.old.files self.new.files }
         ensures serving { IfOk result (λ all. AreServing self.new.files number all) }
-        ensures holds { IfOk result (λ all. HoldsBlock lines.now (FindsBy self.new.files number all) after) }
+        ensures holds { IfOk result (λ all. HoldsNode lines.now (FindsBy self.new.files number all) after) }
     {
-        match fresh_part(s, after) {
+        match fresh_node(s, after) {
             Some(part) => {
                 let last = self.file_part(lines, part, number)?;
                 Ok(Serving { first, last })
@@ -200,11 +205,11 @@ impl Net {
         }
     }
 
-    // Files a node under the cells of a block, and answers the filing, which doesn't serve the node yet.
+    // Files a number under the cells of a range, and answers the filing, which doesn't serve the number's node yet.
     fn file_part(
         &mut self,
         lines: &PlaceLines,
-        part: Block,
+        part: Node,
         number: usize,
     ) -> Result<usize, AllocError>
         ensures nodes { self.new.nodes ≡ self.old.nodes }
@@ -212,9 +217,43 @@ impl Net {
         ensures files { FilesOn self.old.files self.new.files }
         ensures new { IfOk result (λ f. length self.old.files.owners.items ≡ f) }
         ensures owner { IfOk result (λ f. owner_at self.new.files.owners f ≡ Some number) }
-        ensures exact { IfOk result (λ f. (spot : Spot) → IsTrue (finds_filing self.new.files spot f) ↔ HasSpot lines.now part spot) }
+        ensures exact { IfOk result (λ f. (spot : Spot) → IsTrue (finds_filing self.new.files spot f) ↔ IsSpotOf lines.now part spot) }
     {
         self.files.file(lines, part, number)
+    }
+}
+
+// Whether the first node is a range which leaves its lines to the second one, if that has its corners.
+fn is_handed_on(s: &Shift, before: Option<Node>, after: Node) -> bool
+    ensures { IsTrue result → IsHandedNode (form_of s.now) before after }
+{
+    match after {
+        Node::Range(_) => handed_on(s, before, after).is_some(),
+        Node::Whole(whole) => is_handed_whole(s, before, whole),
+        Node::Cell(_) => false,
+        Node::Name { .. } => false,
+    }
+}
+
+// The same of a whole range.
+fn is_handed_whole(s: &Shift, before: Option<Node>, after: Whole) -> bool
+    ensures { IsTrue result → IsHandedNode (form_of s.now) before (node.Whole after) }
+{
+    match before {
+        Some(Node::Whole(whole)) => hands_on_whole(s, whole, after),
+        _ => false,
+    }
+}
+
+// The part of a range on lines that an insert puts between others, where the range is what the operation makes of one.
+fn fresh_node(s: &Shift, after: Node) -> Option<Node>
+    ensures { result ≡ fresh_node (form_of s.now) after }
+{
+    match after {
+        Node::Range(block) => Some(Node::Range(fresh_part(s, block)?)),
+        Node::Whole(whole) => Some(Node::Whole(fresh_whole(s, whole)?)),
+        Node::Cell(_) => None,
+        Node::Name { .. } => None,
     }
 }
 

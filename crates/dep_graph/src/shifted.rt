@@ -18,6 +18,7 @@ use crate::graph::Graph;
 use crate::key::Key;
 use crate::net::Net;
 use crate::node::Node;
+use crate::whole::moved_whole;
 use indexmap::IndexSet;
 use near_hash::NearHash;
 use place_lines::PlaceLines;
@@ -26,18 +27,19 @@ use std::alloc::AllocError;
 use std::collections::BTreeMap;
 
 impl Graph {
-    /// Moves the nodes over the operation, with their links. A lost node goes with its links. Two ranges that become one
-    /// block are one node, with the needs and the users of both. In which order a node's links stand then isn't told. Where
-    /// there is no memory, or where the numbers of lines are used up, after more edits than fit a lifetime, all links stay
-    /// as they were.
+    /// Moves the nodes over the operation, with their links. A lost node goes with its links. Two ranges that become
+    /// one block, or two whole ranges that become one, are one node, with the needs and the users of both. In which
+    /// order a node's links stand then isn't told. Where there is no memory, or where the numbers of lines are used up,
+    /// after more edits than fit a lifetime, all links stay as they were.
     ///
-    /// Costs an edit of the sheet's lines ([`place_lines`]) and a count for each edited sheet, a search for each run of the
-    /// lines that the operation loses or displaces, and for each node that it touches, or that isn't inside its sheet,
-    /// about the number of its links and of its users' links. It touches what it loses or bends, and what it takes along
-    /// with moved cells; what it only carries along isn't looked at. A range that it touches costs the number of its slots
-    /// besides; but where its corners keep their lines and a move leaves their number, just the slots of the lines that
-    /// come in between. Now and then, where more than half of what is kept may have been left behind by operations and by
-    /// links that were replaced, the graph is made anew, which costs what [`Graph::copied`] does.
+    /// Costs an edit of the sheet's lines ([`place_lines`]) and a count for each edited sheet, a search for each run of
+    /// the lines that the operation loses or displaces, and for each node that it touches, or that isn't inside its
+    /// sheet, and each whole range, on whichever sheet, about the number of its links and of its users' links. It
+    /// touches what it loses or bends, and what it takes along with moved cells; what it only carries along isn't
+    /// looked at. A range that it touches costs the number of its slots besides; but where its corners keep their lines
+    /// and a move leaves their number, just the slots of the lines that come in between. Now and then, where more than
+    /// half of what is kept may have been left behind by operations and by links that were replaced, the graph is made
+    /// anew, which costs what [`Graph::copied`] does.
     pub fn shift(&mut self, s: &Shift) -> Result<(), AllocError>
         requires { IsSound s.now }
         ensures ok { OnOk result (AreShifted s.now (links_of self.old) (links_of self.new)) }
@@ -255,5 +257,6 @@ fn moved_node(s: &Shift, node: Node) -> Option<Node>
         Node::Cell(at) => Some(Node::Cell(moved_place(s, at)?)),
         Node::Name { .. } => Some(node),
         Node::Range(block) => Some(Node::Range(moved_block(s, block)?)),
+        Node::Whole(whole) => Some(Node::Whole(moved_whole(s, whole)?)),
     }
 }

@@ -23,7 +23,8 @@ use touch_index::{TouchIndex, hands_on};
 pub(crate) struct Touches {
     // The cells and the ranges within the limits of their sheets.
     pub(crate) index: TouchIndex,
-    // The numbers of the others, each of which any operation may touch.
+    // The numbers of the others, each of which any operation may touch, and of all whole ranges: those of a sheet are touched
+    // by each operation on lines across, wherever these are.
     pub(crate) odd: IndexSet<usize, NearHash>,
 }
 
@@ -120,6 +121,7 @@ impl Touches {
             Node::Cell(at) => self.keep_cell(lines, at, number),
             Node::Name { .. } => Ok(()),
             Node::Range(block) => self.keep_range(lines, block, number),
+            Node::Whole(_) => self.add_odd(number),
         }
     }
 

@@ -2,12 +2,12 @@
 ghost use Rattle.std.specs.Prelude.{◌≡◌, ◌<◌, ◌++◌, ℕ, true, IfOk, OnOk};
 ghost use Rattle.std.specs.List.{flat_map};
 ghost use Rattle.needs_order.specs.Needs.{has};
-ghost use Rattle.block_index.specs.Index.{slot_count};
 ghost use Rattle.dep_graph.specs.Graph.{links_of};
 ghost use Rattle.dep_graph.specs.Nodes.{items_of};
 ghost use Rattle.dep_graph.specs.Users.{AreLinkedTo, AreUsers};
 ghost use Rattle.dep_graph.specs.internal.Nets.{links_in};
 ghost use Rattle.dep_graph.specs.internal.Arrows.{from_slot};
+ghost use Rattle.dep_graph.specs.internal.Files.{slot_total};
 ghost use Rattle.dep_graph.specs.internal.Touches.{AreInside};
 ghost use Rattle.dep_graph.specs.internal.UserNumbers.{AreUsersOf, numbers_over, own_number};
 
@@ -68,7 +68,7 @@ impl Net {
         let mut numbers = Vec::new(self.alloc);
         self.add_own(&mut numbers, Node::Cell(at))?;
         let spot = self.nodes.lines().spot(at);
-        let slots = self.files.index.slots_at(spot.sheet, spot.row, spot.col)?;
+        let slots = self.files.slots_at(spot)?;
         self.add_filed(&mut numbers, &slots)?;
         Ok(numbers)
     }
@@ -85,7 +85,7 @@ impl Net {
 
     // Adds the used ranges that are filed under the slots.
     fn add_filed(&self, numbers: &mut Vec<usize>, slots: &[usize]) -> Result<(), AllocError>
-        requires { (s : ℕ) → has s slots.now ≡ true → s < slot_count self.now.files.index }
+        requires { (s : ℕ) → has s slots.now ≡ true → s < slot_total self.now.files }
         ensures { OnOk result (numbers.new.items ≡ numbers.old.items ++ flat_map (from_slot self.now) slots.now) }
     {
         'slots: for slot in slots {

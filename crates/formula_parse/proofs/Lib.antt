@@ -3,6 +3,7 @@ pub mod Streams
 pub mod Symbols
 pub mod Corners
 pub mod ReaderRules
+pub mod WholeTerms
 pub mod ReaderLoops
 pub mod SpeltTokens
 pub mod ReadTexts

@@ -104,10 +104,10 @@ pub front_of-inside : (cs : List ℕ) (token : Token) (rest : List ℕ) → Some
 front_of-inside [] token rest e = absurd (cc)
 front_of-inside (c ∷ cs) token rest e = subst FrontInside (sym e) (front-inside (token_at c cs) (fit-token_at c cs))
 
--- a token that no production takes
+-- the token that stands for what begins none, which no production takes
 abbrev pub has_other : List Token → Bool
 has_other [] = false
-has_other (tok.Other w ∷ tokens) = true
+has_other (tok.Other [] ∷ tokens) = true
 has_other (token ∷ tokens) = has_other tokens
 
 -- where the text is made of tokens, these are read; else one is read that no production takes
@@ -124,7 +124,8 @@ more-other (tok.Sheet w) tokens h = h
 more-other (tok.Corner a) tokens h = h
 more-other (tok.Name w) tokens h = h
 more-other (tok.Word w) tokens h = h
-more-other (tok.Other w) tokens h = refl
+more-other (tok.Other []) tokens h = refl
+more-other (tok.Other (c ∷ cs)) tokens h = h
 more-other (tok.Operator o) tokens h = h
 more-other tok.Percent tokens h = h
 more-other tok.Colon tokens h = h

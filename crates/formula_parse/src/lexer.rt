@@ -5,19 +5,21 @@ ghost use Rattle.std.specs.List.{find};
 ghost use Rattle.cell_addr.specs.Quoted.{quoted};
 ghost use Rattle.cell_value.specs.Fault.{faults};
 ghost use Rattle.formula_tree.specs.Tokens.{decimals_length, number_length, begins_number, text_token, sheet_token, begins_with_fault, fault_token, byte_token, pair_op};
-ghost use Rattle.formula_tree.specs.Reader.{after, corner_front};
-ghost use Rattle.formula_parse.specs.internal.Front.{IsAddressInside, HasAddressInside, token_of, symbol_token, mark_token, front_of, symbol_of, number_front};
+ghost use Rattle.cell_addr.specs.declared.place.TheConstants.{ROWS};
+ghost use Rattle.formula_tree.specs.Grammar.{end_of};
+ghost use Rattle.formula_tree.specs.Reader.{after, corner_front, end_front};
+ghost use Rattle.formula_parse.specs.internal.Front.{IsAddressInside, IsEndInside, HasAddressInside, token_of, symbol_token, mark_token, front_of, symbol_of, number_front};
 ghost use Rattle.formula_parse.specs.internal.Stream.{stream, symbol_front};
 
 use crate::front::{
     after_blanks, after_byte, begins_with, begins_with_digit, begins_with_run, digits_count,
     first_bytes, split_front, split_run,
 };
-use crate::run::{ends_sheet_name, run_token};
+use crate::run::{end_of_run, ends_sheet_name, run_token};
 use crate::token::{Mark, Symbol, Token};
 use cell_addr::after_quoted;
 use cell_value::FaultKind;
-use formula_tree::{Address, Op};
+use formula_tree::{Address, End, Op};
 
 // The first token of the text, and what follows it; none where the text is blank.
 pub(crate) fn first_token(text: &str) -> Option<(Token<'_>, &str)>
@@ -63,6 +65,30 @@ pub(crate) fn first_corner(text: &str) -> Option<(Address, &str)>
         Token::Number(_) | Token::Text(_) | Token::Truth(_) | Token::Fault(_) => None,
         Token::Sheet(_) | Token::QuotedSheet(_) | Token::Name(_) | Token::Word(_) => None,
         Token::Symbol(_) | Token::Other(_) | Token::Stray => None,
+    }
+}
+
+// The end of a whole range that is the first token of the text, and what follows it.
+pub(crate) fn first_end(text: &str) -> Option<(End, &str)>
+    ensures front { option_map (λ p. (p.0, stream p.1.now)) result ≡ end_front (stream text.now) }
+    ensures inside { IfSome result (λ p. IsEndInside p.0) }
+{
+    let (token, rest) = first_token(text)?;
+    let end = end_of(token)?;
+    Some((end, rest))
+}
+
+// The end of a whole range that the token is.
+#[tactic(auto, using(crate::proofs::Corners::end_rules))]
+fn end_of(token: Token<'_>) -> Option<End>
+    ensures end { result ≡ end_of ROWS (token_of token.entry) }
+    ensures inside { IfSome result IsEndInside }
+{
+    match token {
+        Token::Number(run) | Token::Name(run) | Token::Other(run) => end_of_run(run.as_bytes()),
+        Token::Text(_) | Token::Truth(_) | Token::Fault(_) | Token::Corner(_) => None,
+        Token::Sheet(_) | Token::QuotedSheet(_) | Token::Word(_) => None,
+        Token::Symbol(_) | Token::Stray => None,
     }
 }
 

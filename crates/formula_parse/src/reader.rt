@@ -1,26 +1,32 @@
 // Trees read from texts, by operator precedence.
-ghost use Rattle.std.specs.Prelude.{◌≡◌, [], length, IfOk};
-ghost use Rattle.std.specs.Option.{option_map, option_and_then};
+ghost use Rattle.std.specs.Prelude.{◌≡◌, ◌<◌, [], length, Some, None, IfOk, IfSome};
+ghost use Rattle.std.specs.Option.{option_map};
+ghost use Rattle.cell_addr.specs.Axis.{limit_of};
+ghost use Rattle.cell_addr.specs.declared.place.TheConstants.{ROWS};
 ghost use Rattle.cell_addr.specs.Sheets.{id_in};
 ghost use Rattle.fix_num.specs.Text.{number_of};
-ghost use Rattle.formula_tree.specs.Term.{binary, percent};
+ghost use Rattle.formula_tree.specs.Term.{name, binary, percent};
+ghost use Rattle.formula_tree.specs.Token as tok;
+ghost use Rattle.formula_tree.specs.Run.{end_of_run};
+ghost use Rattle.formula_tree.specs.Whole.{whole_term};
 ghost use Rattle.formula_tree.specs.Reference.{base_of, sheet_of, corner_at, IsHomeInside};
-ghost use Rattle.formula_tree.specs.Grammar.{placed, cell_on, area_on};
-ghost use Rattle.formula_tree.specs.Reader.{corner_front, number_then, reference, signed, closed, call_front, arguments, and_then, first, climb, read, tree_of};
+ghost use Rattle.formula_tree.specs.Grammar.{placed, cell_on, area_on, whole_on};
+ghost use Rattle.formula_tree.specs.Reader.{after, end_front, number_then, reference, whole_range, range_or, sheet_range, on_sheet, signed, closed, call_front, arguments, and_then, first, climb, read, tree_of};
 ghost use Rattle.formula_tree.specs.Relative.{relative};
 ghost use Rattle.formula_tree.specs.StandsFor.{at_home};
 ghost use Rattle.formula_tree.specs.declared.reference.Home.{Home};
-ghost use Rattle.formula_parse.specs.internal.Front.{content_after, IsAddressInside};
+ghost use Rattle.formula_parse.specs.internal.Front.{content_after, IsAddressInside, IsEndInside};
 ghost use Rattle.formula_parse.specs.internal.Stream.{stream};
 ghost use Rattle.formula_parse.specs.internal.Tree.{tree_at, text_then, sheet_then};
 
-use crate::lexer::{after, first_corner, first_symbol, first_token};
+use crate::lexer::{after, first_corner, first_end, first_symbol, first_token};
+use crate::run::end_of_run;
 use crate::token::{Mark, Symbol, Token};
-use cell_addr::{SheetNames, Text, capitals, quoted_text};
+use cell_addr::{Axis, SheetNames, Text, Whole, capitals, quoted_text};
 use cell_value::FaultKind;
 use fix_num::Fixed;
 use formula_tree::{
-    Address, Home, MAX_LEVELS, Node, Op, PERCENT_LEVEL, Ref, SIGN_LEVEL, Sign, Tree, TreeList,
+    Address, End, Home, MAX_LEVELS, Node, Op, PERCENT_LEVEL, Ref, SIGN_LEVEL, Sign, Tree, TreeList,
     depth,
 };
 use std::alloc::{AllocError, Global};
@@ -67,14 +73,15 @@ impl<'a, S: SheetNames> Reader<'a, S> {
             return Ok(None);
         };
         match token {
-            Token::Number(digits) => Ok(number(digits, rest)),
+            Token::Number(digits) => Ok(self.number(digits, rest)),
             Token::Text(after_quote) => self.quoted(after_quote, rest),
             Token::Truth(truth) => Ok(Some((Node::Truth(truth), rest))),
             Token::Fault(fault) => Ok(Some((Node::Fault(fault), rest))),
             Token::Sheet(name) => Ok(self.on_sheet(self.sheets.id_of(name), rest)),
             Token::QuotedSheet(after_quote) => self.on_quoted_sheet(after_quote, rest),
             Token::Corner(address) => Ok(self.reference(Some(self.home.sheet()), address, rest)),
-            Token::Name(name) => Ok(Some((Node::Name(Text::from_str(self.alloc, name)?), rest))),
+            Token::Name(word) => self.name(word, rest),
+            Token::Other(run) => Ok(self.other(run, rest)),
             Token::Word(word) => {
                 let found = self.call(levels, word, rest)?;
                 Ok(found)
@@ -87,7 +94,7 @@ impl<'a, S: SheetNames> Reader<'a, S> {
                 let found = self.paren(levels, rest)?;
                 Ok(found)
             }
-            Token::Symbol(_) | Token::Other(_) | Token::Stray => Ok(None),
+            Token::Symbol(_) | Token::Stray => Ok(None),
         }
     }
 
@@ -226,7 +233,8 @@ impl<'a, S: SheetNames> Reader<'a, S> {
         Ok(Some((Node::Text(content), rest)))
     }
 
-    // A reference or a block after a sheet's name between apostrophes, by what follows the opening one.
+    // A reference, a block or a whole range after a sheet's name between apostrophes, by what follows the
+    // opening one.
     fn on_quoted_sheet<'t>(&self, after_quote: &str, rest: &'t str) -> Result<Read<'t>, AllocError>
         ensures { IfOk result (λ found. option_map (λ p. (tree_at self.now.home p.0, stream p.1.now)) found
             ≡ sheet_then (id_in (S.sheets self.now.sheets.now)) (content_after 39 after_quote.now) (stream rest.now)) }
@@ -237,12 +245,82 @@ impl<'a, S: SheetNames> Reader<'a, S> {
         Ok(self.on_sheet(self.sheets.id_of(name.as_str()), rest))
     }
 
-    // A reference or a block after a sheet's name.
+    // A reference, a block or a whole range after a sheet's name.
     fn on_sheet<'t>(&self, sheet: Option<u32>, text: &'t str) -> Read<'t>
-        ensures { option_map (λ p. (tree_at self.now.home p.0, stream p.1.now)) result ≡ option_and_then (reference sheet) (corner_front (stream text.now)) }
+        ensures { option_map (λ p. (tree_at self.now.home p.0, stream p.1.now)) result ≡ on_sheet sheet (stream text.now) }
     {
-        let (address, rest) = first_corner(text)?;
-        self.reference(sheet, address, rest)
+        match first_corner(text) {
+            Some((address, rest)) => self.reference(sheet, address, rest),
+            None => self.sheet_range(sheet, text),
+        }
+    }
+
+    // A whole range after a sheet's name.
+    fn sheet_range<'t>(&self, sheet: Option<u32>, text: &'t str) -> Read<'t>
+        ensures { option_map (λ p. (tree_at self.now.home p.0, stream p.1.now)) result ≡ sheet_range sheet (end_front (stream text.now)) }
+    {
+        let (first, rest) = first_end(text)?;
+        let rest = after(Mark::Colon, rest)?;
+        self.whole_range(sheet, Some(first), rest)
+    }
+
+    // A number, or a whole range where a colon follows.
+    fn number<'t>(&self, digits: &str, text: &'t str) -> Read<'t>
+        ensures { option_map (λ p. (tree_at self.now.home p.0, stream p.1.now)) result
+            ≡ range_or (number_then (number_of digits.now) (stream text.now)) (Some (sheet_of self.now.home)) (end_of_run ROWS digits.now) (after tok.Colon (stream text.now)) }
+    {
+        match after(Mark::Colon, text) {
+            None => self.plain_number(digits, text),
+            Some(rest) => {
+                let first = end_of_run(digits.as_bytes());
+                self.whole_range(Some(self.home.sheet()), first, rest)
+            }
+        }
+    }
+
+    // The number that the digits spell, where it is within the range.
+    fn plain_number<'t>(&self, digits: &str, text: &'t str) -> Read<'t>
+        ensures { option_map (λ p. (tree_at self.now.home p.0, stream p.1.now)) result ≡ number_then (number_of digits.now) (stream text.now) }
+    {
+        let number = Fixed::from_text(digits).ok()?;
+        Some((Node::Number(number), text))
+    }
+
+    // A name, or a whole range where a colon follows.
+    fn name<'t>(&self, word: &str, text: &'t str) -> Result<Read<'t>, AllocError>
+        ensures { IfOk result (λ found. option_map (λ p. (tree_at self.now.home p.0, stream p.1.now)) found
+            ≡ range_or (Some (name word.now, stream text.now)) (Some (sheet_of self.now.home)) (end_of_run ROWS word.now) (after tok.Colon (stream text.now))) }
+    {
+        match after(Mark::Colon, text) {
+            None => Ok(Some((Node::Name(Text::from_str(self.alloc, word)?), text))),
+            Some(rest) => {
+                let first = end_of_run(word.as_bytes());
+                Ok(self.whole_range(Some(self.home.sheet()), first, rest))
+            }
+        }
+    }
+
+    // A whole range where a colon follows a run that is nothing else.
+    fn other<'t>(&self, run: &str, text: &'t str) -> Read<'t>
+        ensures { option_map (λ p. (tree_at self.now.home p.0, stream p.1.now)) result
+            ≡ range_or None (Some (sheet_of self.now.home)) (end_of_run ROWS run.now) (after tok.Colon (stream text.now)) }
+    {
+        let rest = after(Mark::Colon, text)?;
+        self.whole_range(Some(self.home.sheet()), end_of_run(run.as_bytes()), rest)
+    }
+
+    // A whole range after its colon, by what is in front of that.
+    fn whole_range<'t>(&self, sheet: Option<u32>, first: Option<End>, text: &'t str) -> Read<'t>
+        requires { IfSome first IsEndInside }
+        ensures { option_map (λ p. (tree_at self.now.home p.0, stream p.1.now)) result ≡ whole_range sheet first (stream text.now) }
+    {
+        let a = first?;
+        let (b, rest) = first_end(text)?;
+        if a.axis == b.axis {
+            Some((self.whole_on(sheet, a, b), rest))
+        } else {
+            None
+        }
     }
 
     // A reference, or a block where a colon follows.
@@ -285,6 +363,41 @@ impl<'a, S: SheetNames> Reader<'a, S> {
         }
     }
 
+    // All rows or all columns between two ends on a sheet, the lower one first, or the fault `#REF!` where there
+    // is no such sheet.
+    fn whole_on(&self, sheet: Option<u32>, a: End, b: End) -> Node
+        requires first { IsEndInside a }
+        requires last { IsEndInside b }
+        requires axes { a.axis ≡ b.axis }
+        ensures { tree_at self.now.home result ≡ whole_on sheet a b }
+    {
+        match sheet {
+            Some(sheet) => {
+                if b.line < a.line {
+                    self.whole(sheet, a.axis, b, a)
+                } else {
+                    self.whole(sheet, a.axis, a, b)
+                }
+            }
+            None => Node::Fault(FaultKind::Ref),
+        }
+    }
+
+    // All rows or all columns from one end to another on a sheet.
+    fn whole(&self, sheet: u32, axis: Axis, first: End, last: End) -> Node
+        requires first { first.line < limit_of axis }
+        requires last { last.line < limit_of axis }
+        ensures { tree_at self.now.home result ≡ whole_term (record { sheet = sheet; axis = axis; first = first.line; last = last.line }) first.fixed last.fixed }
+    {
+        let whole = Whole {
+            sheet,
+            axis,
+            first: first.line,
+            last: last.line,
+        };
+        Node::whole(whole, first.fixed, last.fixed, self.home)
+    }
+
     // How the address on a sheet is seen from the home.
     fn seen(&self, sheet: u32, a: Address) -> Ref
         requires { IsAddressInside a }
@@ -292,14 +405,6 @@ impl<'a, S: SheetNames> Reader<'a, S> {
     {
         Ref::of(a.on(sheet), self.home)
     }
-}
-
-// The number that the digits spell, where it is within the range.
-fn number<'t>(digits: &str, text: &'t str) -> Read<'t>
-    ensures { (home : Home) → option_map (λ p. (tree_at home p.0, stream p.1.now)) result ≡ number_then (number_of digits.now) (stream text.now) }
-{
-    let number = Fixed::from_text(digits).ok()?;
-    Some((Node::Number(number), text))
 }
 
 // An operator between two trees.

@@ -1,14 +1,15 @@
 // Runs: sequences of letters, digits, `_`, `.` and `$`, and what they are.
-ghost use Rattle.std.specs.Prelude.{◌≡◌, ◌≤◌, ◌||◌, ◌==◌, length};
+ghost use Rattle.std.specs.Prelude.{◌≡◌, ◌≤◌, ◌||◌, ◌==◌, IfSome, length};
 ghost use Rattle.std.specs.List.{list_all, prefix_len};
 ghost use Rattle.std.specs.Char.{is_ascii_alphabetic, is_ascii_alphanumeric};
-ghost use Rattle.formula_tree.specs.Run.{is_word, after_dollar, address_at, corner_after, corner_of, truth_of, word_token, lone_token, ends_sheet_name, is_sheet_run, run_token};
-ghost use Rattle.formula_parse.specs.internal.Front.{token_of};
+ghost use Rattle.cell_addr.specs.Axis.{limit_of};
+ghost use Rattle.formula_tree.specs.Run.{is_word, after_dollar, address_at, corner_after, corner_of, end_at, end_after, end_of_run, truth_of, word_token, lone_token, ends_sheet_name, is_sheet_run, run_token};
+ghost use Rattle.formula_parse.specs.internal.Front.{token_of, IsEndInside};
 
-use crate::front::{after_blanks, after_byte, begins_with, begins_with_blank};
+use crate::front::{after_blanks, after_byte, begins_with, begins_with_blank, begins_with_digit};
 use crate::token::Token;
-use cell_addr::{COLS, ROWS, is_bare_name, is_word, read_column, read_row, same_folded};
-use formula_tree::Address;
+use cell_addr::{Axis, COLS, ROWS, is_bare_name, is_word, read_column, read_row, same_folded};
+use formula_tree::{Address, End};
 
 // What the run is, and what follows it: before `!` a sheet's name, before `(` a function's word, then an
 // address, a truth value, a name.
@@ -107,6 +108,41 @@ fn address_at(col_fixed: bool, row_fixed: bool, row: u32, col: u32) -> Option<Ad
             row_fixed,
             col_fixed,
         })
+    } else {
+        None
+    }
+}
+
+// The end of a whole range that a run or the digits of a number are: a column's letters or a row's digits, with
+// a `$` in front or without.
+pub(crate) fn end_of_run(run: &[u8]) -> Option<End>
+    ensures end { result ≡ end_of_run ROWS run.now }
+    ensures inside { IfSome result IsEndInside }
+{
+    end_after(begins_with(run, b'$'), after_dollar(run))
+}
+
+// The same, of what follows the `$`.
+fn end_after(fixed: bool, text: &[u8]) -> Option<End>
+    ensures end { result ≡ end_after ROWS fixed text.now }
+    ensures inside { IfSome result IsEndInside }
+{
+    if begins_with_digit(text) {
+        let row = read_row(text)?;
+        end_at(Axis::Rows, fixed, row)
+    } else {
+        let col = read_column(text)?;
+        end_at(Axis::Cols, fixed, col)
+    }
+}
+
+// The end at the line, where that lies within the limit.
+fn end_at(axis: Axis, fixed: bool, line: u32) -> Option<End>
+    ensures end { result ≡ end_at axis fixed (limit_of axis) line }
+    ensures inside { IfSome result IsEndInside }
+{
+    if line < axis.limit() {
+        Some(End { axis, line, fixed })
     } else {
         None
     }

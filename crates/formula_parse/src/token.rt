@@ -9,7 +9,7 @@ use formula_tree::{Address, Op};
 /// A piece of a formula's text, which it borrows from.
 #[derive(Clone, Copy, Debug)]
 pub(crate) enum Token<'t> {
-    /// The digits of a number, with its point where it has one.
+    /// The digits of a number, with its point where it has one. Beside `:` they may be a row's number.
     Number(&'t str),
     /// A text between double quotes: what follows the opening one.
     Text(&'t str),
@@ -23,11 +23,12 @@ pub(crate) enum Token<'t> {
     QuotedSheet(&'t str),
     /// An address.
     Corner(Address),
-    /// A run of the form of a name.
+    /// A run of the form of a name. Beside `:` it may be a column's letters.
     Name(&'t str),
     /// The word of a function; `(` follows it.
     Word(&'t str),
-    /// Another run, which no production of the grammar takes.
+    /// Another run. Beside `:` it may be a row or a column with its `$`; else no production of the grammar
+    /// takes it.
     Other(&'t str),
     /// What begins no token: nothing after it is read.
     Stray,

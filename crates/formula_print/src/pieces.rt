@@ -2,10 +2,10 @@
 ghost use Rattle.std.specs.Prelude.{◌≡◌, ◌<◌, ◌++◌, Some, [], IfOk, OnOk, string_bytes};
 ghost use Rattle.cell_addr.specs.Place.{IsInside};
 ghost use Rattle.cell_value.specs.Scalar.{truth_text};
-ghost use Rattle.formula_tree.specs.Canonical.{dollar, between_quotes, corner_text, sheet_text};
+ghost use Rattle.formula_tree.specs.Canonical.{dollar, between_quotes, line_text, corner_text, sheet_text};
 ghost use Rattle.formula_print.specs.internal.Appends.{AppendsText};
 
-use cell_addr::{Text, column_text, is_bare_name, split_once};
+use cell_addr::{Axis, Text, column_text, is_bare_name, split_once};
 use formula_tree::Corner;
 use std::alloc::{AllocError, Global};
 
@@ -21,13 +21,35 @@ pub(crate) fn push_corner(alloc: Global, out: &mut String, corner: Corner) -> Re
     requires { IsInside corner.at }
     ensures { OnOk result (AppendsText (string_bytes out.old) (string_bytes out.new) (corner_text corner)) }
 {
-    let column = column_text(alloc, corner.at.col)?;
-    let row = format!(in alloc; "{}", u64::from(corner.at.row) + 1)?;
-    push_dollar(out, corner.col_fixed)?;
-    out.push_str(column.as_str())?;
-    push_dollar(out, corner.row_fixed)?;
-    out.push_str(&row)?;
+    push_line(alloc, out, Axis::Cols, corner)?;
+    push_line(alloc, out, Axis::Rows, corner)?;
     Ok(())
+}
+
+// Writes the row or the column of a corner, which lies within the limits of a sheet.
+pub(crate) fn push_line(
+    alloc: Global,
+    out: &mut String,
+    axis: Axis,
+    corner: Corner,
+) -> Result<(), AllocError>
+    requires { IsInside corner.at }
+    ensures { OnOk result (AppendsText (string_bytes out.old) (string_bytes out.new) (line_text axis corner)) }
+{
+    match axis {
+        Axis::Rows => {
+            let row = format!(in alloc; "{}", u64::from(corner.at.row) + 1)?;
+            push_dollar(out, corner.row_fixed)?;
+            out.push_str(&row)?;
+            Ok(())
+        }
+        Axis::Cols => {
+            let column = column_text(alloc, corner.at.col)?;
+            push_dollar(out, corner.col_fixed)?;
+            out.push_str(column.as_str())?;
+            Ok(())
+        }
+    }
 }
 
 // Writes a `$` in front of what is fixed.

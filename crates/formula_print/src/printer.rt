@@ -6,12 +6,13 @@ ghost use Rattle.formula_tree.specs.Canonical.{front_text, printed, printed_all,
 ghost use Rattle.formula_tree.specs.Reference.{base_of, sheet_of, corner_at};
 ghost use Rattle.formula_tree.specs.Relative.{relative, relative_list};
 ghost use Rattle.formula_tree.specs.StandsFor.{ArePlacesInside, at_home};
-ghost use Rattle.formula_tree.specs.Term.{cell, each_corner_all, EachCornerOfAll};
+ghost use Rattle.formula_tree.specs.Term.{cell, whole, each_corner_all, EachCornerOfAll};
+ghost use Rattle.formula_tree.specs.Whole.{first_ref, last_ref};
 ghost use Rattle.formula_print.specs.internal.Appends.{AppendsText};
 
-use crate::pieces::{push_corner, push_quoted, push_sheet, truth_text};
-use cell_addr::{SheetNames, Text};
-use formula_tree::{Home, Node, Ref, Tree, TreeList};
+use crate::pieces::{push_corner, push_line, push_quoted, push_sheet, truth_text};
+use cell_addr::{Axis, SheetNames, Text};
+use formula_tree::{Home, Node, Part, Ref, SheetPart, Tree, TreeList};
 use std::alloc::{AllocError, Global};
 
 /// The canonical text of the tree of a formula at the home, where the list of sheets gives their names.
@@ -63,6 +64,12 @@ impl<'a, S: SheetNames> Printer<'a, S> {
                 self.push_cell(out, *first)?;
                 out.push(':')?;
                 push_corner(self.alloc, out, last.at(self.home))?;
+            }
+            Node::WholeRows(sheet, first, last) => {
+                self.push_whole(out, Axis::Rows, *sheet, *first, *last)?
+            }
+            Node::WholeCols(sheet, first, last) => {
+                self.push_whole(out, Axis::Cols, *sheet, *first, *last)?
             }
             Node::Name(name) => out.push_str(name.as_str())?,
             Node::Prefix(sign, part) => {
@@ -118,6 +125,29 @@ impl<'a, S: SheetNames> Printer<'a, S> {
         let corner = reference.at(self.home);
         self.push_front(out, corner.at.sheet)?;
         push_corner(self.alloc, out, corner)?;
+        Ok(())
+    }
+
+    // Writes a whole range by its two ends, with its sheet's name in front where the sheet isn't the home's.
+    fn push_whole(
+        &self,
+        out: &mut String,
+        axis: Axis,
+        sheet: SheetPart,
+        first: Part,
+        last: Part,
+    ) -> Result<(), AllocError>
+        requires first { IsInside (corner_at (base_of self.now.home) (first_ref axis sheet first)).at }
+        requires last { IsInside (corner_at (base_of self.now.home) (last_ref axis sheet last)).at }
+        ensures { OnOk result (AppendsText (string_bytes out.old) (string_bytes out.new)
+            (printed (sheet_of self.now.home) (name_in (S.sheets self.now.sheets.now)) (whole axis (corner_at (base_of self.now.home) (first_ref axis sheet first)) (corner_at (base_of self.now.home) (last_ref axis sheet last))))) }
+    {
+        let first = Ref::first_of(axis, sheet, first).at(self.home);
+        let last = Ref::last_of(axis, sheet, last).at(self.home);
+        self.push_front(out, first.at.sheet)?;
+        push_line(self.alloc, out, axis, first)?;
+        out.push(':')?;
+        push_line(self.alloc, out, axis, last)?;
         Ok(())
     }
 

@@ -1,20 +1,18 @@
 -- The places that a tree mentions are its links, and the names are its names; and mentions are the same in the sense of an
 -- equivalence. Serves the laws.
-use Rattle.std.proofs.Common.{◌≡◌, ◌∙◌, ap, refl, ℕ, Bool, true, false, ◌&&◌, if◌then◌else◌, List, [], ◌∷◌, ◌++◌, Option, Some, None}
+use Rattle.std.proofs.Common.{◌≡◌, ◌∙◌, ap, refl, Bool, true, false, ◌&&◌, if◌then◌else◌, List, [], ◌++◌}
 use Rattle.std.specs.List.{filter_map}
-use Rattle.std.specs.Cmp.{IsEquivalence, decided}
+use Rattle.std.specs.Cmp.{IsEquivalence}
 use Rattle.std.proofs.lemmas.List.Elements.{filter_map-append}
-use Rattle.cell_addr.proofs.SamePlaces.{same_place-decides, same_block-decides}
-use Rattle.cell_addr.specs.Place.{same_place, same_block}
-use Rattle.cell_addr.specs.Sheets.{same_name}
+use Rattle.cell_addr.proofs.SamePlaces.{same_place-decides, same_block-decides, same_whole-decides}
 use Rattle.formula_tree.specs.Links.{is_place_word, links_in, links_in_all, names_in, names_in_all}
 use Rattle.formula_tree.specs.Mentions.{MentionsAreAll, mentions_in, mentions_in_all, place_link, same_mention, word_of}
-use Rattle.formula_tree.specs.Term.{Term, number, text, truth, fault, cell, area, name, prefix, percent, binary, call, paren, Terms, no_terms, term, is_reference}
+use Rattle.formula_tree.specs.Term.{Term, number, text, truth, fault, cell, area, whole, name, prefix, percent, binary, call, paren, Terms, no_terms, term, is_reference}
 use Rattle.formula_tree.specs.declared.link.Link.{Link}
 use Rattle.formula_tree.specs.declared.mention.Mention.{Mention}
 use Rattle.formula_tree.specs.declared.mention.Mention.TheVariants as mention
 use Rattle.formula_tree.specs.declared.reference.Corner.{Corner}
-use Rattle.formula_tree.proofs.SameLinks.{names_alike, places_alike, blocks_alike}
+use Rattle.formula_tree.proofs.SameLinks.{names_alike, places_alike, blocks_alike, wholes_alike}
 
 -- a tree that is skipped or not
 links-unless : (b : Bool) (ms : List Mention) (ls : List Link) → filter_map place_link ms ≡ ls → filter_map place_link (if b then [] else ms) ≡ (if b then [] else ls)
@@ -28,6 +26,7 @@ reference-no_names (truth b) h = cc
 reference-no_names (fault f) h = cc
 reference-no_names (cell c) h = refl
 reference-no_names (area c d) h = refl
+reference-no_names (whole axis c d) h = refl
 reference-no_names (name w) h = cc
 reference-no_names (prefix s t) h = cc
 reference-no_names (percent t) h = cc
@@ -48,6 +47,7 @@ mutual
   places (fault f) = refl
   places (cell c) = refl
   places (area c d) = refl
+  places (whole axis c d) = refl
   places (name w) = refl
   places (prefix s t) = places t
   places (percent t) = places t
@@ -70,6 +70,7 @@ mutual
   names (fault f) = refl
   names (cell c) = refl
   names (area c d) = refl
+  names (whole axis c d) = refl
   names (name w) = refl
   names (prefix s t) = names t
   names (percent t) = names t
@@ -90,30 +91,46 @@ mentions-are_all = record { places = places; names = names }
 mention-itself : (a : Mention) → same_mention a a ≡ true
 mention-itself (mention.Cell p) = places_alike.refl p
 mention-itself (mention.Area b) = blocks_alike.refl b
+mention-itself (mention.Whole w) = wholes_alike.refl w
 mention-itself (mention.Name w) = names_alike.refl w
 
 mention-swap : (a b : Mention) → same_mention a b ≡ same_mention b a
 mention-swap (mention.Cell p) (mention.Cell q) = places_alike.symm p q
 mention-swap (mention.Cell p) (mention.Area c) = refl
+mention-swap (mention.Cell p) (mention.Whole w) = refl
 mention-swap (mention.Cell p) (mention.Name w) = refl
 mention-swap (mention.Area b) (mention.Cell q) = refl
 mention-swap (mention.Area b) (mention.Area c) = blocks_alike.symm b c
+mention-swap (mention.Area b) (mention.Whole w) = refl
 mention-swap (mention.Area b) (mention.Name w) = refl
+mention-swap (mention.Whole v) (mention.Cell q) = refl
+mention-swap (mention.Whole v) (mention.Area c) = refl
+mention-swap (mention.Whole v) (mention.Whole w) = wholes_alike.symm v w
+mention-swap (mention.Whole v) (mention.Name w) = refl
 mention-swap (mention.Name v) (mention.Cell q) = refl
 mention-swap (mention.Name v) (mention.Area c) = refl
+mention-swap (mention.Name v) (mention.Whole w) = refl
 mention-swap (mention.Name v) (mention.Name w) = names_alike.symm v w
 
 mention-along : (a b c : Mention) → same_mention a b ≡ true → same_mention a c ≡ same_mention b c
 mention-along (mention.Cell p) (mention.Cell q) c h = ap (λ x. same_mention (mention.Cell x) c) ((same_place-decides p q).0 h)
 mention-along (mention.Cell p) (mention.Area d) c h = absurd (cc)
+mention-along (mention.Cell p) (mention.Whole w) c h = absurd (cc)
 mention-along (mention.Cell p) (mention.Name w) c h = absurd (cc)
 mention-along (mention.Area b) (mention.Cell q) c h = absurd (cc)
 mention-along (mention.Area b) (mention.Area d) c h = ap (λ x. same_mention (mention.Area x) c) ((same_block-decides b d).0 h)
+mention-along (mention.Area b) (mention.Whole w) c h = absurd (cc)
 mention-along (mention.Area b) (mention.Name w) c h = absurd (cc)
+mention-along (mention.Whole v) (mention.Cell q) c h = absurd (cc)
+mention-along (mention.Whole v) (mention.Area d) c h = absurd (cc)
+mention-along (mention.Whole v) (mention.Whole w) c h = ap (λ x. same_mention (mention.Whole x) c) ((same_whole-decides v w).0 h)
+mention-along (mention.Whole v) (mention.Name w) c h = absurd (cc)
 mention-along (mention.Name v) (mention.Cell q) c h = absurd (cc)
 mention-along (mention.Name v) (mention.Area d) c h = absurd (cc)
+mention-along (mention.Name v) (mention.Whole w) c h = absurd (cc)
 mention-along (mention.Name v) (mention.Name w) (mention.Cell q) h = refl
 mention-along (mention.Name v) (mention.Name w) (mention.Area d) h = refl
+mention-along (mention.Name v) (mention.Name w) (mention.Whole u) h = refl
 mention-along (mention.Name v) (mention.Name w) (mention.Name x) h = names_alike.congr v w x h
 
 pub mentions_alike : IsEquivalence same_mention

@@ -1,9 +1,14 @@
 -- The canonical text has the tokens that spell its tree. Serves the law that the canonical text spells
 -- its tree.
-use Rattle.std.proofs.Common.{◌≡◌, sym, ◌∙◌, ap, subst, refl, arith, ℕ, ◌+◌, Bool, true, false, if◌then◌else◌, ◌==◌, List, [], ◌∷◌, ◌++◌, length, Option, Some, None}
+use Rattle.std.proofs.Common.{◌≡◌, sym, ◌∙◌, ap, subst, refl, arith, ℕ, ◌+◌, ◌<◌, Bool, true, false, if◌then◌else◌, ◌==◌, List, [], ◌∷◌, ◌++◌, length, Option, Some, None}
 use Rattle.std.proofs.lemmas.Bool.Decides.{nat_tests}
 use Rattle.digits.specs.Digits.{is_digit}
 use Rattle.digits.proofs.Numerals.{is_digit-bounds}
+use Rattle.std.specs.Fmt.{decimal}
+use Rattle.cell_addr.specs.declared.axis.Axis.{Axis}
+use Rattle.cell_addr.specs.declared.axis.Axis.TheVariants.{Rows, Cols}
+use Rattle.cell_addr.specs.declared.place.TheConstants.{ROWS, COLS}
+use Rattle.cell_addr.specs.Address.{column_letters}
 use Rattle.cell_addr.specs.SheetName.{is_bare_name}
 use Rattle.cell_addr.specs.Place as places
 use Rattle.cell_value.specs.declared.fault.FaultKind.{FaultKind}
@@ -16,13 +21,15 @@ use Rattle.formula_tree.specs.declared.operator.Sign.{Sign}
 use Rattle.formula_tree.specs.declared.operator.Sign.TheVariants as sign
 use Rattle.formula_tree.specs.Token.{Token}
 use Rattle.formula_tree.specs.Token as tok
-use Rattle.formula_tree.specs.Term.{Term, number, text, truth, fault, cell, area, name, prefix, percent, binary, call, paren, Terms, no_terms, term}
+use Rattle.formula_tree.specs.Term.{Term, number, text, truth, fault, cell, area, whole, name, prefix, percent, binary, call, paren, Terms, no_terms, term}
 use Rattle.formula_tree.specs.Run.{is_blank, begins_run, begins_with_any}
-use Rattle.formula_tree.specs.Canonical.{op_text, sign_text, corner_text, sheet_text, printed, printed_all, printed_more}
+use Rattle.formula_tree.specs.Canonical.{op_text, sign_text, dollar, line_text, corner_text, sheet_text, printed, printed_all, printed_more}
 use Rattle.formula_tree.specs.Proper.{IsProper, AreProper}
 use Rattle.formula_tree.specs.Laws.{CanonicalSpells}
 use Rattle.formula_tree.proofs.Lexes.{Lexes, lexes-nil, Stopped, stopped-nil, stopped-close, stopped-comma, stopped-colon, stopped-percent, stopped-op, lexes-open, lexes-close, lexes-comma, lexes-colon, lexes-percent, lexes-sign, IsApart, lexes-op, lexes-fault}
 use Rattle.formula_tree.proofs.LexedNumbers.{lexes-number, number-begins, lexes-text, lexes-quoted_sheet}
+use Rattle.formula_tree.proofs.EndTokens.{line_token}
+use Rattle.formula_tree.proofs.LexedEnds.{lexes-line, line-no_blank, IsRun-column, row-begins}
 use Rattle.formula_tree.proofs.LexedRuns.{IsRun, run-not_blank, IsRun-word, IsRun-bare, lexes-name, lexes-truth, lexes-word, lexes-bare_sheet, lexes-corner, corner_text-begins}
 use Rattle.formula_tree.proofs.Written.{address_of, sheet_tokens, written, written_all, written_more, spelt-canonical}
 
@@ -69,6 +76,18 @@ corner-apart c cs p = let (w, (r, e)) = corner_text-begins c cs p in subst IsApa
 corner-no_blank : (c : Corner) (cs : List ℕ) → places.IsInside c.at → begins_with_any is_blank (corner_text c cs) ≡ false
 corner-no_blank c cs p = let (w, (r, e)) = corner_text-begins c cs p in ap (begins_with_any is_blank) e ∙ run-no_blank w cs r
 
+column-apart : (fixed : Bool) (col : ℕ) (cs : List ℕ) → col < COLS → IsApart (dollar fixed (column_letters col ++ cs))
+column-apart true col cs h = (refl, refl)
+column-apart false col cs h = run-apart (column_letters col) cs (IsRun-column col h)
+
+row-apart : (fixed : Bool) (row : ℕ) (cs : List ℕ) → row < ROWS → IsApart (dollar fixed (decimal (row + 1) ++ cs))
+row-apart true row cs h = (refl, refl)
+row-apart false row cs h = digit-apart (decimal (row + 1) ++ cs) (row-begins row cs h)
+
+line-apart : (axis : Axis) (c : Corner) (cs : List ℕ) → places.IsInside c.at → IsApart (line_text axis c cs)
+line-apart Rows c cs p = row-apart c.row_fixed c.at.row cs p.0
+line-apart Cols c cs p = column-apart c.col_fixed c.at.col cs p.1
+
 named-apart : (b : Bool) (w rest : List ℕ) → is_bare_name w ≡ b → IsApart (sheet_text (Some w) rest)
 named-apart true w rest e = rw e (run-apart w (33 ∷ rest) (IsRun-bare w e))
 named-apart false w rest e = rw e (refl, refl)
@@ -104,6 +123,7 @@ module _ (home : ℕ) (names : ℕ → Option (List ℕ)) where
   apart (fault f) p cs = fault-apart f cs
   apart (cell c) p cs = front-apart (c.at.sheet == home) (names c.at.sheet) (corner_text c cs) (corner-apart c cs p)
   apart (area c d) p cs = front-apart (c.at.sheet == home) (names c.at.sheet) (corner_text c (58 ∷ corner_text d cs)) (corner-apart c (58 ∷ corner_text d cs) p.0)
+  apart (whole axis c d) p cs = front-apart (c.at.sheet == home) (names c.at.sheet) (line_text axis c (58 ∷ line_text axis d cs)) (line-apart axis c (58 ∷ line_text axis d cs) p.0)
   apart (name w) p cs = run-apart w cs (IsRun-word w p.0)
   apart (prefix s t) p cs = sign-apart s (printed home names t cs)
   apart (percent t) p cs = apart t p.1 (37 ∷ cs)
@@ -129,6 +149,11 @@ module _ (home : ℕ) (names : ℕ → Option (List ℕ)) where
         (corner-no_blank c (58 ∷ corner_text d cs) p.0)
         (lexes-corner c (58 ∷ corner_text d cs) (tok.Colon ∷ tok.Corner (address_of d) ∷ zs) p.0 (stopped-colon (corner_text d cs))
         (lexes-colon (corner_text d cs) (tok.Corner (address_of d) ∷ zs) (lexes-corner d cs zs p.1 s l)))
+    lexes-printed (whole axis c d) p cs zs s l =
+        lexes-front (c.at.sheet == home) (names c.at.sheet) (line_text axis c (58 ∷ line_text axis d cs)) (line_token axis c ∷ tok.Colon ∷ line_token axis d ∷ zs)
+        (line-no_blank axis c (58 ∷ line_text axis d cs) p.0)
+        (lexes-line axis c (58 ∷ line_text axis d cs) (tok.Colon ∷ line_token axis d ∷ zs) p.0 (stopped-colon (line_text axis d cs))
+        (lexes-colon (line_text axis d cs) (line_token axis d ∷ zs) (lexes-line axis d cs zs p.1 s l)))
     lexes-printed (name w) p cs zs s l = lexes-name w cs zs p s l
     lexes-printed (prefix v t) p cs zs s l = lexes-sign v (printed home names t cs) (written home names t zs) (lexes-printed t p.1 cs zs s l)
     lexes-printed (percent t) p cs zs s l = lexes-printed t p.1 (37 ∷ cs) (tok.Percent ∷ zs) (stopped-percent cs) (lexes-percent cs zs l)

@@ -1,19 +1,25 @@
 -- What the tokens spell, the reader reads. Serves the law that the reader is exact.
-use Rattle.std.proofs.Common.{◌≡◌, ◌∙◌, ap, refl, arith, ℕ, zero, suc, ◌+◌, ◌-◌, ◌<◌, ◌≤◌, List, [], ◌∷◌, ◌++◌, length, Option, Some, None, append_assoc}
-use Rattle.std.proofs.lemmas.Bool.{lt-ltb, le-ltb}
+use Rattle.std.proofs.Common.{◌≡◌, ◌∙◌, ap, refl, arith, subst, ℕ, zero, suc, ◌+◌, ◌-◌, ◌<◌, ◌≤◌, Bool, true, false, cond, nat_lt, List, [], ◌∷◌, ◌++◌, length, Option, Some, None, append_assoc}
+use Rattle.std.proofs.lemmas.Bool.{cond-true, lt-ltb, le-ltb}
+use Rattle.std.specs.Option.{option_and_then, option_map}
+use Rattle.cell_addr.specs.declared.place.TheConstants.{ROWS}
+use Rattle.cell_addr.specs.Axis.{same_axis}
 use Rattle.cell_addr.specs.Text.{capitals}
+use Rattle.cell_addr.proofs.SamePlaces.{same_axis-self}
+use Rattle.fix_num.specs.Text.{number_of}
 use Rattle.formula_tree.specs.declared.reference.Corner.{Corner}
 use Rattle.formula_tree.specs.declared.operator.Op.{Op}
 use Rattle.formula_tree.specs.declared.operator.Op.TheVariants as op
 use Rattle.formula_tree.specs.declared.operator.Sign.{Sign}
 use Rattle.formula_tree.specs.declared.operator.Sign.TheVariants as sign
 use Rattle.formula_tree.specs.declared.address.Address.{Address}
+use Rattle.formula_tree.specs.declared.address.End.{End}
 use Rattle.formula_tree.specs.Token.{Token}
 use Rattle.formula_tree.specs.Token as tok
-use Rattle.formula_tree.specs.Term.{Term, number, text, truth, fault, cell, area, name, prefix, percent, binary, call, paren, Terms, no_terms, term, terms_of, depth_of, depth_of_all}
+use Rattle.formula_tree.specs.Term.{Term, number, text, truth, fault, cell, area, whole, name, prefix, percent, binary, call, paren, Terms, no_terms, term, terms_of, depth_of, depth_of_all}
 use Rattle.formula_tree.specs.Level.{level_of, percent_level, sign_level, op_of, sign_of}
-use Rattle.formula_tree.specs.Grammar.{Leaf, a_number, a_text, a_truth, a_fault, a_name, a_corner, a_range, a_sheet_corner, a_sheet_range, Spells, lower, between, followed, before, leaf, inside, alone, called, SpellsAll, last, more, cell_on, area_on}
-use Rattle.formula_tree.specs.Reader.{Read, and_then, after, first, climb, arguments, read}
+use Rattle.formula_tree.specs.Grammar.{Leaf, a_number, a_text, a_truth, a_fault, a_name, a_corner, a_range, a_sheet_corner, a_sheet_range, a_whole, a_sheet_whole, Spells, lower, between, followed, before, leaf, inside, alone, called, SpellsAll, last, more, cell_on, area_on, end_of, whole_on}
+use Rattle.formula_tree.specs.Reader.{Read, and_then, after, number_then, end_then, whole_range, range_or, sheet_range, on_sheet, first_at, first, climb, arguments, read}
 use Rattle.formula_tree.proofs.ReaderSteps.{read_more, climb_more, arguments_more}
 
 -- what may follow a tree of level k: nothing, a parenthesis, a comma, or an operator below k
@@ -47,6 +53,7 @@ depth_of-positive (truth b) = omega arith
 depth_of-positive (fault f) = omega arith
 depth_of-positive (cell c) = omega arith
 depth_of-positive (area c d) = omega arith
+depth_of-positive (whole axis c d) = omega arith
 depth_of-positive (name w) = omega arith
 depth_of-positive (prefix s t) = omega arith
 depth_of-positive (percent t) = omega arith
@@ -61,6 +68,7 @@ spine-depth (truth b) = omega arith
 spine-depth (fault f) = omega arith
 spine-depth (cell c) = omega arith
 spine-depth (area c d) = omega arith
+spine-depth (whole axis c d) = omega arith
 spine-depth (name w) = omega arith
 spine-depth (prefix s t) = omega arith
 spine-depth (percent t) = omega (arith, spine-depth t)
@@ -111,6 +119,34 @@ after_colon-stops k (tok.Operator o ∷ zs) s = refl
 after_colon-stops k (tok.Percent ∷ zs) s = refl
 after_colon-stops k (x ∷ zs) s = absurd s
 
+-- a token that is an end of a whole range is no closing parenthesis
+end-not_close : (x : Token) (a : End) (tokens : List Token) → end_of ROWS x ≡ Some a → after tok.Close (x ∷ tokens) ≡ None
+end-not_close tok.Close a tokens e = cc
+end-not_close x a tokens e = refl
+
+-- two ends of one axis are read as a whole range
+range-read : (s : Option ℕ) (r : Option End) (y : Token) (a b : End) (zs : List Token) → r ≡ Some a → end_of ROWS y ≡ Some b → a.axis ≡ b.axis
+    → whole_range s r (y ∷ zs) ≡ Some (whole_on s a b, zs)
+range-read s r y a b zs e f g =
+    let same : same_axis a.axis b.axis ≡ true = subst (λ x. same_axis a.axis x ≡ true) g (same_axis-self a.axis) in
+    ap (λ o. whole_range s o (y ∷ zs)) e
+    ∙ ap (λ o. option_and_then (end_then s a) (option_map (λ c. (c, zs)) o)) f
+    ∙ cond-true (same_axis a.axis b.axis) (Some (whole_on s a b, zs)) None same
+
+-- what the reader does at an end and a colon
+first-end : (home : ℕ) (find : List ℕ → Option ℕ) (R : ℕ → List Token → Read) (x : Token) (a : End) (tokens : List Token) → end_of ROWS x ≡ Some a
+    → first_at home find R x (tok.Colon ∷ tokens) ≡ whole_range (Some home) (end_of ROWS x) tokens
+first-end home find R (tok.Number w) a tokens e = refl
+first-end home find R (tok.Name w) a tokens e = refl
+first-end home find R (tok.Other w) a tokens e = refl
+first-end home find R x a tokens e = cc
+
+sheet-end : (s : Option ℕ) (x : Token) (a : End) (tokens : List Token) → end_of ROWS x ≡ Some a → on_sheet s (x ∷ tok.Colon ∷ tokens) ≡ whole_range s (Some a) tokens
+sheet-end s (tok.Number w) a tokens e = ap (λ o. sheet_range s (option_map (λ c. (c, tok.Colon ∷ tokens)) o)) e
+sheet-end s (tok.Name w) a tokens e = ap (λ o. sheet_range s (option_map (λ c. (c, tok.Colon ∷ tokens)) o)) e
+sheet-end s (tok.Other w) a tokens e = ap (λ o. sheet_range s (option_map (λ c. (c, tok.Colon ∷ tokens)) o)) e
+sheet-end s x a tokens e = cc
+
 -- where the tree stops, the climb ends
 climb-stops : (R : ℕ → List Token → Read) (n k : ℕ) (t : Term Corner) (zs : List Token) → 0 < n → Stops k zs → climb R n k t zs ≡ Some (t, zs)
 climb-stops R n k t [] h s = climb_more R n k t [] h
@@ -132,6 +168,8 @@ module _ (home : ℕ) (find : List ℕ → Option ℕ) where
   leaf-shorter a_range = omega arith
   leaf-shorter a_sheet_corner = omega arith
   leaf-shorter a_sheet_range = omega arith
+  leaf-shorter (a_whole e f g) = omega arith
+  leaf-shorter (a_sheet_whole e f g) = omega arith
 
   mutual
     pub shorter : {k : ℕ} {xs : List Token} {t : Term Corner} {zs : List Token} → Spells home find k xs t zs → length zs < length xs
@@ -158,6 +196,8 @@ module _ (home : ℕ) (find : List ℕ → Option ℕ) where
   leaf-not_close a_range = refl
   leaf-not_close a_sheet_corner = refl
   leaf-not_close a_sheet_range = refl
+  leaf-not_close (a_whole {x = x} {y = y} {a = a} {zs = zs} e f g) = end-not_close x a (tok.Colon ∷ y ∷ zs) e
+  leaf-not_close (a_sheet_whole e f g) = refl
 
   pub not_close : {k : ℕ} {xs : List Token} {t : Term Corner} {zs : List Token} → Spells home find k xs t zs → after tok.Close xs ≡ None
   not_close (lower d) = not_close d
@@ -182,6 +222,14 @@ module _ (home : ℕ) (find : List ℕ → Option ℕ) where
   spine-area_on None a b = refl
   spine-area_on (Some s) a b = refl
 
+  spine-by : (b : Bool) (t u : Term Corner) → spine t ≡ 0 → spine u ≡ 0 → spine (cond b t u) ≡ 0
+  spine-by true t u e f = e
+  spine-by false t u e f = f
+
+  spine-whole_on : (s : Option ℕ) (a b : End) → spine (whole_on s a b) ≡ 0
+  spine-whole_on None a b = refl
+  spine-whole_on (Some s) a b = spine-by (nat_lt b.line a.line) _ _ refl refl
+
   leaf-spine : {xs : List Token} {t : Term Corner} {zs : List Token} → Leaf home find xs t zs → spine t ≡ 0
   leaf-spine (a_number e) = refl
   leaf-spine a_text = refl
@@ -192,18 +240,25 @@ module _ (home : ℕ) (find : List ℕ → Option ℕ) where
   leaf-spine a_range = refl
   leaf-spine (a_sheet_corner {s = s} {a = a}) = spine-cell_on (find s) a
   leaf-spine (a_sheet_range {s = s} {a = a} {b = b}) = spine-area_on (find s) a b
+  leaf-spine (a_whole {a = a} {b = b} e f g) = spine-whole_on (Some home) a b
+  leaf-spine (a_sheet_whole {s = s} {a = a} {b = b} e f g) = spine-whole_on (find s) a b
 
   leaf-first : {xs : List Token} {t : Term Corner} {zs : List Token} → Leaf home find xs t zs
       → (R : ℕ → List Token → Read) (k : ℕ) → Stops k zs → first home find R xs ≡ Some (t, zs)
-  leaf-first (a_number e) R k s = rw e refl
+  leaf-first (a_number {w = w} {zs = zs} e) R k s =
+      ap (range_or (number_then (number_of w) zs) (Some home) (end_of ROWS (tok.Number w))) (after_colon-stops k zs s) ∙ ap (λ r. number_then r zs) e
   leaf-first a_text R k s = refl
   leaf-first a_truth R k s = refl
   leaf-first a_fault R k s = refl
-  leaf-first a_name R k s = refl
+  leaf-first (a_name {w = w} {zs = zs}) R k s = ap (range_or (Some (name w, zs)) (Some home) (end_of ROWS (tok.Name w))) (after_colon-stops k zs s)
   leaf-first (a_corner {a = a} {zs = zs}) R k s = rw (after_colon-stops k zs s) refl
   leaf-first a_range R k s = refl
   leaf-first (a_sheet_corner {s = w} {a = a} {zs = zs}) R k s = rw (after_colon-stops k zs s) refl
   leaf-first a_sheet_range R k s = refl
+  leaf-first (a_whole {x = x} {y = y} {a = a} {b = b} {zs = zs} e f g) R k s =
+      first-end home find R x a (y ∷ zs) e ∙ range-read (Some home) (end_of ROWS x) y a b zs e f g
+  leaf-first (a_sheet_whole {s = w} {x = x} {y = y} {a = a} {b = b} {zs = zs} e f g) R k s =
+      sheet-end (find w) x a (y ∷ zs) e ∙ range-read (find w) (Some a) y a b zs refl f g
 
   -- what a derivation gives at each fuel: the first tree of its left edge, and the climb up to t
   abbrev Climbs : ℕ → ℕ → List Token → Term Corner → List Token → Type 0

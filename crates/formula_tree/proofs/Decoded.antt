@@ -4,10 +4,11 @@ use Rattle.std.proofs.Common.{◌≡◌, ◌∙◌, sym, ap, refl, arith, ℕ, �
 use Rattle.std.specs.Prelude.{slice_get, unsigned_abs}
 use Rattle.std.proofs.lemmas.Bool.Decides.{nat_tests}
 use Rattle.std.proofs.Math.Seq.{take-append_seam, drop-append_seam}
+use Rattle.cell_addr.specs.declared.axis.Axis.TheVariants.{Rows, Cols}
 use Rattle.cell_value.specs.declared.fault.FaultKind.{FaultKind}
 use Rattle.cell_value.specs.declared.fault.FaultKind.TheVariants as kinds
 use Rattle.cell_value.specs.Fault.{faults}
-use Rattle.formula_tree.specs.Term.{Term, number, text, truth, fault, cell, area, name, prefix, percent, binary, call, paren, Terms, no_terms, term}
+use Rattle.formula_tree.specs.Term.{Term, number, text, truth, fault, cell, area, whole, name, prefix, percent, binary, call, paren, Terms, no_terms, term}
 use Rattle.formula_tree.specs.declared.code.TheConstants.{WORD}
 use Rattle.formula_tree.specs.declared.operator.Op.{Op}
 use Rattle.formula_tree.specs.declared.operator.Op.TheVariants as op
@@ -87,7 +88,9 @@ read_kind R S k xs = if k == 0 then made (λ m. number m) (read_signed xs)
     else if k == 8 then made (λ t. percent t) (R xs)
     else if k == 9 then and_then (read_among ops xs) (λ o ys. and_then (R ys) (λ l zs. made (λ r. binary o l r) (R zs)))
     else if k == 10 then and_then (read_text xs) (λ w ys. made (λ ts. call w ts) (S ys))
-    else made (λ t. paren t) (R xs)
+    else if k == 11 then made (λ t. paren t) (R xs)
+    else if k == 12 then and_then (read_ref xs) (λ r ys. made (λ q. whole Rows r q) (read_ref ys))
+    else and_then (read_ref xs) (λ r ys. made (λ q. whole Cols r q) (read_ref ys))
 
 -- in so many steps
 mutual
@@ -191,6 +194,8 @@ mutual
   tree-read (fault f) n rest h = ap (made (λ x. fault x)) (fault-read f rest)
   tree-read (cell r) n rest h = ap (made (λ x. cell x)) (ref-read r rest)
   tree-read (area r q) n rest h = ap (λ x. and_then x (λ r ys. made (λ q. area r q) (read_ref ys))) (ref-read r (ref_code q rest)) ∙ ap (made (λ x. area r x)) (ref-read q rest)
+  tree-read (whole Rows r q) n rest h = ap (λ x. and_then x (λ r ys. made (λ q. whole Rows r q) (read_ref ys))) (ref-read r (ref_code q rest)) ∙ ap (made (λ x. whole Rows r x)) (ref-read q rest)
+  tree-read (whole Cols r q) n rest h = ap (λ x. and_then x (λ r ys. made (λ q. whole Cols r q) (read_ref ys))) (ref-read r (ref_code q rest)) ∙ ap (made (λ x. whole Cols r x)) (ref-read q rest)
   tree-read (name w) n rest h = ap (made (λ x. name x)) (text-read w rest)
   tree-read (prefix s t) zero rest h = absurd (omega arith)
   tree-read (prefix s t) (suc n) rest h =

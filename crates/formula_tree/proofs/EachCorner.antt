@@ -1,6 +1,6 @@
 -- Trees with each corner replaced by another one: what stays the same. Serves the walks over shared trees.
 use Rattle.std.proofs.Common.{◌≡◌, ap, refl, ◌∙◌, ◌+◌, max, ◌++◌}
-use Rattle.formula_tree.specs.Term.{Term, number, text, truth, fault, cell, area, name, prefix, percent, binary, call, paren, Terms, no_terms, term, depth_of, depth_of_all, each_corner, each_corner_all, EachCorner, EachCornerOfAll, is_reference}
+use Rattle.formula_tree.specs.Term.{Term, number, text, truth, fault, cell, area, whole, name, prefix, percent, binary, call, paren, Terms, no_terms, term, depth_of, depth_of_all, each_corner, each_corner_all, EachCorner, EachCornerOfAll, is_reference}
 use Rattle.formula_tree.specs.Links.{names_in, names_in_all}
 
 mutual
@@ -11,6 +11,7 @@ mutual
   depth_of-each_corner f (fault k) = refl
   depth_of-each_corner f (cell r) = refl
   depth_of-each_corner f (area r q) = refl
+  depth_of-each_corner f (whole axis r q) = refl
   depth_of-each_corner f (name w) = refl
   depth_of-each_corner f (prefix s t) = ap (λ n. n + 1) (depth_of-each_corner f t)
   depth_of-each_corner f (percent t) = ap (λ n. n + 1) (depth_of-each_corner f t)
@@ -30,6 +31,7 @@ mutual
   names_in-each_corner f (fault k) = refl
   names_in-each_corner f (cell r) = refl
   names_in-each_corner f (area r q) = refl
+  names_in-each_corner f (whole axis r q) = refl
   names_in-each_corner f (name w) = refl
   names_in-each_corner f (prefix s t) = names_in-each_corner f t
   names_in-each_corner f (percent t) = names_in-each_corner f t
@@ -48,6 +50,7 @@ is_reference-each_corner f (truth b) = refl
 is_reference-each_corner f (fault k) = refl
 is_reference-each_corner f (cell r) = refl
 is_reference-each_corner f (area r q) = refl
+is_reference-each_corner f (whole axis r q) = refl
 is_reference-each_corner f (name w) = refl
 is_reference-each_corner f (prefix s t) = refl
 is_reference-each_corner f (percent t) = refl
@@ -64,6 +67,7 @@ mutual
   each_corner-back f g (fault k) e = refl
   each_corner-back f g (cell r) e = ap (λ x. cell x) e
   each_corner-back f g (area r q) e = ap (λ x. area x (g (f q))) e.0 ∙ ap (λ x. area r x) e.1
+  each_corner-back f g (whole axis r q) e = ap (λ x. whole axis x (g (f q))) e.0 ∙ ap (λ x. whole axis r x) e.1
   each_corner-back f g (name w) e = refl
   each_corner-back f g (prefix s t) e = ap (λ x. prefix s x) (each_corner-back f g t e)
   each_corner-back f g (percent t) e = ap (λ x. percent x) (each_corner-back f g t e)
@@ -84,6 +88,7 @@ mutual
   EachCorner-map P Q h (fault k) p = tt
   EachCorner-map P Q h (cell r) p = h r p
   EachCorner-map P Q h (area r q) p = (h r p.0, h q p.1)
+  EachCorner-map P Q h (whole axis r q) p = (h r p.0, h q p.1)
   EachCorner-map P Q h (name w) p = tt
   EachCorner-map P Q h (prefix s t) p = EachCorner-map P Q h t p
   EachCorner-map P Q h (percent t) p = EachCorner-map P Q h t p

@@ -3,6 +3,7 @@
 use Rattle.std.proofs.Common.{◌≡◌, refl, ℕ, pos, ◌*◌, Bool, true, false, List, [], ◌∷◌, Option, Some, None}
 use Rattle.std.specs.Prelude.{codes}
 use Rattle.std.specs.Fmt.{digits}
+use Rattle.cell_addr.specs.declared.axis.Axis.TheVariants.{Rows, Cols}
 use Rattle.cell_addr.specs.Sheets.{id_in, name_in}
 use Rattle.cell_value.specs.declared.fault.FaultKind.TheVariants as kinds
 use Rattle.fix_num.specs.Text.{decimals_of}
@@ -12,6 +13,7 @@ use Rattle.formula_tree.specs.declared.operator.Sign.TheVariants as sign
 use Rattle.formula_tree.specs.Term.{Term, number, truth, fault, cell, area, name, prefix, percent, binary, call, no_terms, term}
 use Rattle.formula_tree.specs.Reader.{climb, arguments, read, tree_of_text}
 use Rattle.formula_tree.specs.Tokens.{tokens_in}
+use Rattle.formula_tree.specs.Whole.{whole_term}
 use Rattle.formula_tree.specs.Canonical.{formula_text}
 
 -- two sheets, of which the home is the first
@@ -24,29 +26,29 @@ Reads text tree = tree_of_text 0 (id_in sheets) text ≡ tree
 abbrev Prints : Term Corner → List ℕ → Type 0
 Prints tree text = formula_text 0 (name_in sheets) tree ≡ text
 
-abbrev whole : ℕ → Term Corner
-whole n = number (pos (n * 1000000))
+abbrev units : ℕ → Term Corner
+units n = number (pos (n * 1000000))
 
 abbrev corner : ℕ → ℕ → ℕ → Bool → Bool → Corner
 corner sheet row col row_fixed col_fixed = record { at = record { sheet = sheet; row = row; col = col }; row_fixed = row_fixed; col_fixed = col_fixed }
 
-product_first : Reads (codes "=1+2*3") (Some (binary op.Add (whole 1) (binary op.Mul (whole 2) (whole 3))))
+product_first : Reads (codes "=1+2*3") (Some (binary op.Add (units 1) (binary op.Mul (units 2) (units 3))))
 unfolding tokens_in climb arguments read
 product_first = refl
 
-leftward : Reads (codes "=2^3^2") (Some (binary op.Power (binary op.Power (whole 2) (whole 3)) (whole 2)))
+leftward : Reads (codes "=2^3^2") (Some (binary op.Power (binary op.Power (units 2) (units 3)) (units 2)))
 unfolding tokens_in climb arguments read
 leftward = refl
 
-sign_first : Reads (codes "=-2^-1%") (Some (binary op.Power (prefix sign.Minus (whole 2)) (percent (prefix sign.Minus (whole 1)))))
+sign_first : Reads (codes "=-2^-1%") (Some (binary op.Power (prefix sign.Minus (units 2)) (percent (prefix sign.Minus (units 1)))))
 unfolding tokens_in climb arguments read
 sign_first = refl
 
-comparisons_last : Reads (codes "=1&2=3<>4") (Some (binary op.Unequal (binary op.Equal (binary op.Join (whole 1) (whole 2)) (whole 3)) (whole 4)))
+comparisons_last : Reads (codes "=1&2=3<>4") (Some (binary op.Unequal (binary op.Equal (binary op.Join (units 1) (units 2)) (units 3)) (units 4)))
 unfolding tokens_in climb arguments read
 comparisons_last = refl
 
-word_before_address : Reads (codes "=a1 (1)") (Some (call (codes "A1") (term (whole 1) no_terms)))
+word_before_address : Reads (codes "=a1 (1)") (Some (call (codes "A1") (term (units 1) no_terms)))
 unfolding tokens_in climb arguments read
 word_before_address = refl
 
@@ -82,6 +84,70 @@ name_at_colon : Reads (codes "=A1:RATE") None
 unfolding tokens_in climb arguments read
 name_at_colon = refl
 
+columns : Reads (codes "=c:$A") (Some (whole_term (record { sheet = 0; axis = Cols; first = 0; last = 2 }) true false))
+unfolding tokens_in climb arguments read
+columns = refl
+
+equal_ends : Reads (codes "=$A:A") (Some (whole_term (record { sheet = 0; axis = Cols; first = 0; last = 0 }) true false))
+unfolding tokens_in climb arguments read
+equal_ends = refl
+
+blank_at_rows : Reads (codes "=Sum('my plan'! 2:5)") None
+unfolding tokens_in climb arguments read
+blank_at_rows = refl
+
+rows : Reads (codes "=SUM('my plan'!5 : $2)") (Some (call (codes "SUM") (term (whole_term (record { sheet = 1; axis = Rows; first = 1; last = 4 }) true false) no_terms)))
+unfolding tokens_in climb arguments read
+rows = refl
+
+unknown_whole : Reads (codes "=Nope!A:B") (Some (fault kinds.Ref))
+unfolding tokens_in climb arguments read
+unknown_whole = refl
+
+column_beside_row : Reads (codes "=A:1") None
+unfolding tokens_in climb arguments read
+column_beside_row = refl
+
+column_beside_corner : Reads (codes "=A:B2") None
+unfolding tokens_in climb arguments read
+column_beside_corner = refl
+
+corner_beside_column : Reads (codes "=A1:B") None
+unfolding tokens_in climb arguments read
+corner_beside_column = refl
+
+row_with_zero : Reads (codes "=02:3") None
+unfolding tokens_in climb arguments read
+row_with_zero = refl
+
+row_with_point : Reads (codes "=2.:3") None
+unfolding tokens_in climb arguments read
+row_with_point = refl
+
+row_past_limit : Reads (codes "=1:40001") None
+unfolding tokens_in climb arguments read
+row_past_limit = refl
+
+four_letters : Reads (codes "=ABCD:A") None
+unfolding tokens_in climb arguments read
+four_letters = refl
+
+call_beside_colon : Reads (codes "=A:B(1)") None
+unfolding tokens_in climb arguments read
+call_beside_colon = refl
+
+sheet_twice : Reads (codes "=Sheet1!A:Sheet1!B") None
+unfolding tokens_in climb arguments read
+sheet_twice = refl
+
+column_alone : Reads (codes "=A+$A") None
+unfolding tokens_in climb arguments read
+column_alone = refl
+
+letter_is_a_name : Reads (codes "=A") (Some (name (codes "A")))
+unfolding tokens_in climb arguments read
+letter_is_a_name = refl
+
 no_tree : Reads (codes "=") None
 unfolding tokens_in climb arguments read
 no_tree = refl
@@ -93,3 +159,11 @@ prints_sheet = refl
 prints_block : Prints (call (codes "SUM") (term (area (corner 0 0 0 true true) (corner 0 1 1 false false)) (term (truth true) no_terms))) (codes "=SUM($A$1:B2,TRUE)")
 unfolding decimals_of digits
 prints_block = refl
+
+prints_whole : Prints (whole_term (record { sheet = 1; axis = Cols; first = 0; last = 27 }) true false) (codes "='My Plan'!$A:AB")
+unfolding decimals_of digits
+prints_whole = refl
+
+prints_rows : Prints (whole_term (record { sheet = 0; axis = Rows; first = 1; last = 4 }) false true) (codes "=2:$5")
+unfolding decimals_of digits
+prints_rows = refl

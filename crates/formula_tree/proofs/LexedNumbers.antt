@@ -1,12 +1,11 @@
 -- The tokens of numbers, and of what stands between quotes. Serves the law that the canonical text
 -- spells its tree.
-use Rattle.std.proofs.Common.{◌≡◌, sym, ◌∙◌, ap, subst, refl, arith, ℕ, ℤ, pos, negsuc, ◌+◌, ◌≤◌, inl, inr, Bool, true, false, ◌==◌, cond, List, [], ◌∷◌, ◌++◌, length, take, drop, Some, option_map, append_assoc, length-append}
+use Rattle.std.proofs.Common.{◌≡◌, sym, ◌∙◌, ap, subst, refl, arith, ℕ, ℤ, pos, negsuc, ◌+◌, ◌<◌, ◌≤◌, inl, inr, Bool, true, false, ◌==◌, cond, List, [], ◌∷◌, ◌++◌, length, take, drop, Some, option_map, append_assoc, length-append}
 use Rattle.std.specs.Option.{option_and_then}
 use Rattle.std.specs.List.{list_all, prefix_len}
 use Rattle.std.proofs.lemmas.Bool.{and_parts, cond-true, cond-false, eqb-true}
 use Rattle.std.proofs.lemmas.Bool.Decides.{nat_tests}
 use Rattle.std.proofs.Math.Seq.{take-append_seam, drop-append_seam}
-use Rattle.std.proofs.lemmas.List.{append-nil}
 use Rattle.digits.specs.Digits.{is_digit}
 use Rattle.digits.proofs.Numerals.{is_digit-bounds}
 use Rattle.cell_addr.specs.Parts.{with_byte}
@@ -26,7 +25,7 @@ use Rattle.formula_tree.proofs.Lexes.{Lexes, lexes-token, Stopped}
 digit-not_run : (c : ℕ) → is_digit c ≡ true → begins_run c ≡ false
 digit-not_run c h = let b = is_digit-bounds c h in grind (arith, nat_tests)
 
-digit-not_blank : (c : ℕ) → is_digit c ≡ true → is_blank c ≡ false
+pub digit-not_blank : (c : ℕ) → is_digit c ≡ true → is_blank c ≡ false
 digit-not_blank c h = let b = is_digit-bounds c h in grind (arith, nat_tests)
 
 digit-begins_number : (c : ℕ) (cs : List ℕ) → is_digit c ≡ true → begins_number (c ∷ cs) ≡ true
@@ -61,10 +60,18 @@ whole-begins : (ws rest : List ℕ) → IsWholePart ws → begins_with_any is_di
 whole-begins [] rest w = absurd (omega (arith, w.1))
 whole-begins (c ∷ ws) rest w = (and_parts (is_digit c) (list_all is_digit ws) w.0).0
 
+first-digit : (ws : List ℕ) → 0 < length ws → list_all is_digit ws ≡ true → begins_with_any is_digit ws ≡ true
+first-digit [] some all = absurd (omega (arith, some))
+first-digit (c ∷ ws) some all = (and_parts (is_digit c) (list_all is_digit ws) all).0
+
+-- digits alone are one token
+pub lexes-all_digits : (ws cs : List ℕ) (tokens : List Token) → 0 < length ws → list_all is_digit ws ≡ true → Stopped cs → Lexes cs tokens → Lexes (ws ++ cs) (tok.Number ws ∷ tokens)
+lexes-all_digits ws cs tokens some all s l =
+    lexes-digits ws cs tokens (first-digit ws some all)
+    (number_length-digits ws cs all s.no_digit ∙ ap (λ n. length ws + n) (decimals_length-none cs s.no_point) ∙ omega arith) l
+
 lexes-whole : (ws cs : List ℕ) (tokens : List Token) → IsWholePart ws → Stopped cs → Lexes cs tokens → Lexes (ws ++ cs) (tok.Number ws ∷ tokens)
-lexes-whole ws cs tokens w s l =
-    lexes-digits ws cs tokens (subst (λ x. begins_with_any is_digit x ≡ true) (append-nil ws) (whole-begins ws [] w))
-    (number_length-digits ws cs w.0 s.no_digit ∙ ap (λ n. length ws + n) (decimals_length-none cs s.no_point) ∙ omega arith) l
+lexes-whole ws cs tokens w s l = lexes-all_digits ws cs tokens w.1 w.0 s l
 
 lexes-parts : (ws ds cs : List ℕ) (tokens : List Token) → IsWholePart ws → AreDecimals ds → Stopped cs → Lexes cs tokens
     → Lexes ((ws ++ 46 ∷ ds) ++ cs) (tok.Number (ws ++ 46 ∷ ds) ∷ tokens)

@@ -1,23 +1,20 @@
 -- The tokens of runs: names, functions' words, truth values, sheets' names and addresses. Serves the
 -- law that the canonical text spells its tree.
-use Rattle.std.proofs.Common.{◌≡◌, sym, ◌∙◌, ap, subst, refl, arith, ℕ, ◌+◌, ◌^◌, ◌<◌, ◌≤◌, Bool, true, false, not, ◌&&◌, ◌||◌, ◌==◌, nat_lt, List, [], ◌∷◌, ◌++◌, length, drop, Some, append_assoc, length-append}
+use Rattle.std.proofs.Common.{◌≡◌, sym, ◌∙◌, ap, subst, refl, arith, ℕ, ◌+◌, ◌<◌, ◌≤◌, Bool, true, false, not, ◌&&◌, ◌||◌, ◌==◌, nat_lt, List, [], ◌∷◌, ◌++◌, length, drop, Some, append_assoc, length-append}
 use Rattle.std.specs.Option.{option_and_then}
 use Rattle.std.specs.List.{list_all}
 use Rattle.std.specs.Char.{is_ascii_alphabetic, is_ascii_alphanumeric}
 use Rattle.std.specs.Fmt.{decimal}
 use Rattle.std.proofs.lemmas.Bool.{and_parts, and_from, and_left, and_right, cond-true, cond-false, lt-ltb}
 use Rattle.std.proofs.lemmas.Bool.Decides.{nat_tests}
-use Rattle.std.proofs.lemmas.Fmt.{decimal_nonempty}
 use Rattle.std.proofs.lemmas.List.Folds.{list_all-append}
 use Rattle.digits.specs.Digits.{is_digit}
-use Rattle.digits.proofs.Numerals.{is_digit-bounds}
-use Rattle.digits.proofs.Printed.{list_all-decimal}
 use Rattle.cell_addr.specs.declared.place.TheConstants.{ROWS, COLS}
 use Rattle.cell_addr.specs.Place as places
 use Rattle.cell_addr.specs.Address.{column_letters, column_of, row_of, letters, after_letters}
 use Rattle.std.specs.Option.{option_zip}
 use Rattle.cell_addr.specs.SheetName.{is_bare_name, is_name_start, is_name_byte}
-use Rattle.cell_addr.proofs.Printed.{column_letters-spell, row_of-decimal, column_of-column_letters}
+use Rattle.cell_addr.proofs.Printed.{row_of-decimal, column_of-column_letters}
 use Rattle.cell_value.specs.Scalar.{truth_text}
 use Rattle.formula_tree.specs.declared.reference.Corner.{Corner}
 use Rattle.formula_tree.specs.Token.{Token}
@@ -27,6 +24,7 @@ use Rattle.formula_tree.specs.Tokens.{token_at}
 use Rattle.formula_tree.specs.Canonical.{dollar, corner_text}
 use Rattle.formula_tree.specs.Proper.{IsName, IsCallWord}
 use Rattle.formula_tree.proofs.Fronts.{take_while-append, after_while-append, all-weaker}
+use Rattle.formula_tree.proofs.LettersDigits.{AreLetters, AreDigits, column-letters, row-digits, digits-no_letter, digits-no_dollar, letters-no_dollar, letter-begins, letter-goes_on, digit-goes_on}
 use Rattle.formula_tree.proofs.Lexes.{Lexes, lexes-token, Stopped}
 use Rattle.formula_tree.proofs.Written.{address_of}
 
@@ -80,7 +78,7 @@ IsRun-bare (c ∷ cs) h =
     (word_start-begins c start.1, all-weaker is_name_byte is_run_byte name_byte-goes_on (c ∷ cs) parts.1)
 
 -- a run that stands alone
-run_token-lone : (w cs : List ℕ) → Stopped cs → run_token w cs ≡ (lone_token w (corner_of w), cs)
+pub run_token-lone : (w cs : List ℕ) → Stopped cs → run_token w cs ≡ (lone_token w (corner_of w), cs)
 run_token-lone w cs s =
     cond-false (is_sheet_run w cs) _ _ (and_right (is_bare_name w) (ends_sheet_name cs) (and_left (begins_with 33 cs) (not (begins_with_any is_blank (drop 1 cs))) s.no_sheet))
     ∙ cond-false (begins_with 40 (after_while is_blank cs)) _ _ s.no_call
@@ -122,43 +120,9 @@ pub lexes-bare_sheet : (w cs : List ℕ) (tokens : List Token) → is_bare_name 
 lexes-bare_sheet w cs tokens h b l = lexes-run w (33 ∷ cs) (tok.Sheet w) cs tokens (IsRun-bare w h) refl (run_token-sheet w cs h b) (omega arith) l
 
 -- addresses: letters and digits, each with a `$` in front or without
-digit-no_letter : (c : ℕ) → is_digit c ≡ true → is_ascii_alphabetic c ≡ false
-digit-no_letter c h = let b = is_digit-bounds c h in grind (arith, nat_tests)
-
-digit-no_dollar : (c : ℕ) → is_digit c ≡ true → (c == 36) ≡ false
-digit-no_dollar c h = let b = is_digit-bounds c h in grind (arith, nat_tests)
-
-letter-no_dollar : (c : ℕ) → is_ascii_alphabetic c ≡ true → (c == 36) ≡ false
-letter-no_dollar c h = grind (arith, nat_tests)
-
-letter-begins : (c : ℕ) → is_ascii_alphabetic c ≡ true → begins_run c ≡ true
-letter-begins c h = grind (arith, nat_tests)
-
-letter-goes_on : (c : ℕ) → is_ascii_alphabetic c ≡ true → is_run_byte c ≡ true
-letter-goes_on c h = grind (arith, nat_tests)
-
-digit-goes_on : (c : ℕ) → is_digit c ≡ true → is_run_byte c ≡ true
-digit-goes_on c h = let b = is_digit-bounds c h in grind (arith, nat_tests)
-
--- letters, and digits of one byte or more
-abbrev AreLetters : List ℕ → Type 0
-AreLetters ls = (0 < length ls) × (list_all is_ascii_alphabetic ls ≡ true)
-
-abbrev AreDigits : List ℕ → Type 0
-AreDigits ds = (0 < length ds) × (list_all is_digit ds ≡ true)
-
-begins_with-digits : (ds : List ℕ) → AreDigits ds → begins_with 36 ds ≡ false
-begins_with-digits [] d = refl
-begins_with-digits (c ∷ ds) d = digit-no_dollar c (and_parts (is_digit c) (list_all is_digit ds) d.1).0
-
-begins_with-letters : (ls rest : List ℕ) → AreLetters ls → begins_with 36 (ls ++ rest) ≡ false
-begins_with-letters [] rest l = absurd (omega (arith, l.0))
-begins_with-letters (c ∷ ls) rest l = letter-no_dollar c (and_parts (is_ascii_alphabetic c) (list_all is_ascii_alphabetic ls) l.1).0
-
 letters-stop : (fixed : Bool) (ds : List ℕ) → AreDigits ds → begins_with_any is_ascii_alphabetic (dollar fixed ds) ≡ false
 letters-stop true ds d = refl
-letters-stop false [] d = refl
-letters-stop false (c ∷ ds) d = digit-no_letter c (and_parts (is_digit c) (list_all is_digit ds) d.1).0
+letters-stop false ds d = digits-no_letter ds d
 
 dollar-is : (fixed : Bool) (ds : List ℕ) → begins_with 36 ds ≡ false → begins_with 36 (dollar fixed ds) ≡ fixed
 dollar-is true ds h = refl
@@ -179,7 +143,7 @@ corner_after-parts col_fixed row_fixed ls ds row col l d e f r c =
     let stop = letters-stop row_fixed ds d in
     let front : letters (ls ++ dollar row_fixed ds) ≡ ls = take_while-append is_ascii_alphabetic ls (dollar row_fixed ds) l.1 stop in
     let back : after_letters (ls ++ dollar row_fixed ds) ≡ dollar row_fixed ds = after_while-append is_ascii_alphabetic ls (dollar row_fixed ds) l.1 stop in
-    let no_dollar = begins_with-digits ds d in
+    let no_dollar = digits-no_dollar ds d in
     ap (λ x. option_and_then (address_at col_fixed (begins_with 36 x)) (option_zip (row_of (after_dollar x)) (column_of (letters (ls ++ dollar row_fixed ds))))) back
     ∙ ap (λ x. option_and_then (address_at col_fixed (begins_with 36 (dollar row_fixed ds))) (option_zip (row_of (after_dollar (dollar row_fixed ds))) (column_of x))) front
     ∙ ap (λ b. option_and_then (address_at col_fixed b) (option_zip (row_of (after_dollar (dollar row_fixed ds))) (column_of ls))) (dollar-is row_fixed ds no_dollar)
@@ -202,20 +166,12 @@ corner_text-append c rest =
     ∙ ap (dollar c.col_fixed) (sym (append_assoc (column_letters c.at.col) (dollar c.row_fixed (decimal (c.at.row + 1))) rest))
     ∙ dollar-append c.col_fixed (column_letters c.at.col ++ dollar c.row_fixed (decimal (c.at.row + 1))) rest
 
-column-letters : (c : Corner) → places.IsInside c.at → AreLetters (column_letters c.at.col)
-column-letters c p = let t = column_letters-spell c.at.col p.1 in (omega (arith, t.some), t.all_letters)
-
-row-digits : (c : Corner) → places.IsInside c.at → AreDigits (decimal (c.at.row + 1))
-row-digits c p =
-    let small : c.at.row + 1 < 2 ^ 64 = omega (arith, p.0) in
-    (decimal_nonempty (c.at.row + 1) small, list_all-decimal (c.at.row + 1) small)
-
 corner_of-bytes : (c : Corner) → places.IsInside c.at → corner_of (corner_bytes c) ≡ Some (address_of c)
 corner_of-bytes c p =
-    let l = column-letters c p in
-    let d = row-digits c p in
+    let l = column-letters c.at.col p.1 in
+    let d = row-digits c.at.row p.0 in
     let rest : List ℕ = dollar c.row_fixed (decimal (c.at.row + 1)) in
-    let no_dollar = begins_with-letters (column_letters c.at.col) rest l in
+    let no_dollar = letters-no_dollar (column_letters c.at.col) rest l in
     ap (λ b. corner_after b (after_dollar (corner_bytes c))) (dollar-is c.col_fixed (column_letters c.at.col ++ rest) no_dollar)
     ∙ ap (corner_after c.col_fixed) (after_dollar-dollar c.col_fixed (column_letters c.at.col ++ rest) no_dollar)
     ∙ corner_after-parts c.col_fixed c.row_fixed (column_letters c.at.col) (decimal (c.at.row + 1)) c.at.row c.at.col l d
@@ -232,8 +188,8 @@ IsRun-letters false (c ∷ ls) rest l h = (letter-begins c (and_parts (is_ascii_
 
 IsRun-corner : (c : Corner) → places.IsInside c.at → IsRun (corner_bytes c)
 IsRun-corner c p =
-    let l = column-letters c p in
-    let d = row-digits c p in
+    let l = column-letters c.at.col p.1 in
+    let d = row-digits c.at.row p.0 in
     let rest : List ℕ = dollar c.row_fixed (decimal (c.at.row + 1)) in
     IsRun-letters c.col_fixed (column_letters c.at.col) rest l
     (list_all-append is_run_byte (column_letters c.at.col) rest

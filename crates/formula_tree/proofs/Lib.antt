@@ -2,11 +2,15 @@ pub mod ReaderSteps
 pub mod Complete
 pub mod Sound
 pub mod Exact
-pub mod Written
 pub mod Fronts
+pub mod LettersDigits
+pub mod EndTokens
+pub mod WholeCorners
+pub mod Written
 pub mod Lexes
 pub mod LexedNumbers
 pub mod LexedRuns
+pub mod LexedEnds
 pub mod CanonicalText
 pub mod Once
 pub mod SeenNodes

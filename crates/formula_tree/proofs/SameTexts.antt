@@ -6,7 +6,7 @@ use Rattle.formula_tree.specs.Laws.{SameTextSameTree}
 use Rattle.formula_tree.specs.Proper.{IsProper, AreProper}
 use Rattle.formula_tree.specs.Reference.{sheet_of}
 use Rattle.formula_tree.specs.StandsFor.{ArePlacesInside, at_home, from_home}
-use Rattle.formula_tree.specs.Term.{Term, number, text, truth, fault, cell, area, name, prefix, percent, binary, call, paren, Terms, no_terms, term, EachCornerOfAll}
+use Rattle.formula_tree.specs.Term.{Term, number, text, truth, fault, cell, area, whole, name, prefix, percent, binary, call, paren, Terms, no_terms, term, EachCornerOfAll}
 use Rattle.formula_tree.specs.declared.reference.Corner.{Corner}
 use Rattle.cell_addr.specs.Place.{IsInside}
 use Rattle.formula_tree.proofs.CanonicalText.{canonical-spells}
@@ -22,6 +22,7 @@ mutual
   proper-inside (fault f) p = tt
   proper-inside (cell c) p = p
   proper-inside (area c d) p = (p.0, p.1)
+  proper-inside (whole axis c d) p = (p.0, p.1)
   proper-inside (name w) p = tt
   proper-inside (prefix s t) p = proper-inside t p.1
   proper-inside (percent t) p = proper-inside t p.1

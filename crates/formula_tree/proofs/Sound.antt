@@ -1,6 +1,9 @@
 -- What the reader reads, the tokens spell. Serves the law that the reader is exact.
-use Rattle.std.proofs.Common.{◌≡◌, sym, ◌∙◌, ap, refl, arith, subst, ℕ, ℤ, zero, suc, ◌+◌, ◌-◌, ◌<◌, ◌≤◌, true, false, nat_lt, if◌then◌else◌, List, [], ◌∷◌, ◌++◌, length, Option, Some, None, Result, Ok, Err, append_assoc}
-use Rattle.std.specs.Prelude.{option_and_then}
+use Rattle.std.proofs.Common.{◌≡◌, sym, ◌∙◌, ap, refl, arith, subst, ℕ, ℤ, zero, suc, ◌+◌, ◌-◌, ◌<◌, ◌≤◌, Bool, true, false, cond, nat_lt, if◌then◌else◌, List, [], ◌∷◌, ◌++◌, length, Option, Some, None, Result, Ok, Err, append_assoc}
+use Rattle.std.specs.Option.{option_and_then, option_map}
+use Rattle.cell_addr.specs.declared.place.TheConstants.{ROWS}
+use Rattle.cell_addr.specs.Axis.{same_axis}
+use Rattle.cell_addr.proofs.SamePlaces.{same_axis-equal}
 use Rattle.cell_addr.specs.Text.{capitals}
 use Rattle.fix_num.specs.declared.error.NumError.{NumError}
 use Rattle.fix_num.specs.Text.{number_of}
@@ -10,12 +13,13 @@ use Rattle.formula_tree.specs.declared.operator.Op.TheVariants as op
 use Rattle.formula_tree.specs.declared.operator.Sign.{Sign}
 use Rattle.formula_tree.specs.declared.operator.Sign.TheVariants as sign
 use Rattle.formula_tree.specs.declared.address.Address.{Address}
+use Rattle.formula_tree.specs.declared.address.End.{End}
 use Rattle.formula_tree.specs.Token.{Token}
 use Rattle.formula_tree.specs.Token as tok
-use Rattle.formula_tree.specs.Term.{Term, prefix, percent, binary, call, Terms, no_terms, term, terms_of}
+use Rattle.formula_tree.specs.Term.{Term, name, prefix, percent, binary, call, Terms, no_terms, term, terms_of}
 use Rattle.formula_tree.specs.Level.{level_of, percent_level, sign_level, op_of, sign_of}
-use Rattle.formula_tree.specs.Grammar.{Leaf, a_number, a_text, a_truth, a_fault, a_name, a_corner, a_range, a_sheet_corner, a_sheet_range, Spells, lower, between, followed, before, leaf, inside, alone, called, SpellsAll, last, more}
-use Rattle.formula_tree.specs.Reader.{Read, and_then, after, corner_front, number_then, reference, signed, closed, first, climb, arguments, argument_then, call_then, call_front, read}
+use Rattle.formula_tree.specs.Grammar.{Leaf, a_number, a_text, a_truth, a_fault, a_name, a_corner, a_range, a_sheet_corner, a_sheet_range, a_whole, a_sheet_whole, Spells, lower, between, followed, before, leaf, inside, alone, called, SpellsAll, last, more, end_of, whole_on}
+use Rattle.formula_tree.specs.Reader.{Read, and_then, after, number_then, reference, end_then, whole_range, range_or, sheet_range, on_sheet, signed, closed, first, climb, arguments, argument_then, call_then, call_front, read}
 use Rattle.formula_tree.proofs.Complete.{trees_in, terms_of-trees_in, level_of-below}
 use borrow.Author.Tests.{ltb-true}
 use Rattle.std.proofs.lemmas.Bool.{ltb-false}
@@ -111,6 +115,44 @@ module _ (home : ℕ) (find : List ℕ → Option ℕ) where
   spelt-number w zs (Ok m) e = atom (a_number e)
   spelt-number w zs (Err f) e = tt
 
+  -- a whole range, behind what stands in front of its first end
+  abbrev IsRange : (List Token → List Token) → Option ℕ → Type 0
+  IsRange front sheet = (x y : Token) (a b : End) (zs : List Token) → end_of ROWS x ≡ Some a → end_of ROWS y ≡ Some b → a.axis ≡ b.axis
+      → Leaf home find (front (x ∷ tok.Colon ∷ y ∷ zs)) (whole_on sheet a b) zs
+
+  module _ (front : List Token → List Token) (sheet : Option ℕ) (make : IsRange front sheet) where
+    spelt-axes : (x y : Token) (a b : End) (zs : List Token) (same : Bool) → end_of ROWS x ≡ Some a → end_of ROWS y ≡ Some b → same_axis a.axis b.axis ≡ same
+        → Spelt sign_level (front (x ∷ tok.Colon ∷ y ∷ zs)) (cond same (Some (whole_on sheet a b, zs)) None)
+    spelt-axes x y a b zs true e f g = atom (make x y a b zs e f (same_axis-equal a.axis b.axis g))
+    spelt-axes x y a b zs false e f g = tt
+
+    spelt-second : (x y : Token) (a : End) (zs : List Token) (r : Option End) → end_of ROWS x ≡ Some a → end_of ROWS y ≡ r
+        → Spelt sign_level (front (x ∷ tok.Colon ∷ y ∷ zs)) (option_and_then (end_then sheet a) (option_map (λ b. (b, zs)) r))
+    spelt-second x y a zs None e f = tt
+    spelt-second x y a zs (Some b) e f = spelt-axes x y a b zs (same_axis a.axis b.axis) e f refl
+
+    spelt-range : (x : Token) (zs : List Token) (r : Option End) → end_of ROWS x ≡ r → Spelt sign_level (front (x ∷ tok.Colon ∷ zs)) (whole_range sheet r zs)
+    spelt-range x zs None e = tt
+    spelt-range x [] (Some a) e = tt
+    spelt-range x (y ∷ zs) (Some a) e = spelt-second x y a zs (end_of ROWS y) e refl
+
+    -- where a colon follows, and else another tree
+    spelt-or : (x : Token) (other : Read) (zs : List Token) (r : Option End) → end_of ROWS x ≡ r → Spelt sign_level (front (x ∷ zs)) other
+        → Spelt sign_level (front (x ∷ zs)) (range_or other sheet r (after tok.Colon zs))
+    spelt-or x other [] r e d = d
+    spelt-or x other (tok.Colon ∷ zs) r e d = spelt-range x zs r e
+    spelt-or x other (y ∷ zs) r e d = d
+
+  own-range : IsRange (λ tokens. tokens) (Some home)
+  own-range x y a b zs e f g = a_whole e f g
+
+  sheet-range : (s : List ℕ) → IsRange (λ tokens. tok.Sheet s ∷ tokens) (find s)
+  sheet-range s x y a b zs e f g = a_sheet_whole e f g
+
+  spelt-own : (x : Token) (other : Read) (zs : List Token) → Spelt sign_level (x ∷ zs) other
+      → Spelt sign_level (x ∷ zs) (range_or other (Some home) (end_of ROWS x) (after tok.Colon zs))
+  spelt-own x other zs d = spelt-or (λ tokens. tokens) (Some home) own-range x other zs (end_of ROWS x) refl d
+
   spelt-reference : (a : Address) (zs : List Token) → Spelt sign_level (tok.Corner a ∷ zs) (reference (Some home) (a, zs))
   spelt-reference a [] = atom a_corner
   spelt-reference a (tok.Colon ∷ []) = tt
@@ -125,10 +167,15 @@ module _ (home : ℕ) (find : List ℕ → Option ℕ) where
   spelt-on_sheet s a (tok.Colon ∷ x ∷ zs) = tt
   spelt-on_sheet s a (x ∷ zs) = atom a_sheet_corner
 
-  spelt-sheet : (s : List ℕ) (zs : List Token) → Spelt sign_level (tok.Sheet s ∷ zs) (option_and_then (reference (find s)) (corner_front zs))
+  spelt-behind : (s : List ℕ) (x : Token) (zs : List Token) (r : Option End) → end_of ROWS x ≡ r
+      → Spelt sign_level (tok.Sheet s ∷ x ∷ zs) (sheet_range (find s) (option_map (λ a. (a, zs)) r))
+  spelt-behind s x zs None e = tt
+  spelt-behind s x zs (Some a) e = spelt-or (λ tokens. tok.Sheet s ∷ tokens) (find s) (sheet-range s) x None zs (Some a) e tt
+
+  spelt-sheet : (s : List ℕ) (zs : List Token) → Spelt sign_level (tok.Sheet s ∷ zs) (on_sheet (find s) zs)
   spelt-sheet s [] = tt
   spelt-sheet s (tok.Corner a ∷ zs) = spelt-on_sheet s a zs
-  spelt-sheet s (x ∷ zs) = tt
+  spelt-sheet s (x ∷ zs) = spelt-behind s x zs (end_of ROWS x) refl
 
   spelt-prefix : (s : Sign) (zs : List Token) (r : Read) → Reads sign_level zs r
       → Spelt sign_level (tok.Operator (op_of s) ∷ zs) (and_then r (λ t rest. Some (prefix s t, rest)))
@@ -204,13 +251,14 @@ module _ (home : ℕ) (find : List ℕ → Option ℕ) where
 
   first-good : (R : ℕ → List Token → Read) → IsGood R → (xs : List Token) → Spelt sign_level xs (first home find R xs)
   first-good R g [] = tt
-  first-good R g (tok.Number w ∷ zs) = spelt-number w zs (number_of w) refl
+  first-good R g (tok.Number w ∷ zs) = spelt-own (tok.Number w) (number_then (number_of w) zs) zs (spelt-number w zs (number_of w) refl)
   first-good R g (tok.Text w ∷ zs) = atom a_text
   first-good R g (tok.Truth b ∷ zs) = atom a_truth
   first-good R g (tok.Fault f ∷ zs) = atom a_fault
   first-good R g (tok.Sheet s ∷ zs) = spelt-sheet s zs
   first-good R g (tok.Corner a ∷ zs) = spelt-reference a zs
-  first-good R g (tok.Name w ∷ zs) = atom a_name
+  first-good R g (tok.Name w ∷ zs) = spelt-own (tok.Name w) (Some (name w, zs)) zs (atom a_name)
+  first-good R g (tok.Other w ∷ zs) = spelt-own (tok.Other w) None zs tt
   first-good R g (tok.Word w ∷ zs) = spelt-call R g w zs
   first-good R g (tok.Operator o ∷ zs) = spelt-signed R g o (sign_of o) zs refl
   first-good R g (tok.Open ∷ zs) = spelt-inside zs (R 0 zs) (g 0 (omega arith) zs)

@@ -1,7 +1,11 @@
 -- The tokens of the canonical text, and that they spell the tree. Serves the law that the canonical
 -- text spells its tree. Each definition puts a tree in front of the tokens that follow it.
-use Rattle.std.proofs.Common.{◌≡◌, sym, ◌∙◌, ap, refl, arith, subst, ℕ, suc, inl, inr, Bool, true, false, nat_lt, if◌then◌else◌, ◌==◌, List, ◌∷◌, Option, Some, None}
-use Rattle.std.proofs.lemmas.Bool.{le-ltb, eqb-true, eq-eqb, both_ways}
+use Rattle.std.proofs.Common.{◌≡◌, sym, ◌∙◌, ap, refl, arith, subst, ℕ, suc, ◌≤◌, inl, inr, Bool, true, false, nat_lt, if◌then◌else◌, ◌==◌, List, ◌∷◌, Option, Some, None}
+use Rattle.std.proofs.lemmas.Bool.{cond-false, le-ltb, eqb-true, eq-eqb, both_ways}
+use Rattle.cell_addr.specs.declared.axis.Axis.{Axis}
+use Rattle.cell_addr.specs.declared.axis.Axis.TheVariants.{Rows, Cols}
+use Rattle.cell_addr.specs.Axis.{line_of}
+use Rattle.cell_addr.specs.Place as places
 use Rattle.cell_addr.specs.Text.{capitals}
 use Rattle.fix_num.specs.Text.{text_of}
 use Rattle.fix_num.proofs.PlainTexts.{number_of-text_of}
@@ -9,11 +13,14 @@ use Rattle.formula_tree.specs.declared.reference.Corner.{Corner}
 use Rattle.formula_tree.specs.declared.address.Address.{Address}
 use Rattle.formula_tree.specs.Token.{Token}
 use Rattle.formula_tree.specs.Token as tok
-use Rattle.formula_tree.specs.Term.{Term, number, text, truth, fault, cell, area, name, prefix, percent, binary, call, paren, Terms, no_terms, term}
+use Rattle.formula_tree.specs.Term.{Term, number, text, truth, fault, cell, area, whole, name, prefix, percent, binary, call, paren, Terms, no_terms, term}
 use Rattle.formula_tree.specs.Level.{level, level_of, percent_level, sign_level, atom_level, op_of}
-use Rattle.formula_tree.specs.Grammar.{Leaf, a_number, a_text, a_truth, a_fault, a_name, a_corner, a_range, a_sheet_corner, a_sheet_range, Spells, between, followed, before, leaf, inside, alone, called, SpellsAll, last, more, placed, first_of, last_of, cell_on, area_on}
+use Rattle.formula_tree.specs.Grammar.{Leaf, a_number, a_text, a_truth, a_fault, a_name, a_corner, a_range, a_sheet_corner, a_sheet_range, a_whole, a_sheet_whole, Spells, between, followed, before, leaf, inside, alone, called, SpellsAll, last, more, placed, first_of, last_of, cell_on, area_on, whole_on}
 use Rattle.formula_tree.specs.Proper.{IsProper, AreProper, AreOrdered, IsListed, SheetsAreListed, AllSheetsAreListed}
+use Rattle.formula_tree.specs.Whole.{AreWhole}
+use Rattle.formula_tree.proofs.EndTokens.{line_token, end_along, end_of-line_token}
 use Rattle.formula_tree.proofs.Sound.{lower-to}
+use Rattle.formula_tree.proofs.WholeCorners.{whole-corners}
 
 -- the address of a corner
 abbrev pub address_of : Corner → Address
@@ -34,6 +41,7 @@ abbrev mutual
   written home names (fault f) rest = tok.Fault f ∷ rest
   written home names (cell c) rest = front_tokens home names c.at.sheet (tok.Corner (address_of c) ∷ rest)
   written home names (area c d) rest = front_tokens home names c.at.sheet (tok.Corner (address_of c) ∷ tok.Colon ∷ tok.Corner (address_of d) ∷ rest)
+  written home names (whole axis c d) rest = front_tokens home names c.at.sheet (line_token axis c ∷ tok.Colon ∷ line_token axis d ∷ rest)
   written home names (name w) rest = tok.Name w ∷ rest
   written home names (prefix s t) rest = tok.Operator (op_of s) ∷ written home names t rest
   written home names (percent t) rest = written home names t (tok.Percent ∷ rest)
@@ -76,6 +84,20 @@ area_on-address_of s c d e o =
     ∙ ap (λ b. area c (placed sheet b)) (last_of-ordered c d o)
     ∙ ap (λ x. area c x) (placed-address_of d c.at.sheet (sym o.0))
 
+-- the ends of a whole range in order are its first and its last line
+ordered-along : (axis : Axis) (c d : Corner) → AreOrdered c d → line_of axis c.at ≤ line_of axis d.at
+ordered-along Rows c d o = o.1
+ordered-along Cols c d o = o.2
+
+whole_on-end_along : (s : Option ℕ) (axis : Axis) (c d : Corner) → s ≡ Some c.at.sheet → AreOrdered c d → AreWhole axis c d
+    → whole_on s (end_along axis c) (end_along axis d) ≡ whole axis c d
+whole_on-end_along s axis c d e o w =
+    let low : ℕ = line_of axis c.at in
+    let high : ℕ = line_of axis d.at in
+    ap (λ x. whole_on x (end_along axis c) (end_along axis d)) e
+    ∙ cond-false (nat_lt high low) _ _ (le-ltb high low (ordered-along axis c d o))
+    ∙ whole-corners axis c d o.0 w
+
 module _ (home : ℕ) (find : List ℕ → Option ℕ) (names : ℕ → Option (List ℕ)) where
   spelt-as : (xs : List Token) (t u : Term Corner) (zs : List Token) → t ≡ u → Leaf home find xs t zs → Spells home find atom_level xs u zs
   spelt-as xs t u zs e l = subst (λ v. Spells home find atom_level xs v zs) e (leaf l)
@@ -100,6 +122,20 @@ module _ (home : ℕ) (find : List ℕ → Option ℕ) (names : ℕ → Option (
   spelt-area c d zs false e (inr (w, n, f)) o =
       rw n (spelt-as (tok.Sheet w ∷ tok.Corner (address_of c) ∷ tok.Colon ∷ tok.Corner (address_of d) ∷ zs) (area_on (find w) (address_of c) (address_of d)) (area c d) zs
       (area_on-address_of (find w) c d f o) a_sheet_range)
+
+  spelt-whole : (axis : Axis) (c d : Corner) (zs : List Token) (b : Bool) → (c.at.sheet == home) ≡ b → IsListed home names find c.at.sheet
+      → places.IsInside c.at → places.IsInside d.at → AreOrdered c d → AreWhole axis c d
+      → Spells home find atom_level (if b then line_token axis c ∷ tok.Colon ∷ line_token axis d ∷ zs
+      else sheet_tokens (names c.at.sheet) (line_token axis c ∷ tok.Colon ∷ line_token axis d ∷ zs)) (whole axis c d) zs
+  spelt-whole axis c d zs true e l i j o w =
+      spelt-as (line_token axis c ∷ tok.Colon ∷ line_token axis d ∷ zs) (whole_on (Some home) (end_along axis c) (end_along axis d)) (whole axis c d) zs
+      (whole_on-end_along (Some home) axis c d (ap (λ s. Some s) (sym (eqb-true c.at.sheet home e))) o w)
+      (a_whole (end_of-line_token axis c i) (end_of-line_token axis d j) refl)
+  spelt-whole axis c d zs false e (inl same) i j o w = absurd (both_ways (c.at.sheet == home) e (eq-eqb c.at.sheet home same))
+  spelt-whole axis c d zs false e (inr (v, n, f)) i j o w =
+      rw n (spelt-as (tok.Sheet v ∷ line_token axis c ∷ tok.Colon ∷ line_token axis d ∷ zs) (whole_on (find v) (end_along axis c) (end_along axis d)) (whole axis c d) zs
+      (whole_on-end_along (find v) axis c d f o w)
+      (a_sheet_whole (end_of-line_token axis c i) (end_of-line_token axis d j) refl))
 
   spelt-alone : (w : List ℕ) (zs : List Token) → capitals w ≡ w → Spells home find atom_level (tok.Word w ∷ tok.Open ∷ tok.Close ∷ zs) (call w no_terms) zs
   spelt-alone w zs e = subst (λ v. Spells home find atom_level (tok.Word w ∷ tok.Open ∷ tok.Close ∷ zs) (call v no_terms) zs) e alone
@@ -132,6 +168,7 @@ module _ (home : ℕ) (find : List ℕ → Option ℕ) (names : ℕ → Option (
     spelt-written (fault f) p l zs = leaf a_fault
     spelt-written (cell c) p l zs = spelt-cell c zs (c.at.sheet == home) refl l
     spelt-written (area c d) p l zs = spelt-area c d zs (c.at.sheet == home) refl l p.2
+    spelt-written (whole axis c d) p l zs = spelt-whole axis c d zs (c.at.sheet == home) refl l p.0 p.1 p.2 p.3
     spelt-written (name w) p l zs = leaf a_name
     spelt-written (prefix s t) p l zs = before s (lower-to home find sign_level (level t) p.0 (spelt-written t p.1 l zs))
     spelt-written (percent t) p l zs = followed (lower-to home find percent_level (level t) p.0 (spelt-written t p.1 l (tok.Percent ∷ zs)))

@@ -2,6 +2,8 @@
 -- the home's. Each definition puts a tree in front of what follows it. Source: this project's own.
 use Rattle.std.specs.Prelude.{ℕ, ◌+◌, Bool, if◌then◌else◌, ◌==◌, List, [], ◌∷◌, ◌++◌, Option, Some, None}
 use Rattle.std.specs.Fmt.{decimal}
+use Rattle.cell_addr.specs.declared.axis.Axis.{Axis}
+use Rattle.cell_addr.specs.declared.axis.Axis.TheVariants.{Rows, Cols}
 use Rattle.cell_addr.specs.Address.{column_letters}
 use Rattle.cell_addr.specs.Quoted.{doubled}
 use Rattle.cell_addr.specs.SheetName.{is_bare_name}
@@ -13,7 +15,7 @@ use Rattle.formula_tree.specs.declared.operator.Op.{Op}
 use Rattle.formula_tree.specs.declared.operator.Op.TheVariants as op
 use Rattle.formula_tree.specs.declared.operator.Sign.{Sign}
 use Rattle.formula_tree.specs.Level.{op_of}
-use Rattle.formula_tree.specs.Term.{Term, number, text, truth, fault, cell, area, name, prefix, percent, binary, call, paren, Terms, no_terms, term}
+use Rattle.formula_tree.specs.Term.{Term, number, text, truth, fault, cell, area, whole, name, prefix, percent, binary, call, paren, Terms, no_terms, term}
 
 -- how an operator is written
 abbrev pub op_text : Op → List ℕ
@@ -42,9 +44,14 @@ between_quotes q content rest = q ∷ (doubled q content ++ (q ∷ rest))
 abbrev pub dollar : Bool → List ℕ → List ℕ
 dollar fixed rest = if fixed then 36 ∷ rest else rest
 
--- an address: the column's letters and the row counted from 1, each with its `$`
+-- the row of a corner counted from 1, or the letters of its column, with its `$`
+abbrev pub line_text : Axis → Corner → List ℕ → List ℕ
+line_text Rows c rest = dollar c.row_fixed (decimal (c.at.row + 1) ++ rest)
+line_text Cols c rest = dollar c.col_fixed (column_letters c.at.col ++ rest)
+
+-- an address: the column and the row
 abbrev pub corner_text : Corner → List ℕ → List ℕ
-corner_text c rest = dollar c.col_fixed (column_letters c.at.col ++ dollar c.row_fixed (decimal (c.at.row + 1) ++ rest))
+corner_text c rest = line_text Cols c (line_text Rows c rest)
 
 -- a sheet's name with `!`, between apostrophes where it hasn't the form of a run's sheet name
 abbrev pub sheet_text : Option (List ℕ) → List ℕ → List ℕ
@@ -64,6 +71,7 @@ abbrev mutual
   printed home names (fault f) rest = fault_text f ++ rest
   printed home names (cell c) rest = front_text home names c.at.sheet (corner_text c rest)
   printed home names (area c d) rest = front_text home names c.at.sheet (corner_text c (58 ∷ corner_text d rest))
+  printed home names (whole axis c d) rest = front_text home names c.at.sheet (line_text axis c (58 ∷ line_text axis d rest))
   printed home names (name w) rest = w ++ rest
   printed home names (prefix s t) rest = sign_text s ++ printed home names t rest
   printed home names (percent t) rest = printed home names t (37 ∷ rest)

@@ -2,6 +2,7 @@
 -- list of tokens is what follows the spelling. Source: OpenFormula for the operators and their
 -- leftward grouping; the spelling of the rest is this project's own.
 use Rattle.std.specs.Prelude.{◌≡◌, ℕ, ℤ, suc, Bool, if◌then◌else◌, nat_lt, List, [], ◌∷◌, Option, Some, None, Ok}
+use Rattle.cell_addr.specs.declared.place.TheConstants.{ROWS}
 use Rattle.cell_addr.specs.Text.{capitals}
 use Rattle.cell_value.specs.declared.fault.FaultKind.{FaultKind}
 use Rattle.cell_value.specs.declared.fault.FaultKind.TheVariants as faults
@@ -10,10 +11,13 @@ use Rattle.formula_tree.specs.declared.reference.Corner.{Corner}
 use Rattle.formula_tree.specs.declared.operator.Op.{Op}
 use Rattle.formula_tree.specs.declared.operator.Sign.{Sign}
 use Rattle.formula_tree.specs.declared.address.Address.{Address}
+use Rattle.formula_tree.specs.declared.address.End.{End}
 use Rattle.formula_tree.specs.Token.{Token}
 use Rattle.formula_tree.specs.Token as tok
 use Rattle.formula_tree.specs.Term.{Term, number, text, truth, fault, cell, area, name, prefix, percent, binary, call, paren, Terms, no_terms, term}
 use Rattle.formula_tree.specs.Level.{level_of, percent_level, sign_level, atom_level, op_of}
+use Rattle.formula_tree.specs.Run.{end_of_run}
+use Rattle.formula_tree.specs.Whole.{whole_term}
 use Rattle.formula_tree.specs.Tokens.{tokens_of}
 
 -- the corner of an address on a sheet
@@ -48,8 +52,22 @@ abbrev pub area_on : Option ℕ → Address → Address → Term Corner
 area_on (Some sheet) a b = area (placed sheet (first_of a b)) (placed sheet (last_of a b))
 area_on None a b = fault faults.Ref
 
--- atoms without parts: a number, a text, a truth value, a fault, a name, a reference or a block, these two
--- with a sheet's name in front or without; home is the formula's sheet, and find gives the sheet of a name
+-- the end of a whole range that a token is, of a sheet of so many rows: a number, a name or another run
+abbrev pub end_of : ℕ → Token → Option End
+end_of rows (tok.Number w) = end_of_run rows w
+end_of rows (tok.Name w) = end_of_run rows w
+end_of rows (tok.Other w) = end_of_run rows w
+end_of rows token = None
+
+-- all rows or all columns between two ends on a sheet, the lower one first, each with its `$`; equal ones stay
+abbrev pub whole_on : Option ℕ → End → End → Term Corner
+whole_on (Some sheet) a b = if nat_lt b.line a.line
+    then whole_term (record { sheet = sheet; axis = a.axis; first = b.line; last = a.line }) b.fixed a.fixed
+    else whole_term (record { sheet = sheet; axis = a.axis; first = a.line; last = b.line }) a.fixed b.fixed
+whole_on None a b = fault faults.Ref
+
+-- atoms without parts: a number, a text, a truth value, a fault, a name, a reference, a block or a whole range,
+-- these three with a sheet's name in front or without; home is the formula's sheet, and find gives the sheet of a name
 pub data Leaf (home : ℕ) (find : List ℕ → Option ℕ) : List Token → Term Corner → List Token → Type 0 where
   a_number : {w : List ℕ} {m : ℤ} {zs : List Token} → number_of w ≡ Ok m → Leaf home find (tok.Number w ∷ zs) (number m) zs
   a_text : {w : List ℕ} {zs : List Token} → Leaf home find (tok.Text w ∷ zs) (text w) zs
@@ -60,6 +78,10 @@ pub data Leaf (home : ℕ) (find : List ℕ → Option ℕ) : List Token → Ter
   a_range : {a b : Address} {zs : List Token} → Leaf home find (tok.Corner a ∷ tok.Colon ∷ tok.Corner b ∷ zs) (area_on (Some home) a b) zs
   a_sheet_corner : {s : List ℕ} {a : Address} {zs : List Token} → Leaf home find (tok.Sheet s ∷ tok.Corner a ∷ zs) (cell_on (find s) a) zs
   a_sheet_range : {s : List ℕ} {a b : Address} {zs : List Token} → Leaf home find (tok.Sheet s ∷ tok.Corner a ∷ tok.Colon ∷ tok.Corner b ∷ zs) (area_on (find s) a b) zs
+  a_whole : {x y : Token} {a b : End} {zs : List Token} → end_of ROWS x ≡ Some a → end_of ROWS y ≡ Some b → a.axis ≡ b.axis
+      → Leaf home find (x ∷ tok.Colon ∷ y ∷ zs) (whole_on (Some home) a b) zs
+  a_sheet_whole : {s : List ℕ} {x y : Token} {a b : End} {zs : List Token} → end_of ROWS x ≡ Some a → end_of ROWS y ≡ Some b → a.axis ≡ b.axis
+      → Leaf home find (tok.Sheet s ∷ x ∷ tok.Colon ∷ y ∷ zs) (whole_on (find s) a b) zs
 
 mutual
   -- the tokens spell the tree at a level of the grammar: all its operators outside parentheses and

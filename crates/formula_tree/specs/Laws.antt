@@ -3,14 +3,17 @@
 use Rattle.std.specs.Prelude.{◌≡◌, ℕ, ◌≤◌, ◌↔◌, Bool, true, false, if◌then◌else◌, List, [], ◌∷◌, ◌++◌, Option, Some, None}
 use Rattle.std.specs.List.{list_any}
 use Rattle.std.specs.Option.{option_map}
+use Rattle.cell_addr.specs.declared.axis.Axis.{Axis}
+use Rattle.cell_addr.specs.Whole.{IsWholeInside, whole_block}
 use Rattle.formula_tree.specs.declared.reference.Corner.{Corner}
 use Rattle.formula_tree.specs.Token.{Token}
-use Rattle.formula_tree.specs.Term.{Term, depth_of}
+use Rattle.formula_tree.specs.Term.{Term, whole, depth_of}
 use Rattle.formula_tree.specs.Grammar.{SpellsTokens, SpellsText}
 use Rattle.formula_tree.specs.Canonical.{formula_text}
 use Rattle.formula_tree.specs.Links.{once, AreApart}
-use Rattle.formula_tree.specs.Reference.{sheet_of}
+use Rattle.formula_tree.specs.Reference.{block_of, sheet_of}
 use Rattle.formula_tree.specs.Run.{is_blank}
+use Rattle.formula_tree.specs.Whole.{fixed_along, whole_between, whole_term}
 use Rattle.formula_tree.specs.StandsFor.{ArePlacesInside, at_home, from_home}
 use Rattle.formula_tree.specs.Tokens.{token_at, tokens_of}
 use Rattle.formula_tree.specs.declared.reference.Home.{Home}
@@ -63,6 +66,13 @@ SameTextSameTree = (home : Home) (find : List ℕ → Option ℕ) (names : ℕ �
 -- seen from a home and placed there again, a tree whose places lie within the limits is itself
 abbrev pub ComesBack : Type 0
 ComesBack = (home : Home) (t : Term Corner) → ArePlacesInside t → at_home home (from_home home t) ≡ t
+
+-- a proper whole range lies within the limits, and its corners are the first and the last cell of its block, with a `$`
+-- at the lines across
+abbrev pub WholesAreTheirCorners : Type 0
+WholesAreTheirCorners = (axis : Axis) (c d : Corner) → IsProper (whole axis c d)
+    → IsWholeInside (whole_between axis c d) × (whole_block (whole_between axis c d) ≡ block_of c d)
+    × (whole_term (whole_between axis c d) (fixed_along axis c) (fixed_along axis d) ≡ whole axis c d)
 
 -- each item once, in the order of first occurrence: of a list and one more item, the items of the list,
 -- and then the new one where none of the list is the same

@@ -2,6 +2,7 @@ pub mod Arguments
 pub mod Term
 pub mod Seen
 pub mod Reference
+pub mod Whole
 pub mod Relative
 pub mod Level
 pub mod Run

@@ -1,13 +1,15 @@
--- The names of a tree, and the places and blocks that its value depends on. Source: this project's own.
+-- The names of a tree, and the places, blocks and whole ranges that its value depends on. Source: this project's own.
 use Rattle.std.specs.Prelude.{◌≡◌, ℕ, Bool, true, false, ◌&&◌, ◌||◌, if◌then◌else◌, ◌==◌, List, [], ◌∷◌, ◌++◌, Option, Some, None, codes, bytes_eq}
 use Rattle.std.specs.List.{list_any}
 use Rattle.cell_addr.specs.Place.{same_place, same_block}
 use Rattle.cell_addr.specs.Sheets.{same_name}
+use Rattle.cell_addr.specs.Whole.{same_whole}
 use Rattle.formula_tree.specs.declared.reference.Corner.{Corner}
 use Rattle.formula_tree.specs.declared.link.Link.{Link}
 use Rattle.formula_tree.specs.declared.link.Link.TheVariants as links
 use Rattle.formula_tree.specs.Reference.{block_of}
-use Rattle.formula_tree.specs.Term.{Term, cell, area, name, prefix, percent, binary, call, paren, Terms, no_terms, term, is_reference}
+use Rattle.formula_tree.specs.Whole.{whole_between}
+use Rattle.formula_tree.specs.Term.{Term, cell, area, whole, name, prefix, percent, binary, call, paren, Terms, no_terms, term, is_reference}
 
 -- the items after those done, without each that is the same as an earlier one
 abbrev pub once_after : {X : Type 0} → (X → X → Bool) → List X → List X → List X
@@ -44,10 +46,12 @@ same_scope None None = true
 same_scope (Some s) (Some t) = s == t
 same_scope s t = false
 
--- the same cell, block or name; a cell and the block of it alone are two links
+-- the same cell, block, whole range or name; a cell and the block of it alone are two links, and so are a whole range
+-- and its block
 abbrev pub same_link : Link → Link → Bool
 same_link (links.Cell p) (links.Cell q) = same_place p q
 same_link (links.Area b) (links.Area c) = same_block b c
+same_link (links.Whole v) (links.Whole w) = same_whole v w
 same_link (links.Name s v) (links.Name t w) = same_scope s t && same_name v w
 same_link a b = false
 
@@ -56,11 +60,12 @@ abbrev pub is_place_word : List ℕ → Bool
 is_place_word w = (bytes_eq w (codes "ROW") || bytes_eq w (codes "COLUMN")) || (bytes_eq w (codes "ROWS") || bytes_eq w (codes "COLUMNS"))
 
 abbrev mutual
-  -- the places and blocks of a tree, in order; not those that are themselves the argument of a function
-  -- that asks where they are
+  -- the places, blocks and whole ranges of a tree, in order; not those that are themselves the argument of a
+  -- function that asks where they are
   pub links_in : Term Corner → List Link
   links_in (cell c) = links.Cell c.at ∷ []
   links_in (area c d) = links.Area (block_of c d) ∷ []
+  links_in (whole axis c d) = links.Whole (whole_between axis c d) ∷ []
   links_in (prefix s t) = links_in t
   links_in (percent t) = links_in t
   links_in (binary o l r) = links_in l ++ links_in r

@@ -5,9 +5,10 @@ use Rattle.cell_addr.specs.Text.{capitals}
 use Rattle.cell_addr.specs.Place as places
 use Rattle.fix_num.specs.Number as numbers
 use Rattle.formula_tree.specs.declared.reference.Corner.{Corner}
-use Rattle.formula_tree.specs.Term.{Term, number, text, truth, fault, cell, area, name, prefix, percent, binary, call, paren, Terms, no_terms, term}
+use Rattle.formula_tree.specs.Term.{Term, number, text, truth, fault, cell, area, whole, name, prefix, percent, binary, call, paren, Terms, no_terms, term}
 use Rattle.formula_tree.specs.Level.{level, level_of, percent_level, sign_level}
 use Rattle.formula_tree.specs.Run.{is_word, corner_of, truth_of}
+use Rattle.formula_tree.specs.Whole.{AreWhole}
 
 -- the corners of a block lie on one sheet, the first not after the second
 abbrev pub AreOrdered : Corner → Corner → Type 0
@@ -30,6 +31,7 @@ abbrev mutual
   IsProper (fault f) = Unit {0}
   IsProper (cell c) = places.IsInside c.at
   IsProper (area c d) = places.IsInside c.at × places.IsInside d.at × AreOrdered c d
+  IsProper (whole axis c d) = places.IsInside c.at × places.IsInside d.at × AreOrdered c d × AreWhole axis c d
   IsProper (name w) = IsName w
   IsProper (prefix s t) = (sign_level ≤ level t) × IsProper t
   IsProper (percent t) = (percent_level ≤ level t) × IsProper t
@@ -55,6 +57,7 @@ abbrev mutual
   pub SheetsAreListed : ℕ → (ℕ → Option (List ℕ)) → (List ℕ → Option ℕ) → Term Corner → Type 0
   SheetsAreListed home names find (cell c) = IsListed home names find c.at.sheet
   SheetsAreListed home names find (area c d) = IsListed home names find c.at.sheet
+  SheetsAreListed home names find (whole axis c d) = IsListed home names find c.at.sheet
   SheetsAreListed home names find (prefix s t) = SheetsAreListed home names find t
   SheetsAreListed home names find (percent t) = SheetsAreListed home names find t
   SheetsAreListed home names find (binary o l r) = SheetsAreListed home names find l × SheetsAreListed home names find r

@@ -2,6 +2,8 @@
 -- grammar spells is a law. A reader R reads a tree of a level at the front of a list.
 use Rattle.std.specs.Prelude.{ℕ, zero, suc, ℤ, if◌then◌else◌, nat_lt, nat_le, ◌==◌, List, [], ◌∷◌, ◌++◌, length, Option, Some, None, option_and_then, Result, Ok, Err}
 use Rattle.std.specs.Option.{option_map}
+use Rattle.cell_addr.specs.declared.place.TheConstants.{ROWS}
+use Rattle.cell_addr.specs.Axis.{same_axis}
 use Rattle.cell_addr.specs.Text.{capitals}
 use Rattle.fix_num.specs.declared.error.NumError.{NumError}
 use Rattle.fix_num.specs.Text.{number_of}
@@ -9,11 +11,12 @@ use Rattle.formula_tree.specs.declared.operator.TheConstants.{MAX_LEVELS}
 use Rattle.formula_tree.specs.declared.reference.Corner.{Corner}
 use Rattle.formula_tree.specs.declared.operator.Sign.{Sign}
 use Rattle.formula_tree.specs.declared.address.Address.{Address}
+use Rattle.formula_tree.specs.declared.address.End.{End}
 use Rattle.formula_tree.specs.Token.{Token, same_mark}
 use Rattle.formula_tree.specs.Token as tok
 use Rattle.formula_tree.specs.Term.{Term, number, text, truth, fault, name, prefix, percent, binary, call, paren, no_terms, terms_of, depth_of}
 use Rattle.formula_tree.specs.Level.{level_of, percent_level, sign_level, sign_of}
-use Rattle.formula_tree.specs.Grammar.{cell_on, area_on}
+use Rattle.formula_tree.specs.Grammar.{cell_on, area_on, end_of, whole_on}
 use Rattle.formula_tree.specs.Tokens.{tokens_of}
 
 -- a tree that was read, and the tokens after it; nothing where none was
@@ -52,6 +55,38 @@ colon_then sheet a tokens (Some rest) = option_and_then (area_then sheet a) (cor
 abbrev pub reference : Option ℕ → Address × List Token → Read
 reference sheet (a, rest) = colon_then sheet a rest (after tok.Colon rest)
 
+-- the end of a whole range in front, and the tokens after it
+abbrev pub end_front : List Token → Option (End × List Token)
+end_front [] = None
+end_front (token ∷ rest) = option_map (λ e. (e, rest)) (end_of ROWS token)
+
+-- the last end of a whole range whose first one and sheet are known, of the same axis
+abbrev pub end_then : Option ℕ → End → End × List Token → Read
+end_then sheet a (b, rest) = if same_axis a.axis b.axis then Some (whole_on sheet a b, rest) else None
+
+-- a whole range, by what its first token is and the tokens after the colon
+abbrev pub whole_range : Option ℕ → Option End → List Token → Read
+whole_range sheet None tokens = None
+whole_range sheet (Some a) tokens = option_and_then (end_then sheet a) (end_front tokens)
+
+-- a whole range where a colon follows, and else another tree
+abbrev pub range_or : Read → Option ℕ → Option End → Option (List Token) → Read
+range_or other sheet first None = other
+range_or other sheet first (Some rest) = whole_range sheet first rest
+
+-- a whole range behind a sheet's name
+abbrev pub sheet_range : Option ℕ → Option (End × List Token) → Read
+sheet_range sheet None = None
+sheet_range sheet (Some (a, rest)) = range_or None sheet (Some a) (after tok.Colon rest)
+
+-- what stands behind a sheet's name: a reference or a block, or a whole range
+abbrev pub behind_sheet : Option ℕ → List Token → Option (Address × List Token) → Read
+behind_sheet sheet tokens (Some front) = reference sheet front
+behind_sheet sheet tokens None = sheet_range sheet (end_front tokens)
+
+abbrev pub on_sheet : Option ℕ → List Token → Read
+on_sheet sheet tokens = behind_sheet sheet tokens (corner_front tokens)
+
 -- a sign's operand
 abbrev pub signed : (ℕ → List Token → Read) → Option Sign → List Token → Read
 signed R None rest = None
@@ -86,13 +121,14 @@ call_front R word tokens = option_and_then (λ rest. call_then R word rest (afte
 
 -- a tree that no operator follows yet: an atom, or a sign and its operand; home is the formula's sheet
 abbrev pub first_at : ℕ → (List ℕ → Option ℕ) → (ℕ → List Token → Read) → Token → List Token → Read
-first_at home find R (tok.Number w) rest = number_then (number_of w) rest
+first_at home find R (tok.Number w) rest = range_or (number_then (number_of w) rest) (Some home) (end_of ROWS (tok.Number w)) (after tok.Colon rest)
 first_at home find R (tok.Text w) rest = Some (text w, rest)
 first_at home find R (tok.Truth b) rest = Some (truth b, rest)
 first_at home find R (tok.Fault f) rest = Some (fault f, rest)
-first_at home find R (tok.Sheet s) rest = option_and_then (reference (find s)) (corner_front rest)
+first_at home find R (tok.Sheet s) rest = on_sheet (find s) rest
 first_at home find R (tok.Corner a) rest = reference (Some home) (a, rest)
-first_at home find R (tok.Name w) rest = Some (name w, rest)
+first_at home find R (tok.Name w) rest = range_or (Some (name w, rest)) (Some home) (end_of ROWS (tok.Name w)) (after tok.Colon rest)
+first_at home find R (tok.Other w) rest = range_or None (Some home) (end_of ROWS (tok.Other w)) (after tok.Colon rest)
 first_at home find R (tok.Word w) rest = call_front R w rest
 first_at home find R (tok.Operator o) rest = signed R (sign_of o) rest
 first_at home find R tok.Open rest = and_then (R 0 rest) closed

@@ -1,6 +1,8 @@
 -- The terms of shared trees: what a tree is as seen from its home, without boxes.
 use Rattle.std.specs.Prelude.{map}
-use Rattle.formula_tree.specs.Term.{Term, number, text, truth, fault, cell, area, name, prefix, percent, binary, call, paren, Terms, terms_of}
+use Rattle.cell_addr.specs.declared.axis.Axis.TheVariants.{Rows, Cols}
+use Rattle.formula_tree.specs.Term.{Term, number, text, truth, fault, cell, area, whole, name, prefix, percent, binary, call, paren, Terms, terms_of}
+use Rattle.formula_tree.specs.Whole.{first_ref, last_ref}
 use Rattle.formula_tree.specs.declared.reference.Ref.{Ref}
 use Rattle.formula_tree.specs.declared.node.Node.{Node}
 use Rattle.formula_tree.specs.declared.node.TreeList.{TreeList}
@@ -15,6 +17,8 @@ relative_node (Node-F.Truth b) = truth b
 relative_node (Node-F.Fault f) = fault f
 relative_node (Node-F.Cell r) = cell r
 relative_node (Node-F.Area r q) = area r q
+relative_node (Node-F.WholeRows s p q) = whole Rows (first_ref Rows s p) (last_ref Rows s q)
+relative_node (Node-F.WholeCols s p q) = whole Cols (first_ref Cols s p) (last_ref Cols s q)
 relative_node (Node-F.Name w) = name w
 relative_node (Node-F.Prefix s t) = prefix s t.value
 relative_node (Node-F.Percent t) = percent t.value

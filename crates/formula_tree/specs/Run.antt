@@ -1,7 +1,10 @@
 -- Runs: sequences of letters, digits, `_`, `.` and `$`, and what they are. Source: this project's own.
 use Rattle.std.specs.Prelude.{ℕ, Bool, true, false, not, ◌&&◌, ◌||◌, if◌then◌else◌, nat_lt, ◌==◌, List, [], ◌∷◌, drop, Option, Some, None, option_and_then}
-use Rattle.std.specs.List.{list_all, prefix_len}
+use Rattle.std.specs.List.{prefix_len}
 use Rattle.std.specs.Char.{is_ascii_alphabetic, is_ascii_alphanumeric}
+use Rattle.digits.specs.Digits.{is_digit}
+use Rattle.cell_addr.specs.declared.axis.Axis.{Axis}
+use Rattle.cell_addr.specs.declared.axis.Axis.TheVariants.{Rows, Cols}
 use Rattle.cell_addr.specs.declared.place.TheConstants.{ROWS, COLS}
 use Rattle.cell_addr.specs.SheetName.{is_bare_name}
 use Rattle.cell_addr.specs.Address.{letters, after_letters, column_of, row_of}
@@ -10,6 +13,7 @@ use Rattle.std.specs.Option.{option_zip}
 use Rattle.cell_value.specs.Fault.{spells}
 use Rattle.cell_value.specs.Scalar.{truth_text}
 use Rattle.formula_tree.specs.declared.address.Address.{Address}
+use Rattle.formula_tree.specs.declared.address.End.{End}
 use Rattle.formula_tree.specs.Token.{Token}
 use Rattle.formula_tree.specs.Token as tok
 
@@ -57,6 +61,21 @@ corner_after col_fixed cs = option_and_then
 
 abbrev pub corner_of : List ℕ → Option Address
 corner_of run = corner_after (begins_with 36 run) (after_dollar run)
+
+-- the end of a whole range at a line, where that lies within the limit
+abbrev pub end_at : Axis → Bool → ℕ → ℕ → Option End
+end_at axis fixed limit line = if nat_lt line limit then Some (record { axis = axis; line = line; fixed = fixed }) else None
+
+-- a row's number where it begins with a digit, and else a column's letters
+abbrev pub end_after : ℕ → Bool → List ℕ → Option End
+end_after rows fixed cs = if begins_with_any is_digit cs
+    then option_and_then (end_at Rows fixed rows) (row_of cs)
+    else option_and_then (end_at Cols fixed COLS) (column_of cs)
+
+-- the end of a whole range that a run or the digits of a number are, of a sheet of so many rows: with a `$` in
+-- front or without
+abbrev pub end_of_run : ℕ → List ℕ → Option End
+end_of_run rows cs = end_after rows (begins_with 36 cs) (after_dollar cs)
 
 -- the truth value that a run is, in letters of any case
 abbrev pub truth_of : List ℕ → Option Bool

@@ -1,5 +1,6 @@
 -- What a tree of the program stands for: its term, without boxes.
 use Rattle.formula_tree.specs.Term.{Term, number, text, truth, fault, cell, area, name, prefix, percent, binary, call, paren, Terms, terms_of}
+use Rattle.formula_tree.specs.Whole.{whole_term}
 use Rattle.formula_tree.specs.declared.reference.Corner.{Corner}
 use Rattle.formula_tree.specs.declared.plain.Plain.{Plain}
 use Rattle.formula_tree.specs.declared.plain.PlainList.{PlainList}
@@ -14,6 +15,7 @@ seen_node (Plain-F.Truth b) = truth b
 seen_node (Plain-F.Fault f) = fault f
 seen_node (Plain-F.Cell c) = cell c
 seen_node (Plain-F.Area c d) = area c d
+seen_node (Plain-F.Whole w f g) = whole_term w f g
 seen_node (Plain-F.Name w) = name w
 seen_node (Plain-F.Prefix s t) = prefix s t.value
 seen_node (Plain-F.Percent t) = percent t.value

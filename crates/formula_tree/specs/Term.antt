@@ -1,10 +1,12 @@
 -- Trees of formulas, with the kind of their references as a parameter.
-use Rattle.std.specs.Prelude.{ℕ, ℤ, ◌+◌, max, Bool, true, false, List, [], ◌∷◌}
+use Rattle.std.specs.Prelude.{ℕ, ℤ, ◌+◌, max, Bool, true, false, List, [], ◌∷◌, Option, Some, None}
+use Rattle.cell_addr.specs.declared.axis.Axis.{Axis}
 use Rattle.cell_value.specs.declared.fault.FaultKind.{FaultKind}
 use Rattle.formula_tree.specs.declared.operator.Op.{Op}
 use Rattle.formula_tree.specs.declared.operator.Sign.{Sign}
 
--- a formula's tree, whose references are of type R; a call has its word and its arguments
+-- a formula's tree, whose references are of type R; a block, and all rows or columns along an axis, have the first
+-- and the last cell of the block; a call has its word and its arguments
 mutual
   pub data Term (R : Type 0) : Type 0 where
     number : ℤ → Term R
@@ -13,6 +15,7 @@ mutual
     fault : FaultKind → Term R
     cell : R → Term R
     area : R → R → Term R
+    whole : Axis → R → R → Term R
     name : List ℕ → Term R
     prefix : Sign → Term R → Term R
     percent : Term R → Term R
@@ -29,10 +32,16 @@ abbrev pub terms_of : {R : Type 0} → List (Term R) → Terms R
 terms_of [] = no_terms
 terms_of (t ∷ ts) = term t (terms_of ts)
 
--- a reference or a block, and no parenthesis round one
+-- a block, or the whole range along an axis
+abbrev pub shaped : {R : Type 0} → Option Axis → R → R → Term R
+shaped None r q = area r q
+shaped (Some axis) r q = whole axis r q
+
+-- a reference, a block or a whole range, and no parenthesis round one
 abbrev pub is_reference : {R : Type 0} → Term R → Bool
 is_reference (cell c) = true
 is_reference (area c d) = true
+is_reference (whole axis c d) = true
 is_reference t = false
 
 -- the levels of a tree: 1 for a leaf, and 1 more than its deepest part for another node
@@ -50,14 +59,15 @@ abbrev mutual
   depth_of_all (term t ts) = max (depth_of t) (depth_of_all ts)
 
 abbrev mutual
-  -- the tree with each reference and each block replaced by the tree that a rule gives for it
-  pub mapped : {R S : Type 0} → (R → Term S) → (R → R → Term S) → Term R → Term S
+  -- the tree with each reference, and each block or whole range, replaced by the tree that a rule gives for it
+  pub mapped : {R S : Type 0} → (R → Term S) → (Option Axis → R → R → Term S) → Term R → Term S
   mapped on_cell on_area (number m) = number m
   mapped on_cell on_area (text w) = text w
   mapped on_cell on_area (truth b) = truth b
   mapped on_cell on_area (fault f) = fault f
   mapped on_cell on_area (cell r) = on_cell r
-  mapped on_cell on_area (area r q) = on_area r q
+  mapped on_cell on_area (area r q) = on_area None r q
+  mapped on_cell on_area (whole axis r q) = on_area (Some axis) r q
   mapped on_cell on_area (name w) = name w
   mapped on_cell on_area (prefix s t) = prefix s (mapped on_cell on_area t)
   mapped on_cell on_area (percent t) = percent (mapped on_cell on_area t)
@@ -65,22 +75,23 @@ abbrev mutual
   mapped on_cell on_area (call w ts) = call w (mapped_all on_cell on_area ts)
   mapped on_cell on_area (paren t) = paren (mapped on_cell on_area t)
 
-  pub mapped_all : {R S : Type 0} → (R → Term S) → (R → R → Term S) → Terms R → Terms S
+  pub mapped_all : {R S : Type 0} → (R → Term S) → (Option Axis → R → R → Term S) → Terms R → Terms S
   mapped_all on_cell on_area no_terms = no_terms
   mapped_all on_cell on_area (term t ts) = term (mapped on_cell on_area t) (mapped_all on_cell on_area ts)
 
 -- the tree with each corner replaced by another one
 abbrev pub each_corner : {R S : Type 0} → (R → S) → Term R → Term S
-each_corner f = mapped (λ r. cell (f r)) (λ r q. area (f r) (f q))
+each_corner f = mapped (λ r. cell (f r)) (λ lines r q. shaped lines (f r) (f q))
 
 abbrev pub each_corner_all : {R S : Type 0} → (R → S) → Terms R → Terms S
-each_corner_all f = mapped_all (λ r. cell (f r)) (λ r q. area (f r) (f q))
+each_corner_all f = mapped_all (λ r. cell (f r)) (λ lines r q. shaped lines (f r) (f q))
 
 abbrev mutual
   -- each corner of the tree passes a test
   pub EachCorner : {R : Type 0} → (R → Type 0) → Term R → Type 0
   EachCorner P (cell r) = P r
   EachCorner P (area r q) = P r × P q
+  EachCorner P (whole axis r q) = P r × P q
   EachCorner P (prefix s t) = EachCorner P t
   EachCorner P (percent t) = EachCorner P t
   EachCorner P (binary o l r) = EachCorner P l × EachCorner P r

@@ -6,7 +6,7 @@ use Rattle.formula_tree.specs.declared.operator.Op.{Op}
 
 -- a piece of a formula's text
 pub data Token : Type 0 where
-  -- the digits of a number, with its point where it has one, as written
+  -- the digits of a number, with its point where it has one, as written; beside `:` they may be a row's number
   Number : List ℕ → Token
   -- what stands between double quotes, where two double quotes inside are one
   Text : List ℕ → Token
@@ -18,11 +18,12 @@ pub data Token : Type 0 where
   Sheet : List ℕ → Token
   -- an address
   Corner : Address → Token
-  -- a run of the form of a name, as written
+  -- a run of the form of a name, as written; beside `:` it may be a column's letters
   Name : List ℕ → Token
   -- the word of a function, as written; `(` follows it
   Word : List ℕ → Token
-  -- another run of letters, digits, `_`, `.` and `$`, which no production takes
+  -- another run of letters, digits, `_`, `.` and `$`; beside `:` it may be a row or a column with its `$`, and else no
+  -- production takes it
   Other : List ℕ → Token
   -- an operator; `+` and `-` may be signs too
   Operator : Op → Token

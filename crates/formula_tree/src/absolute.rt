@@ -10,6 +10,8 @@ ghost use Rattle.formula_tree.specs.StandsFor.{StandsFor, ArePlacesInside, at_ho
 use crate::node::{Node, Tree, TreeList};
 use crate::plain::{Plain, PlainList};
 use crate::reference::{Home, Ref};
+use crate::whole::whole_at;
+use cell_addr::Axis;
 use std::alloc::{AllocError, Global};
 use std::rc::Rc;
 
@@ -26,6 +28,16 @@ impl Node {
             Node::Fault(fault) => Ok(Plain::Fault(*fault)),
             Node::Cell(corner) => Ok(Plain::Cell(corner.at(home))),
             Node::Area(first, last) => Ok(Plain::Area(first.at(home), last.at(home))),
+            Node::WholeRows(sheet, first, last) => Ok(Plain::Whole(
+                whole_at(Axis::Rows, *sheet, *first, *last, home),
+                first.is_fixed(),
+                last.is_fixed(),
+            )),
+            Node::WholeCols(sheet, first, last) => Ok(Plain::Whole(
+                whole_at(Axis::Cols, *sheet, *first, *last, home),
+                first.is_fixed(),
+                last.is_fixed(),
+            )),
             Node::Name(name) => Ok(Plain::Name(name.copy(alloc)?)),
             Node::Prefix(sign, part) => Ok(Plain::Prefix(
                 *sign,
@@ -84,6 +96,9 @@ impl Plain {
             Plain::Fault(fault) => Ok(Node::Fault(*fault)),
             Plain::Cell(corner) => Ok(Node::Cell(Ref::of(*corner, home))),
             Plain::Area(first, last) => Ok(Node::Area(Ref::of(*first, home), Ref::of(*last, home))),
+            Plain::Whole(whole, first_fixed, last_fixed) => {
+                Ok(Node::whole(*whole, *first_fixed, *last_fixed, home))
+            }
             Plain::Name(name) => Ok(Node::Name(name.copy(alloc)?)),
             Plain::Prefix(sign, part) => Ok(Node::Prefix(
                 *sign,

@@ -3,7 +3,7 @@ ghost use Rattle.std.specs.Prelude.{◌≡◌};
 ghost use Rattle.formula_tree.specs.Grammar.{first_of, last_of, placed};
 
 use crate::reference::Corner;
-use cell_addr::Place;
+use cell_addr::{Axis, Place};
 
 /// An address as written in a formula, without a sheet: its row and its column, counted from 0, and
 /// which of them have a `$` in front. It lies within the limits of a sheet.
@@ -13,6 +13,15 @@ pub struct Address {
     pub col: u32,
     pub row_fixed: bool,
     pub col_fixed: bool,
+}
+
+/// One end of a whole range as written in a formula: its row or its column, counted from 0, and whether it has a
+/// `$` in front. It lies within the limits of a sheet.
+#[derive(Clone, Copy, PartialEq, Eq, Debug)]
+pub struct End {
+    pub axis: Axis,
+    pub line: u32,
+    pub fixed: bool,
 }
 
 impl Address {

@@ -1,12 +1,13 @@
 // The codes of trees: numbers that a hasher is fed of a tree.
 ghost use Rattle.std.specs.Prelude.{◌≡◌, ◌∷◌};
 ghost use Rattle.formula_tree.specs.Relative.{relative, relative_list};
+ghost use Rattle.formula_tree.specs.Whole.{first_ref, last_ref};
 ghost use Rattle.formula_tree.specs.internal.Code.{Feeds, wide_code, signed_code, text_code, sheet_code, part_code, ref_code, fault_code, sign_code, op_code, kind, code, code_all};
 
 use crate::node::{Node, TreeList};
 use crate::operator::{Op, Sign};
 use crate::reference::{Part, Ref, SheetPart};
-use cell_addr::Text;
+use cell_addr::{Axis, Text};
 use cell_value::FaultKind;
 use fix_num::Fixed;
 use std::hash::Hasher;
@@ -32,6 +33,8 @@ impl Node {
             Node::Binary(_, _, _) => 9,
             Node::Call(_, _) => 10,
             Node::Paren(_) => 11,
+            Node::WholeRows(_, _, _) => 12,
+            Node::WholeCols(_, _, _) => 13,
         }
     }
 
@@ -50,6 +53,12 @@ impl Node {
             Node::Area(first, last) => {
                 feed_ref(*first, state);
                 feed_ref(*last, state);
+            }
+            Node::WholeRows(sheet, first, last) => {
+                feed_ends(Axis::Rows, *sheet, *first, *last, state)
+            }
+            Node::WholeCols(sheet, first, last) => {
+                feed_ends(Axis::Cols, *sheet, *first, *last, state)
             }
             Node::Prefix(sign, part) => {
                 feed_word(sign_code(*sign), state);
@@ -125,6 +134,14 @@ fn feed_ref<H: Hasher>(corner: Ref, state: &mut H)
     feed_sheet(corner.sheet, state);
     feed_part(corner.row, state);
     feed_part(corner.col, state);
+}
+
+// Feeds the first and the last cell of a whole range.
+fn feed_ends<H: Hasher>(axis: Axis, sheet: SheetPart, first: Part, last: Part, state: &mut H)
+    ensures { Feeds H.write state.old state.new (λ rest. ref_code (first_ref axis sheet first) (ref_code (last_ref axis sheet last) rest)) }
+{
+    feed_ref(Ref::first_of(axis, sheet, first), state);
+    feed_ref(Ref::last_of(axis, sheet, last), state);
 }
 
 // Feeds the sheet of a reference.

@@ -1,6 +1,6 @@
 //! What holds of every formula: laws, with nothing to run.
 
-ghost use Rattle.formula_tree.specs.Laws.{ReaderIsExact, TextReaderIsExact, OneTree, CanonicalSpells, SpelledIsProper, SpelledIsListed, TokensFollow, SameTextSameTree, ComesBack, ListsOnce};
+ghost use Rattle.formula_tree.specs.Laws.{ReaderIsExact, TextReaderIsExact, OneTree, CanonicalSpells, SpelledIsProper, SpelledIsListed, TokensFollow, SameTextSameTree, ComesBack, WholesAreTheirCorners, ListsOnce};
 ghost use Rattle.cell_addr.specs.Sheets.{same_name};
 ghost use Rattle.formula_tree.specs.Links.{same_link};
 ghost use Rattle.formula_tree.specs.Mentions.{MentionsAreAll, same_mention};
@@ -51,6 +51,11 @@ pub fn same_text_is_same_tree()
 /// A tree comes back from how it is seen from a home.
 pub fn a_tree_comes_back()
     ensures { ComesBack }
+{}
+
+/// A proper whole range lies within the limits of a sheet, and its corners are those of its block.
+pub fn wholes_are_their_corners()
+    ensures { WholesAreTheirCorners }
 {}
 
 /// Names, and places and blocks, and all that is mentioned, are listed once each, in the order of first

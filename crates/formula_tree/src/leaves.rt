@@ -41,6 +41,8 @@ impl Leaves {
             | Node::Fault(_)
             | Node::Cell(_)
             | Node::Area(_, _)
+            | Node::WholeRows(_, _, _)
+            | Node::WholeCols(_, _, _)
             | Node::Name(_) => {
                 let leaf = self.leaf(tree)?;
                 Ok(leaf)

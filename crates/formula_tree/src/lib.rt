@@ -9,7 +9,9 @@
 //! never its boxes: `relative tree` is the term of a node, and `StandsFor tree home t` says that in a
 //! formula at the home it is the term t, whose references are places. The relation `Spells` of the
 //! specs says which tokens spell which term, one case for each production of the grammar, and
-//! `formula_text` is the canonical text of a term.
+//! `formula_text` is the canonical text of a term. All rows or all columns from one to another, as in
+//! `A:C`, are one kind of term, which has the first and the last cell of their block; the lines across
+//! have a `$` there.
 //!
 //! The formula `=A1+0.5` of the cell C1 has the tokens A1, `+` and 0.5. It spells
 //! `Node::Binary(Op::Add, a, b)`, where `a` is the cell of this row two columns to the left and `b` the
@@ -30,9 +32,10 @@ mod plain;
 mod pool;
 mod reference;
 mod same;
+mod whole;
 
 pub use absolute::to_absolute;
-pub use address::Address;
+pub use address::{Address, End};
 pub use link::{Link, is_place_word, names_of, places_of};
 pub use mention::{Mention, mentions_of};
 pub use node::{Node, Tree, TreeList, depth};
@@ -40,3 +43,4 @@ pub use operator::{MAX_LEVELS, Op, PERCENT_LEVEL, SIGN_LEVEL, Sign};
 pub use plain::{Plain, PlainList};
 pub use pool::Pool;
 pub use reference::{Corner, Home, NO_LINE, Part, Ref, SheetPart};
+pub use whole::whole_at;

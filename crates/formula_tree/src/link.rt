@@ -1,4 +1,4 @@
-// The names of a tree, and the places and blocks that its value depends on.
+// The names of a tree, and the places, blocks and whole ranges that its value depends on.
 ghost use Rattle.std.specs.Prelude.{◌≡◌, ◌&&◌, ◌++◌, [], ◌∷◌, if◌then◌else◌, IfOk, OnOk};
 ghost use Rattle.std.specs.List.{list_any};
 ghost use Rattle.cell_addr.specs.Sheets.{same_name};
@@ -12,7 +12,8 @@ ghost use Rattle.formula_tree.specs.declared.reference.Home.{Home};
 
 use crate::node::{Node, Tree, TreeList};
 use crate::reference::Home;
-use cell_addr::{Block, Place, Text, same_folded};
+use crate::whole::whole_at;
+use cell_addr::{Axis, Block, Place, Text, Whole, same_folded};
 use std::alloc::{AllocError, Global};
 
 /// What the value of a formula depends on.
@@ -22,6 +23,8 @@ pub enum Link {
     Cell(Place),
     /// A block of cells.
     Area(Block),
+    /// All rows or all columns from one to another.
+    Whole(Whole),
     /// A named expression, by its scope and its name: the number of a sheet, or none for the global
     /// scope.
     Name(Option<u32>, Text),
@@ -30,14 +33,15 @@ pub enum Link {
 impl Link {
     ghost use Rattle.formula_tree.specs.Links.{same_link};
 
-    /// Whether both are the same cell, block or name; names are the same in any case of their ASCII
-    /// letters. A cell and the block of it alone are two links.
+    /// Whether both are the same cell, block, whole range or name; names are the same in any case of their
+    /// ASCII letters. A cell and the block of it alone are two links, and so are a whole range and its block.
     pub fn same(&self, other: &Link) -> bool
         ensures { result ≡ same_link self.now other.now }
     {
         match (self, other) {
             (Link::Cell(place), Link::Cell(second)) => *place == *second,
             (Link::Area(block), Link::Area(second)) => *block == *second,
+            (Link::Whole(whole), Link::Whole(second)) => *whole == *second,
             (Link::Name(scope, name), Link::Name(second_scope, second)) => {
                 *scope == *second_scope && same_folded(name.as_str(), second.as_str())
             }
@@ -66,11 +70,13 @@ impl Node {
             Node::Call(_, list) => list.add_names(alloc, names)?,
             Node::Number(_) | Node::Text(_) | Node::Truth(_) | Node::Fault(_) => {}
             Node::Cell(_) | Node::Area(_, _) => {}
+            Node::WholeRows(_, _, _) | Node::WholeCols(_, _, _) => {}
         }
         Ok(())
     }
 
-    // Puts the places and blocks of the tree after the others, but for those that stand there already.
+    // Puts the places, blocks and whole ranges of the tree after the others, but for those that stand
+    // there already.
     #[cycle(links)]
     fn add_links(&self, home: Home, links: &mut Vec<Link>) -> Result<(), AllocError>
         ensures { OnOk result (links.new.items ≡ once_after same_link links.old.items (links_in (at_home home (relative self.now)))) }
@@ -79,6 +85,14 @@ impl Node {
             Node::Cell(corner) => add_link(Link::Cell(corner.at(home).at), links)?,
             Node::Area(first, last) => add_link(
                 Link::Area(first.at(home).block_to(last.at(home))),
+                links,
+            )?,
+            Node::WholeRows(sheet, first, last) => add_link(
+                Link::Whole(whole_at(Axis::Rows, *sheet, *first, *last, home)),
+                links,
+            )?,
+            Node::WholeCols(sheet, first, last) => add_link(
+                Link::Whole(whole_at(Axis::Cols, *sheet, *first, *last, home)),
                 links,
             )?,
             Node::Prefix(_, part) => part.add_links(home, links)?,
@@ -116,8 +130,8 @@ impl TreeList {
         Ok(())
     }
 
-    // Puts the places and blocks of all arguments after the others; where asked, arguments that are
-    // themselves references are skipped.
+    // Puts the places, blocks and whole ranges of all arguments after the others; where asked, arguments
+    // that are themselves references are skipped.
     #[cycle(links)]
     fn add_links(&self, home: Home, skip: bool, links: &mut Vec<Link>) -> Result<(), AllocError>
         ensures { OnOk result (links.new.items ≡ once_after same_link links.old.items (links_in_all skip (each_corner_all (corner_at (base_of home)) (relative_list self.now)))) }
@@ -192,9 +206,9 @@ pub fn names_of(alloc: Global, tree: &Tree) -> Result<Vec<Text>, AllocError>
     Ok(names)
 }
 
-/// The places and blocks of the tree in the order of first occurrence, each once, with every reference
-/// as the place that it names in a formula at the home. A reference or block that is itself the argument
-/// of ROW, COLUMN, ROWS or COLUMNS is not among them. Costs about the size of the tree, and each of its
+/// The places, blocks and whole ranges of the tree in the order of first occurrence, each once, with every
+/// reference as the place that it names in a formula at the home. One that is itself the argument of ROW,
+/// COLUMN, ROWS or COLUMNS is not among them. Costs about the size of the tree, and each of its
 /// references is compared with those listed before it.
 pub fn places_of(alloc: Global, tree: &Tree, home: Home) -> Result<Vec<Link>, AllocError>
     ensures { IfOk result (λ places. (t : Term Corner) → StandsFor tree.now home t → places.items ≡ once same_link (links_in t)) }

@@ -12,29 +12,33 @@ ghost use Rattle.formula_tree.specs.declared.reference.Corner.{Corner};
 use crate::link::is_place_word;
 use crate::node::{Node, Tree, TreeList};
 use crate::reference::Home;
-use cell_addr::{Block, Place, Text, same_folded};
+use crate::whole::whole_at;
+use cell_addr::{Axis, Block, Place, Text, Whole, same_folded};
 use std::alloc::{AllocError, Global};
 
-/// What a formula mentions: a cell, a block, or a name as it is written.
+/// What a formula mentions: a cell, a block, a whole range, or a name as it is written.
 #[derive(Drop, Debug)]
 pub enum Mention {
     /// A cell.
     Cell(Place),
     /// A block of cells.
     Area(Block),
+    /// All rows or all columns from one to another.
+    Whole(Whole),
     /// A name, by its word. Which named expression that is depends on the names of the workbook.
     Name(Text),
 }
 
 impl Mention {
-    /// Whether both are the same cell, block or word; words are the same in any case of their ASCII
-    /// letters. A cell and the block of it alone are two.
+    /// Whether both are the same cell, block, whole range or word; words are the same in any case of their
+    /// ASCII letters. A cell and the block of it alone are two, and so are a whole range and its block.
     pub fn same(&self, other: &Mention) -> bool
         ensures { result ≡ same_mention self.now other.now }
     {
         match (self, other) {
             (Mention::Cell(place), Mention::Cell(second)) => *place == *second,
             (Mention::Area(block), Mention::Area(second)) => *block == *second,
+            (Mention::Whole(whole), Mention::Whole(second)) => *whole == *second,
             (Mention::Name(word), Mention::Name(second)) => {
                 same_folded(word.as_str(), second.as_str())
             }
@@ -60,6 +64,14 @@ impl Node {
             Node::Cell(corner) => add_mention(Mention::Cell(corner.at(home).at), list)?,
             Node::Area(first, last) => add_mention(
                 Mention::Area(first.at(home).block_to(last.at(home))),
+                list,
+            )?,
+            Node::WholeRows(sheet, first, last) => add_mention(
+                Mention::Whole(whole_at(Axis::Rows, *sheet, *first, *last, home)),
+                list,
+            )?,
+            Node::WholeCols(sheet, first, last) => add_mention(
+                Mention::Whole(whole_at(Axis::Cols, *sheet, *first, *last, home)),
                 list,
             )?,
             Node::Name(word) => add_mention(Mention::Name(word.copy(alloc)?), list)?,
@@ -122,9 +134,9 @@ fn has_mention(list: &[Mention], mention: &Mention) -> bool
     list.iter().any(|known| mention.same(known))
 }
 
-/// What the tree mentions: its places, blocks and names in the order of first occurrence, each once, with
-/// every reference as the place that it names in a formula at the home. A reference or block that is itself
-/// the argument of ROW, COLUMN, ROWS or COLUMNS is not among them; a name is. Costs about the size of the
+/// What the tree mentions: its places, blocks, whole ranges and names in the order of first occurrence, each
+/// once, with every reference as the place that it names in a formula at the home. A reference, block or whole
+/// range that is itself the argument of ROW, COLUMN, ROWS or COLUMNS is not among them; a name is. Costs about the size of the
 /// tree, and each mention is compared with those listed before it.
 pub fn mentions_of(alloc: Global, tree: &Tree, home: Home) -> Result<Vec<Mention>, AllocError>
     ensures { IfOk result (λ list. (t : Term Corner) → StandsFor tree.now home t → list.items ≡ once same_mention (mentions_in t)) }

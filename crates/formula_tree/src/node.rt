@@ -7,7 +7,7 @@ ghost use Rattle.formula_tree.specs.declared.reference.Corner.{Corner};
 ghost use Rattle.formula_tree.specs.declared.reference.Home.{Home};
 
 use crate::operator::{Op, Sign};
-use crate::reference::Ref;
+use crate::reference::{Part, Ref, SheetPart};
 use cell_addr::Text;
 use cell_value::FaultKind;
 use fix_num::Fixed;
@@ -34,6 +34,10 @@ pub enum Node {
     Cell(Ref),
     /// A block of cells, by its first corner and its last one.
     Area(Ref, Ref),
+    /// All rows from the first to the last.
+    WholeRows(SheetPart, Part, Part),
+    /// All columns from the first to the last.
+    WholeCols(SheetPart, Part, Part),
     /// A named expression.
     Name(Text),
     /// A sign in front of a formula.
@@ -97,12 +101,13 @@ impl TreeList {
 }
 
 impl Node {
-    /// Whether the tree is a reference or a block, and no parenthesis round one.
+    /// Whether the tree is a reference, a block or a whole range, and no parenthesis round one.
     pub fn is_reference(&self) -> bool
         ensures { result ≡ is_reference (relative self.now) }
     {
         match self {
             Node::Cell(_) | Node::Area(_, _) => true,
+            Node::WholeRows(_, _, _) | Node::WholeCols(_, _, _) => true,
             Node::Number(_) | Node::Text(_) | Node::Truth(_) | Node::Fault(_) | Node::Name(_) =>
                 false,
             Node::Prefix(_, _) | Node::Percent(_) | Node::Paren(_) => false,
@@ -118,6 +123,7 @@ impl Node {
         match self {
             Node::Number(_) | Node::Text(_) | Node::Truth(_) | Node::Fault(_) => 1,
             Node::Cell(_) | Node::Area(_, _) | Node::Name(_) => 1,
+            Node::WholeRows(_, _, _) | Node::WholeCols(_, _, _) => 1,
             Node::Prefix(_, part) => part.depth().saturating_add(1),
             Node::Percent(part) => part.depth().saturating_add(1),
             Node::Paren(part) => part.depth().saturating_add(1),

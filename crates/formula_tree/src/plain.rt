@@ -3,7 +3,7 @@ ghost use Rattle.std.specs.Prelude.{◌≡◌, List, [], ◌∷◌, ◌++◌, If
 
 use crate::operator::{Op, Sign};
 use crate::reference::Corner;
-use cell_addr::Text;
+use cell_addr::{Text, Whole};
 use cell_value::FaultKind;
 use fix_num::Fixed;
 use std::alloc::{AllocError, Global};
@@ -24,6 +24,8 @@ pub enum Plain {
     Cell(Corner),
     /// A block of cells, by its first corner and its last one.
     Area(Corner, Corner),
+    /// All rows or all columns from one to another, and whether the first and the last have a `$`.
+    Whole(Whole, bool, bool),
     /// A named expression.
     Name(Text),
     /// A sign in front of a formula.

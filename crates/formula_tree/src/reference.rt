@@ -94,7 +94,7 @@ impl Corner {
 
 impl SheetPart {
     // The part that names this sheet as seen from the sheet `own`.
-    fn of(sheet: u32, own: u32) -> SheetPart
+    pub(crate) fn of(sheet: u32, own: u32) -> SheetPart
         ensures { result ≡ sheet_from own sheet }
     {
         if sheet == own {
@@ -117,7 +117,7 @@ impl SheetPart {
 
 impl Part {
     // The part that names this line as seen from the line `base`; a part with a `$` doesn't move.
-    fn of(line: u32, fixed: bool, base: u32) -> Part
+    pub(crate) fn of(line: u32, fixed: bool, base: u32) -> Part
         requires line { line < 2 ^ 31 }
         requires base { base < 2 ^ 31 }
         ensures { result ≡ part_from base fixed line }
@@ -139,8 +139,8 @@ impl Part {
         }
     }
 
-    // Whether the part has a `$`.
-    fn is_fixed(self) -> bool
+    /// Whether the part has a `$`.
+    pub fn is_fixed(self) -> bool
         ensures { result ≡ is_fixed self }
     {
         matches!(self, Part::Abs(_))

@@ -5,7 +5,7 @@ ghost use Rattle.formula_tree.specs.Relative.{relative, relative_list};
 use crate::node::{Node, TreeList};
 use crate::operator::{Op, Sign};
 use crate::reference::{Part, Ref, SheetPart};
-use cell_addr::Text;
+use cell_addr::{Axis, Text};
 use cell_value::FaultKind;
 use fix_num::Fixed;
 
@@ -23,6 +23,30 @@ impl Node {
             (Node::Cell(corner), Node::Cell(second)) => same_ref(*corner, *second),
             (Node::Area(first, last), Node::Area(second_first, second_last)) => {
                 same_ref(*first, *second_first) && same_ref(*last, *second_last)
+            }
+            (
+                Node::WholeRows(sheet, first, last),
+                Node::WholeRows(second_sheet, second_first, second_last),
+            ) => {
+                same_ref(
+                    Ref::first_of(Axis::Rows, *sheet, *first),
+                    Ref::first_of(Axis::Rows, *second_sheet, *second_first),
+                ) && same_ref(
+                    Ref::last_of(Axis::Rows, *sheet, *last),
+                    Ref::last_of(Axis::Rows, *second_sheet, *second_last),
+                )
+            }
+            (
+                Node::WholeCols(sheet, first, last),
+                Node::WholeCols(second_sheet, second_first, second_last),
+            ) => {
+                same_ref(
+                    Ref::first_of(Axis::Cols, *sheet, *first),
+                    Ref::first_of(Axis::Cols, *second_sheet, *second_first),
+                ) && same_ref(
+                    Ref::last_of(Axis::Cols, *sheet, *last),
+                    Ref::last_of(Axis::Cols, *second_sheet, *second_last),
+                )
             }
             (Node::Name(name), Node::Name(second)) => same_text(name, second),
             (Node::Prefix(sign, part), Node::Prefix(second_sign, second)) => {

@@ -3,7 +3,7 @@ ghost use Rattle.std.specs.Prelude.{◌≡◌, ◌≤◌, ◌-◌, ℕ, ⊤, Mat
 ghost use Rattle.shift_line.specs.Track.{IsRun, Track, last};
 ghost use Rattle.lazy_store.specs.internal.Pending.{IsListed, shifts_of};
 
-use cell_addr::{Block, Place};
+use cell_addr::{Axis, Block, Place};
 use run_walk::{Steps, Way};
 use sheet_shifts::{Ahead, SheetShifts};
 use shift_core::Shift;
@@ -81,10 +81,10 @@ impl<'a> Way for Pending<'a> {
         }
     }
 
-    fn carried(&self, count: usize, b: Block) -> Option<Block> {
+    fn carried(&self, count: usize, lines: Option<Axis>, b: Block) -> Option<Block> {
         match self {
-            Pending::Listed(way) => way.carried(count, b),
-            Pending::Plain(way) => way.carried(count, b),
+            Pending::Listed(way) => way.carried(count, lines, b),
+            Pending::Plain(way) => way.carried(count, lines, b),
         }
     }
 }

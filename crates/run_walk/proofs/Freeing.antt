@@ -3,21 +3,22 @@ use Rattle.std.proofs.Common.{◌≡◌, ◌≢◌, ◌∙◌, sym, ap, refl, su
 use Rattle.std.proofs.lemmas.List.{take_more}
 use Rattle.std.proofs.lemmas.Option.{same_Some}
 use Rattle.cell_addr.specs.Place.{IsInside}
+use Rattle.cell_addr.specs.declared.axis.Axis.{Axis}
 use Rattle.cell_addr.specs.declared.place.Block.{Block}
 use Rattle.cell_addr.specs.declared.place.Place.{Place}
 use Rattle.formula_tree.specs.Reference.{block_of}
-use Rattle.formula_tree.specs.Term.{Term, number, text, truth, fault, cell, area, name, prefix, percent, binary, call, paren, Terms, no_terms, term}
+use Rattle.formula_tree.specs.Term.{Term, number, text, truth, fault, cell, name, prefix, percent, binary, call, paren, Terms, no_terms, term, shaped}
 use Rattle.formula_tree.specs.declared.reference.Corner.{Corner}
 use Rattle.shift_core.specs.Carried.{first_place, last_place}
 use Rattle.shift_core.specs.Form.{form_of}
 use Rattle.shift_core.specs.Sound.{IsSound}
-use Rattle.shift_core.specs.Tables.{block_after, block_before, place_after, place_before}
+use Rattle.shift_core.specs.Tables.{place_after, place_before}
 use Rattle.shift_core.specs.declared.shift.Shift.{Shift}
 use Rattle.shift_core.proofs.PlaceLaws.{place_moved_inside, place_moved_returns}
 use Rattle.tree_rewrite.proofs.Returns.{area-at_ends}
-use Rattle.tree_rewrite.specs.Rewritten.{ComesBack, area_at, cell_at, returned, rewritten}
+use Rattle.tree_rewrite.specs.Rewritten.{ComesBack, area_after, area_at, area_before, cell_at, returned, rewritten}
 use Rattle.tree_rewrite.specs.internal.Passage.{all_placed_by}
-use Rattle.run_walk.specs.Run.{AreSound, IsCarriedOver, NoneLoses, block_over, place_over}
+use Rattle.run_walk.specs.Run.{AreSound, IsCarriedOver, NoneLoses, area_over, place_over}
 use Rattle.run_walk.specs.internal.Freed.{NoneLosesOfAll}
 
 -- ---- fewer operations lose nothing either
@@ -77,7 +78,7 @@ free-binary (s ∷ run) o l r left right =
 
 pub free-call : (run : List Shift) (w : List ℕ) (ts : Terms Corner) → NoneLosesOfAll run ts → NoneLoses run (call w ts)
 free-call [] w ts free = tt
-free-call (s ∷ run) w ts free = (ap (λ x. call w x) free.0, free-call run w (all_placed_by (place_after s) (block_after s) ts) free.1)
+free-call (s ∷ run) w ts free = (ap (λ x. call w x) free.0, free-call run w (all_placed_by (place_after s) (area_after s) ts) free.1)
 
 -- ---- arguments
 
@@ -88,8 +89,8 @@ free-no_terms (s ∷ run) = (refl, free-no_terms run)
 pub free-term : (run : List Shift) (t : Term Corner) (ts : Terms Corner) → NoneLoses run t → NoneLosesOfAll run ts → NoneLosesOfAll run (term t ts)
 free-term [] t ts one all = tt
 free-term (s ∷ run) t ts one all =
-    let rest = all_placed_by (place_before s) (block_before s) (all_placed_by (place_after s) (block_after s) ts) in
-    (ap (λ x. term x rest) one.0 ∙ ap (λ x. term t x) all.0, free-term run (rewritten s t) (all_placed_by (place_after s) (block_after s) ts) one.1 all.1)
+    let rest = all_placed_by (place_before s) (area_before s) (all_placed_by (place_after s) (area_after s) ts) in
+    (ap (λ x. term x rest) one.0 ∙ ap (λ x. term t x) all.0, free-term run (rewritten s t) (all_placed_by (place_after s) (area_after s) ts) one.1 all.1)
 
 -- ---- references
 
@@ -103,37 +104,38 @@ pub free-cell : (run : List Shift) (c : Corner) → AreSound run → IsInside c.
 free-cell [] c sound inside some = tt
 free-cell (s ∷ run) c sound inside some = each-cell s run c sound.0 inside (λ d i e. free-cell run d sound.1 i e) (place_after s c.at) refl some
 
--- ---- blocks
+-- ---- blocks and whole ranges
 
 last-of : (c d : Corner) → c.at.sheet ≡ d.at.sheet → last_place (block_of c d) ≡ d.at
 last-of c d e = λ i. record { sheet = e i; row = d.at.row; col = d.at.col }
 
-each-area : (s : Shift) (run : List Shift) (c d : Corner) → c.at.sheet ≡ d.at.sheet → ((e f : Corner) → e.at.sheet ≡ f.at.sheet → IsCarriedOver run (block_of e f) → NoneLoses run (area e f))
-    → (o : Option Block) → block_after s (block_of c d) ≡ o → MatchOption o ⊥ (λ after. (block_before s after ≡ Some (block_of c d)) × IsCarriedOver run after) → ComesBack s (area c d) × NoneLoses run (area_at c d o)
-each-area s run c d same each None goes carried = absurd carried
-each-area s run c d same each (Some after) goes carried =
-    (area-at_ends s c d after (block_of c d) goes carried.0 (refl, last-of c d same), each (record c { at = first_place after }) (record d { at = last_place after }) refl carried.1)
+each-area : (s : Shift) (run : List Shift) (lines : Option Axis) (c d : Corner) → c.at.sheet ≡ d.at.sheet → ((e f : Corner) → e.at.sheet ≡ f.at.sheet → IsCarriedOver run lines (block_of e f) → NoneLoses run (shaped lines e f))
+    → (o : Option Block) → area_after s lines (block_of c d) ≡ o → MatchOption o ⊥ (λ after. (area_before s lines after ≡ Some (block_of c d)) × IsCarriedOver run lines after) → ComesBack s (shaped lines c d) × NoneLoses run (area_at lines c d o)
+each-area s run lines c d same each None goes carried = absurd carried
+each-area s run lines c d same each (Some after) goes carried =
+    (area-at_ends s lines c d after (block_of c d) goes carried.0 (refl, last-of c d same), each (record c { at = first_place after }) (record d { at = last_place after }) refl carried.1)
 
-pub free-area : (run : List Shift) (c d : Corner) → c.at.sheet ≡ d.at.sheet → IsCarriedOver run (block_of c d) → NoneLoses run (area c d)
-free-area [] c d same carried = tt
-free-area (s ∷ run) c d same carried = each-area s run c d same (λ e f is h. free-area run e f is h) (block_after s (block_of c d)) refl carried
+pub free-area : (run : List Shift) (lines : Option Axis) (c d : Corner) → c.at.sheet ≡ d.at.sheet → IsCarriedOver run lines (block_of c d) → NoneLoses run (shaped lines c d)
+free-area [] lines c d same carried = tt
+free-area (s ∷ run) None c d same carried = each-area s run None c d same (λ e f is h. free-area run None e f is h) (area_after s None (block_of c d)) refl carried
+free-area (s ∷ run) (Some axis) c d same carried = each-area s run (Some axis) c d same (λ e f is h. free-area run (Some axis) e f is h) (area_after s (Some axis) (block_of c d)) refl carried
 
--- one operation more gives the block back
-each-more : (s z : Shift) (run : List Shift) (at next : Block) → ((b : Block) → block_over run b ≡ Some at → IsCarriedOver run b → IsCarriedOver (run ++ z ∷ []) b)
-    → (b : Block) (o : Option Block) → option_and_then (block_over run) o ≡ Some at → MatchOption o ⊥ (λ after. (block_before s after ≡ Some b) × IsCarriedOver run after)
-    → MatchOption o ⊥ (λ after. (block_before s after ≡ Some b) × IsCarriedOver (run ++ z ∷ []) after)
-each-more s z run at next each b None here carried = absurd carried
-each-more s z run at next each b (Some after) here carried = (carried.0, each after here carried.1)
+-- one operation more gives it back
+each-more : (s z : Shift) (run : List Shift) (lines : Option Axis) (at next : Block) → ((b : Block) → area_over run lines b ≡ Some at → IsCarriedOver run lines b → IsCarriedOver (run ++ z ∷ []) lines b)
+    → (b : Block) (o : Option Block) → option_and_then (area_over run lines) o ≡ Some at → MatchOption o ⊥ (λ after. (area_before s lines after ≡ Some b) × IsCarriedOver run lines after)
+    → MatchOption o ⊥ (λ after. (area_before s lines after ≡ Some b) × IsCarriedOver (run ++ z ∷ []) lines after)
+each-more s z run lines at next each b None here carried = absurd carried
+each-more s z run lines at next each b (Some after) here carried = (carried.0, each after here carried.1)
 
-carried-append : (run : List Shift) (z : Shift) (b at next : Block) → block_after z at ≡ Some next → block_before z next ≡ Some at → block_over run b ≡ Some at → IsCarriedOver run b → IsCarriedOver (run ++ z ∷ []) b
-carried-append [] z b at next goes back here carried =
+carried-append : (run : List Shift) (z : Shift) (lines : Option Axis) (b at next : Block) → area_after z lines at ≡ Some next → area_before z lines next ≡ Some at → area_over run lines b ≡ Some at → IsCarriedOver run lines b → IsCarriedOver (run ++ z ∷ []) lines b
+carried-append [] z lines b at next goes back here carried =
     let same : b ≡ at = same_Some b at here in
-    subst (λ x. MatchOption (block_after z x) ⊥ (λ after. (block_before z after ≡ Some x) × Unit {0})) (sym same)
-    (subst (λ o. MatchOption o ⊥ (λ after. (block_before z after ≡ Some at) × Unit {0})) (sym goes) (back, tt))
-carried-append (s ∷ run) z b at next goes back here carried = each-more s z run at next (λ x is h. carried-append run z x at next goes back is h) b (block_after s b) here carried
+    subst (λ x. MatchOption (area_after z lines x) ⊥ (λ after. (area_before z lines after ≡ Some x) × Unit {0})) (sym same)
+    (subst (λ o. MatchOption o ⊥ (λ after. (area_before z lines after ≡ Some at) × Unit {0})) (sym goes) (back, tt))
+carried-append (s ∷ run) z lines b at next goes back here carried = each-more s z run lines at next (λ x is h. carried-append run z lines x at next goes back is h) b (area_after s lines b) here carried
 
-pub carried-more : (run : List Shift) (i : ℕ) (d s : Shift) (b at next : Block) → i < length run → s ≡ get_or run i d → block_after s at ≡ Some next → block_before s next ≡ Some at
-    → block_over (take i run) b ≡ Some at → IsCarriedOver (take i run) b → IsCarriedOver (take (i + 1) run) b
-carried-more run i d s b at next within is goes back here carried =
-    subst (λ r. IsCarriedOver r b) (sym (take_more run i d within))
-    (subst (λ z. IsCarriedOver (take i run ++ z ∷ []) b) is (carried-append (take i run) s b at next goes back here carried))
+pub carried-more : (run : List Shift) (i : ℕ) (d s : Shift) (lines : Option Axis) (b at next : Block) → i < length run → s ≡ get_or run i d → area_after s lines at ≡ Some next → area_before s lines next ≡ Some at
+    → area_over (take i run) lines b ≡ Some at → IsCarriedOver (take i run) lines b → IsCarriedOver (take (i + 1) run) lines b
+carried-more run i d s lines b at next within is goes back here carried =
+    subst (λ r. IsCarriedOver r lines b) (sym (take_more run i d within))
+    (subst (λ z. IsCarriedOver (take i run ++ z ∷ []) lines b) is (carried-append (take i run) s lines b at next goes back here carried))

@@ -1,5 +1,6 @@
 pub mod Over
 pub mod Fusion
+pub mod InsideAreas
 pub mod Walking
 pub mod Freeing
 pub mod Arguments

@@ -1,17 +1,21 @@
 -- Shared trees by their kinds of nodes, in a formula at a home. Serves the look ahead over a run.
 use Rattle.std.proofs.Common.{◌≡◌, ◌≢◌, ◌∙◌, sym, ap, subst, ℕ, ℤ, Bool, ◌⊎◌, inl, inr, List, Global, None}
+use Rattle.cell_addr.specs.declared.axis.Axis.TheVariants.{Rows, Cols}
 use Rattle.cell_value.specs.declared.fault.FaultKind.{FaultKind}
 use Rattle.std.specs.declared.rc.Rc.{Rc}
 use Rattle.formula_tree.proofs.RelativeNodes.{relative-Binary, relative-Call, relative-Paren}
 use Rattle.formula_tree.specs.Reference.{base_of, corner_at}
 use Rattle.formula_tree.specs.Relative.{relative, relative_list}
 use Rattle.formula_tree.specs.StandsFor.{at_home}
-use Rattle.formula_tree.specs.Term.{Term, area, each_corner_all}
+use Rattle.formula_tree.specs.Term.{Term, area, whole, each_corner_all}
+use Rattle.formula_tree.specs.Whole.{first_ref, last_ref}
 use Rattle.formula_tree.specs.declared.node.Node.{Node}
 use Rattle.formula_tree.specs.declared.node.Node.TheVariants as nodes
 use Rattle.formula_tree.specs.declared.node.TreeList.{TreeList}
 use Rattle.formula_tree.specs.declared.reference.Home.{Home}
+use Rattle.formula_tree.specs.declared.reference.Part.{Part}
 use Rattle.formula_tree.specs.declared.reference.Ref.{Ref}
+use Rattle.formula_tree.specs.declared.reference.SheetPart.{SheetPart}
 use Rattle.shift_core.specs.declared.shift.Shift.{Shift}
 use Rattle.tree_rewrite.proofs.Walking as walking
 use Rattle.tree_rewrite.specs.References.{FitsSheets}
@@ -54,6 +58,14 @@ module _ (run : List Shift) (home : Home) (node : Node) where
 
   pub node-area : (r q : Ref) → node ≡ nodes.Area r q → NoneLoses run (area (corner_at (base_of home) r) (corner_at (base_of home) q)) → NoneLoses run (at_home home (relative node))
   node-area r q is free = of_kind (nodes.Area r q) _ is (walking.relative-Area r q) free
+
+  pub node-rows : (sheet : SheetPart) (first last : Part) → node ≡ nodes.WholeRows sheet first last → NoneLoses run (whole Rows (corner_at (base_of home) (first_ref Rows sheet first)) (corner_at (base_of home) (last_ref Rows sheet last)))
+      → NoneLoses run (at_home home (relative node))
+  node-rows sheet first last is free = of_kind (nodes.WholeRows sheet first last) _ is (walking.relative-WholeRows sheet first last) free
+
+  pub node-cols : (sheet : SheetPart) (first last : Part) → node ≡ nodes.WholeCols sheet first last → NoneLoses run (whole Cols (corner_at (base_of home) (first_ref Cols sheet first)) (corner_at (base_of home) (last_ref Cols sheet last)))
+      → NoneLoses run (at_home home (relative node))
+  node-cols sheet first last is free = of_kind (nodes.WholeCols sheet first last) _ is (walking.relative-WholeCols sheet first last) free
 
   pub node-prefix : (o : _) (part : Rc Node Global) → node ≡ nodes.Prefix o part → NoneLoses run (at_home home (relative part.value)) → NoneLoses run (at_home home (relative node))
   node-prefix o part is free = of_kind (nodes.Prefix o part) _ is (walking.relative-Prefix o part) (freeing.free-prefix run o (at_home home (relative part.value)) free)

@@ -21,10 +21,11 @@ use tree_rewrite::replaced;
 /// [`tree_rewrite::backward`] over one after the other gives them, from the last to the first, but that only the last
 /// tree is made. A tree that an operation of the run lost something of is no more what it was.
 ///
-/// The operations are sound; the home, the references and the blocks of the tree lie within the limits of a sheet, and
-/// the home came from somewhere. A tree that stays the same as seen from its home is answered as it is, and the pool
+/// The operations are sound; the home, and the references, blocks and whole ranges of the tree lie within the limits of a
+/// sheet, and the home came from somewhere. A tree that stays the same as seen from its home is answered as it is, and the pool
 /// stays as it was; another one is shared in the pool. Where there is no memory the pool stays as it was. Costs about
-/// the nodes of the tree, and for each reference or block the operations back to the one before which it was nowhere.
+/// the nodes of the tree, and for each reference, block or whole range the operations back to the one before which it was
+/// nowhere.
 pub fn backward_over(
     alloc: Global,
     pool: &mut Pool,

@@ -1,10 +1,11 @@
 // The two directions over a run of operations.
 ghost use Rattle.std.specs.Prelude.{◌≡◌, ◌≤◌, length, take};
+ghost use Rattle.cell_addr.specs.Place.{IsBlockInside};
 ghost use Rattle.run_walk.specs.Run.{AreSound};
 
-use crate::run::{block_back, front, place_back};
-use crate::way::{Way, block_by, place_by};
-use cell_addr::{Block, Place};
+use crate::run::{area_back, front, place_back};
+use crate::way::{Way, area_by, place_by};
+use cell_addr::{Axis, Block, Place};
 
 // A direction over a run.
 #[derive(Clone, Copy)]
@@ -16,7 +17,7 @@ pub(crate) enum Direction {
 }
 
 impl Direction {
-    ghost use Rattle.run_walk.specs.internal.Walked.{block_along, place_along};
+    ghost use Rattle.run_walk.specs.internal.Walked.{area_along, place_along};
 
     // Where the first `count` operations of the way take a place; None where it is lost, or came from nowhere.
     pub(crate) fn place<W: Way>(self, way: &W, count: usize, p: Place) -> Option<Place>
@@ -30,15 +31,23 @@ impl Direction {
         }
     }
 
-    // Where they take a block; None where it is lost, or an end of it came from nowhere.
-    pub(crate) fn block<W: Way>(self, way: &W, count: usize, b: Block) -> Option<Block>
+    // Where they take a block, or as its block a whole range along an axis; None where it is lost, or an end of it came
+    // from nowhere.
+    pub(crate) fn area<W: Way>(
+        self,
+        way: &W,
+        count: usize,
+        lines: Option<Axis>,
+        b: Block,
+    ) -> Option<Block>
         requires sound { AreSound (W.shifts way.now) }
         requires within { count ≤ length (W.shifts way.now) }
-        ensures { result ≡ block_along self (take count (W.shifts way.now)) b }
+        requires inside { IsBlockInside b }
+        ensures { result ≡ area_along self (take count (W.shifts way.now)) lines b }
     {
         match self {
-            Direction::Forward => block_by(way, count, b),
-            Direction::Backward => block_back(front(way.run(), count), b),
+            Direction::Forward => area_by(way, count, lines, b),
+            Direction::Backward => area_back(front(way.run(), count), lines, b),
         }
     }
 }

@@ -19,10 +19,10 @@ use tree_rewrite::replaced;
 /// The tree and the home of a formula after all operations of the run: as [`tree_rewrite::forward`] over one after the
 /// other gives them, but that only the last tree is made.
 ///
-/// The operations are sound; the home, the references and the blocks of the tree lie within the limits of a sheet, and
-/// no operation loses the home. A tree that stays the same as seen from its home is answered as it is, and the pool
+/// The operations are sound; the home, and the references, blocks and whole ranges of the tree lie within the limits of a
+/// sheet, and no operation loses the home. A tree that stays the same as seen from its home is answered as it is, and the pool
 /// stays as it was; another one is shared in the pool. Where there is no memory the pool stays as it was. Costs about
-/// the nodes of the tree, and for each reference or block the operations up to the one that loses it.
+/// the nodes of the tree, and for each reference, block or whole range the operations up to the one that loses it.
 pub fn forward_over(
     alloc: Global,
     pool: &mut Pool,
@@ -44,8 +44,8 @@ pub fn forward_over(
     forward_by(alloc, pool, tree, home, &Steps::over(run), run.len())
 }
 
-/// The same after the first `count` operations of the way. For each reference or block it costs what the way does where
-/// that tells, and else the operations.
+/// The same after the first `count` operations of the way. For each reference, block or whole range it costs what the way
+/// does where that tells, and else the operations.
 pub fn forward_by<W: Way>(
     alloc: Global,
     pool: &mut Pool,

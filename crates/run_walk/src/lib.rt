@@ -7,8 +7,8 @@
 //! takes tree and home back over a run, as [`tree_rewrite::backward`] over one after the other would, from the last to
 //! the first.
 //!
-//! Whoever takes many formulas over one run can have a [`Way`] made for it, which answers for places and blocks without
-//! a look at each operation; [`free_by`] and [`forward_by`] go by that.
+//! Whoever takes many formulas over one run can have a [`Way`] made for it, which answers for places, blocks and whole
+//! ranges without a look at each operation; [`free_by`] and [`forward_by`] go by that.
 //!
 //! A row inserted before row 2, another one, and then row 5 deleted, seen from cell A1 (rows counted from 1):
 //!
@@ -18,6 +18,7 @@
 //! ```
 #![tactic(auto)]
 
+mod areas;
 mod backward;
 mod direction;
 mod forward;
@@ -26,8 +27,9 @@ mod run;
 mod walk;
 mod way;
 
+pub use areas::carried_area;
 pub use backward::backward_over;
 pub use forward::{forward_by, forward_over};
-pub use free::{carried_block, free_by, free_run};
+pub use free::{free_by, free_run};
 pub use run::{home_back, home_over};
 pub use way::{Steps, Way};

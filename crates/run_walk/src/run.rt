@@ -1,11 +1,13 @@
-// Places, blocks and homes over runs of operations.
+// Places, blocks, whole ranges and homes over runs of operations.
 ghost use Rattle.std.specs.Prelude.{◌≡◌, ◌≤◌, length, take};
+ghost use Rattle.cell_addr.specs.Place.{IsBlockInside};
 ghost use Rattle.shift_core.specs.Carried.{first_place, last_place};
-ghost use Rattle.run_walk.specs.Run.{AreSound, block_back, block_over, home_back, home_over, place_back, place_over};
+ghost use Rattle.run_walk.specs.Run.{AreSound, area_back, area_over, home_back, home_over, place_back, place_over};
 
-use cell_addr::{Block, Place};
+use crate::areas::{back_area, moved_area};
+use cell_addr::{Axis, Block, Place};
 use formula_tree::Home;
-use shift_core::{Shift, back_block, back_place, moved_block, moved_place};
+use shift_core::{Shift, back_place, moved_place};
 
 // So many operations from the front of the run.
 pub(crate) fn front(run: &[Shift], count: usize) -> &[Shift]
@@ -29,14 +31,15 @@ pub(crate) fn place_over(run: &[Shift], p: Place) -> Option<Place>
     Some(at)
 }
 
-// Where they take the block; None where one of them loses it.
-pub(crate) fn block_over(run: &[Shift], b: Block) -> Option<Block>
-    requires { AreSound run.now }
-    ensures { result ≡ block_over run.now b }
+// Where they take the block, or as its block the whole range along an axis; None where one of them loses it.
+pub(crate) fn area_over(run: &[Shift], lines: Option<Axis>, b: Block) -> Option<Block>
+    requires sound { AreSound run.now }
+    requires inside { IsBlockInside b }
+    ensures { result ≡ area_over run.now lines b }
 {
     let mut at = b;
     'run: for s in run {
-        at = moved_block(s, at)?;
+        at = moved_area(s, lines, at)?;
     }
     Some(at)
 }
@@ -65,14 +68,15 @@ pub(crate) fn place_back(run: &[Shift], p: Place) -> Option<Place>
     Some(at)
 }
 
-// Where the block was before them; None where one of its ends came from nowhere.
-pub(crate) fn block_back(run: &[Shift], b: Block) -> Option<Block>
-    requires { AreSound run.now }
-    ensures { result ≡ block_back run.now b }
+// Where the block, or the whole range, was before them; None where one of its ends came from nowhere.
+pub(crate) fn area_back(run: &[Shift], lines: Option<Axis>, b: Block) -> Option<Block>
+    requires sound { AreSound run.now }
+    requires inside { IsBlockInside b }
+    ensures { result ≡ area_back run.now lines b }
 {
     let mut at = b;
     'run: for index in (0..run.len()).rev() {
-        at = back_block(&run[index], at)?;
+        at = back_area(&run[index], lines, at)?;
     }
     Some(at)
 }

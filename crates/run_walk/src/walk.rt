@@ -1,7 +1,8 @@
-// References and blocks taken over a run of operations.
+// References, blocks and whole ranges taken over a run of operations.
 use crate::direction::Direction;
 use crate::run::{first_place, last_place};
 use crate::way::Way;
+use cell_addr::Axis;
 use cell_value::FaultKind;
 use formula_tree::{Corner, Home, Node, Ref};
 use tree_rewrite::{Replacement, changed_area, changed_cell};
@@ -22,11 +23,11 @@ impl<'a, W: Way> Replacement for Walk<'a, W> {
 
     ghost TakesCell = { λ w r. TakesCell (W.shifts w.way.now) w.count w.from w.to r };
 
-    ghost TakesArea = { λ w r q. TakesArea (W.shifts w.way.now) w.count w.from w.to r q };
+    ghost TakesArea = { λ w lines r q. TakesArea (W.shifts w.way.now) w.count w.from w.to lines r q };
 
     ghost for_cell = { λ w r. cell_walked w.direction (take w.count (W.shifts w.way.now)) w.from w.to r };
 
-    ghost for_area = { λ w r q. area_walked w.direction (take w.count (W.shifts w.way.now)) w.from w.to r q };
+    ghost for_area = { λ w lines r q. area_walked w.direction (take w.count (W.shifts w.way.now)) w.from w.to lines r q };
 
     fn reference(&self, reference: Ref) -> Option<Node> {
         let corner = reference.at(self.from);
@@ -37,28 +38,21 @@ impl<'a, W: Way> Replacement for Walk<'a, W> {
         changed_cell(new, reference)
     }
 
-    fn area(&self, first: Ref, last: Ref) -> Option<Node> {
+    fn area(&self, lines: Option<Axis>, first: Ref, last: Ref) -> Option<Node> {
         let (top, bottom) = (first.at(self.from), last.at(self.from));
-        let Some(block) = self
-            .direction
-            .block(self.way, self.count, top.block_to(bottom))
-        else {
+        let block = top.block_to(bottom);
+        let Some(block) = self.direction.area(self.way, self.count, lines, block) else {
             return Some(Node::Fault(FaultKind::Ref));
         };
-        let new_first = Ref::of(
-            Corner {
-                at: first_place(block),
-                ..top
-            },
-            self.to,
-        );
-        let new_last = Ref::of(
-            Corner {
-                at: last_place(block),
-                ..bottom
-            },
-            self.to,
-        );
-        changed_area((new_first, new_last), (first, last))
+        let top = Corner {
+            at: first_place(block),
+            ..top
+        };
+        let bottom = Corner {
+            at: last_place(block),
+            ..bottom
+        };
+        let (new_first, new_last) = (Ref::of(top, self.to), Ref::of(bottom, self.to));
+        changed_area(lines, (new_first, new_last), (first, last))
     }
 }

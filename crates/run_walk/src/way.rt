@@ -1,16 +1,17 @@
 // Ways over a run of operations.
 ghost use Rattle.std.specs.Prelude.{◌≡◌, ◌≤◌, List, Some, IfSome, length, take};
-ghost use Rattle.run_walk.specs.Run.{AreSound, IsCarriedOver, block_over, home_over, place_over};
+ghost use Rattle.cell_addr.specs.Place.{IsBlockInside};
+ghost use Rattle.run_walk.specs.Run.{AreSound, IsCarriedOver, area_over, home_over, place_over};
 ghost use Rattle.shift_core.specs.declared.shift.Shift.{Shift};
 
 use crate::run;
 use crate::run::front;
-use cell_addr::{Block, Place};
+use cell_addr::{Axis, Block, Place};
 use formula_tree::Home;
 use shift_core::Shift;
 
-/// How places and blocks go over a run of operations, for whoever takes many formulas over the same run. A way may leave
-/// out operations that it knows to leave a place or a block alone; where it doesn't tell, the operations are taken one
+/// How places, blocks and whole ranges go over a run of operations, for whoever takes many formulas over the same run. A
+/// way may leave out operations that it knows to leave one of these alone; where it doesn't tell, the operations are taken one
 /// after the other.
 pub trait Way {
     // The operations.
@@ -26,13 +27,15 @@ pub trait Way {
         requires within { count ≤ length (shifts self.now) }
         ensures { IfSome result (λ to. place_over (take count (shifts self.now)) p ≡ Some to) };
 
-    /// Where the first `count` operations take the block, if each of them gives it back; `None` where one of them doesn't,
-    /// or the way doesn't tell.
-    fn carried(&self, count: usize, b: Block) -> Option<Block>
+    /// Where the first `count` operations take the block, or as its block the whole range along an axis, if each of them
+    /// gives it back; `None` where one of them doesn't, or the way doesn't tell. The block lies within the limits of a
+    /// sheet.
+    fn carried(&self, count: usize, lines: Option<Axis>, b: Block) -> Option<Block>
         requires sound { AreSound (shifts self.now) }
         requires within { count ≤ length (shifts self.now) }
-        ensures over { IfSome result (λ to. block_over (take count (shifts self.now)) b ≡ Some to) }
-        ensures back { IfSome result (λ to. IsCarriedOver (take count (shifts self.now)) b) };
+        requires inside { IsBlockInside b }
+        ensures over { IfSome result (λ to. area_over (take count (shifts self.now)) lines b ≡ Some to) }
+        ensures back { IfSome result (λ to. IsCarriedOver (take count (shifts self.now)) lines b) };
 }
 
 /// The way over a run that takes all operations one after the other, for a single formula.
@@ -61,7 +64,7 @@ impl<'a> Way for Steps<'a> {
         None
     }
 
-    fn carried(&self, _count: usize, _b: Block) -> Option<Block> {
+    fn carried(&self, _count: usize, _lines: Option<Axis>, _b: Block) -> Option<Block> {
         None
     }
 }
@@ -78,15 +81,16 @@ pub(crate) fn place_by<W: Way>(way: &W, count: usize, p: Place) -> Option<Place>
     }
 }
 
-// Where they take the block; None where one of them loses it.
-pub(crate) fn block_by<W: Way>(way: &W, count: usize, b: Block) -> Option<Block>
+// Where they take the block, or the whole range; None where one of them loses it.
+pub(crate) fn area_by<W: Way>(way: &W, count: usize, lines: Option<Axis>, b: Block) -> Option<Block>
     requires sound { AreSound (W.shifts way.now) }
     requires within { count ≤ length (W.shifts way.now) }
-    ensures { result ≡ block_over (take count (W.shifts way.now)) b }
+    requires inside { IsBlockInside b }
+    ensures { result ≡ area_over (take count (W.shifts way.now)) lines b }
 {
-    match way.carried(count, b) {
+    match way.carried(count, lines, b) {
         Some(to) => Some(to),
-        None => run::block_over(front(way.run(), count), b),
+        None => run::area_over(front(way.run(), count), lines, b),
     }
 }
 

@@ -1,135 +1,138 @@
--- Steps over the operations of a run, of which a sheet's list has those that it meets. Serves the walk over the list.
-use Rattle.std.proofs.Common.{◌≡◌, ◌∙◌, sym, ap, refl, subst, arith, ℕ, zero, suc, ◌+◌, ◌-◌, ◌<◌, ◌≤◌, Bool, true, false, List, [], ◌∷◌, length, take, drop, drop-drop, MatchOption, Some, option_and_then}
+-- Steps over the operations of a run, of which lists have what is picked from them. Serves the walk over the lists.
+use Rattle.std.proofs.Common.{◌≡◌, ◌∙◌, sym, ap, refl, subst, arith, ℕ, zero, suc, ◌+◌, ◌-◌, ◌<◌, ◌≤◌, inl, inr, List, [], ◌∷◌, length, take, drop, drop-drop, MatchOption, Option, Some, None, option_and_then}
+use Rattle.cell_addr.specs.declared.axis.Axis.{Axis}
 use Rattle.cell_addr.specs.declared.place.Block.{Block}
 use Rattle.cell_addr.specs.declared.place.Place.{Place}
-use Rattle.run_walk.specs.Run.{AreSound, IsCarriedOver, block_over, place_over}
-use Rattle.shift_core.specs.Sound.{IsSound}
-use Rattle.shift_core.specs.Tables.{block_before}
+use Rattle.run_walk.specs.Run.{AreSound, IsCarriedOver, area_over, place_over}
 use Rattle.shift_core.specs.declared.shift.Shift.{Shift}
+use Rattle.tree_rewrite.specs.Rewritten.{area_before}
 use Rattle.sheet_shifts.specs.Listed.{listed}
-use Rattle.sheet_shifts.specs.Met.{meets}
 use Rattle.sheet_shifts.specs.declared.entry.Entry.{Entry}
-use Rattle.sheet_shifts.specs.internal.Going.{CarriesBlock, GoesBy, TakesPlace, part}
+use Rattle.sheet_shifts.specs.internal.Going.{ByPicked, CarriesArea, GoesBy, IsPast, TakesPlace, Walks, part}
 use Rattle.sheet_shifts.proofs.Listing.{entry, in_front}
+
+-- ---- lists and indices
+
+module _ {Y : Type 0} where
+  past-less : (less to : ℕ) (es : List (Entry Y)) → less ≤ to → IsPast to es → IsPast less es
+  past-less less to [] up past = tt
+  past-less less to (e ∷ es) up past = omega (arith, up, past)
+
+  past-in : (i : ℕ) (o : Option Y) (rest : List (Entry Y)) → IsPast (i + 1) rest → IsPast i (in_front i o rest)
+  past-in i (Some y) rest past = omega arith
+  past-in i None rest past = past-less i (i + 1) rest (omega arith) past
+
+  -- a list's first operation has the index of the run's first one, or a later one
+  pub past-first : (pick : Shift → Option Y) (i : ℕ) (xs : List Shift) → IsPast i (listed pick i xs)
+  past-first pick i [] = tt
+  past-first pick i (s ∷ xs) = past-in i (pick s) (listed pick (i + 1) xs) (past-first pick (i + 1) xs)
+
+-- ---- walks over a list
+
+module _ {X Y : Type 0} (Step : Y → X → X → Type 0) (to : ℕ) where
+  -- at its end
+  pub walks-end : (es : List (Entry Y)) (x : X) → IsPast to es → Walks Step to es x x es
+  walks-end [] x past = (refl, refl)
+  walks-end (e ∷ es) x past = inl (past, refl, refl)
+
+  -- a walk past the end stays
+  walks-still : (es : List (Entry Y)) (x y : X) (rest : List (Entry Y)) → IsPast to es → Walks Step to es x y rest → (x ≡ y) × (rest ≡ es)
+  walks-still [] x y rest past w = w
+  walks-still (e ∷ es) x y rest past (inl w) = (w.1, w.2)
+  walks-still (e ∷ es) x y rest past (inr w) = absurd (let low = w.0 in omega (arith, low, past))
+
+module _ {X Y : Type 0} (pick : Shift → Option Y) (Step : Y → X → X → Type 0) where
+  walk-in : (i n : ℕ) (s : Shift) (xs : List Shift) → ((x y : X) (rest : List (Entry Y)) → Walks Step (i + 1 + n) (listed pick (i + 1) xs) x y rest → GoesBy (ByPicked pick Step) (take n xs) x y × (rest ≡ listed pick (i + 1 + n) (drop n xs)))
+      → (o : Option Y) → pick s ≡ o → (x y : X) (rest : List (Entry Y)) → Walks Step (i + suc n) (in_front i o (listed pick (i + 1) xs)) x y rest
+      → GoesBy (ByPicked pick Step) (s ∷ take n xs) x y × (rest ≡ listed pick (i + suc n) (drop n xs))
+  walk-in i n s xs each None is x y rest w =
+      let at : i + suc n ≡ i + 1 + n = omega arith in
+      let on = each x y rest (subst (λ k. Walks Step k (listed pick (i + 1) xs) x y rest) at w) in
+      ((x, (subst (λ o. MatchOption o (x ≡ x) (λ what. Step what x x)) (sym is) refl, on.0)), on.1 ∙ ap (λ k. listed pick k (drop n xs)) (sym at))
+  walk-in i n s xs each (Some what) is x y rest (inl w) = absurd (let low = w.0 in omega (arith, low))
+  walk-in i n s xs each (Some what) is x y rest (inr w) =
+      let at : i + suc n ≡ i + 1 + n = omega arith in
+      let z = w.1.0 in
+      let on = each z y rest (subst (λ k. Walks Step k (listed pick (i + 1) xs) z y rest) at w.1.1.1) in
+      ((z, (subst (λ o. MatchOption o (x ≡ z) (λ e. Step e x z)) (sym is) w.1.1.0, on.0)), on.1 ∙ ap (λ k. listed pick k (drop n xs)) (sym at))
+
+  -- a walk over the list goes by what is picked from the run, and the list is left from the index on
+  walk-from : (n i : ℕ) (xs : List Shift) (x y : X) (rest : List (Entry Y)) → Walks Step (i + n) (listed pick i xs) x y rest → GoesBy (ByPicked pick Step) (take n xs) x y × (rest ≡ listed pick (i + n) (drop n xs))
+  walk-from zero i xs x y rest w =
+      let at : i ≡ i + 0 = omega arith in
+      let still = walks-still Step (i + 0) (listed pick i xs) x y rest (subst (λ k. IsPast k (listed pick i xs)) at (past-first pick i xs)) w in
+      (still.0, still.1 ∙ ap (λ k. listed pick k xs) at)
+  walk-from (suc n) i [] x y rest w = w
+  walk-from (suc n) i (s ∷ xs) x y rest w = walk-in i n s xs (walk-from n (i + 1) xs) (pick s) refl x y rest w
+
+  pub walk-goes : (run : List Shift) (index to : ℕ) (x y : X) (list rest : List (Entry Y)) → index ≤ to → list ≡ listed pick index (drop index run) → Walks Step to list x y rest
+      → GoesBy (ByPicked pick Step) (part index to run) x y × (rest ≡ listed pick to (drop to run))
+  walk-goes run index to x y list rest order is w =
+      let n = to - index in
+      let there : index + n ≡ to = omega (arith, order) in
+      let from : Walks Step (index + n) (listed pick index (drop index run)) x y rest = subst (λ k. Walks Step k (listed pick index (drop index run)) x y rest) (sym there) (subst (λ l. Walks Step to l x y rest) is w) in
+      let on = walk-from n index (drop index run) x y rest from in
+      (on.0, on.1 ∙ ap (listed pick (index + n)) (drop-drop n index run) ∙ ap (λ k. listed pick k (drop k run)) there)
+
+-- ---- runs joined
+
+module _ {X : Type 0} (Step : Shift → X → X → Type 0) where
+  goes-none : (n : ℕ) (x y : X) → x ≡ y → GoesBy Step (take n []) x y
+  goes-none zero x y is = is
+  goes-none (suc n) x y is = is
+
+  none-goes : (n : ℕ) (x y : X) → GoesBy Step (take n []) x y → x ≡ y
+  none-goes zero x y goes = goes
+  none-goes (suc n) x y goes = goes
+
+  join : (n m : ℕ) (xs : List Shift) (x y z : X) → GoesBy Step (take n xs) x y → GoesBy Step (take m (drop n xs)) y z → GoesBy Step (take (n + m) xs) x z
+  join zero m xs x y z one two =
+      let all : m ≡ 0 + m = omega arith in
+      subst (λ k. GoesBy Step (take k xs) x z) all (subst (λ w. GoesBy Step (take m xs) w z) (sym one) two)
+  join (suc n) m [] x y z one two = goes-none (suc n + m) x z (one ∙ none-goes m y z two)
+  join (suc n) m (s ∷ xs) x y z one two =
+      let more : suc (n + m) ≡ suc n + m = omega arith in
+      subst (λ k. GoesBy Step (take k (s ∷ xs)) x z) more (one.0, (one.1.0, join n m xs one.0 y z one.1.1 two))
+
+  -- from one index to a later one, and on from there
+  pub goes-joined : (run : List Shift) (a b c : ℕ) (x y z : X) → a ≤ b → b ≤ c → GoesBy Step (part a b run) x y → GoesBy Step (part b c run) y z → GoesBy Step (part a c run) x z
+  goes-joined run a b c x y z low high one two =
+      let there : a + (b - a) ≡ b = omega (arith, low) in
+      let count : b - a + (c - b) ≡ c - a = omega (arith, low, high) in
+      let behind : drop b run ≡ drop (b - a) (drop a run) = sym (drop-drop (b - a) a run ∙ ap (λ k. drop k run) there) in
+      subst (λ n. GoesBy Step (take n (drop a run)) x z) count
+      (join (b - a) (c - b) (drop a run) x y z one (subst (λ r. GoesBy Step (take (c - b) r) y z) behind two))
+
+  -- by the operation at the index, and on from there
+  pub goes-first : (run : List Shift) (index to : ℕ) (s : Shift) (xs : List Shift) (x y z : X) → drop index run ≡ s ∷ xs → index < to → Step s x y → GoesBy Step (part (index + 1) to run) y z → GoesBy Step (part index to run) x z
+  goes-first run index to s xs x y z is before step goes =
+      let count : suc (to - (index + 1)) ≡ to - index = omega (arith, before) in
+      let behind : drop (index + 1) run ≡ xs = sym (drop-drop 1 index run) ∙ ap (drop 1) is in
+      subst (λ n. GoesBy Step (take n (drop index run)) x z) count
+      (subst (λ r. GoesBy Step (take (suc (to - (index + 1))) r) x z) (sym is) (y, (step, subst (λ r. GoesBy Step (take (to - (index + 1)) r) y z) behind goes)))
 
 -- ---- the first operation of a list
 
--- it stands at its index, it is sound, and behind it comes the rest
-pub record IsFirst (h i : ℕ) (xs : List Shift) (e : Entry) (rest : List Entry) : Type 0 where
-  pub from : i ≤ e.index
-  pub within : e.index < i + length xs
-  pub sound : AreSound xs → IsSound e.shift
-  pub behind : (m : ℕ) → i + m ≡ e.index + 1 → rest ≡ listed h (e.index + 1) (drop m xs)
+-- it is the first one of the run, and behind it comes the rest
+pub record IsHead {Y : Type 0} (pick : Shift → Option Y) (xs : List Shift) (e : Entry Y) (rest : List (Entry Y)) : Type 0 where
+  pub shift : Shift
+  pub later : List Shift
+  pub is : xs ≡ shift ∷ later
+  pub picked : pick shift ≡ Some e.what
+  pub behind : rest ≡ listed pick (e.index + 1) later
 
-first-here : (h i : ℕ) (s : Shift) (xs : List Shift) (e : Entry) (rest : List Entry) → entry i s ∷ listed h (i + 1) xs ≡ e ∷ rest → IsFirst h i (s ∷ xs) e rest
-first-here h i s xs e rest is =
-    let same : entry i s ≡ e = cc in
-    let more : listed h (i + 1) xs ≡ rest = cc in
-    let place : i ≡ e.index = ap (λ (z : Entry). z.index) same in
-    record {
-      from = omega (arith, place);
-      within = omega (arith, place);
-      sound = λ sound. subst (λ (z : Entry). IsSound z.shift) same sound.0;
-      behind = λ m at.
-          let one : m ≡ 1 = omega (arith, at, place) in
-          sym more ∙ ap (λ k. listed h (k + 1) xs) place ∙ sym (ap (λ k. listed h (e.index + 1) (drop k (s ∷ xs))) one);
-    }
+head-in : {Y : Type 0} (pick : Shift → Option Y) (s : Shift) (ys : List Shift) (e : Entry Y) (rest : List (Entry Y)) (o : Option Y) → pick s ≡ o → in_front e.index o (listed pick (e.index + 1) ys) ≡ e ∷ rest → IsHead pick (s ∷ ys) e rest
+head-in {Y = Y} pick s ys e rest (Some y) on is =
+    let first : entry e.index y ≡ e = cc in
+    let more : listed pick (e.index + 1) ys ≡ rest = cc in
+    record { shift = s; later = ys; is = refl; picked = on ∙ ap (λ (z : Entry Y). Some z.what) first; behind = sym more }
+head-in pick s ys e rest None on is =
+    let past : IsPast (e.index + 1) (e ∷ rest) = subst (IsPast (e.index + 1)) is (past-first pick (e.index + 1) ys) in
+    absurd (omega (arith, past))
 
-first-later : (h i : ℕ) (s : Shift) (xs : List Shift) (e : Entry) (rest : List Entry) → IsFirst h (i + 1) xs e rest → IsFirst h i (s ∷ xs) e rest
-first-later h i s xs e rest f =
-    let from = f.from in
-    let within = f.within in
-    record {
-      from = omega (arith, from);
-      within = omega (arith, within);
-      sound = λ sound. f.sound sound.1;
-      behind = λ m at.
-          let less : m ≡ suc (m - 1) = omega (arith, at, from) in
-          f.behind (m - 1) (omega (arith, at, from)) ∙ sym (ap (λ k. listed h (e.index + 1) (drop k (s ∷ xs))) less);
-    }
-
-first-in : (h i : ℕ) (s : Shift) (xs : List Shift) (e : Entry) (rest : List Entry) → (listed h (i + 1) xs ≡ e ∷ rest → IsFirst h (i + 1) xs e rest) → (m : Bool) → in_front m (entry i s) (listed h (i + 1) xs) ≡ e ∷ rest → IsFirst h i (s ∷ xs) e rest
-first-in h i s xs e rest each true is = first-here h i s xs e rest is
-first-in h i s xs e rest each false is = first-later h i s xs e rest (each is)
-
-pub first : (h i : ℕ) (xs : List Shift) (e : Entry) (rest : List Entry) → listed h i xs ≡ e ∷ rest → IsFirst h i xs e rest
-first h i [] e rest is = absurd (let no : 0 ≡ suc (length rest) = ap length is in omega (arith, no))
-first h i (s ∷ xs) e rest is = first-in h i s xs e rest (first h (i + 1) xs e rest) (meets h s) is
-
--- ---- steps
-
-module _ {X : Type 0} (Step : Shift → X → X → Type 0) (h : ℕ) (x : X) (stays : (s : Shift) → meets h s ≡ false → Step s x x) where
-  none-in : (i : ℕ) (s : Shift) (xs rest : List Entry) (run : List Shift) → (xs ≡ [] → GoesBy Step run x x) → (m : Bool) → meets h s ≡ m → in_front m (entry i s) xs ≡ [] → GoesBy Step (s ∷ run) x x
-  none-in i s xs rest run each true on is = absurd (let no : suc (length xs) ≡ 0 = ap length is in omega (arith, no))
-  none-in i s xs rest run each false on is = (x, (stays s on, each is))
-
-  -- over operations of which none is listed nothing changes
-  still-none : (xs : List Shift) (i n : ℕ) → listed h i xs ≡ [] → GoesBy Step (take n xs) x x
-  still-none xs i zero is = refl
-  still-none [] i (suc n) is = refl
-  still-none (s ∷ xs) i (suc n) is = none-in i s (listed h (i + 1) xs) [] (take n xs) (still-none xs (i + 1) n) (meets h s) refl is
-
-  before-in : (i n : ℕ) (s : Shift) (later : List Entry) (run : List Shift) (e : Entry) (rest : List Entry) → (later ≡ e ∷ rest → i + 1 + n ≤ e.index → GoesBy Step run x x)
-      → (m : Bool) → meets h s ≡ m → in_front m (entry i s) later ≡ e ∷ rest → i + suc n ≤ e.index → GoesBy Step (s ∷ run) x x
-  before-in i n s later run e rest each true on is before = absurd (let same : entry i s ≡ e = cc in let place : i ≡ e.index = ap (λ (z : Entry). z.index) same in omega (arith, place, before))
-  before-in i n s later run e rest each false on is before = (x, (stays s on, each is (omega (arith, before))))
-
-  -- nor over those in front of the first one that is listed
-  still-before : (xs : List Shift) (i n : ℕ) (e : Entry) (rest : List Entry) → listed h i xs ≡ e ∷ rest → i + n ≤ e.index → GoesBy Step (take n xs) x x
-  still-before xs i zero e rest is before = refl
-  still-before [] i (suc n) e rest is before = refl
-  still-before (s ∷ xs) i (suc n) e rest is before = before-in i n s (listed h (i + 1) xs) (take n xs) e rest (still-before xs (i + 1) n e rest) (meets h s) refl is before
-
-  step-in : (i n m : ℕ) (s : Shift) (xs : List Shift) (e : Entry) (rest : List Entry) (z y : X)
-      → (listed h (i + 1) xs ≡ e ∷ rest → i + 1 + m ≡ e.index + 1 → m ≤ n → GoesBy Step (take (n - m) (drop m xs)) z y → GoesBy Step (take n xs) x y)
-      → Step e.shift x z → (b : Bool) → meets h s ≡ b → in_front b (entry i s) (listed h (i + 1) xs) ≡ e ∷ rest → i + suc m ≡ e.index + 1 → m ≤ n → GoesBy Step (take (n - m) (drop m xs)) z y → GoesBy Step (s ∷ take n xs) x y
-  step-in i n m s xs e rest z y each step true on is at short goes =
-      let same : entry i s ≡ e = cc in
-      let place : i ≡ e.index = ap (λ (w : Entry). w.index) same in
-      let none : m ≡ 0 = omega (arith, place, at) in
-      let all : n - m ≡ n = omega (arith, none) in
-      let first_step : Step s x z = subst (λ (w : Entry). Step w.shift x z) (sym same) step in
-      (z, (first_step, subst (λ r. GoesBy Step r z y) (λ j. take (all j) (drop (none j) xs)) goes))
-  step-in i n m s xs e rest z y each step false on is at short goes = (x, (stays s on, each is (omega (arith, at)) short goes))
-
-  step-at : (xs : List Shift) (i n m : ℕ) (e : Entry) (rest : List Entry) (z y : X) → listed h i xs ≡ e ∷ rest → i + suc m ≡ e.index + 1 → suc m ≤ n → Step e.shift x z → GoesBy Step (take (n - suc m) (drop (suc m) xs)) z y → GoesBy Step (take n xs) x y
-  step-at [] i n m e rest z y is at short step goes = absurd (let no : 0 ≡ suc (length rest) = ap length is in omega (arith, no))
-  step-at (s ∷ xs) i zero m e rest z y is at short step goes = absurd (omega (arith, short))
-  step-at (s ∷ xs) i (suc n) zero e rest z y is at short step goes =
-      let less : suc n - 1 ≡ n - 0 = omega arith in
-      step-in i n 0 s xs e rest z y (λ later place low g. absurd (let f = (first h (i + 1) xs e rest later).from in omega (arith, f, place))) step (meets h s) refl is at (omega arith)
-      (subst (λ k. GoesBy Step (take k xs) z y) less goes)
-  step-at (s ∷ xs) i (suc n) (suc m) e rest z y is at short step goes =
-      let less : suc n - suc (suc m) ≡ n - suc m = omega arith in
-      step-in i n (suc m) s xs e rest z y (λ later place low g. step-at xs (i + 1) n m e rest z y later place low step g) step (meets h s) refl is at (omega (arith, short))
-      (subst (λ k. GoesBy Step (take k (drop (suc m) xs)) z y) less goes)
-
-  module _ (run : List Shift) (index to : ℕ) where
-    -- nothing changes any more where no operation up to the end is listed
-    pub ends-none : listed h index (drop index run) ≡ [] → GoesBy Step (part index to run) x x
-    ends-none is = still-none (drop index run) index (to - index) is
-
-    pub ends-before : index ≤ to → (e : Entry) (rest : List Entry) → listed h index (drop index run) ≡ e ∷ rest → to ≤ e.index → GoesBy Step (part index to run) x x
-    ends-before order e rest is before = still-before (drop index run) index (to - index) e rest is (omega (arith, order, before))
-
-    -- from here by the first one that is listed, and on from there
-    pub goes-on : (e : Entry) (rest : List Entry) (z y : X) → listed h index (drop index run) ≡ e ∷ rest → e.index < to → Step e.shift x z → GoesBy Step (part (e.index + 1) to run) z y → GoesBy Step (part index to run) x y
-    goes-on e rest z y is before step goes =
-        let from = (first h index (drop index run) e rest is).from in
-        let m = e.index - index in
-        let at : index + suc m ≡ e.index + 1 = omega (arith, from) in
-        let count : to - (e.index + 1) ≡ to - index - suc m = omega (arith, from) in
-        let behind : drop (e.index + 1) run ≡ drop (suc m) (drop index run) = sym (drop-drop (suc m) index run ∙ ap (λ k. drop k run) at) in
-        step-at (drop index run) index (to - index) m e rest z y is at (omega (arith, from, before)) step (subst (λ r. GoesBy Step r z y) (λ j. take (count j) (behind j)) goes)
-
--- what is left of the list behind its first operation
-pub rest-on : (h : ℕ) (run : List Shift) (index : ℕ) (e : Entry) (rest : List Entry) → listed h index (drop index run) ≡ e ∷ rest → rest ≡ listed h (e.index + 1) (drop (e.index + 1) run)
-rest-on h run index e rest is =
-    let f = first h index (drop index run) e rest is in
-    let from = f.from in
-    let m = e.index + 1 - index in
-    let at : index + m ≡ e.index + 1 = omega (arith, from) in
-    f.behind m at ∙ ap (listed h (e.index + 1)) (drop-drop m index run ∙ ap (λ k. drop k run) at)
+pub head : {Y : Type 0} (pick : Shift → Option Y) (xs : List Shift) (e : Entry Y) (rest : List (Entry Y)) → listed pick e.index xs ≡ e ∷ rest → IsHead pick xs e rest
+head pick [] e rest is = absurd (let no : 0 ≡ suc (length rest) = ap length is in omega (arith, no))
+head pick (s ∷ ys) e rest is = head-in pick s ys e rest (pick s) refl is
 
 -- ---- what the steps say
 
@@ -137,12 +140,12 @@ pub place-goes : (run : List Shift) (p q : Place) → GoesBy TakesPlace run p q 
 place-goes [] p q goes = ap (λ x. Some x) goes
 place-goes (s ∷ run) p q goes = ap (option_and_then (place_over run)) goes.1.0 ∙ place-goes run goes.0 q goes.1.1
 
-pub block-goes : (run : List Shift) (b c : Block) → GoesBy CarriesBlock run b c → (block_over run b ≡ Some c) × IsCarriedOver run b
-block-goes [] b c goes = (ap (λ x. Some x) goes, tt)
-block-goes (s ∷ run) b c goes =
-    let rest = block-goes run goes.0 c goes.1.1 in (
-      ap (option_and_then (block_over run)) goes.1.0.0 ∙ rest.0,
-      subst (λ o. MatchOption o ⊥ (λ after. (block_before s after ≡ Some b) × IsCarriedOver run after)) (sym goes.1.0.0) (goes.1.0.1, rest.1),
+pub area-goes : (run : List Shift) (lines : Option Axis) (b c : Block) → GoesBy (CarriesArea lines) run b c → (area_over run lines b ≡ Some c) × IsCarriedOver run lines b
+area-goes [] lines b c goes = (ap (λ x. Some x) goes, tt)
+area-goes (s ∷ run) lines b c goes =
+    let rest = area-goes run lines goes.0 c goes.1.1 in (
+      ap (option_and_then (area_over run lines)) goes.1.0.0 ∙ rest.0,
+      subst (λ o. MatchOption o ⊥ (λ after. (area_before s lines after ≡ Some b) × IsCarriedOver run lines after)) (sym goes.1.0.0) (goes.1.0.1, rest.1),
     )
 
 -- the operations from an index on are sound

@@ -1,3 +1,4 @@
-pub mod Staying
 pub mod Listing
 pub mod Going
+pub mod Axes
+pub mod Ends

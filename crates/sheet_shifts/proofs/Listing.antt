@@ -1,81 +1,83 @@
--- The list of a sheet, taken apart at an index, and grown by an operation. Serves the making of lists and their search.
-use Rattle.std.proofs.Common.{◌≡◌, ◌∙◌, sym, ap, refl, arith, ℕ, zero, suc, ◌+◌, ◌-◌, ◌<◌, ◌≤◌, ◌⊎◌, inl, inr, Bool, true, false, List, [], ◌∷◌, ◌++◌, length, get_or, take, drop, nat_lt, if◌then◌else◌}
+-- A list of what is picked from a run, taken apart at an index, and grown by an operation. Serves the making of lists and
+-- their search.
+use Rattle.std.proofs.Common.{◌≡◌, ◌∙◌, sym, ap, refl, arith, ℕ, zero, suc, ◌+◌, ◌-◌, ◌<◌, ◌≤◌, ◌⊎◌, inl, inr, Bool, true, false, List, [], ◌∷◌, ◌++◌, length, get_or, take, drop, nat_lt, Option, Some, None}
 use Rattle.std.proofs.lemmas.Bool.{cases_lt}
 use Rattle.std.proofs.lemmas.Bool.Decides.{nat_tests}
-use Rattle.std.proofs.lemmas.List.{drop_all, length-take-le, take_more}
+use Rattle.std.proofs.lemmas.List.{drop_all, length-take-le, take_all, take_more}
 use Rattle.std.specs.List.{AllWithin}
 use Rattle.std.specs.List.Sorted.{IsPartitionedBy}
+use Rattle.std.specs.BTreeMap.{BTreeMap}
+use Rattle.std.specs.Global.{Global}
+use Rattle.std.specs.Option.{option_map_or}
+use Rattle.std.specs.Prelude.{Vec}
 use Rattle.shift_core.specs.declared.shift.Shift.{Shift}
-use Rattle.sheet_shifts.specs.Listed.{listed}
-use Rattle.sheet_shifts.specs.Met.{meets}
+use Rattle.sheet_shifts.specs.Listed.{ArePicked, list_in, listed, longer}
 use Rattle.sheet_shifts.specs.declared.entry.Entry.{Entry}
 
--- an operation at its index, in front of those behind it where it is listed
-abbrev pub entry : ℕ → Shift → Entry
-entry i s = record { index = i; shift = s }
+-- what is picked from an operation, at its index
+abbrev pub entry : {X : Type 0} → ℕ → X → Entry X
+entry i x = record { index = i; what = x }
 
-abbrev pub in_front : Bool → Entry → List Entry → List Entry
-in_front on e rest = if on then e ∷ rest else rest
+-- in front of those behind it, where something is picked
+abbrev pub in_front : {X : Type 0} → ℕ → Option X → List (Entry X) → List (Entry X)
+in_front i picked rest = option_map_or (λ x. entry i x ∷ rest) picked rest
 
--- behind those before it
-abbrev pub behind_all : Bool → List Entry → Entry → List Entry
-behind_all on front e = if on then front ++ e ∷ [] else front
+module _ {X : Type 0} where
+  -- ---- one operation more
 
--- ---- one operation more
+  one-more : (i : ℕ) (o : Option X) → in_front i o [] ≡ longer [] (i + 0) o
+  one-more i (Some x) = let e : i ≡ i + 0 = omega arith in ap (λ k. entry k x ∷ []) e
+  one-more i None = refl
 
-one-more : (i : ℕ) (s : Shift) (m : Bool) → in_front m (entry i s) [] ≡ behind_all m [] (entry (i + 0) s)
-one-more i s true = let e : i ≡ i + 0 = omega arith in ap (λ k. entry k s ∷ []) e
-one-more i s false = refl
+  some-more : (i n : ℕ) (old new : List (Entry X)) (m o : Option X) → new ≡ longer old (i + 1 + n) o → in_front i m new ≡ longer (in_front i m old) (i + suc n) o
+  some-more i n old new (Some z) (Some x) e = let at : i + 1 + n ≡ i + suc n = omega arith in ap (λ r. entry i z ∷ r) (e ∙ ap (λ j. old ++ entry j x ∷ []) at)
+  some-more i n old new (Some z) None e = ap (λ r. entry i z ∷ r) e
+  some-more i n old new None (Some x) e = let at : i + 1 + n ≡ i + suc n = omega arith in e ∙ ap (λ j. old ++ entry j x ∷ []) at
+  some-more i n old new None None e = e
 
-some-more : (i : ℕ) (z s : Shift) (n : ℕ) (old new : List Entry) (m k : Bool) → new ≡ behind_all k old (entry (i + 1 + n) s) → in_front m (entry i z) new ≡ behind_all k (in_front m (entry i z) old) (entry (i + suc n) s)
-some-more i z s n old new true true e = let at : i + 1 + n ≡ i + suc n = omega arith in ap (λ r. entry i z ∷ r) (e ∙ ap (λ j. old ++ entry j s ∷ []) at)
-some-more i z s n old new true false e = ap (λ r. entry i z ∷ r) e
-some-more i z s n old new false true e = let at : i + 1 + n ≡ i + suc n = omega arith in e ∙ ap (λ j. old ++ entry j s ∷ []) at
-some-more i z s n old new false false e = e
+  listed-more : (pick : Shift → Option X) (i : ℕ) (run : List Shift) (s : Shift) → listed pick i (run ++ s ∷ []) ≡ longer (listed pick i run) (i + length run) (pick s)
+  listed-more pick i [] s = one-more i (pick s)
+  listed-more pick i (z ∷ run) s = some-more i (length run) (listed pick (i + 1) run) (listed pick (i + 1) (run ++ s ∷ [])) (pick z) (pick s) (listed-more pick (i + 1) run s)
 
-listed-more : (h i : ℕ) (run : List Shift) (s : Shift) → listed h i (run ++ s ∷ []) ≡ behind_all (meets h s) (listed h i run) (entry (i + length run) s)
-listed-more h i [] s = one-more i s (meets h s)
-listed-more h i (z ∷ run) s = some-more i z s (length run) (listed h (i + 1) run) (listed h (i + 1) (run ++ s ∷ [])) (meets h z) (meets h s) (listed-more h (i + 1) run s)
+  pub listed-next : (pick : Shift → Option X) (run : List Shift) (i : ℕ) (d : Shift) → i < length run → listed pick 0 (take (i + 1) run) ≡ longer (listed pick 0 (take i run)) i (pick (get_or run i d))
+  listed-next pick run i d within =
+      let s = get_or run i d in
+      let short = length-take-le i run (omega (arith, within)) in
+      let at : 0 + length (take i run) ≡ i = omega (arith, short) in
+      ap (listed pick 0) (take_more run i d within) ∙ listed-more pick 0 (take i run) s ∙ ap (λ k. longer (listed pick 0 (take i run)) k (pick s)) at
 
-pub listed-next : (h : ℕ) (run : List Shift) (i : ℕ) (d : Shift) → i < length run → listed h 0 (take (i + 1) run) ≡ behind_all (meets h (get_or run i d)) (listed h 0 (take i run)) (entry i (get_or run i d))
-listed-next h run i d within =
-    let s = get_or run i d in
-    let short = length-take-le i run (omega (arith, within)) in
-    let at : 0 + length (take i run) ≡ i = omega (arith, short) in
-    ap (listed h 0) (take_more run i d within) ∙ listed-more h 0 (take i run) s ∙ ap (λ k. behind_all (meets h s) (listed h 0 (take i run)) (entry k s)) at
+  -- ---- indices
 
--- ---- indices
+  least-in : (i : ℕ) (rest : List (Entry X)) (d : Entry X) → ((j : ℕ) → j < length rest → i + 1 ≤ (get_or rest j d).index) → (o : Option X) (j : ℕ) → j < length (in_front i o rest) → i ≤ (get_or (in_front i o rest) j d).index
+  least-in i rest d each (Some x) zero low = omega arith
+  least-in i rest d each (Some x) (suc j) low = let e = each j (omega (arith, low)) in omega (arith, e)
+  least-in i rest d each None j low = let e = each j low in omega (arith, e)
 
-least-in : (i : ℕ) (s : Shift) (rest : List Entry) (d : Entry) → ((j : ℕ) → j < length rest → i + 1 ≤ (get_or rest j d).index) → (m : Bool) (j : ℕ) → j < length (in_front m (entry i s) rest) → i ≤ (get_or (in_front m (entry i s) rest) j d).index
-least-in i s rest d each true zero low = omega arith
-least-in i s rest d each true (suc j) low = let e = each j (omega (arith, low)) in omega (arith, e)
-least-in i s rest d each false j low = let e = each j low in omega (arith, e)
+  pub from-least : (pick : Shift → Option X) (run : List Shift) (i j : ℕ) (d : Entry X) → j < length (listed pick i run) → i ≤ (get_or (listed pick i run) j d).index
+  from-least pick [] i j d within = absurd (omega (arith, within))
+  from-least pick (s ∷ run) i j d within = least-in i (listed pick (i + 1) run) d (λ k low. from-least pick run (i + 1) k d low) (pick s) j within
 
-pub from-least : (h : ℕ) (run : List Shift) (i j : ℕ) (d : Entry) → j < length (listed h i run) → i ≤ (get_or (listed h i run) j d).index
-from-least h [] i j d within = absurd (omega (arith, within))
-from-least h (s ∷ run) i j d within = least-in i s (listed h (i + 1) run) d (λ k low. from-least h run (i + 1) k d low) (meets h s) j within
+  rising-in : (i : ℕ) (rest : List (Entry X)) (d : Entry X) → ((j : ℕ) → j < length rest → i + 1 ≤ (get_or rest j d).index) → ((j k : ℕ) → j ≤ k → k < length rest → (get_or rest j d).index ≤ (get_or rest k d).index)
+      → (o : Option X) (j k : ℕ) → j ≤ k → k < length (in_front i o rest) → (get_or (in_front i o rest) j d).index ≤ (get_or (in_front i o rest) k d).index
+  rising-in i rest d least each (Some x) zero zero up low = omega arith
+  rising-in i rest d least each (Some x) zero (suc k) up low = let e = least k (omega (arith, low)) in omega (arith, e)
+  rising-in i rest d least each (Some x) (suc j) zero up low = absurd (omega (arith, up))
+  rising-in i rest d least each (Some x) (suc j) (suc k) up low = each j k (omega (arith, up)) (omega (arith, low))
+  rising-in i rest d least each None j k up low = each j k up low
 
-rising-in : (i : ℕ) (s : Shift) (rest : List Entry) (d : Entry) → ((j : ℕ) → j < length rest → i + 1 ≤ (get_or rest j d).index) → ((j k : ℕ) → j ≤ k → k < length rest → (get_or rest j d).index ≤ (get_or rest k d).index)
-    → (m : Bool) (j k : ℕ) → j ≤ k → k < length (in_front m (entry i s) rest) → (get_or (in_front m (entry i s) rest) j d).index ≤ (get_or (in_front m (entry i s) rest) k d).index
-rising-in i s rest d least each true zero zero up low = omega arith
-rising-in i s rest d least each true zero (suc k) up low = let e = least k (omega (arith, low)) in omega (arith, e)
-rising-in i s rest d least each true (suc j) zero up low = absurd (omega (arith, up))
-rising-in i s rest d least each true (suc j) (suc k) up low = each j k (omega (arith, up)) (omega (arith, low))
-rising-in i s rest d least each false j k up low = each j k up low
-
-rising : (h : ℕ) (run : List Shift) (i j k : ℕ) (d : Entry) → j ≤ k → k < length (listed h i run) → (get_or (listed h i run) j d).index ≤ (get_or (listed h i run) k d).index
-rising h [] i j k d up within = absurd (omega (arith, within))
-rising h (s ∷ run) i j k d up within = rising-in i s (listed h (i + 1) run) d (λ a low. from-least h run (i + 1) a d low) (λ a b le low. rising h run (i + 1) a b d le low) (meets h s) j k up within
+  rising : (pick : Shift → Option X) (run : List Shift) (i j k : ℕ) (d : Entry X) → j ≤ k → k < length (listed pick i run) → (get_or (listed pick i run) j d).index ≤ (get_or (listed pick i run) k d).index
+  rising pick [] i j k d up within = absurd (omega (arith, within))
+  rising pick (s ∷ run) i j k d up within = rising-in i (listed pick (i + 1) run) d (λ a low. from-least pick run (i + 1) a d low) (λ a b le low. rising pick run (i + 1) a b d le low) (pick s) j k up within
 
 -- whether it stands before an index
-abbrev pub is_before : ℕ → Entry → Bool
+abbrev pub is_before : {X : Type 0} → ℕ → Entry X → Bool
 is_before from e = nat_lt e.index from
 
 still-before : (a b from : ℕ) → a ≤ b → nat_lt b from ≡ true → nat_lt a from ≡ true
 still-before a b from le low = grind (arith, nat_tests)
 
-pub is-parted : (h from : ℕ) (run : List Shift) → IsPartitionedBy (is_before from) (listed h 0 run)
-is-parted h from run = λ i j d up within low. still-before (get_or (listed h 0 run) i d).index (get_or (listed h 0 run) j d).index from (rising h run 0 i j d up within) low
+pub is-parted : {X : Type 0} (pick : Shift → Option X) (from : ℕ) (run : List Shift) → IsPartitionedBy (is_before from) (listed pick 0 run)
+is-parted pick from run = λ i j d up within low. still-before (get_or (listed pick 0 run) i d).index (get_or (listed pick 0 run) j d).index from (rising pick run 0 i j d up within) low
 
 -- ---- what stands from an index on
 
@@ -85,66 +87,81 @@ not-before i from off low = grind (arith, nat_tests)
 not-behind : (i from : ℕ) → nat_lt i from ≡ true → from ≤ i → ⊥
 not-behind i from on up = grind (arith, nat_tests)
 
-abbrev pub IsParted : ℕ → List Entry → ℕ → Type 0
+abbrev pub IsParted : {X : Type 0} → ℕ → List (Entry X) → ℕ → Type 0
 IsParted from es n = AllWithin (λ e. is_before from e ≡ true) es 0 n × AllWithin (λ e. is_before from e ≡ false) es n (length es)
 
-module _ (h from : ℕ) (s : Shift) (run : List Shift) (i : ℕ) where
-  abbrev later : List Entry
-  later = listed h (i + 1) run
+-- where all stand behind the index, none stands in front of it
+none-behind : {X : Type 0} (from n : ℕ) (es : List (Entry X)) → ((j : ℕ) (d : Entry X) → j < length es → from ≤ (get_or es j d).index) → 0 < length es → IsParted from es (suc n) → ⊥
+none-behind from n [] least some parts = absurd (omega (arith, some))
+none-behind from n (e ∷ es) least some parts = not-behind e.index from (parts.0 0 e (omega arith) (omega arith)) (least 0 e (omega arith))
 
-  here : (m : Bool) → meets h s ≡ m → from ≡ i → in_front m (entry i s) later ≡ listed h from (drop (from - i) (s ∷ run))
-  here m on same =
+module _ {X : Type 0} (pick : Shift → Option X) (from : ℕ) (s : Shift) (run : List Shift) (i : ℕ) where
+  abbrev later : List (Entry X)
+  later = listed pick (i + 1) run
+
+  here : (o : Option X) → pick s ≡ o → from ≡ i → in_front i o later ≡ listed pick from (drop (from - i) (s ∷ run))
+  here o on same =
       let none : from - i ≡ 0 = omega (arith, same) in
-      sym (ap (λ k. listed h from (drop k (s ∷ run))) none ∙ ap (λ j. listed h j (s ∷ run)) same ∙ ap (λ b. in_front b (entry i s) later) on)
+      sym (ap (λ k. listed pick from (drop k (s ∷ run))) none ∙ ap (λ j. listed pick j (s ∷ run)) same ∙ ap (λ b. in_front i b later) on)
 
-  on : i < from → listed h from (drop (from - (i + 1)) run) ≡ listed h from (drop (from - i) (s ∷ run))
-  on low = let one : from - i ≡ suc (from - (i + 1)) = omega (arith, low) in sym (ap (λ k. listed h from (drop k (s ∷ run))) one)
+  on : i < from → listed pick from (drop (from - (i + 1)) run) ≡ listed pick from (drop (from - i) (s ∷ run))
+  on low = let one : from - i ≡ suc (from - (i + 1)) = omega (arith, low) in sym (ap (λ k. listed pick from (drop k (s ∷ run))) one)
 
-  parted-in : ((k : ℕ) → k ≤ length later → i + 1 ≤ from → IsParted from later k → drop k later ≡ listed h from (drop (from - (i + 1)) run))
-      → (m : Bool) → meets h s ≡ m → (n : ℕ) → n ≤ length (in_front m (entry i s) later) → (i < from) ⊎ (from ≤ i) → i ≤ from → IsParted from (in_front m (entry i s) later) n
-      → drop n (in_front m (entry i s) later) ≡ listed h from (drop (from - i) (s ∷ run))
-  parted-in each true is zero within (inl low) up parts = absurd (not-before i from (parts.1 0 (entry i s) (omega arith) (omega arith)) low)
-  parted-in each true is zero within (inr high) up parts = here true is (omega (arith, high, up))
-  parted-in each true is (suc n) within (inl low) up parts =
+  parted-in : ((k : ℕ) → k ≤ length later → i + 1 ≤ from → IsParted from later k → drop k later ≡ listed pick from (drop (from - (i + 1)) run))
+      → (o : Option X) → pick s ≡ o → (n : ℕ) → n ≤ length (in_front i o later) → (i < from) ⊎ (from ≤ i) → i ≤ from → IsParted from (in_front i o later) n
+      → drop n (in_front i o later) ≡ listed pick from (drop (from - i) (s ∷ run))
+  parted-in each (Some x) is zero within (inl low) up parts = absurd (not-before i from (parts.1 0 (entry i x) (omega arith) (omega arith)) low)
+  parted-in each (Some x) is zero within (inr high) up parts = here (Some x) is (omega (arith, high, up))
+  parted-in each (Some x) is (suc n) within (inl low) up parts =
       each n (omega (arith, within)) (omega (arith, low)) ((λ k d a b. parts.0 (suc k) d (omega (arith, a)) (omega (arith, b))), (λ k d a b. parts.1 (suc k) d (omega (arith, a)) (omega (arith, b)))) ∙ on low
-  parted-in each true is (suc n) within (inr high) up parts = absurd (not-behind i from (parts.0 0 (entry i s) (omega arith) (omega arith)) high)
-  parted-in each false is n within (inl low) up parts = each n within (omega (arith, low)) parts ∙ on low
-  parted-in each false is zero within (inr high) up parts = here false is (omega (arith, high, up))
-  parted-in each false is (suc n) within (inr high) up parts =
-      let least = from-least h run (i + 1) 0 (entry i s) (omega (arith, within)) in
-      absurd (not-behind (get_or later 0 (entry i s)).index from (parts.0 0 (entry i s) (omega arith) (omega arith)) (omega (arith, high, least)))
+  parted-in each (Some x) is (suc n) within (inr high) up parts = absurd (not-behind i from (parts.0 0 (entry i x) (omega arith) (omega arith)) high)
+  parted-in each None is n within (inl low) up parts = each n within (omega (arith, low)) parts ∙ on low
+  parted-in each None is zero within (inr high) up parts = here None is (omega (arith, high, up))
+  parted-in each None is (suc n) within (inr high) up parts = absurd (none-behind from n later (λ j d low. let least = from-least pick run (i + 1) j d low in omega (arith, high, least)) (omega (arith, within)) parts)
 
-pub parted : (h from : ℕ) (run : List Shift) (i n : ℕ) → n ≤ length (listed h i run) → i ≤ from → from ≤ i + length run → IsParted from (listed h i run) n → drop n (listed h i run) ≡ listed h from (drop (from - i) run)
-parted h from [] i n within low high parts = drop_all n [] (omega arith) ∙ sym (ap (listed h from) (drop_all (from - i) [] (omega arith)))
-parted h from (s ∷ run) i n within low high parts =
-    parted-in h from s run i (λ k short up p. parted h from run (i + 1) k short up (omega (arith, high)) p) (meets h s) refl n within (cases_lt i from) low parts
+pub parted : {X : Type 0} (pick : Shift → Option X) (from : ℕ) (run : List Shift) (i n : ℕ) → n ≤ length (listed pick i run) → i ≤ from → from ≤ i + length run → IsParted from (listed pick i run) n → drop n (listed pick i run) ≡ listed pick from (drop (from - i) run)
+parted pick from [] i n within low high parts = drop_all n [] (omega arith) ∙ sym (ap (listed pick from) (drop_all (from - i) [] (omega arith)))
+parted pick from (s ∷ run) i n within low high parts =
+    parted-in pick from s run i (λ k short up p. parted pick from run (i + 1) k short up (omega (arith, high)) p) (pick s) refl n within (cases_lt i from) low parts
 
 -- ---- a slice to the end of a list
 
-abbrev the-empty : List Entry
-the-empty = []
+module _ {X : Type 0} where
+  abbrev the-empty : List (Entry X)
+  the-empty = []
 
-take-none : (n : ℕ) → take n the-empty ≡ the-empty
-take-none zero = refl
-take-none (suc n) = refl
+  take-none : (n : ℕ) → take n the-empty ≡ the-empty
+  take-none zero = refl
+  take-none (suc n) = refl
 
-take-whole : (es : List Entry) → take (length es) es ≡ es
-take-whole [] = refl
-take-whole (e ∷ es) = ap (λ r. e ∷ r) (take-whole es)
+  take-whole : (es : List (Entry X)) → take (length es) es ≡ es
+  take-whole [] = refl
+  take-whole (e ∷ es) = ap (λ r. e ∷ r) (take-whole es)
 
-pub take-rest : (n : ℕ) (es : List Entry) → take (length es - n) (drop n es) ≡ drop n es
-take-rest zero es = let all : length es - 0 ≡ length es = omega arith in ap (λ k. take k es) all ∙ take-whole es
-take-rest (suc n) [] = take-none (0 - suc n)
-take-rest (suc n) (e ∷ es) = let fewer : length (e ∷ es) - suc n ≡ length es - n = omega arith in ap (λ k. take k (drop n es)) fewer ∙ take-rest n es
+  pub take-rest : (n : ℕ) (es : List (Entry X)) → take (length es - n) (drop n es) ≡ drop n es
+  take-rest zero es = let all : length es - 0 ≡ length es = omega arith in ap (λ k. take k es) all ∙ take-whole es
+  take-rest (suc n) [] = take-none (0 - suc n)
+  take-rest (suc n) (e ∷ es) = let fewer : length (e ∷ es) - suc n ≡ length es - n = omega arith in ap (λ k. take k (drop n es)) fewer ∙ take-rest n es
 
 -- ---- sheets that no operation meets
 
-pub none-on : (h from : ℕ) (run : List Shift) → from ≤ length run → listed h 0 run ≡ [] → listed h from (drop from run) ≡ []
-none-on h from run within none =
-    let long : length (listed h 0 run) ≡ 0 = ap length none in
+pub none-on : {X : Type 0} (pick : Shift → Option X) (from : ℕ) (run : List Shift) → from ≤ length run → listed pick 0 run ≡ [] → listed pick from (drop from run) ≡ []
+none-on pick from run within none =
+    let long : length (listed pick 0 run) ≡ 0 = ap length none in
     let whole : from - 0 ≡ from = omega arith in
-    sym (parted h from run 0 0 (omega arith) (omega arith) (omega (arith, within)) ((λ k d a b. absurd (omega (arith, b))), (λ k d a b. absurd (omega (arith, b, long)))) ∙ ap (λ k. listed h from (drop k run)) whole) ∙ none
+    sym (parted pick from run 0 0 (omega arith) (omega arith) (omega (arith, within)) ((λ k d a b. absurd (omega (arith, b))), (λ k d a b. absurd (omega (arith, b, long)))) ∙ ap (λ k. listed pick from (drop k run)) whole) ∙ none
 
-pub no-entries : (es : List Entry) → length es ≡ 0 → es ≡ []
-no-entries [] none = refl
-no-entries (e ∷ es) none = absurd (omega (arith, none))
+-- ---- the lists of all sheets
+
+module _ {X : Type 0} (pick : ℕ → Shift → Option X) (run : List Shift) where
+  -- grown by the operation that comes next
+  pub picked-next : (i : ℕ) (s : Shift) (old new : BTreeMap ℕ (Vec (Entry X) Global)) → i < length run → s ≡ get_or run i s → ArePicked pick (take i run) old → ((sheet : ℕ) → list_in new sheet ≡ longer (list_in old sheet) i (pick sheet s)) → ArePicked pick (take (i + 1) run) new
+  picked-next i s old new within same is each = λ sheet.
+      each sheet
+      ∙ ap (λ l. longer l i (pick sheet s)) (is sheet)
+      ∙ ap (λ t. longer (listed (pick sheet) 0 (take i run)) i (pick sheet t)) same
+      ∙ sym (listed-next (pick sheet) run i s within)
+
+  -- those of all operations
+  pub picked-all : (n : ℕ) (lists : BTreeMap ℕ (Vec (Entry X) Global)) → length run ≤ n → ArePicked pick (take n run) lists → ArePicked pick run lists
+  picked-all n lists all is = λ sheet. is sheet ∙ ap (listed (pick sheet) 0) (take_all n run all)

@@ -1,2 +1,3 @@
 -- What only the proofs of bodies need.
 pub mod Going
+pub mod Left

@@ -1,18 +1,20 @@
 // The way over a listed run.
-ghost use Rattle.std.specs.Prelude.{◌≡◌, ◌≤◌, ◌<◌, ◌+◌, IfSome, length, drop};
+ghost use Rattle.std.specs.Prelude.{◌≡◌, ◌≤◌, ◌↔◌, IfSome, IsTrue, length, drop};
+ghost use Rattle.cell_addr.specs.Place.{IsBlockInside};
 ghost use Rattle.run_walk.specs.Run.{AreSound};
-ghost use Rattle.shift_core.specs.Sound.{IsSound};
-ghost use Rattle.sheet_shifts.specs.Listed.{listed};
-ghost use Rattle.sheet_shifts.specs.internal.Going.{CarriesBlock, GoesBy, TakesPlace, part};
+ghost use Rattle.sheet_shifts.specs.internal.Going.{CarriesArea, GoesBy, TakesPlace, part};
+ghost use Rattle.sheet_shifts.specs.internal.Left.{IsLeft};
+ghost use Rattle.tree_rewrite.specs.internal.Passage.{IsFull};
 
-use crate::entry::Entry;
-use crate::lists::SheetShifts;
-use cell_addr::{Block, Place};
-use run_walk::{Way, carried_block};
+use crate::left::{Left, first_before};
+use crate::shifts::SheetShifts;
+use cell_addr::{Axis, Block, Place};
+use run_walk::{Way, carried_area};
 use shift_core::{Shift, moved_place};
 
-/// The way over a listed run from one of its operations on. For a place or a block it costs the operations that meet its
-/// sheet, and a search in the sheet's list for each sheet that it comes to.
+/// The way over a listed run from one of its operations on. A place or a block costs the edits of its own rows and
+/// columns on the sheets that it comes to, and a whole range those of its own axis, each a few comparisons of numbers, the other operations that meet these sheets,
+/// and a search in the lists of each sheet that it comes to.
 #[derive(Clone, Copy)]
 pub struct Ahead<'a> {
     lists: &'a SheetShifts,
@@ -42,8 +44,11 @@ impl<'a> Way for Ahead<'a> {
         place_over(self.lists, self.from, self.from + count, p)
     }
 
-    fn carried(&self, count: usize, b: Block) -> Option<Block> {
-        block_over(self.lists, self.from, self.from + count, b)
+    fn carried(&self, count: usize, lines: Option<Axis>, b: Block) -> Option<Block> {
+        if !is_full(lines, b) {
+            return None;
+        }
+        area_over(self.lists, self.from, self.from + count, lines, b)
     }
 }
 
@@ -56,56 +61,87 @@ fn place_over(lists: &SheetShifts, from: usize, to: usize, p: Place) -> Option<P
 {
     let mut at = p;
     let mut index = from;
-    let mut left = lists.on_sheet(p.sheet, from);
-    'entries: while let Some((entry, rest)) = left.split_first() {
-        if to <= entry.index {
-            return Some(at);
-        }
-        let next = moved_place(&entry.shift, at)?;
-        index = entry.index + 1;
-        left = behind(lists, rest, index, at.sheet, next.sheet);
+    let mut left = lists.left(p.sheet, from);
+    'operations: while let Some((other, others)) = first_before(left.others, to) {
+        let (here, rest) = left.place_over(other.index, at)?;
+        let next = moved_place(&other.what, here)?;
+        index = other.index + 1;
+        left = behind(
+            lists,
+            Left { others, ..rest },
+            index,
+            here.sheet,
+            next.sheet,
+        );
         at = next;
     }
-    Some(at)
+    let (last, _) = left.place_over(to, at)?;
+    Some(last)
 }
 
-// Where they take the block, each of them giving it back; None where one of them doesn't.
-fn block_over(lists: &SheetShifts, from: usize, to: usize, b: Block) -> Option<Block>
+// Whether the block, where it is to stand for a whole range, reaches from one end of the sheet to the other.
+fn is_full(lines: Option<Axis>, b: Block) -> bool
+    requires { IsBlockInside b }
+    ensures { IsTrue result ↔ IsFull lines b }
+{
+    match lines {
+        None => true,
+        Some(axis) => b.whole(axis).block() == b,
+    }
+}
+
+// Where they take the block, or as its block the whole range along an axis, each of them giving it back; None where one of
+// them doesn't.
+fn area_over(
+    lists: &SheetShifts,
+    from: usize,
+    to: usize,
+    lines: Option<Axis>,
+    b: Block,
+) -> Option<Block>
     requires sound { AreSound (drop from lists.now.run.items) }
     requires order { from ≤ to }
     requires within { to ≤ length lists.now.run.items }
-    ensures { IfSome result (λ c. GoesBy CarriesBlock (part from to lists.now.run.items) b c) }
+    requires inside { IsBlockInside b }
+    requires full { IsFull lines b }
+    ensures { IfSome result (λ c. GoesBy (CarriesArea lines) (part from to lists.now.run.items) b c) }
 {
     let mut at = b;
     let mut index = from;
-    let mut left = lists.on_sheet(b.sheet, from);
-    'entries: while let Some((entry, rest)) = left.split_first() {
-        if to <= entry.index {
-            return Some(at);
-        }
-        let next = carried_block(&entry.shift, at)?;
-        index = entry.index + 1;
-        left = behind(lists, rest, index, at.sheet, next.sheet);
+    let mut left = lists.left(b.sheet, from);
+    'operations: while let Some((other, others)) = first_before(left.others, to) {
+        let (here, rest) = left.area_over(other.index, lines, at)?;
+        let next = carried_area(&other.what, lines, here)?;
+        index = other.index + 1;
+        left = behind(
+            lists,
+            Left { others, ..rest },
+            index,
+            here.sheet,
+            next.sheet,
+        );
         at = next;
     }
-    Some(at)
+    let (last, _) = left.area_over(to, lines, at)?;
+    Some(last)
 }
 
-// What is left to go by on a sheet that is come to, from the index on: the rest of the old list on the same sheet.
+// What is left to go by on the sheet that is come to, from the index on: what is left of the old one on the same sheet.
+#[inline(always)]
 fn behind<'a>(
     lists: &'a SheetShifts,
-    rest: &'a [Entry],
+    left: Left<'a>,
     index: usize,
     old: u32,
     sheet: u32,
-) -> &'a [Entry]
+) -> Left<'a>
     requires within { index ≤ length lists.now.run.items }
-    requires rest { rest.now ≡ listed old index (drop index lists.now.run.items) }
-    ensures { result.now ≡ listed sheet index (drop index lists.now.run.items) }
+    requires left { IsLeft lists.now.run.items old index left }
+    ensures { IsLeft lists.now.run.items sheet index result }
 {
     if sheet == old {
-        rest
+        left
     } else {
-        lists.on_sheet(sheet, index)
+        lists.left(sheet, index)
     }
 }

@@ -88,8 +88,19 @@ impl Edit {
         }
     }
 
-    // Where the edit moves a line of `limit` lines; None where it is lost.
-    pub(crate) fn line_after(self, limit: u32, line: u32) -> Option<u32>
+    /// Where the edit moves a line of the sheet's `limit` lines along its axis; `None` where the line is lost: deleted, or
+    /// pushed off the sheet's end. The edit is sound there. Takes no memory, and always costs the same.
+    #[inline(always)]
+    pub fn line_after(self, limit: u32, line: u32) -> Option<u32>
+        requires { IsSoundEdit limit self }
+        ensures { result ≡ line_after limit self line }
+    {
+        self.moved_line(limit, line)
+    }
+
+    // The same of an edit that need only be sound if it is a move.
+    #[inline(always)]
+    fn moved_line(self, limit: u32, line: u32) -> Option<u32>
         requires { MovesSoundly limit self }
         ensures { result ≡ line_after limit self line }
     {
@@ -109,11 +120,14 @@ impl Edit {
         requires { MovesSoundly limit self }
         ensures { result ≡ line_before limit self line }
     {
-        self.opposite().line_after(limit, line)
+        self.opposite().moved_line(limit, line)
     }
 
-    // Where the edit moves the ends of a block on `limit` lines; None where the block is lost.
-    pub(crate) fn span_after(self, limit: u32, span: Span) -> Option<Span>
+    /// Where the edit moves the ends of a block on the sheet's `limit` lines along its axis; `None` where the block is lost:
+    /// all of it deleted, or its first line pushed off the sheet's end. The edit is sound there. Takes no memory, and
+    /// always costs the same.
+    #[inline(always)]
+    pub fn span_after(self, limit: u32, span: Span) -> Option<Span>
         requires { IsSoundEdit limit self }
         ensures { result ≡ span_after limit self span }
     {
@@ -128,8 +142,10 @@ impl Edit {
         }
     }
 
-    // Which ends the edit moved to those of `span`; None where one of them was nowhere.
-    pub(crate) fn span_before(self, limit: u32, span: Span) -> Option<Span>
+    /// Which ends of a block the edit moved to those of `span`; `None` where one of them was nowhere: an inserted line, or
+    /// one that came from beyond the sheet's end. The edit is sound there. Takes no memory, and always costs the same.
+    #[inline(always)]
+    pub fn span_before(self, limit: u32, span: Span) -> Option<Span>
         requires { IsSoundEdit limit self }
         ensures { result ≡ span_before limit self span }
     {

@@ -1,4 +1,5 @@
 pub mod EachReferences
+pub mod WholeAreas
 pub mod Inside
 pub mod Parts
 pub mod Walking
@@ -6,5 +7,6 @@ pub mod Passing
 pub mod Levels
 pub mod OnSheets
 pub mod Returns
+pub mod NodesBack
 pub mod Pastes
 pub mod CallerLemmas

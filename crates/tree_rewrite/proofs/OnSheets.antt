@@ -8,16 +8,19 @@ use Rattle.cell_addr.specs.declared.axis.Axis.{Axis}
 use Rattle.cell_addr.specs.declared.axis.Span.{Span}
 use Rattle.cell_addr.specs.declared.place.Place.{Place}
 use Rattle.cell_addr.specs.declared.place.Block.{Block}
+use Rattle.cell_addr.specs.declared.whole.Whole.{Whole}
 use Rattle.cell_addr.specs.Axis.{line_of, with_line, span_of, with_span, limit_of}
 use Rattle.cell_addr.specs.Place.{covers}
+use Rattle.cell_addr.specs.Whole.{lines_of, sheet_block, whole_block, whole_of}
 use Rattle.formula_tree.specs.Reference.{block_of}
-use Rattle.formula_tree.specs.Term.{Term, number, text, truth, fault, cell, area, name, prefix, percent, binary, call, paren, Terms, no_terms, term}
+use Rattle.formula_tree.specs.Term.{Term, number, text, truth, fault, cell, area, whole, name, prefix, percent, binary, call, paren, Terms, no_terms, term, shaped}
 use Rattle.formula_tree.specs.declared.reference.Corner.{Corner}
 use Rattle.shift_core.specs.Carried.{contains, first_place, last_place, carried_place, carried_block, destination}
 use Rattle.shift_core.specs.Form.{form_of}
 use Rattle.shift_core.specs.Lines.{line_after, line_before}
 use Rattle.shift_core.specs.Spans.{span_after, span_before}
 use Rattle.shift_core.specs.Tables.{place_moved, place_returned, block_moved, block_returned}
+use Rattle.shift_core.specs.Wholes.{runs_across, whole_moved, whole_returned, whole_after, whole_before}
 use Rattle.shift_core.specs.declared.form.Form.{Form}
 use Rattle.shift_core.specs.declared.form.Form.TheVariants.{Lines, Cells, Sheet}
 use Rattle.shift_core.specs.declared.shift.Shift.{Shift}
@@ -27,7 +30,7 @@ use Rattle.tree_rewrite.specs.Rewritten.{cell_at, area_at, rewritten}
 use Rattle.tree_rewrite.specs.Sheets.{HasSheet, SomeHasSheet, LeadsOnForm, Leads}
 use Rattle.tree_rewrite.specs.declared.direction.Direction.{Direction}
 use Rattle.tree_rewrite.specs.declared.direction.Direction.TheVariants.{Forward, Backward}
-use Rattle.tree_rewrite.specs.internal.Passage.{place_in, block_in, tree_in, all_in}
+use Rattle.tree_rewrite.specs.internal.Passage.{place_in, area_in, tree_in, all_in}
 
 -- from the first sheet to the second one in a direction
 abbrev pub LeadsIn : Direction → Shift → ℕ → ℕ → Type 0
@@ -103,9 +106,42 @@ place_in-leads : (d : Direction) (s : Shift) (p q : Place) → place_in d s p �
 place_in-leads Forward s p q h = place-leads (form_of s) p q h
 place_in-leads Backward s p q h = place-leads_back (form_of s) p q h
 
-block_in-leads : (d : Direction) (s : Shift) (b c : Block) → block_in d s b ≡ Some c → LeadsIn d s b.sheet c.sheet
-block_in-leads Forward s b c h = block-leads (form_of s) b c h
-block_in-leads Backward s b c h = block-leads_back (form_of s) b c h
+-- a whole range is on the sheet of its block, and comes where its block does
+whole-sheet : (w : Whole) → (whole_block w).sheet ≡ w.sheet
+whole-sheet w = sheet-with_span w.axis (lines_of w) (sheet_block w.sheet)
+
+crossed-leads : (f : Form) (w : Whole) → runs_across f w ≡ true → LeadsOnForm f w.sheet w.sheet
+crossed-leads (Lines sheet axis edit) w a = refl
+crossed-leads (Cells source to) w a = absurd (cc)
+crossed-leads (Sheet sheet) w a = absurd (cc)
+
+module _ (f : Form) (P : ℕ → ℕ → Type 0) (w : Whole) (own : runs_across f w ≡ true → P w.sheet w.sheet) where
+  of-block : (r : Option Block) (v : Whole) → ((c : Block) → r ≡ Some c → P (whole_block w).sheet c.sheet) → option_map (whole_of w.axis) r ≡ Some v → P w.sheet v.sheet
+  of-block None v h e = absurd (cc)
+  of-block (Some c) v h e = subst (λ n. P n v.sheet) (whole-sheet w) (subst (P (whole_block w).sheet) (ap (λ x. x.sheet) (same_Some _ _ e)) (h c refl))
+
+  whole-comes : (a : Bool) (r : Option Block) (v : Whole) → runs_across f w ≡ a → ((c : Block) → r ≡ Some c → P (whole_block w).sheet c.sheet)
+      → cond a (Some w) (option_map (whole_of w.axis) r) ≡ Some v → P w.sheet v.sheet
+  whole-comes true r v e h k = subst (P w.sheet) (ap (λ x. x.sheet) (same_Some _ _ k)) (own e)
+  whole-comes false r v e h k = of-block r v h k
+
+whole-leads : (f : Form) (w v : Whole) → whole_moved f w ≡ Some v → LeadsOnForm f w.sheet v.sheet
+whole-leads f w v h = whole-comes f (LeadsOnForm f) w (crossed-leads f w) (runs_across f w) (block_moved f (whole_block w)) v refl (λ c e. block-leads f (whole_block w) c e) h
+
+whole-leads_back : (f : Form) (w v : Whole) → whole_returned f w ≡ Some v → LeadsOnForm f v.sheet w.sheet
+whole-leads_back f w v h =
+    whole-comes f (λ here there. LeadsOnForm f there here) w (crossed-leads f w) (runs_across f w) (block_returned f (whole_block w)) v refl (λ c e. block-leads_back f (whole_block w) c e) h
+
+as-block : (P : ℕ → Type 0) (r : Option Whole) (c : Block) → ((v : Whole) → r ≡ Some v → P v.sheet) → option_map whole_block r ≡ Some c → P c.sheet
+as-block P None c h e = absurd (cc)
+as-block P (Some v) c h e = subst P (sym (whole-sheet v) ∙ ap (λ x. x.sheet) (same_Some _ _ e)) (h v refl)
+
+area_in-leads : (d : Direction) (s : Shift) (lines : Option Axis) (b c : Block) → area_in d s lines b ≡ Some c → LeadsIn d s b.sheet c.sheet
+area_in-leads Forward s None b c h = block-leads (form_of s) b c h
+area_in-leads Backward s None b c h = block-leads_back (form_of s) b c h
+area_in-leads Forward s (Some axis) b c h = as-block (LeadsOnForm (form_of s) b.sheet) (whole_after s (whole_of axis b)) c (λ v e. whole-leads (form_of s) (whole_of axis b) v e) h
+area_in-leads Backward s (Some axis) b c h =
+    as-block (λ n. LeadsOnForm (form_of s) n b.sheet) (whole_before s (whole_of axis b)) c (λ v e. whole-leads_back (form_of s) (whole_of axis b) v e) h
 
 -- a sheet of the tree leads to this one
 abbrev ComesTo : Direction → Shift → ℕ → Term Corner → Type 0
@@ -122,9 +158,11 @@ block-sheet : (n : ℕ) (b : Block) → ((first_place b).sheet ≡ n) ⊎ ((last
 block-sheet n b (inl e) = e
 block-sheet n b (inr e) = e
 
-area_at-sheet : (d : Direction) (s : Shift) (n : ℕ) (c e : Corner) (r : Option Block) → block_in d s (block_of c e) ≡ r → HasSheet n (area_at c e r) → ComesTo d s n (area c e)
-area_at-sheet d s n c e (Some b) f h = (c.at.sheet, inl refl, subst (LeadsIn d s c.at.sheet) (block-sheet n b h) (block_in-leads d s (block_of c e) b f))
-area_at-sheet d s n c e None f h = absurd h
+area_at-sheet : (d : Direction) (s : Shift) (n : ℕ) (lines : Option Axis) (c e : Corner) (r : Option Block) → area_in d s lines (block_of c e) ≡ r → HasSheet n (area_at lines c e r)
+    → ComesTo d s n (shaped lines c e)
+area_at-sheet d s n None c e (Some b) f h = (c.at.sheet, inl refl, subst (LeadsIn d s c.at.sheet) (block-sheet n b h) (area_in-leads d s None (block_of c e) b f))
+area_at-sheet d s n (Some axis) c e (Some b) f h = (c.at.sheet, inl refl, subst (LeadsIn d s c.at.sheet) (block-sheet n b h) (area_in-leads d s (Some axis) (block_of c e) b f))
+area_at-sheet d s n lines c e None f h = absurd h
 
 left-comes : (d : Direction) (s : Shift) (n : ℕ) (l r : Term Corner) → ComesTo d s n l → (m : ℕ) × (HasSheet m l ⊎ HasSheet m r) × LeadsIn d s m n
 left-comes d s n l r w = (w.0, inl w.1, w.2)
@@ -145,7 +183,8 @@ mutual
   tree_in-sheet d s n (truth b) h = absurd h
   tree_in-sheet d s n (fault k) h = absurd h
   tree_in-sheet d s n (cell c) h = cell_at-sheet d s n c (place_in d s c.at) refl h
-  tree_in-sheet d s n (area c e) h = area_at-sheet d s n c e (block_in d s (block_of c e)) refl h
+  tree_in-sheet d s n (area c e) h = area_at-sheet d s n None c e (area_in d s None (block_of c e)) refl h
+  tree_in-sheet d s n (whole axis c e) h = area_at-sheet d s n (Some axis) c e (area_in d s (Some axis) (block_of c e)) refl h
   tree_in-sheet d s n (name w) h = absurd h
   tree_in-sheet d s n (prefix o t) h = tree_in-sheet d s n t h
   tree_in-sheet d s n (percent t) h = tree_in-sheet d s n t h

@@ -1,19 +1,24 @@
 -- What a walk makes of each kind of node, and what holds of its parts. Serves the walk through trees.
 use Rattle.std.proofs.Common.{◌≡◌, ◌≢◌, ◌⊎◌, inl, inr, ◌∙◌, sym, ap, subst, refl, arith, ℕ, zero, suc, ℤ, ◌+◌, ◌*◌, ◌<◌, ◌≤◌, max, Bool, List, [], ◌∷◌, map, length, get_or, take, drop, ◌++◌, Option, Some, None, Global}
 use Rattle.std.specs.declared.rc.Rc.{Rc}
+use Rattle.cell_addr.specs.declared.axis.Axis.{Axis}
+use Rattle.cell_addr.specs.declared.axis.Axis.TheVariants.{Rows, Cols}
 use Rattle.cell_value.specs.declared.fault.FaultKind.{FaultKind}
 use Rattle.formula_tree.specs.Arguments.{trees}
 use Rattle.formula_tree.specs.Relative.{relative_node, relative_arguments, relative, relative_list}
-use Rattle.formula_tree.specs.Term.{Term, number, text, truth, fault, cell, area, name, prefix, percent, binary, call, paren, Terms, term, terms_of, depth_of, depth_of_all}
+use Rattle.formula_tree.specs.Term.{Term, number, text, truth, fault, cell, area, whole, name, prefix, percent, binary, call, paren, Terms, term, terms_of, shaped, depth_of, depth_of_all}
 use Rattle.formula_tree.specs.declared.node.Node.{Node}
 use Rattle.formula_tree.specs.declared.node.Node.TheFolds.{fold-roll-Node}
 use Rattle.formula_tree.specs.declared.node.Node.TheOpen.{Node-F}
 use Rattle.formula_tree.specs.declared.node.Node.TheVariants as nodes
-use Rattle.formula_tree.specs.declared.node.Node.TheVariants.{rolls-Number, rolls-Text, rolls-Truth, rolls-Fault, rolls-Name, rolls-Cell, rolls-Area, rolls-Prefix, rolls-Percent}
+use Rattle.formula_tree.specs.declared.node.Node.TheVariants.{rolls-Number, rolls-Text, rolls-Truth, rolls-Fault, rolls-Name, rolls-Cell, rolls-Area, rolls-WholeRows, rolls-WholeCols, rolls-Prefix, rolls-Percent}
 use Rattle.formula_tree.specs.declared.node.TreeList.{TreeList}
 use Rattle.formula_tree.specs.declared.operator.Op.{Op}
 use Rattle.formula_tree.specs.declared.operator.Sign.{Sign}
+use Rattle.formula_tree.specs.Whole.{first_ref, last_ref}
+use Rattle.formula_tree.specs.declared.reference.Part.{Part}
 use Rattle.formula_tree.specs.declared.reference.Ref.{Ref}
+use Rattle.formula_tree.specs.declared.reference.SheetPart.{SheetPart}
 use Rattle.formula_tree.proofs.RelativeNodes.{relative-Binary, relative-Call, relative-Paren, relative_list-trees}
 use Rattle.formula_tree.proofs.ArgumentLists.{depth_of-item}
 use Rattle.tree_rewrite.specs.Replaced.{Becomes}
@@ -48,17 +53,25 @@ relative-Cell r = ap relative (sym (rolls-Cell r)) ∙ fold-roll-Node (Term Ref)
 pub relative-Area : (r q : Ref) → relative (nodes.Area r q) ≡ area r q
 relative-Area r q = ap relative (sym (rolls-Area r q)) ∙ fold-roll-Node (Term Ref) (Terms Ref) relative_node relative_arguments (Node-F.Area r q)
 
+pub relative-WholeRows : (s : SheetPart) (p q : Part) → relative (nodes.WholeRows s p q) ≡ whole Rows (first_ref Rows s p) (last_ref Rows s q)
+relative-WholeRows s p q = ap relative (sym (rolls-WholeRows s p q)) ∙ fold-roll-Node (Term Ref) (Terms Ref) relative_node relative_arguments (Node-F.WholeRows s p q)
+
+pub relative-WholeCols : (s : SheetPart) (p q : Part) → relative (nodes.WholeCols s p q) ≡ whole Cols (first_ref Cols s p) (last_ref Cols s q)
+relative-WholeCols s p q = ap relative (sym (rolls-WholeCols s p q)) ∙ fold-roll-Node (Term Ref) (Terms Ref) relative_node relative_arguments (Node-F.WholeCols s p q)
+
 pub cell-part : (r q : Ref) → cell r ≡ cell q → r ≡ q
 cell-part r q h = cc
 
-pub area-parts : (r q u v : Ref) → area r q ≡ area u v → (r ≡ u) × (q ≡ v)
-area-parts r q u v h = (cc, cc)
+pub area-parts : (lines : Option Axis) (r q u v : Ref) → shaped lines r q ≡ shaped lines u v → (r ≡ u) × (q ≡ v)
+area-parts None r q u v h = (cc, cc)
+area-parts (Some axis) r q u v h = (cc, cc)
 
 pub fault-other : (f : FaultKind) (r : Ref) → fault f ≢ cell r
 fault-other f r h = cc
 
-pub fault-no_area : (f : FaultKind) (r q : Ref) → fault f ≢ area r q
-fault-no_area f r q h = cc
+pub fault-no_area : (f : FaultKind) (lines : Option Axis) (r q : Ref) → fault f ≢ shaped lines r q
+fault-no_area f None r q h = cc
+fault-no_area f (Some axis) r q h = cc
 
 -- a node of one part
 wrap-changes : (c : Term Ref → Term Ref) → ((x y : Term Ref) → c x ≡ c y → x ≡ y) → (n a m x y z : Term Ref)
@@ -86,7 +99,7 @@ left-part o x y u v h = cc
 right-part : (o : Op) (x y u v : Term Ref) → binary o x u ≡ binary o y v → u ≡ v
 right-part o x y u v h = cc
 
-module _ (on_cell : Ref → Term Ref) (on_area : Ref → Ref → Term Ref) where
+module _ (on_cell : Ref → Term Ref) (on_area : Option Axis → Ref → Ref → Term Ref) where
   replaced-prefix : (s : Sign) (t : Term Ref) → replaced on_cell on_area (prefix s t) ≡ prefix s (replaced on_cell on_area t)
   unfolding replaced
   replaced-prefix s t = refl
@@ -208,15 +221,20 @@ module _ (on_cell : Ref → Term Ref) (on_area : Ref → Ref → Term Ref) where
   all_replaced-terms [] = refl
   all_replaced-terms (x ∷ xs) = ap (λ ts. term (tree_replaced on_cell on_area x) ts) (all_replaced-terms xs)
 
-  -- a reference, and a block
+  -- a reference, and a block or a whole range
   pub cell-becomes : (node : Node) (r : Ref) (result : Option Node) → node ≡ nodes.Cell r → Becomes relative result (cell r) (on_cell r) → Becomes relative result (relative node) (replaced on_cell on_area (relative node))
   unfolding replaced
   cell-becomes node r result is h = let e : relative node ≡ cell r = ap relative is ∙ relative-Cell r in subst (λ t. Becomes relative result t (replaced on_cell on_area t)) (sym e) h
 
-  pub area-becomes : (node : Node) (r q : Ref) (result : Option Node) → node ≡ nodes.Area r q → Becomes relative result (area r q) (on_area r q)
+  pub area-becomes : (node : Node) (r q : Ref) (result : Option Node) → node ≡ nodes.Area r q → Becomes relative result (area r q) (on_area None r q)
       → Becomes relative result (relative node) (replaced on_cell on_area (relative node))
   unfolding replaced
   area-becomes node r q result is h = let e : relative node ≡ area r q = ap relative is ∙ relative-Area r q in subst (λ t. Becomes relative result t (replaced on_cell on_area t)) (sym e) h
+
+  pub whole-becomes : (node : Node) (axis : Axis) (r q : Ref) (result : Option Node) → relative node ≡ whole axis r q → Becomes relative result (whole axis r q) (on_area (Some axis) r q)
+      → Becomes relative result (relative node) (replaced on_cell on_area (relative node))
+  unfolding replaced
+  whole-becomes node axis r q result e h = subst (λ t. Becomes relative result t (replaced on_cell on_area t)) (sym e) h
 
   -- arguments of which those in front stay and one becomes another
   pub arguments-change : (list new : TreeList) (items : List (Rc Node Global)) (i : ℕ) (item changed : Rc Node Global) (rest : List (Rc Node Global)) → items ≡ trees list
@@ -292,14 +310,18 @@ pub unchanged : {A X : Type 0} (seen_as : A → X) (r : Option A) (before after 
 unchanged seen_as r before after e h = subst (λ o. Becomes seen_as o before after) e h
 
 -- what holds of the references of a node holds of those of its parts
-module _ (P : Ref → Type 0) (Q : Ref → Ref → Type 0) where
+module _ (P : Ref → Type 0) (Q : Option Axis → Ref → Ref → Type 0) where
   pub Takes-cell : (node : Node) (r : Ref) → node ≡ nodes.Cell r → Takes P Q (relative node) → P r
   unfolding Takes
   Takes-cell node r is h = let e = ap relative is ∙ relative-Cell r in rw e at h
 
-  pub Takes-area : (node : Node) (r q : Ref) → node ≡ nodes.Area r q → Takes P Q (relative node) → Q r q
+  pub Takes-area : (node : Node) (r q : Ref) → node ≡ nodes.Area r q → Takes P Q (relative node) → Q None r q
   unfolding Takes
   Takes-area node r q is h = let e = ap relative is ∙ relative-Area r q in rw e at h
+
+  pub Takes-whole : (node : Node) (axis : Axis) (r q : Ref) → relative node ≡ whole axis r q → Takes P Q (relative node) → Q (Some axis) r q
+  unfolding Takes
+  Takes-whole node axis r q e h = rw e at h
 
   pub Takes-prefix : (node : Node) (s : Sign) (part : Rc Node Global) → node ≡ nodes.Prefix s part → Takes P Q (relative node) → Takes P Q (term_of part)
   unfolding Takes

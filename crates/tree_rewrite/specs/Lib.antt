@@ -3,6 +3,7 @@ pub mod Rewritten
 pub mod Sheets
 pub mod Pooled
 pub mod Replaced
+pub mod Shaped
 pub mod Pasted
 pub mod Laws
 pub mod internal

@@ -1,7 +1,7 @@
 -- The sheets of a tree's references, and where a structural operation may take references from one sheet to
 -- another. Source: this project's own.
 use Rattle.std.specs.Prelude.{◌≡◌, ◌≢◌, ◌⊎◌, ℕ}
-use Rattle.formula_tree.specs.Term.{Term, cell, area, prefix, percent, binary, call, paren, Terms, no_terms, term}
+use Rattle.formula_tree.specs.Term.{Term, cell, area, whole, prefix, percent, binary, call, paren, Terms, no_terms, term}
 use Rattle.formula_tree.specs.declared.reference.Corner.{Corner}
 use Rattle.shift_core.specs.Form.{form_of}
 use Rattle.shift_core.specs.declared.form.Form.{Form}
@@ -9,10 +9,11 @@ use Rattle.shift_core.specs.declared.form.Form.TheVariants.{Lines, Cells, Sheet}
 use Rattle.shift_core.specs.declared.shift.Shift.{Shift}
 
 abbrev mutual
-  -- a reference of the tree is on the sheet, or a corner of a block
+  -- a reference of the tree is on the sheet, or a corner of a block or of a whole range
   pub HasSheet : ℕ → Term Corner → Type 0
   HasSheet sheet (cell c) = c.at.sheet ≡ sheet
   HasSheet sheet (area c d) = (c.at.sheet ≡ sheet) ⊎ (d.at.sheet ≡ sheet)
+  HasSheet sheet (whole axis c d) = (c.at.sheet ≡ sheet) ⊎ (d.at.sheet ≡ sheet)
   HasSheet sheet (prefix s t) = HasSheet sheet t
   HasSheet sheet (percent t) = HasSheet sheet t
   HasSheet sheet (binary o l r) = HasSheet sheet l ⊎ HasSheet sheet r

@@ -2,9 +2,10 @@
 ghost use Rattle.std.specs.Prelude.{◌≡◌};
 ghost use Rattle.shift_core.specs.Sound.{IsSound};
 
-use cell_addr::{Block, Place};
+use crate::areas::{back_area, moved_area};
+use cell_addr::{Axis, Block, Place};
 use formula_tree::Home;
-use shift_core::{Shift, back_block, back_place, moved_block, moved_place};
+use shift_core::{Shift, back_place, moved_place};
 
 // A direction over an operation.
 #[derive(Clone, Copy, PartialEq, Eq, Debug)]
@@ -16,7 +17,7 @@ pub(crate) enum Direction {
 }
 
 impl Direction {
-    ghost use Rattle.tree_rewrite.specs.internal.Passage.{place_in, block_in, home_in};
+    ghost use Rattle.tree_rewrite.specs.internal.Passage.{IsFull, area_in, home_in, place_in};
 
     // Where a place goes; None where it is lost, or came from nowhere.
     pub(crate) fn place(self, s: &Shift, p: Place) -> Option<Place>
@@ -29,14 +30,16 @@ impl Direction {
         }
     }
 
-    // Where a block goes; None where it is lost, or an end of it came from nowhere.
-    pub(crate) fn block(self, s: &Shift, b: Block) -> Option<Block>
-        requires { IsSound s.now }
-        ensures { result ≡ block_in self s.now b }
+    // Where a block goes, and as its block a whole range along an axis; None where it is lost, or an end of it came
+    // from nowhere.
+    pub(crate) fn area(self, s: &Shift, lines: Option<Axis>, b: Block) -> Option<Block>
+        requires sound { IsSound s.now }
+        requires full { IsFull lines b }
+        ensures { result ≡ area_in self s.now lines b }
     {
         match self {
-            Direction::Forward => moved_block(s, b),
-            Direction::Backward => back_block(s, b),
+            Direction::Forward => moved_area(s, lines, b),
+            Direction::Backward => back_area(s, lines, b),
         }
     }
 

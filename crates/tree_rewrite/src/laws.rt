@@ -7,12 +7,12 @@ pub fn proper_trees_stay_proper()
     ensures { ProperStays }
 {}
 
-/// The references and blocks of a proper tree lie within the limits of a sheet.
+/// The references, blocks and whole ranges of a proper tree lie within the limits of a sheet.
 pub fn proper_trees_fit()
     ensures { ProperFits }
 {}
 
-/// References and blocks within the limits of a sheet stay so, forward and backward.
+/// References, blocks and whole ranges within the limits of a sheet stay so, forward and backward.
 pub fn trees_stay_inside()
     ensures { FitStays }
 {}
@@ -33,12 +33,14 @@ pub fn sheets_follow()
     ensures { SheetsFollow }
 {}
 
-/// A proper tree comes back exactly where no reference of it is lost and each of its blocks comes back.
+/// A proper tree comes back exactly where no reference of it is lost and each of its blocks and whole ranges comes
+/// back.
 pub fn trees_come_back_by_references()
     ensures { ComesBackByReferences }
 {}
 
-/// A proper tree comes back where no reference of it is lost and no block of it is bent or cut.
+/// A proper tree comes back where no reference of it is lost, no block of it is bent or cut, and no whole range of it
+/// is bent.
 pub fn carried_trees_come_back()
     ensures { CarriedComesBack }
 {}
@@ -49,9 +51,9 @@ pub fn homes_follow()
     ensures { HomesFollow }
 {}
 
-/// A proper tree that is pasted stays proper, of as many levels, its sheets are listed, and its references and
-/// blocks within the limits of a sheet. As seen from its home it stays as it is where it stays on its sheet, no
-/// reference is lost, and no corners come out of order.
+/// A proper tree that is pasted stays proper, of as many levels, its sheets are listed, and its references,
+/// blocks and whole ranges within the limits of a sheet. As seen from its home it stays as it is where it stays on
+/// its sheet, nothing of it is lost, and no corners come out of order.
 pub fn pasted_trees_are_sound()
     ensures { PastesWell }
 {}

@@ -2,6 +2,7 @@
 use crate::corners::{first_place, last_place};
 use crate::direction::Direction;
 use crate::replacement::{Replacement, changed_area, changed_cell};
+use cell_addr::Axis;
 use cell_value::FaultKind;
 use formula_tree::{Corner, Home, Node, Ref};
 use shift_core::Shift;
@@ -35,9 +36,10 @@ impl Replacement for Passage {
         changed_cell(new, reference)
     }
 
-    fn area(&self, first: Ref, last: Ref) -> Option<Node> {
+    fn area(&self, lines: Option<Axis>, first: Ref, last: Ref) -> Option<Node> {
         let (top, bottom) = (first.at(self.from), last.at(self.from));
-        let Some(block) = self.direction.block(&self.shift, top.block_to(bottom)) else {
+        let block = top.block_to(bottom);
+        let Some(block) = self.direction.area(&self.shift, lines, block) else {
             return Some(Node::Fault(FaultKind::Ref));
         };
         let top = Corner {
@@ -49,6 +51,6 @@ impl Replacement for Passage {
             ..bottom
         };
         let (new_first, new_last) = (Ref::of(top, self.to), Ref::of(bottom, self.to));
-        changed_area((new_first, new_last), (first, last))
+        changed_area(lines, (new_first, new_last), (first, last))
     }
 }

@@ -17,13 +17,13 @@ use formula_tree::{Home, Pool, Tree};
 use shift_core::Shift;
 use std::alloc::{AllocError, Global};
 
-/// The tree and the home of a formula after the operation: each reference follows its place and each block
-/// its ends, a `$` stays, and what is lost becomes the fault `#REF!`.
+/// The tree and the home of a formula after the operation: each reference follows its place, each block and
+/// whole range its ends, a `$` stays, and what is lost becomes the fault `#REF!`.
 ///
-/// The operation is sound; the home, the references and the blocks of the tree lie within the limits of a
-/// sheet, and the home isn't lost. A tree that stays the same as seen from its home is answered as it is, and
-/// the pool stays as it was; another one is shared in the pool. Where there is no memory the pool stays as it
-/// was. Costs about the nodes of the tree.
+/// The operation is sound; the home, and the references, blocks and whole ranges of the tree lie within the
+/// limits of a sheet, and the home isn't lost. A tree that stays the same as seen from its home is answered as it
+/// is, and the pool stays as it was; another one is shared in the pool. Where there is no memory the pool stays
+/// as it was. Costs about the nodes of the tree.
 pub fn forward(
     alloc: Global,
     pool: &mut Pool,
@@ -46,7 +46,8 @@ pub fn forward(
 }
 
 /// The tree and the home of a formula before the operation, as far as those after it tell: each reference goes
-/// where its place came from, and each block where its ends did; what came from nowhere is the fault `#REF!`.
+/// where its place came from, each block and whole range where its ends did; what came from nowhere is the
+/// fault `#REF!`.
 ///
 /// The conditions are those of [`forward`], but that the home came from somewhere; so are the pool, want of
 /// memory and the cost.

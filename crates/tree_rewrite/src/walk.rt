@@ -1,14 +1,16 @@
 // A walk through a shared tree, by a rule for its references.
-ghost use Rattle.std.specs.Prelude.{◌≡◌, ◌↔◌, ◌∷◌, ◌++◌, map, None, IfOk, IsTrue};
+ghost use Rattle.std.specs.Prelude.{◌≡◌, ◌↔◌, ◌∷◌, ◌++◌, map, None, Some, IfOk, IsTrue};
 ghost use Rattle.formula_tree.specs.Arguments.{trees};
 ghost use Rattle.formula_tree.specs.Relative.{relative, relative_list};
-ghost use Rattle.formula_tree.specs.Term.{Term};
+ghost use Rattle.formula_tree.specs.Term.{Term, whole};
+ghost use Rattle.formula_tree.specs.Whole.{first_ref, last_ref};
 ghost use Rattle.formula_tree.specs.declared.reference.Ref.{Ref};
 ghost use Rattle.tree_rewrite.specs.Replaced.{Becomes};
 ghost use Rattle.tree_rewrite.specs.internal.Walk.{AllTake, Takes, all_replaced, replaced, term_of, terms_in, tree_replaced};
 
 use crate::replacement::Replacement;
-use formula_tree::{Node, Tree, TreeList};
+use cell_addr::Axis;
+use formula_tree::{Node, Part, Ref, SheetPart, Tree, TreeList};
 use std::alloc::{AllocError, Global};
 use std::rc::Rc;
 
@@ -31,7 +33,13 @@ impl<'a, R: Replacement> Walk<'a, R> {
                 Ok(None)
             }
             Node::Cell(reference) => Ok(self.rule.reference(*reference)),
-            Node::Area(first, last) => Ok(self.rule.area(*first, *last)),
+            Node::Area(first, last) => Ok(self.rule.area(None, *first, *last)),
+            Node::WholeRows(sheet, first, last) => {
+                Ok(self.whole(Axis::Rows, *sheet, *first, *last))
+            }
+            Node::WholeCols(sheet, first, last) => {
+                Ok(self.whole(Axis::Cols, *sheet, *first, *last))
+            }
             Node::Prefix(sign, part) => match self.part(part)? {
                 Some(part) => Ok(Some(Node::Prefix(*sign, part))),
                 None => Ok(None),
@@ -59,6 +67,18 @@ impl<'a, R: Replacement> Walk<'a, R> {
                 None => Ok(None),
             },
         }
+    }
+
+    // What a whole range becomes, by the parts of its first and of its last line; None where it stays as it is.
+    fn whole(&self, axis: Axis, sheet: SheetPart, first: Part, last: Part) -> Option<Node>
+        requires { R.TakesArea self.now.rule.now (Some axis) (first_ref axis sheet first) (last_ref axis sheet last) }
+        ensures { Becomes relative result (whole axis (first_ref axis sheet first) (last_ref axis sheet last)) (R.for_area self.now.rule.now (Some axis) (first_ref axis sheet first) (last_ref axis sheet last)) }
+    {
+        self.rule.area(
+            Some(axis),
+            Ref::first_of(axis, sheet, first),
+            Ref::last_of(axis, sheet, last),
+        )
     }
 
     // What a shared tree becomes; None where it stays as it is.

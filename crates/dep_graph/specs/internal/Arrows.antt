@@ -2,32 +2,32 @@
 use Rattle.std.specs.Prelude.{◌+◌, ◌-◌, ℕ, Bool, List, [], ◌∷◌, ◌++◌, map, filter, length, nat_lt, if◌then◌else◌}
 use Rattle.std.specs.List.{filter_map}
 use Rattle.node_links.specs.Nodes.{users_of}
-use Rattle.block_index.specs.Index.{filed_in, slot_count, slots_of}
-use Rattle.block_index.specs.declared.index.BlockIndex.{BlockIndex}
+use Rattle.dep_graph.specs.declared.files.Files.{Files}
 use Rattle.dep_graph.specs.declared.key.Key.{Key}
-use Rattle.dep_graph.specs.declared.key.Key.TheVariants.{Cell, Name, Range}
+use Rattle.dep_graph.specs.declared.key.Key.TheVariants.{Cell, Name, Range, Whole}
 use Rattle.dep_graph.specs.declared.net.Net.{Net}
 use Rattle.dep_graph.specs.declared.node.Node.{Node}
-use Rattle.dep_graph.specs.internal.Files.{owner_of}
+use Rattle.dep_graph.specs.internal.Files.{filed_at, owner_of, slot_total, slots_over}
 use Rattle.dep_graph.specs.internal.Keys.{key_of}
 use Rattle.dep_graph.specs.internal.Numbers.{count_of, key_at, place_of}
 
 -- the slots that hold a cell
-abbrev pub cell_slots : BlockIndex → Key → List ℕ
-cell_slots index (Cell s) = slots_of index s.sheet s.row s.col
-cell_slots index (Name scope word) = []
-cell_slots index (Range a) = []
+abbrev pub cell_slots : Files → Key → List ℕ
+cell_slots files (Cell s) = slots_over files s
+cell_slots files (Name scope word) = []
+cell_slots files (Range a) = []
+cell_slots files (Whole a) = []
 
 -- how many nodes there are; the slots are numbered behind them
 abbrev pub node_total : Net → ℕ
 node_total net = count_of net.nodes
 
 abbrev pub total : Net → ℕ
-total net = node_total net + slot_count net.files.index
+total net = node_total net + slot_total net.files
 
 -- the slots of a key, as they are numbered
 abbrev pub slots_behind : Net → Key → List ℕ
-slots_behind net k = map (λ s. node_total net + s) (cell_slots net.files.index k)
+slots_behind net k = map (λ s. node_total net + s) (cell_slots net.files k)
 
 -- some node is linked to the one of this number
 abbrev pub is_used : Net → ℕ → Bool
@@ -38,7 +38,7 @@ from_node net n = users_of net.links n ++ slots_behind net (key_at net.nodes n)
 
 -- the ranges that are filed under a slot
 abbrev pub under_slot : Net → ℕ → List ℕ
-under_slot net s = filter_map (owner_of net.files) (filed_in net.files.index s)
+under_slot net s = filter_map (owner_of net.files) (filed_at net.files s)
 
 abbrev pub from_slot : Net → ℕ → List ℕ
 from_slot net s = filter (is_used net) (under_slot net s)

@@ -1,20 +1,25 @@
 -- Filings of ranges, and what cells find by them.
-use Rattle.std.specs.Prelude.{◌≡◌, ◌↔◌, ◌<◌, ◌≤◌, ◌==◌, ◌⊎◌, ◌&&◌, ℕ, Bool, true, List, Option, Some, None, length, if◌then◌else◌, IsTrue}
+use Rattle.std.specs.Prelude.{◌≡◌, ◌↔◌, ◌<◌, ◌≤◌, ◌==◌, ◌⊎◌, ◌&&◌, ◌||◌, ◌+◌, ◌-◌, ◌++◌, ℕ, Bool, true, List, Option, Some, None, length, map, nat_lt, if◌then◌else◌, IsTrue}
 use Rattle.std.specs.List.{filter_map, list_any}
 use Rattle.std.specs.declared.ops.Range.{Range}
 use Rattle.block_slots.specs.Slots.{in_block}
 use Rattle.cell_addr.specs.Place.{covers}
+use Rattle.cell_addr.specs.declared.axis.Axis.{Axis}
+use Rattle.cell_addr.specs.declared.axis.Axis.TheVariants.{Cols, Rows}
 use Rattle.cell_addr.specs.declared.place.Block.{Block}
 use Rattle.cell_addr.specs.declared.place.Place.{Place}
 use Rattle.needs_order.specs.Needs.{has}
-use Rattle.block_index.specs.Index.{filed_in, finds, slots_of}
+use Rattle.block_index.specs.Index.{filed_in, finds, slot_count, slots_of}
 use Rattle.place_lines.specs.Moved.{is_known}
 use Rattle.place_lines.specs.Spots.{spot_of}
 use Rattle.place_lines.specs.declared.lines.PlaceLines.{PlaceLines}
 use Rattle.place_lines.specs.declared.spot.Spot.{Spot}
 use Rattle.dep_graph.specs.declared.files.Files.{Files}
+use Rattle.dep_graph.specs.declared.node.Node.{Node}
+use Rattle.dep_graph.specs.declared.node.Node.TheVariants as node
 use Rattle.dep_graph.specs.declared.serving.Serving.{Serving}
 use Rattle.dep_graph.specs.internal.Filings.{filing_of, is_since, owner_at, serves_at}
+use Rattle.dep_graph.specs.internal.Wholes.{HoldsWhole, IsOnLines, finds_along, slots_along}
 
 -- the number of a node, where the filing serves it at present
 abbrev pub if_present : Files → ℕ → Option ℕ → Option ℕ
@@ -25,13 +30,29 @@ if_present files f None = None
 abbrev pub owner_of : Files → ℕ → Option ℕ
 owner_of files f = if_present files f (owner_at files.owners f)
 
--- the cell at a spot finds the filing
+-- the cell at a spot finds the filing, by its own slots or by those of its lines
 abbrev pub finds_filing : Files → Spot → ℕ → Bool
-finds_filing files spot f = finds files.index spot.sheet spot.row spot.col f
+finds_filing files spot f = finds files.index spot.sheet spot.row spot.col f || (finds_along Rows files.wholes spot f || finds_along Cols files.wholes spot f)
+
+-- how many slots there are: those of whole ranges are numbered behind the others
+abbrev pub slot_total : Files → ℕ
+slot_total files = slot_count files.index + slot_count files.wholes
+
+-- the slots of whole ranges along an axis that hold a spot, as they are numbered
+abbrev pub slots_on : Files → Axis → Spot → List ℕ
+slots_on files axis spot = map (λ s. slot_count files.index + s) (slots_along axis files.wholes spot)
+
+-- the slots that hold a spot
+abbrev pub slots_over : Files → Spot → List ℕ
+slots_over files spot = (slots_of files.index spot.sheet spot.row spot.col ++ slots_on files Rows spot) ++ slots_on files Cols spot
+
+-- the filings under a slot
+abbrev pub filed_at : Files → ℕ → List ℕ
+filed_at files s = if nat_lt s (slot_count files.index) then filed_in files.index s else filed_in files.wholes (s - slot_count files.index)
 
 -- the cell at a spot finds the node: a filing under one of the cell's slots serves it at present
 abbrev pub FindsNode : Files → ℕ → Spot → Type 0
-FindsNode files n spot = IsTrue (list_any (λ s. has n (filter_map (owner_of files) (filed_in files.index s))) (slots_of files.index spot.sheet spot.row spot.col))
+FindsNode files n spot = IsTrue (list_any (λ s. has n (filter_map (owner_of files) (filed_at files s))) (slots_over files spot))
 
 -- the filing is one of these of the node
 abbrev pub IsServing : Files → ℕ → Serving → ℕ → Type 0
@@ -49,6 +70,13 @@ FindsBy files n all spot = (f : ℕ) × IsServing files n all f × (finds_filing
 abbrev pub HasSpot : PlaceLines → Block → Spot → Type 0
 HasSpot lines b spot = (p : Place) × (covers b p ≡ true) × (spot_of lines p ≡ spot)
 
+-- the spot is that of a place of the range, or on the lines of the whole range; what is no range has none
+abbrev pub IsSpotOf : PlaceLines → Node → Spot → Type 0
+IsSpotOf lines (node.Cell p) spot = ⊥
+IsSpotOf lines (node.Name scope word) spot = ⊥
+IsSpotOf lines (node.Range b) spot = HasSpot lines b spot
+IsSpotOf lines (node.Whole w) spot = IsOnLines lines w spot
+
 -- the spot is in a run of rows and a run of columns of a sheet, in a run of rows and one of the runs of columns, or in one
 -- of the runs of rows and one of the runs of columns
 abbrev pub in_run : ℕ → Range ℕ → Range ℕ → Spot → Bool
@@ -61,6 +89,11 @@ abbrev pub in_area : ℕ → List (Range ℕ) → List (Range ℕ) → Spot → 
 in_area sheet rows cols spot = list_any (λ run. in_row sheet run cols spot) rows
 
 -- what was found is found still, and besides only this filing, only at spots that pass the test
+pub record FilesSpots (test : Spot → Type 0) (filing : ℕ) (old new : Files) : Type 0 where
+  pub grows : (spot : Spot) (f : ℕ) → finds_filing old spot f ≡ true → finds_filing new spot f ≡ true
+  pub only : (spot : Spot) (f : ℕ) → finds_filing new spot f ≡ true → (finds_filing old spot f ≡ true) ⊎ (test spot × (f ≡ filing))
+
+-- the same by a test that can be computed
 pub record FilesCells (test : Spot → Bool) (filing : ℕ) (old new : Files) : Type 0 where
   pub grows : (spot : Spot) (f : ℕ) → finds_filing old spot f ≡ true → finds_filing new spot f ≡ true
   pub only : (spot : Spot) (f : ℕ) → finds_filing new spot f ≡ true → (finds_filing old spot f ≡ true) ⊎ ((test spot ≡ true) × (f ≡ filing))
@@ -80,3 +113,10 @@ HoldsBlock lines test b = record {
   exact : (p : Place) → test (spot_of lines p) ↔ IsTrue (covers b p);
   known : (spot : Spot) → test spot → is_known lines spot ≡ true;
 }
+
+-- the same of a range and of a whole range; what is no range is held by no test
+abbrev pub HoldsNode : PlaceLines → (Spot → Type 0) → Node → Type 0
+HoldsNode lines test (node.Cell p) = ⊥
+HoldsNode lines test (node.Name scope word) = ⊥
+HoldsNode lines test (node.Range b) = HoldsBlock lines test b
+HoldsNode lines test (node.Whole w) = HoldsWhole lines test w

@@ -1,8 +1,9 @@
 -- Nodes under numbers, by their keys.
-use Rattle.std.specs.Prelude.{◌≡◌, ℕ, Bool, true, false, List, Option, Some, IsSome, map, length, slice_get, slice_index_or, unwrap_or}
+use Rattle.std.specs.Prelude.{◌≡◌, ℕ, Bool, true, false, List, Option, Some, None, IsSome, map, length, slice_get, slice_index_or, unwrap_or}
 use Rattle.std.specs.List.{position_or_len}
 use Rattle.std.specs.Option.{option_and_then}
 use Rattle.cell_addr.specs.declared.place.Block.{Block}
+use Rattle.cell_addr.specs.declared.whole.Whole as whole
 use Rattle.node_links.specs.Nodes.{needs_of}
 use Rattle.node_links.specs.declared.links.Links.{Links}
 use Rattle.place_lines.specs.declared.lines.PlaceLines.{PlaceLines}
@@ -10,11 +11,12 @@ use Rattle.dep_graph.specs.declared.files.Files.{Files}
 use Rattle.dep_graph.specs.declared.key.Key.{Key}
 use Rattle.dep_graph.specs.declared.key.Key.TheVariants as key
 use Rattle.dep_graph.specs.declared.node.Node.{Node}
-use Rattle.dep_graph.specs.declared.node.Node.TheVariants.{Name, Range}
+use Rattle.dep_graph.specs.declared.node.Node.TheVariants.{Cell, Name, Range, Whole}
 use Rattle.dep_graph.specs.declared.table.NodeTable.{NodeTable}
 use Rattle.dep_graph.specs.internal.Files.{FindsNode, HoldsBlock}
 use Rattle.dep_graph.specs.internal.Filings.{filing_of}
 use Rattle.dep_graph.specs.internal.Keys.{key_of, node_of, same_key}
+use Rattle.dep_graph.specs.internal.Wholes.{HoldsWhole}
 
 -- how many numbers there are
 abbrev pub count_of : NodeTable → ℕ
@@ -50,16 +52,25 @@ place_of t a = key_place t (key_of t.lines a)
 abbrev pub linked : NodeTable → Links → Node → List Node
 linked t links a = map (node_at t) (needs_of links (place_of t a))
 
--- where the number is that of a range, it is filed
-abbrev pub IsFiled : NodeTable → Files → ℕ → Type 0
-IsFiled t files n = (b : Block) → found_at t n ≡ Some (Range b) → IsSome (filing_of files.current n)
-
--- the node is a range
+-- the node is a range, whole or not
 abbrev pub is_range : Option Node → Bool
 is_range (Some (Range b)) = true
-is_range _ = false
+is_range (Some (Whole w)) = true
+is_range (Some (Cell p)) = false
+is_range (Some (Name scope word)) = false
+is_range None = false
 
--- what filings serve are ranges with numbers, each of which is found by the cells of its block
+-- where the number is that of a range, it is filed
+abbrev pub IsFiled : NodeTable → Files → ℕ → Type 0
+IsFiled t files n = is_range (found_at t n) ≡ true → IsSome (filing_of files.current n)
+
+-- the number is that of a range, whole or not, which is found by its cells
+abbrev pub IsHeld : PlaceLines → List Key → Files → ℕ → Type 0
+IsHeld lines keys files n =
+    (is_range (found_under lines keys n) ≡ true)
+    × ((b : Block) → found_under lines keys n ≡ Some (Range b) → HoldsBlock lines (FindsNode files n) b)
+    × ((w : whole.Whole) → found_under lines keys n ≡ Some (Whole w) → HoldsWhole lines (FindsNode files n) w)
+
+-- so is each that a filing serves
 abbrev pub AreFilings : NodeTable → Files → Type 0
-AreFilings t files =
-    (n f : ℕ) → filing_of files.current n ≡ Some f → (is_range (found_at t n) ≡ true) × ((b : Block) → found_at t n ≡ Some (Range b) → HoldsBlock t.lines (FindsNode files n) b)
+AreFilings t files = (n f : ℕ) → filing_of files.current n ≡ Some f → IsHeld t.lines t.keys.keys files n

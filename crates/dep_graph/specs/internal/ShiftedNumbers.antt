@@ -3,7 +3,6 @@ use Rattle.std.specs.BTreeMap as tree
 use Rattle.std.specs.Prelude.{◌≡◌, ◌<◌, ◌==◌, ◌||◌, ◌⊎◌, ℕ, Bool, true, List, Option, Some, None, IsSome, length, nat_lt, slice_get, if◌then◌else◌}
 use Rattle.std.specs.Option.{option_and_then, option_map}
 use Rattle.std.specs.Ordering.{nat_cmp}
-use Rattle.cell_addr.specs.declared.place.Block.{Block}
 use Rattle.needs_order.specs.Needs.{has}
 use Rattle.node_links.specs.Nodes.{needs_of}
 use Rattle.node_links.specs.Redirect.{few_target, is_among}
@@ -12,12 +11,12 @@ use Rattle.shift_core.specs.declared.shift.Shift.{Shift}
 use Rattle.dep_graph.specs.Shifted.{node_after}
 use Rattle.dep_graph.specs.declared.net.Net.{Net}
 use Rattle.dep_graph.specs.declared.node.Node.{Node}
-use Rattle.dep_graph.specs.declared.node.Node.TheVariants.{Range}
+use Rattle.dep_graph.specs.declared.node.Node.TheVariants.{Cell, Name, Range, Whole}
 use Rattle.dep_graph.specs.declared.serving.Serving.{Serving}
 use Rattle.dep_graph.specs.internal.Arrows.{is_used}
-use Rattle.dep_graph.specs.internal.Files.{AreServing, FindsBy, HoldsBlock}
+use Rattle.dep_graph.specs.internal.Files.{AreServing, FindsBy, HoldsNode}
 use Rattle.dep_graph.specs.internal.Keys.{key_of}
-use Rattle.dep_graph.specs.internal.Numbers.{count_of, found_at, key_place}
+use Rattle.dep_graph.specs.internal.Numbers.{count_of, found_at, is_range, key_place}
 
 -- the node of the number is linked to some, or some to it
 abbrev pub is_linked : Net → ℕ → Bool
@@ -27,10 +26,13 @@ is_linked net n = nat_lt 0 (length (needs_of net.links n)) || is_used net n
 abbrev pub after_at : Shift → Net → ℕ → Option Node
 after_at s net n = option_and_then (node_after s) (found_at net.nodes n)
 
--- the block, where the node is a range
-abbrev pub block_in : Option Node → Option Block
-block_in (Some (Range b)) = Some b
-block_in _ = None
+-- the node, where it is a range, whole or not
+abbrev pub range_in : Option Node → Option Node
+range_in (Some (Range b)) = Some (Range b)
+range_in (Some (Whole w)) = Some (Whole w)
+range_in (Some (Cell p)) = None
+range_in (Some (Name scope word)) = None
+range_in None = None
 
 -- the number of what the node of a number becomes, by the lines after the operation
 abbrev pub aim_of : Shift → PlaceLines → Net → ℕ → Option ℕ
@@ -45,16 +47,16 @@ pub record AreTargets (s : Shift) (lines : PlaceLines) (net : Net) (target : ℕ
 abbrev pub AreFilingsUnder : PlaceLines → Net → (ℕ → Option Serving) → Type 0
 AreFilingsUnder lines net filing =
     (n : ℕ) (all : Serving) → filing n ≡ Some all → AreServing net.files n all
-    × ((b : Block) × (slice_get net.nodes.keys.keys n ≡ Some (key_of lines (Range b))) × HoldsBlock lines (FindsBy net.files n all) b)
+    × ((a : Node) × (slice_get net.nodes.keys.keys n ≡ Some (key_of lines a)) × HoldsNode lines (FindsBy net.files n all) a)
 
--- the node of the number is a used range, which becomes this block under this number
-abbrev pub BecomesRange : Shift → Net → (ℕ → Option ℕ) → ℕ → ℕ → Block → Type 0
+-- the node of the number is used, and becomes this range under this number
+abbrev pub BecomesRange : Shift → Net → (ℕ → Option ℕ) → ℕ → ℕ → Node → Type 0
 BecomesRange s net target n t after =
-    (is_used net n ≡ true) × (target n ≡ Some t) × (after_at s net n ≡ Some (Range after))
+    (is_used net n ≡ true) × (target n ≡ Some t) × (after_at s net n ≡ Some after) × (is_range (Some after) ≡ true)
 
 -- where it is, it is filed where it goes
 abbrev pub IsRefiled : Shift → Net → (ℕ → Option ℕ) → ℕ → (ℕ → Option Serving) → Type 0
-IsRefiled s net target n filing = (t : ℕ) (after : Block) → BecomesRange s net target n t after → IsSome (filing t)
+IsRefiled s net target n filing = (t : ℕ) (after : Node) → BecomesRange s net target n t after → IsSome (filing t)
 
 -- so are all
 abbrev pub AreAllRefiled : Shift → Net → (ℕ → Option ℕ) → (ℕ → Option Serving) → Type 0

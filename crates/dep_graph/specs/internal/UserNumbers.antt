@@ -17,7 +17,7 @@ own_number net a = if nat_lt (place_of net.nodes a) (node_total net) then place_
 
 -- the number of a cell, where it has one, and those of the used ranges that are filed under its slots
 abbrev pub numbers_over : Net → Place → List ℕ
-numbers_over net p = own_number net (Cell p) ++ flat_map (from_slot net) (cell_slots net.files.index (key_of net.nodes.lines (Cell p)))
+numbers_over net p = own_number net (Cell p) ++ flat_map (from_slot net) (cell_slots net.files (key_of net.nodes.lines (Cell p)))
 
 -- exactly the numbers that are linked to one of these
 abbrev pub AreUsersOf : Net → List ℕ → List ℕ → Type 0

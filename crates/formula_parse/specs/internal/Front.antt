@@ -3,7 +3,9 @@ use Rattle.std.specs.Prelude.{ℕ, ◌<◌, List, [], ◌∷◌, take, drop, Opt
 use Rattle.std.specs.Option.{option_map}
 use Rattle.cell_addr.specs.Quoted.{quoted}
 use Rattle.cell_addr.specs.declared.place.TheConstants.{ROWS, COLS}
+use Rattle.cell_addr.specs.Axis.{limit_of}
 use Rattle.formula_tree.specs.declared.address.Address.{Address}
+use Rattle.formula_tree.specs.declared.address.End.{End}
 use Rattle.formula_tree.specs.Token.{Token}
 use Rattle.formula_tree.specs.Token as tok
 use Rattle.formula_tree.specs.Tokens.{Front, number_length, pair_op, sign_token, token_at}
@@ -71,6 +73,10 @@ number_front cs = Some (tok.Number (take (number_length cs) cs), drop (number_le
 -- an address lies within the limits of a sheet
 abbrev pub IsAddressInside : Address → Type 0
 IsAddressInside a = (a.row < ROWS) × (a.col < COLS)
+
+-- an end of a whole range lies within them
+abbrev pub IsEndInside : End → Type 0
+IsEndInside a = a.line < limit_of a.axis
 
 abbrev pub HasAddressInside : Token → Type 0
 HasAddressInside (tok.Corner a) = IsAddressInside a

@@ -4,9 +4,11 @@
 use Rattle.std.specs.Prelude.{◌≡◌, ℕ, ℤ, pos, ◌/◌, ◌%◌, Bool, if◌then◌else◌, int_lt, unsigned_abs, List, [], ◌∷◌, ◌++◌, length, fold, bytes_eq}
 use Rattle.std.specs.List.{flat_map}
 use Rattle.std.specs.Hash as fed
+use Rattle.cell_addr.specs.declared.axis.Axis.{Axis}
+use Rattle.cell_addr.specs.declared.axis.Axis.TheVariants.{Rows, Cols}
 use Rattle.cell_value.specs.declared.fault.FaultKind.{FaultKind}
 use Rattle.cell_value.specs.declared.fault.FaultKind.TheVariants as kinds
-use Rattle.formula_tree.specs.Term.{Term, number, text, truth, fault, cell, area, name, prefix, percent, binary, call, paren, Terms, no_terms, term}
+use Rattle.formula_tree.specs.Term.{Term, number, text, truth, fault, cell, area, whole, name, prefix, percent, binary, call, paren, Terms, no_terms, term}
 use Rattle.formula_tree.specs.declared.code.TheConstants.{WORD}
 use Rattle.formula_tree.specs.declared.operator.Op.{Op}
 use Rattle.formula_tree.specs.declared.operator.Op.TheVariants as op
@@ -85,6 +87,11 @@ op_code op.Greater = 9
 op_code op.AtMost = 10
 op_code op.AtLeast = 11
 
+-- the number of a whole range's kind
+abbrev pub whole_kind : Axis → ℕ
+whole_kind Rows = 12
+whole_kind Cols = 13
+
 -- the number of a tree's kind
 abbrev pub kind : Term Ref → ℕ
 kind (number m) = 0
@@ -99,6 +106,7 @@ kind (percent t) = 8
 kind (binary o l r) = 9
 kind (call w ts) = 10
 kind (paren t) = 11
+kind (whole axis r q) = whole_kind axis
 
 abbrev mutual
   -- a tree begins with the number of its kind
@@ -115,6 +123,7 @@ abbrev mutual
   code (binary o l r) rest = 9 ∷ op_code o ∷ code l (code r rest)
   code (call w ts) rest = 10 ∷ text_code w (code_all ts rest)
   code (paren t) rest = 11 ∷ code t rest
+  code (whole axis r q) rest = whole_kind axis ∷ ref_code r (ref_code q rest)
 
   -- an argument follows 1, and 0 ends them
   pub code_all : Terms Ref → List ℕ → List ℕ

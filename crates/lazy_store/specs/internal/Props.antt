@@ -64,6 +64,7 @@ mutual
   fits-prop (tree.fault f) = Prim.hlevel logic.props
   fits-prop (tree.cell c) = Prim.hlevel logic.props
   fits-prop (tree.area c d) = Prim.hlevel logic.props
+  fits-prop (tree.whole axis c d) = Prim.hlevel logic.props
   fits-prop (tree.name w) = Prim.hlevel logic.props
   fits-prop (tree.prefix s t) = fits-prop t
   fits-prop (tree.percent t) = fits-prop t
@@ -129,6 +130,7 @@ mutual
   corners-back (tree.fault f) = tt
   corners-back (tree.cell c) = corner-back c
   corners-back (tree.area c d) = (corner-back c, corner-back d)
+  corners-back (tree.whole axis c d) = (corner-back c, corner-back d)
   corners-back (tree.name w) = tt
   corners-back (tree.prefix s t) = corners-back t
   corners-back (tree.percent t) = corners-back t

@@ -10,7 +10,7 @@ use Rattle.clip_board.proofs.paste.pasted.Goals as goal
 
 pub replaced-requires : goal.replaced-requires
 replaced-requires g c =
-    EachReference-all (λ r. AreHomesInside c.args.from c.args.to) (λ r q. AreHomesInside c.args.from c.args.to) (λ r. (c.requires.from, c.requires.to)) (λ r q. (c.requires.from, c.requires.to))
+    EachReference-all (λ r. AreHomesInside c.args.from c.args.to) (λ lines r q. AreHomesInside c.args.from c.args.to) (λ r. (c.requires.from, c.requires.to)) (λ lines r q. (c.requires.from, c.requires.to))
     (relative c.args.tree.now.value)
 
 pub returns-clause-seen : goal.returns-clause-seen

@@ -12,7 +12,7 @@ use Rattle.run_walk.specs.Run.{NoneLoses, place_over}
 use Rattle.run_walk.specs.internal.Freed.{AllFit, NoneLosesOfAll}
 use Rattle.run_walk.proofs.Arguments.{all_at, fits-next, free-next}
 use Rattle.run_walk.proofs.Freeing.{free-fewer, free-no_terms}
-use Rattle.run_walk.proofs.Nodes.{node-binary, node-call, node-cell, node-leaf, node-paren, node-percent, node-prefix}
+use Rattle.run_walk.proofs.Nodes.{node-binary, node-call, node-cell, node-cols, node-leaf, node-paren, node-percent, node-prefix, node-rows}
 use Rattle.run_walk.proofs.Over.{sound-take}
 use Rattle.run_walk.proofs.free.+free.Goals as goal
 
@@ -41,6 +41,14 @@ free_of-returns-in-Cell-clause-free g t c =
     let run = take c.free_of_place.result (g.W.Way.shifts c.args.way.now) in
     let some : place_over run (corner_at (base_of c.args.home) c.in-Cell.reference).at ≢ None = λ e. c.free_of_place.ensures.free (ap (λ k. place_over run k.at) c.at.ensures ∙ e) in
     node-cell run c.args.home c.args.tree.now c.in-Cell.reference c.in-Cell.is (sound-take c.free_of_place.result (g.W.Way.shifts c.args.way.now) c.requires.sound) c.requires.fits some
+
+pub free_of-returns-in-WholeRows-clause-free : goal.free_of-returns-in-WholeRows-clause-free
+free_of-returns-in-WholeRows-clause-free g t c =
+    node-rows (take c.free_of_whole.result (g.W.Way.shifts c.args.way.now)) c.args.home c.args.tree.now c.in-WholeRows.sheet c.in-WholeRows.first c.in-WholeRows.last c.in-WholeRows.is c.free_of_whole.ensures.free
+
+pub free_of-returns-in-WholeCols-clause-free : goal.free_of-returns-in-WholeCols-clause-free
+free_of-returns-in-WholeCols-clause-free g t c =
+    node-cols (take c.free_of_whole-in-WholeCols.result (g.W.Way.shifts c.args.way.now)) c.args.home c.args.tree.now c.in-WholeCols.sheet c.in-WholeCols.first c.in-WholeCols.last c.in-WholeCols.is c.free_of_whole-in-WholeCols.ensures.free
 
 pub free_of-returns-in-Prefix-clause-free : goal.free_of-returns-in-Prefix-clause-free
 free_of-returns-in-Prefix-clause-free g t c =

@@ -1,12 +1,12 @@
 use Rattle.shift_core.specs.declared.shift.Shift.TheVariants.{InsertRows}
 use Rattle.std.proofs.Common.{refl, get_or}
-use Rattle.shift_core.specs.Tables.{block_after}
+use Rattle.tree_rewrite.specs.Rewritten.{area_after}
 use Rattle.run_walk.proofs.Freeing.{carried-more}
 use Rattle.run_walk.proofs.Over.{over-more, sound-at}
 use Rattle.run_walk.proofs.free.steps_of_block.Goals as goal
 
-pub carried_block-requires : goal.carried_block-requires
-carried_block-requires c = sound-at c.args.run.now c.run.index (InsertRows 0 0 0) c.requires c.run-test.true
+pub carried_area-requires-clause-sound : goal.carried_area-requires-clause-sound
+carried_area-requires-clause-sound c = sound-at c.args.run.now c.run.index (InsertRows 0 0 0) c.requires.sound c.run-test.true
 
 pub run-preserved : goal.run-preserved
 run-preserved c =
@@ -14,6 +14,7 @@ run-preserved c =
     let d = InsertRows 0 0 0 in
     let s = get_or run c.run.index d in
     record {
-      here = over-more block_after run c.run.index d s c.args.b c.run.at c.in-Some.next c.run-test.true refl c.run.invariant.here c.in-Some.ensures.after;
-      back = carried-more run c.run.index d s c.args.b c.run.at c.in-Some.next c.run-test.true refl c.in-Some.ensures.after c.in-Some.ensures.back c.run.invariant.here c.run.invariant.back;
+      here = over-more (λ z. area_after z c.args.lines) run c.run.index d s c.args.b c.run.at c.in-Some.next c.run-test.true refl c.run.invariant.here c.in-Some.ensures.after;
+      back = carried-more run c.run.index d s c.args.lines c.args.b c.run.at c.in-Some.next c.run-test.true refl c.in-Some.ensures.after c.in-Some.ensures.back c.run.invariant.here c.run.invariant.back;
+      inside = c.in-Some.ensures.inside;
     }

@@ -1,63 +1,72 @@
-use Rattle.std.proofs.Common.{◌≡◌, ◌+◌, ◌∙◌, sym, subst, rules, arith, length, drop, [], ◌∷◌, None, MatchOption}
-use Rattle.sheet_shifts.specs.Listed.{listed}
-use Rattle.sheet_shifts.specs.internal.Going.{TakesPlace}
-use Rattle.sheet_shifts.proofs.Going.{ends-before, ends-none, first, goes-on, rest-on, sound-from}
-use Rattle.sheet_shifts.proofs.Listing.{no-entries}
-use Rattle.sheet_shifts.proofs.Staying.{place-stays}
+use Rattle.std.proofs.Common.{◌≡◌, ◌∙◌, ◌<◌, ◌∷◌, None, MatchOption, sym, subst, rules, arith}
+use Rattle.sheet_shifts.specs.internal.Going.{IsPast, TakesPlace}
+use Rattle.sheet_shifts.proofs.Axes.{goes-past, place-along, place-comes, sound-left, sound-next}
 use Rattle.sheet_shifts.proofs.ahead.place_over.Goals as goal
 
-pub returns-then-to-entry : goal.returns-then-to-entry
-returns-then-to-entry c =
-    let run = c.args.lists.now.run.items in
-    let e = c.in-Some.entry.now in
-    let rest = c.in-Some.rest.now in
-    let so_far = c.entries.invariant in
-    let is : listed c.entries.at.sheet c.entries.index (drop c.entries.index run) ≡ e ∷ rest = sym so_far.left ∙ c.in-Some.ensures.cases.0 in
-    so_far.goes c.entries.at (ends-before TakesPlace c.entries.at.sheet c.entries.at (place-stays c.entries.at) run c.entries.index c.args.to so_far.order e rest is c.if-to-entry.true)
+pub place_over-requires : goal.place_over-requires
+place_over-requires c =
+    let so_far = c.operations.invariant in
+    sound-left c.args.lists.now.run.items c.operations.at.sheet c.args.from c.operations.index c.operations.left so_far.from c.requires.sound so_far.left
+
+pub place_over-requires-2 : goal.place_over-requires-2
+place_over-requires-2 c =
+    let so_far = c.operations.invariant in
+    sound-left c.args.lists.now.run.items c.operations.at.sheet c.args.from c.operations.index c.operations.left so_far.from c.requires.sound so_far.left
 
 pub moved_place-requires : goal.moved_place-requires
 moved_place-requires c =
     let run = c.args.lists.now.run.items in
-    let e = c.in-Some.entry.now in
-    let rest = c.in-Some.rest.now in
-    let so_far = c.entries.invariant in
-    let is : listed c.entries.at.sheet c.entries.index (drop c.entries.index run) ≡ e ∷ rest = sym so_far.left ∙ c.in-Some.ensures.cases.0 in
-    (first c.entries.at.sheet c.entries.index (drop c.entries.index run) e rest is).sound (sound-from c.args.from c.entries.index run so_far.from c.requires.sound)
+    let so_far = c.operations.invariant in
+    let e = c.in-Some.other.now in
+    let here = c.in_ok-here.here in
+    let rest = c.in_ok-here.rest in
+    let comes = place-comes run c.operations.index c.operations.left rest e c.in-Some.others.now c.in-Some.ensures.0 c.operations.at here so_far.left c.in_ok-here.ensures in
+    let order = comes.order in
+    sound-next run here.sheet c.args.from rest e c.in-Some.others.now (omega (arith, so_far.from, order)) c.requires.sound comes.next
 
-pub behind-left-requires-clause-rest : goal.behind-left-requires-clause-rest
-behind-left-requires-clause-rest c =
+pub behind-left-requires-clause-left : goal.behind-left-requires-clause-left
+behind-left-requires-clause-left c =
     let run = c.args.lists.now.run.items in
-    let so_far = c.entries.invariant in
-    rest-on c.entries.at.sheet run c.entries.index c.in-Some.entry.now c.in-Some.rest.now (sym so_far.left ∙ c.in-Some.ensures.cases.0)
+    let so_far = c.operations.invariant in
+    let e = c.in-Some.other.now in
+    let here = c.in_ok-here.here in
+    let rest = c.in_ok-here.rest in
+    let next = (place-comes run c.operations.index c.operations.left rest e c.in-Some.others.now c.in-Some.ensures.0 c.operations.at here so_far.left c.in_ok-here.ensures).next in
+    record { rows = next.rows; cols = next.cols; others = next.others }
 
-pub entries-smaller : goal.entries-smaller
-entries-smaller c =
+pub operations-smaller : goal.operations-smaller
+operations-smaller c =
     let run = c.args.lists.now.run.items in
-    let so_far = c.entries.invariant in
-    let from = (first c.entries.at.sheet c.entries.index (drop c.entries.index run) c.in-Some.entry.now c.in-Some.rest.now (sym so_far.left ∙ c.in-Some.ensures.cases.0)).from in
-    omega (arith, from, c.if-to-entry.false)
+    let so_far = c.operations.invariant in
+    let e = c.in-Some.other.now in
+    let here = c.in_ok-here.here in
+    let rest = c.in_ok-here.rest in
+    let order = (place-comes run c.operations.index c.operations.left rest e c.in-Some.others.now c.in-Some.ensures.0 c.operations.at here so_far.left c.in_ok-here.ensures).order in
+    omega (arith, order, c.in-Some.ensures.1)
 
-pub entries-preserved : goal.entries-preserved
-entries-preserved c =
+pub operations-preserved : goal.operations-preserved
+operations-preserved c =
     let run = c.args.lists.now.run.items in
-    let e = c.in-Some.entry.now in
-    let rest = c.in-Some.rest.now in
-    let so_far = c.entries.invariant in
-    let is : listed c.entries.at.sheet c.entries.index (drop c.entries.index run) ≡ e ∷ rest = sym so_far.left ∙ c.in-Some.ensures.cases.0 in
-    let from = (first c.entries.at.sheet c.entries.index (drop c.entries.index run) e rest is).from in
-    let step : TakesPlace e.shift c.entries.at c.in_ok-next.next = sym c.moved_place.ensures ∙ c.in_ok-next.was in
+    let so_far = c.operations.invariant in
+    let e = c.in-Some.other.now in
+    let here = c.in_ok-here.here in
+    let rest = c.in_ok-here.rest in
+    let behind = c.in-Some.others.now in
+    let next = c.in_ok-next.next in
+    let comes = place-comes run c.operations.index c.operations.left rest e behind c.in-Some.ensures.0 c.operations.at here so_far.left c.in_ok-here.ensures in
+    let order = comes.order in
+    let step : TakesPlace e.what here next = sym c.moved_place.ensures ∙ c.in_ok-next.was in
     record {
-      from = omega (arith, from, so_far.from);
-      order = omega (arith, c.if-to-entry.false);
+      from = omega (arith, order, so_far.from);
+      order = omega (arith, c.in-Some.ensures.1);
       left = c.behind-left.ensures;
-      goes = λ q on. so_far.goes q (goes-on TakesPlace c.entries.at.sheet c.entries.at (place-stays c.entries.at) run c.entries.index c.args.to e rest c.in_ok-next.next q is c.if-to-entry.false step on);
+      goes = λ q on. so_far.goes q (goes-past TakesPlace run c.operations.index c.args.to here.sheet rest e behind c.operations.at here next q c.in-Some.ensures.1 comes step on);
     }
 
 pub returns : goal.returns
 returns c =
-    let run = c.args.lists.now.run.items in
-    let so_far = c.entries.invariant in
-    let none : c.split_first.result ≡ None = search rules in
-    let short : length c.entries.left.now ≡ 0 = subst (λ o. MatchOption o (length c.entries.left.now ≡ 0) (λ p. (c.entries.left.now ≡ p.0.now ∷ p.1.now) × (length p.1.now + 1 ≡ length c.entries.left.now))) none c.split_first.ensures.cases in
-    let is : listed c.entries.at.sheet c.entries.index (drop c.entries.index run) ≡ [] = sym so_far.left ∙ no-entries c.entries.left.now short in
-    so_far.goes c.entries.at (ends-none TakesPlace c.entries.at.sheet c.entries.at (place-stays c.entries.at) run c.entries.index c.args.to is)
+    let so_far = c.operations.invariant in
+    let left = c.operations.left in
+    let none : c.first_before.result ≡ None = search rules in
+    let past : IsPast c.args.to left.others.now = subst (λ o. MatchOption o (IsPast c.args.to left.others.now) (λ r. (left.others.now ≡ r.0.now ∷ r.1.now) × (r.0.now.index < c.args.to))) none c.first_before.ensures in
+    so_far.goes c.in_ok-last.last (place-along c.args.lists.now.run.items c.operations.index c.args.to left _ so_far.order past c.operations.at c.in_ok-last.last so_far.left c.in_ok-last.ensures).0

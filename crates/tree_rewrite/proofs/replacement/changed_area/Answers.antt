@@ -8,10 +8,10 @@ other : (b : Bool) → b ≡ false → b ≡ true → ⊥
 other b f t = cc
 
 pub returns-then-both_same : goal.returns-then-both_same
-returns-then-both_same c = let same = c.both_same.ensures.0 c.if-both_same.true in same-area _ _ _ _ same.0 same.1
+returns-then-both_same c = let same = c.both_same.ensures.0 c.if-both_same.true in same-area c.args.lines _ _ _ _ same.0 same.1
 
 pub returns : goal.returns
 returns c = (
-  walking.relative-Area c.args.new.0 c.args.new.1,
-  λ q. other c.both_same.result c.if-both_same.false (c.both_same.ensures.1 (walking.area-parts c.args.new.0 c.args.new.1 c.args.old.0 c.args.old.1 q)),
+  c.area_node.ensures,
+  λ q. other c.both_same.result c.if-both_same.false (c.both_same.ensures.1 (walking.area-parts c.args.lines c.args.new.0 c.args.new.1 c.args.old.0 c.args.old.1 q)),
 )

@@ -18,6 +18,7 @@ invariant_of-self c =
       owned = put_owned files filings c.let_serve.new.serves c.requires.serving c.let_serve.ensures c.put_filings.new.current c.put_filings.ensures.kept;
       served = put_served files filings c.let_serve.new.serves c.requires.serving c.let_serve.ensures c.put_filings.new.current c.put_filings.ensures.kept;
       within = files.within;
+      within_wholes = files.within_wholes;
     }
 
 pub returns-clause-serves : goal.returns-clause-serves

@@ -10,6 +10,6 @@ invariant_of-self c = record {
   rooms = ap (λ v. length v.items) c.file.ensures.on.current ∙ c.args.self.now.rooms;
   alive = c.args.self.now.alive;
   filed = filings_on c.args.self.now.nodes c.args.self.now.files c.file.new.self c.args.self.now.filed c.file.ensures.on;
-  used = λ a n h b at. subst IsSome (sym (ap (λ v. filing_of v n) c.file.ensures.on.current)) (c.args.self.now.used a n h b at);
+  used = λ a n h range. subst IsSome (sym (ap (λ v. filing_of v n) c.file.ensures.on.current)) (c.args.self.now.used a n h range);
   indexed = c.args.self.now.indexed;
 }

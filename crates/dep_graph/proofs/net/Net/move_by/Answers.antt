@@ -116,10 +116,10 @@ invariant_of-self-3 c =
       counts = c.redirect_few.ensures.count ∙ net.counts;
       rooms = c.put_few.ensures.count ∙ net.rooms;
       alive = ends_alive s lines net target are links redirected;
-      filed = λ n f is. filings_after net.files c.put_few.new.self filing c.put_few.ensures.owners c.put_few.ensures.kept c.put_few.ensures.serves lines net refl c.in_ok-filings.ensures.filings c.put_few.ensures.index n f is;
-      used = λ a n h b range.
+      filed = λ n f is. filings_after net.files c.put_few.new.self filing c.put_few.ensures.owners c.put_few.ensures.kept c.put_few.ensures.serves lines net refl c.in_ok-filings.ensures.filings c.put_few.ensures.index c.put_few.ensures.wholes n f is;
+      used = λ a n h range.
           still_served net.files c.put_few.new.self filing c.put_few.ensures.owners c.put_few.ensures.kept c.put_few.ensures.serves n
-          (used_filed s lines net target are links redirected filing c.in_ok-filings.ensures.refiled a n h b range);
+          (used_filed s lines net target are links redirected filing c.in_ok-filings.ensures.refiled a n h range);
       indexed = all_indexed s c.requires.sound net.nodes.lines lines moved net.nodes refl touches more (all_more net.nodes net.touches touches c.keep_all.ensures.more net.indexed) finds kept;
     }
 

@@ -6,7 +6,6 @@ use Rattle.dep_graph.specs.Nodes.{items_of}
 use Rattle.dep_graph.specs.internal.Arrows.{starts_of, total}
 use Rattle.dep_graph.specs.internal.Numbers.{found_at}
 use Rattle.dep_graph.specs.internal.Walked.{AreUnknown}
-use Rattle.block_index.proofs.Filing.{slots_are_slots}
 use Rattle.dep_graph.proofs.Listing.{if_ok}
 use Rattle.dep_graph.proofs.Numbers.{found_low}
 use Rattle.dep_graph.proofs.Reaching.{all_reached, reached_alive, starts_inside}
@@ -16,7 +15,7 @@ pub reach-requires : goal.reach-requires
 reach-requires c =
     let begun : c.deref.result.now ≡ flat_map (starts_of c.args.self.now) (items_of c.args.marks.now) = c.deref.ensures.value ∙ (c.in_ok-starts.ensures ∙ ap (flat_map (starts_of c.args.self.now)) c.items-2.ensures) in
     all_of (total c.args.self.now) c.deref.result.now
-    (λ b h. starts_inside c.args.self.now (items_of c.args.marks.now) (slots_are_slots c.args.self.now.files.index) b (subst (λ l. plain.has b l ≡ true) begun h))
+    (λ b h. starts_inside c.args.self.now (items_of c.args.marks.now) b (subst (λ l. plain.has b l ≡ true) begun h))
 
 pub returns : goal.returns
 returns c =

@@ -12,9 +12,6 @@ use Rattle.formula_parse.specs.internal.Tree.{tree_at}
 use Rattle.formula_parse.proofs.ReaderLoops.{climb-ended, climb-operator, read-shortens, comma-shorter, arguments-comma, arguments-close, call-at}
 use Rattle.formula_parse.proofs.reader.Reader.+tree.Goals as goal
 
-pub first-returns-in-Number : goal.first-returns-in-Number
-first-returns-in-Number g t c = search (rules, c.number.ensures c.args.self.now.home)
-
 pub climb-returns : goal.climb-returns
 climb-returns g t c =
     climb-ended (read (sheet_of c.args.self.now.home) (id_in (g.S.SheetNames.sheets c.args.self.now.sheets.now)) c.args.levels) _ _ _ _ _ _ c.operators-test.false c.operators.invariant.1

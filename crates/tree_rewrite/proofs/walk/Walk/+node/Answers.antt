@@ -2,7 +2,9 @@ use Rattle.std.proofs.Common.{◌≡◌, ◌∙◌, ◌+◌, ◌-◌, ◌*◌, �
 use Rattle.std.proofs.lemmas.List.{take_rest, take_all}
 use Rattle.formula_tree.specs.Arguments.{trees}
 use Rattle.formula_tree.specs.Relative.{relative, relative_list}
+use Rattle.cell_addr.specs.declared.axis.Axis.TheVariants.{Rows, Cols}
 use Rattle.formula_tree.specs.Term.{depth_of, depth_of_all}
+use Rattle.formula_tree.specs.Whole.{first_ref, last_ref}
 use Rattle.tree_rewrite.specs.internal.Walk.{Takes, AllTake, term_of, terms_in, tree_replaced}
 use Rattle.tree_rewrite.proofs.Parts.{staying-item, front-pushed, rest-pushed}
 use Rattle.formula_tree.specs.declared.node.Node.TheVariants as nodes
@@ -188,7 +190,8 @@ pub node-reference-requires : goal.node-reference-requires
 node-reference-requires g t c = walking.Takes-cell (g.R.Replacement.TakesCell c.args.self.now.rule.now) (g.R.Replacement.TakesArea c.args.self.now.rule.now) c.args.node.now c.in-Cell.reference c.in-Cell.is c.requires
 
 pub node-area-requires : goal.node-area-requires
-node-area-requires g t c = walking.Takes-area (g.R.Replacement.TakesCell c.args.self.now.rule.now) (g.R.Replacement.TakesArea c.args.self.now.rule.now) c.args.node.now c.in-Area.first c.in-Area.last c.in-Area.is c.requires
+node-area-requires g t c =
+    record { takes = walking.Takes-area (g.R.Replacement.TakesCell c.args.self.now.rule.now) (g.R.Replacement.TakesArea c.args.self.now.rule.now) c.args.node.now c.in-Area.first c.in-Area.last c.in-Area.is c.requires; shape = tt }
 
 pub node-returns-in-Cell : goal.node-returns-in-Cell
 node-returns-in-Cell g t c =
@@ -197,3 +200,23 @@ node-returns-in-Cell g t c =
 pub node-returns-in-Area : goal.node-returns-in-Area
 node-returns-in-Area g t c =
     walking.area-becomes (g.R.Replacement.for_cell c.args.self.now.rule.now) (g.R.Replacement.for_area c.args.self.now.rule.now) c.args.node.now c.in-Area.first c.in-Area.last c.area.result c.in-Area.is c.area.ensures
+
+pub node-whole-requires : goal.node-whole-requires
+node-whole-requires g t c =
+    walking.Takes-whole (g.R.Replacement.TakesCell c.args.self.now.rule.now) (g.R.Replacement.TakesArea c.args.self.now.rule.now) c.args.node.now Rows (first_ref Rows c.in-WholeRows.sheet c.in-WholeRows.first) (last_ref Rows c.in-WholeRows.sheet c.in-WholeRows.last)
+    (ap relative c.in-WholeRows.is ∙ walking.relative-WholeRows c.in-WholeRows.sheet c.in-WholeRows.first c.in-WholeRows.last) c.requires
+
+pub node-returns-in-WholeRows : goal.node-returns-in-WholeRows
+node-returns-in-WholeRows g t c =
+    walking.whole-becomes (g.R.Replacement.for_cell c.args.self.now.rule.now) (g.R.Replacement.for_area c.args.self.now.rule.now) c.args.node.now Rows (first_ref Rows c.in-WholeRows.sheet c.in-WholeRows.first) (last_ref Rows c.in-WholeRows.sheet c.in-WholeRows.last)
+    c.whole.result (ap relative c.in-WholeRows.is ∙ walking.relative-WholeRows c.in-WholeRows.sheet c.in-WholeRows.first c.in-WholeRows.last) c.whole.ensures
+
+pub node-whole-requires-in-WholeCols : goal.node-whole-requires-in-WholeCols
+node-whole-requires-in-WholeCols g t c =
+    walking.Takes-whole (g.R.Replacement.TakesCell c.args.self.now.rule.now) (g.R.Replacement.TakesArea c.args.self.now.rule.now) c.args.node.now Cols (first_ref Cols c.in-WholeCols.sheet c.in-WholeCols.first) (last_ref Cols c.in-WholeCols.sheet c.in-WholeCols.last)
+    (ap relative c.in-WholeCols.is ∙ walking.relative-WholeCols c.in-WholeCols.sheet c.in-WholeCols.first c.in-WholeCols.last) c.requires
+
+pub node-returns-in-WholeCols : goal.node-returns-in-WholeCols
+node-returns-in-WholeCols g t c =
+    walking.whole-becomes (g.R.Replacement.for_cell c.args.self.now.rule.now) (g.R.Replacement.for_area c.args.self.now.rule.now) c.args.node.now Cols (first_ref Cols c.in-WholeCols.sheet c.in-WholeCols.first) (last_ref Cols c.in-WholeCols.sheet c.in-WholeCols.last)
+    c.whole-in-WholeCols.result (ap relative c.in-WholeCols.is ∙ walking.relative-WholeCols c.in-WholeCols.sheet c.in-WholeCols.first c.in-WholeCols.last) c.whole-in-WholeCols.ensures

@@ -1,6 +1,0 @@
-use Rattle.shift_core.specs.declared.shift.Shift.TheVariants.{InsertRows}
-use Rattle.run_walk.proofs.Over.{sound-at}
-use Rattle.run_walk.proofs.run.block_over.Goals as goal
-
-pub moved_block-requires : goal.moved_block-requires
-moved_block-requires c = sound-at c.args.run.now c.run.s-index (InsertRows 0 0 0) c.requires c.run-test.true
