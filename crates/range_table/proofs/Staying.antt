@@ -11,7 +11,7 @@ use Rattle.cell_value.specs.Summary.{summary_of}
 use Rattle.cell_value.specs.declared.scalar.Scalar.{Scalar}
 use Rattle.cell_value.specs.declared.summary.Summary.{Summary}
 use Rattle.range_table.specs.Blocks.{BlockMap, block_cmp}
-use Rattle.range_table.specs.Cells.{cells_in, fold, height, nonempty_in, row_values, width}
+use Rattle.range_table.specs.Cells.{fold, height, nonempty_in, row_values, width}
 use Rattle.range_table.specs.Laws.{FewCellsAreMerged, TouchedTablesStayRight}
 use Rattle.range_table.specs.Table.{AreFolds, begun, cells_left, last_row}
 use Rattle.shift_core.proofs.CarriedEntries.{eq_by_cmp-decides}
@@ -65,17 +65,17 @@ touched_stay_right before after changed kept same right b s is =
     (sym (get-retain_keys kept (λ x. not (covers x changed)) b (λ x tied. ap (λ y. not (covers y changed)) (sym (block_cmp-IsAntisymmetric b x tied)))) ∙ is) in
     right b s had ∙ folds_alike before after b (λ p holds. sym (same p (λ e. let bad = sym apart ∙ ap (covers b) (sym e) ∙ holds in cc)))
 
-few-by : (values : Place → Scalar) (b : Block) → nonempty_in values b ≤ cells_in b → nonempty_in values (last_row b) ≤ width b → nonempty_in values (last_row b) ≤ nonempty_in values b → (r q : Option Summary)
-    → (cond (is_some r) 0 (cells_left values b q) ≤ cells_in b) × (IsSome r → cond (is_some r) 0 (cells_left values b q) ≡ 0) × (IsSome q → cond (is_some r) 0 (cells_left values b q) ≤ width b) × (r ≡ None → nonempty_in values (last_row b) ≤ cond (is_some r) 0 (cells_left values b q))
-few-by values b all last part (Some s) q = (omega arith, (λ some. refl), (λ some. omega arith), (λ none. cc))
-few-by values b all last part None (Some t) = (omega (arith, all, part), (λ some. cc), (λ some. last), (λ none. omega arith))
-few-by values b all last part None None = (all, (λ some. cc), (λ some. cc), (λ none. part))
+few-by : (values : Place → Scalar) (b : Block) → nonempty_in values (last_row b) ≤ width b → nonempty_in values (last_row b) ≤ nonempty_in values b → (r q : Option Summary)
+    → (cond (is_some r) 0 (cells_left values b q) ≤ nonempty_in values b) × (IsSome r → cond (is_some r) 0 (cells_left values b q) ≡ 0) × (IsSome q → cond (is_some r) 0 (cells_left values b q) ≤ width b) × (r ≡ None → nonempty_in values (last_row b) ≤ cond (is_some r) 0 (cells_left values b q))
+few-by values b last part (Some s) q = (omega arith, (λ some. refl), (λ some. omega arith), (λ none. cc))
+few-by values b last part None (Some t) = (part, (λ some. cc), (λ some. last), (λ none. omega arith))
+few-by values b last part None None = (omega arith, (λ some. cc), (λ some. cc), (λ none. part))
 
 pub few_are_merged : FewCellsAreMerged
 few_are_merged values kept b inside =
     let row = nonempty_fit values (last_row b) in
     let one = one_row b in
-    few-by values b (nonempty_fit values b) (omega (arith, row, one)) (last_is_part values b inside.0) (get kept b) (begun kept b)
+    few-by values b (omega (arith, row, one)) (last_is_part values b inside.0) (get kept b) (begun kept b)
 
 -- nothing kept is right
 pub nothing_right : (values : Place → Scalar) → AreFolds values empty

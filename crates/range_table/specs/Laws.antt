@@ -11,7 +11,7 @@ use Rattle.shift_core.specs.Sound.{IsSound}
 use Rattle.shift_core.specs.Tables.{place_after}
 use Rattle.shift_core.specs.declared.shift.Shift.{Shift}
 use Rattle.range_table.specs.Blocks.{BlockMap}
-use Rattle.range_table.specs.Cells.{cells_in, nonempty_in, width}
+use Rattle.range_table.specs.Cells.{nonempty_in, width}
 use Rattle.range_table.specs.Shifted.{KeepsBlock}
 use Rattle.range_table.specs.Table.{AreFolds, begun, cells_to_merge, last_row, without_holders}
 
@@ -21,12 +21,13 @@ TouchedTablesStayRight =
     (before after : Place → Scalar) (changed : Place) (kept : BlockMap Summary) →
     ((p : Place) → ¬ (p ≡ changed) → after p ≡ before p) → AreFolds before kept → AreFolds after (without_holders changed kept)
 
--- never more cells are merged than the block has, none where its summary is kept, no more than its width where that of the
--- block without its last row is kept, and at least those of its last row that aren't empty where its own isn't
+-- never more cells are merged than the block has that aren't empty, none where its summary is kept, no more than its width
+-- where that of the block without its last row is kept, and at least those of its last row that aren't empty where its own
+-- isn't
 abbrev pub FewCellsAreMerged : Type 0
 FewCellsAreMerged =
     (values : Place → Scalar) (kept : BlockMap Summary) (b : Block) → IsBlockInside b →
-    (cells_to_merge values kept b ≤ cells_in b)
+    (cells_to_merge values kept b ≤ nonempty_in values b)
     × (IsSome (map.get kept b) → cells_to_merge values kept b ≡ 0)
     × (IsSome (begun kept b) → cells_to_merge values kept b ≤ width b)
     × (map.get kept b ≡ None → nonempty_in values (last_row b) ≤ cells_to_merge values kept b)
