@@ -5,13 +5,15 @@ from dataclasses import dataclass
 import functions
 import numbers
 import values
-from grammar import Binary, Block, Call, Name, Parens, Percent, Ref, Sign, mentions
+from grammar import (
+    COLUMNS, ROWS, Binary, Block, Call, Name, Parens, Percent, Ref, Sign, Whole, mentions,
+)
 from values import NOTHING, Fault, Number, Stop, Truth
 
 
 @dataclass(frozen=True)
 class Area:
-    """The cells of a block, or the one of a reference."""
+    """The cells of a block or a whole range, or the one of a reference."""
 
     sheet: int
     row: int
@@ -25,6 +27,11 @@ class Area:
 def area(tree):
     if isinstance(tree, Ref):
         return Area(tree.sheet, tree.corner.row, tree.corner.col, 1, 1, False)
+    if isinstance(tree, Whole):
+        start, count = tree.first.line, tree.last.line - tree.first.line + 1
+        if tree.axis == "row":
+            return Area(tree.sheet, start, 1, count, COLUMNS, True)
+        return Area(tree.sheet, 1, start, ROWS, count, True)
     first, last = tree.first, tree.last
     rows, cols = last.row - first.row + 1, last.col - first.col + 1
     return Area(tree.sheet, first.row, first.col, rows, cols, True)
@@ -182,12 +189,12 @@ class Formula:
 
     def argument(self, tree):
         """An argument as an area, where it is one by itself or by a name, else its value."""
-        if isinstance(tree, (Ref, Block)):
+        if isinstance(tree, (Ref, Block, Whole)):
             return area(tree)
         if isinstance(tree, Name):
             name = self.evaluation.book.find_name(tree.word, self.scope)
             meaning = self.evaluation.book.names.get(name)
-            if isinstance(meaning, (Ref, Block)):
+            if isinstance(meaning, (Ref, Block, Whole)):
                 return area(meaning)
         return self.value(tree)
 
@@ -197,7 +204,7 @@ class Formula:
             return tree
         if isinstance(tree, Ref):
             return self.evaluation.cell((tree.sheet, tree.corner.row, tree.corner.col))
-        if isinstance(tree, Block):
+        if isinstance(tree, (Block, Whole)):
             return values.VALUE
         if isinstance(tree, Name):
             name = self.evaluation.book.find_name(tree.word, self.scope)

@@ -6,7 +6,7 @@ import functions
 import grammar
 from grammar import ROWS
 
-NAMES = ("RATE", "rate", "PAIR", "tax.1", "_x", "Line", "A50000", "TRUE", "B2", "1x", "", "a b")
+NAMES = ("RATE", "rate", "PAIR", "tax.1", "_x", "Line", "A50000", "ABC", "TRUE", "B2", "1x", "", "a b")
 SIGNS = ("+", "-", "*", "/", "^", "&", "=", "<>", "<", ">", "<=", ">=")
 FAULTS = ("#N/A", "#DIV/0!", "#VALUE!", "#NUM!", "#REF!", "#NAME?", "#CYCLE!", "#ERROR!")
 LITERALS = (
@@ -114,6 +114,8 @@ class Formulas:
         return self.front(self.often()) + self.corner()
 
     def area(self):
+        if self.one_in(8):
+            return self.front(self.often()) + self.whole()
         if self.one_in(2):
             return f"{self.front(self.often())}{self.corner()}:{self.corner()}"
         return self.front(self.often()) + self.line()
@@ -124,6 +126,17 @@ class Formulas:
         down, right = self.draw.choice(((0, 1), (0, 2), (0, 4), (2, 0), (4, 0), (0, 0), (1, 1), (5, 2)))
         return (f"{grammar.column_letters(col)}{row}"
                 f":{grammar.column_letters(col + right)}{row + down}")
+
+    def whole(self):
+        """All columns or all rows from one to another."""
+        columns = self.one_in(2)
+
+        def end():
+            if columns:
+                return self.dollar() + self.letters()
+            return self.dollar() + str(ROWS if self.one_in(60) else self.draw.randint(1, 6))
+
+        return end() + (" : " if self.one_in(20) else ":") + end()
 
     def name(self):
         return self.draw.choice(NAMES[:6])
@@ -205,4 +218,5 @@ class Formulas:
             f"={sheet}{corner()}", f"={sheet}{corner()}:{corner()}",
             f"={sheet}{corner()}+1", f"=SUM({sheet}{corner()}:{corner()})",
             f"={self.name()}", f"={self.name()}*2", "=ROW()", "=0.2", f"=IF(TRUE,2,{self.name()})",
+            f"={sheet}{self.whole()}", f"={sheet}$B:$C", f"=SUM({sheet}$2:$3)",
         ))

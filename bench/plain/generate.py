@@ -16,6 +16,9 @@ TEXTS = (
     "=1 2", "=(", "=A1:", "=#REF!", "=#n/a", "=Nope!A1", "=Nope!A1:B2", "=A50000", "=$A50000",
     "=\"a", "=1..2", "=TRUE", "=true()", "=' A'!A1", "=1<>2", "=A1 :B2", "=- -1", "=2%%",
     "=POSTAGE(0.5)", "=LEVY(6000)", "45351", "60", "1", "0", "-1", "=IF(A1,1/0,2)",
+    "=SUM(C:A)", "=SUM($D:D)", "=SUM(5:$2)", "=COUNT( b : $C )", "=Nope!A:B", "=SUM(Stock!2:3)",
+    "=A:1", "=A:B2", "=A1:B", "=0:1", "=01:2", "=1.0:2", "=40001:1", "=ABCD:A", "=$A:", "=:2",
+    "=A:B:C", "=A:B!C1", "=A:B(1)", "=A:TRUE", "=ABC", "=ABC+SUM(ABC:ABC)", "=Stock!A:Stock!B",
 )
 
 
@@ -50,10 +53,21 @@ class Maker(Formulas):
             return self.place()
         if self.one_in(10):
             return f"{self.place()}:{self.letters()}{self.row()}"
+        if self.one_in(12):
+            return self.front(self.often()) + self.lines()
         row, col = self.draw.randint(1, 5), self.draw.randint(1, 4)
         last_row, last_col = row + self.draw.randint(0, 2), col + self.draw.randint(0, 1)
         return (f"{self.front(self.often())}{grammar.column_letters(col)}{row}"
                 f":{grammar.column_letters(last_col)}{last_row}")
+
+    def lines(self):
+        """All cells of some columns or rows, as a block; now and then no block."""
+        first = self.draw.randint(1, 4)
+        last = first + self.draw.randint(0, 2)
+        if self.one_in(2):
+            return f"A{first}:ZZZ{last}"
+        first, last = grammar.column_letters(first), grammar.column_letters(last)
+        return f"{first}:{last}" if self.one_in(60) else f"{first}1:{last}{ROWS}"
 
     def text(self):
         choice = self.draw.random()

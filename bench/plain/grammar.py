@@ -11,6 +11,8 @@ ROWS = 40000
 COLUMNS = 18278
 LEVELS = 64
 ADDRESS = re.compile(r"(\$?)([A-Za-z]{1,3})(\$?)([1-9][0-9]*)")
+COLUMN_END = re.compile(r"(\$?)([A-Za-z]{1,3})")
+ROW_END = re.compile(r"(\$?)([1-9][0-9]*)")
 PLAIN_SHEET = re.compile(r"[A-Za-z_][A-Za-z0-9_]*")
 NAME_WORD = re.compile(r"[A-Za-z_][A-Za-z0-9_.]*")
 BLANKS = " \t\n\r"
@@ -44,6 +46,24 @@ class Block:
     sheet: int
     first: Corner
     last: Corner
+
+
+@dataclass(frozen=True)
+class End:
+    """The column or the row at an end of a whole range, and whether it has a `$`."""
+
+    line: int
+    fixed: bool = False
+
+
+@dataclass(frozen=True)
+class Whole:
+    """All columns or all rows from one to another; its axis is "col" or "row"."""
+
+    sheet: int
+    axis: str
+    first: End
+    last: End
 
 
 @dataclass(frozen=True)
@@ -110,6 +130,24 @@ def address(text):
     return Corner(int(found[4]), column_number(found[2]), bool(found[3]), bool(found[1]))
 
 
+def end(token):
+    """The axis of what may be an end of a whole range, and the end; else None."""
+    kind, spelling = token
+    if kind in ("name", "other"):
+        found = COLUMN_END.fullmatch(spelling)
+        if found:
+            return "col", End(column_number(found[2]), bool(found[1]))
+    if kind in ("number", "other"):
+        found = ROW_END.fullmatch(spelling)
+        if found and len(found[2]) <= 7 and int(found[2]) <= ROWS:
+            return "row", End(int(found[2]), bool(found[1]))
+    return None
+
+
+def end_text(axis, at):
+    return "$" * at.fixed + (column_letters(at.line) if axis == "col" else str(at.line))
+
+
 def corner_text(corner):
     col = "$" * corner.fixed_col + column_letters(corner.col)
     return col + "$" * corner.fixed_row + str(corner.row)
@@ -135,11 +173,16 @@ def block(sheet, one, other):
     )
 
 
+def whole(sheet, axis, one, other):
+    """The whole range of two ends, which are put in order, each with its `$`."""
+    return Whole(sheet, axis, *sorted((one, other), key=lambda at: at.line))
+
+
 # Tokens.
 
 
 def tokens(text):
-    """The tokens of a text, as pairs of a kind and what it holds."""
+    """The tokens of a text, as pairs of a kind and what it holds; a number holds its digits."""
     at = 0
     found = []
     while at < len(text):
@@ -163,10 +206,9 @@ def tokens(text):
         at = match.end()
         kind, token = match.lastgroup, match[0]
         if kind == "number":
-            number = numbers.spelled_without_sign(token)
-            if number is None:
+            if numbers.spelled_without_sign(token) is None:
                 raise NoTree
-            found.append(("number", Number(number)))
+            found.append(("number", token))
         elif kind == "text":
             found.append(("text", Text(token[1:-1].replace('""', '"'))))
         elif kind == "quoted":
@@ -204,9 +246,7 @@ def run(token, following):
     truth = values.truth_spelled(token)
     if truth is not None:
         return ("truth", Truth(truth))
-    if NAME_WORD.fullmatch(token):
-        return ("name", token)
-    raise NoTree
+    return ("name" if NAME_WORD.fullmatch(token) else "other", token)
 
 
 # The reader. Each method is a line of the grammar and answers a tree and its levels.
@@ -281,12 +321,15 @@ class Reader:
         return tree
 
     def atom(self):
-        for kind in ("number", "text", "truth", "fault"):
+        if self.peek()[0] in ("sheet", "corner") or self.at_whole():
+            return self.reference(), 1
+        token = self.take("number")
+        if token:
+            return Number(numbers.spelled_without_sign(token[1])), 1
+        for kind in ("text", "truth", "fault"):
             token = self.take(kind)
             if token:
                 return token[1], 1
-        if self.peek()[0] in ("sheet", "corner"):
-            return self.reference(), 1
         token = self.take("name")
         if token:
             return Name(token[1]), 1
@@ -314,11 +357,24 @@ class Reader:
     def reference(self):
         named = self.take("sheet")
         sheet = self.sheet_number(named[1]) if named else self.own_sheet
+        tree = self.whole(sheet) if self.at_whole() else self.corners(sheet)
+        return values.REF if named and sheet is None else tree
+
+    def corners(self, sheet):
         first = self.want("corner")
         last = self.want("corner") if self.take("mark", ":") else None
-        if named and sheet is None:
-            return values.REF
         return Ref(sheet, first) if last is None else block(sheet, first, last)
+
+    def at_whole(self):
+        """Whether the first end of a whole range comes, and `:` behind it."""
+        return end(self.peek()) is not None and self.found[self.at + 1] == ("mark", ":")
+
+    def whole(self, sheet):
+        first, last = end(self.found[self.at]), end(self.found[self.at + 2])
+        if last is None or first[0] != last[0]:
+            raise NoTree
+        self.at += 3
+        return whole(sheet, first[0], first[1], last[1])
 
 
 def read(text, own_sheet, sheet_number):
@@ -356,6 +412,9 @@ def printed(tree, own_sheet, sheet_name):
         return front(tree.sheet) + corner_text(tree.corner)
     if isinstance(tree, Block):
         return front(tree.sheet) + corner_text(tree.first) + ":" + corner_text(tree.last)
+    if isinstance(tree, Whole):
+        first, last = (end_text(tree.axis, at) for at in (tree.first, tree.last))
+        return front(tree.sheet) + first + ":" + last
     if isinstance(tree, Name):
         return tree.word
     if isinstance(tree, Call):
@@ -373,8 +432,8 @@ def printed(tree, own_sheet, sheet_name):
 
 
 def rewritten(tree, change):
-    """The tree with `change` done to each reference and block."""
-    if isinstance(tree, (Ref, Block)):
+    """The tree with `change` done to each reference, block and whole range."""
+    if isinstance(tree, (Ref, Block, Whole)):
         return change(tree)
     if isinstance(tree, Call):
         return replace(tree, arguments=tuple(rewritten(a, change) for a in tree.arguments))
@@ -389,13 +448,13 @@ PLACES_ONLY = ("ROW", "COLUMN", "ROWS", "COLUMNS")
 
 
 def mentions(tree, all_of_them=False):
-    """The references, blocks and names of a tree, in its order; without those whose place alone
-    is asked for, unless all of them are wanted."""
-    if isinstance(tree, (Ref, Block, Name)):
+    """The references, blocks, whole ranges and names of a tree, in its order; without those whose
+    place alone is asked for, unless all of them are wanted."""
+    if isinstance(tree, (Ref, Block, Whole, Name)):
         yield tree
     elif isinstance(tree, Call):
         for argument in tree.arguments:
-            place_only = tree.word in PLACES_ONLY and isinstance(argument, (Ref, Block))
+            place_only = tree.word in PLACES_ONLY and isinstance(argument, (Ref, Block, Whole))
             if all_of_them or not place_only:
                 yield from mentions(argument, all_of_them)
     elif isinstance(tree, (Parens, Sign, Percent)):

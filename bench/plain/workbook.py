@@ -9,7 +9,7 @@ import grammar
 import numbers
 import values
 from evaluate import Evaluation, area
-from grammar import COLUMNS, ROWS, Block, Corner, Name, Ref
+from grammar import COLUMNS, ROWS, Block, Corner, Name, Ref, Whole
 from values import Number, Text, Truth
 
 SHEETS = 1024
@@ -143,7 +143,7 @@ class Workbook:
             self.cells[place] = content
 
     def rewrite(self, change):
-        """Does `change` to each reference and block of every formula."""
+        """Does `change` to each reference, block and whole range of every formula."""
         for place, content in self.cells.items():
             if isinstance(content, Formula) and content.tree is not None:
                 self.cells[place] = Formula(grammar.rewritten(content.tree, change))
@@ -162,11 +162,20 @@ class Workbook:
                 if new is None:
                     return values.REF
                 return Ref(sheet, replace(tree.corner, **{axis: new}))
+            if isinstance(tree, Whole):
+                return tree if tree.axis != axis else along(tree)
             new = span(getattr(tree.first, axis), getattr(tree.last, axis))
             if new is None:
                 return values.REF
             first = replace(tree.first, **{axis: new[0]})
             return Block(sheet, first, replace(tree.last, **{axis: new[1]}))
+
+        def along(tree):
+            new = span(tree.first.line, tree.last.line)
+            if new is None:
+                return values.REF
+            first, last = (replace(at, line=line) for at, line in zip((tree.first, tree.last), new))
+            return replace(tree, first=first, last=last)
 
         self.rewrite(change)
         cells = {}
@@ -195,10 +204,14 @@ class Workbook:
                     and 0 <= corner.col - col < cols)
 
         def change(tree):
-            corners = [tree.corner] if isinstance(tree, Ref) else [tree.first, tree.last]
+            corners = corners_of(tree)
             if all(in_source(tree.sheet, corner) for corner in corners):
                 if isinstance(tree, Ref):
                     return Ref(sheet, moved(tree.corner))
+                if isinstance(tree, Whole):
+                    by = row - from_row if tree.axis == "row" else col - from_col
+                    first, last = (replace(at, line=at.line + by) for at in (tree.first, tree.last))
+                    return Whole(sheet, tree.axis, first, last)
                 return Block(sheet, moved(tree.first), moved(tree.last))
             if all(in_target(tree.sheet, corner) for corner in corners):
                 return values.REF
@@ -214,6 +227,24 @@ class Workbook:
                 del self.cells[place]
         for (_, old_row, old_col), content in taken.items():
             self.cells[sheet, old_row - from_row + row, old_col - from_col + col] = content
+
+
+def corners_of(tree):
+    """The corner of a reference, or the first and the last one of a block or a whole range."""
+    if isinstance(tree, Ref):
+        return [tree.corner]
+    if isinstance(tree, Whole):
+        cells = area(tree)
+        last = Corner(cells.row + cells.rows - 1, cells.col + cells.cols - 1)
+        return [Corner(cells.row, cells.col), last]
+    return [tree.first, tree.last]
+
+
+def is_fixed(tree):
+    """Whether a reference, a block or a whole range has all of its `$`."""
+    if isinstance(tree, Whole):
+        return tree.first.fixed and tree.last.fixed
+    return all(corner.fixed_row and corner.fixed_col for corner in corners_of(tree))
 
 
 # Where rows or columns go. `size` is how many a sheet has.
@@ -463,11 +494,7 @@ class Session:
         for mention in grammar.mentions(tree, all_of_them=True):
             if isinstance(mention, Name):
                 continue
-            corners = (
-                [mention.corner] if isinstance(mention, Ref) else [mention.first, mention.last]
-            )
-            fixed = all(corner.fixed_row and corner.fixed_col for corner in corners)
-            check(fixed and mention.sheet is not None, "RelativeAddress")
+            check(is_fixed(mention) and mention.sheet is not None, "RelativeAddress")
         return tree
 
     def add_name(self, word, scope_name, text):
@@ -582,14 +609,15 @@ class Session:
         return word if scope is None else f"{self.book.sheet_name(scope)}!{word}"
 
     def link(self, mention, scope):
-        """The link of a reference, a block or a name, or None where the word finds none."""
+        """The link of a reference, a block or a name, or None where the word finds none; a whole
+        range has that of its block."""
         if isinstance(mention, Name):
             name = self.book.find_name(mention.word, scope)
             return None if name is None else self.name_link(name)
         if isinstance(mention, Ref):
             return self.cell_link(mention.sheet, mention.corner.row, mention.corner.col)
-        last = mention.last
-        return (self.cell_link(mention.sheet, mention.first.row, mention.first.col)
+        first, last = corners_of(mention)
+        return (self.cell_link(mention.sheet, first.row, first.col)
                 + f":{grammar.column_letters(last.col)}{last.row}")
 
     def precedents(self, at):
@@ -639,11 +667,18 @@ def size_of(axis):
 
 
 def gone_along(tree, source, target, down, right, known):
-    """A reference or block of a copied formula as it is pasted: its sheet is that which is pasted
-    to, where it was that which was copied from; its corners without `$` go by the distance."""
+    """A reference, block or whole range of a copied formula as it is pasted: its sheet is that
+    which is pasted to, where it was that which was copied from; its corners and ends without `$` go
+    by the distance."""
     sheet = target if tree.sheet == source else tree.sheet
     if sheet not in known:
         return values.REF
+    if isinstance(tree, Whole):
+        by, size = (down, ROWS) if tree.axis == "row" else (right, COLUMNS)
+        ends = [at if at.fixed else replace(at, line=at.line + by) for at in (tree.first, tree.last)]
+        if not all(1 <= at.line <= size for at in ends):
+            return values.REF
+        return grammar.whole(sheet, tree.axis, *ends)
     corners = [tree.corner] if isinstance(tree, Ref) else [tree.first, tree.last]
     gone = []
     for corner in corners:
