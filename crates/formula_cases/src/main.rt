@@ -9,6 +9,7 @@
 //! | `column 10000;=B…*C…` | 1 |
 //! | `shift insert-rows 1 5 2;=B6` | 1!R7C1 at 1 4 4, back 1!R5C1, lost false |
 //! | `move delete-rows 1 3 2;1 3 3 5 5` | 1 3 3 3 5, back 1 5 3 7 5, bent |
+//! | `move delete-rows 1 3 2;rows 1 3 5` | rows 1 3 3, back rows 1 5 7, bent |
 //! | `sound insert-rows 1 0 0` | not sound |
 //! ```
 //!

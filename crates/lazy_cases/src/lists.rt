@@ -13,9 +13,9 @@ const LISTS: u64 = 20;
 
 const CALLS: u32 = 300;
 
-// The formulas that are put into the store: references and blocks with `$` and without, on their own sheet and another
-// one, at the ends of a sheet too.
-const TEXTS: [&str; 14] = [
+// The formulas that are put into the store: references, blocks and whole ranges with `$` and without, on their own sheet
+// and another one, at the ends of a sheet too.
+const TEXTS: [&str; 18] = [
     "=B5",
     "=$C$3+1",
     "=A1*-D7%",
@@ -28,6 +28,10 @@ const TEXTS: [&str; 14] = [
     "=SUM(B1:B40000)",
     "=ZZZ2",
     "=MAX(A2:ZZZ3)",
+    "=SUM(B:$C)",
+    "=COUNT(2:$5,D:D)",
+    "=SUM(One!C:A)-One!$3:4",
+    "=MAX(B:ZZZ,3:40000)",
     "=total+B2",
     "=12.5",
 ];

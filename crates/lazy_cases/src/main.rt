@@ -28,16 +28,18 @@ enum Group {
     Read,
     Lost,
     Clipped,
+    Whole,
     Removed,
     Room,
 }
 
 impl Group {
-    const ALL: [(Group, &'static str); 6] = [
+    const ALL: [(Group, &'static str); 7] = [
         (Group::Line, "a line is cut and forgotten"),
         (Group::Read, "a formula is read, looked up and settled"),
         (Group::Lost, "a lost reference comes back"),
         (Group::Clipped, "a clipped block is whole again"),
+        (Group::Whole, "whole columns have a lost one again"),
         (Group::Removed, "a removed formula catches up"),
         (Group::Room, "room is kept"),
     ];
@@ -49,6 +51,7 @@ impl Group {
             Group::Read => rows::all_hold(alloc, &rows::READ_AND_SETTLED),
             Group::Lost => rows::all_hold(alloc, &rows::LOST_AND_BACK),
             Group::Clipped => rows::all_hold(alloc, &rows::CLIPPED_AND_WHOLE),
+            Group::Whole => rows::all_hold(alloc, &rows::WHOLE_AND_BACK),
             Group::Removed => rows::all_hold(alloc, &rows::REMOVED_AND_BACK),
             Group::Room => rows::room_is_kept(alloc),
         }

@@ -48,6 +48,13 @@ const INSERT_FOURTH: Shift = Shift::InsertRows {
     count: 1,
 };
 
+// Column C deleted.
+const DELETE_COLUMN: Shift = Shift::DeleteCols {
+    sheet: 0,
+    at: 2,
+    count: 1,
+};
+
 /// A call, or an answer that is wanted. Formulas stand in cells of column A, whose rows count from 0.
 #[derive(Clone, Copy)]
 pub(crate) enum Step {
@@ -120,6 +127,26 @@ pub(crate) const CLIPPED_AND_WHOLE: [Step; 11] = [
     Step::Shift(INSERT_FOURTH),
     Step::Keeps(ID, 0, 0, "=SUM(B5:B10)"),
     Step::Reads(ID, 0, "=SUM(B6:B11)"),
+];
+
+/// Whole columns stay as they are where rows are put in, and whole rows go along; a column that they lost is there again
+/// when the cursor goes back.
+pub(crate) const WHOLE_AND_BACK: [Step; 15] = [
+    Step::Put(ID, 0, "=SUM(B:D)"),
+    Step::Put(OTHER, 1, "=SUM(2:$4)"),
+    Step::Shift(INSERT),
+    Step::Keeps(ID, 0, 0, "=SUM(B:D)"),
+    Step::Reads(ID, 0, "=SUM(B:D)"),
+    Step::Reads(OTHER, 2, "=SUM(3:$5)"),
+    Step::Saves(ID, 0, false),
+    Step::Shift(DELETE_COLUMN),
+    Step::Reads(ID, 0, "=SUM(B:C)"),
+    Step::Reads(OTHER, 2, "=SUM(3:$5)"),
+    Step::Saves(ID, 1, true),
+    Step::Saves(OTHER, 1, false),
+    Step::MoveTo(0),
+    Step::Reads(ID, 0, "=SUM(B:D)"),
+    Step::Reads(OTHER, 1, "=SUM(2:$4)"),
 ];
 
 /// A formula that was removed and is put back has the operations between still in front of it.
