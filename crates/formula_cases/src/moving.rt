@@ -35,12 +35,7 @@ fn moved_cells(alloc: Global, of: &str, shift: &Shift) -> Result<String, AllocEr
 }
 
 // The same of a whole range by its sheet, its first line and its last.
-fn moved_lines(
-    alloc: Global,
-    axis: Axis,
-    lines: &str,
-    shift: &Shift,
-) -> Result<String, AllocError>
+fn moved_lines(alloc: Global, axis: Axis, lines: &str, shift: &Shift) -> Result<String, AllocError>
     requires { IsSound shift.now }
 {
     match numbers_of(alloc, lines)? {
