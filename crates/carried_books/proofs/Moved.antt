@@ -18,21 +18,22 @@ use Rattle.cell_value.specs.declared.scalar.Scalar.TheVariants as scalar
 use Rattle.custom_fn.specs.declared.rule.Rule.{Rule}
 use Rattle.formula_tree.specs.Links.{is_place_word, names_in}
 use Rattle.formula_tree.specs.Reference.{block_of, sheet_of}
-use Rattle.formula_tree.specs.Term.{Term, Terms, number, text, truth, fault, cell, area, prefix, percent, binary, call, paren, no_terms, term, is_reference}
+use Rattle.formula_tree.specs.Term.{Term, Terms, number, text, truth, fault, cell, area, whole, prefix, percent, binary, call, paren, no_terms, term, is_reference}
 use Rattle.formula_tree.specs.Term as terms
 use Rattle.formula_tree.specs.declared.reference.Corner.{Corner}
 use Rattle.formula_tree.specs.declared.reference.Home.{Home}
 use Rattle.shift_core.specs.Form.{form_of}
 use Rattle.shift_core.specs.Sound.{IsSound}
-use Rattle.shift_core.specs.Tables.{block_after, place_after, place_before}
+use Rattle.shift_core.specs.Tables.{place_after, place_before}
 use Rattle.shift_core.specs.declared.shift.Shift.{Shift}
 use Rattle.shift_core.proofs.CellMoves.{Covers-from_covers}
 use Rattle.shift_core.proofs.PlaceLaws.{place_moved_returns, place_returned_goes, place_returned_inside}
 use Rattle.tree_rewrite.specs.References.{EachReference, EachReferenceOfAll}
-use Rattle.tree_rewrite.specs.Rewritten.{rewritten}
+use Rattle.tree_rewrite.specs.Rewritten.{area_after, rewritten}
 use Rattle.value_network.specs.Network.{Network, cyclic, value}
 use Rattle.book_cells.specs.Workbook as contents
 use Rattle.calc_terms.specs.Needs.{mentions, mentions_any}
+use Rattle.calc_terms.specs.References.{full_block}
 use Rattle.calc_terms.specs.World.{World}
 use Rattle.book_values.specs.Names.{Key, Names, found, is_found, tree_in}
 use Rattle.book_values.specs.Values.{content_value, name_value, named_as, network, value_of, world_of}
@@ -77,6 +78,7 @@ module _ (s : Shift) (bare : Place → Bool) where
     mentioned_inside : (t : Term Corner) → EachReference (IsStillReference s) (IsStillArea s bare) t → (p : Place) → mentions t p ≡ true → IsInside p
     mentioned_inside (cell c) h p m = subst IsInside (same_place-equal c.at p m) h.0
     mentioned_inside (area c d) h p m = covered_inside (block_of c d) p h.0 (Covers-from_covers (block_of c d) p m)
+    mentioned_inside (whole axis c d) (apart, still) p m = covered_inside (full_block axis c d) p still.0 (Covers-from_covers (full_block axis c d) p m)
     mentioned_inside (prefix sign t) h p m = mentioned_inside t h p m
     mentioned_inside (percent t) h p m = mentioned_inside t h p m
     mentioned_inside (binary o l r) h p m = ⊎_elim (λ e. mentioned_inside l h.0 p e) (λ e. mentioned_inside r h.1 p e) (or_cases (mentions l p) (mentions r p) m)
@@ -199,7 +201,7 @@ module _ (s : Shift) (b c : Workbook) (customs : List (List ℕ × Rule)) (today
   goes : (a x : Node) (t : Term Corner) → Inside a → back a ≡ Some x → tree_at b x ≡ Some t → NeedsGo (place_after s) bare t (rewritten s t)
   goes a x t i e is =
       let still = over.still a x t i e is in
-      needs_go (place_after s) (block_after s) bare t (follows s bare old new (home_of x) (home_of a) sound shows_along t still.references)
+      needs_go (place_after s) (area_after s) bare t (follows s bare old new (home_of x) (home_of a) sound shows_along t still.references)
 
   -- the words of a formula that is carried along mention the names that they did
   names_along : (a x : Node) (t : Term Corner) (key : Key) → Inside a → back a ≡ Some x → tree_at b x ≡ Some t

@@ -14,7 +14,7 @@ use Rattle.custom_fn.specs.declared.rule.Rule.{Rule}
 use Rattle.func_args.specs.Answers.{and_then, counted, number_value}
 use Rattle.formula_tree.specs.Links.{is_place_word}
 use Rattle.formula_tree.specs.Reference.{base_of, sheet_of, block_of}
-use Rattle.formula_tree.specs.Term.{Term, number, text, truth, fault, cell, area, name, prefix, percent, binary, call, paren, Terms, no_terms, term, is_reference, mapped_all}
+use Rattle.formula_tree.specs.Term.{Term, number, text, truth, fault, cell, area, whole, name, prefix, percent, binary, call, paren, Terms, no_terms, term, is_reference, mapped_all}
 use Rattle.formula_tree.specs.declared.reference.Corner.{Corner}
 use Rattle.operators.specs.Operators.{combined, hundredth, signed_value}
 use Rattle.tree_rewrite.specs.Rewritten.{area_at, cell_at}
@@ -23,7 +23,7 @@ use Rattle.calc_terms.specs.Cells.{cells_in, fits}
 use Rattle.calc_terms.specs.Choices.{choice_value}
 use Rattle.calc_terms.specs.Meaning.{evaluated, meaning, value_named}
 use Rattle.calc_terms.specs.Places.{count_in, count_of, place_value}
-use Rattle.calc_terms.specs.References.{area_reference, argument_block, argument_cells, argument_of, argument_value, data_arguments, reference_named, reference_of}
+use Rattle.calc_terms.specs.References.{area_reference, argument_block, argument_cells, argument_of, argument_value, data_arguments, full_block, reference_named, reference_of}
 use Rattle.calc_terms.specs.Words.{choice_named, data_named, function_named, place_named, place_word, takes_block}
 use Rattle.calc_terms.specs.World.{Named}
 use Rattle.calc_terms.specs.declared.argument.Argument.{Argument}
@@ -36,7 +36,7 @@ use Rattle.calc_terms.specs.declared.function.PlaceFn.{PlaceFn}
 use Rattle.calc_terms.specs.declared.function.PlaceFn.TheVariants.{Row, Column, Rows, Columns}
 use Rattle.calc_terms.specs.declared.reference.Reference.{Reference}
 use Rattle.calc_terms.specs.declared.reference.Reference.TheVariants as reference
-use Rattle.carried_terms.specs.Carried.{AllGoAlong, CellsAgree, GoesAlong, NamesAgree, Passage, ReferencesAgree, SizeGoes, SizesAgree, asks_where, passed}
+use Rattle.carried_terms.specs.Carried.{AllGoAlong, CellsAgree, GoesAlong, NamesAgree, Passage, ReferencesAgree, SizeGoes, SizesAgree, asks_where, passed, seen_block}
 use Rattle.carried_terms.specs.Laws.{CarriedMeansSame}
 
 -- a function that asks for sizes
@@ -231,8 +231,13 @@ module _ (x : Passage) (customs : List (List ℕ × Rule)) (today : x.old.today 
   references_agree : (t : Term Corner) → GoesAlong x t → ReferencesAgree x (reference_of x.old (sheet_of x.from) t) (reference_of x.new (sheet_of x.to) (passed x t))
   references_agree (cell c) (q, e, h) = subst (λ o. ReferencesAgree x (Some (reference.Cell c.at)) (reference_of x.new (sheet_of x.to) (cell_at c o))) (sym e) h
   references_agree (area c d) (b, e, same, h) =
-      subst (λ o. ReferencesAgree x (area_reference (block_of c d)) (reference_of x.new (sheet_of x.to) (area_at c d o))) (sym e)
+      subst (λ o. ReferencesAgree x (area_reference (block_of c d)) (reference_of x.new (sheet_of x.to) (area_at None c d o))) (sym e)
       (area_agrees (block_of c d) b (fits (block_of c d)) (fits b) same h)
+  references_agree (whole axis c d) (b, e, same, h) =
+      let before = full_block axis c d in
+      let after = seen_block (Some axis) b in
+      subst (λ o. ReferencesAgree x (area_reference before) (reference_of x.new (sheet_of x.to) (area_at (Some axis) c d o))) (sym e)
+      (area_agrees before after (fits before) (fits after) same h)
   references_agree (name word) h = named_agree (x.old.named word (sheet_of x.from)) (x.new.named word (sheet_of x.to)) h
   references_agree (number m) h = tt
   references_agree (text s) h = tt
@@ -258,7 +263,11 @@ module _ (x : Passage) (customs : List (List ℕ × Rule)) (today : x.old.today 
   sized_agrees : (t : Term Corner) → is_reference t ≡ true → SizeGoes x t → Sized t (passed x t)
   sized_agrees (cell c) is (q, e, h) = subst (λ o. Sized (cell c) (cell_at c o)) (sym e) tt
   sized_agrees (area c d) is (b, e, same, h) =
-      subst (λ o. Sized (area c d) (area_at c d o)) (sym e) (sized_area (block_of c d) b (fits (block_of c d)) (fits b) (meaning x.old customs x.from (area c d)) same h)
+      subst (λ o. Sized (area c d) (area_at None c d o)) (sym e) (sized_area (block_of c d) b (fits (block_of c d)) (fits b) (meaning x.old customs x.from (area c d)) same h)
+  sized_agrees (whole axis c d) is (b, e, same, h) =
+      let before = full_block axis c d in
+      let after = seen_block (Some axis) b in
+      subst (λ o. Sized (whole axis c d) (area_at (Some axis) c d o)) (sym e) (sized_area before after (fits before) (fits after) (meaning x.old customs x.from (whole axis c d)) same h)
   sized_agrees (number m) is h = absurd (false≢true is)
   sized_agrees (text s) is h = absurd (false≢true is)
   sized_agrees (truth b) is h = absurd (false≢true is)
@@ -277,7 +286,7 @@ module _ (x : Passage) (customs : List (List ℕ × Rule)) (today : x.old.today 
   only_sizes (argument.Value a) (argument.Reference q) h = absurd h
 
   abbrev passed_all : Terms Corner → Terms Corner
-  passed_all = mapped_all (λ c. cell_at c (x.place c.at)) (λ c d. area_at c d (x.block (block_of c d)))
+  passed_all = mapped_all (λ c. cell_at c (x.place c.at)) (λ lines c d. area_at lines c d (x.area lines (block_of c d)))
 
   mutual
     means : (t : Term Corner) → GoesAlong x t → meaning x.old customs x.from t ≡ meaning x.new customs x.to (passed x t)
@@ -286,7 +295,8 @@ module _ (x : Passage) (customs : List (List ℕ × Rule)) (today : x.old.today 
     means (truth b) h = refl
     means (fault k) h = refl
     means (cell c) (q, e, h) = h ∙ sym (ap (λ o. meaning x.new customs x.to (cell_at c o)) e)
-    means (area c d) (b, e, same, h) = sym (ap (λ o. meaning x.new customs x.to (area_at c d o)) e)
+    means (area c d) (b, e, same, h) = sym (ap (λ o. meaning x.new customs x.to (area_at None c d o)) e)
+    means (whole axis c d) (b, e, same, h) = sym (ap (λ o. meaning x.new customs x.to (area_at (Some axis) c d o)) e)
     means (name word) h = value_found (x.old.named word (sheet_of x.from)) (x.new.named word (sheet_of x.to)) h
     means (prefix s t) h = ap (signed_value s) (means t h)
     means (percent t) h = ap hundredth (means t h)

@@ -1,16 +1,19 @@
 -- A formula whose references follow mentions the places to which they went. Serves the law.
 use Rattle.std.proofs.Common.{◌≡◌, ◌∙◌, sym, ap, ap₂, refl, Bool, true, false, not, ◌&&◌, [], ◌++◌, Option, Some, None, ⊎_elim, ◌⊎◌, inl, inr}
 use Rattle.std.proofs.lemmas.Bool.{and_from, and_parts, false≢true, or_cases, or_left, or_right}
+use Rattle.cell_addr.specs.declared.axis.Axis.{Axis}
 use Rattle.cell_addr.specs.declared.place.Block.{Block}
 use Rattle.cell_addr.specs.declared.place.Place.{Place}
 use Rattle.cell_addr.proofs.SamePlaces.{same_place-equal, same_place-self}
 use Rattle.formula_tree.specs.Links.{is_place_word, names_in, names_in_all}
 use Rattle.formula_tree.specs.Reference.{block_of}
-use Rattle.formula_tree.specs.Term.{Term, number, text, truth, fault, cell, area, name, prefix, percent, binary, call, paren, Terms, no_terms, term, is_reference, mapped_all}
+use Rattle.formula_tree.specs.Term.{Term, number, text, truth, fault, cell, area, whole, name, prefix, percent, binary, call, paren, Terms, no_terms, term, is_reference, mapped_all}
 use Rattle.formula_tree.specs.declared.reference.Corner.{Corner}
 use Rattle.shift_core.proofs.CellMoves.{Covers-from_covers, covers-from_Covers}
 use Rattle.tree_rewrite.specs.Rewritten.{area_at, cell_at, placed_by}
 use Rattle.calc_terms.specs.Needs.{mentions, mentions_any}
+use Rattle.calc_terms.specs.References.{full_block}
+use Rattle.carried_terms.specs.Carried.{seen_block}
 use Rattle.carried_terms.specs.Following.{AllFollow, Follows}
 use Rattle.carried_terms.specs.Laws.{NeedsFollow}
 
@@ -31,28 +34,31 @@ cell_gone : (c : Corner) (q : Place) (o : Option Place) → is_reference (cell_a
 cell_gone c q None is m = false≢true m
 cell_gone c q (Some p) is m = false≢true (sym is)
 
-area_gone : (c d : Corner) (q : Place) (o : Option Block) → is_reference (area_at c d o) ≡ false → mentions (area_at c d o) q ≡ true → ⊥
-area_gone c d q None is m = false≢true m
-area_gone c d q (Some b) is m = false≢true (sym is)
+area_gone : (lines : Option Axis) (c d : Corner) (q : Place) (o : Option Block) → is_reference (area_at lines c d o) ≡ false → mentions (area_at lines c d o) q ≡ true → ⊥
+area_gone lines c d q None is m = false≢true m
+area_gone None c d q (Some b) is m = false≢true (sym is)
+area_gone (Some axis) c d q (Some b) is m = false≢true (sym is)
 
 no_names_cell : (c : Corner) (o : Option Place) → names_in (cell_at c o) ≡ []
 no_names_cell c None = refl
 no_names_cell c (Some p) = refl
 
-no_names_area : (c d : Corner) (o : Option Block) → names_in (area_at c d o) ≡ []
-no_names_area c d None = refl
-no_names_area c d (Some b) = refl
+no_names_area : (lines : Option Axis) (c d : Corner) (o : Option Block) → names_in (area_at lines c d o) ≡ []
+no_names_area lines c d None = refl
+no_names_area None c d (Some b) = refl
+no_names_area (Some axis) c d (Some b) = refl
 
-module _ (place : Place → Option Place) (block : Block → Option Block) (bare : Place → Bool) where
+module _ (place : Place → Option Place) (on_area : Option Axis → Block → Option Block) (bare : Place → Bool) where
   abbrev moved : Term Corner → Term Corner
-  moved = placed_by place block
+  moved = placed_by place on_area
 
   abbrev moved_all : Terms Corner → Terms Corner
-  moved_all = mapped_all (λ c. cell_at c (place c.at)) (λ c d. area_at c d (block (block_of c d)))
+  moved_all = mapped_all (λ c. cell_at c (place c.at)) (λ lines c d. area_at lines c d (on_area lines (block_of c d)))
 
   still_other : (t : Term Corner) → is_reference t ≡ false → is_reference (moved t) ≡ false
   still_other (cell c) h = absurd (false≢true (sym h))
   still_other (area c d) h = absurd (false≢true (sym h))
+  still_other (whole axis c d) h = absurd (false≢true (sym h))
   still_other (number m) h = refl
   still_other (text s) h = refl
   still_other (truth b) h = refl
@@ -71,7 +77,8 @@ module _ (place : Place → Option Place) (block : Block → Option Block) (bare
 
   was_other : (t : Term Corner) (q : Place) → is_reference (moved t) ≡ false → mentions (moved t) q ≡ true → is_reference t ≡ false
   was_other (cell c) q is m = absurd (cell_gone c q (place c.at) is m)
-  was_other (area c d) q is m = absurd (area_gone c d q (block (block_of c d)) is m)
+  was_other (area c d) q is m = absurd (area_gone None c d q (on_area None (block_of c d)) is m)
+  was_other (whole axis c d) q is m = absurd (area_gone (Some axis) c d q (on_area (Some axis) (block_of c d)) is m)
   was_other (number k) q is m = refl
   was_other (text s) q is m = refl
   was_other (truth b) q is m = refl
@@ -100,10 +107,13 @@ module _ (place : Place → Option Place) (block : Block → Option Block) (bare
   CameAny skip ts q = (bare q ≡ true) ⊎ ((p : Place) × (place p ≡ Some q) × (mentions_any skip ts p ≡ true))
 
   mutual
-    forth : (t : Term Corner) → Follows place block bare t → (p : Place) → mentions t p ≡ true → Goes (moved t) p
+    forth : (t : Term Corner) → Follows place on_area bare t → (p : Place) → mentions t p ≡ true → Goes (moved t) p
     forth (cell c) (q, e) p h = inr (q, ap place (sym (same_place-equal c.at p h)) ∙ e, ap (λ o. mentions (cell_at c o) q) e ∙ same_place-self q)
     forth (area c d) (b, e, go) p h =
-        on_second (λ w. (w.0, w.1, ap (λ o. mentions (area_at c d o) w.0) e ∙ covers-from_Covers b w.0 w.2)) (go.forth p (Covers-from_covers (block_of c d) p h))
+        on_second (λ w. (w.0, w.1, ap (λ o. mentions (area_at None c d o) w.0) e ∙ covers-from_Covers b w.0 w.2)) (go.forth p (Covers-from_covers (block_of c d) p h))
+    forth (whole axis c d) (b, e, go) p h =
+        on_second (λ w. (w.0, w.1, ap (λ o. mentions (area_at (Some axis) c d o) w.0) e ∙ covers-from_Covers (seen_block (Some axis) b) w.0 w.2))
+        (go.forth p (Covers-from_covers (full_block axis c d) p h))
     forth (prefix s t) f p h = forth t f p h
     forth (percent t) f p h = forth t f p h
     forth (binary o l r) f p h =
@@ -119,7 +129,7 @@ module _ (place : Place → Option Place) (block : Block → Option Block) (bare
     forth (fault k) f p h = absurd (false≢true h)
     forth (name w) f p h = absurd (false≢true h)
 
-    forth_any : (skip : Bool) (ts : Terms Corner) → AllFollow place block bare skip ts → (p : Place) → mentions_any skip ts p ≡ true → GoesAny skip (moved_all ts) p
+    forth_any : (skip : Bool) (ts : Terms Corner) → AllFollow place on_area bare skip ts → (p : Place) → mentions_any skip ts p ≡ true → GoesAny skip (moved_all ts) p
     forth_any skip no_terms f p h = absurd (false≢true h)
     forth_any skip (term t ts) f p h =
         ⊎_elim
@@ -137,11 +147,14 @@ module _ (place : Place → Option Place) (block : Block → Option Block) (bare
         (or_cases (not (skip && is_reference t) && mentions t p) (mentions_any skip ts p) h)
 
   mutual
-    back : (t : Term Corner) → Follows place block bare t → (q : Place) → mentions (moved t) q ≡ true → Came t q
+    back : (t : Term Corner) → Follows place on_area bare t → (q : Place) → mentions (moved t) q ≡ true → Came t q
     back (cell c) (r, e) q h =
         let there : r ≡ q = same_place-equal r q (sym (ap (λ o. mentions (cell_at c o) q) e) ∙ h) in inr (c.at, e ∙ ap (λ z. Some z) there, same_place-self c.at)
     back (area c d) (b, e, go) q h =
-        on_second (λ w. (w.0, w.1, covers-from_Covers (block_of c d) w.0 w.2)) (go.back q (Covers-from_covers b q (sym (ap (λ o. mentions (area_at c d o) q) e) ∙ h)))
+        on_second (λ w. (w.0, w.1, covers-from_Covers (block_of c d) w.0 w.2)) (go.back q (Covers-from_covers b q (sym (ap (λ o. mentions (area_at None c d o) q) e) ∙ h)))
+    back (whole axis c d) (b, e, go) q h =
+        on_second (λ w. (w.0, w.1, covers-from_Covers (full_block axis c d) w.0 w.2))
+        (go.back q (Covers-from_covers (seen_block (Some axis) b) q (sym (ap (λ o. mentions (area_at (Some axis) c d o) q) e) ∙ h)))
     back (prefix s t) f q h = back t f q h
     back (percent t) f q h = back t f q h
     back (binary o l r) f q h =
@@ -157,7 +170,7 @@ module _ (place : Place → Option Place) (block : Block → Option Block) (bare
     back (fault k) f q h = absurd (false≢true h)
     back (name w) f q h = absurd (false≢true h)
 
-    back_any : (skip : Bool) (ts : Terms Corner) → AllFollow place block bare skip ts → (q : Place) → mentions_any skip (moved_all ts) q ≡ true → CameAny skip ts q
+    back_any : (skip : Bool) (ts : Terms Corner) → AllFollow place on_area bare skip ts → (q : Place) → mentions_any skip (moved_all ts) q ≡ true → CameAny skip ts q
     back_any skip no_terms f q h = absurd (false≢true h)
     back_any skip (term t ts) f q h =
         ⊎_elim
@@ -176,7 +189,8 @@ module _ (place : Place → Option Place) (block : Block → Option Block) (bare
   mutual
     pub names_stay : (t : Term Corner) → names_in (moved t) ≡ names_in t
     names_stay (cell c) = no_names_cell c (place c.at)
-    names_stay (area c d) = no_names_area c d (block (block_of c d))
+    names_stay (area c d) = no_names_area None c d (on_area None (block_of c d))
+    names_stay (whole axis c d) = no_names_area (Some axis) c d (on_area (Some axis) (block_of c d))
     names_stay (prefix s t) = names_stay t
     names_stay (percent t) = names_stay t
     names_stay (binary o l r) = ap₂ (λ xs ys. xs ++ ys) (names_stay l) (names_stay r)
@@ -193,4 +207,4 @@ module _ (place : Place → Option Place) (block : Block → Option Block) (bare
     all_names_stay (term t ts) = ap₂ (λ xs ys. xs ++ ys) (names_stay t) (all_names_stay ts)
 
 pub needs_go : NeedsFollow
-needs_go place block bare t f = record { forth = forth place block bare t f; back = back place block bare t f; names = names_stay place block bare t }
+needs_go place on_area bare t f = record { forth = forth place on_area bare t f; back = back place on_area bare t f; names = names_stay place on_area bare t }

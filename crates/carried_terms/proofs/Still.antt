@@ -1,17 +1,22 @@
 -- A formula that an operation carries along as it is goes along. Serves the law.
-use Rattle.std.proofs.Common.{◌≡◌, ◌∙◌, sym, refl, subst, ◌⊎◌, inl, inr, ⊎_elim, ℕ, ◌+◌, ◌-◌, Bool, true, false, cond, List, ◌++◌, Option, Some, None, MatchOption, arith, ap}
+use Rattle.std.proofs.Common.{◌≡◌, ◌∙◌, sym, refl, subst, ◌⊎◌, inl, inr, ⊎_elim, ℕ, ◌+◌, ◌-◌, Bool, true, false, cond, List, ◌++◌, Option, Some, None, option_map, MatchOption, arith, ap}
 use Rattle.std.specs.Prelude.{⊤, bytes_eq}
 use Rattle.std.specs.List.{list_any}
 use Rattle.std.specs.Cmp.Lexicographic.{bytes_decides}
 use Rattle.std.proofs.lemmas.Bool.{false≢true, or_left, or_right}
 use Rattle.std.proofs.lemmas.Bool.Decides.{nat_tests}
 use Rattle.std.proofs.lemmas.List.Folds.{list_any-append}
+use Rattle.std.proofs.lemmas.Option.{same_Some}
 use Rattle.cell_addr.specs.Place.{Covers, IsBlockInside, IsInside}
+use Rattle.cell_addr.specs.Whole.{whole_block, whole_of}
+use Rattle.cell_addr.specs.declared.axis.Axis.{Axis}
 use Rattle.cell_addr.specs.declared.place.Block.{Block}
 use Rattle.cell_addr.specs.declared.place.Place.{Place}
+use Rattle.cell_addr.specs.declared.whole.Whole.{Whole}
 use Rattle.formula_tree.specs.Links.{is_place_word, names_in, names_in_all}
 use Rattle.formula_tree.specs.Reference.{block_of, sheet_of}
-use Rattle.formula_tree.specs.Term.{Term, number, text, truth, fault, cell, area, name, prefix, percent, binary, call, paren, Terms, no_terms, term}
+use Rattle.formula_tree.specs.Term.{Term, number, text, truth, fault, cell, area, whole, name, prefix, percent, binary, call, paren, Terms, no_terms, term}
+use Rattle.formula_tree.specs.Whole.{whole_between}
 use Rattle.formula_tree.specs.declared.reference.Corner.{Corner}
 use Rattle.formula_tree.specs.declared.reference.Home.{Home}
 use Rattle.shift_core.specs.Bent.{HaveOtherSizes, MeetsDisplaced, IsBent, IsCut}
@@ -19,18 +24,21 @@ use Rattle.shift_core.specs.Carried.{carried_place, first_place}
 use Rattle.shift_core.specs.Form.{form_of}
 use Rattle.shift_core.specs.Sound.{IsSound}
 use Rattle.shift_core.specs.Tables.{block_after, place_after}
+use Rattle.shift_core.specs.Wholes.{whole_after}
 use Rattle.shift_core.specs.declared.shift.Shift.{Shift}
 use Rattle.shift_core.proofs.BlockLaws.{block_moved_inside}
+use Rattle.shift_core.proofs.WholeMoves.{full-whole, whole_moves_as_block}
 use Rattle.tree_rewrite.specs.References.{EachReference, EachReferenceOfAll}
-use Rattle.tree_rewrite.specs.Rewritten.{area_at, cell_at}
+use Rattle.tree_rewrite.specs.Rewritten.{area_after, area_at, cell_at}
+use Rattle.tree_rewrite.proofs.WholeAreas.{axis-after}
 use Rattle.calc_terms.specs.Cells.{cells_in, fits, height, width}
-use Rattle.calc_terms.specs.References.{area_reference, own_reference}
+use Rattle.calc_terms.specs.References.{area_reference, full_block, own_reference}
 use Rattle.calc_terms.specs.World.{World}
 use Rattle.calc_terms.specs.declared.reference.Reference.TheVariants as reference
-use Rattle.carried_terms.specs.Carried.{AllGoAlong, AreaGoes, CellGoes, CellsAgree, GoesAlong, NamesAgree, Passage, ReferencesAgree, SizeGoes, passed}
+use Rattle.carried_terms.specs.Carried.{AllGoAlong, AreaGoes, CellGoes, CellsAgree, GoesAlong, NamesAgree, Passage, ReferencesAgree, SizeGoes, SizesAgree, passed, seen_block}
 use Rattle.carried_terms.specs.Following.{AllFollow, Follows, IsWhole, PlacesGo}
 use Rattle.carried_terms.specs.Laws.{StillGoesAlong}
-use Rattle.carried_terms.specs.Still.{AllAskNowhere, AsksNowhere, IsStillArea, IsStillReference, ShowAlong, passage_of}
+use Rattle.carried_terms.specs.Still.{AllAskNowhere, AsksNowhere, IsStillArea, IsStillBlock, IsStillReference, ShowAlong, passage_of}
 use Rattle.carried_terms.proofs.Blocks.{kept_follow}
 use Rattle.carried_terms.proofs.Cells.{cells_along}
 
@@ -66,6 +74,13 @@ inside_fits b i = grind (arith, nat_tests)
 covered_inside : (b : Block) (p : Place) → IsBlockInside b → Covers b p → IsInside p
 covered_inside b p i on = (omega arith, omega arith)
 
+-- the block of a whole range along the axis is seen as it is
+seen_as_is : (axis : Axis) (o : Option Whole) (c : Block) → ((v : Whole) → o ≡ Some v → v.axis ≡ axis) → option_map whole_block o ≡ Some c → seen_block (Some axis) c ≡ c
+seen_as_is axis None c along e = absurd (cc)
+seen_as_is axis (Some v) c along e =
+    subst (λ b. seen_block (Some axis) b ≡ b) (same_Some (whole_block v) c e)
+    (subst (λ a. whole_block (whole_of a (whole_block v)) ≡ whole_block v) (along v refl) (full-whole v))
+
 bytes_eq-self : (word : List ℕ) → bytes_eq word word ≡ true
 bytes_eq-self word = (bytes_decides word word).1 refl
 
@@ -100,8 +115,8 @@ module _ (s : Shift) (bare : Place → Bool) (v w : World) (from to : Home) (sou
     pub places : PlacesGo (place_after s) bare b c
 
   kept_whole : (b c : Block) → IsBlockInside b → ¬ IsBent s b → ¬ IsCut s b → IsWhole s b → block_after s b ≡ Some c → Kept b c
-  kept_whole b c i still whole torn h =
-      let keeps = kept_follow s b c sound i still whole torn h in
+  kept_whole b c i still uncut torn h =
+      let keeps = kept_follow s b c sound i still uncut torn h in
       record {
         fit = inside_fits b i ∙ sym (inside_fits c (block_moved_inside (form_of s) b c sound i h));
         heights = keeps.heights;
@@ -126,24 +141,39 @@ module _ (s : Shift) (bare : Place → Bool) (v w : World) (from to : Home) (sou
         };
       }
 
-  kept : (c d : Corner) → IsStillArea s bare c d → (after : Block) × (block_after s (block_of c d) ≡ Some after) × Kept (block_of c d) after
-  kept c d (i, still, whole, inl torn) =
-      let b = block_of c d in
+  kept_block : (b : Block) → IsStillBlock s bare b → (after : Block) × (block_after s b ≡ Some after) × Kept b after
+  kept_block b (i, still, uncut, inl torn) =
       let there = not_lost (block_after s) b (λ after. HaveOtherSizes b after ⊎ MeetsDisplaced (form_of s) b) still in
-      (there.0, there.1, kept_whole b there.0 i still whole torn there.1)
-  kept c d (i, still, whole, inr (stays, torn)) = (block_of c d, stays, kept_torn (block_of c d) i torn)
+      (there.0, there.1, kept_whole b there.0 i still uncut torn there.1)
+  kept_block b (i, still, uncut, inr (stays, torn)) = (b, stays, kept_torn b i torn)
 
-  area_goes : (c d : Corner) → IsStillArea s bare c d → AreaGoes x (CellsAgree x) c d
-  area_goes c d h = let k = kept c d h in let keeps = k.2 in (k.0, k.1, keeps.fit, keeps.cells)
+  -- a whole range goes as its block does
+  kept : (lines : Option Axis) (c d : Corner) → IsStillArea s bare lines c d
+      → (after : Block) × (area_after s lines (block_of c d) ≡ Some after) × Kept (seen_block lines (block_of c d)) (seen_block lines after)
+  kept None c d h = kept_block (block_of c d) h
+  kept (Some axis) c d (apart, h) =
+      let w = whole_between axis c d in
+      let k = kept_block (whole_block w) h in
+      let goes = sym (whole_moves_as_block (form_of s) w sound apart) ∙ k.1 in
+      (k.0, goes, subst (Kept (whole_block w)) (sym (seen_as_is axis (whole_after s w) k.0 (λ v to. axis-after s w v to) goes)) k.2)
+
+  area_goes : (lines : Option Axis) (c d : Corner) → IsStillArea s bare lines c d → AreaGoes x (CellsAgree x) lines c d
+  area_goes lines c d h = let k = kept lines c d h in let keeps = k.2 in (k.0, k.1, keeps.fit, keeps.cells)
 
   -- the reference that a tree is itself goes along
   pub own_agrees : (t : Term Corner) → EachReference (IsStillReference s) (IsStillArea s bare) t → ReferencesAgree x (own_reference t) (own_reference (passed x t))
   own_agrees (cell c) h =
       let g = cell_goes c h in subst (λ o. ReferencesAgree x (Some (reference.Cell c.at)) (own_reference (cell_at c o))) (sym g.1) g.2
   own_agrees (area c d) h =
-      let g = area_goes c d h in
-      subst (λ o. ReferencesAgree x (area_reference (block_of c d)) (own_reference (area_at c d o))) (sym g.1)
+      let g = area_goes None c d h in
+      subst (λ o. ReferencesAgree x (area_reference (block_of c d)) (own_reference (area_at None c d o))) (sym g.1)
       (areas_agree (block_of c d) g.0 (fits (block_of c d)) (fits g.0) g.2 g.3)
+  own_agrees (whole axis c d) h =
+      let g = area_goes (Some axis) c d h in
+      let before = full_block axis c d in
+      let after = seen_block (Some axis) g.0 in
+      subst (λ o. ReferencesAgree x (area_reference before) (own_reference (area_at (Some axis) c d o))) (sym g.1)
+      (areas_agree before after (fits before) (fits after) g.2 g.3)
   own_agrees (number m) h = tt
   own_agrees (text u) h = tt
   own_agrees (truth b) h = tt
@@ -155,9 +185,13 @@ module _ (s : Shift) (bare : Place → Bool) (v w : World) (from to : Home) (sou
   own_agrees (call word ts) h = tt
   own_agrees (paren t) h = tt
 
+  area_size : (lines : Option Axis) (c d : Corner) → IsStillArea s bare lines c d → AreaGoes x SizesAgree lines c d
+  area_size lines c d h = let k = kept lines c d h in let keeps = k.2 in (k.0, k.1, keeps.fit, (keeps.heights, keeps.widths))
+
   size_goes : (t : Term Corner) → EachReference (IsStillReference s) (IsStillArea s bare) t → SizeGoes x t
   size_goes (cell c) (i, (q, e)) = (q, e, tt)
-  size_goes (area c d) h = let k = kept c d h in let keeps = k.2 in (k.0, k.1, keeps.fit, (keeps.heights, keeps.widths))
+  size_goes (area c d) h = area_size None c d h
+  size_goes (whole axis c d) h = area_size (Some axis) c d h
   size_goes (number m) h = tt
   size_goes (text u) h = tt
   size_goes (truth b) h = tt
@@ -172,7 +206,8 @@ module _ (s : Shift) (bare : Place → Bool) (v w : World) (from to : Home) (sou
   mutual
     goes : (t : Term Corner) → EachReference (IsStillReference s) (IsStillArea s bare) t → AsksNowhere t → NamesDo (names_in t) → GoesAlong x t
     goes (cell c) h n names = cell_goes c h
-    goes (area c d) h n names = area_goes c d h
+    goes (area c d) h n names = area_goes None c d h
+    goes (whole axis c d) h n names = area_goes (Some axis) c d h
     goes (name word) h n names = names word (or_left (bytes_eq word word) false (bytes_eq-self word))
     goes (prefix sign t) h n names = goes t h n names
     goes (percent t) h n names = goes t h n names
@@ -193,9 +228,10 @@ module _ (s : Shift) (bare : Place → Bool) (v w : World) (from to : Home) (sou
     )
 
   mutual
-    pub follows : (t : Term Corner) → EachReference (IsStillReference s) (IsStillArea s bare) t → Follows (place_after s) (block_after s) bare t
+    pub follows : (t : Term Corner) → EachReference (IsStillReference s) (IsStillArea s bare) t → Follows (place_after s) (area_after s) bare t
     follows (cell c) h = h.1
-    follows (area c d) h = let k = kept c d h in let keeps = k.2 in (k.0, k.1, keeps.places)
+    follows (area c d) h = let k = kept None c d h in let keeps = k.2 in (k.0, k.1, keeps.places)
+    follows (whole axis c d) h = let k = kept (Some axis) c d h in let keeps = k.2 in (k.0, k.1, keeps.places)
     follows (prefix sign t) h = follows t h
     follows (percent t) h = follows t h
     follows (binary o l r) h = (follows l h.0, follows r h.1)
@@ -207,7 +243,7 @@ module _ (s : Shift) (bare : Place → Bool) (v w : World) (from to : Home) (sou
     follows (fault f) h = tt
     follows (name word) h = tt
 
-    all_follow : (skip : Bool) (ts : Terms Corner) → EachReferenceOfAll (IsStillReference s) (IsStillArea s bare) ts → AllFollow (place_after s) (block_after s) bare skip ts
+    all_follow : (skip : Bool) (ts : Terms Corner) → EachReferenceOfAll (IsStillReference s) (IsStillArea s bare) ts → AllFollow (place_after s) (area_after s) bare skip ts
     all_follow skip no_terms h = tt
     all_follow skip (term t ts) h = (λ _. follows t h.0, all_follow skip ts h.1)
 

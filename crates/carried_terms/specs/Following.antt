@@ -1,11 +1,12 @@
 -- Where what a formula mentions goes. Source: this project's own.
-use Rattle.std.specs.Prelude.{◌≡◌, ◌⊎◌, ⊤, Bool, true, false, ◌&&◌, Option, Some}
+use Rattle.std.specs.Prelude.{◌≡◌, ◌⊎◌, ⊤, Bool, true, false, ◌&&◌, Option, Some, None}
+use Rattle.cell_addr.specs.declared.axis.Axis.{Axis}
 use Rattle.cell_addr.specs.declared.place.Block.{Block}
 use Rattle.cell_addr.specs.declared.place.Place.{Place}
 use Rattle.cell_addr.specs.Place.{Covers, covers}
 use Rattle.formula_tree.specs.Links.{is_place_word}
 use Rattle.formula_tree.specs.Reference.{block_of}
-use Rattle.formula_tree.specs.Term.{Term, cell, area, prefix, percent, binary, call, paren, Terms, no_terms, term, is_reference}
+use Rattle.formula_tree.specs.Term.{Term, cell, area, whole, prefix, percent, binary, call, paren, Terms, no_terms, term, is_reference}
 use Rattle.formula_tree.specs.declared.reference.Corner.{Corner}
 use Rattle.shift_core.specs.Carried.{carried_place, contains, destination, first_place}
 use Rattle.shift_core.specs.Form.{form_of}
@@ -14,33 +15,35 @@ use Rattle.shift_core.specs.declared.form.Form.{Form}
 use Rattle.shift_core.specs.declared.form.Form.TheVariants.{Cells}
 use Rattle.shift_core.specs.declared.shift.Shift.{Shift}
 use Rattle.calc_terms.specs.Cells.{height, width}
+use Rattle.carried_terms.specs.Carried.{seen_block}
 
 -- a rule puts the places of the first block exactly at those of the second one, but for places that are bare
 pub record PlacesGo (place : Place → Option Place) (bare : Place → Bool) (b c : Block) : Type 0 where
   pub forth : (p : Place) → Covers b p → (bare p ≡ true) ⊎ ((q : Place) × (place p ≡ Some q) × Covers c q)
   pub back : (q : Place) → Covers c q → (bare q ≡ true) ⊎ ((p : Place) × (place p ≡ Some q) × Covers b p)
 
--- a block isn't lost, and its places go where it does
-abbrev pub BlockFollows : (Place → Option Place) → (Block → Option Block) → (Place → Bool) → Block → Type 0
-BlockFollows place block bare b = (c : Block) × (block b ≡ Some c) × PlacesGo place bare b c
+-- a block, or that of a whole range, isn't lost, and its places go where it does
+abbrev pub AreaFollows : (Place → Option Place) → (Option Axis → Block → Option Block) → (Place → Bool) → Option Axis → Block → Type 0
+AreaFollows place on_area bare lines b = (c : Block) × (on_area lines b ≡ Some c) × PlacesGo place bare (seen_block lines b) (seen_block lines c)
 
 abbrev mutual
-  -- the places that a tree mentions go where its references do: none of them is lost, and the blocks take their places
-  -- along
-  pub Follows : (Place → Option Place) → (Block → Option Block) → (Place → Bool) → Term Corner → Type 0
-  Follows place block bare (cell c) = (q : Place) × (place c.at ≡ Some q)
-  Follows place block bare (area c d) = BlockFollows place block bare (block_of c d)
-  Follows place block bare (prefix s t) = Follows place block bare t
-  Follows place block bare (percent t) = Follows place block bare t
-  Follows place block bare (binary o l r) = Follows place block bare l × Follows place block bare r
-  Follows place block bare (call w ts) = AllFollow place block bare (is_place_word w) ts
-  Follows place block bare (paren t) = Follows place block bare t
-  Follows place block bare t = ⊤
+  -- the places that a tree mentions go where its references do: none of them is lost, and the blocks and whole ranges
+  -- take their places along
+  pub Follows : (Place → Option Place) → (Option Axis → Block → Option Block) → (Place → Bool) → Term Corner → Type 0
+  Follows place on_area bare (cell c) = (q : Place) × (place c.at ≡ Some q)
+  Follows place on_area bare (area c d) = AreaFollows place on_area bare None (block_of c d)
+  Follows place on_area bare (whole axis c d) = AreaFollows place on_area bare (Some axis) (block_of c d)
+  Follows place on_area bare (prefix s t) = Follows place on_area bare t
+  Follows place on_area bare (percent t) = Follows place on_area bare t
+  Follows place on_area bare (binary o l r) = Follows place on_area bare l × Follows place on_area bare r
+  Follows place on_area bare (call w ts) = AllFollow place on_area bare (is_place_word w) ts
+  Follows place on_area bare (paren t) = Follows place on_area bare t
+  Follows place on_area bare t = ⊤
 
   -- so do the arguments of a call, of which those that are references are skipped or not
-  pub AllFollow : (Place → Option Place) → (Block → Option Block) → (Place → Bool) → Bool → Terms Corner → Type 0
-  AllFollow place block bare skip no_terms = ⊤
-  AllFollow place block bare skip (term t ts) = ((skip && is_reference t) ≡ false → Follows place block bare t) × AllFollow place block bare skip ts
+  pub AllFollow : (Place → Option Place) → (Option Axis → Block → Option Block) → (Place → Bool) → Bool → Terms Corner → Type 0
+  AllFollow place on_area bare skip no_terms = ⊤
+  AllFollow place on_area bare skip (term t ts) = ((skip && is_reference t) ≡ false → Follows place on_area bare t) × AllFollow place on_area bare skip ts
 
 -- a moved block of cells doesn't tear the block: it has all of it along, or meets it neither where it was nor where it comes
 abbrev pub IsWholeIn : Form → Block → Type 0

@@ -1,6 +1,7 @@
 -- What holds of formulas of which all goes along. Source: this project's own.
 use Rattle.std.specs.Prelude.{◌≡◌, ◌⊎◌, ℕ, Bool, true, List, Option, Some}
 use Rattle.cell_addr.specs.Place.{IsBlockInside}
+use Rattle.cell_addr.specs.declared.axis.Axis.{Axis}
 use Rattle.cell_addr.specs.declared.place.Block.{Block}
 use Rattle.cell_addr.specs.declared.place.Place.{Place}
 use Rattle.cell_value.specs.declared.scalar.Scalar.{Scalar}
@@ -17,7 +18,7 @@ use Rattle.shift_core.specs.Bent.{IsBent, IsCut}
 use Rattle.shift_core.specs.Sound.{IsSound}
 use Rattle.shift_core.specs.Tables.{block_after, place_after}
 use Rattle.shift_core.specs.declared.shift.Shift.{Shift}
-use Rattle.tree_rewrite.specs.Rewritten.{placed_by}
+use Rattle.tree_rewrite.specs.Rewritten.{area_after, placed_by}
 use Rattle.carried_terms.specs.Still.{IsStill, ShowAlong, WordsAgree, passage_of}
 use Rattle.carried_terms.specs.Following.{Follows, IsWhole, KeepsOffsets}
 use Rattle.carried_terms.specs.Carried.{GoesAlong, Passage, ShowsAlong, passed}
@@ -42,8 +43,8 @@ pub record NeedsGo (place : Place → Option Place) (bare : Place → Bool) (t u
 -- it does where its references follow
 abbrev pub NeedsFollow : Type 0
 NeedsFollow =
-    (place : Place → Option Place) (block : Block → Option Block) (bare : Place → Bool) (t : Term Corner) → Follows place block bare t →
-    NeedsGo place bare t (placed_by place block t)
+    (place : Place → Option Place) (on_area : Option Axis → Block → Option Block) (bare : Place → Bool) (t : Term Corner) → Follows place on_area bare t →
+    NeedsGo place bare t (placed_by place on_area t)
 
 -- a block that an operation neither bends nor cuts nor tears keeps its size, and its places their offsets in it
 abbrev pub KeptBlocksFollow : Type 0
@@ -55,4 +56,4 @@ KeptBlocksFollow =
 abbrev pub StillGoesAlong : Type 0
 StillGoesAlong =
     (s : Shift) (bare : Place → Bool) (v w : World) (from to : Home) (t : Term Corner) → IsSound s → IsStill s bare t → ShowAlong s bare v w →
-    WordsAgree (passage_of s v w from to) t → GoesAlong (passage_of s v w from to) t × Follows (place_after s) (block_after s) bare t
+    WordsAgree (passage_of s v w from to) t → GoesAlong (passage_of s v w from to) t × Follows (place_after s) (area_after s) bare t

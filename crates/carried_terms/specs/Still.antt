@@ -1,33 +1,42 @@
 -- Formulas that an operation carries along as they are. Source: this project's own.
-use Rattle.std.specs.Prelude.{◌≡◌, ⊤, false, true, ℕ, List, Some, ◌⊎◌, Bool}
+use Rattle.std.specs.Prelude.{◌≡◌, ⊤, false, true, ℕ, List, Option, Some, None, ◌⊎◌, Bool}
+use Rattle.cell_addr.specs.declared.axis.Axis.{Axis}
+use Rattle.cell_addr.specs.declared.place.Block.{Block}
 use Rattle.cell_addr.specs.Place.{IsBlockInside, IsInside}
 use Rattle.cell_addr.specs.declared.place.Place.{Place}
 use Rattle.formula_tree.specs.Reference.{block_of, sheet_of}
 use Rattle.formula_tree.specs.Term.{Term, prefix, percent, binary, call, paren, Terms, no_terms, term}
+use Rattle.formula_tree.specs.Whole.{whole_between}
 use Rattle.formula_tree.specs.declared.reference.Corner.{Corner}
 use Rattle.formula_tree.specs.declared.reference.Home.{Home}
 use Rattle.shift_core.specs.Bent.{IsBent, IsCut}
-use Rattle.shift_core.specs.Tables.{block_after, place_after}
+use Rattle.shift_core.specs.Tables.{place_after}
+use Rattle.shift_core.specs.Wholes.{IsAcross}
 use Rattle.shift_core.specs.declared.shift.Shift.{Shift}
 use Rattle.tree_rewrite.specs.References.{EachReference}
+use Rattle.tree_rewrite.specs.Rewritten.{area_after}
 use Rattle.calc_terms.specs.Needs.{mentions_name}
+use Rattle.calc_terms.specs.References.{full_block}
 use Rattle.calc_terms.specs.World.{World}
 use Rattle.carried_terms.specs.Carried.{NamesAgree, Passage, asks_where}
 use Rattle.carried_terms.specs.Following.{IsWhole, StaysTorn}
 
 -- the passage of a formula that an operation rewrites
 abbrev pub passage_of : Shift → World → World → Home → Home → Passage
-passage_of s v w from to = record { place = place_after s; block = block_after s; old = v; new = w; from = from; to = to }
+passage_of s v w from to = record { place = place_after s; area = area_after s; old = v; new = w; from = from; to = to }
 
 -- a reference within the limits of a sheet that isn't lost
 abbrev pub IsStillReference : Shift → Corner → Type 0
 IsStillReference s c = IsInside c.at × ((q : Place) × (place_after s c.at ≡ Some q))
 
 -- a block within the limits of a sheet that is neither bent nor cut, nor torn but over bare places
-abbrev pub IsStillArea : Shift → (Place → Bool) → Corner → Corner → Type 0
-IsStillArea s bare c d =
-    IsBlockInside (block_of c d) × (¬ IsBent s (block_of c d)) × (¬ IsCut s (block_of c d))
-    × (IsWhole s (block_of c d) ⊎ StaysTorn s bare (block_of c d))
+abbrev pub IsStillBlock : Shift → (Place → Bool) → Block → Type 0
+IsStillBlock s bare b = IsBlockInside b × (¬ IsBent s b) × (¬ IsCut s b) × (IsWhole s b ⊎ StaysTorn s bare b)
+
+-- such a block, or a whole range of such a block; lines across it aren't edited either
+abbrev pub IsStillArea : Shift → (Place → Bool) → Option Axis → Corner → Corner → Type 0
+IsStillArea s bare None c d = IsStillBlock s bare (block_of c d)
+IsStillArea s bare (Some axis) c d = (¬ IsAcross s (whole_between axis c d)) × IsStillBlock s bare (full_block axis c d)
 
 abbrev mutual
   -- nothing in a tree asks where a cell stands

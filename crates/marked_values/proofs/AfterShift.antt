@@ -4,7 +4,6 @@ use Rattle.std.specs.Prelude.{IsTrue, ◌↔◌}
 use Rattle.std.specs.FinMap as map
 use Rattle.std.proofs.lemmas.Bool.{and_parts, false_from_ne_true, false≢true}
 use Rattle.std.proofs.lemmas.Option.{same_Some}
-use Rattle.cell_addr.specs.declared.place.Block.{Block}
 use Rattle.cell_addr.specs.declared.place.Place.{Place}
 use Rattle.custom_fn.specs.declared.rule.Rule.{Rule}
 use Rattle.formula_tree.specs.Reference.{sheet_of}
@@ -26,7 +25,7 @@ use Rattle.dep_graph.specs.Needs.{Links}
 use Rattle.dep_graph.specs.Nodes.{has}
 use Rattle.dep_graph.specs.Shifted.{AreShifted, node_after}
 use Rattle.dep_graph.specs.declared.node.Node.{Node}
-use Rattle.dep_graph.specs.declared.node.Node.TheVariants.{Cell, Name, Range}
+use Rattle.dep_graph.specs.declared.node.Node.TheVariants.{Cell, Name, Range, Whole}
 use Rattle.dep_graph.proofs.InsideNodes.{links_inside}
 use Rattle.dep_graph.proofs.UnbentNodes.{unbent_links}
 use Rattle.recalc_core.specs.Kept.{Kept, expected, expected_at}
@@ -62,6 +61,7 @@ module _ (s : Shift) (b c : Workbook) (words : List (List ℕ)) (customs : List 
         by (Cell p) e = tt
         by (Name scope word) e = tt
         by (Range block) e = none_some was e
+        by (Whole w) e = none_some was e
 
     was_out : ¬ IsTrue (has was marks)
     was_out mark = out (marked.follow a was plain from mark)
@@ -79,6 +79,7 @@ module _ (s : Shift) (b c : Workbook) (words : List (List ℕ)) (customs : List 
       unbent = record {
         cells = λ p h. somewhere p (linked (Cell p) h) (place_after s p) refl;
         areas = λ block h. (λ bent. unbent (Range block, linked (Range block) h, inl bent), λ cut. unbent (Range block, linked (Range block) h, inr cut));
+        wholes = λ w h bent. unbent (Whole w, linked (Whole w) h, bent);
       };
       asks = false_from_ne_true (asks_place t) (λ asks. out (marked.asking was a x t at is asks from));
     }
@@ -134,10 +135,10 @@ module _ (s : Shift) (b c : Workbook) (words : List (List ℕ)) (customs : List 
             subst (λ n. IsTrue (has n (new a))) (same_Some e d (sym both.0 ∙ goes)) onto
 
   -- no range is linked to anything
-  no_ranges : (block : Block) (y : Node) → ¬ IsTrue (has y (old (Range block)))
-  no_ranges block y link =
-      let (x, t, at, is, linked) = (before.linked.exact (Range block) y (λ mark. let (x, at) = before.known (Range block) mark in none_some x at)).0 link in
-      none_some x at
+  no_ranges : (r y : Node) → ¬ IsNoRange r → ¬ IsTrue (has y (old r))
+  no_ranges r y range link =
+      let (x, t, at, is, linked) = (before.linked.exact r y (λ mark. let (x, at) = before.known r mark in range (no_range words r x at))).0 link in
+      range (no_range words r x at)
 
   no_name : (a : Node) → ¬ IsTrue (has a more) → (scope word : ℕ) (y : Node) → a ≡ Name scope word → drops_scope (form_of s) scope ≡ true → ¬ IsTrue (has y (old (Name scope word)))
   no_name a out scope word y same drops link = out (subst (λ n. IsTrue (has n more)) (sym same) (marked.gone scope word y drops link))

@@ -10,7 +10,7 @@ use Rattle.book_values.specs.Workbook as book
 use Rattle.book_values.specs.Workbook.{Workbook, content_tree, home_of, tree_needs}
 use Rattle.dep_graph.specs.Nodes.{has}
 use Rattle.dep_graph.specs.declared.node.Node.{Node}
-use Rattle.dep_graph.specs.declared.node.Node.TheVariants.{Cell, Name, Range}
+use Rattle.dep_graph.specs.declared.node.Node.TheVariants.{Cell, Name, Range, Whole}
 use Rattle.recalc_core.specs.Nodes.{node_at}
 use Rattle.recalc_core.proofs.Bridge.{name_only, none_some, same_some}
 use Rattle.recalc_core.proofs.Edits.{name_changes_its_users}
@@ -27,6 +27,7 @@ place_node words (Name scope word) p at = absurd (apart (name_only scope (slice_
     apart : (key : Key) × (book.place p ≡ book.name key) → ⊥
     apart (key, e) = cc
 place_node words (Range block) p at = absurd (none_some (book.place p) at)
+place_node words (Whole w) p at = absurd (none_some (book.place p) at)
 
 module _ (b c : Workbook) (names : b.names ≡ c.names) where
   place_alone : (p : Place) → map.get b.cells p ≡ map.get c.cells p → IsLeftAlone b c (book.place p)

@@ -16,7 +16,7 @@ use Rattle.dep_graph.specs.Laws.{IsNoRange}
 use Rattle.dep_graph.specs.Needs.{Links}
 use Rattle.dep_graph.specs.Nodes.{has}
 use Rattle.dep_graph.specs.declared.node.Node.{Node}
-use Rattle.dep_graph.specs.declared.node.Node.TheVariants.{Cell, Name, Range}
+use Rattle.dep_graph.specs.declared.node.Node.TheVariants.{Cell, Name, Range, Whole}
 use Rattle.dep_graph.proofs.Places.{has-append_cases, has-append_left, has-append_right}
 use Rattle.recalc_core.specs.Kept.{Kept, expected, expected_at, stands}
 use Rattle.recalc_core.specs.Laws.{AreKnown, KeepNumbers}
@@ -53,6 +53,7 @@ module _ (b c : Workbook) (words more : List (List ℕ)) (customs : List (List �
       → IsLinkOf words b.names (sheet_of (home_of x)) t d → IsLinkOf more c.names (sheet_of (home_of x)) t d
   link_forth x t (Cell p) alone is h = h
   link_forth x t (Range block) alone is h = h
+  link_forth x t (Whole w) alone is h = h
   link_forth x t (Name scope word) alone is (key, at, m) =
       (key, numbers (Name scope word) (book.name key) at, sym (mentions_same x t (book.name key) alone is) ∙ m)
 
@@ -60,6 +61,7 @@ module _ (b c : Workbook) (words more : List (List ℕ)) (customs : List (List �
       → IsLinkOf more c.names (sheet_of (home_of x)) t d → IsLinkOf words b.names (sheet_of (home_of x)) t d
   link_back x t (Cell p) alone is h = h
   link_back x t (Range block) alone is h = h
+  link_back x t (Whole w) alone is h = h
   link_back x t (Name scope word) alone is (key, at, m) =
       let here : mentions_node b.names (sheet_of (home_of x)) t (book.name key) ≡ true = mentions_same x t (book.name key) alone is ∙ m in
       (key, was_known (Name scope word) (book.name key) at (mentioned_stands b.names (sheet_of (home_of x)) t key here), here)

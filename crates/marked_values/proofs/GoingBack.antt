@@ -5,17 +5,18 @@ use Rattle.std.specs.FinMap as map
 use Rattle.std.proofs.lemmas.Bool.{false≢true}
 use Rattle.std.proofs.lemmas.Option.{none-some, same_Some}
 use Rattle.cell_addr.specs.Place.{IsInside}
-use Rattle.cell_addr.specs.declared.place.Block.{Block}
 use Rattle.cell_addr.specs.declared.place.Place.{Place}
 use Rattle.custom_fn.specs.declared.rule.Rule.{Rule}
 use Rattle.shift_core.specs.Form.{form_of}
 use Rattle.shift_core.specs.Opposite.{form_back, opposite_of}
 use Rattle.shift_core.specs.Sound.{IsSound}
 use Rattle.shift_core.specs.Tables.{block_after, place_after, place_before}
+use Rattle.shift_core.specs.Wholes.{whole_after}
 use Rattle.shift_core.specs.declared.form.Form.{Form}
 use Rattle.shift_core.specs.declared.form.Form.TheVariants.{Cells, Lines, Sheet}
 use Rattle.shift_core.specs.declared.shift.Shift.{Shift}
 use Rattle.shift_core.proofs.Opposites.{back_sound, block_goes_back, form_of_opposite, place_goes_back}
+use Rattle.shift_core.proofs.WholeMoves.{whole_goes_back}
 use Rattle.shift_core.proofs.PlaceLaws.{place_moved_inside, place_moved_returns, place_returned_goes, place_returned_inside}
 use Rattle.tree_rewrite.specs.Rewritten.{rewritten}
 use Rattle.book_cells.specs.Workbook.{Content}
@@ -28,7 +29,7 @@ use Rattle.dep_graph.specs.Needs.{Links}
 use Rattle.dep_graph.specs.Nodes.{has}
 use Rattle.dep_graph.specs.Shifted.{AreShifted, node_after}
 use Rattle.dep_graph.specs.declared.node.Node.{Node}
-use Rattle.dep_graph.specs.declared.node.Node.TheVariants.{Cell, Name, Range}
+use Rattle.dep_graph.specs.declared.node.Node.TheVariants.{Cell, Name, Range, Whole}
 use Rattle.dep_graph.proofs.InsideNodes.{links_inside}
 use Rattle.dep_graph.proofs.UnbentNodes.{mapped, unbent_links}
 use Rattle.recalc_core.specs.Kept.{Kept, stands}
@@ -97,6 +98,10 @@ module _ (s back : Shift) (sound : IsSound s) (opposite : opposite_of s ≡ Some
       unbent : {A B : Type 0} → ¬ A → ¬ B → A ⊎ B → ⊥
       unbent no_a no_b (inl a) = no_a a
       unbent no_a no_b (inr b) = no_b b
+  node_turned (Whole w) y still inside goes =
+      let (after, to, same) = mapped Whole (whole_after s w) y goes in
+      let returns = whole_goes_back (form_of s) (form_of back) w after sound (form_of_opposite s back opposite) inside still to in
+      subst (λ n. (node_after back n ≡ Some (Whole w)) × (¬ Bends back n)) same (ap (option_map Whole) returns.0, returns.1)
 
   module _ (b c : Workbook) (words : List (List ℕ)) (customs : List (List ℕ × Rule)) (today : ℤ) (old new : Links) (marks more : List Node) (kept : Kept)
       (inside : IsBookInside b) (over : IsBookAfter s b c) (shifted : AreShifted back old new) (marked : AreMarksBack s back b c words marks more)
@@ -113,6 +118,7 @@ module _ (s back : Shift) (sound : IsSound s) (opposite : opposite_of s ≡ Some
     plain (Cell p) was from = tt
     plain (Name scope word) was from = tt
     plain (Range block) was from = none_some was from
+    plain (Whole w) was from = none_some was from
 
     nothing : (a : Node) → IsNoRange a → option_and_then (back_over back) (node_at words a) ≡ None → carried_kept (from_over back) kept a ≡ None
     nothing a no_block none = by (from_over back a) refl
@@ -167,10 +173,10 @@ module _ (s back : Shift) (sound : IsSound s) (opposite : opposite_of s ≡ Some
 
     -- ---- links
 
-    no_ranges : (block : Block) (y : Node) → ¬ IsTrue (has y (old (Range block)))
-    no_ranges block y link =
-        let (x, t, at, is, linked) = (before.linked.exact (Range block) y (λ mark. let (x, at) = before.known (Range block) mark in none_some x at)).0 link in
-        none_some x at
+    no_ranges : (r y : Node) → ¬ IsNoRange r → ¬ IsTrue (has y (old r))
+    no_ranges r y range link =
+        let (x, t, at, is, linked) = (before.linked.exact r y (λ mark. let (x, at) = before.known r mark in range (no_range words r x at))).0 link in
+        range (no_range words r x at)
 
     module _ (a was : Node) (out : ¬ IsTrue (has a more)) (from : from_over back a ≡ Some was) where
       unbent : ¬ IsBentBy back old was

@@ -1,28 +1,36 @@
 -- The links of a formula's tree after an operation rewrote it. Serves the laws on operations.
-use Rattle.std.proofs.Common.{◌≡◌, ◌∙◌, sym, ap, ap₂, refl, ℕ, Bool, true, false, cond, ◌&&◌, ◌||◌, List, [], ◌∷◌, ◌++◌, Option, Some, None, option_map, ⊎_elim, eq-eqb}
+use Rattle.std.proofs.Common.{◌≡◌, ◌∙◌, sym, ap, ap₂, refl, subst, ℕ, Bool, true, false, cond, ◌&&◌, ◌||◌, List, [], ◌∷◌, ◌++◌, Option, Some, None, option_map, ⊎_elim, eq-eqb}
 use Rattle.std.specs.Prelude.{bytes_eq, codes}
 use Rattle.std.specs.List.{cons_option, filter_map, list_any}
 use Rattle.std.specs.Cmp.Lexicographic.{bytes_decides}
 use Rattle.std.proofs.lemmas.Bool.{and_from, false≢true, or_cases, or_left, or_parts, or_right}
 use Rattle.std.proofs.lemmas.List.Folds.{list_any-append}
-use Rattle.cell_addr.proofs.SamePlaces.{same_block-decides, same_block-equal, same_place-equal, same_place-self}
+use Rattle.cell_addr.proofs.SamePlaces.{same_block-decides, same_block-equal, same_place-equal, same_place-self, same_whole-decides}
+use Rattle.cell_addr.proofs.Wholes.{whole_of-whole_block}
 use Rattle.cell_addr.specs.Text.{folded}
+use Rattle.cell_addr.specs.Whole.{whole_block, whole_of}
+use Rattle.cell_addr.specs.declared.axis.Axis.{Axis}
 use Rattle.cell_addr.specs.declared.place.Block.{Block}
 use Rattle.cell_addr.specs.declared.place.Place.{Place}
+use Rattle.cell_addr.specs.declared.whole.Whole.{Whole}
 use Rattle.formula_tree.specs.Links.{is_place_word, links_in, links_in_all, same_link, same_scope}
 use Rattle.formula_tree.specs.Reference.{block_of}
-use Rattle.formula_tree.specs.Term.{Term, Terms, number, text, truth, fault, cell, area, prefix, percent, binary, call, paren, no_terms, term, is_reference, mapped_all}
+use Rattle.formula_tree.specs.Term.{Term, Terms, number, text, truth, fault, cell, area, whole, prefix, percent, binary, call, paren, no_terms, term, is_reference, mapped_all}
 use Rattle.formula_tree.specs.Term as terms
+use Rattle.formula_tree.specs.Whole.{whole_between}
 use Rattle.formula_tree.specs.declared.link.Link.{Link}
 use Rattle.formula_tree.specs.declared.link.Link.TheVariants as links
 use Rattle.formula_tree.specs.declared.reference.Corner.{Corner}
 use Rattle.shift_core.specs.Tables.{block_after, place_after}
+use Rattle.shift_core.specs.Wholes.{whole_after}
 use Rattle.shift_core.specs.declared.shift.Shift.{Shift}
 use Rattle.tree_rewrite.specs.References.{EachReference, EachReferenceOfAll}
-use Rattle.tree_rewrite.specs.Rewritten.{area_at, cell_at, rewritten}
+use Rattle.tree_rewrite.specs.Rewritten.{area_after, area_at, cell_at, rewritten}
+use Rattle.tree_rewrite.proofs.WholeAreas.{axis-after}
 use Rattle.carried_terms.specs.Carried.{asks_where}
 use Rattle.carried_terms.specs.Still.{AllAskNowhere, AsksNowhere}
 use Rattle.marked_values.specs.Shifts.{any_asks_place, asks_place}
+use Rattle.marked_values.proofs.TreeLinks.{link_between}
 
 -- ---- links in lists
 
@@ -33,6 +41,7 @@ same_scope-self (Some n) = eq-eqb n n refl
 pub same_link-self : (l : Link) → same_link l l ≡ true
 same_link-self (links.Cell p) = same_place-self p
 same_link-self (links.Area b) = (same_block-decides b b).1 refl
+same_link-self (links.Whole w) = (same_whole-decides w w).1 refl
 same_link-self (links.Name s w) = and_from (same_scope s s) (bytes_eq (folded w) (folded w)) (same_scope-self s) ((bytes_decides (folded w) (folded w)).1 refl)
 
 abbrev pub HasLink : Link → List Link → Type 0
@@ -46,16 +55,24 @@ passing test (l ∷ ls) h = ⊎_elim
     (λ (later : list_any test ls ≡ true). let (m, is, passes) = passing test ls later in (m, or_right (same_link m l) (list_any (same_link m) ls) is, passes))
     (or_cases (test l) (list_any test ls) h)
 
--- a cell or a block is the same as itself alone
+-- a cell, a block or a whole range is the same as itself alone
 pub same_cell : (p : Place) (l : Link) → same_link (links.Cell p) l ≡ true → l ≡ links.Cell p
 same_cell p (links.Cell q) h = ap links.Cell (sym (same_place-equal p q h))
 same_cell p (links.Area b) h = absurd (false≢true h)
+same_cell p (links.Whole w) h = absurd (false≢true h)
 same_cell p (links.Name s w) h = absurd (false≢true h)
 
 pub same_area : (b : Block) (l : Link) → same_link (links.Area b) l ≡ true → l ≡ links.Area b
 same_area b (links.Cell q) h = absurd (false≢true h)
 same_area b (links.Area c) h = ap links.Area (sym (same_block-equal b c h))
+same_area b (links.Whole w) h = absurd (false≢true h)
 same_area b (links.Name s w) h = absurd (false≢true h)
+
+pub same_range : (v : Whole) (l : Link) → same_link (links.Whole v) l ≡ true → l ≡ links.Whole v
+same_range v (links.Cell q) h = absurd (false≢true h)
+same_range v (links.Area b) h = absurd (false≢true h)
+same_range v (links.Whole w) h = ap links.Whole (sym ((same_whole-decides v w).0 h))
+same_range v (links.Name s w) h = absurd (false≢true h)
 
 cons_append : {X : Type 0} (o : Option X) (xs ys : List X) → cons_option o (xs ++ ys) ≡ cons_option o xs ++ ys
 cons_append None xs ys = refl
@@ -71,34 +88,46 @@ filter_map-append f (x ∷ xs) ys = ap (cons_option (f x)) (filter_map-append f 
 abbrev pub link_after : Shift → Link → Option Link
 link_after s (links.Cell p) = option_map links.Cell (place_after s p)
 link_after s (links.Area b) = option_map links.Area (block_after s b)
+link_after s (links.Whole w) = option_map links.Whole (whole_after s w)
 link_after s (links.Name scope w) = None
 
 cell_links : (c : Corner) (o : Option Place) → links_in (cell_at c o) ≡ cons_option (option_map links.Cell o) []
 cell_links c None = refl
 cell_links c (Some p) = refl
 
-area_links : (c d : Corner) (o : Option Block) → links_in (area_at c d o) ≡ cons_option (option_map links.Area o) []
+area_links : (c d : Corner) (o : Option Block) → links_in (area_at None c d o) ≡ cons_option (option_map links.Area o) []
 area_links c d None = refl
 area_links c d (Some b) = refl
+
+-- the block of a whole range along the axis is that of no other one
+same_whole_of : (axis : Axis) (v : Whole) → v.axis ≡ axis → whole_of axis (whole_block v) ≡ v
+same_whole_of axis v e = subst (λ a. whole_of a (whole_block v) ≡ v) e (whole_of-whole_block v)
+
+whole_links : (axis : Axis) (c d : Corner) (o : Option Whole) → ((v : Whole) → o ≡ Some v → v.axis ≡ axis)
+    → links_in (area_at (Some axis) c d (option_map whole_block o)) ≡ cons_option (option_map links.Whole o) []
+whole_links axis c d None along = refl
+whole_links axis c d (Some v) along = ap (λ w. links.Whole w ∷ []) (same_whole_of axis v (along v refl))
 
 cell_skipped : (c : Corner) (o : Option Place) → cond (is_reference (cell_at c o)) [] (links_in (cell_at c o)) ≡ []
 cell_skipped c None = refl
 cell_skipped c (Some p) = refl
 
-area_skipped : (c d : Corner) (o : Option Block) → cond (is_reference (area_at c d o)) [] (links_in (area_at c d o)) ≡ []
-area_skipped c d None = refl
-area_skipped c d (Some b) = refl
+area_skipped : (lines : Option Axis) (c d : Corner) (o : Option Block) → cond (is_reference (area_at lines c d o)) [] (links_in (area_at lines c d o)) ≡ []
+area_skipped lines c d None = refl
+area_skipped None c d (Some b) = refl
+area_skipped (Some axis) c d (Some b) = refl
 
 module _ (s : Shift) where
   abbrev all_rewritten : Terms Corner → Terms Corner
-  all_rewritten = mapped_all (λ c. cell_at c (place_after s c.at)) (λ c d. area_at c d (block_after s (block_of c d)))
+  all_rewritten = mapped_all (λ c. cell_at c (place_after s c.at)) (λ lines c d. area_at lines c d (area_after s lines (block_of c d)))
 
   -- an argument that is skipped stays so, or is lost
   argument : (skip : Bool) (t : Term Corner) → links_in (rewritten s t) ≡ filter_map (link_after s) (links_in t)
       → cond (skip && is_reference (rewritten s t)) [] (links_in (rewritten s t)) ≡ filter_map (link_after s) (cond (skip && is_reference t) [] (links_in t))
   argument false t e = e
   argument true (cell c) e = cell_skipped c (place_after s c.at)
-  argument true (area c d) e = area_skipped c d (block_after s (block_of c d))
+  argument true (area c d) e = area_skipped None c d (block_after s (block_of c d))
+  argument true (whole axis c d) e = area_skipped (Some axis) c d (area_after s (Some axis) (block_of c d))
   argument true (number m) e = e
   argument true (text w) e = e
   argument true (truth b) e = e
@@ -111,10 +140,11 @@ module _ (s : Shift) where
   argument true (paren t) e = e
 
   mutual
-    -- the links go where places and blocks do
+    -- the links go where places, blocks and whole ranges do
     pub moved_links : (t : Term Corner) → links_in (rewritten s t) ≡ filter_map (link_after s) (links_in t)
     moved_links (cell c) = cell_links c (place_after s c.at)
     moved_links (area c d) = area_links c d (block_after s (block_of c d))
+    moved_links (whole axis c d) = let w = whole_between axis c d in whole_links axis c d (whole_after s w) (λ v goes. axis-after s w v goes)
     moved_links (number m) = refl
     moved_links (text w) = refl
     moved_links (truth b) = refl
@@ -174,6 +204,11 @@ module _ (s : Shift) where
       ap (list_any (same_link (links.Area c))) (moved_links t)
       ∙ went (links.Area b) (links.Area c) (links_in t) (same_area b) (ap (option_map links.Area) goes) h
 
+  pub range_goes : (t : Term Corner) (v w : Whole) → whole_after s v ≡ Some w → HasLink (links.Whole v) (links_in t) → HasLink (links.Whole w) (links_in (rewritten s t))
+  range_goes t v w goes h =
+      ap (list_any (same_link (links.Whole w))) (moved_links t)
+      ∙ went (links.Whole v) (links.Whole w) (links_in t) (same_range v) (ap (option_map links.Whole) goes) h
+
   pub link_came : (t : Term Corner) (test : Link → Bool) → list_any test (links_in (rewritten s t)) ≡ true → (l : Link) × (m : Link) × HasLink l (links_in t) × (link_after s l ≡ Some m) × (test m ≡ true)
   link_came t test h = came test (links_in t) (sym (ap (list_any test) (moved_links t)) ∙ h)
 
@@ -192,9 +227,11 @@ in_right l xs ys h = list_any-append (same_link l) xs ys ∙ or_right (list_any 
 module _ (P : Link → Type 0) where
   mutual
     -- what holds of each of its links holds of each of its references
-    pub by_links : (t : Term Corner) → asks_place t ≡ false → ((l : Link) → HasLink l (links_in t) → P l) → EachReference (λ c. P (links.Cell c.at)) (λ c d. P (links.Area (block_of c d))) t
+    pub by_links : (t : Term Corner) → asks_place t ≡ false → ((l : Link) → HasLink l (links_in t) → P l) → EachReference (λ c. P (links.Cell c.at)) (λ lines c d. P (link_between lines c d)) t
     by_links (cell c) h each = each (links.Cell c.at) (or_left (same_link (links.Cell c.at) (links.Cell c.at)) false (same_link-self (links.Cell c.at)))
     by_links (area c d) h each = each (links.Area (block_of c d)) (or_left (same_link (links.Area (block_of c d)) (links.Area (block_of c d))) false (same_link-self (links.Area (block_of c d))))
+    by_links (whole axis c d) h each =
+        let l = links.Whole (whole_between axis c d) in each l (or_left (same_link l l) false (same_link-self l))
     by_links (prefix s t) h each = by_links t h each
     by_links (percent t) h each = by_links t h each
     by_links (binary o l r) h each =
@@ -209,7 +246,7 @@ module _ (P : Link → Type 0) where
     by_links (terms.name w) h each = tt
 
     all_by_links : (skip : Bool) (ts : Terms Corner) → skip ≡ false → any_asks_place ts ≡ false → ((l : Link) → HasLink l (links_in_all skip ts) → P l)
-        → EachReferenceOfAll (λ c. P (links.Cell c.at)) (λ c d. P (links.Area (block_of c d))) ts
+        → EachReferenceOfAll (λ c. P (links.Cell c.at)) (λ lines c d. P (link_between lines c d)) ts
     all_by_links skip no_terms e h each = tt
     all_by_links skip (term t ts) e h each =
         let (first, second) = or_parts (asks_place t) (any_asks_place ts) h in (
@@ -232,6 +269,7 @@ mutual
   asks_nowhere (fault k) h = tt
   asks_nowhere (cell c) h = tt
   asks_nowhere (area c d) h = tt
+  asks_nowhere (whole axis c d) h = tt
   asks_nowhere (terms.name w) h = tt
 
   all_ask_nowhere : (ts : Terms Corner) → any_asks_place ts ≡ false → AllAskNowhere ts

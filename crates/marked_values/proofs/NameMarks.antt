@@ -12,7 +12,7 @@ use Rattle.book_values.specs.Workbook.{Workbook, home_of, mentions_node, tree_at
 use Rattle.dep_graph.specs.Needs.{Links}
 use Rattle.dep_graph.specs.Nodes.{has}
 use Rattle.dep_graph.specs.declared.node.Node.{Node}
-use Rattle.dep_graph.specs.declared.node.Node.TheVariants.{Cell, Name, Range}
+use Rattle.dep_graph.specs.declared.node.Node.TheVariants.{Cell, Name, Range, Whole}
 use Rattle.dep_graph.proofs.Places.{has-append_cases}
 use Rattle.recalc_core.specs.Edits.{DifferInName}
 use Rattle.recalc_core.specs.Kept.{Kept}
@@ -39,6 +39,7 @@ linked_at : (b : Workbook) (words : List (List ℕ)) (a n : Node) (x : book.Node
     → mentions_node b.names (sheet_of (home_of x)) t (book.name k) ≡ true → IsLinkAt b words a n
 linked_at b words a (Name scope word) x t k at is to m = (x, t, at, is, (k, to, m))
 linked_at b words a (Range block) x t k at is to m = absurd (none_some (book.name k) to)
+linked_at b words a (Whole w) x t k at is to m = absurd (none_some (book.name k) to)
 linked_at b words a (Cell p) x t k at is to m = absurd (apart (same_some (book.place p) (book.name k) to))
   where
     apart : book.place p ≡ book.name k → ⊥
@@ -106,6 +107,7 @@ module _ (b : Workbook) (words more : List (List ℕ)) (numbered : AreNumbered w
       by : (n : Node) → IsLinkOf more b.names (sheet_of (home_of x)) t n → IsLinkOf words b.names (sheet_of (home_of x)) t n
       by (Cell p) h = h
       by (Range block) h = h
+      by (Whole w) h = h
       by (Name scope word) (key, to, m) = (key, known_before b words more numbered numbers now.once (Name scope word) (book.name key) to (mentioned_stands b.names (sheet_of (home_of x)) t key m), m)
 
 pub linked_or_marked : LinkedOrMarked

@@ -18,7 +18,7 @@ use Rattle.book_values.specs.Workbook.{Workbook}
 use Rattle.dep_graph.specs.Laws.{IsNoRange, IsNodeInside}
 use Rattle.dep_graph.specs.Shifted.{node_after}
 use Rattle.dep_graph.specs.declared.node.Node.{Node}
-use Rattle.dep_graph.specs.declared.node.Node.TheVariants.{Cell, Name, Range}
+use Rattle.dep_graph.specs.declared.node.Node.TheVariants.{Cell, Name, Range, Whole}
 use Rattle.recalc_core.specs.Kept.{stands}
 use Rattle.recalc_core.specs.Nodes.{node_at}
 use Rattle.recalc_core.specs.Shifted.{back_over, drops_scope, from_over, is_inside}
@@ -62,6 +62,7 @@ module _ (s : Shift) (sound : IsSound s) where
       by true e = absurd (none-some was e)
       by false e = subst (WasAt (Name scope word)) (same_Some (Name scope word) was e) (refl, tt, tt)
   was_at (Range block) was from = absurd (none-some was from)
+  was_at (Whole w) was from = absurd (none-some was from)
 
   -- ---- places and names
 

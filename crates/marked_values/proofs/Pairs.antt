@@ -13,14 +13,14 @@ use Rattle.formula_tree.specs.declared.reference.Corner.{Corner}
 use Rattle.shift_core.specs.Carried.{carried_place, destination}
 use Rattle.shift_core.specs.Form.{form_of}
 use Rattle.shift_core.specs.Sound.{IsSound}
-use Rattle.shift_core.specs.Tables.{block_after, place_after, place_moved}
+use Rattle.shift_core.specs.Tables.{place_after, place_moved}
 use Rattle.shift_core.specs.declared.form.Form.{Form}
 use Rattle.shift_core.specs.declared.form.Form.TheVariants.{Cells, Lines, Sheet}
 use Rattle.shift_core.specs.declared.shift.Shift.{Shift}
 use Rattle.shift_core.proofs.CellMoves.{Covers-from_covers, carried_covered, cases_chosen, covers-from_Covers}
 use Rattle.shift_core.proofs.PlaceLaws.{place_moved_returns}
 use Rattle.tree_rewrite.specs.References.{FitsSheets}
-use Rattle.tree_rewrite.specs.Rewritten.{rewritten}
+use Rattle.tree_rewrite.specs.Rewritten.{area_after, rewritten}
 use Rattle.tree_rewrite.proofs.OnSheets.{place-leads}
 use Rattle.calc_terms.specs.Needs.{mentions}
 use Rattle.book_values.specs.Names.{Key, found, is_found, key_of, tree_in}
@@ -113,7 +113,7 @@ module _ (s : Shift) where
     pub same_names : (x z : book.Node) (t : Term Corner) → FindsSame x z → (key : Key)
         → mentions_node c.names (sheet_of (home_of z)) (rewritten s t) (book.name key) ≡ mentions_node b.names (sheet_of (home_of x)) t (book.name key)
     same_names x z t finds key =
-        ap (list_any (λ w. is_found (found c.names w (sheet_of (home_of z))) key)) (names_stay (place_after s) (block_after s) (λ p. false) t)
+        ap (list_any (λ w. is_found (found c.names w (sheet_of (home_of z))) key)) (names_stay (place_after s) (area_after s) (λ p. false) t)
         ∙ (λ i. list_any (λ w. is_found (finds w i) key) (names_in t))
 
     module _ (x z : book.Node) (t : Term Corner) (sound : IsSound s) (pair : Pair x z) (is : tree_at b x ≡ Some t) (fits : FitsSheets t) (unbent : IsUnbent s t) (finds : FindsSame x z) where

@@ -14,7 +14,7 @@ use Rattle.book_values.specs.Workbook.{Workbook, home_of, needs, tree_at, tree_n
 use Rattle.dep_graph.specs.Laws.{IsNoRange}
 use Rattle.dep_graph.specs.Nodes.{has}
 use Rattle.dep_graph.specs.declared.node.Node.{Node}
-use Rattle.dep_graph.specs.declared.node.Node.TheVariants.{Cell, Name, Range}
+use Rattle.dep_graph.specs.declared.node.Node.TheVariants.{Cell, Name, Range, Whole}
 use Rattle.recalc_core.specs.Kept.{Kept, expected_at, stands}
 use Rattle.recalc_core.specs.Laws.{KeepNumbers}
 use Rattle.recalc_core.specs.Nodes.{AreNumbered, node_at}
@@ -41,6 +41,7 @@ module _ (b : Workbook) (words more : List (List ℕ)) (numbered : AreNumbered w
   pub known_before : (a : Node) (x : book.Node) → node_at more a ≡ Some x → stands b x ≡ true → node_at words a ≡ Some x
   known_before (Cell p) x at there = at
   known_before (Range block) x at there = absurd (none_some x at)
+  known_before (Whole w) x at there = absurd (none_some x at)
   known_before (Name scope word) (book.place p) at there = absurd (apart (name_only scope (slice_get more word) (book.place p) at))
     where
       apart : (key : Key) × (book.place p ≡ book.name key) → ⊥

@@ -5,11 +5,12 @@ use Rattle.std.specs.FinMap as map
 use Rattle.std.proofs.lemmas.Bool.{and_from, false≢true, or_right}
 use Rattle.std.proofs.lemmas.Option.{none-some, same_Some}
 use Rattle.cell_addr.specs.Place.{IsBlockInside, IsInside, covers}
+use Rattle.cell_addr.specs.declared.axis.Axis.{Axis}
 use Rattle.cell_addr.specs.declared.place.Block.{Block}
 use Rattle.cell_addr.specs.declared.place.Place.{Place}
 use Rattle.formula_tree.specs.Links.{is_place_word}
 use Rattle.formula_tree.specs.Reference.{block_of}
-use Rattle.formula_tree.specs.Term.{Term, Terms, number, text, truth, fault, cell, area, prefix, percent, binary, call, paren, no_terms, term, mapped_all}
+use Rattle.formula_tree.specs.Term.{Term, Terms, number, text, truth, fault, cell, area, whole, prefix, percent, binary, call, paren, no_terms, term, mapped_all}
 use Rattle.formula_tree.specs.Term as terms
 use Rattle.formula_tree.specs.declared.reference.Corner.{Corner}
 use Rattle.shift_core.specs.Carried.{carried_place, contains, destination, first_place, last_place}
@@ -23,7 +24,7 @@ use Rattle.shift_core.specs.declared.shift.Shift.{Shift}
 use Rattle.shift_core.proofs.CellMoves.{Covers-from_covers, carried_covered, cases_chosen, covers-from_Covers}
 use Rattle.shift_core.proofs.Opposites.{form_of_opposite}
 use Rattle.shift_core.proofs.UnbentBlocks.{carried_back}
-use Rattle.tree_rewrite.specs.Rewritten.{area_at, cell_at, rewritten}
+use Rattle.tree_rewrite.specs.Rewritten.{area_after, area_at, cell_at, rewritten}
 use Rattle.book_cells.specs.Workbook.{Content}
 use Rattle.book_values.specs.Workbook as book
 use Rattle.book_values.specs.Workbook.{Workbook, content_tree, scope_sheet, tree_at}
@@ -31,7 +32,7 @@ use Rattle.carried_books.specs.Moved.{content_after, is_bare}
 use Rattle.carried_books.proofs.Moved.{tree_after}
 use Rattle.dep_graph.specs.Nodes.{has}
 use Rattle.dep_graph.specs.declared.node.Node.{Node}
-use Rattle.dep_graph.specs.declared.node.Node.TheVariants.{Cell, Name, Range}
+use Rattle.dep_graph.specs.declared.node.Node.TheVariants.{Cell, Name, Range, Whole}
 use Rattle.dep_graph.proofs.Places.{has-append_left, has-append_right}
 use Rattle.recalc_core.specs.Nodes.{node_at}
 use Rattle.recalc_core.proofs.Bridge.{none_some}
@@ -50,15 +51,17 @@ cell_asks : (c : Corner) (o : Option Place) → asks_place (cell_at c o) ≡ fal
 cell_asks c None = refl
 cell_asks c (Some p) = refl
 
-area_asks : (c d : Corner) (o : Option Block) → asks_place (area_at c d o) ≡ false
-area_asks c d None = refl
-area_asks c d (Some b) = refl
+area_asks : (lines : Option Axis) (c d : Corner) (o : Option Block) → asks_place (area_at lines c d o) ≡ false
+area_asks lines c d None = refl
+area_asks None c d (Some b) = refl
+area_asks (Some axis) c d (Some b) = refl
 
 module _ (s : Shift) where
   mutual
     pub asks_still : (t : Term Corner) → asks_place (rewritten s t) ≡ asks_place t
     asks_still (cell c) = cell_asks c (place_after s c.at)
-    asks_still (area c d) = area_asks c d (block_after s (block_of c d))
+    asks_still (area c d) = area_asks None c d (block_after s (block_of c d))
+    asks_still (whole axis c d) = area_asks (Some axis) c d (area_after s (Some axis) (block_of c d))
     asks_still (prefix sign t) = asks_still t
     asks_still (percent t) = asks_still t
     asks_still (binary o l r) = ap₂ (λ m n. m || n) (asks_still l) (asks_still r)
@@ -70,7 +73,7 @@ module _ (s : Shift) where
     asks_still (fault k) = refl
     asks_still (terms.name w) = refl
 
-    any_asks_still : (ts : Terms Corner) → any_asks_place (mapped_all (λ c. cell_at c (place_after s c.at)) (λ c d. area_at c d (block_after s (block_of c d))) ts) ≡ any_asks_place ts
+    any_asks_still : (ts : Terms Corner) → any_asks_place (mapped_all (λ c. cell_at c (place_after s c.at)) (λ lines c d. area_at lines c d (area_after s lines (block_of c d))) ts) ≡ any_asks_place ts
     any_asks_still no_terms = refl
     any_asks_still (term t ts) = ap₂ (λ m n. m || n) (asks_still t) (any_asks_still ts)
 
@@ -157,6 +160,7 @@ module _ (s back : Shift) (b c : Workbook) (words : List (List ℕ)) (marks touc
       by (Cell p) to = absurd (cc)
       by (Name scope word) to = taken.along (Name scope word) (Name scope word) (has-append_right (Name scope word) marks touched (known (Name scope word) to)) refl
       by (Range block) to = absurd (none_some (book.name key) to)
+      by (Whole w) to = absurd (none_some (book.name key) to)
 
   pub marks_back : AreMarksBack s back b c words marks more
   marks_back = record {

@@ -1,15 +1,19 @@
 -- After a dropped sheet came back, links and kept values follow. Serves the law.
-use Rattle.std.proofs.Common.{◌≡◌, ◌∙◌, sym, ap, refl, subst, ℕ, ℤ, pos, Bool, true, false, cond, ◌==◌, eqb-true, List, [], Option, Some, None, is_some, ◌⊎◌, inl, inr}
+use Rattle.std.proofs.Common.{◌≡◌, ◌∙◌, sym, ap, refl, subst, ℕ, ℤ, pos, Bool, true, false, cond, ◌==◌, eqb-true, List, [], Option, Some, None, is_some, option_map, ◌⊎◌, inl, inr}
 use Rattle.std.specs.Prelude.{IsTrue}
 use Rattle.std.specs.FinMap as map
 use Rattle.std.proofs.lemmas.Bool.{false≢true}
 use Rattle.std.proofs.lemmas.Option.{none-some, same_Some}
+use Rattle.cell_addr.proofs.Wholes.{whole_of-whole_block}
+use Rattle.cell_addr.specs.Whole.{whole_block, whole_of}
 use Rattle.cell_addr.specs.declared.place.Block.{Block}
 use Rattle.cell_addr.specs.declared.place.Place.{Place}
+use Rattle.cell_addr.specs.declared.whole.Whole as ranges
 use Rattle.custom_fn.specs.declared.rule.Rule.{Rule}
 use Rattle.formula_tree.specs.Term.{Term}
 use Rattle.formula_tree.specs.declared.reference.Corner.{Corner}
 use Rattle.shift_core.specs.Tables.{block_after, place_after}
+use Rattle.shift_core.specs.Wholes.{whole_after}
 use Rattle.shift_core.specs.declared.shift.Shift.{Shift}
 use Rattle.shift_core.specs.declared.shift.Shift.TheVariants.{DropSheet}
 use Rattle.shift_core.proofs.PlaceLaws.{stays_on_drop}
@@ -21,7 +25,7 @@ use Rattle.dep_graph.specs.Needs.{Links}
 use Rattle.dep_graph.specs.Nodes.{has}
 use Rattle.dep_graph.specs.Shifted.{node_after}
 use Rattle.dep_graph.specs.declared.node.Node.{Node}
-use Rattle.dep_graph.specs.declared.node.Node.TheVariants.{Cell, Name, Range}
+use Rattle.dep_graph.specs.declared.node.Node.TheVariants.{Cell, Name, Range, Whole}
 use Rattle.dep_graph.proofs.UnbentNodes.{mapped}
 use Rattle.recalc_core.specs.Kept.{Kept, expected_at, stands}
 use Rattle.recalc_core.specs.Moves.{From}
@@ -57,10 +61,18 @@ module _ (sheet : ℕ) where
       by true e = absurd (none-some after e)
       by false e = same_Some block after e
 
+  whole_same : (w after : ranges.Whole) → whole_after drop w ≡ Some after → w ≡ after
+  whole_same w after goes = by ((whole_block w).sheet == sheet) goes
+    where
+      by : (t : Bool) → option_map (whole_of w.axis) (cond t None (Some (whole_block w))) ≡ Some after → w ≡ after
+      by true e = absurd (none-some after e)
+      by false e = sym (whole_of-whole_block w) ∙ same_Some (whole_of w.axis (whole_block w)) after e
+
   node_same : (d y : Node) → node_after drop d ≡ Some y → d ≡ y
   node_same (Cell p) y goes = let (q, to, same) = mapped Cell (place_after drop p) y goes in ap Cell (stays_on_drop sheet p q to) ∙ same
   node_same (Name scope word) y goes = same_Some (Name scope word) y goes
   node_same (Range block) y goes = let (after, to, same) = mapped Range (block_after drop block) y goes in ap Range (block_same block after to) ∙ same
+  node_same (Whole w) y goes = let (after, to, same) = mapped Whole (whole_after drop w) y goes in ap Whole (whole_same w after to) ∙ same
 
   -- each node stays where it is
   abbrev stay_put : From

@@ -7,6 +7,7 @@ use Rattle.std.proofs.lemmas.Bool.{and_parts, false_from_ne_true, false≢true, 
 use Rattle.std.proofs.lemmas.Option.{same_Some}
 use Rattle.cell_addr.specs.Place.{covers}
 use Rattle.cell_addr.specs.declared.place.Place.{Place}
+use Rattle.cell_addr.specs.declared.whole.Whole as ranges
 use Rattle.custom_fn.specs.declared.rule.Rule.{Rule}
 use Rattle.formula_tree.specs.Reference.{sheet_of}
 use Rattle.formula_tree.specs.Term.{Term}
@@ -15,10 +16,12 @@ use Rattle.shift_core.specs.Carried.{carried_place, destination}
 use Rattle.shift_core.specs.Form.{form_of}
 use Rattle.shift_core.specs.Sound.{IsSound}
 use Rattle.shift_core.specs.Tables.{place_after, place_moved}
+use Rattle.shift_core.specs.Wholes.{whole_after}
 use Rattle.shift_core.specs.declared.form.Form.{Form}
 use Rattle.shift_core.specs.declared.form.Form.TheVariants.{Cells, Lines, Sheet}
 use Rattle.shift_core.specs.declared.shift.Shift.{Shift}
 use Rattle.shift_core.proofs.CellMoves.{cases_chosen}
+use Rattle.shift_core.proofs.WholeMoves.{lost_whole_bent}
 use Rattle.tree_rewrite.specs.Rewritten.{rewritten}
 use Rattle.book_values.specs.Values.{value_of}
 use Rattle.book_values.specs.Workbook as book
@@ -31,7 +34,7 @@ use Rattle.dep_graph.specs.Needs.{Links}
 use Rattle.dep_graph.specs.Nodes.{has}
 use Rattle.dep_graph.specs.Shifted.{node_after}
 use Rattle.dep_graph.specs.declared.node.Node.{Node}
-use Rattle.dep_graph.specs.declared.node.Node.TheVariants.{Cell, Name, Range}
+use Rattle.dep_graph.specs.declared.node.Node.TheVariants.{Cell, Name, Range, Whole}
 use Rattle.recalc_core.specs.Kept.{Kept, expected, expected_at, stands}
 use Rattle.recalc_core.specs.Laws.{AreKnown}
 use Rattle.recalc_core.specs.Links.{IsLinkAt, IsLinkOf}
@@ -70,6 +73,11 @@ goes_somewhere s (Cell p) still = by (place_after s p) refl
     by (Some q) e = (Cell q, ap (option_map Cell) e)
 goes_somewhere s (Name scope word) still = (Name scope word, refl)
 goes_somewhere s (Range block) still = let (after, goes) = some_block (form_of s) block (λ bent. still (inl bent)) in (Range after, ap (option_map Range) goes)
+goes_somewhere s (Whole w) still = by (whole_after s w) refl
+  where
+    by : (o : Option ranges.Whole) → whole_after s w ≡ o → (y : Node) × (option_map Whole (whole_after s w) ≡ Some y)
+    by None e = absurd (still (lost_whole_bent (form_of s) w e))
+    by (Some after) e = (Whole after, ap (option_map Whole) e)
 
 -- where nodes of the workbook from before an operation were while it stood, what is kept of them, and which are marked
 pub record AreBack (s : Shift) (b c : Workbook) (words : List (List ℕ)) (marks more : List Node) (from : From) (old_kept new_kept : Kept) : Type 0 where
@@ -98,6 +106,7 @@ module _ (s : Shift) (b c : Workbook) (words : List (List ℕ)) (customs : List 
     unbent = record {
       cells = λ p h. somewhere p (straight a (Cell p) out (x, t, at, is, h)) (place_after s p) refl;
       areas = λ block h. let still = straight a (Range block) out (x, t, at, is, h) in (λ bent. still (inl bent), λ cut. still (inr cut));
+      wholes = λ w h. straight a (Whole w) out (x, t, at, is, h);
     };
     asks = false_from_ne_true (asks_place t) (λ asks. out (back.asking a x t at is asks));
   }

@@ -1,5 +1,6 @@
 pub mod ProbedSpans
 pub mod ProbedBlocks
 pub mod NearBlocks
+pub mod ProbedWholes
 pub mod LostLinks
 pub mod Suspected

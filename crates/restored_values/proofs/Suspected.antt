@@ -5,6 +5,7 @@ use Rattle.std.specs.FinMap as map
 use Rattle.std.proofs.lemmas.Bool.{cases_Bool, false≢true}
 use Rattle.cell_addr.specs.declared.place.Block.{Block}
 use Rattle.cell_addr.specs.declared.place.Place.{Place}
+use Rattle.cell_addr.specs.declared.whole.Whole as ranges
 use Rattle.custom_fn.specs.declared.rule.Rule.{Rule}
 use Rattle.formula_tree.specs.Reference.{sheet_of}
 use Rattle.formula_tree.specs.Term.{Term}
@@ -12,6 +13,7 @@ use Rattle.formula_tree.specs.declared.reference.Corner.{Corner}
 use Rattle.shift_core.specs.Opposite.{opposite_of}
 use Rattle.shift_core.specs.Sound.{IsSound}
 use Rattle.shift_core.specs.Tables.{block_after, place_after}
+use Rattle.shift_core.specs.Wholes.{whole_after}
 use Rattle.shift_core.specs.declared.shift.Shift.{Shift}
 use Rattle.tree_rewrite.specs.Rewritten.{rewritten}
 use Rattle.book_cells.specs.Workbook.{Content}
@@ -23,7 +25,7 @@ use Rattle.dep_graph.specs.Needs.{Links}
 use Rattle.dep_graph.specs.Nodes.{has}
 use Rattle.dep_graph.specs.Shifted.{node_after}
 use Rattle.dep_graph.specs.declared.node.Node.{Node}
-use Rattle.dep_graph.specs.declared.node.Node.TheVariants.{Cell, Name, Range}
+use Rattle.dep_graph.specs.declared.node.Node.TheVariants.{Cell, Name, Range, Whole}
 use Rattle.dep_graph.proofs.Places.{has-append_left, has-append_right}
 use Rattle.recalc_core.specs.Kept.{Kept}
 use Rattle.recalc_core.specs.Links.{IsLinkAt, IsLinkOf}
@@ -34,12 +36,14 @@ use Rattle.marked_values.specs.Marks.{Follow, IsBookInside}
 use Rattle.marked_values.specs.Shifts.{IsBookAfter}
 use Rattle.marked_values.proofs.Alone.{place_node}
 use Rattle.marked_values.proofs.GoingBack.{keeps, shifts_go_back_follow, turned}
-use Rattle.marked_values.proofs.MovedTrees.{area_goes}
+use Rattle.marked_values.proofs.MovedTrees.{area_goes, range_goes}
 use Rattle.marked_values.proofs.Restored.{restored_are_marked}
 use Rattle.marked_values.proofs.TreeLinks.{linked_inside}
+use Rattle.restored_values.specs.Probes.{probe_of}
 use Rattle.restored_values.specs.Suspects.{AreRemoved, AreSuspects, SuspectsAreRestored, SuspectsBringBack}
 use Rattle.restored_values.proofs.LostLinks.{lost_are_seen}
 use Rattle.restored_values.proofs.ProbedBlocks.{bent_are_probed}
+use Rattle.restored_values.proofs.ProbedWholes.{bent_wholes_are_probed}
 
 module _ (s back : Shift) (b c : Workbook) (words : List (List ℕ)) (customs : List (List ℕ × Rule)) (today : ℤ) (links : Links) (marks suspects more : List Node) (kept : Kept)
     (sound : IsSound s) (opposite : opposite_of s ≡ Some back) (inside : IsBookInside b) (over : IsBookAfter s b c) (follow : Follow c words customs today links marks kept)
@@ -54,18 +58,15 @@ module _ (s back : Shift) (b c : Workbook) (words : List (List ℕ)) (customs : 
     lost : (d : Node) → Linked d → node_after s d ≡ None → IsTrue (has n (marks ++ suspects))
     lost d link none = has-append_right n marks suspects (gathered.lost n z (rewritten s t) at stands (lost_are_seen s words b.names (sheet_of (home_of x)) t d link none))
 
-    -- or the probe bends what it is linked to
-    bent : (block after : Block) → Linked (Range block) → Bends s (Range block) → block_after s block ≡ Some after → IsTrue (has n (marks ++ suspects))
-    bent block after link bends goes = by (cases_Bool (has n marks))
+    -- or the probe bends what it is linked to then
+    near : (after : Node) (probe : Shift) → IsLinkOf words c.names (sheet_of (home_of z)) (rewritten s t) after → probe_of s ≡ Some probe → Bends probe after → IsTrue (has n (marks ++ suspects))
+    near after probe link named bends = by (cases_Bool (has n marks))
       where
         by : (has n marks ≡ true) ⊎ (has n marks ≡ false) → IsTrue (has n (marks ++ suspects))
         by (inl mark) = has-append_left n marks suspects mark
         by (inr out) =
-            let in_limits = linked_inside words b.names (sheet_of (home_of x)) t (Range block) (inside.trees x t is) link in
-            let (probe, named, bends_then) = bent_are_probed s block after sound in_limits bends goes in
-            let linked : IsTrue (has (Range after) (links n)) =
-            (follow.linked.exact n (Range after) (λ mark. false≢true (sym out ∙ mark))).1 (z, rewritten s t, at, stands, area_goes s t block after goes link) in
-            has-append_right n marks suspects (gathered.bent probe n named (Range after, linked, bends_then))
+            let linked : IsTrue (has after (links n)) = (follow.linked.exact n after (λ mark. false≢true (sym out ∙ mark))).1 (z, rewritten s t, at, stands, link) in
+            has-append_right n marks suspects (gathered.bent probe n named (after, linked, bends))
 
     suspected : (d : Node) → Linked d → Bends s d → IsTrue (has n (marks ++ suspects))
     suspected (Cell p) link bends = lost (Cell p) link (ap (option_map Cell) bends)
@@ -74,7 +75,18 @@ module _ (s back : Shift) (b c : Workbook) (words : List (List ℕ)) (customs : 
       where
         by : (o : Option Block) → block_after s block ≡ o → IsTrue (has n (marks ++ suspects))
         by None e = lost (Range block) link (ap (option_map Range) e)
-        by (Some after) e = bent block after link bends e
+        by (Some after) e =
+            let in_limits = linked_inside words b.names (sheet_of (home_of x)) t (Range block) (inside.trees x t is) link in
+            let (probe, named, bends_then) = bent_are_probed s block after sound in_limits bends e in
+            near (Range after) probe (area_goes s t block after e link) named bends_then
+    suspected (Whole w) link bends = by (whole_after s w) refl
+      where
+        by : (o : Option ranges.Whole) → whole_after s w ≡ o → IsTrue (has n (marks ++ suspects))
+        by None e = lost (Whole w) link (ap (option_map Whole) e)
+        by (Some after) e =
+            let in_limits = linked_inside words b.names (sheet_of (home_of x)) t (Whole w) (inside.trees x t is) link in
+            let (probe, named, bends_then) = bent_wholes_are_probed s w after sound in_limits bends e in
+            near (Whole after) probe (range_goes s t w after e link) named bends_then
 
   -- ---- and where it comes back
 
@@ -99,6 +111,7 @@ module _ (s back : Shift) (b c : Workbook) (words : List (List ℕ)) (customs : 
       by (Cell p) to = absurd (cc)
       by (Name scope word) to = taken.along (Name scope word) (Name scope word) (known (Name scope word) to) refl
       by (Range block) to = absurd (none_some (book.name key) to)
+      by (Whole w) to = absurd (none_some (book.name key) to)
 
 pub suspects_are_restored : SuspectsAreRestored
 suspects_are_restored s back b c words customs today links marks suspects more kept sound opposite inside over follow gathered taken removed = record {

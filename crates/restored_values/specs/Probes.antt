@@ -2,7 +2,9 @@
 use Rattle.std.specs.Prelude.{◌≡◌, ◌⊎◌, ◌≤◌, ◌+◌, ◌-◌, ℕ, max, min, nat_lt, if◌then◌else◌, Option, Some, None, option_map}
 use Rattle.cell_addr.specs.Axis.{limit_of, span_of}
 use Rattle.cell_addr.specs.Place.{IsBlockInside}
+use Rattle.cell_addr.specs.Whole.{IsWholeInside, whole_block}
 use Rattle.cell_addr.specs.declared.place.Block.{Block}
+use Rattle.cell_addr.specs.declared.whole.Whole.{Whole}
 use Rattle.shift_core.specs.declared.edit.Edit.{Edit}
 use Rattle.shift_core.specs.declared.edit.Edit.TheVariants.{Insert, Delete, Move}
 use Rattle.shift_core.specs.declared.form.Form.{Form}
@@ -13,6 +15,7 @@ use Rattle.shift_core.specs.Form.{IsWithin, form_of}
 use Rattle.shift_core.specs.Opposite.{shift_of}
 use Rattle.shift_core.specs.Sound.{IsSound}
 use Rattle.shift_core.specs.Tables.{block_after}
+use Rattle.shift_core.specs.Wholes.{IsAcross, IsWholeBent, whole_after}
 
 -- for an insert, one more line there; for a deletion, the two lines where it was change places; for a move, the line that stood next to
 -- the moved ones, on the side away from where they went, or else the outermost of these, goes there
@@ -42,6 +45,12 @@ BentAreProbed =
     (s : Shift) (b after : Block) → IsSound s → IsBlockInside b → IsBent s b ⊎ IsCut s b → block_after s b ≡ Some after →
     (probe : Shift) × (probe_of s ≡ Some probe) × (IsBent probe after ⊎ IsCut probe after)
 
+-- so is it with a whole range
+abbrev pub BentWholesAreProbed : Type 0
+BentWholesAreProbed =
+    (s : Shift) (w after : Whole) → IsSound s → IsWholeInside w → IsWholeBent s w → whole_after s w ≡ Some after →
+    (probe : Shift) × (probe_of s ≡ Some probe) × IsWholeBent probe after
+
 -- the line stands where an insert put lines, or at the sheet's end, where that cuts; next to where a deletion was; or among or next to
 -- those that a move displaced
 abbrev pub IsNear : ℕ → Edit → ℕ → Type 0
@@ -58,3 +67,8 @@ HasNear form b = ⊥
 abbrev pub ProbesBendFew : Type 0
 ProbesBendFew =
     (s probe : Shift) (b : Block) → IsSound s → probe_of s ≡ Some probe → IsBlockInside b → IsBent probe b ⊎ IsCut probe b → HasNear (form_of s) b
+
+-- of whole ranges it bends none but those that have such a line, and those across which the operation edits lines
+abbrev pub ProbesBendFewWholes : Type 0
+ProbesBendFewWholes =
+    (s probe : Shift) (w : Whole) → IsSound s → probe_of s ≡ Some probe → IsWholeInside w → IsWholeBent probe w → IsAcross s w ⊎ HasNear (form_of s) (whole_block w)

@@ -1,5 +1,5 @@
 // What of an operation is found in the workbook that it led to, as laws.
-ghost use Rattle.restored_values.specs.Probes.{BentAreProbed, ProbesAreSound, ProbesBendFew};
+ghost use Rattle.restored_values.specs.Probes.{BentAreProbed, BentWholesAreProbed, ProbesAreSound, ProbesBendFew, ProbesBendFewWholes};
 ghost use Rattle.restored_values.specs.Suspects.{LostAnywhere, LostAreSeen, SuspectsAreRestored, SuspectsBringBack};
 
 /// The probe of a sound operation is sound.
@@ -12,9 +12,19 @@ pub fn bent_are_probed()
     ensures { BentAreProbed }
 {}
 
+/// A whole range that an operation bends, and doesn't lose, its probe then bends.
+pub fn bent_wholes_are_probed()
+    ensures { BentWholesAreProbed }
+{}
+
 /// A block that a probe bends or cuts has a line near what its operation changed.
 pub fn probes_bend_few()
     ensures { ProbesBendFew }
+{}
+
+/// A whole range that a probe bends has such a line, or the operation edits lines across it.
+pub fn probes_bend_few_wholes()
+    ensures { ProbesBendFewWholes }
 {}
 
 /// A formula has a lost reference wherever it stands.

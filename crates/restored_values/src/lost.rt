@@ -27,6 +27,7 @@ fn node_has_lost(node: &Node) -> bool
         Node::Call(_, list) => some_has_lost(list),
         Node::Number(_) | Node::Text(_) | Node::Truth(_) | Node::Name(_) => false,
         Node::Cell(_) | Node::Area(_, _) => false,
+        Node::WholeRows(_, _, _) | Node::WholeCols(_, _, _) => false,
     }
 }
 

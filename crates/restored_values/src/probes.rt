@@ -10,8 +10,9 @@ ghost use Rattle.restored_values.specs.Probes as probes;
 use cell_addr::Axis;
 use shift_core::{Edit, Form, Shift};
 
-/// The operation that bends, as it stands afterwards, whatever range this one bends and doesn't lose, and else only what is near;
-/// None where this one moves cells or drops a sheet, which bends only what it loses. The probe is never done.
+/// The operation that bends, as it stands afterwards, whatever range, whole or not, this one bends and doesn't lose, and else only what
+/// is near, or whole ranges across which this one edits lines; None where this one moves cells or drops a sheet, which bends only
+/// what it loses. The probe is never done.
 pub fn probe(s: &Shift) -> Option<Shift>
     requires { IsSound s.now }
     ensures { result ≡ probes.probe_of s.now }
