@@ -16,7 +16,7 @@ use Rattle.dep_graph.specs.Laws.{IsNoRange}
 use Rattle.dep_graph.specs.Needs.{Chain, Links, Reaches}
 use Rattle.dep_graph.specs.Nodes.{has, same_node}
 use Rattle.dep_graph.specs.declared.node.Node.{Node}
-use Rattle.dep_graph.specs.declared.node.Node.TheVariants.{Cell, Name, Range}
+use Rattle.dep_graph.specs.declared.node.Node.TheVariants.{Cell, Name, Range, Whole}
 use Rattle.recalc_core.specs.Kept.{IsFit, Kept, expected, expected_at, stands}
 use Rattle.recalc_core.specs.Laws.{AreKnown, ChangesKeepFit, DoAlike, DoesAlike, KeepNumbers}
 use Rattle.recalc_core.specs.Links.{AreLinksOf}
@@ -98,6 +98,7 @@ module _ (b c : Workbook) (words more : List (List ℕ)) (old new : Links) (cust
   new_name : (a : Node) (x : book.Node) → node_at more a ≡ Some x → node_at words a ≡ None → stands b x ≡ false
   new_name (Cell p) x at none = absurd (none_some (book.place p) (sym none))
   new_name (Range block) x at none = absurd (none_some x at)
+  new_name (Whole w) x at none = absurd (none_some x at)
   new_name (Name scope word) (book.place p) at none = absurd (apart (name_only scope _ (book.place p) at))
     where
       apart : (key : Key) × (book.place p ≡ book.name key) → ⊥

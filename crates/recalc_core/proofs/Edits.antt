@@ -26,7 +26,7 @@ use Rattle.book_values.specs.Workbook as book
 use Rattle.book_values.specs.Workbook.{Workbook, content_tree, home_of, mentions_node, tree_at, tree_needs}
 use Rattle.dep_graph.specs.Nodes.{has, same_node}
 use Rattle.dep_graph.specs.declared.node.Node.{Node}
-use Rattle.dep_graph.specs.declared.node.Node.TheVariants.{Cell, Name, Range}
+use Rattle.dep_graph.specs.declared.node.Node.TheVariants.{Cell, Name, Range, Whole}
 use Rattle.recalc_core.specs.Edits.{CellChangesAlone, DifferInCell, DifferInName, HaveUsers, NameChangesItsUsers}
 use Rattle.recalc_core.specs.Laws.{DoesAlike}
 use Rattle.recalc_core.specs.Nodes.{node_at}
@@ -45,6 +45,7 @@ cell_of words (Name scope word) p at = absurd (apart (name_only scope _ (book.pl
     apart : (key : Key) × (book.place p ≡ book.name key) → ⊥
     apart (key, e) = cc
 cell_of words (Range block) p at = absurd (none_some (book.place p) at)
+cell_of words (Whole w) p at = absurd (none_some (book.place p) at)
 
 module _ (b c : Workbook) (p : Place) (differ : DifferInCell b c p) where
   other_place : (q : Place) → ¬ (q ≡ p) → DoesAlike b c (book.place q)

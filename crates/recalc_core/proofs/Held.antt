@@ -23,7 +23,7 @@ use Rattle.shift_core.specs.Tables.{place_before}
 use Rattle.shift_core.specs.declared.shift.Shift.{Shift}
 use Rattle.dep_graph.specs.Laws.{IsNoRange}
 use Rattle.dep_graph.specs.declared.node.Node.{Node}
-use Rattle.dep_graph.specs.declared.node.Node.TheVariants.{Cell, Name, Range}
+use Rattle.dep_graph.specs.declared.node.Node.TheVariants.{Cell, Name, Range, Whole}
 use Rattle.recalc_core.specs.Kept.{Kept}
 use Rattle.recalc_core.specs.Moves.{carried_kept}
 use Rattle.recalc_core.specs.Shifted.{drops_scope, from_over, is_inside}
@@ -58,6 +58,7 @@ put_inside cells new beyond others p v inside put (Cell q) =
     ∙ through (is_inside q) (same_place p q) v (map.get cells q) (beyond (Cell q)) (λ e. ap is_inside (sym (same_place-equal p q e)) ∙ inside)
 put_inside cells new beyond others p v inside put (Name scope word) = refl
 put_inside cells new beyond others p v inside put (Range b) = refl
+put_inside cells new beyond others p v inside put (Whole w) = refl
 
 pub cell_put : (cells new : PlaceMap Scalar) (beyond others : Kept) (p : Place) (v : Scalar) → is_inside p ≡ true → new ≡ map.insert cells p v → IsPut (Cell p) (Some v) (held cells beyond others) (held new beyond others)
 cell_put cells new beyond others p v inside is =
@@ -73,6 +74,7 @@ held_same cells new beyond more others names is same_beyond same_others (Cell q)
     ap (λ m. cond (is_inside q) (map.get m q) (more (Cell q))) is ∙ ap (λ x. cond (is_inside q) (map.get cells q) x) (same_beyond (Cell q))
 held_same cells new beyond more others names is same_beyond same_others (Name scope word) = same_others (Name scope word)
 held_same cells new beyond more others names is same_beyond same_others (Range b) = same_others (Range b)
+held_same cells new beyond more others names is same_beyond same_others (Whole w) = same_others (Whole w)
 
 pub held_nothing : (cells : PlaceMap Scalar) (beyond others : Kept) → cells ≡ map.empty → ((a : Node) → beyond a ≡ None) → ((a : Node) → others a ≡ None) → (a : Node) → held cells beyond others a ≡ None
 held_nothing cells beyond others is no_beyond no_others (Cell q) = by (is_inside q)
@@ -82,6 +84,7 @@ held_nothing cells beyond others is no_beyond no_others (Cell q) = by (is_inside
     by false = no_beyond (Cell q)
 held_nothing cells beyond others is no_beyond no_others (Name scope word) = no_others (Name scope word)
 held_nothing cells beyond others is no_beyond no_others (Range b) = no_others (Range b)
+held_nothing cells beyond others is no_beyond no_others (Whole w) = no_others (Whole w)
 
 -- over a structural operation each node keeps what the one had that it was
 pub held_moved : (s : Shift) (cells new : PlaceMap Scalar) (beyond nothing others names : Kept) → IsSound s → AreInside cells → new ≡ moved_map s cells → ((a : Node) → nothing a ≡ None)
@@ -107,3 +110,4 @@ held_moved s cells new beyond nothing others names sound all is none left (Name 
     by true = refl
     by false = refl
 held_moved s cells new beyond nothing others names sound all is none left (Range b) plain = absurd plain
+held_moved s cells new beyond nothing others names sound all is none left (Whole w) plain = absurd plain

@@ -16,7 +16,7 @@ use Rattle.dep_graph.specs.Graph.{AreLinked}
 use Rattle.dep_graph.specs.Needs.{Links}
 use Rattle.dep_graph.specs.Nodes.{has, same_node}
 use Rattle.dep_graph.specs.declared.node.Node.{Node}
-use Rattle.dep_graph.specs.declared.node.Node.TheVariants.{Cell, Name, Range}
+use Rattle.dep_graph.specs.declared.node.Node.TheVariants.{Cell, Name, Range, Whole}
 use Rattle.dep_graph.specs.internal.Hashed.{own_node, same_nodes}
 use Rattle.recalc_core.specs.Laws.{DifferAt, LinkingHolds}
 use Rattle.recalc_core.specs.Links.{AreLinksFor, AreLinksOf, IsLinkAt, IsLinkOf}
@@ -75,6 +75,7 @@ one_node words (Cell p) (Name scope word) x once at to = by (slice_get words wor
         apart : book.place p ≡ book.name (record { scope = scope_at scope; word = w }) → ⊥
         apart h = cc
 one_node words (Cell p) (Range block) x once at to = absurd (none_some x to)
+one_node words (Cell p) (Whole w) x once at to = absurd (none_some x to)
 one_node words (Name scope word) (Cell q) x once at to = by (slice_get words word) refl
   where
     by : (o : Option (List ℕ)) → slice_get words word ≡ o → Name scope word ≡ Cell q
@@ -96,7 +97,9 @@ one_node words (Name s v) (Name t w) x once at to = by (slice_get words v) (slic
         let number = one_number words v w m once p (q ∙ ap Some (sym (ap (λ (k : Key). k.word) one))) in
         λ i. Name (scope i) (number i)
 one_node words (Name scope word) (Range block) x once at to = absurd (none_some x to)
+one_node words (Name scope word) (Whole w) x once at to = absurd (none_some x to)
 one_node words (Range block) c x once at to = absurd (none_some x at)
+one_node words (Whole w) c x once at to = absurd (none_some x at)
 
 -- ---- the law
 
@@ -105,6 +108,7 @@ pub links_alike : (words : List (List ℕ)) (names others : Names) (sheet : ℕ)
     → ((word : List ℕ) → found others word sheet ≡ found names word sheet) → IsLinkOf words names sheet t c → IsLinkOf words others sheet t c
 links_alike words names others sheet t (Cell p) finds h = h
 links_alike words names others sheet t (Range block) finds h = h
+links_alike words names others sheet t (Whole w) finds h = h
 links_alike words names others sheet t (Name scope word) finds (key, at, h) =
     (key, at, (λ i. list_any (λ w. is_found (finds w i) key) (names_in t)) ∙ h)
 

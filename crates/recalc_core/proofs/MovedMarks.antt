@@ -16,7 +16,7 @@ use Rattle.range_table.specs.Shifted.{TakesValues}
 use Rattle.dep_graph.specs.Laws.{IsNoRange}
 use Rattle.dep_graph.specs.Nodes.{has, same_node}
 use Rattle.dep_graph.specs.declared.node.Node.{Node}
-use Rattle.dep_graph.specs.declared.node.Node.TheVariants.{Cell, Name, Range}
+use Rattle.dep_graph.specs.declared.node.Node.TheVariants.{Cell, Name, Range, Whole}
 use Rattle.dep_graph.specs.internal.Hashed.{own_node, same_nodes}
 use Rattle.recalc_core.specs.Kept.{Kept}
 use Rattle.recalc_core.specs.Moves.{carried_kept}
@@ -60,6 +60,7 @@ module _ (s : Shift) (sound : IsSound s) where
       by true d h = absurd (none_some a h)
       by false d h = subst (λ n. from_over s n ≡ Some (Name scope word)) (same_some (Name scope word) a h) (ap (λ t. cond t None (Some (Name scope word))) d)
   goes a (Range b) e = absurd (none_some a e)
+  goes a (Whole w) e = absurd (none_some a e)
 
   pub comes : (a b : Node) → from_over s a ≡ Some b → gone_over s b ≡ Some a
   comes (Cell q) b e = by (is_inside q) (place_before s q) refl refl e
@@ -76,6 +77,7 @@ module _ (s : Shift) (sound : IsSound s) where
       by true d h = absurd (none_some b h)
       by false d h = subst (λ n. gone_over s n ≡ Some (Name scope word)) (same_some (Name scope word) b h) (ap (λ t. cond t None (Some (Name scope word))) d)
   comes (Range c) b e = absurd (none_some b e)
+  comes (Whole w) b e = absurd (none_some b e)
 
   -- ---- marks that go along
 

@@ -12,7 +12,7 @@ use Rattle.book_values.specs.Names.{Key}
 use Rattle.book_values.specs.Workbook as book
 use Rattle.dep_graph.specs.Laws.{IsNoRange}
 use Rattle.dep_graph.specs.declared.node.Node.{Node}
-use Rattle.dep_graph.specs.declared.node.Node.TheVariants.{Cell, Name, Range}
+use Rattle.dep_graph.specs.declared.node.Node.TheVariants.{Cell, Name, Range, Whole}
 use Rattle.recalc_core.specs.Nodes.{name_at, node_at, scope_at}
 use Rattle.recalc_core.specs.Shifted.{ShiftsGoBack, back_over, drops_scope, from_over, is_inside}
 use Rattle.recalc_core.proofs.Bridge.{none_some, same_some}
@@ -47,6 +47,7 @@ module _ (s : Shift) (words : List (List ℕ)) (sound : IsSound s) where
   same (Cell p) plain = cell_same (is_inside p) (place_before s p)
   same (Name scope word) plain = name_same scope word (slice_get words word) refl (drops_scope (form_of s) scope) refl
   same (Range b) plain = absurd plain
+  same (Whole w) plain = absurd plain
 
   cell_plain : (t : Bool) (o : Option Place) (before : Node) → cond t (option_map Cell o) None ≡ Some before → IsNoRange before
   cell_plain true None before e = absurd (none_some before e)
@@ -61,6 +62,7 @@ module _ (s : Shift) (words : List (List ℕ)) (sound : IsSound s) where
   plain (Cell p) before no_block e = cell_plain (is_inside p) (place_before s p) before e
   plain (Name scope word) before no_block e = name_plain (drops_scope (form_of s) scope) scope word before e
   plain (Range b) before no_block e = absurd no_block
+  plain (Whole w) before no_block e = absurd no_block
 
   -- where a place came from
   came : (p : Place) (y : book.Node) → back_over s (book.place p) ≡ Some y → (q : Place) × (y ≡ book.place q) × (place_after s q ≡ Some p)

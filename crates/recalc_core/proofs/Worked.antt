@@ -42,7 +42,7 @@ use Rattle.book_values.specs.Workbook as book
 use Rattle.book_values.specs.Workbook.{Workbook, content_tree, home_of, mentions_node, needs, tree_at, tree_needs}
 use Rattle.dep_graph.specs.Laws.{IsNoRange}
 use Rattle.dep_graph.specs.declared.node.Node.{Node}
-use Rattle.dep_graph.specs.declared.node.Node.TheVariants.{Cell, Name, Range}
+use Rattle.dep_graph.specs.declared.node.Node.TheVariants.{Cell, Name, Range, Whole}
 use Rattle.recalc_core.specs.Given.{HasGiven}
 use Rattle.recalc_core.specs.Kept.{AreRight, IsRight, Kept, expected, expected_at, stands}
 use Rattle.recalc_core.specs.Nodes.{node_at}
@@ -125,6 +125,7 @@ module _ (v w : World) (sheet : ℕ) where
     costs_alike (tree.fault k) names = refl
     costs_alike (cell c) names = refl
     costs_alike (area c d) names = refl
+    costs_alike (tree.whole axis c d) names = refl
     costs_alike (name word) names = ap (λ r. block_size r + 1) (names word (or_left (bytes_eq word word) false ((bytes_decides word word).1 refl)))
     costs_alike (prefix s t) names = ap (λ n. n + 1) (costs_alike t names)
     costs_alike (percent t) names = ap (λ n. n + 1) (costs_alike t names)
@@ -158,6 +159,7 @@ pub no_range : (words : List (List ℕ)) (a : Node) (x : book.Node) → node_at 
 no_range words (Cell p) x at = tt
 no_range words (Name scope word) x at = tt
 no_range words (Range b) x at = none_some x at
+no_range words (Whole w) x at = none_some x at
 
 -- what is kept of a place or a name where it is right
 pub right_at : (b : Workbook) (words : List (List ℕ)) (customs : List (List ℕ × Rule)) (today : ℤ) (kept : Kept) (a : Node) (x : book.Node) → IsRight b words customs today kept a → node_at words a ≡ Some x

@@ -12,13 +12,14 @@ use Rattle.book_values.specs.Workbook.{Workbook, home_of, tree_at}
 use Rattle.dep_graph.specs.Needs.{Links}
 use Rattle.dep_graph.specs.Nodes.{has}
 use Rattle.dep_graph.specs.declared.node.Node.{Node}
-use Rattle.dep_graph.specs.declared.node.Node.TheVariants.{Cell, Name, Range}
+use Rattle.dep_graph.specs.declared.node.Node.TheVariants.{Cell, Name, Range, Whole}
 use Rattle.recalc_core.specs.Nodes.{AreNumbered, node_at}
 
--- a formula on a sheet is linked to a node: its tree refers to the cell or the block, or one of its words finds the name
+-- a formula on a sheet is linked to a node: its tree refers to the cell, the block or the whole range, or one of its words finds the name
 abbrev pub IsLinkOf : List (List ℕ) → Names → ℕ → Term Corner → Node → Type 0
 IsLinkOf words names sheet t (Cell p) = IsTrue (list_any (same_link (links.Cell p)) (links_in t))
 IsLinkOf words names sheet t (Range b) = IsTrue (list_any (same_link (links.Area b)) (links_in t))
+IsLinkOf words names sheet t (Whole w) = IsTrue (list_any (same_link (links.Whole w)) (links_in t))
 IsLinkOf words names sheet t (Name scope word) =
     (key : Key) × (node_at words (Name scope word) ≡ Some (book.name key)) × (book.mentions_node names sheet t (book.name key) ≡ true)
 

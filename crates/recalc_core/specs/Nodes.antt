@@ -4,7 +4,7 @@ use Rattle.cell_addr.specs.declared.place.TheConstants.{NO_SHEET}
 use Rattle.book_values.specs.Names.{Key, Names, tree_in}
 use Rattle.book_values.specs.Workbook as book
 use Rattle.dep_graph.specs.declared.node.Node.{Node}
-use Rattle.dep_graph.specs.declared.node.Node.TheVariants.{Cell, Name, Range}
+use Rattle.dep_graph.specs.declared.node.Node.TheVariants.{Cell, Name, Range, Whole}
 
 -- the scope of this number: a sheet, or the whole workbook
 abbrev pub scope_at : ℕ → Option ℕ
@@ -15,11 +15,12 @@ abbrev pub name_at : ℕ → Option (List ℕ) → Option book.Node
 name_at scope (Some word) = Some (book.name (record { scope = scope_at scope; word = word }))
 name_at scope None = None
 
--- the place or the name that a node is, where words are numbered by their places in this list; a range is neither
+-- the place or the name that a node is, where words are numbered by their places in this list; a range, whole or not, is neither
 abbrev pub node_at : List (List ℕ) → Node → Option book.Node
 node_at words (Cell p) = Some (book.place p)
 node_at words (Name scope word) = name_at scope (slice_get words word)
 node_at words (Range b) = None
+node_at words (Whole w) = None
 
 -- no word has two numbers, and each name is a node
 pub record AreNumbered (words : List (List ℕ)) (names : Names) : Type 0 where

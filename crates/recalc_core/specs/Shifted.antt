@@ -10,7 +10,7 @@ use Rattle.shift_core.specs.declared.form.Form.{Form}
 use Rattle.shift_core.specs.declared.form.Form.TheVariants.{Sheet}
 use Rattle.shift_core.specs.declared.shift.Shift.{Shift}
 use Rattle.book_values.specs.Workbook as book
-use Rattle.dep_graph.specs.declared.node.Node.TheVariants.{Cell, Name, Range}
+use Rattle.dep_graph.specs.declared.node.Node.TheVariants.{Cell, Name, Range, Whole}
 use Rattle.recalc_core.specs.Moves.{Back, From, IsWayBack}
 
 -- tests whether the place is within the limits of a sheet
@@ -27,6 +27,7 @@ abbrev pub from_over : Shift → From
 from_over s (Cell p) = if is_inside p then option_map Cell (place_before s p) else None
 from_over s (Name scope word) = if drops_scope (form_of s) scope then None else Some (Name scope word)
 from_over s (Range b) = None
+from_over s (Whole w) = None
 
 -- and each place and each name
 abbrev pub back_over : Shift → Back

@@ -61,6 +61,7 @@ impl KeptValues {
             Node::Cell(at) => self.cell(at),
             Node::Name { .. } => self.names.get(&a),
             Node::Range(_) => self.names.get(&a),
+            Node::Whole(_) => self.names.get(&a),
         }
     }
 
@@ -84,6 +85,7 @@ impl KeptValues {
             Node::Cell(at) => self.put_cell(at, value),
             Node::Name { .. } => insert(&mut self.names, a, value),
             Node::Range(_) => insert(&mut self.names, a, value),
+            Node::Whole(_) => insert(&mut self.names, a, value),
         }
     }
 
@@ -108,6 +110,7 @@ impl KeptValues {
             Node::Cell(at) => self.remove_cell(at),
             Node::Name { .. } => remove(&mut self.names, a),
             Node::Range(_) => remove(&mut self.names, a),
+            Node::Whole(_) => remove(&mut self.names, a),
         }
     }
 

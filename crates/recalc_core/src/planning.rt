@@ -30,6 +30,7 @@ fn falling(alloc: Global, nodes: &[Node]) -> Result<Nodes, AllocError>
         Node::Cell(at) => Some(Reverse(at)),
         Node::Name { .. } => None,
         Node::Range(_) => None,
+        Node::Whole(_) => None,
     })?;
     copied_nodes(alloc, list.as_slice())
 }

@@ -43,6 +43,7 @@ impl Recalc {
             Node::Cell(_) => self.settle(a, Some(Scalar::Fault(FaultKind::Cycle))),
             Node::Name { .. } => self.settle(a, Some(Scalar::Fault(FaultKind::Cycle))),
             Node::Range(_) => Ok(()),
+            Node::Whole(_) => Ok(()),
         }
     }
 
@@ -71,5 +72,6 @@ fn touch(ranges: &mut Ranges, a: Node)
         Node::Cell(at) => ranges.touch(at),
         Node::Name { .. } => {}
         Node::Range(_) => {}
+        Node::Whole(_) => {}
     }
 }

@@ -104,6 +104,7 @@ fn gone_over(a: Node, s: &Shift) -> Option<Node>
         Node::Cell(at) => gone_place(at, s),
         Node::Name { scope, .. } => { if drops_scope(s, scope) { None } else { Some(a) } }
         Node::Range(_) => None,
+        Node::Whole(_) => None,
     }
 }
 
@@ -173,5 +174,6 @@ fn is_of_scope(a: Node, scope: u32) -> bool
         Node::Cell(_) => false,
         Node::Name { scope: own, .. } => own == scope,
         Node::Range(_) => false,
+        Node::Whole(_) => false,
     }
 }

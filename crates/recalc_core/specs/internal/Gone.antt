@@ -5,7 +5,7 @@ use Rattle.shift_core.specs.Tables.{place_after}
 use Rattle.shift_core.specs.declared.shift.Shift.{Shift}
 use Rattle.dep_graph.specs.Nodes.{has}
 use Rattle.dep_graph.specs.declared.node.Node.{Node}
-use Rattle.dep_graph.specs.declared.node.Node.TheVariants.{Cell, Name, Range}
+use Rattle.dep_graph.specs.declared.node.Node.TheVariants.{Cell, Name, Range, Whole}
 use Rattle.recalc_core.specs.Recalc.{with_mark}
 use Rattle.recalc_core.specs.Shifted.{drops_scope, from_over, is_inside}
 
@@ -14,6 +14,7 @@ abbrev pub gone_over : Shift → Node → Option Node
 gone_over s (Cell p) = if is_inside p then option_map Cell (place_after s p) else None
 gone_over s (Name scope word) = if drops_scope (form_of s) scope then None else Some (Name scope word)
 gone_over s (Range b) = None
+gone_over s (Whole w) = None
 
 -- the marks with one more, if there is one
 abbrev pub with_gone : Option Node → List Node → List Node

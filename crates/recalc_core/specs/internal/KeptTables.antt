@@ -5,7 +5,7 @@ use Rattle.cell_value.specs.declared.scalar.Scalar.{Scalar}
 use Rattle.shift_core.specs.Maps.{PlaceMap}
 use Rattle.dep_graph.specs.Nodes.{same_node}
 use Rattle.dep_graph.specs.declared.node.Node.{Node}
-use Rattle.dep_graph.specs.declared.node.Node.TheVariants.{Cell, Name, Range}
+use Rattle.dep_graph.specs.declared.node.Node.TheVariants.{Cell, Name, Range, Whole}
 use Rattle.recalc_core.specs.Kept.{Kept}
 use Rattle.recalc_core.specs.Shifted.{is_inside}
 
@@ -15,6 +15,7 @@ abbrev pub held : PlaceMap Scalar → Kept → Kept → Kept
 held cells beyond others (Cell p) = if is_inside p then map.get cells p else beyond (Cell p)
 held cells beyond others (Name scope word) = others (Name scope word)
 held cells beyond others (Range b) = others (Range b)
+held cells beyond others (Whole w) = others (Whole w)
 
 -- one node has this value, or none, and all others have what they had
 abbrev pub IsPut : Node → Option Scalar → Kept → Kept → Type 0
@@ -29,3 +30,4 @@ abbrev pub is_of_scope : ℕ → Node → Bool
 is_of_scope scope (Cell p) = false
 is_of_scope scope (Name own word) = own == scope
 is_of_scope scope (Range b) = false
+is_of_scope scope (Whole w) = false

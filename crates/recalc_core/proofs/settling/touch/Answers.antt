@@ -20,3 +20,7 @@ returns-in-Name-clause-right c = λ before after differs right.
 pub returns-in-Range-clause-right : goal.returns-in-Range-clause-right
 returns-in-Range-clause-right c = λ before after differs right.
     cells_alike before after (table_of c.args.ranges.now).kept (λ p. (subst (λ (a : Node). DiffersAt a before after) c.in-Range.is differs) (Cell p) refl) right
+
+pub returns-in-Whole-clause-right : goal.returns-in-Whole-clause-right
+returns-in-Whole-clause-right c = λ before after differs right.
+    cells_alike before after (table_of c.args.ranges.now).kept (λ p. (subst (λ (a : Node). DiffersAt a before after) c.in-Whole.is differs) (Cell p) refl) right

@@ -19,3 +19,10 @@ returns-in-Range-clause-err c =
     on_err_weaker c.insert-in-Range.result
     (λ same. held_same (cells_of self.cells) (cells_of self.cells) (hash.get same_node self.beyond) (hash.get same_node self.beyond) (hash.get same_node self.names) (hash.get same_node c.insert-in-Range.new.values) refl (λ a. refl) same)
     c.insert-in-Range.ensures.err
+
+pub returns-in-Whole-clause-err : goal.returns-in-Whole-clause-err
+returns-in-Whole-clause-err c =
+    let self = c.args.self.now in
+    on_err_weaker c.insert-in-Whole.result
+    (λ same. held_same (cells_of self.cells) (cells_of self.cells) (hash.get same_node self.beyond) (hash.get same_node self.beyond) (hash.get same_node self.names) (hash.get same_node c.insert-in-Whole.new.values) refl (λ a. refl) same)
+    c.insert-in-Whole.ensures.err
