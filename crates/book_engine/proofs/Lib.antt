@@ -24,6 +24,7 @@ pub mod SortedKeys
 pub mod RaisedKeys
 pub mod NeedingCells
 pub mod NeedingNames
+pub mod ListedLinks
 pub mod LeastAreas
 pub mod FilledPlaces
 pub mod ListedNames

@@ -17,7 +17,7 @@ use Rattle.formula_tree.specs.declared.link.Link.TheVariants as links
 use Rattle.calc_terms.specs.Needs.{mentions}
 use Rattle.dep_graph.specs.Nodes.{has, same_node}
 use Rattle.dep_graph.specs.declared.node.Node.{Node}
-use Rattle.dep_graph.specs.declared.node.Node.TheVariants.{Cell, Name, Range}
+use Rattle.dep_graph.specs.declared.node.Node.TheVariants.{Cell, Name, Range, Whole}
 use Rattle.shift_core.proofs.CarriedEntries.{eq_by_cmp-decides}
 use Rattle.book_values.specs.Workbook.{Workbook, content_tree}
 use Rattle.book_model.specs.Answers.{cell_needing}
@@ -48,6 +48,7 @@ is-cell q (Cell p) = by (eq_by_cmp place_cmp p q) (same_place q p) refl refl
     by false true is other = sym is ∙ (eq_by_cmp-decides place_cmp-IsTotalOrder place_cmp-IsAntisymmetric p q).1 (sym (same_place-equal q p other))
 is-cell q (Name scope word) = refl
 is-cell q (Range b) = refl
+is-cell q (Whole w) = refl
 
 -- a content is a formula that mentions the place exactly where its tree does
 content-mentions : (at : Place) (o : Option Content) → values.passes (λ t. mentions t at) (content_tree o) ≡ passes (content_mentions at) o

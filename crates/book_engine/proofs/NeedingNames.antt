@@ -171,6 +171,7 @@ module _ (m : NameMap) (cells : Contents) (words : List (List ℕ)) (proper : Ar
       apart : Some (book.place p) ≡ Some (book.name key) → ⊥
       apart e = cc
   node-small (node.Range block) key at = absurd (none-some (book.name key) at)
+  node-small (node.Whole range) key at = absurd (none-some (book.name key) at)
   node-small (node.Name scope number) key at = by (slice_get words number) refl at
     where
       by : (o : Option (List ℕ)) → slice_get words number ≡ o → name_at scope o ≡ Some (book.name key) → IsSmall key

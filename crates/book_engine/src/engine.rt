@@ -587,8 +587,9 @@ impl<C: Customs> Engine<C> {
     }
 
     /// What a cell's formula needs, in whatever branch: its references and ranges, and the names that its words find, in the
-    /// order of the formula, each once. A reference or range that is itself the argument of ROW, COLUMN, ROWS or COLUMNS is
-    /// none of them; a name is. Costs about the nodes of the formula.
+    /// order of the formula, each once. A whole range, as `A:C`, is its block. A reference or range that is itself the
+    /// argument of ROW, COLUMN, ROWS or COLUMNS is none of them; a name is. Costs about the nodes of the formula, and each
+    /// link is compared with those listed before it.
     ///
     /// # Errors
     /// `NoSheet`, `Outside`.

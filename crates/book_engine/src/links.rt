@@ -6,6 +6,7 @@ ghost use Rattle.std.specs.List.{All, cons_option, filter_map, list_any};
 ghost use Rattle.std.specs.Ordering.{eq_by_cmp};
 ghost use Rattle.cell_addr.specs.Order.{place_cmp};
 ghost use Rattle.custom_fn.specs.declared.rule.Rule.{Rule};
+ghost use Rattle.formula_tree.specs.Links.{once, once_after, same_link};
 ghost use Rattle.formula_tree.specs.declared.link.Link.TheVariants as links;
 ghost use Rattle.name_table.specs.Named.{words_of};
 ghost use Rattle.book_values.specs.Names.{found, key_of};
@@ -28,6 +29,7 @@ ghost use Rattle.book_engine.specs.internal.Turns.{Turns};
 use crate::parts::Parts;
 use crate::shown_name::ShownName;
 use crate::stop::Stop;
+use book_model::block_of;
 use cell_addr::{NO_SHEET, Place, capitals};
 use dep_graph::{Node, Nodes};
 use formula_tree::{Home, Link, Mention, mentions_of};
@@ -36,7 +38,7 @@ use std::alloc::{AllocError, Global};
 use std::collections::BTreeSet;
 
 impl Parts {
-    // What a cell's formula needs, in the order of the formula.
+    // What a cell's formula needs, in the order of the formula, each once: a whole range as its block.
     pub(crate) fn precedents(&mut self, at: Place) -> Result<Vec<Link>, Stop>
         requires { Fits self.old }
         ensures turns { Turns (op.precedents at) (λ d links. links.items ≡ precedents_of d at) (state_of self.old) (state_of self.new) result }
@@ -98,25 +100,26 @@ impl Parts {
         }
     }
 
-    // What a formula on the sheet mentions, as links. A name that isn't found is none.
+    // What a formula on the sheet mentions, as links, each once. Each is compared with those listed before it.
     fn links_of(&self, sheet: u32, mentions: &[Mention]) -> Result<Vec<Link>, AllocError>
-        ensures { IfOk result (λ list. list.items ≡ filter_map (link_of (fin.entries (state_of self.now).book.names) sheet) mentions.now) }
+        ensures { IfOk result (λ list. list.items ≡ once same_link (filter_map (link_of (fin.entries (state_of self.now).book.names) sheet) mentions.now)) }
     {
         let mut list = Vec::new(self.session.book.alloc);
         'mentions: for mention in mentions {
             let link = self.link_of(sheet, mention)?;
-            push_some(&mut list, link)?;
+            push_new(&mut list, link)?;
         }
         Ok(list)
     }
 
-    // A mention as a link; `None` for a name that isn't found.
+    // A mention as a link, a whole range as its block; `None` for a name that isn't found.
     fn link_of(&self, sheet: u32, mention: &Mention) -> Result<Option<Link>, AllocError>
         ensures { IfOk result (λ link. link ≡ link_of (fin.entries (state_of self.now).book.names) sheet mention.now) }
     {
         match mention {
             Mention::Cell(place) => Ok(Some(Link::Cell(*place))),
             Mention::Area(block) => Ok(Some(Link::Area(*block))),
+            Mention::Whole(whole) => Ok(Some(Link::Area(block_of(*whole)))),
             Mention::Name(word) => self.name_link(word.as_str(), sheet),
         }
     }
@@ -183,7 +186,7 @@ fn place_in(a: Node) -> Option<Place>
 {
     match a {
         Node::Cell(at) => Some(at),
-        Node::Name { .. } | Node::Range(_) => None,
+        Node::Name { .. } | Node::Range(_) | Node::Whole(_) => None,
     }
 }
 
@@ -218,7 +221,7 @@ fn shown_at(alloc: Global, names: &Names, a: Node) -> Result<Option<ShownName>, 
             }
             None => Ok(None),
         },
-        Node::Cell(_) | Node::Range(_) => Ok(None),
+        Node::Cell(_) | Node::Range(_) | Node::Whole(_) => Ok(None),
     }
 }
 
@@ -243,14 +246,23 @@ pub(crate) fn add<K: Ord + Drop>(set: &mut BTreeSet<K>, key: Option<K>) -> Resul
     Ok(())
 }
 
-// Puts a link at the end, if there is one.
-fn push_some(list: &mut Vec<Link>, link: Option<Link>) -> Result<(), AllocError>
-    ensures { OnOk result ((rest : _) → list.new.items ++ rest ≡ list.old.items ++ cons_option link rest) }
+// Puts a link at the end, if there is one and none of the others is the same.
+fn push_new(list: &mut Vec<Link>, link: Option<Link>) -> Result<(), AllocError>
+    ensures { OnOk result ((rest : _) → once_after same_link list.new.items rest ≡ once_after same_link list.old.items (cons_option link rest)) }
 {
     if let Some(link) = link {
-        list.push(link)?;
+        if !has_link(list, &link) {
+            list.push(link)?;
+        }
     }
     Ok(())
+}
+
+// Whether one of the links is the same.
+fn has_link(list: &[Link], link: &Link) -> bool
+    ensures { result ≡ list_any (same_link link.now) list.now }
+{
+    list.iter().any(|known| link.same(known))
 }
 
 // Puts cells at the end, in order.

@@ -5,7 +5,7 @@ use Rattle.std.specs.List.{list_any}
 use Rattle.cell_addr.specs.Sheets.{id_in, name_in, AreSheets}
 use Rattle.cell_addr.proofs.Listed.{id_in-listed, listed-name_in}
 use Rattle.formula_tree.specs.Proper.{IsProper, AreProper, IsListed, SheetsAreListed, AllSheetsAreListed}
-use Rattle.formula_tree.specs.Term.{Term, number, text, truth, fault, cell, area, name, prefix, percent, binary, call, paren, Terms, no_terms, term}
+use Rattle.formula_tree.specs.Term.{Term, number, text, truth, fault, cell, area, whole, name, prefix, percent, binary, call, paren, Terms, no_terms, term}
 use Rattle.formula_tree.specs.declared.reference.Corner.{Corner}
 use Rattle.tree_rewrite.specs.Sheets.{HasSheet, SomeHasSheet}
 
@@ -52,6 +52,7 @@ mutual
   all_listed sheets home (fault f) are h = tt
   all_listed sheets home (cell c) are h = listed sheets home c.at.sheet are (h c.at.sheet refl)
   all_listed sheets home (area c d) are h = listed sheets home c.at.sheet are (h c.at.sheet (inl refl))
+  all_listed sheets home (whole axis c d) are h = listed sheets home c.at.sheet are (h c.at.sheet (inl refl))
   all_listed sheets home (name w) are h = tt
   all_listed sheets home (prefix s t) are h = all_listed sheets home t are h
   all_listed sheets home (percent t) are h = all_listed sheets home t are h
@@ -72,6 +73,10 @@ mutual
   some_stand sheets home (fault f) p l sheet i = absurd i
   some_stand sheets home (cell c) p l sheet i = stands-same sheets home c.at.sheet sheet i l
   some_stand sheets home (area c d) p l sheet i = elim i [
+    | inl e ↦ stands-same sheets home c.at.sheet sheet e l
+    | inr e ↦ stands-same sheets home c.at.sheet sheet (p.2.0 ∙ e) l
+  ]
+  some_stand sheets home (whole axis c d) p l sheet i = elim i [
     | inl e ↦ stands-same sheets home c.at.sheet sheet e l
     | inr e ↦ stands-same sheets home c.at.sheet sheet (p.2.0 ∙ e) l
   ]

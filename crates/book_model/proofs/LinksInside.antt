@@ -5,11 +5,16 @@ use Rattle.std.specs.List.{All, cons_option, filter_map, list_any}
 use Rattle.std.specs.FinMap as map
 use Rattle.std.specs.FinMap.{get-entries}
 use Rattle.std.proofs.lemmas.List.Elements.{All-nil, All-cons, All-head, All-tail, All-append, All-weaker, All-from_recursion}
+use Rattle.cell_addr.proofs.Wholes.{whole_block-inside}
 use Rattle.cell_addr.specs.Place.{IsBlockInside, IsInside}
+use Rattle.cell_addr.specs.Whole.{IsWholeInside, whole_of}
+use Rattle.cell_addr.specs.declared.axis.Axis.{Axis}
+use Rattle.cell_addr.specs.declared.axis.Axis.TheVariants.{Rows, Cols}
+use Rattle.cell_addr.specs.declared.place.Block.{Block}
 use Rattle.cell_addr.specs.declared.place.Place.{Place}
 use Rattle.book_cells.specs.Workbook.{Content, number, text, truth, formula, unreadable}
-use Rattle.formula_tree.specs.Links.{is_place_word, once, once_after}
-use Rattle.formula_tree.specs.Mentions.{mentions_in, mentions_in_all, same_mention}
+use Rattle.formula_tree.specs.Links.{is_place_word, once_after, same_link}
+use Rattle.formula_tree.specs.Mentions.{mentions_in, mentions_in_all}
 use Rattle.formula_tree.specs.Proper.{AreProper, IsProper}
 use Rattle.formula_tree.specs.Term.{Term, Terms, no_terms, term, is_reference}
 use Rattle.formula_tree.specs.Term as terms
@@ -31,7 +36,13 @@ use Rattle.book_model.specs.Workbook.{State, Workbook}
 abbrev IsMentionInside : Mention → Type 0
 IsMentionInside (mention.Cell p) = IsInside p
 IsMentionInside (mention.Area b) = IsBlockInside b
+IsMentionInside (mention.Whole w) = IsWholeInside w
 IsMentionInside (mention.Name w) = Unit {0}
+
+-- all rows, or all columns, of a block that is inside are
+whole-inside : (axis : Axis) (b : Block) → IsBlockInside b → IsWholeInside (whole_of axis b)
+whole-inside Rows b i = (i.0, i.1)
+whole-inside Cols b i = (i.2, i.3)
 
 one : (m : Mention) → IsMentionInside m → All IsMentionInside (m ∷ [])
 one m i = All-cons IsMentionInside m [] i (All-nil IsMentionInside)
@@ -48,6 +59,7 @@ mutual
   tree_inside (terms.fault f) p = All-nil IsMentionInside
   tree_inside (terms.cell c) p = one (mention.Cell c.at) p
   tree_inside (terms.area c d) p = one _ (proper-block c d p.0 p.1 p.2)
+  tree_inside (terms.whole axis c d) p = one _ (whole-inside axis _ (proper-block c d p.0 p.1 p.2))
   tree_inside (terms.name w) p = one (mention.Name w) tt
   tree_inside (terms.prefix s t) p = tree_inside t p.1
   tree_inside (terms.percent t) p = tree_inside t p.1
@@ -100,6 +112,11 @@ link-inside names sheet (mention.Area b) i l e = subst (λ o. of o) e i
     of : Option Link → Type 0
     of None = Unit {0}
     of (Some l) = IsLinkInside l
+link-inside names sheet (mention.Whole w) i l e = subst (λ o. of o) e (whole_block-inside w i)
+  where
+    of : Option Link → Type 0
+    of None = Unit {0}
+    of (Some l) = IsLinkInside l
 link-inside names sheet (mention.Name w) i l e = name-inside (found names w sheet) l e
 
 -- the tree of a content of a sound book
@@ -110,9 +127,9 @@ tree_links b names sheet (Some (text w)) h = All-nil IsLinkInside
 tree_links b names sheet (Some (truth t)) h = All-nil IsLinkInside
 tree_links b names sheet (Some (unreadable w)) h = All-nil IsLinkInside
 tree_links b names sheet (Some (formula t)) h =
-    all-given IsLinkInside (link_of names sheet) (once same_mention (mentions_in t))
-    (All-weaker IsMentionInside _ (λ m i. link-inside names sheet m i) (once same_mention (mentions_in t))
-    (all-once IsMentionInside same_mention [] (mentions_in t) (All-nil IsMentionInside) (tree_inside t (h (formula t) refl).0)))
+    let mentioned = tree_inside t (h (formula t) refl).0 in
+    all-once IsLinkInside same_link [] (filter_map (link_of names sheet) (mentions_in t)) (All-nil IsLinkInside)
+    (all-given IsLinkInside (link_of names sheet) (mentions_in t) (All-weaker IsMentionInside _ (λ m i. link-inside names sheet m i) (mentions_in t) mentioned))
 
 pub precedents_inside : (d : State) (at : Place) → IsSound d → All IsLinkInside (precedents_of d at)
 precedents_inside d at s = tree_links d.book (map.entries d.book.names) at.sheet (map.get d.book.cells at) (λ c e. (s.book.cells at c e).2)

@@ -9,7 +9,7 @@ use Rattle.std.specs.declared.cmp.Ordering.TheVariants.{Less, Equal, Greater}
 use Rattle.std.proofs.lemmas.Bool.{and_parts, eq-eqb}
 use Rattle.std.proofs.lemmas.Option.{same_Some}
 use Rattle.cell_addr.specs.declared.place.TheConstants.{NO_SHEET}
-use Rattle.formula_tree.specs.Term.{Term, number, text, truth, fault, cell, area, name, prefix, percent, binary, call, paren, Terms, no_terms, term}
+use Rattle.formula_tree.specs.Term.{Term, number, text, truth, fault, cell, area, whole, name, prefix, percent, binary, call, paren, Terms, no_terms, term}
 use Rattle.formula_tree.specs.declared.reference.Corner.{Corner}
 use Rattle.shift_core.specs.Form.{form_of}
 use Rattle.shift_core.specs.declared.form.Form.{Form}
@@ -102,6 +102,9 @@ mutual
   absolute-sheet (fault f) h sheet i = absurd i
   absolute-sheet (cell c) h sheet i = on-sheet c sheet h i
   absolute-sheet (area c d) h sheet i =
+      let both = and_parts (is_absolute c) (is_absolute d) h in
+      elim i [ inl e ↦ on-sheet c sheet both.0 e | inr e ↦ on-sheet d sheet both.1 e ]
+  absolute-sheet (whole axis c d) h sheet i =
       let both = and_parts (is_absolute c) (is_absolute d) h in
       elim i [ inl e ↦ on-sheet c sheet both.0 e | inr e ↦ on-sheet d sheet both.1 e ]
   absolute-sheet (name w) h sheet i = absurd i

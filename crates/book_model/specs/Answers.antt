@@ -7,13 +7,14 @@ use Rattle.std.specs.Option.{option_cmp}
 use Rattle.std.specs.Ordering.{nat_cmp, ordering_then}
 use Rattle.std.specs.declared.cmp.Ordering.{Ordering}
 use Rattle.cell_addr.specs.Text.{capitals}
+use Rattle.cell_addr.specs.Whole.{whole_block}
 use Rattle.cell_addr.specs.declared.place.Place.{Place}
 use Rattle.cell_value.specs.declared.fault.FaultKind.TheVariants as fault
 use Rattle.cell_value.specs.declared.scalar.Scalar.{Scalar}
 use Rattle.cell_value.specs.declared.scalar.Scalar.TheVariants as scalar
 use Rattle.book_cells.specs.Workbook.{Content, formula}
-use Rattle.formula_tree.specs.Links.{once}
-use Rattle.formula_tree.specs.Mentions.{mentions_in, same_mention}
+use Rattle.formula_tree.specs.Links.{once, same_link}
+use Rattle.formula_tree.specs.Mentions.{mentions_in}
 use Rattle.formula_tree.specs.Term.{Term}
 use Rattle.formula_tree.specs.declared.link.Link.{Link}
 use Rattle.formula_tree.specs.declared.link.Link.TheVariants as links
@@ -81,16 +82,18 @@ content_text d at = contents.content_shown d.book.sheets at.sheet (map.get d.boo
 abbrev pub name_link : Key → Link
 name_link key = links.Name key.scope (capitals key.word)
 
--- what a formula on a sheet mentions, as a link; a name that the word doesn't find is none
+-- what a formula on a sheet mentions, as a link: a whole range is its block, and a name that the word doesn't find is
+-- none
 abbrev pub link_of : Names → ℕ → Mention → Option Link
 link_of names sheet (mention.Cell p) = Some (links.Cell p)
 link_of names sheet (mention.Area b) = Some (links.Area b)
+link_of names sheet (mention.Whole w) = Some (links.Area (whole_block w))
 link_of names sheet (mention.Name word) = option_map name_link (found names word sheet)
 
 -- the links of a formula on a sheet, in the order of first occurrence, each once
 abbrev pub links_of : Names → ℕ → Option (Term Corner) → List Link
 links_of names sheet None = []
-links_of names sheet (Some t) = filter_map (link_of names sheet) (once same_mention (mentions_in t))
+links_of names sheet (Some t) = once same_link (filter_map (link_of names sheet) (mentions_in t))
 
 -- what a cell's formula needs
 abbrev pub precedents_of : State → Place → List Link

@@ -11,7 +11,7 @@ use Rattle.cell_addr.specs.Sheets.{same_name}
 use Rattle.cell_addr.specs.Word.{is_word}
 use Rattle.cell_addr.specs.declared.place.TheConstants.{COLS, NO_SHEET, ROWS}
 use Rattle.formula_tree.specs.Links.{same_scope}
-use Rattle.formula_tree.specs.Term.{Term, cell, area, prefix, percent, binary, call, paren, Terms, no_terms, term}
+use Rattle.formula_tree.specs.Term.{Term, cell, area, whole, prefix, percent, binary, call, paren, Terms, no_terms, term}
 use Rattle.formula_tree.specs.declared.reference.Corner.{Corner}
 use Rattle.book_values.specs.Names.{Key}
 use Rattle.book_model.specs.declared.limits.TheConstants.{MAX_NAME}
@@ -52,10 +52,11 @@ abbrev pub is_absolute : Corner → Bool
 is_absolute c = (c.row_fixed && c.col_fixed) && not (c.at.sheet == NO_SHEET)
 
 abbrev mutual
-  -- nor does any corner of a tree
+  -- nor does any corner of a tree; those of a whole range have a `$` across it anyway
   pub are_absolute : Term Corner → Bool
   are_absolute (cell c) = is_absolute c
   are_absolute (area c d) = is_absolute c && is_absolute d
+  are_absolute (whole axis c d) = is_absolute c && is_absolute d
   are_absolute (prefix s t) = are_absolute t
   are_absolute (percent t) = are_absolute t
   are_absolute (binary o l r) = are_absolute l && are_absolute r

@@ -8,6 +8,7 @@ use Rattle.cell_addr.specs.declared.place.TheConstants.{NO_SHEET}
 use Rattle.cell_addr.specs.declared.spot.Spot.{Spot}
 use Rattle.cell_addr.specs.Address.{place_letters}
 use Rattle.cell_addr.specs.Sheets.{id_in, name_in}
+use Rattle.cell_addr.specs.Whole.{whole_block}
 use Rattle.cell_value.specs.Scalar.{shown_text}
 use Rattle.formula_tree.specs.declared.link.Link.{Link}
 use Rattle.formula_tree.specs.declared.link.Link.TheVariants as links
@@ -93,10 +94,15 @@ formula_text text = unwrap_or text (codes "none")
 abbrev pub sheet_mark : Workbook → ℕ → List ℕ
 sheet_mark b sheet = unwrap_or (name_in b.sheets sheet) [] ++ 33 ∷ []
 
--- a cell, a block or a name with its sheet's name; a name of the whole workbook has none. 58 is `:`
+-- a block with its sheet's name; 58 is `:`
+abbrev pub area_text : Workbook → Block → List ℕ
+area_text b a = (sheet_mark b a.sheet ++ place_letters a.top a.left) ++ (58 ∷ place_letters a.bottom a.right)
+
+-- a cell, a block or a name with its sheet's name, and a whole range as its block; a name of the whole workbook has none
 abbrev pub link_text : Workbook → Link → List ℕ
 link_text b (links.Cell p) = sheet_mark b p.sheet ++ place_letters p.row p.col
-link_text b (links.Area a) = (sheet_mark b a.sheet ++ place_letters a.top a.left) ++ (58 ∷ place_letters a.bottom a.right)
+link_text b (links.Area a) = area_text b a
+link_text b (links.Whole w) = area_text b (whole_block w)
 link_text b (links.Name None word) = word
 link_text b (links.Name (Some sheet) word) = sheet_mark b sheet ++ word
 

@@ -4,6 +4,7 @@ use Rattle.std.specs.FinMap as map
 use Rattle.cell_addr.specs.declared.place.Place.{Place}
 use Rattle.cell_addr.specs.Place.{IsBlockInside, IsInside}
 use Rattle.cell_addr.specs.Sheets.{AreSheets}
+use Rattle.cell_addr.specs.Whole.{IsWholeInside}
 use Rattle.book_cells.specs.Workbook.{Content, formula}
 use Rattle.formula_tree.specs.Proper.{IsProper}
 use Rattle.formula_tree.specs.Term.{Term}
@@ -70,8 +71,9 @@ pub record IsSound (d : State) : Type 0 where
   pub steps : length d.undo + length d.redo ≤ d.limit
   pub limit : d.limit ≤ MAX_UNDO
 
--- a cell or a block within the limits of a sheet, or a name
+-- a cell, a block or a whole range within the limits of a sheet, or a name
 abbrev pub IsLinkInside : Link → Type 0
 IsLinkInside (links.Cell p) = IsInside p
 IsLinkInside (links.Area b) = IsBlockInside b
+IsLinkInside (links.Whole w) = IsWholeInside w
 IsLinkInside (links.Name scope word) = ⊤

@@ -12,7 +12,7 @@ pub fn refusals_change_nothing()
     ensures { RefusalsChangeNothing }
 {}
 
-/// The places and blocks that a formula of a sound session needs stand within the limits of a sheet, and so do the cells
+/// The places and blocks that a formula of a sound session needs, whole ranges by their blocks, stand within the limits of a sheet, and so do the cells
 /// that need a cell.
 pub fn links_are_inside()
     ensures { LinksAreInside }

@@ -1,8 +1,10 @@
 -- Links as rows of numbers, with the words of names as bytes. Source: this project's own.
 use Rattle.std.specs.Prelude.{◌≡◌, ◌&&◌, ℕ, Bool, true, false, ◌+◌, ◌++◌, List, [], ◌∷◌, length, Option, unwrap_or, Result, Ok, Err}
+use Rattle.cell_addr.specs.Whole.{whole_block}
+use Rattle.cell_addr.specs.declared.place.Block.{Block}
 use Rattle.cell_addr.specs.declared.place.TheConstants.{NO_SHEET}
 use Rattle.formula_tree.specs.declared.link.Link.{Link}
-use Rattle.formula_tree.specs.declared.link.Link.TheVariants.{Cell, Area, Name}
+use Rattle.formula_tree.specs.declared.link.Link.TheVariants.{Cell, Area, Whole, Name}
 use Rattle.engine_face.specs.declared.links.LinkCounts.{LinkCounts}
 use Rattle.engine_face.specs.declared.links.LinkRow.{LinkRow}
 use Rattle.engine_face.specs.declared.links.Listed.{Listed}
@@ -17,10 +19,15 @@ abbrev pub link_word : Link → List ℕ
 link_word (Name scope word) = word
 link_word _ = []
 
--- a link as a row, where the word of a name stands there among the words
+-- a block as a row
+abbrev pub area_row : Block → LinkRow
+area_row b = record { kind = 1; sheet = b.sheet; top = b.top; left = b.left; bottom = b.bottom; right = b.right; word_start = 0; word_length = 0 }
+
+-- a link as a row, a whole range as its block, where the word of a name stands there among the words
 abbrev pub link_row : ℕ → Link → LinkRow
 link_row start (Cell p) = record { kind = 0; sheet = p.sheet; top = p.row; left = p.col; bottom = p.row; right = p.col; word_start = 0; word_length = 0 }
-link_row start (Area b) = record { kind = 1; sheet = b.sheet; top = b.top; left = b.left; bottom = b.bottom; right = b.right; word_start = 0; word_length = 0 }
+link_row start (Area b) = area_row b
+link_row start (Whole w) = area_row (whole_block w)
 link_row start (Name scope word) = record { kind = 2; sheet = unwrap_or scope NO_SHEET; top = 0; left = 0; bottom = 0; right = 0; word_start = start; word_length = length word }
 
 -- links as rows, whose words begin there

@@ -2,17 +2,18 @@
 ghost use Rattle.std.specs.Prelude.{◌≡◌, ◌&&◌, IfOk, length};
 ghost use Rattle.book_model.specs.Answers.{dependents_of, precedents_of};
 ghost use Rattle.book_model.specs.Operation as op;
-ghost use Rattle.engine_face.specs.Links.{AreListed, EndCounts, EndLinks, ListFits, link_counts, link_row, link_rows, link_word, link_words};
+ghost use Rattle.engine_face.specs.Links.{AreListed, EndCounts, EndLinks, ListFits, area_row, link_counts, link_row, link_rows, link_word, link_words};
 ghost use Rattle.engine_face.specs.Shown.{fits};
 
 use crate::session::Session;
 use crate::status::Status;
 use book_engine::Stop;
-use cell_addr::{NO_SHEET, Place};
+use book_model::block_of;
+use cell_addr::{Block, NO_SHEET, Place};
 use formula_tree::Link;
 use std::alloc::{AllocError, Global};
 
-/// A link: a cell, a block or a name.
+/// A link: a cell, a block, which all cells of a whole range are too, or a name.
 #[repr(C)]
 #[derive(Clone, Copy)]
 pub struct LinkRow {
@@ -150,7 +151,7 @@ fn list_of(alloc: Global, links: &[Link]) -> Result<Listed, AllocError>
     Ok(Listed { rows, words })
 }
 
-// A link as a row, where the word of a name stands there among the words.
+// A link as a row, a whole range as its block, where the word of a name stands there among the words.
 fn link_row(start: usize, link: &Link) -> LinkRow
     ensures { result ≡ link_row start link.now }
 {
@@ -165,16 +166,8 @@ fn link_row(start: usize, link: &Link) -> LinkRow
             word_start: 0,
             word_length: 0,
         },
-        Link::Area(block) => LinkRow {
-            kind: 1,
-            sheet: block.sheet,
-            top: block.top,
-            left: block.left,
-            bottom: block.bottom,
-            right: block.right,
-            word_start: 0,
-            word_length: 0,
-        },
+        Link::Area(block) => area_row(*block),
+        Link::Whole(whole) => area_row(block_of(*whole)),
         Link::Name(scope, word) => LinkRow {
             kind: 2,
             sheet: scope.unwrap_or(NO_SHEET),
@@ -188,12 +181,28 @@ fn link_row(start: usize, link: &Link) -> LinkRow
     }
 }
 
+// A block as a row.
+fn area_row(block: Block) -> LinkRow
+    ensures { result ≡ area_row block }
+{
+    LinkRow {
+        kind: 1,
+        sheet: block.sheet,
+        top: block.top,
+        left: block.left,
+        bottom: block.bottom,
+        right: block.right,
+        word_start: 0,
+        word_length: 0,
+    }
+}
+
 // The word of a name; no bytes of any other link.
 fn link_word(link: &Link) -> &[u8]
     ensures { result.now ≡ link_word link.now }
 {
     match link {
         Link::Name(_, word) => word.as_bytes(),
-        Link::Cell(_) | Link::Area(_) => &[],
+        Link::Cell(_) | Link::Area(_) | Link::Whole(_) => &[],
     }
 }

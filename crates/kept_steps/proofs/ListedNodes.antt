@@ -91,6 +91,11 @@ no-range b [] [] = refl
 no-range b [] (k ∷ ks) = no-range b [] ks
 no-range b (e ∷ es) ks = no-range b es ks
 
+no-whole : (w : _) (es : List (Place × Cell)) (ks : List (NameKey × ℕ)) → has (node.Whole w) (map cell_node es ++ name_nodes ks) ≡ false
+no-whole w [] [] = refl
+no-whole w [] (k ∷ ks) = no-whole w [] ks
+no-whole w (e ∷ es) ks = no-whole w es ks
+
 module _ (at : At) (k : ℕ) (words : Words) (h : AreWords words) (names : table.NameMap) (stand : (key : NameKey) (id : ℕ) → fin.get names key ≡ Some id → IsNamed at words k key id) (b : Workbook)
     (shown : b.names ≡ fin.entries (names_seen words (named_at at k) names)) (cells : PlaceMap Cell) (contents : b.cells ≡ contents_of (numbered_at at k) cells) (es : List (Place × Cell)) (all : fin.from_entries es ≡ cells) where
   place-there : (p : Place) → stands b (book.place p) ≡ true → has (node.Cell p) (map cell_node es) ≡ true
@@ -120,6 +125,7 @@ module _ (at : At) (k : ℕ) (words : Words) (h : AreWords words) (names : table
       go None spelt e = absurd (none-some x e)
       go (Some w) spelt e = name-there s n w spelt (subst (λ y. stands b y ≡ true) (sym (same_Some (book.name (record { scope = scope_at s; word = w })) x e)) there)
   all-listed (node.Range c) x is there = absurd (none-some x is)
+  all-listed (node.Whole c) x is there = absurd (none-some x is)
 
   -- and each that is listed is known
   pub listed-nodes : AreKnown words (map cell_node es ++ name_nodes (fin.entries names))
@@ -131,3 +137,4 @@ module _ (at : At) (k : ℕ) (words : Words) (h : AreWords words) (names : table
       let w = word-there words n known in
       (book.name (record { scope = scope_at s; word = w.0 }), ap (name_at s) w.1)
   listed-nodes (node.Range c) h2 = absurd (false≢true (sym (no-range c es (fin.entries names)) ∙ h2))
+  listed-nodes (node.Whole c) h2 = absurd (false≢true (sym (no-whole c es (fin.entries names)) ∙ h2))

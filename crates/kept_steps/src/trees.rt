@@ -39,7 +39,7 @@ impl Trees for Session {
         match a {
             Node::Cell(at) => self.given_cell(at),
             Node::Name { scope, word } => self.given_name(scope, word),
-            Node::Range(_) => Ok(Given::Nothing),
+            Node::Range(_) | Node::Whole(_) => Ok(Given::Nothing),
         }
     }
 

@@ -1,21 +1,22 @@
 // The text of links: what formulas need, and which formulas need a cell.
 ghost use Rattle.std.specs.Prelude.{◌≡◌, ◌++◌, ◌<◌, All, IfOk, OnOk, string_bytes};
 ghost use Rattle.cell_addr.specs.Address.{place_letters};
+ghost use Rattle.cell_addr.specs.Place.{IsBlockInside};
 ghost use Rattle.cell_addr.specs.declared.place.TheConstants.{COLS};
 ghost use Rattle.book_engine.specs.Engine.{StandsFor};
-ghost use Rattle.book_model.specs.Replies.{link_text, links_text, sheet_mark};
+ghost use Rattle.book_model.specs.Replies.{area_text, link_text, links_text, sheet_mark};
 ghost use Rattle.book_model.specs.Sound.{IsLinkInside};
 ghost use Rattle.book_model.specs.Workbook.{State};
 ghost use Rattle.sheet_cli.specs.internal.Links.{gap_before};
 
 use book_engine::Engine;
 use calc_eval::Customs;
-use cell_addr::place_text;
+use cell_addr::{Block, place_text};
 use formula_tree::Link;
 use std::alloc::{AllocError, Global};
 
-/// The links, parted by one blank each: cells and blocks by their addresses behind their sheet's name, and names behind
-/// that of their scope, where it is a sheet.
+/// The links, parted by one blank each: cells and blocks by their addresses behind their sheet's name, whole ranges as
+/// their blocks, and names behind the sheet's name of their scope, where it is one of a sheet.
 pub fn links_text<C: Customs>(
     alloc: Global,
     engine: &Engine<C>,
@@ -57,12 +58,8 @@ fn push_link<C: Customs>(
             push_sheet(text, engine, at.sheet)?;
             push_address(alloc, text, at.row, at.col)?;
         }
-        Link::Area(block) => {
-            push_sheet(text, engine, block.sheet)?;
-            push_address(alloc, text, block.top, block.left)?;
-            text.push_str(":")?;
-            push_address(alloc, text, block.bottom, block.right)?;
-        }
+        Link::Area(block) => push_area(alloc, text, engine, *block)?,
+        Link::Whole(whole) => push_area(alloc, text, engine, whole.block())?,
         Link::Name(Some(sheet), word) => {
             push_sheet(text, engine, *sheet)?;
             text.push_str(word.as_str())?;
@@ -70,6 +67,22 @@ fn push_link<C: Customs>(
         Link::Name(None, word) => text.push_str(word.as_str())?,
     }
     Ok(())
+}
+
+// Puts the text of a block at the end.
+fn push_area<C: Customs>(
+    alloc: Global,
+    text: &mut String,
+    engine: &Engine<C>,
+    block: Block,
+) -> Result<(), AllocError>
+    requires { IsBlockInside block }
+    ensures { OnOk result ((d : State) → StandsFor C.customs engine.now d → string_bytes text.new ≡ string_bytes text.old ++ area_text d.book block) }
+{
+    push_sheet(text, engine, block.sheet)?;
+    push_address(alloc, text, block.top, block.left)?;
+    text.push_str(":")?;
+    push_address(alloc, text, block.bottom, block.right)
 }
 
 // Puts a sheet's name and `!` at the end.

@@ -5,7 +5,7 @@ use Rattle.custom_fn.specs.declared.rule.Rule.{Rule}
 use Rattle.book_values.specs.Workbook.{Workbook}
 use Rattle.dep_graph.specs.Laws.{IsNodeInside}
 use Rattle.dep_graph.specs.declared.node.Node.{Node}
-use Rattle.dep_graph.specs.declared.node.Node.TheVariants.{Cell, Name, Range}
+use Rattle.dep_graph.specs.declared.node.Node.TheVariants.{Cell, Name, Range, Whole}
 use Rattle.kept_values.specs.declared.values.Values.{Values}
 use Rattle.recalc_core.specs.Kept.{IsRight, Kept}
 use Rattle.session_values.specs.Following.{FollowsIn, book_of, words_in}
@@ -16,6 +16,7 @@ inside-prop : (a : Node) → IsProp (IsNodeInside a)
 inside-prop (Cell p) = Prim.hlevel logic.props
 inside-prop (Name scope word) = Prim.hlevel logic.props
 inside-prop (Range b) = Prim.hlevel logic.props
+inside-prop (Whole w) = Prim.hlevel logic.props
 
 right-prop : (b : Workbook) (words : List (List ℕ)) (customs : List (List ℕ × Rule)) (today : ℤ) (kept : Kept) (a : Node) → IsProp (IsRight b words customs today kept a)
 right-prop b words customs today kept a = Prim.hlevel logic.props

@@ -49,6 +49,7 @@ abbrev pub place_in : Node → Option Place
 place_in (nodes.Cell p) = Some p
 place_in (nodes.Name scope word) = None
 place_in (nodes.Range b) = None
+place_in (nodes.Whole w) = None
 
 -- what a place or a name is as links show it, if it is a name
 abbrev pub name_shown : Option book.Node → Option ShownName
