@@ -11,7 +11,7 @@ use Rattle.book_values.specs.Workbook as book
 use Rattle.book_values.specs.Workbook.{Workbook, home_of, mentions_node, tree_at}
 use Rattle.dep_graph.specs.Nodes.{has}
 use Rattle.dep_graph.specs.declared.node.Node.{Node}
-use Rattle.dep_graph.specs.declared.node.Node.TheVariants.{Cell, Name, Range}
+use Rattle.dep_graph.specs.declared.node.Node.TheVariants.{Cell, Name, Range, Whole}
 use Rattle.recalc_core.specs.Kept.{Kept, expected_at}
 use Rattle.recalc_core.specs.Laws.{AreKnown}
 use Rattle.recalc_core.specs.Links.{IsLinkAt, IsLinkOf}
@@ -27,11 +27,13 @@ use Rattle.kept_values.specs.declared.values.Values.{Values}
 pub of_tested : (words : List (List ℕ)) (names : Names) (sheet : ℕ) (t : Term Corner) (c : Node) → IsLinkOf words names sheet t c → is_link_of words names sheet t c ≡ true
 of_tested words names sheet t (Cell p) h = h
 of_tested words names sheet t (Range block) h = h
+of_tested words names sheet t (Whole w) h = h
 of_tested words names sheet t (Name scope word) (key, at, h) = ap (passes (mentions_node names sheet t)) at ∙ h
 
 pub of_holds : (words : List (List ℕ)) (names : Names) (sheet : ℕ) (t : Term Corner) (c : Node) → is_link_of words names sheet t c ≡ true → IsLinkOf words names sheet t c
 of_holds words names sheet t (Cell p) h = h
 of_holds words names sheet t (Range block) h = h
+of_holds words names sheet t (Whole w) h = h
 of_holds words names sheet t (Name scope number) h = by (slice_get words number) refl
   where
     test : Option (List ℕ) → Bool

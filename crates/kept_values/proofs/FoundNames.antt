@@ -1,4 +1,4 @@
--- The nodes that a formula is linked to: those of its places and blocks, and of the names that its words find. Serves what links.
+-- The nodes that a formula is linked to: those of its places, blocks and whole ranges, and of the names that its words find. Serves what links.
 use Rattle.std.proofs.Common.{◌≡◌, ◌≢◌, ◌∙◌, sym, ap, refl, subst, ℕ, Bool, true, false, cond, ◌||◌, List, [], ◌∷◌, ◌++◌, Option, Some, None, ◌⊎◌, inl, inr, ⊎_elim}
 use Rattle.std.specs.Prelude.{IsTrue, ◌↔◌, option_to_list}
 use Rattle.std.specs.List.{AllPairs, cons_option, filter_map, list_any}
@@ -10,6 +10,8 @@ use Rattle.cell_addr.specs.Place.{same_block, same_place}
 use Rattle.cell_addr.specs.Sheets.{same_name}
 use Rattle.cell_addr.specs.declared.place.Block.{Block}
 use Rattle.cell_addr.specs.declared.place.Place.{Place}
+use Rattle.cell_addr.specs.Whole.{same_whole}
+use Rattle.cell_addr.specs.declared.whole.Whole as ranges
 use Rattle.formula_tree.proofs.Once.{lists_once}
 use Rattle.formula_tree.proofs.SameLinks.{links_alike, names_alike}
 use Rattle.formula_tree.specs.Links.{links_in, names_in, once, same_link}
@@ -23,7 +25,7 @@ use Rattle.book_values.specs.Workbook.{Workbook}
 use Rattle.book_values.proofs.Keys.{same_key-equal, same_key-self}
 use Rattle.dep_graph.specs.Nodes.{has}
 use Rattle.dep_graph.specs.declared.node.Node.{Node}
-use Rattle.dep_graph.specs.declared.node.Node.TheVariants.{Cell, Name, Range}
+use Rattle.dep_graph.specs.declared.node.Node.TheVariants.{Cell, Name, Range, Whole}
 use Rattle.dep_graph.proofs.Places.{has-append_cases, has-append_left, has-append_right, has_first, has_one}
 use Rattle.recalc_core.specs.Given.{IsFound}
 use Rattle.recalc_core.specs.Links.{AreLinksFor, IsLinkOf}
@@ -35,20 +37,30 @@ use Rattle.recalc_core.proofs.ReadNames.{found_alike}
 use Rattle.kept_values.specs.internal.Linking.{AddsFound, IsFoundBy, node_of}
 use Rattle.kept_values.proofs.Following.{same_tests}
 
--- ---- nodes of places and blocks
+-- ---- nodes of places, blocks and whole ranges
 
--- a list of cells and blocks has a cell's node exactly where it has the cell, and a block's where it has the block
+-- a list of these has a cell's node exactly where it has the cell, a block's where it has the block, and a whole range's
+-- where it has that
 has_cell : (p : Place) (ls : List Link) → has (Cell p) (filter_map node_of ls) ≡ list_any (same_link (links.Cell p)) ls
 has_cell p [] = refl
 has_cell p (links.Cell q ∷ ls) = ap (λ t. same_place p q || t) (has_cell p ls)
 has_cell p (links.Area d ∷ ls) = has_cell p ls
+has_cell p (links.Whole w ∷ ls) = has_cell p ls
 has_cell p (links.Name s w ∷ ls) = has_cell p ls
 
 has_block : (b : Block) (ls : List Link) → has (Range b) (filter_map node_of ls) ≡ list_any (same_link (links.Area b)) ls
 has_block b [] = refl
 has_block b (links.Cell q ∷ ls) = has_block b ls
 has_block b (links.Area d ∷ ls) = ap (λ t. same_block b d || t) (has_block b ls)
+has_block b (links.Whole w ∷ ls) = has_block b ls
 has_block b (links.Name s w ∷ ls) = has_block b ls
+
+has_whole : (v : ranges.Whole) (ls : List Link) → has (Whole v) (filter_map node_of ls) ≡ list_any (same_link (links.Whole v)) ls
+has_whole v [] = refl
+has_whole v (links.Cell q ∷ ls) = has_whole v ls
+has_whole v (links.Area d ∷ ls) = has_whole v ls
+has_whole v (links.Whole w ∷ ls) = ap (λ t. same_whole v w || t) (has_whole v ls)
+has_whole v (links.Name s w ∷ ls) = has_whole v ls
 
 -- one item more of a list of which some items give nodes
 pub some_more : {X : Type 0} (f : X → Option Node) (xs : List X) (x : X) (start old new : List Node) → old ≡ start ++ filter_map f xs → new ≡ old ++ option_to_list (f x) → new ≡ start ++ filter_map f (xs ++ x ∷ [])
@@ -65,6 +77,7 @@ no_name : (scope word : ℕ) (ls : List Link) → has (Name scope word) (filter_
 no_name scope word [] = refl
 no_name scope word (links.Cell q ∷ ls) = no_name scope word ls
 no_name scope word (links.Area d ∷ ls) = no_name scope word ls
+no_name scope word (links.Whole w ∷ ls) = no_name scope word ls
 no_name scope word (links.Name s w ∷ ls) = no_name scope word ls
 
 -- ---- names that words find
@@ -151,7 +164,7 @@ module _ (words : List (List ℕ)) (names : Names) (sheet : ℕ) (numbered : All
               let one : key ≡ other = same_key-equal key other (sym (ap (λ o. is_found o other) here) ∙ tested) in
               subst (λ n. IsTrue (has n (old ++ a ∷ []))) (sym (one_node words c a (book.name key) numbered (there ∙ ap (λ k. Some (book.name k)) (sym one)) at)) (has-append_right a old (a ∷ []) (has_first a []))
 
-  -- a formula's links: those of its places and blocks, and the names that its words find
+  -- a formula's links: those of its places, blocks and whole ranges, and the names that its words find
   pub links_for : (t : Term Corner) (places : List Link) (asked : List (List ℕ)) (needs : List Node) → places ≡ once same_link (links_in t) → asked ≡ once same_name (names_in t)
       → AddsFound words names sheet asked (filter_map node_of places) needs → AreLinksFor words names sheet (Some t) needs
   links_for t places asked needs is_places is_asked found_all c = by c (found_all c)
@@ -180,6 +193,13 @@ module _ (words : List (List ℕ)) (names : Names) (sheet : ℕ) (numbered : All
         where
           listed : has (Range block) (filter_map node_of places) ≡ list_any (same_link (links.Area block)) (links_in t)
           listed = has_block block places ∙ ap (list_any (same_link (links.Area block))) is_places ∙ (lists_once same_link links_alike).members (links_in t) (links.Area block)
+      by (Whole w) both = (
+        λ h. ⊎_elim (λ (here : IsTrue (has (Whole w) (filter_map node_of places))). sym listed ∙ here) (λ (key, at, is). absurd (none_some (book.name key) at)) (both.0 h),
+        λ h. both.1 (inl (listed ∙ h)),
+      )
+        where
+          listed : has (Whole w) (filter_map node_of places) ≡ list_any (same_link (links.Whole w)) (links_in t)
+          listed = has_whole w places ∙ ap (list_any (same_link (links.Whole w))) is_places ∙ (lists_once same_link links_alike).members (links_in t) (links.Whole w)
       by (Name scope word) both = (
         λ h. ⊎_elim (λ (here : IsTrue (has (Name scope word) (filter_map node_of places))). absurd (false≢true (sym (no_name scope word places) ∙ here)))
             (λ (key, at, is). (key, at, sym (all_words key) ∙ is)) (both.0 h),

@@ -15,9 +15,9 @@ use Rattle.formula_tree.specs.Links.{names_in, once}
 use Rattle.formula_tree.specs.Reference.{sheet_of}
 use Rattle.formula_tree.specs.Term.{Term}
 use Rattle.formula_tree.specs.declared.reference.Corner.{Corner}
-use Rattle.shift_core.specs.Tables.{block_after, place_after}
+use Rattle.shift_core.specs.Tables.{place_after}
 use Rattle.shift_core.specs.declared.shift.Shift.{Shift}
-use Rattle.tree_rewrite.specs.Rewritten.{rewritten}
+use Rattle.tree_rewrite.specs.Rewritten.{area_after, rewritten}
 use Rattle.carried_terms.proofs.Needs.{names_stay}
 use Rattle.carried_books.specs.Moved.{is_bare}
 use Rattle.book_cells.specs.Workbook.{Content}
@@ -39,7 +39,7 @@ seeks_once names sheet word t asked is =
 -- words that find what they found seek what they sought
 pub still_seeks : (s : Shift) (b c : Workbook) (over : IsBookAfter s b c) (x z : book.Node) (t : Term Corner) (word : List ℕ) → FindsSame s b c over x z → seeks_at c word z (rewritten s t) ≡ seeks_at b word x t
 still_seeks s b c over x z t word finds =
-    ap (list_any (λ w. same_name word w && is_none (found c.names w (sheet_of (home_of z))))) (names_stay (place_after s) (block_after s) (λ p. false) t)
+    ap (list_any (λ w. same_name word w && is_none (found c.names w (sheet_of (home_of z))))) (names_stay (place_after s) (area_after s) (λ p. false) t)
     ∙ (λ i. list_any (λ w. same_name word w && is_none (finds w i)) (names_in t))
 
 none_there : (o : Option Content) → is_none o ≡ true → o ≡ None

@@ -12,8 +12,9 @@ use Rattle.formula_tree.specs.declared.reference.Corner.{Corner}
 use Rattle.shift_core.specs.Bent.{HaveOtherSizes, IsBent, MeetsDisplaced}
 use Rattle.shift_core.specs.Form.{form_of}
 use Rattle.shift_core.specs.Sound.{IsSound}
-use Rattle.shift_core.specs.Tables.{block_after, place_after}
+use Rattle.shift_core.specs.Tables.{block_after}
 use Rattle.shift_core.specs.declared.shift.Shift.{Shift}
+use Rattle.shift_core.proofs.WholeMoves.{lost_whole_bent}
 use Rattle.tree_rewrite.specs.Rewritten.{rewritten}
 use Rattle.book_values.specs.Names.{Key, tree_in}
 use Rattle.book_values.specs.Workbook as book
@@ -23,7 +24,7 @@ use Rattle.dep_graph.specs.Needs.{Links}
 use Rattle.dep_graph.specs.Nodes.{has}
 use Rattle.dep_graph.specs.Shifted.{AreShifted}
 use Rattle.dep_graph.specs.declared.node.Node.{Node}
-use Rattle.dep_graph.specs.declared.node.Node.TheVariants.{Cell, Range}
+use Rattle.dep_graph.specs.declared.node.Node.TheVariants.{Cell, Range, Whole}
 use Rattle.recalc_core.specs.Kept.{Kept}
 use Rattle.recalc_core.specs.Laws.{AreKnown}
 use Rattle.recalc_core.specs.Moves.{carried_kept}
@@ -50,7 +51,7 @@ use Rattle.kept_values.specs.internal.TakenAlong.{AreAlong, AreCarried, AreMoved
 use Rattle.kept_values.proofs.Following.{FollowsBut, all_right, from_follow, marked_follow, there, unlinked_follow}
 use Rattle.kept_values.proofs.Gathered as gathering
 use Rattle.kept_values.proofs.Gathered.{among_gathered, gathered_cases, with_marks}
-use Rattle.kept_values.proofs.LostBefore.{lost_same}
+use Rattle.kept_values.proofs.LostBefore.{IsThere, lost_same}
 use Rattle.kept_values.proofs.SeekingNames.{filled_after, still_seeks}
 use Rattle.kept_values.proofs.TakenAlong.{after_known, among_along}
 
@@ -69,12 +70,6 @@ numbered_after s b c words over numbered = record { once = numbered.once; all = 
 -- a block that is lost is bent
 lost_bends : (s : Shift) (d : Block) → block_after s d ≡ None → IsBent s d
 lost_bends s d gone = subst (λ o. MatchOption o ⊤ (λ after. HaveOtherSizes d after ⊎ MeetsDisplaced (form_of s) d)) (sym gone) tt
-
--- the operation doesn't lose what the link leads to
-abbrev IsThere : Shift → Link → Type 0
-IsThere s (links.Cell p) = ¬ (place_after s p ≡ None)
-IsThere s (links.Area d) = ¬ (block_after s d ≡ None)
-IsThere s (links.Name scope word) = ⊤
 
 -- ---- marks and values that went along
 
@@ -150,6 +145,8 @@ module _ (s : Shift) (b c : Workbook) (words : List (List ℕ)) (customs : List 
         each was y t from origin tree out (links.Cell p) link = λ gone. unbent was (Cell p) from ((follows.follow.linked.exact was (Cell p) (λ mark. false≢true (sym out ∙ mark))).1 (y, t, origin, tree, link)) gone
         each was y t from origin tree out (links.Area d) link = λ gone.
             unbent was (Range d) from ((follows.follow.linked.exact was (Range d) (λ mark. false≢true (sym out ∙ mark))).1 (y, t, origin, tree, link)) (inl (lost_bends s d gone))
+        each was y t from origin tree out (links.Whole r) link = λ gone.
+            unbent was (Whole r) from ((follows.follow.linked.exact was (Whole r) (λ mark. false≢true (sym out ∙ mark))).1 (y, t, origin, tree, link)) (lost_whole_bent (form_of s) r gone)
         each was y t from origin tree out (links.Name scope word) link = tt
 
     settled : (z : book.Node) → node_at words a ≡ Some z → tree_at c z ≡ Some u → has a new ≡ false → IsSettled s z

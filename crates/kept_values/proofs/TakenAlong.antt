@@ -13,7 +13,7 @@ use Rattle.dep_graph.specs.Needs.{Links}
 use Rattle.dep_graph.specs.Nodes.{has}
 use Rattle.dep_graph.specs.Shifted.{AreShifted, node_after}
 use Rattle.dep_graph.specs.declared.node.Node.{Node}
-use Rattle.dep_graph.specs.declared.node.Node.TheVariants.{Cell, Name, Range}
+use Rattle.dep_graph.specs.declared.node.Node.TheVariants.{Cell, Name, Range, Whole}
 use Rattle.dep_graph.proofs.Places.{has-append_cases, has-append_left, has-append_right, has_first, has_one}
 use Rattle.recalc_core.specs.Kept.{Kept}
 use Rattle.recalc_core.specs.Laws.{AreKnown}
@@ -67,6 +67,7 @@ module _ (s : Shift) where
       by false e = absurd (none_some c e)
   same_cell (Name scope word) c is = absurd (none_some c is)
   same_cell (Range block) c is = absurd (none_some c is)
+  same_cell (Whole w) c is = absurd (none_some c is)
 
   -- what a known node becomes is known
   pub after_known : (words : List (List ℕ)) (a c : Node) (x : book.Node) → node_at words a ≡ Some x → node_after s a ≡ Some c → (y : book.Node) × (node_at words c ≡ Some y)
@@ -77,6 +78,7 @@ module _ (s : Shift) where
       by (Some q) e = (book.place q, ap (node_at words) (sym (same_some (Cell q) c e)))
   after_known words (Name scope word) c x at goes = (x, ap (node_at words) (sym (same_some (Name scope word) c goes)) ∙ at)
   after_known words (Range block) c x at goes = absurd (none_some x at)
+  after_known words (Whole w) c x at goes = absurd (none_some x at)
 
   -- ---- lists of them
 
@@ -183,6 +185,7 @@ module _ (s : Shift) where
       by true e = absurd (none_some d e)
       by false e = (x, ap (node_at words) (same_some (Name scope word) d e) ∙ at)
   from_known words (Range block) d from x at = absurd (none_some d from)
+  from_known words (Whole w) d from x at = absurd (none_some d from)
 
   -- what is taken along by itself
   pub alone_along : (nodes along : List Node) → AddsTaken s nodes [] along → AreAlong s nodes along
@@ -225,6 +228,7 @@ module _ (s : Shift) where
       by false is e = absurd (none_some a e)
   came_along nodes more a (Name scope word) taken there (inr moved) = absurd (none_some a moved)
   came_along nodes more a (Range block) taken there (inr moved) = absurd (none_some a moved)
+  came_along nodes more a (Whole w) taken there (inr moved) = absurd (none_some a moved)
 
   -- so what is among others still is when both are taken along
   pub among_along : (few many few_then many_then : List Node) → AreAlong s few few_then → AreTakenAlong s many many_then → AreAmong few many → AreAmong few_then many_then

@@ -22,7 +22,7 @@ use Rattle.dep_graph.specs.Nodes.{has, items_of}
 use Rattle.dep_graph.specs.Shifted.{AreShifted, node_after}
 use Rattle.dep_graph.specs.declared.node.Node.{Node}
 use Rattle.dep_graph.specs.declared.nodes.Nodes.{Nodes}
-use Rattle.dep_graph.specs.declared.node.Node.TheVariants.{Cell, Name, Range}
+use Rattle.dep_graph.specs.declared.node.Node.TheVariants.{Cell, Name, Range, Whole}
 use Rattle.dep_graph.proofs.Places.{has-append_cases, has-append_left, has-append_right}
 use Rattle.recalc_core.specs.Kept.{Kept}
 use Rattle.recalc_core.specs.Laws.{AreKnown}
@@ -146,6 +146,7 @@ module _ (s back : Shift) (b c : Workbook) (words : List (List ℕ)) (customs : 
       by (Cell p) to = absurd (cc)
       by (Name scope word) to = taken.along (Name scope word) (Name scope word) (suspects.lost (Name scope word) (book.name key) (rewritten s t) to tree (lost_stays s t lost)) refl
       by (Range block) to = absurd (none_some (book.name key) to)
+      by (Whole w) to = absurd (none_some (book.name key) to)
 
   -- ---- words that find no name
 
@@ -186,6 +187,7 @@ module _ (s back : Shift) (b c : Workbook) (words : List (List ℕ)) (customs : 
       by (Cell p) to out = absurd (cc)
       by (Name scope number) to out = goes_noted word (Name scope number) (Name scope number) (book.name key) (rewritten s t) refl out to tree (still_seeks s b c over (book.name key) (book.name key) t word finds ∙ seek)
       by (Range block) to out = absurd (none_some (book.name key) to)
+      by (Whole w) to out = absurd (none_some (book.name key) to)
 
   sought_known : (word : List ℕ) (a : Node) → seeks_in w word a ≡ true → is_some (node_at words a) ≡ true
   sought_known word a h =

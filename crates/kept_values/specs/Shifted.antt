@@ -13,7 +13,7 @@ use Rattle.dep_graph.specs.Needs.{Links}
 use Rattle.dep_graph.specs.Nodes.{has}
 use Rattle.dep_graph.specs.Shifted.{node_after}
 use Rattle.dep_graph.specs.declared.node.Node.{Node}
-use Rattle.dep_graph.specs.declared.node.Node.TheVariants.{Cell, Name, Range}
+use Rattle.dep_graph.specs.declared.node.Node.TheVariants.{Cell, Name, Range, Whole}
 use Rattle.recalc_core.specs.Laws.{AreKnown}
 use Rattle.recalc_core.specs.Nodes.{AreNumbered, node_at}
 use Rattle.recalc_core.specs.Shifted.{drops_scope}
@@ -49,6 +49,7 @@ abbrev pub moved_cell : Shift → Node → Option Node
 moved_cell s (Cell p) = if is_moved_cell s p then Some (Cell p) else None
 moved_cell s (Name scope word) = None
 moved_cell s (Range b) = None
+moved_cell s (Whole w) = None
 
 -- tests whether an operation may touch a node, beside what it bends: a cell of a block that it moves or of where that goes, or a name of a
 -- dropped sheet
@@ -56,6 +57,7 @@ abbrev pub may_touch : Shift → Node → Bool
 may_touch s (Cell p) = is_moved_cell s p
 may_touch s (Name scope word) = drops_scope (form_of s) scope
 may_touch s (Range b) = false
+may_touch s (Whole w) = false
 
 -- a node comes from another one: the operation takes that to it, or it is that one and a cell of a moved block or of where that goes
 abbrev pub ComesFrom : Shift → Node → Node → Type 0

@@ -19,7 +19,7 @@ use Rattle.dep_graph.specs.Needs.{Links}
 use Rattle.dep_graph.specs.Nodes.{has}
 use Rattle.dep_graph.specs.Walks.{IsOnce}
 use Rattle.dep_graph.specs.declared.node.Node.{Node}
-use Rattle.dep_graph.specs.declared.node.Node.TheVariants.{Cell, Name, Range}
+use Rattle.dep_graph.specs.declared.node.Node.TheVariants.{Cell, Name, Range, Whole}
 use Rattle.recalc_core.specs.Kept.{Kept}
 use Rattle.recalc_core.specs.Nodes.{node_at}
 use Rattle.recalc_core.specs.Recalc as recalc
@@ -75,11 +75,12 @@ abbrev pub passes : {X : Type 0} → (X → Bool) → Option X → Bool
 passes test None = false
 passes test (Some x) = test x
 
--- tests whether a formula on a sheet is linked to a node: its tree refers to the cell or the block, or one of its words finds
--- the name
+-- tests whether a formula on a sheet is linked to a node: its tree refers to the cell, the block or the whole range, or one
+-- of its words finds the name
 abbrev pub is_link_of : List (List ℕ) → Names → ℕ → Term Corner → Node → Bool
 is_link_of words names sheet t (Cell p) = list_any (same_link (links.Cell p)) (links_in_tree t)
 is_link_of words names sheet t (Range b) = list_any (same_link (links.Area b)) (links_in_tree t)
+is_link_of words names sheet t (Whole w) = list_any (same_link (links.Whole w)) (links_in_tree t)
 is_link_of words names sheet t (Name scope word) = passes (book.mentions_node names sheet t) (node_at words (Name scope word))
 
 -- tests whether the formula of a place or a name is linked to a node

@@ -28,6 +28,7 @@ fn node_asks(node: &TreeNode, home: Home) -> bool
         TreeNode::Call(word, list) => is_place_word(word.as_str()) || some_ask(list, home),
         TreeNode::Number(_) | TreeNode::Text(_) | TreeNode::Truth(_) | TreeNode::Fault(_) => false,
         TreeNode::Cell(_) | TreeNode::Area(_, _) | TreeNode::Name(_) => false,
+        TreeNode::WholeRows(_, _, _) | TreeNode::WholeCols(_, _, _) => false,
     }
 }
 

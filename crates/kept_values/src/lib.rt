@@ -28,5 +28,6 @@ mod shifting;
 mod sought;
 mod taken_back;
 mod values;
+mod whole;
 
 pub use values::Values;

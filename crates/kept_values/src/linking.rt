@@ -92,7 +92,7 @@ fn needs_of<T: Trees>(
     Ok(needs)
 }
 
-// Adds the nodes of cells and blocks.
+// Adds the nodes of cells, blocks and whole ranges.
 fn add_places(places: &[Link], needs: &mut Nodes) -> Result<(), AllocError>
     ensures { OnOk result (items_of needs.new ≡ items_of needs.old ++ filter_map node_of places.now) }
 {
@@ -102,13 +102,14 @@ fn add_places(places: &[Link], needs: &mut Nodes) -> Result<(), AllocError>
     Ok(())
 }
 
-// Adds the node of a cell or a block.
+// Adds the node of a cell, a block or a whole range.
 fn add_place(place: &Link, needs: &mut Nodes) -> Result<(), AllocError>
     ensures { OnOk result (items_of needs.new ≡ items_of needs.old ++ option_to_list (node_of place.now)) }
 {
     match place {
         Link::Cell(at) => needs.push(Node::Cell(*at)),
         Link::Area(block) => needs.push(Node::Range(*block)),
+        Link::Whole(whole) => needs.push(Node::Whole(*whole)),
         Link::Name(_, _) => Ok(()),
     }
 }

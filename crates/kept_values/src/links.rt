@@ -48,7 +48,7 @@ impl Values {
         Ok(())
     }
 
-    /// Each node, once, that is linked to the cell itself or to a range that covers it. Costs what
+    /// Each node, once, that is linked to the cell itself or to a range, whole or not, that covers it. Costs what
     /// [`Graph::users`](dep_graph::Graph::users) does. Errs for want of memory.
     pub fn users(&self, at: Place) -> Result<Nodes, AllocError>
         ensures { IfOk result (λ nodes. AreUsers at (links_in self.now) (items_of nodes)) }

@@ -11,6 +11,7 @@ ghost use Rattle.kept_values.specs.internal.TakenAlong.{AddsTaken, AreMoved, wit
 
 use crate::sought::move_words;
 use crate::values::Values;
+use crate::whole::moved_whole;
 use cell_addr::Place;
 use dep_graph::Node;
 use indexmap::IndexSet;
@@ -187,7 +188,7 @@ fn mark_some(recalc: &mut Recalc, a: Option<Node>) -> Result<(), AllocError>
     }
 }
 
-// Where the operation moves the node; `None` where its place or its block is lost.
+// Where the operation moves the node; `None` where its place, its block or its whole range is lost.
 fn moved_node(s: &Shift, a: Node) -> Option<Node>
     requires { IsSound s.now }
     ensures { result ≡ node_after s.now a }
@@ -196,6 +197,7 @@ fn moved_node(s: &Shift, a: Node) -> Option<Node>
         Node::Cell(at) => Some(Node::Cell(moved_place(s, at)?)),
         Node::Name { .. } => Some(a),
         Node::Range(block) => Some(Node::Range(moved_block(s, block)?)),
+        Node::Whole(whole) => Some(Node::Whole(moved_whole(s, whole)?)),
     }
 }
 
@@ -208,6 +210,7 @@ fn moved_cell(s: &Shift, a: Node) -> Option<Node>
         Node::Cell(at) => { if is_moved_cell(s, at) { Some(a) } else { None } }
         Node::Name { .. } => None,
         Node::Range(_) => None,
+        Node::Whole(_) => None,
     }
 }
 

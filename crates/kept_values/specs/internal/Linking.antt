@@ -11,14 +11,15 @@ use Rattle.dep_graph.specs.Graph.{AreLinked}
 use Rattle.dep_graph.specs.Needs.{Links}
 use Rattle.dep_graph.specs.Nodes.{has}
 use Rattle.dep_graph.specs.declared.node.Node.{Node}
-use Rattle.dep_graph.specs.declared.node.Node.TheVariants.{Cell, Range}
+use Rattle.dep_graph.specs.declared.node.Node.TheVariants.{Cell, Range, Whole}
 use Rattle.recalc_core.specs.Links.{AreLinksFor}
 use Rattle.recalc_core.specs.Nodes.{node_at}
 
--- the node of a cell or a block; a name is none by itself
+-- the node of a cell, a block or a whole range; a name is none by itself
 abbrev pub node_of : Link → Option Node
 node_of (links.Cell p) = Some (Cell p)
 node_of (links.Area b) = Some (Range b)
+node_of (links.Whole w) = Some (Whole w)
 node_of (links.Name scope word) = None
 
 -- the node is a name that one of the words finds on the sheet
