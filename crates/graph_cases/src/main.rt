@@ -17,11 +17,15 @@ use std::io;
 use std::process::ExitCode;
 
 // The groups of calls on small graphs, with what they show.
-const GROUPS: [(&'static [Step], &'static str); 10] = [
+const GROUPS: [(&'static [Step], &'static str); 11] = [
     (&rows::NEEDS_LEAD_ON, "needs lead on, and in a circle"),
     (
         &rows::USED_RANGES_NEED_THEIR_CELLS,
         "a used range needs its cells",
+    ),
+    (
+        &rows::WHOLE_RANGES_ARE_RANGES,
+        "whole ranges need their cells, and are bent across",
     ),
     (&rows::OPERATIONS_BEND, "operations bend what formulas read"),
     (&rows::A_COPY_IS_EQUAL, "a copy has the same links"),

@@ -1,8 +1,9 @@
-// The plain model of a graph of needs: a list of links, in which each used range is tested against each cell.
+// The plain model of a graph of needs: a list of links, in which each used range is tested against each cell. All whole
+// ranges lie within their sheets.
 ghost use Rattle.shift_core.specs.Sound.{IsSound};
 
 use dep_graph::Node;
-use shift_core::{Shift, is_bent, is_cut, moved_block, moved_place};
+use shift_core::{Shift, bends_whole, is_bent, is_cut, moved_block, moved_place, moved_whole};
 use std::alloc::{AllocError, Global};
 
 // A link of a node to one that it needs.
@@ -146,10 +147,11 @@ fn add(list: &mut Vec<Node>, node: Node) -> Result<(), AllocError> {
     Ok(())
 }
 
-// Whether the first node is a range that covers the second, a cell.
+// Whether the first node is a range, whole or not, that covers the second, a cell.
 fn covers(range: Node, cell: Node) -> bool {
     match (range, cell) {
         (Node::Range(block), Node::Cell(at)) => block.holds(at),
+        (Node::Whole(whole), Node::Cell(at)) => whole.inside() && whole.block().holds(at),
         _ => false,
     }
 }
@@ -172,6 +174,12 @@ fn moved_node(s: &Shift, node: Node) -> Option<Node>
         Node::Cell(at) => Node::Cell(moved_place(s, at)?),
         Node::Name { .. } => node,
         Node::Range(block) => Node::Range(moved_block(s, block)?),
+        Node::Whole(whole) => {
+            if !whole.inside() {
+                return None;
+            }
+            Node::Whole(moved_whole(s, whole)?)
+        }
     })
 }
 
@@ -183,5 +191,6 @@ fn bends(s: &Shift, node: Node) -> bool
         Node::Cell(at) => moved_place(s, at).is_none(),
         Node::Name { .. } => false,
         Node::Range(block) => is_bent(s, block) || is_cut(s, block),
+        Node::Whole(whole) => whole.inside() && bends_whole(s, whole),
     }
 }

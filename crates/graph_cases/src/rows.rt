@@ -1,6 +1,6 @@
 // Small graphs whose answers are plain.
 use crate::both::{are_same, go_on_with_a_copy, nodes};
-use cell_addr::{Block, Place};
+use cell_addr::{Axis, Block, Place, Whole};
 use dep_graph::{Graph, Node};
 use shift_core::{Shift, sound};
 use std::alloc::{AllocError, Global};
@@ -104,6 +104,28 @@ const OTHER_A1_TO_A5: Node = Node::Range(Block {
     right: 0,
 });
 
+// All of its first two columns, and of its first two rows.
+const COLUMNS_A_B: Node = Node::Whole(Whole {
+    sheet: 0,
+    axis: Axis::Cols,
+    first: 0,
+    last: 1,
+});
+
+const ROWS_1_2: Node = Node::Whole(Whole {
+    sheet: 0,
+    axis: Axis::Rows,
+    first: 0,
+    last: 1,
+});
+
+const ROW_1: Node = Node::Whole(Whole {
+    sheet: 0,
+    axis: Axis::Rows,
+    first: 0,
+    last: 0,
+});
+
 // A named expression.
 const TOTAL: Node = Node::Name { scope: 0, word: 0 };
 
@@ -184,6 +206,22 @@ pub(crate) const USED_RANGES_NEED_THEIR_CELLS: [Step; 9] = [
     Step::OnCycle(A1_TO_A5, true),
     Step::Unlink(B1),
     Step::Reach(A3, &[A3]),
+];
+
+// A whole range needs its cells too. An operation across leaves it, but bends it on its sheet.
+pub(crate) const WHOLE_RANGES_ARE_RANGES: [Step; 12] = [
+    Step::Link(D1, &[COLUMNS_A_B]),
+    Step::Link(C3, &[ROWS_1_2]),
+    Step::Reach(A9, &[A9, COLUMNS_A_B, D1, ROWS_1_2, C3]),
+    Step::Reach(C3, &[C3]),
+    Step::Reach(C2, &[C2, ROWS_1_2, C3]),
+    Step::Bent(DELETE_FIRST, &[C3, D1]),
+    Step::Bent(INSERT_NINTH, &[D1]),
+    Step::Shift(INSERT_NINTH),
+    Step::Reach(A9, &[A9, COLUMNS_A_B, D1, ROWS_1_2, C3]),
+    Step::Shift(DELETE_FIRST),
+    Step::Reach(E1, &[E1, ROW_1, C2]),
+    Step::Reach(A5, &[A5]),
 ];
 
 // Formulas are bent that read a cell that is lost, or a range that loses a row.

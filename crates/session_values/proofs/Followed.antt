@@ -13,7 +13,7 @@ use Rattle.book_values.specs.Workbook as book
 use Rattle.book_values.specs.Workbook.{Workbook, content_tree, home_of, tree_at}
 use Rattle.dep_graph.specs.Nodes.{has}
 use Rattle.dep_graph.specs.declared.node.Node.{Node}
-use Rattle.dep_graph.specs.declared.node.Node.TheVariants.{Cell, Name, Range}
+use Rattle.dep_graph.specs.declared.node.Node.TheVariants.{Cell, Name, Range, Whole}
 use Rattle.dep_graph.proofs.Places.{has-append_cases}
 use Rattle.kept_book.specs.Kept.{IsMore}
 use Rattle.name_table.specs.Named.{words_of}
@@ -42,6 +42,7 @@ use Rattle.session_values.specs.Touched.{IsMarkedIn, IsTouched}
 pub keep_numbers : (words more : List (List ℕ)) → IsMore words more → KeepNumbers words more
 keep_numbers words more keeps (Cell p) x at = at
 keep_numbers words more keeps (Range b) x at = absurd (none_some x at)
+keep_numbers words more keeps (Whole w) x at = absurd (none_some x at)
 keep_numbers words more keeps (Name scope number) x at = by (slice_get words number) refl
   where
     by : (o : Option (List ℕ)) → slice_get words number ≡ o → node_at more (Name scope number) ≡ Some x
@@ -57,6 +58,7 @@ module _ (b c : Workbook) (words more : List (List ℕ)) (customs : List (List �
   was_known : (a : Node) (x : book.Node) (t : Term Corner) → node_at more a ≡ Some x → tree_at c x ≡ Some t → node_at words a ≡ Some x
   was_known (Cell p) x t at is = at
   was_known (Range r) x t at is = absurd (none_some x at)
+  was_known (Whole w) x t at is = absurd (none_some x at)
   was_known (Name scope number) (book.place p) t at is = absurd (no_place (slice_get more number) at)
     where
       no_place : (o : Option (List ℕ)) → name_at scope o ≡ Some (book.place p) → ⊥
@@ -89,6 +91,7 @@ module _ (b c : Workbook) (words more : List (List ℕ)) (customs : List (List �
         no_place None e = none_some (book.place q) e
         no_place (Some word) e = let h = same_some _ _ e in cc
     same_tree (Range r) (book.place q) isnt at = absurd (none_some (book.place q) at)
+    same_tree (Whole w) (book.place q) isnt at = absurd (none_some (book.place q) at)
 
     noted : (first test : book.Node → Term Corner → Bool) → ((x : book.Node) (t : Term Corner) → test x t ≡ true → first x t ≡ true) → (was now : Node → Bool) → now ≡ was → AreNoted first b words old was → AreNoted test c more new now
     noted first test as_before was now same before = record {

@@ -15,6 +15,7 @@ use Rattle.cell_addr.specs.Order.{place_cmp}
 use Rattle.cell_addr.specs.Place.{covers, same_place}
 use Rattle.cell_addr.specs.declared.place.Block.{Block}
 use Rattle.cell_addr.specs.declared.place.Place.{Place}
+use Rattle.cell_addr.specs.declared.whole.Whole.{Whole}
 use Rattle.grid_store.specs.Grid.{cells_of, within}
 use Rattle.grid_store.specs.declared.cell.Cell.{Cell}
 use Rattle.shift_core.specs.Carried.{destination}
@@ -127,10 +128,15 @@ no_range : (block : Block) (es : List (Place × Cell)) → has (node.Range block
 no_range block [] = refl
 no_range block (e ∷ es) = no_range block es
 
+no_whole : (w : Whole) (es : List (Place × Cell)) → has (node.Whole w) (map cell_node es) ≡ false
+no_whole w [] = refl
+no_whole w (e ∷ es) = no_whole w es
+
 pub cells_known : (words : List (List ℕ)) (es : List (Place × Cell)) → AreKnown words (map cell_node es)
 cells_known words es (node.Cell p) h = (book.place p, refl)
 cells_known words es (node.Name scope word) h = absurd (false≢true (sym (no_name scope word es) ∙ h))
 cells_known words es (node.Range block) h = absurd (false≢true (sym (no_range block es) ∙ h))
+cells_known words es (node.Whole w) h = absurd (false≢true (sym (no_whole w es) ∙ h))
 
 -- cells that a step of one change lists as replaced
 all_listed : (p : Place) (es : List (Place × Cell)) → has (node.Cell p) (map cell_node es) ≡ list_any (same_place p) (places_of es)
@@ -147,6 +153,7 @@ replaced_only [] es is a h = absurd (none-some es is)
 replaced_only (c ∷ []) es is (node.Cell p) h = or_none (list_any (same_place p) (places_of c.replaced)) ∙ ap (λ l. list_any (same_place p) (places_of l)) (same_Some c.replaced es is) ∙ sym (all_listed p es) ∙ h
 replaced_only (c ∷ []) es is (node.Name scope word) h = absurd (false≢true (sym (no_name scope word es) ∙ h))
 replaced_only (c ∷ []) es is (node.Range block) h = absurd (false≢true (sym (no_range block es) ∙ h))
+replaced_only (c ∷ []) es is (node.Whole w) h = absurd (false≢true (sym (no_whole w es) ∙ h))
 replaced_only (c ∷ d ∷ cs) es is a h = absurd (none-some es is)
 
 module _ (s : Session) where
@@ -207,6 +214,8 @@ module _ (s : Session) where
       by (node.Name scope word) (inr onto) = absurd (false≢true (sym (no_name scope word (fin.entries (within (destination source to) (cells_of s.book.grid)))) ∙ onto))
       by (node.Range block) (inl from) = absurd (false≢true (sym (no_range block (fin.entries (within source (cells_of s.book.grid)))) ∙ from))
       by (node.Range block) (inr onto) = absurd (false≢true (sym (no_range block (fin.entries (within (destination source to) (cells_of s.book.grid)))) ∙ onto))
+      by (node.Whole w) (inl from) = absurd (false≢true (sym (no_whole w (fin.entries (within source (cells_of s.book.grid)))) ∙ from))
+      by (node.Whole w) (inr onto) = absurd (false≢true (sym (no_whole w (fin.entries (within (destination source to) (cells_of s.book.grid)))) ∙ onto))
 
 pub names_only : (x : Shift) (sheet : ℕ) (nodes : List Node) → form_of x ≡ Sheet sheet → ((a : Node) → IsTrue (has a nodes) → is_name_of sheet a ≡ true) → (a : Node) → IsTrue (has a nodes) → may_touch x a ≡ true
 names_only x sheet nodes is only a h = by a (only a h)
@@ -215,3 +224,4 @@ names_only x sheet nodes is only a h = by a (only a h)
     by (node.Cell p) e = absurd (false≢true e)
     by (node.Name scope word) e = ap (λ f. drops_scope f scope) is ∙ e
     by (node.Range block) e = absurd (false≢true e)
+    by (node.Whole w) e = absurd (false≢true e)

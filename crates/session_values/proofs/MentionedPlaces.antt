@@ -1,37 +1,35 @@
 -- Nodes whose formulas mention a place, by their links. Serves the users of a cell.
-use Rattle.std.proofs.Common.{◌≡◌, ◌∙◌, sym, ap, refl, subst, ℕ, true, List, Option, Some, None, ⊎_elim}
-use Rattle.std.specs.List.{list_any}
+use Rattle.std.proofs.Common.{◌≡◌, ◌∙◌, sym, ap, refl, subst, ℕ, true, List, Option, Some, None, inl, inr}
 use Rattle.std.proofs.lemmas.Bool.{false≢true}
 use Rattle.cell_addr.proofs.SamePlaces.{same_place-equal, same_place-self}
-use Rattle.cell_addr.specs.Place.{covers}
-use Rattle.cell_addr.specs.declared.place.Block.{Block}
 use Rattle.cell_addr.specs.declared.place.Place.{Place}
-use Rattle.formula_tree.specs.Links.{links_in, same_link}
+use Rattle.formula_tree.specs.Links.{links_in}
+use Rattle.formula_tree.specs.Reference.{sheet_of}
 use Rattle.formula_tree.specs.Term.{Term}
-use Rattle.formula_tree.specs.declared.link.Link.TheVariants as links
 use Rattle.formula_tree.specs.declared.reference.Corner.{Corner}
 use Rattle.calc_terms.proofs.LinkedPlaces.{mentions-links}
 use Rattle.calc_terms.specs.Needs.{mentions}
 use Rattle.book_values.specs.Names.{Names}
 use Rattle.book_values.specs.Workbook as book
-use Rattle.book_values.specs.Workbook.{Workbook, tree_at}
+use Rattle.book_values.specs.Workbook.{Workbook, home_of, tree_at}
 use Rattle.dep_graph.specs.Needs.{Links}
 use Rattle.dep_graph.specs.Nodes.{has}
 use Rattle.dep_graph.specs.Users.{AreUsers, IsUserOf, is_over}
 use Rattle.dep_graph.specs.declared.node.Node.{Node}
-use Rattle.dep_graph.specs.declared.node.Node.TheVariants.{Cell, Name, Range}
-use Rattle.recalc_core.proofs.Bridge.{refers_block, refers_cell, way_to}
+use Rattle.dep_graph.specs.declared.node.Node.TheVariants.{Cell, Name, Range, Whole}
+use Rattle.recalc_core.proofs.Bridge.{HasWay, refers_block, refers_cell, refers_whole, way_to}
 use Rattle.recalc_core.specs.Links.{IsLinkOf}
 use Rattle.recalc_core.specs.Nodes.{node_at}
 use Rattle.kept_values.proofs.Following.{at_holds, at_tested, same_tests}
 use Rattle.kept_values.specs.Values.{is_link_at, passes}
 use Rattle.session_values.specs.Users.{AreUsersIn, mentions_at, mentions_from}
 
--- a formula that is linked to the cell, or to a range that covers it, mentions the place
+-- a formula that is linked to the cell, or to a range, whole or not, that covers it, mentions the place
 link_mentions : (words : List (List ℕ)) (names : Names) (sheet : ℕ) (t : Term Corner) (p : Place) (c : Node) → is_over p c ≡ true → IsLinkOf words names sheet t c → mentions t p ≡ true
 link_mentions words names sheet t p (Cell q) over link = subst (λ r. mentions t r ≡ true) (same_place-equal q p over) (refers_cell t q link)
 link_mentions words names sheet t p (Name scope word) over link = absurd (false≢true over)
 link_mentions words names sheet t p (Range block) over link = refers_block t block p over link
+link_mentions words names sheet t p (Whole w) over link = refers_whole t w p over link
 
 module _ (b : Workbook) (words : List (List ℕ)) (p : Place) where
   pub mentions_is : (a : Node) (x : book.Node) (t : Term Corner) → node_at words a ≡ Some x → tree_at b x ≡ Some t → mentions_at b words p a ≡ mentions t p
@@ -63,9 +61,12 @@ module _ (b : Workbook) (words : List (List ℕ)) (p : Place) where
           mentions_is a x t at is ∙ link_mentions words b.names _ t p c over of
 
       back : (a : Node) → (x : book.Node) × (t : Term Corner) × (node_at words a ≡ Some x) × (tree_at b x ≡ Some t) × (mentions t p ≡ true) → IsUserOf p graph_links a
-      back a (x, t, at, is, h) = ⊎_elim
-          (λ (cell : list_any (same_link (links.Cell p)) (links_in t) ≡ true). (Cell p, linked a (Cell p) ∙ at_tested b words a (Cell p) (x, t, at, is, cell), same_place-self p))
-          (λ (area : (block : Block) × (covers block p ≡ true) × (list_any (same_link (links.Area block)) (links_in t) ≡ true)).
-          let (block, covered, refers) = area in
-          (Range block, linked a (Range block) ∙ at_tested b words a (Range block) (x, t, at, is, refers), covered))
-          (way_to p (links_in t) (sym (mentions-links t p) ∙ h))
+      back a (x, t, at, is, h) = by (way_to p (links_in t) (sym (mentions-links t p) ∙ h))
+        where
+          user : (c : Node) → IsLinkOf words b.names (sheet_of (home_of x)) t c → is_over p c ≡ true → IsUserOf p graph_links a
+          user c link over = (c, linked a c ∙ at_tested b words a c (x, t, at, is, link), over)
+
+          by : HasWay p (links_in t) → IsUserOf p graph_links a
+          by (inl cell) = user (Cell p) cell (same_place-self p)
+          by (inr (inl (block, covered, area))) = user (Range block) area covered
+          by (inr (inr (w, covered, whole))) = user (Whole w) whole covered

@@ -28,7 +28,7 @@ use Rattle.book_values.specs.Workbook.{Workbook, home_of, tree_at}
 use Rattle.dep_graph.specs.Nodes.{has, same_node}
 use Rattle.dep_graph.specs.Users.{AreLinkedTo}
 use Rattle.dep_graph.specs.declared.node.Node.{Node}
-use Rattle.dep_graph.specs.declared.node.Node.TheVariants.{Cell, Name, Range}
+use Rattle.dep_graph.specs.declared.node.Node.TheVariants.{Cell, Name, Range, Whole}
 use Rattle.dep_graph.proofs.Places.{has-append_cases, has-append_left, has-append_right, has_first, has_one}
 use Rattle.kept_book.specs.Kept.{IsMore}
 use Rattle.kept_steps.specs.declared.session.Session.{Session}
@@ -156,6 +156,7 @@ module _ (b c : Workbook) (words more : List (List ℕ)) (customs : List (List �
           link_of : (m : Node) → node_at words m ≡ Some (book.name key) → list_any (λ word. is_found (found b.names word (sheet_of (home_of x))) key) (names_in t) ≡ true → IsLinkOf words b.names (sheet_of (home_of x)) t m
           link_of (Cell p) it used = absurd (cc)
           link_of (Range r) it used = absurd (none_some (book.name key) it)
+          link_of (Whole w) it used = absurd (none_some (book.name key) it)
           link_of (Name scope word) it used = (key, it, used)
 
 module _ (b c : Workbook) (words more : List (List ℕ)) (customs : List (List ℕ × Rule)) (today : ℤ) (key : Key) (n : Node) (v w : Values) (nodes : List Node)

@@ -4,7 +4,7 @@ use Rattle.custom_fn.specs.declared.rule.Rule.{Rule}
 use Rattle.shift_core.specs.declared.shift.Shift.{Shift}
 use Rattle.book_values.specs.Workbook.{Workbook}
 use Rattle.dep_graph.specs.declared.node.Node.{Node}
-use Rattle.dep_graph.specs.declared.node.Node.TheVariants.{Cell, Name, Range}
+use Rattle.dep_graph.specs.declared.node.Node.TheVariants.{Cell, Name, Range, Whole}
 use Rattle.kept_book.specs.Change.{Change}
 use Rattle.kept_book.specs.Kept.{IsMore}
 use Rattle.kept_steps.specs.Turned.{is_replaced}
@@ -51,3 +51,4 @@ abbrev pub is_replaced_cell : List Change → Node → Bool
 is_replaced_cell changes (Cell p) = is_replaced changes p
 is_replaced_cell changes (Name scope word) = false
 is_replaced_cell changes (Range b) = false
+is_replaced_cell changes (Whole w) = false

@@ -128,5 +128,6 @@ fn add_named(a: Node, sheet: u32, names: &mut Nodes) -> Result<(), AllocError>
             }
         }
         Node::Range(_) => Ok(()),
+        Node::Whole(_) => Ok(()),
     }
 }

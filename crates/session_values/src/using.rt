@@ -17,8 +17,8 @@ use kept_values::Values;
 use std::alloc::AllocError;
 
 impl SessionValues {
-    /// The cells and the names whose formulas mention the cell themselves, by a reference to it or a range that covers it: each once,
-    /// in any order. What was touched since it was last linked is linked anew, but nothing is worked out.
+    /// The cells and the names whose formulas mention the cell themselves, by a reference to it or a range, whole or not, that
+    /// covers it: each once, in any order. What was touched since it was last linked is linked anew, but nothing is worked out.
     ///
     /// For want of memory what is kept follows the session still. Costs the links of what was touched since it was last linked, by a
     /// call of this or a refresh, and what [`Values::users`](kept_values::Values::users) does; where nothing was kept, the links of

@@ -22,6 +22,7 @@ abbrev pub is_name_of : ℕ → Node → Bool
 is_name_of sheet (node.Cell p) = false
 is_name_of sheet (node.Name scope word) = scope == sheet
 is_name_of sheet (node.Range b) = false
+is_name_of sheet (node.Whole w) = false
 
 -- the nodes with one more, if it is such a name
 abbrev pub with_named : ℕ → Node → List Node → List Node
