@@ -16,7 +16,7 @@ use Rattle.book_engine.proofs.ListedLinks.{links_once}
 use Rattle.book_engine.proofs.parts.Parts.links_from.Goals as goal
 
 -- mentions as links, each once
-listed : Names → ℕ → List Mention → List Link
+abbrev listed : Names → ℕ → List Mention → List Link
 listed names sheet mentions = once same_link (filter_map (link_of names sheet) mentions)
 
 linked : (names : Names) (sheet : ℕ) (t : Option (Term Corner)) → listed names sheet (mentioned t) ≡ links_of names sheet t
