@@ -18,6 +18,7 @@ mutual
   is_proper-prop (tree.fault f) = Prim.hlevel logic.props
   is_proper-prop (tree.cell c) = Prim.hlevel logic.props
   is_proper-prop (tree.area c d) = Prim.hlevel logic.props
+  is_proper-prop (tree.whole axis c d) = Prim.hlevel logic.props
   is_proper-prop (tree.name w) = Prim.hlevel logic.props
   is_proper-prop (tree.prefix s t) = let h = is_proper-prop t in Prim.hlevel (h, logic.props)
   is_proper-prop (tree.percent t) = let h = is_proper-prop t in Prim.hlevel (h, logic.props)
