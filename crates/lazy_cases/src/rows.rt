@@ -48,10 +48,10 @@ const INSERT_FOURTH: Shift = Shift::InsertRows {
     count: 1,
 };
 
-// Column C deleted.
+// Column B deleted.
 const DELETE_COLUMN: Shift = Shift::DeleteCols {
     sheet: 0,
-    at: 2,
+    at: 1,
     count: 1,
 };
 
