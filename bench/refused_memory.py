@@ -40,6 +40,8 @@ CASES = (
                    "a change ends a cut, a copy pastes twice, a cut pastes once")),
     ("names", ("a dropped sheet returns with its names and values",)),
     ("batches", ("refusals inside a batch leave it open", "a batch of several kinds is undone and redone at once")),
+    ("wholes", ("a whole column through inserts, a lost column and undo", "a look-up in a whole column",
+                "whole rows, their texts and their cycles")),
     ("long", ("a batch of 4,097 inserts undone at once",)),
 )
 # The most allocations of a script that are refused.
