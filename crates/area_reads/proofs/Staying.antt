@@ -40,7 +40,7 @@ module _ {C X : Type 0} {G : Ghosts C} (customs : C → List (List ℕ × Rule))
 module _ {C : Type 0} {G : Ghosts C} (customs : C → List (List ℕ × Rule)) where
   -- no read is one, and is quiet
   pub no_read : (e : Engine C G) (n : ℕ) → AreOneRead customs e e n n
-  no_read e n = record { stays = λ d stands. stands; line = line_same e; least = omega arith; most = nothing e n }
+  no_read e n = record { stays = λ d stands. stands; line = line_same e; least = omega arith; most = nothing customs e n }
 
   pub quiet_none : (e : Engine C G) → AreQuiet customs e e
   quiet_none e = record { stays = λ d stands. stands; line = line_same e; values = values_same e }
@@ -49,12 +49,12 @@ module _ {C : Type 0} {G : Ghosts C} (customs : C → List (List ℕ × Rule)) w
   abbrev pub IsStill : Engine C G → Engine C G → ℕ → ℕ → Type 0
   IsStill first old start before = ((old ≡ first) × (before ≡ start)) ⊎ IsIdle old
 
-  works_on : (first old : Engine C G) (start before after : ℕ) → WorksOut first start before → IsStill first old start before → WorksOut old before after → WorksOut first start after
-  works_on first old start before after worked (inl (same, none)) works = subst (λ n. WorksOut first n after) none (subst (λ e. WorksOut e before after) same works)
-  works_on first old start before after worked (inr still) works = fewer first start before after worked (idle old before after still works)
+  works_on : (first old : Engine C G) (start before after : ℕ) → WorksOut customs first start before → IsStill first old start before → WorksOut customs old before after → WorksOut customs first start after
+  works_on first old start before after worked (inl (same, none)) works = subst (λ n. WorksOut customs first n after) none (subst (λ e. WorksOut customs e before after) same works)
+  works_on first old start before after worked (inr still) works = fewer customs first start before after worked (idle customs old before after still works)
 
   -- one more value
-  pub read_on : (first old new : Engine C G) (start before after : ℕ) → AreOneRead customs first old start before → IsStill first old start before → Stays customs old new → KeepsLine old new → before ≤ after → WorksOut old before after
+  pub read_on : (first old new : Engine C G) (start before after : ℕ) → AreOneRead customs first old start before → IsStill first old start before → Stays customs old new → KeepsLine old new → before ≤ after → WorksOut customs old before after
       → AreOneRead customs first new start after
   read_on first old new start before after read still stays line least most = record {
     stays = λ d stands. stays d (read.stays d stands);

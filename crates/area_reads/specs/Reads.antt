@@ -38,7 +38,7 @@ pub record AreOneRead {C : Type 0} {G : Ghosts C} (customs : C → List (List �
   pub stays : Stays customs old new
   pub line : KeepsLine old new
   pub least : before ≤ after
-  pub most : WorksOut old before after
+  pub most : WorksOut customs old before after
 
 -- reads that leave the session, the line and what is kept of values
 pub record AreQuiet {C : Type 0} {G : Ghosts C} (customs : C → List (List ℕ × Rule)) (old new : Engine C G) : Type 0 where

@@ -1,22 +1,22 @@
 -- What an engine keeps of its formulas and of values. Source: this project's own.
-use Rattle.std.specs.Prelude.{◌≡◌, ◌+◌, ◌-◌, ◌≤◌, ⊤, ℕ, Bool, true, List, Option, Some, None, option_map, Result, Ok, Err, IsTrue}
+use Rattle.std.specs.Prelude.{◌≡◌, ◌+◌, ◌-◌, ◌≤◌, ⊤, ℕ, ℤ, Bool, true, List, Option, Some, None, option_map, Result, Ok, Err, IsTrue}
 use Rattle.cell_addr.specs.Place.{covers}
 use Rattle.cell_addr.specs.declared.place.Block.{Block}
 use Rattle.cell_addr.specs.declared.place.Place.{Place}
 use Rattle.cell_addr.specs.declared.place.TheConstants.{COLS, ROWS}
 use Rattle.clip_board.specs.declared.clip.Clip.{Clip}
 use Rattle.clip_board.specs.declared.clip.Clip.TheVariants as clips
+use Rattle.custom_fn.specs.declared.rule.Rule.{Rule}
 use Rattle.formula_tree.specs.Term.{Term}
 use Rattle.formula_tree.specs.declared.reference.Corner.{Corner}
 use Rattle.formula_tree.specs.declared.reference.Home.{Home}
 use Rattle.formula_tree.specs.declared.reference.Ref.{Ref}
-use Rattle.calc_terms.specs.Cost.{cost}
 use Rattle.book_model.specs.Content.{tree_given}
 use Rattle.book_values.specs.Names.{key_of}
 use Rattle.book_values.specs.Workbook.{Workbook}
 use Rattle.dep_graph.specs.Nodes.{has}
 use Rattle.dep_graph.specs.declared.node.Node.{Node}
-use Rattle.recalc_core.specs.Steps.{bare}
+use Rattle.recalc_core.specs.Steps.{formula_cost}
 use Rattle.kept_book.specs.Change.{Change}
 use Rattle.kept_book.specs.Frame.{Line}
 use Rattle.kept_book.specs.Ids.{KeepsBelow}
@@ -145,24 +145,25 @@ MarksCellsAtMost places old new = AreTouchedAtMost places (values_kept old) (val
 
 -- a read of a value: only what is marked, or what its needs lead to, is worked out, each at most once; where nothing is kept, each place
 -- and each name at most once
-abbrev pub WorksOutIn : Parts → ℕ → ℕ → Type 0
-WorksOutIn p old new = TakesStepsIn (book_of p.session) (words_in p.session) p.values.values old new
+abbrev pub WorksOutIn : List (List ℕ × Rule) → ℤ → Parts → ℕ → ℕ → Type 0
+WorksOutIn customs today p old new = TakesStepsIn (book_of p.session) (words_in p.session) customs today p.values.values old new
 
 -- what a formula costs that is tried on a sheet, if there is one
-abbrev pub tried_cost : Workbook → ℕ → Option (Term Corner) → ℕ
-tried_cost b sheet (Some t) = cost (bare b.names) sheet t
-tried_cost b sheet None = 0
+abbrev pub tried_cost : Workbook → List (List ℕ × Rule) → ℤ → ℕ → Option (Term Corner) → ℕ
+tried_cost b customs today sheet (Some t) = formula_cost b customs today sheet t
+tried_cost b customs today sheet None = 0
 
 -- a formula that is tried: as a read of a value, and then what the formula costs
-abbrev pub TriesOutIn : Parts → ℕ → List ℕ → ℕ → ℕ → Type 0
-TriesOutIn p sheet text old new = (middle : ℕ) × WorksOutIn p old middle × (new ≤ middle + tried_cost (book_of p.session) sheet (tree_given (state_of p).book.sheets sheet text))
+abbrev pub TriesOutIn : List (List ℕ × Rule) → ℤ → Parts → ℕ → List ℕ → ℕ → ℕ → Type 0
+TriesOutIn customs today p sheet text old new =
+    (middle : ℕ) × WorksOutIn customs today p old middle × (new ≤ middle + tried_cost (book_of p.session) customs today sheet (tree_given (state_of p).book.sheets sheet text))
 
 -- and so in an engine
-abbrev pub WorksOut : {C : Type 0} {G : Ghosts C} → Engine C G → ℕ → ℕ → Type 0
-WorksOut e = WorksOutIn e.parts
+abbrev pub WorksOut : {C : Type 0} {G : Ghosts C} → (C → List (List ℕ × Rule)) → Engine C G → ℕ → ℕ → Type 0
+WorksOut customs e = WorksOutIn (customs e.customs) e.day e.parts
 
-abbrev pub TriesOut : {C : Type 0} {G : Ghosts C} → Engine C G → ℕ → List ℕ → ℕ → ℕ → Type 0
-TriesOut e = TriesOutIn e.parts
+abbrev pub TriesOut : {C : Type 0} {G : Ghosts C} → (C → List (List ℕ × Rule)) → Engine C G → ℕ → List ℕ → ℕ → ℕ → Type 0
+TriesOut customs e = TriesOutIn (customs e.customs) e.day e.parts
 
 -- a structural operation is done, and what is kept goes along with it. Each mark comes from one from before, or from a node that the operation bends, that
 -- asks where a reference is, or that it may touch: a cell of a block that it moves or of where that goes, or a name of a dropped sheet

@@ -513,7 +513,7 @@ impl<C: Customs> Engine<C> {
         ensures line { KeepsLine self.old self.new }
         ensures unmarked { OnOk result (IsUnmarked (values_kept self.new)) }
         ensures least { steps.old ≤ steps.new }
-        ensures most { WorksOut self.old steps.old steps.new }
+        ensures most { WorksOut C.customs self.old steps.old steps.new }
     {
         self.parts.value(at, &self.customs, self.day, steps)
     }
@@ -533,7 +533,7 @@ impl<C: Customs> Engine<C> {
         ensures line { KeepsLine self.old self.new }
         ensures unmarked { OnOk result (IsUnmarked (values_kept self.new)) }
         ensures least { steps.old ≤ steps.new }
-        ensures most { WorksOut self.old steps.old steps.new }
+        ensures most { WorksOut C.customs self.old steps.old steps.new }
     {
         self.parts
             .name_value(name, sheet, &self.customs, self.day, steps)
@@ -554,7 +554,7 @@ impl<C: Customs> Engine<C> {
         ensures line { KeepsLine self.old self.new }
         ensures unmarked { OnOk result (IsUnmarked (values_kept self.new)) }
         ensures least { steps.old ≤ steps.new }
-        ensures most { TriesOut self.old sheet text.now steps.old steps.new }
+        ensures most { TriesOut C.customs self.old sheet text.now steps.old steps.new }
     {
         self.parts
             .try_formula(sheet, text, &self.customs, self.day, steps)

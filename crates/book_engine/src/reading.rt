@@ -48,7 +48,7 @@ impl Parts {
         ensures follow { ValuesFollow (C.customs customs.now) day self.new }
         ensures unmarked { OnOk result (IsUnmarked self.new.values.values) }
         ensures least { steps.old ≤ steps.new }
-        ensures most { WorksOutIn self.old steps.old steps.new }
+        ensures most { WorksOutIn (C.customs customs.now) day self.old steps.old steps.new }
     {
         self.check_value(at)?;
         self.refresh(customs, day, steps)?;
@@ -73,7 +73,7 @@ impl Parts {
         ensures follow { ValuesFollow (C.customs customs.now) day self.new }
         ensures unmarked { OnOk result (IsUnmarked self.new.values.values) }
         ensures least { steps.old ≤ steps.new }
-        ensures most { WorksOutIn self.old steps.old steps.new }
+        ensures most { WorksOutIn (C.customs customs.now) day self.old steps.old steps.new }
     {
         self.check_name_value(name, sheet)?;
         self.refresh(customs, day, steps)?;
@@ -99,7 +99,7 @@ impl Parts {
         ensures follow { ValuesFollow (C.customs customs.now) day self.new }
         ensures unmarked { OnOk result (IsUnmarked self.new.values.values) }
         ensures least { steps.old ≤ steps.new }
-        ensures most { TriesOutIn self.old sheet text.now steps.old steps.new }
+        ensures most { TriesOutIn (C.customs customs.now) day self.old sheet text.now steps.old steps.new }
     {
         self.check_on_sheet(sheet)?;
         let home = Home::Cell(first_cell(sheet));
@@ -126,7 +126,7 @@ impl Parts {
         ensures follow { ValuesFollow (C.customs customs.now) day self.new }
         ensures unmarked { OnOk result (IsUnmarked self.new.values.values) }
         ensures least { steps.old ≤ steps.new }
-        ensures most { WorksOutIn self.old steps.old steps.new }
+        ensures most { WorksOutIn (C.customs customs.now) day self.old steps.old steps.new }
     {
         let Parts { session, values } = self;
         values.refresh(session, customs, day, steps)

@@ -103,8 +103,8 @@ next_summary w args i a h e =
     ∙ ap summary_of (sym (flat_map_more listed [] (map (argument_cells w) (take i args)) (argument_cells w a)))
     ∙ summary_of-append (flat_map listed (map (argument_cells w) (take i args))) (listed (argument_cells w a))
 
-pub next_sizes : (args : List Argument) (i : ℕ) (a : Argument) → i < length args → a ≡ get_or args i a → sizes (drop i args) ≡ argument_size a + sizes (drop (i + 1) args)
-next_sizes args i a h e = ap sizes (drop-item args i a h e) ∙ sum_by-append argument_size (a ∷ []) (drop (i + 1) args) ∙ ap (λ n. n + sizes (drop (i + 1) args)) (omega arith)
+pub next_sizes : (w : World) (args : List Argument) (i : ℕ) (a : Argument) → i < length args → a ≡ get_or args i a → sizes w (drop i args) ≡ argument_size w a + sizes w (drop (i + 1) args)
+next_sizes w args i a h e = ap (sizes w) (drop-item args i a h e) ∙ sum_by-append (argument_size w) (a ∷ []) (drop (i + 1) args) ∙ ap (λ n. n + sizes w (drop (i + 1) args)) (omega arith)
 
 -- one argument's summary
 pub cell_summary : (w : World) (p : Place) (x : Scalar) (s : Summary) → s ≡ alone x → x ≡ w.shown p → s ≡ summary_of (reference_cells w (reference.Cell p)).values

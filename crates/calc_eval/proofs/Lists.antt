@@ -1,5 +1,5 @@
 -- The arguments of a call, one after another. Serves the walk.
-use Rattle.std.proofs.Common.{◌≡◌, ◌∙◌, sym, ap, refl, arith, ℕ, zero, suc, ◌+◌, ◌<◌, List, [], ◌∷◌, ◌++◌, map, length, get_or, drop, Option, Some, None, option_map, append_assoc, Global}
+use Rattle.std.proofs.Common.{◌≡◌, ◌∙◌, sym, ap, refl, arith, ℕ, zero, suc, ◌+◌, ◌<◌, true, false, List, [], ◌∷◌, ◌++◌, map, length, get_or, drop, Option, Some, None, option_map, append_assoc, Global}
 use Rattle.std.specs.Prelude.{slice_get}
 use Rattle.std.specs.declared.rc.Rc.{Rc}
 use Rattle.std.proofs.lemmas.List.Sums.{sum_by-append}
@@ -13,7 +13,7 @@ use Rattle.formula_tree.specs.declared.reference.Corner.{Corner}
 use Rattle.formula_tree.specs.declared.reference.Home.{Home}
 use Rattle.formula_tree.proofs.Once.{drop-item}
 use Rattle.formula_tree.proofs.RelativeNodes.{relatives, relative_list-trees}
-use Rattle.calc_terms.specs.Cost.{cost, cost_all}
+use Rattle.calc_terms.specs.Cost.{asked_cost, cost, cost_all}
 use Rattle.calc_terms.specs.Meaning.{evaluated, meaning}
 use Rattle.calc_terms.specs.References.{argument_of, argument_size, reference_of}
 use Rattle.calc_terms.specs.World.{World}
@@ -72,8 +72,12 @@ module _ (w : World) (customs : List (List ℕ × Rule)) (home : Home) where
       ∙ so_far
 
   pub next_cost : (items : List (Rc Node Global)) (i : ℕ) (item : Rc Node Global) → i < length items → item ≡ get_or items i item
-      → cost_all w (sheet_of home) (all_at home (drop i items)) ≡ cost w (sheet_of home) (term_at home item.value) + cost_all w (sheet_of home) (all_at home (drop (i + 1) items))
-  next_cost items i item h e = ap (λ xs. cost_all w (sheet_of home) (all_at home xs)) (drop-item items i item h e)
+      → cost_all w (sheet_of home) false (all_at home (drop i items)) ≡ cost w (sheet_of home) (term_at home item.value) + cost_all w (sheet_of home) false (all_at home (drop (i + 1) items))
+  next_cost items i item h e = ap (λ xs. cost_all w (sheet_of home) false (all_at home xs)) (drop-item items i item h e)
 
-pub sizes-push : (args : List Argument) (made : Argument) → sizes (args ++ made ∷ []) ≡ sizes args + argument_size made
-sizes-push args made = sum_by-append argument_size args (made ∷ []) ∙ ap (λ n. sizes args + n) (omega arith)
+  pub next_asked : (items : List (Rc Node Global)) (i : ℕ) (item : Rc Node Global) → i < length items → item ≡ get_or items i item
+      → cost_all w (sheet_of home) true (all_at home (drop i items)) ≡ asked_cost w (sheet_of home) true (term_at home item.value) + cost_all w (sheet_of home) true (all_at home (drop (i + 1) items))
+  next_asked items i item h e = ap (λ xs. cost_all w (sheet_of home) true (all_at home xs)) (drop-item items i item h e)
+
+pub sizes-push : (w : World) (args : List Argument) (made : Argument) → sizes w (args ++ made ∷ []) ≡ sizes w args + argument_size w made
+sizes-push w args made = sum_by-append (argument_size w) args (made ∷ []) ∙ ap (λ n. sizes w args + n) (omega arith)

@@ -73,7 +73,7 @@ pub(crate) fn data_value<V: View, L: Ledger>(
     ensures means { IfOk result (λ value. value ≡ calls.data_value f (V.world view.old).today (data_arguments (V.world view.old) (takes_block f) 0 args.now)) }
     ensures leaves { V.world view.new ≡ V.world view.old }
     ensures least { steps.old ≤ steps.new }
-    ensures most { steps.new ≤ steps.old + sizes args.now }
+    ensures most { steps.new ≤ steps.old + sizes (V.world view.old) args.now }
 {
     match f {
         DataFn::Math(f) if f.is_of_summary() => summary_value(alloc, f, args, view, steps),
@@ -96,7 +96,7 @@ fn summary_value<V: View, L: Ledger>(
     ensures means { IfOk result (λ value. value ≡ math_value f (map (argument_cells (V.world view.old)) args.now)) }
     ensures leaves { V.world view.new ≡ V.world view.old }
     ensures least { steps.old ≤ steps.new }
-    ensures most { steps.new ≤ steps.old + sizes args.now }
+    ensures most { steps.new ≤ steps.old + sizes (V.world view.old) args.now }
 {
     if args.is_empty() {
         return Ok(Scalar::Fault(FaultKind::Na));
@@ -115,7 +115,7 @@ fn list_summary<V: View, L: Ledger>(
     ensures means { IfOk result (λ summary. summary ≡ summary_of (flat_map listed (map (argument_cells (V.world view.old)) args.now))) }
     ensures leaves { V.world view.new ≡ V.world view.old }
     ensures least { steps.old ≤ steps.new }
-    ensures most { steps.new ≤ steps.old + sizes args.now }
+    ensures most { steps.new ≤ steps.old + sizes (V.world view.old) args.now }
 {
     let mut total = Summary::new();
     'arguments: for argument in args {
@@ -136,7 +136,7 @@ fn argument_summary<V: View, L: Ledger>(
     ensures bounded { IfOk result IsBounded }
     ensures leaves { V.world view.new ≡ V.world view.old }
     ensures least { steps.old ≤ steps.new }
-    ensures most { steps.new ≤ steps.old + argument_size argument.now }
+    ensures most { steps.new ≤ steps.old + argument_size (V.world view.old) argument.now }
 {
     match argument {
         Argument::Reference(reference) => reference_summary(alloc, *reference, view, steps),
@@ -155,7 +155,7 @@ fn reference_summary<V: View, L: Ledger>(
     ensures bounded { IfOk result IsBounded }
     ensures leaves { V.world view.new ≡ V.world view.old }
     ensures least { steps.old ≤ steps.new }
-    ensures most { steps.new ≤ steps.old + block_size (Some reference) }
+    ensures most { steps.new ≤ steps.old + block_size (V.world view.old) (Some reference) }
 {
     match reference {
         Reference::Cell(at) => Ok(Summary::of(view.scalar(at))),

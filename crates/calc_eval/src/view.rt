@@ -2,7 +2,7 @@
 ghost use Rattle.std.specs.Prelude.{◌≡◌, ◌+◌, ◌≤◌, ℕ, IfOk, true};
 ghost use Rattle.std.specs.Option.{option_map};
 ghost use Rattle.cell_value.specs.Summary.{IsBounded, summary_of};
-ghost use Rattle.calc_terms.specs.Cells.{cells_in, fits, size_of};
+ghost use Rattle.calc_terms.specs.Cells.{cells_in, filled_in, fits};
 ghost use Rattle.calc_terms.specs.World.{World};
 ghost use Rattle.calc_eval.specs.Named.{named_by};
 
@@ -38,7 +38,7 @@ pub trait View {
         requires { fits block ≡ true }
         ensures { IfOk result (λ area. area ≡ cells_in (world self.now).shown block) };
 
-    /// What the numbers of such a block's cells come to, in at most one step for each cell.
+    /// What the numbers of such a block's cells come to, in at most one step for each cell that isn't empty.
     fn summary<L: Ledger>(
         &mut self,
         alloc: Global,
@@ -50,7 +50,7 @@ pub trait View {
         ensures bounded { IfOk result IsBounded }
         ensures leaves { world self.new ≡ world self.old }
         ensures least { steps.old ≤ steps.new }
-        ensures most { steps.new ≤ steps.old + size_of block };
+        ensures most { steps.new ≤ steps.old + filled_in (world self.old).shown block };
 
     /// The named expression that the word finds on the sheet, in any case of its letters; `None` where it
     /// finds none.

@@ -1,12 +1,13 @@
 // The meaning of trees, by a walk over the shared tree.
-ghost use Rattle.std.specs.Prelude.{◌≡◌, ◌+◌, ◌<◌, ◌≤◌, IfOk, map, None, slice_get};
+ghost use Rattle.std.specs.Prelude.{◌≡◌, ◌+◌, ◌<◌, ◌≤◌, IfOk, false, map, None, slice_get, true};
 ghost use Rattle.custom_fn.specs.Registry.{custom_named};
+ghost use Rattle.formula_tree.specs.Links.{is_place_word};
 ghost use Rattle.formula_tree.specs.Reference.{base_of, sheet_of};
 ghost use Rattle.formula_tree.specs.Relative.{relative};
 ghost use Rattle.formula_tree.specs.StandsFor.{at_home};
 ghost use Rattle.calc_terms.specs.Calls.{call_value, custom_call};
 ghost use Rattle.calc_terms.specs.Choices.{choice_value};
-ghost use Rattle.calc_terms.specs.Cost.{cost, cost_all};
+ghost use Rattle.calc_terms.specs.Cost.{asked_cost, cost, cost_all};
 ghost use Rattle.calc_terms.specs.Meaning.{evaluated, meaning};
 ghost use Rattle.calc_terms.specs.References.{argument_of, argument_size, argument_value};
 ghost use Rattle.calc_terms.specs.References as references;
@@ -103,7 +104,7 @@ fn call<V: View, C: Customs, L: Ledger>(
     ensures means { IfOk result (λ value. value ≡ call_value (V.world view.old) (base_of home) (function_named word.now) (custom_named word.now (C.customs customs.now)) (evaluated (V.world view.old) (C.customs customs.now) home (terms_at home list.now))) }
     ensures leaves { V.world view.new ≡ V.world view.old }
     ensures least { steps.old ≤ steps.new }
-    ensures most { steps.new ≤ steps.old + cost_all (V.world view.old) (sheet_of home) (terms_at home list.now) }
+    ensures most { steps.new ≤ steps.old + cost_all (V.world view.old) (sheet_of home) (is_place_word word.now) (terms_at home list.now) }
 {
     match Function::named(word) {
         Some(Function::Choice(f)) => choice(alloc, f, list, home, view, customs, steps),
@@ -133,7 +134,7 @@ fn custom_call<V: View, C: Customs, L: Ledger>(
     ensures means { IfOk result (λ value. value ≡ custom_call (V.world view.old) (custom_named word.now (C.customs customs.now)) (evaluated (V.world view.old) (C.customs customs.now) home (terms_at home list.now))) }
     ensures leaves { V.world view.new ≡ V.world view.old }
     ensures least { steps.old ≤ steps.new }
-    ensures most { steps.new ≤ steps.old + cost_all (V.world view.old) (sheet_of home) (terms_at home list.now) }
+    ensures most { steps.new ≤ steps.old + cost_all (V.world view.old) (sheet_of home) false (terms_at home list.now) }
 {
     if !customs.has(word) {
         return Ok(Scalar::Fault(FaultKind::Name));
@@ -156,7 +157,7 @@ fn choice<V: View, C: Customs, L: Ledger>(
     ensures means { IfOk result (λ value. value ≡ choice_value f (map (argument_value (V.world view.old)) (evaluated (V.world view.old) (C.customs customs.now) home (terms_at home list.now)))) }
     ensures leaves { V.world view.new ≡ V.world view.old }
     ensures least { steps.old ≤ steps.new }
-    ensures most { steps.new ≤ steps.old + cost_all (V.world view.old) (sheet_of home) (terms_at home list.now) }
+    ensures most { steps.new ≤ steps.old + cost_all (V.world view.old) (sheet_of home) false (terms_at home list.now) }
 {
     let Some(first) = argument_at(alloc, list, 0, home, view, customs, steps)? else {
         return Ok(Scalar::Fault(FaultKind::Na));
@@ -208,8 +209,9 @@ fn arguments<V: View, C: Customs, L: Ledger>(
     ensures means { IfOk result (λ args. args.items ≡ evaluated (V.world view.old) (C.customs customs.now) home (terms_at home list.now)) }
     ensures leaves { V.world view.new ≡ V.world view.old }
     ensures least { steps.old ≤ steps.new }
-    ensures most { steps.new ≤ steps.old + cost_all (V.world view.old) (sheet_of home) (terms_at home list.now) }
-    ensures room { IfOk result (λ args. steps.new + sizes args.items ≤ steps.old + cost_all (V.world view.old) (sheet_of home) (terms_at home list.now)) }
+    ensures most { steps.new ≤ steps.old + cost_all (V.world view.old) (sheet_of home) false (terms_at home list.now) }
+    ensures asked { steps.new ≤ steps.old + cost_all (V.world view.old) (sheet_of home) true (terms_at home list.now) }
+    ensures room { IfOk result (λ args. steps.new + sizes (V.world view.old) args.items ≤ steps.old + cost_all (V.world view.old) (sheet_of home) false (terms_at home list.now)) }
 {
     let mut args = Vec::new(alloc);
     'trees: for tree in list.items() {
@@ -232,7 +234,8 @@ fn argument<V: View, C: Customs, L: Ledger>(
     ensures leaves { V.world view.new ≡ V.world view.old }
     ensures least { steps.old ≤ steps.new }
     ensures most { steps.new ≤ steps.old + cost (V.world view.old) (sheet_of home) (term_at home tree.now) }
-    ensures room { IfOk result (λ found. steps.new + argument_size found ≤ steps.old + cost (V.world view.old) (sheet_of home) (term_at home tree.now)) }
+    ensures asked { steps.new ≤ steps.old + asked_cost (V.world view.old) (sheet_of home) true (term_at home tree.now) }
+    ensures room { IfOk result (λ found. steps.new + argument_size (V.world view.old) found ≤ steps.old + cost (V.world view.old) (sheet_of home) (term_at home tree.now)) }
 {
     match reference_of(view, tree, home) {
         Some(reference) => Ok(Argument::Reference(reference)),

@@ -1,4 +1,4 @@
--- A tree means the same wherever all that it needs is the same. Serves the law.
+-- A tree means the same, and takes as many steps at most, wherever all that it needs is the same. Serves the laws.
 use Rattle.std.proofs.Common.{◌≡◌, ◌∙◌, sym, ap, ap₂, refl, ℕ, ◌+◌, map, Bool, true, false, not, cond, ◌&&◌, ◌||◌, List, [], ◌∷◌, ◌++◌, Option, Some, None, ⊎_elim}
 use Rattle.std.specs.Prelude.{⊤, codes, bytes_eq}
 use Rattle.std.specs.List.{list_any}
@@ -22,7 +22,8 @@ use Rattle.operators.specs.Operators.{combined, hundredth, signed_value}
 use Rattle.calc_terms.specs.Calls.{call_value, custom_value, data_value}
 use Rattle.calc_terms.specs.Cells.{fits}
 use Rattle.calc_terms.specs.Choices.{choice_value}
-use Rattle.calc_terms.specs.Laws.{NameAlike, ReadsNeeds, ShowAlike}
+use Rattle.calc_terms.specs.Cost.{block_size, cost, cost_all}
+use Rattle.calc_terms.specs.Laws.{CostsRestOnNeeds, NameAlike, ReadsNeeds, ShowAlike}
 use Rattle.calc_terms.specs.Meaning.{evaluated, meaning, value_named}
 use Rattle.calc_terms.specs.Needs.{mentions, mentions_any}
 use Rattle.calc_terms.specs.References.{argument_cells, argument_of, argument_value, data_arguments, full_block, own_reference, reference_named, reference_of}
@@ -36,10 +37,10 @@ use Rattle.calc_terms.specs.declared.function.PlaceFn.{PlaceFn}
 use Rattle.calc_terms.specs.declared.function.PlaceFn.TheVariants.{Row, Column, Rows, Columns}
 use Rattle.calc_terms.specs.declared.reference.Reference.{Reference}
 use Rattle.calc_terms.specs.declared.reference.Reference.TheVariants as reference
-use Rattle.calc_terms.proofs.CellsAlike.{cells_alike}
+use Rattle.calc_terms.proofs.CellsAlike.{cells_alike, filled_alike}
 
 -- the word of a function that asks where a reference is names one
-place_words : (word : List ℕ) → is_place_word word ≡ true → (f : PlaceFn) × (function_named word ≡ Some (function.Place f))
+pub place_words : (word : List ℕ) → is_place_word word ≡ true → (f : PlaceFn) × (function_named word ≡ Some (function.Place f))
 unfolding function_named
 place_words word h = ⊎_elim
     (λ first. ⊎_elim
@@ -59,10 +60,7 @@ skip_none : (skip m : Bool) → (not (skip && false) && m) ≡ m
 skip_none true m = refl
 skip_none false m = refl
 
-module _ (v w : World) (customs : List (List ℕ × Rule)) (home : Home) (today : v.today ≡ w.today) where
-  abbrev sheet : ℕ
-  sheet = sheet_of home
-
+module _ (v w : World) (sheet : ℕ) where
   -- the names of a list are alike in both worlds
   abbrev NamesAlike : List (List ℕ) → Type 0
   NamesAlike names = (word : List ℕ) → list_any (bytes_eq word) names ≡ true → NameAlike v w (v.named word sheet) (w.named word sheet)
@@ -149,12 +147,55 @@ module _ (v w : World) (customs : List (List ℕ × Rule)) (home : Home) (today 
   reference_same (call word ts) names = refl
   reference_same (paren t) names = refl
 
+  -- as many cells of its block aren't empty
+  block_same : (r : Option Reference) → CellsAlike r → block_size v r ≡ block_size w r
+  block_same (Some (reference.Cell p)) alike = refl
+  block_same (Some (reference.Area b)) alike = filled_alike v.shown w.shown b alike
+  block_same None alike = refl
+
+  size_same : (t : Term Corner) → ShowAlike v w t → NamesAlike (names_in t) → block_size v (reference_of v sheet t) ≡ block_size w (reference_of w sheet t)
+  size_same t shown names = block_same (reference_of v sheet t) (reference_alike t shown names) ∙ ap (block_size w) (reference_same t names)
+
+  one_unless : (asks : Bool) (m n : ℕ) → (asks ≡ false → m ≡ n) → cond asks 1 m ≡ cond asks 1 n
+  one_unless true m n same = refl
+  one_unless false m n same = same refl
+
+  mutual
+    costs : (t : Term Corner) → ShowAlike v w t → NamesAlike (names_in t) → cost v sheet t ≡ cost w sheet t
+    costs (number m) shown names = refl
+    costs (text s) shown names = refl
+    costs (truth b) shown names = refl
+    costs (fault k) shown names = refl
+    costs (cell c) shown names = refl
+    costs (area c d) shown names = ap (λ n. n + 1) (size_same (area c d) shown names)
+    costs (whole axis c d) shown names = ap (λ n. n + 1) (size_same (whole axis c d) shown names)
+    costs (name word) shown names = ap (λ n. n + 1) (size_same (name word) shown names)
+    costs (prefix s t) shown names = ap (λ n. n + 1) (costs t shown names)
+    costs (percent t) shown names = ap (λ n. n + 1) (costs t shown names)
+    costs (binary o l r) shown names = ap₂ (λ m n. m + n + 1)
+        (costs l (λ p h. shown p (or_left (mentions l p) (mentions r p) h)) (names_left (names_in l) (names_in r) names))
+        (costs r (λ p h. shown p (or_right (mentions l p) (mentions r p) h)) (names_right (names_in l) (names_in r) names))
+    costs (call word ts) shown names = ap (λ n. n + 1) (costs_all (is_place_word word) ts shown names)
+    costs (paren t) shown names = ap (λ n. n + 1) (costs t shown names)
+
+    costs_all : (skip : Bool) (ts : Terms Corner) → ((p : Place) → mentions_any skip ts p ≡ true → v.shown p ≡ w.shown p) → NamesAlike (names_in_all ts)
+        → cost_all v sheet skip ts ≡ cost_all w sheet skip ts
+    costs_all skip no_terms shown names = refl
+    costs_all skip (term t ts) shown names = ap₂ (λ m n. m + n)
+        (one_unless (skip && is_reference t) (cost v sheet t) (cost w sheet t)
+        (λ read. costs t (λ p h. shown p (or_left (not (skip && is_reference t) && mentions t p) (mentions_any skip ts p) (ap (λ b. not b && mentions t p) read ∙ h))) (names_left (names_in t) (names_in_all ts) names)))
+        (costs_all skip ts (λ p h. shown p (or_right (not (skip && is_reference t) && mentions t p) (mentions_any skip ts p) h)) (names_right (names_in t) (names_in_all ts) names))
+
+module _ (v w : World) (customs : List (List ℕ × Rule)) (home : Home) (today : v.today ≡ w.today) where
+  abbrev sheet : ℕ
+  sheet = sheet_of home
+
   -- the cells of an argument are alike in both worlds
   abbrev ArgumentAlike : Argument → Type 0
-  ArgumentAlike (argument.Reference r) = CellsAlike (Some r)
+  ArgumentAlike (argument.Reference r) = CellsAlike v w sheet (Some r)
   ArgumentAlike (argument.Value x) = ⊤
 
-  argument_alike : (r : Option Reference) (x : Scalar) → CellsAlike r → ArgumentAlike (argument_of r x)
+  argument_alike : (r : Option Reference) (x : Scalar) → CellsAlike v w sheet r → ArgumentAlike (argument_of r x)
   argument_alike (Some (reference.Cell p)) x alike = alike
   argument_alike (Some (reference.Area b)) x alike = alike
   argument_alike None x alike = tt
@@ -220,16 +261,16 @@ module _ (v w : World) (customs : List (List ℕ × Rule)) (home : Home) (today 
       ∙ sym (ap (λ g. call_value w (base_of home) g (custom_named word customs) args) f.1)
 
   -- the cells that no place function asks for are alike
-  all_alike : (ts : Terms Corner) → ((p : Place) → mentions_any false ts p ≡ true → v.shown p ≡ w.shown p) → NamesAlike (names_in_all ts) → AllAlike (evaluated v customs home ts)
+  all_alike : (ts : Terms Corner) → ((p : Place) → mentions_any false ts p ≡ true → v.shown p ≡ w.shown p) → NamesAlike v w sheet (names_in_all ts) → AllAlike (evaluated v customs home ts)
   all_alike no_terms shown names = tt
   all_alike (term t ts) shown names = (
     argument_alike (reference_of v sheet t) (meaning v customs home t)
-        (reference_alike t (λ p h. shown p (or_left (mentions t p) (mentions_any false ts p) h)) (names_left (names_in t) (names_in_all ts) names)),
-    all_alike ts (λ p h. shown p (or_right (mentions t p) (mentions_any false ts p) h)) (names_right (names_in t) (names_in_all ts) names),
+        (reference_alike v w sheet t (λ p h. shown p (or_left (mentions t p) (mentions_any false ts p) h)) (names_left v w sheet (names_in t) (names_in_all ts) names)),
+    all_alike ts (λ p h. shown p (or_right (mentions t p) (mentions_any false ts p) h)) (names_right v w sheet (names_in t) (names_in_all ts) names),
   )
 
   mutual
-    reads : (t : Term Corner) → ShowAlike v w t → NamesAlike (names_in t) → meaning v customs home t ≡ meaning w customs home t
+    reads : (t : Term Corner) → ShowAlike v w t → NamesAlike v w sheet (names_in t) → meaning v customs home t ≡ meaning w customs home t
     reads (number m) shown names = refl
     reads (text s) shown names = refl
     reads (truth b) shown names = refl
@@ -237,12 +278,12 @@ module _ (v w : World) (customs : List (List ℕ × Rule)) (home : Home) (today 
     reads (cell c) shown names = shown c.at (same_place-self c.at)
     reads (area c d) shown names = refl
     reads (whole axis c d) shown names = refl
-    reads (name word) shown names = value_same (v.named word sheet) (w.named word sheet) (name_itself word names)
+    reads (name word) shown names = value_same v w sheet (v.named word sheet) (w.named word sheet) (name_itself v w sheet word names)
     reads (prefix s t) shown names = ap (signed_value s) (reads t shown names)
     reads (percent t) shown names = ap hundredth (reads t shown names)
     reads (binary o l r) shown names = ap₂ (combined o)
-        (reads l (λ p h. shown p (or_left (mentions l p) (mentions r p) h)) (names_left (names_in l) (names_in r) names))
-        (reads r (λ p h. shown p (or_right (mentions l p) (mentions r p) h)) (names_right (names_in l) (names_in r) names))
+        (reads l (λ p h. shown p (or_left (mentions l p) (mentions r p) h)) (names_left v w sheet (names_in l) (names_in r) names))
+        (reads r (λ p h. shown p (or_right (mentions l p) (mentions r p) h)) (names_right v w sheet (names_in l) (names_in r) names))
     reads (paren t) shown names = reads t shown names
     reads (call word ts) shown names =
         ⊎_elim
@@ -252,21 +293,25 @@ module _ (v w : World) (customs : List (List ℕ × Rule)) (home : Home) (today 
         (cases_Bool (is_place_word word))
         ∙ ap (call_value w (base_of home) (function_named word) (custom_named word customs)) (evaluated_reads (is_place_word word) ts shown names)
 
-    evaluated_reads : (skip : Bool) (ts : Terms Corner) → ((p : Place) → mentions_any skip ts p ≡ true → v.shown p ≡ w.shown p) → NamesAlike (names_in_all ts)
+    evaluated_reads : (skip : Bool) (ts : Terms Corner) → ((p : Place) → mentions_any skip ts p ≡ true → v.shown p ≡ w.shown p) → NamesAlike v w sheet (names_in_all ts)
         → evaluated v customs home ts ≡ evaluated w customs home ts
     evaluated_reads skip no_terms shown names = refl
     evaluated_reads skip (term t ts) shown names =
-        let mine = names_left (names_in t) (names_in_all ts) names in
+        let mine = names_left v w sheet (names_in t) (names_in_all ts) names in
         ap₂ (λ x xs. x ∷ xs)
         (⊎_elim
         (λ (is : is_reference t ≡ true). reference_itself t is)
         (λ (isnt : is_reference t ≡ false).
         let here : ShowAlike v w t = λ p h. shown p (or_left (not (skip && is_reference t) && mentions t p) (mentions_any skip ts p)
         (ap (λ b. not (skip && b) && mentions t p) isnt ∙ skip_none skip (mentions t p) ∙ h)) in
-        ap₂ argument_of (reference_same t mine) (reads t here mine))
+        ap₂ argument_of (reference_same v w sheet t mine) (reads t here mine))
         (cases_Bool (is_reference t)))
-        (evaluated_reads skip ts (λ p h. shown p (or_right (not (skip && is_reference t) && mentions t p) (mentions_any skip ts p) h)) (names_right (names_in t) (names_in_all ts) names))
+        (evaluated_reads skip ts (λ p h. shown p (or_right (not (skip && is_reference t) && mentions t p) (mentions_any skip ts p) h)) (names_right v w sheet (names_in t) (names_in_all ts) names))
 
 -- a tree means the same wherever all that it needs is the same
 pub reads_needs : ReadsNeeds
 reads_needs v w customs home t alike = reads v w customs home alike.today t alike.shown alike.named
+
+-- and takes as many steps at most
+pub costs_rest_on_needs : CostsRestOnNeeds
+costs_rest_on_needs v w sheet t alike = costs v w sheet t alike.shown alike.named

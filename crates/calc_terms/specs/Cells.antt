@@ -1,9 +1,10 @@
 -- The cells of a block. Source: this project's own.
-use Rattle.std.specs.Prelude.{ℕ, suc, ◌-◌, ◌*◌, Bool, ◌&&◌, nat_le, nat_lt, List, map}
-use Rattle.std.specs.List.{flat_map, range_with_len}
+use Rattle.std.specs.Prelude.{ℕ, suc, ◌-◌, ◌*◌, Bool, not, ◌&&◌, nat_le, nat_lt, List, length, map}
+use Rattle.std.specs.List.{filter, flat_map, range_with_len}
 use Rattle.cell_addr.specs.declared.place.Place.{Place}
 use Rattle.cell_addr.specs.declared.place.Block.{Block}
 use Rattle.cell_addr.specs.declared.place.TheConstants.{ROWS, COLS}
+use Rattle.cell_value.specs.Scalar.{is_empty}
 use Rattle.cell_value.specs.declared.scalar.Scalar.{Scalar}
 use Rattle.cell_value.specs.Cells.{Cells}
 
@@ -27,6 +28,10 @@ row_values shown b row = map (λ col. shown (record { sheet = b.sheet; row = row
 
 abbrev pub block_values : (Place → Scalar) → Block → List Scalar
 block_values shown b = flat_map (row_values shown b) (range_with_len b.top (height b))
+
+-- how many cells of a block aren't empty where each place shows the given value
+unfoldable pub filled_in : (Place → Scalar) → Block → ℕ
+filled_in shown b = length (filter (λ value. not (is_empty value)) (block_values shown b))
 
 -- the cells of a block where each place shows the given value
 unfoldable pub cells_in : (Place → Scalar) → Block → Cells

@@ -1,4 +1,4 @@
--- What holds of the meaning of formulas. Source: this project's own.
+-- What holds of the meaning of formulas and of its cost. Source: this project's own.
 use Rattle.std.specs.Prelude.{◌≡◌, ℕ, ⊤, Bool, true, false, List, Option, Some, None}
 use Rattle.std.specs.List.{list_any}
 use Rattle.cell_addr.specs.declared.place.Place.{Place}
@@ -12,6 +12,7 @@ use Rattle.formula_tree.specs.declared.link.Link.{Link}
 use Rattle.formula_tree.specs.declared.link.Link.TheVariants as links
 use Rattle.formula_tree.specs.declared.reference.Corner.{Corner}
 use Rattle.formula_tree.specs.declared.reference.Home.{Home}
+use Rattle.calc_terms.specs.Cost.{cost}
 use Rattle.calc_terms.specs.Meaning.{meaning}
 use Rattle.calc_terms.specs.Needs.{mentions, mentions_name}
 use Rattle.calc_terms.specs.World.{Named, World}
@@ -37,6 +38,10 @@ pub record AreAlike (v w : World) (sheet : ℕ) (t : Term Corner) : Type 0 where
 -- a tree means the same wherever all that it needs is the same
 abbrev pub ReadsNeeds : Type 0
 ReadsNeeds = (v w : World) (customs : List (List ℕ × Rule)) (home : Home) (t : Term Corner) → AreAlike v w (sheet_of home) t → meaning v customs home t ≡ meaning w customs home t
+
+-- and takes as many steps at most
+abbrev pub CostsRestOnNeeds : Type 0
+CostsRestOnNeeds = (v w : World) (sheet : ℕ) (t : Term Corner) → AreAlike v w sheet t → cost v sheet t ≡ cost w sheet t
 
 -- a link is to the place, or to a block or whole range that covers it; a name is no place
 abbrev pub is_link_to : Place → Link → Bool

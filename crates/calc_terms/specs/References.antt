@@ -16,7 +16,7 @@ use Rattle.formula_tree.specs.Reference.{block_of}
 use Rattle.formula_tree.specs.Term.{Term, cell, area, whole, name}
 use Rattle.formula_tree.specs.Whole.{whole_between}
 use Rattle.formula_tree.specs.declared.reference.Corner.{Corner}
-use Rattle.calc_terms.specs.Cells.{cells_in, fits, size_of}
+use Rattle.calc_terms.specs.Cells.{cells_in, filled_in, fits}
 use Rattle.calc_terms.specs.World.{Named, World}
 use Rattle.calc_terms.specs.declared.argument.Argument.{Argument}
 use Rattle.calc_terms.specs.declared.argument.Argument.TheVariants as argument
@@ -79,10 +79,10 @@ argument_block (argument.Reference r) = Ok (reference_block r)
 argument_block (argument.Value (Fault fault)) = Err fault
 argument_block (argument.Value x) = Err Value
 
--- how many cells of blocks must be read for it: a single cell is no block
-abbrev pub argument_size : Argument → ℕ
-argument_size (argument.Reference (reference.Area b)) = size_of b
-argument_size _ = 0
+-- how many cells of a block aren't empty that it stands for: a single cell is no block
+abbrev pub argument_size : World → Argument → ℕ
+argument_size w (argument.Reference (reference.Area b)) = filled_in w.shown b
+argument_size w _ = 0
 
 -- the arguments as a function takes them: which of them are lists or blocks, by their places from this one on
 abbrev pub data_arguments : World → (ℕ → Bool) → ℕ → List Argument → List Arg

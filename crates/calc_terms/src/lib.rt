@@ -3,7 +3,7 @@
 //!
 //! The meaning of a tree is a definition of the specs, `meaning`, over a `World`: what each place shows, what
 //! names stand for, and the day. What a tree needs, `mentions` and `mentions_name`, is defined beside it, and
-//! a law says that a tree means the same wherever all that it needs is the same.
+//! laws say that a tree means the same, and takes as many steps at most, wherever all that it needs is the same.
 //!
 //! A call's arguments become data before its function sees them. A [`Function`] of data ([`DataFn`]) takes
 //! values and blocks; one that chooses ([`ChoiceFn`]) takes values, and only the chosen one counts; one that

@@ -116,5 +116,6 @@ module _ (b : Workbook) (words : List (List ℕ)) where
       let (y, there) = known m marked in
       (m, y, marked, there, inr ((chains_agree b words links [] (pos 0) a m x y exact at there).0 chain))
 
-  pub steps_taken : (links : Links) (marks : List Node) (old new : ℕ) → AreLinksOf b words links → AreKnown words marks → plain.TakesSteps b words links marks old new → TakesSteps b words marks old new
-  steps_taken links marks old new exact known (nodes, once, each, most) = (nodes, once, λ a x h at. reaches links marks a x exact known (each a h) at, most)
+  pub steps_taken : (customs : List (List ℕ × Rule)) (today : ℤ) (links : Links) (marks : List Node) (old new : ℕ) → AreLinksOf b words links → AreKnown words marks → plain.TakesSteps b words customs today links marks old new
+      → TakesSteps b words customs today marks old new
+  steps_taken customs today links marks old new exact known (nodes, once, each, most) = (nodes, once, λ a x h at. reaches links marks a x exact known (each a h) at, most)

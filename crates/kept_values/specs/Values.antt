@@ -122,7 +122,7 @@ pub record AreMarked (nodes old new : List Node) : Type 0 where
 
 -- only places and names that are marked, or whose needs lead to a marked one, were worked out, each at most once, within the
 -- sum of what their formulas cost
-abbrev pub TakesSteps : Workbook → List (List ℕ) → List Node → ℕ → ℕ → Type 0
-TakesSteps b words marks old new =
+abbrev pub TakesSteps : Workbook → List (List ℕ) → List (List ℕ × Rule) → ℤ → List Node → ℕ → ℕ → Type 0
+TakesSteps b words customs today marks old new =
     (nodes : List Node) × IsOnce nodes × ((a : Node) (x : book.Node) → IsTrue (has a nodes) → node_at words a ≡ Some x → ReachesMark b words marks x)
-    × (new ≤ old + sum_by (node_cost b words) nodes)
+    × (new ≤ old + sum_by (node_cost b words customs today) nodes)

@@ -3,12 +3,11 @@ ghost use Rattle.std.specs.Prelude.{◌≡◌, ◌+◌, ◌≤◌, [], IfOk, OnE
 ghost use Rattle.formula_tree.specs.Reference.{sheet_of};
 ghost use Rattle.formula_tree.specs.Relative.{relative};
 ghost use Rattle.formula_tree.specs.StandsFor.{at_home};
-ghost use Rattle.calc_terms.specs.Cost.{cost};
 ghost use Rattle.calc_terms.specs.Meaning.{meaning};
 ghost use Rattle.book_values.specs.Values.{value_of, world_of};
 ghost use Rattle.recalc_core.specs.Kept.{AreRight};
 ghost use Rattle.recalc_core.specs.Nodes.{AreNumbered};
-ghost use Rattle.recalc_core.specs.Steps.{bare};
+ghost use Rattle.recalc_core.specs.Steps.{formula_cost};
 ghost use Rattle.marked_values.specs.Marks.{IsBookInside};
 
 use crate::values::Values;
@@ -44,7 +43,7 @@ impl Values {
         ensures marks { OnErr result (marks_in self.new ≡ marks_in self.old) }
         ensures follows { Follows (T.workbook trees.old) (T.words trees.old) (C.customs customs.now) day self.new }
         ensures least { steps.old ≤ steps.new }
-        ensures most { TakesSteps (T.workbook trees.old) (T.words trees.old) (marks_in self.old) steps.old steps.new }
+        ensures most { TakesSteps (T.workbook trees.old) (T.words trees.old) (C.customs customs.now) day (marks_in self.old) steps.old steps.new }
         ensures leaves { T.workbook trees.new ≡ T.workbook trees.old }
         ensures words { T.words trees.new ≡ T.words trees.old }
         ensures reads { T.leaves trees.old trees.new }
@@ -75,7 +74,7 @@ impl Values {
         ensures marks { marks_in self.new ≡ marks_in self.old }
         ensures unlinked { unlinked_in self.new ≡ unlinked_in self.old }
         ensures least { steps.old ≤ steps.new }
-        ensures most { steps.new ≤ steps.old + cost (bare (T.workbook trees.old).names) (sheet_of home) (at_home home (relative tree.now.value)) }
+        ensures most { steps.new ≤ steps.old + formula_cost (T.workbook trees.old) (C.customs customs.now) day (sheet_of home) (at_home home (relative tree.now.value)) }
         ensures leaves { T.workbook trees.new ≡ T.workbook trees.old }
         ensures words { T.words trees.new ≡ T.words trees.old }
         ensures reads { T.leaves trees.old trees.new }

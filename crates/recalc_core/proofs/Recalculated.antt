@@ -88,12 +88,12 @@ module _ (b : Workbook) (words : List (List ℕ)) (customs : List (List ℕ × R
           by true e = shows (node_at words a) refl e
           by false e = within a e ∙ fit a (λ reach. false≢true (sym e ∙ (reached.0 a).1 reach)) plain
 
-  pub steps_taken : (old new : ℕ) → new ≤ old + sum_by (node_cost b words) order → TakesSteps b words links marks old new
+  pub steps_taken : (old new : ℕ) → new ≤ old + sum_by (node_cost b words customs today) order → TakesSteps b words customs today links marks old new
   steps_taken old new most = (order, ordered.once, λ a h. (reached.0 a).0 ((ordered.which a).0 h).0, most)
 
 -- none were taken
-pub no_steps : (b : Workbook) (words : List (List ℕ)) (links : Links) (marks : List Node) (old : ℕ) → TakesSteps b words links marks old old
-no_steps b words links marks old = ([], λ i j d less low. omega (arith, low), λ a h. absurd (false≢true h), omega arith)
+pub no_steps : (b : Workbook) (words : List (List ℕ)) (customs : List (List ℕ × Rule)) (today : ℤ) (links : Links) (marks : List Node) (old : ℕ) → TakesSteps b words customs today links marks old old
+no_steps b words customs today links marks old = ([], λ i j d less low. omega (arith, low), λ a h. absurd (false≢true h), omega arith)
 
 pub on_err : {X E : Type 0} (r : Result X E) (P : Type 0) → P → OnErr r P
 on_err (Ok x) P p = tt

@@ -6,6 +6,7 @@ use Rattle.std.proofs.lemmas.List.{take_all}
 use Rattle.std.proofs.lemmas.List.Folds.{list_any_at, list_any_more}
 use Rattle.cell_value.specs.declared.scalar.Scalar.{Scalar}
 use Rattle.custom_fn.specs.declared.rule.Rule.{Rule}
+use Rattle.formula_tree.specs.Reference.{sheet_of}
 use Rattle.formula_tree.specs.Relative.{relative}
 use Rattle.formula_tree.specs.StandsFor.{at_home}
 use Rattle.formula_tree.specs.declared.node.Node as term
@@ -20,11 +21,12 @@ use Rattle.dep_graph.specs.internal.Hashed.{own_node, same_nodes}
 use Rattle.recalc_core.specs.Given.{HasGivenAt, IsGiven}
 use Rattle.recalc_core.specs.Kept.{AreRight, IsRight, Kept, expected_at}
 use Rattle.recalc_core.specs.Nodes.{node_at}
+use Rattle.recalc_core.specs.Steps.{cost_of, node_cost, tree_cost}
 use Rattle.recalc_core.specs.declared.trees.Given.{Given}
 use Rattle.recalc_core.specs.declared.trees.Given.TheVariants as given
 use Rattle.recalc_core.specs.internal.KeptTables.{IsPut}
-use Rattle.recalc_core.specs.internal.UnderWay.{AreCycles, DifferWithin, DiffersAt, IsMeaning, IsPlan, IsReady, IsUnderWay, ShowsCycle}
-use Rattle.recalc_core.proofs.Worked.{meaning_expected, nothing_expected, value_expected}
+use Rattle.recalc_core.specs.internal.UnderWay.{AreCycles, DifferWithin, DiffersAt, IsMeaning, IsPlan, IsReady, IsUnderWay, IsWithinCost, ShowsCycle}
+use Rattle.recalc_core.proofs.Worked.{meaning_expected, nothing_expected, ready_within, value_expected}
 
 on_ok : {P Q : Type 0} (r : Result (Unit {0}) AllocError) → (P → Q) → OnOk r P → OnOk r Q
 on_ok (Ok u) as_good h = as_good h
@@ -68,6 +70,21 @@ module _ (b : Workbook) (words : List (List ℕ)) (customs : List (List ℕ × R
       → IsGiven b words a has_it → has_it ≡ given.Formula tree home → IsMeaning b words customs today kept home (at_home home (relative tree.value)) s → OnOk r (IsPut a (Some s) old new) → OnOk r (Right new a)
   formula_right a tree home s has_it kept old new r ready here is means put =
       on_ok r (λ p. put_right a (Some s) old new p (given_formula a tree home s kept (node_at words a) ready refl (subst (IsGiven b words a) is here) means)) put
+
+  -- and took no more than the node costs
+  given_within : (a : Node) (tree : Rc term.Node Global) (home : Home) (kept : Kept) (old new : ℕ) (o : Option book.Node) → IsReady b words customs today kept a → node_at words a ≡ o → HasGivenAt b o (given.Formula tree home)
+      → IsWithinCost b words today kept home (at_home home (relative tree.value)) old new → new ≤ old + cost_of b customs today o
+  given_within a tree home kept old new (Some x) ready at (same, tree_is) most =
+      subst (λ o. new ≤ old + tree_cost b customs today (sheet_of (home_of x)) o) (sym tree_is)
+      (ready_within b customs today words kept a x (at_home home (relative tree.value)) old new ready at tree_is (subst (λ h. IsWithinCost b words today kept h (at_home home (relative tree.value)) old new) same most))
+  given_within a tree home kept old new None ready at has_it most = absurd (apart has_it)
+    where
+      apart : given.Formula tree home ≡ given.Nothing → ⊥
+      apart e = cc
+
+  pub formula_within : (a : Node) (tree : Rc term.Node Global) (home : Home) (has_it : Given) (kept : Kept) (old new : ℕ) → IsReady b words customs today kept a → IsGiven b words a has_it → has_it ≡ given.Formula tree home
+      → IsWithinCost b words today kept home (at_home home (relative tree.value)) old new → new ≤ old + node_cost b words customs today a
+  formula_within a tree home has_it kept old new ready here is most = given_within a tree home kept old new (node_at words a) ready refl (subst (IsGiven b words a) is here) most
 
   -- ---- the loop over the order
 

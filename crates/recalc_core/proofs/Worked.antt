@@ -1,13 +1,12 @@
 -- What a node shows: nothing where it doesn't stand, a value without a tree, the cycle's, or what its formula means over
 -- kept values that are right of all that its needs lead to. Serves what works nodes out.
-use Rattle.std.proofs.Common.{◌≡◌, ◌∙◌, sym, ap, ap₂, refl, subst, ℕ, ℤ, ◌+◌, Bool, true, false, cond, List, [], ◌∷◌, ◌++◌, Option, Some, None, is_some, option_map, option_and_then, ◌⊎◌, inl, inr, ⊎_elim}
+use Rattle.std.proofs.Common.{◌≡◌, ◌∙◌, sym, ap, refl, subst, arith, ℕ, ℤ, ◌+◌, ◌≤◌, Bool, true, false, cond, List, [], ◌∷◌, Option, Some, None, is_some, option_map, option_and_then, ◌⊎◌, inl, inr, ⊎_elim}
 use Rattle.std.specs.FinMap as map
 use Rattle.std.specs.List.{All, find, list_any}
 use Rattle.std.specs.Cmp.Lexicographic.{bytes_decides}
 use Rattle.std.specs.Prelude.{bytes_eq, unwrap_or}
-use Rattle.std.proofs.lemmas.Bool.{cases_Bool, false≢true, or_cases, or_left, or_right}
+use Rattle.std.proofs.lemmas.Bool.{cases_Bool, false≢true, or_cases}
 use Rattle.std.proofs.lemmas.List.Elements.{All-head, All-tail}
-use Rattle.std.proofs.lemmas.List.Folds.{list_any-append}
 use Rattle.cell_addr.specs.Sheets.{same_name}
 use Rattle.cell_addr.specs.Text.{folded}
 use Rattle.cell_addr.specs.declared.place.Place.{Place}
@@ -16,21 +15,19 @@ use Rattle.cell_value.specs.declared.scalar.Scalar.{Scalar}
 use Rattle.cell_value.specs.declared.scalar.Scalar.TheVariants as scalar
 use Rattle.cell_value.specs.declared.scalar.Scalar.TheVariants.{Empty}
 use Rattle.custom_fn.specs.declared.rule.Rule.{Rule}
-use Rattle.formula_tree.specs.Links.{names_in, names_in_all}
+use Rattle.formula_tree.specs.Links.{names_in}
 use Rattle.formula_tree.specs.Reference.{sheet_of}
 use Rattle.formula_tree.specs.Relative.{relative}
 use Rattle.formula_tree.specs.StandsFor.{at_home}
-use Rattle.formula_tree.specs.Term.{Term, number, text, truth, cell, area, name, prefix, percent, binary, call, paren, Terms, no_terms, term}
-use Rattle.formula_tree.specs.Term as tree
+use Rattle.formula_tree.specs.Term.{Term}
 use Rattle.formula_tree.specs.declared.reference.Corner.{Corner}
 use Rattle.formula_tree.specs.declared.reference.Home.{Home}
 use Rattle.value_network.specs.Network.{LeadsTo, Network, after, at_once, cyclic}
-use Rattle.calc_terms.proofs.Reading.{reads_needs}
-use Rattle.calc_terms.specs.Cost.{block_size, cost, cost_all}
-use Rattle.calc_terms.specs.Laws.{NameAlike, ShowAlike}
+use Rattle.calc_terms.proofs.Reading.{costs_rest_on_needs, reads_needs}
+use Rattle.calc_terms.specs.Cost.{cost}
+use Rattle.calc_terms.specs.Laws.{AreAlike, NameAlike, ShowAlike}
 use Rattle.calc_terms.specs.Meaning.{meaning}
 use Rattle.calc_terms.specs.Needs.{mentions_name}
-use Rattle.calc_terms.specs.References.{reference_named}
 use Rattle.calc_terms.specs.World.{World}
 use Rattle.book_cells.specs.Workbook.{Content}
 use Rattle.book_cells.specs.Workbook as content
@@ -46,13 +43,13 @@ use Rattle.dep_graph.specs.declared.node.Node.TheVariants.{Cell, Name, Range, Wh
 use Rattle.recalc_core.specs.Given.{HasGiven}
 use Rattle.recalc_core.specs.Kept.{AreRight, IsRight, Kept, expected, expected_at, stands}
 use Rattle.recalc_core.specs.Nodes.{node_at}
-use Rattle.recalc_core.specs.Steps.{bare}
+use Rattle.recalc_core.specs.Steps.{formula_cost}
 use Rattle.recalc_core.specs.declared.names.ReadName.{ReadName}
 use Rattle.recalc_core.specs.declared.trees.Given.TheVariants as given
 use Rattle.recalc_core.specs.declared.kept.KeptValues.{KeptValues}
 use Rattle.recalc_core.specs.internal.KeptValues.{kept_by}
 use Rattle.recalc_core.specs.internal.Seen.{AreRead, IsRead, named_by, shown_at, shown_of, world_in}
-use Rattle.recalc_core.specs.internal.UnderWay.{IsMeaning, IsReady}
+use Rattle.recalc_core.specs.internal.UnderWay.{IsMeaning, IsReady, IsWithinCost}
 use Rattle.recalc_core.proofs.Bridge.{any_as, none_some, same_some}
 use Rattle.recalc_core.proofs.ReadNames.{found_alike}
 
@@ -104,53 +101,6 @@ module _ (b : Workbook) (words : List (List ℕ)) (sheet : ℕ) (asked : List (L
 
 word_asked : (t : Term Corner) (word : List ℕ) → mentions_name t word ≡ true → list_any (same_name word) (names_in t) ≡ true
 word_asked t word h = any_as (bytes_eq word) (same_name word) (names_in t) (λ other same. (bytes_decides (folded word) (folded other)).1 (ap folded ((bytes_decides word other).0 same))) h
-
--- ---- costs rest on the trees of names
-
-module _ (v w : World) (sheet : ℕ) where
-  abbrev TreesAlike : List (List ℕ) → Type 0
-  TreesAlike names = (word : List ℕ) → list_any (bytes_eq word) names ≡ true → reference_named (v.named word sheet) ≡ reference_named (w.named word sheet)
-
-  trees_left : (xs ys : List (List ℕ)) → TreesAlike (xs ++ ys) → TreesAlike xs
-  trees_left xs ys names word h = names word (list_any-append (bytes_eq word) xs ys ∙ or_left (list_any (bytes_eq word) xs) (list_any (bytes_eq word) ys) h)
-
-  trees_right : (xs ys : List (List ℕ)) → TreesAlike (xs ++ ys) → TreesAlike ys
-  trees_right xs ys names word h = names word (list_any-append (bytes_eq word) xs ys ∙ or_right (list_any (bytes_eq word) xs) (list_any (bytes_eq word) ys) h)
-
-  mutual
-    costs_alike : (t : Term Corner) → TreesAlike (names_in t) → cost v sheet t ≡ cost w sheet t
-    costs_alike (number m) names = refl
-    costs_alike (text s) names = refl
-    costs_alike (truth b) names = refl
-    costs_alike (tree.fault k) names = refl
-    costs_alike (cell c) names = refl
-    costs_alike (area c d) names = refl
-    costs_alike (tree.whole axis c d) names = refl
-    costs_alike (name word) names = ap (λ r. block_size r + 1) (names word (or_left (bytes_eq word word) false ((bytes_decides word word).1 refl)))
-    costs_alike (prefix s t) names = ap (λ n. n + 1) (costs_alike t names)
-    costs_alike (percent t) names = ap (λ n. n + 1) (costs_alike t names)
-    costs_alike (binary o l r) names =
-        ap₂ (λ m n. m + n + 1) (costs_alike l (trees_left (names_in l) (names_in r) names)) (costs_alike r (trees_right (names_in l) (names_in r) names))
-    costs_alike (call word ts) names = ap (λ n. n + 1) (all_costs_alike ts names)
-    costs_alike (paren t) names = ap (λ n. n + 1) (costs_alike t names)
-
-    all_costs_alike : (ts : Terms Corner) → TreesAlike (names_in_all ts) → cost_all v sheet ts ≡ cost_all w sheet ts
-    all_costs_alike no_terms names = refl
-    all_costs_alike (term t ts) names =
-        ap₂ (λ m n. m + n) (costs_alike t (trees_left (names_in t) (names_in_all ts) names)) (all_costs_alike ts (trees_right (names_in t) (names_in_all ts) names))
-
--- over kept values a formula costs what it does over bare names
-pub cost_is : (b : Workbook) (words : List (List ℕ)) (sheet : ℕ) (t : Term Corner) (names : List ReadName) (kept : Kept) (today : ℤ) → AreRead b words sheet (names_in t) names
-    → cost (world_in kept names today) sheet t ≡ cost (bare b.names) sheet t
-cost_is b words sheet t names kept today read =
-    costs_alike (world_in kept names today) (bare b.names) sheet t (λ word h. by word (finds b words sheet (names_in t) names read word (word_asked t word h)))
-  where
-    by : (word : List ℕ) → Finds b words sheet (names_in t) names read word → reference_named ((world_in kept names today).named word sheet) ≡ reference_named ((bare b.names).named word sheet)
-    by word (inl (none, no_name)) = ap (λ o. reference_named (option_map (named_by kept) o)) no_name ∙ sym (ap (λ o. reference_named (option_and_then (named_as b.names (λ _. Empty)) o)) none)
-    by word (inr (key, other, is, here, at, tree)) =
-        ap (λ o. reference_named (option_map (named_by kept) o)) here
-        ∙ sym (ap (λ o. reference_named (option_and_then (named_as b.names (λ _. Empty)) o)) is
-        ∙ ap (λ o. reference_named (option_map (λ u. record { value = Empty; tree = u }) o)) tree)
 
 -- ---- values of single nodes
 
@@ -278,13 +228,19 @@ module _ (b : Workbook) (customs : List (List ℕ × Rule)) (today : ℤ) where
                 (twice (book.name key) (book.place p) mentioned (ap (λ o. tree_needs b.names (sheet_of (home_of (book.name key))) o (book.place p)) tree ∙ m)) refl),
           )))
 
-      -- it means over kept values what it means in the workbook
-      pub means_alike : meaning (world_in kept names today) customs home t ≡ meaning world customs home t
-      means_alike = reads_needs (world_in kept names today) world customs home t (record {
+      alike : AreAlike (world_in kept names today) world (sheet_of home) t
+      alike = record {
         today = refl;
         shown = shown_alike;
         named = λ word h. named_alike word h (finds b words (sheet_of home) (names_in t) names read word (word_asked t word h));
-      })
+      }
+
+      -- it means over kept values what it means in the workbook, and costs as much
+      pub means_alike : meaning (world_in kept names today) customs home t ≡ meaning world customs home t
+      means_alike = reads_needs (world_in kept names today) world customs home t alike
+
+      pub costs_alike : cost (world_in kept names today) (sheet_of home) t ≡ cost world (sheet_of home) t
+      costs_alike = costs_rest_on_needs (world_in kept names today) world (sheet_of home) t alike
 
     need : (x : book.Node) (t : Term Corner) (z : book.Node) → tree_at b x ≡ Some t → mentions_node b.names (sheet_of (home_of x)) t z ≡ true → needs b x z ≡ true
     need x t z is h = ap (λ o. tree_needs b.names (sheet_of (home_of x)) o z) is ∙ h
@@ -297,9 +253,25 @@ module _ (b : Workbook) (customs : List (List ℕ × Rule)) (today : ℤ) where
         let same = means_alike (home_of x) t (λ z. LeadsTo net x z) (λ z h. at_once (need x t z is h)) (λ y z h more. after (need x t y is h) (at_once more)) right names read in
         formula_expected x t is good ∙ ap Some (sym same ∙ sym shows)
 
-    -- any formula means over values that are all right what it means in the workbook
+    -- so is what it costs
+    pub ready_within : (a : Node) (x : book.Node) (t : Term Corner) (old new : ℕ) → IsReady b words customs today kept a → node_at words a ≡ Some x → tree_at b x ≡ Some t
+        → IsWithinCost b words today kept (home_of x) t old new → new ≤ old + formula_cost b customs today (sheet_of (home_of x)) t
+    ready_within a x t old new ready at is (inl none) = omega (arith, none)
+    ready_within a x t old new ready at is (inr (names, read, most)) =
+        let (good, right) = ready x at in
+        let same = costs_alike (home_of x) t (λ z. LeadsTo net x z) (λ z h. at_once (need x t z is h)) (λ y z h more. after (need x t y is h) (at_once more)) right names read in
+        omega (arith, most, same)
+
+    -- any formula means over values that are all right what it means in the workbook, and costs as much
     pub meaning_right : (home : Home) (t : Term Corner) (s : Scalar) → AreRight b words customs today kept → IsMeaning b words customs today kept home t s → s ≡ meaning world customs home t
     meaning_right home t s right (names, read, shows) = shows ∙ means_alike home t (λ z. Unit {0}) (λ z h. tt) (λ y z h more. tt) (λ z c reads at. right c) names read
+
+    pub right_within : (home : Home) (t : Term Corner) (old new : ℕ) → AreRight b words customs today kept → IsWithinCost b words today kept home t old new
+        → new ≤ old + formula_cost b customs today (sheet_of home) t
+    right_within home t old new right (inl none) = omega (arith, none)
+    right_within home t old new right (inr (names, read, most)) =
+        let same = costs_alike home t (λ z. Unit {0}) (λ z h. tt) (λ y z h more. tt) (λ z c reads at. right c) names read in
+        omega (arith, most, same)
 
 -- one view's world, by equal values
 pub same_world : (one two : KeptValues) (names : List ReadName) (today : ℤ) → one ≡ two → world_in (kept_by one) names today ≡ world_in (kept_by two) names today

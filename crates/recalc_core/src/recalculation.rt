@@ -43,7 +43,7 @@ impl Recalc {
         ensures fit { OnErr result (IsFit (T.workbook trees.old) (T.words trees.old) (C.customs customs.now) day (links_of graph.now) (marks_in self.new) (kept_in self.new)) }
         ensures others { (a : Node) → ¬ Reaches (links_of graph.now) (marks_in self.old) a → kept_in self.new a ≡ kept_in self.old a }
         ensures least { steps.old ≤ steps.new }
-        ensures most { TakesSteps (T.workbook trees.old) (T.words trees.old) (links_of graph.now) (marks_in self.old) steps.old steps.new }
+        ensures most { TakesSteps (T.workbook trees.old) (T.words trees.old) (C.customs customs.now) day (links_of graph.now) (marks_in self.old) steps.old steps.new }
         ensures leaves { T.workbook trees.new ≡ T.workbook trees.old }
         ensures words { T.words trees.new ≡ T.words trees.old }
         ensures reads { T.leaves trees.old trees.new }

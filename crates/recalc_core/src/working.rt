@@ -4,13 +4,12 @@ ghost use Rattle.std.specs.List.{sum_by};
 ghost use Rattle.formula_tree.specs.Reference.{sheet_of};
 ghost use Rattle.formula_tree.specs.Relative.{relative};
 ghost use Rattle.formula_tree.specs.StandsFor.{at_home};
-ghost use Rattle.calc_terms.specs.Cost.{cost};
 ghost use Rattle.calc_terms.specs.Meaning.{meaning};
 ghost use Rattle.book_values.specs.Values.{value_of, world_of};
 ghost use Rattle.recalc_core.specs.Kept.{AreRight, IsRight};
 ghost use Rattle.recalc_core.specs.Recalc.{kept_in, marks_in};
-ghost use Rattle.recalc_core.specs.Steps.{bare, node_cost};
-ghost use Rattle.recalc_core.specs.internal.UnderWay.{DifferWithin, DiffersAt, IsMeaning, IsPlan, IsReady, IsUnderWay};
+ghost use Rattle.recalc_core.specs.Steps.{formula_cost, node_cost};
+ghost use Rattle.recalc_core.specs.internal.UnderWay.{DifferWithin, DiffersAt, IsMeaning, IsPlan, IsReady, IsUnderWay, IsWithinCost};
 
 use crate::names::read_names;
 use crate::recalc::Recalc;
@@ -41,7 +40,7 @@ impl Recalc {
         requires right { AreRight (T.workbook trees.old) (T.words trees.old) (C.customs customs.now) day (kept_in self.old) }
         ensures means { IfOk result (λ value. value ≡ meaning (world_of (T.workbook trees.old).names day (value_of (T.workbook trees.old) (C.customs customs.now) day)) (C.customs customs.now) home (at_home home (relative tree.now.value))) }
         ensures least { steps.old ≤ steps.new }
-        ensures most { steps.new ≤ steps.old + cost (bare (T.workbook trees.old).names) (sheet_of home) (at_home home (relative tree.now.value)) }
+        ensures most { steps.new ≤ steps.old + formula_cost (T.workbook trees.old) (C.customs customs.now) day (sheet_of home) (at_home home (relative tree.now.value)) }
         ensures kept { kept_in self.new ≡ kept_in self.old }
         ensures marks { marks_in self.new ≡ marks_in self.old }
         ensures leaves { T.workbook trees.new ≡ T.workbook trees.old }
@@ -63,7 +62,7 @@ impl Recalc {
     ) -> Result<Scalar, AllocError>
         ensures means { IfOk result (λ value. IsMeaning (T.workbook trees.old) (T.words trees.old) (C.customs customs.now) day (kept_in self.old) home (at_home home (relative tree.now.value)) value) }
         ensures least { steps.old ≤ steps.new }
-        ensures most { steps.new ≤ steps.old + cost (bare (T.workbook trees.old).names) (sheet_of home) (at_home home (relative tree.now.value)) }
+        ensures most { IsWithinCost (T.workbook trees.old) (T.words trees.old) day (kept_in self.old) home (at_home home (relative tree.now.value)) steps.old steps.new }
         ensures kept { kept_in self.new ≡ kept_in self.old }
         ensures marks { marks_in self.new ≡ marks_in self.old }
         ensures leaves { T.workbook trees.new ≡ T.workbook trees.old }
@@ -92,7 +91,7 @@ impl Recalc {
         ensures right { OnOk result (IsRight (T.workbook trees.old) (T.words trees.old) (C.customs customs.now) day (kept_in self.new) a) }
         ensures others { DiffersAt a (kept_in self.old) (kept_in self.new) }
         ensures least { steps.old ≤ steps.new }
-        ensures most { steps.new ≤ steps.old + node_cost (T.workbook trees.old) (T.words trees.old) a }
+        ensures most { steps.new ≤ steps.old + node_cost (T.workbook trees.old) (T.words trees.old) (C.customs customs.now) day a }
         ensures marks { marks_in self.new ≡ marks_in self.old }
         ensures leaves { T.workbook trees.new ≡ T.workbook trees.old }
         ensures words { T.words trees.new ≡ T.words trees.old }
@@ -122,7 +121,7 @@ impl Recalc {
         ensures right { OnOk result (AreRight (T.workbook trees.old) (T.words trees.old) (C.customs customs.now) day (kept_in self.new)) }
         ensures others { DifferWithin order.now (kept_in self.old) (kept_in self.new) }
         ensures least { steps.old ≤ steps.new }
-        ensures most { steps.new ≤ steps.old + sum_by (node_cost (T.workbook trees.old) (T.words trees.old)) order.now }
+        ensures most { steps.new ≤ steps.old + sum_by (node_cost (T.workbook trees.old) (T.words trees.old) (C.customs customs.now) day) order.now }
         ensures marks { marks_in self.new ≡ marks_in self.old }
         ensures leaves { T.workbook trees.new ≡ T.workbook trees.old }
         ensures words { T.words trees.new ≡ T.words trees.old }

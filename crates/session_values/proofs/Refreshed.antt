@@ -1,6 +1,7 @@
 -- What a refresh costs. Serves the refresh and those that call it.
-use Rattle.std.proofs.Common.{◌≡◌, subst, refl, arith, ⊎_elim, false, true, ℕ, List, [], ◌∷◌, Option, Some, None}
+use Rattle.std.proofs.Common.{◌≡◌, subst, refl, arith, ⊎_elim, false, true, ℕ, ℤ, List, [], ◌∷◌, Option, Some, None}
 use Rattle.std.proofs.lemmas.Bool.{false≢true}
+use Rattle.custom_fn.specs.declared.rule.Rule.{Rule}
 use Rattle.book_values.specs.Workbook.{Workbook}
 use Rattle.dep_graph.specs.Nodes.{has}
 use Rattle.dep_graph.specs.declared.node.Node.{Node}
@@ -11,13 +12,13 @@ use Rattle.session_values.specs.Refreshed.{IsUnmarked, TakesStepsIn}
 use Rattle.session_values.specs.Touched.{AreTouched}
 
 -- where nothing was kept, it doesn't matter what is worked out
-pub any_steps : (b : Workbook) (words : List (List ℕ)) (marks : List Node) (old new : ℕ) → TakesSteps b words marks old new → TakesStepsIn b words None old new
-any_steps b words marks old new (nodes, once, reach, within) = (nodes, once, within)
+pub any_steps : (b : Workbook) (words : List (List ℕ)) (customs : List (List ℕ × Rule)) (today : ℤ) (marks : List Node) (old new : ℕ) → TakesSteps b words customs today marks old new → TakesStepsIn b words customs today None old new
+any_steps b words customs today marks old new (nodes, once, reach, within) = (nodes, once, within)
 
 -- no step is a step of nothing
-pub no_steps : (b : Workbook) (words : List (List ℕ)) (values : Option Values) (n : ℕ) → TakesStepsIn b words values n n
-no_steps b words None n = ([], (λ i j d below inside. absurd (omega (arith, inside))), omega arith)
-no_steps b words (Some v) n = ([], (λ i j d below inside. absurd (omega (arith, inside))), (λ a x h is. absurd (false≢true h)), omega arith)
+pub no_steps : (b : Workbook) (words : List (List ℕ)) (customs : List (List ℕ × Rule)) (today : ℤ) (values : Option Values) (n : ℕ) → TakesStepsIn b words customs today values n n
+no_steps b words customs today None n = ([], (λ i j d below inside. absurd (omega (arith, inside))), omega arith)
+no_steps b words customs today (Some v) n = ([], (λ i j d below inside. absurd (omega (arith, inside))), (λ a x h is. absurd (false≢true h)), omega arith)
 
 -- a list that has no node is empty
 none_there : (nodes : List Node) → ((a : Node) → has a nodes ≡ true → ⊥) → nodes ≡ []

@@ -4,14 +4,13 @@ ghost use Rattle.custom_fn.specs.declared.rule.Rule.{Rule};
 ghost use Rattle.formula_tree.specs.Reference.{sheet_of};
 ghost use Rattle.formula_tree.specs.Relative.{relative};
 ghost use Rattle.formula_tree.specs.StandsFor.{at_home};
-ghost use Rattle.calc_terms.specs.Cost.{cost};
 ghost use Rattle.calc_terms.specs.Meaning.{meaning};
 ghost use Rattle.book_values.specs.Names.{Key, found, tree_in};
 ghost use Rattle.book_values.specs.Values.{value_of, world_of};
 ghost use Rattle.book_values.specs.Workbook as nodes;
 ghost use Rattle.marked_values.specs.Marks.{IsBookInside};
 ghost use Rattle.recalc_core.specs.Nodes.{node_at};
-ghost use Rattle.recalc_core.specs.Steps.{bare};
+ghost use Rattle.recalc_core.specs.Steps.{formula_cost};
 ghost use Rattle.kept_steps.specs.Reads.{Reads};
 ghost use Rattle.kept_steps.specs.declared.session.Session.{Session as SessionSeen};
 ghost use Rattle.kept_values.specs.Values.{Follows};
@@ -53,7 +52,7 @@ impl SessionValues {
         ensures follows { AreFollowing (C.customs customs.now) day session.new self.new.values }
         ensures reads { Reads session.old session.new }
         ensures least { steps.old ≤ steps.new }
-        ensures most { TakesStepsIn (book_of session.old) (words_in session.old) self.old.values steps.old steps.new }
+        ensures most { TakesStepsIn (book_of session.old) (words_in session.old) (C.customs customs.now) day self.old.values steps.old steps.new }
     {
         session.names_are_nodes();
         let mut values = match self.values.take() {
@@ -120,7 +119,7 @@ impl SessionValues {
         ensures means { IfOk result (λ scalar. scalar ≡ meaning (world_of (book_of session.old).names day (value_of (book_of session.old) (C.customs customs.now) day)) (C.customs customs.now) home (at_home home (relative tree.now.value))) }
         ensures reads { Reads session.old session.new }
         ensures least { steps.old ≤ steps.new }
-        ensures most { steps.new ≤ steps.old + cost (bare (book_of session.old).names) (sheet_of home) (at_home home (relative tree.now.value)) }
+        ensures most { steps.new ≤ steps.old + formula_cost (book_of session.old) (C.customs customs.now) day (sheet_of home) (at_home home (relative tree.now.value)) }
     {
         match &mut self.values {
             Some(values) => values.tried(session, tree, home, customs, day, steps),

@@ -27,6 +27,6 @@ cost_at w sheet no_terms place = 0
 cost_at w sheet (term t ts) zero = cost w sheet t
 cost_at w sheet (term t ts) (suc place) = cost_at w sheet ts place
 
--- the cells of the blocks that all arguments stand for
-abbrev pub sizes : List Argument → ℕ
-sizes args = sum_by argument_size args
+-- the cells that aren't empty of the blocks that all arguments stand for
+abbrev pub sizes : World → List Argument → ℕ
+sizes w args = sum_by (argument_size w) args

@@ -1,5 +1,5 @@
 -- How kept values become right, one node after another.
-use Rattle.std.specs.Prelude.{◌≡◌, ◌⊎◌, ◌<◌, ℕ, ℤ, true, false, List, length, take, slice_index_or, Some}
+use Rattle.std.specs.Prelude.{◌≡◌, ◌⊎◌, ◌+◌, ◌<◌, ◌≤◌, ℕ, ℤ, true, false, List, length, take, slice_index_or, Some}
 use Rattle.cell_value.specs.declared.fault.FaultKind.TheVariants as fault
 use Rattle.cell_value.specs.declared.scalar.Scalar.{Scalar}
 use Rattle.cell_value.specs.declared.scalar.Scalar.TheVariants as scalar
@@ -10,6 +10,7 @@ use Rattle.formula_tree.specs.Term.{Term}
 use Rattle.formula_tree.specs.declared.reference.Corner.{Corner}
 use Rattle.formula_tree.specs.declared.reference.Home.{Home}
 use Rattle.value_network.specs.Network.{LeadsTo, cyclic}
+use Rattle.calc_terms.specs.Cost.{cost}
 use Rattle.calc_terms.specs.Meaning.{meaning}
 use Rattle.book_values.specs.Values.{network}
 use Rattle.book_values.specs.Workbook as book
@@ -42,6 +43,12 @@ AreCycles nodes order kept = (a : Node) → has a nodes ≡ true → has a order
 abbrev pub IsMeaning : Workbook → List (List ℕ) → List (List ℕ × Rule) → ℤ → Kept → Home → Term Corner → Scalar → Type 0
 IsMeaning b words customs today kept home t value =
     (names : List ReadName) × AreRead b words (sheet_of home) (names_in t) names × (value ≡ meaning (world_in kept names today) customs home t)
+
+-- the steps are at most what the tree costs over the kept values and the names that it reads; there are none where these
+-- names weren't read
+abbrev pub IsWithinCost : Workbook → List (List ℕ) → ℤ → Kept → Home → Term Corner → ℕ → ℕ → Type 0
+IsWithinCost b words today kept home t old new =
+    (new ≤ old) ⊎ ((names : List ReadName) × AreRead b words (sheet_of home) (names_in t) names × (new ≤ old + cost (world_in kept names today) (sheet_of home) t))
 
 -- a node can be worked out: it is on no cycle, and what is kept of all that its needs lead to is right
 abbrev pub IsReady : Workbook → List (List ℕ) → List (List ℕ × Rule) → ℤ → Kept → Node → Type 0

@@ -1,9 +1,9 @@
-use Rattle.std.proofs.Common.{◌∙◌, sym, ap, refl, arith, map, take}
+use Rattle.std.proofs.Common.{◌∙◌, sym, ap, subst, refl, arith, ◌+◌, ◌≤◌, map, take}
 use Rattle.std.specs.List.{flat_map}
 use Rattle.cell_value.specs.Summary.{joined, summary_of}
 use Rattle.func_args.specs.Lists.{listed}
 use Rattle.func_args.proofs.Summaries.{summary_none}
-use Rattle.calc_terms.specs.References.{argument_cells}
+use Rattle.calc_terms.specs.References.{argument_cells, argument_size}
 use Rattle.calc_eval.proofs.Data.{next_sizes, next_summary}
 use Rattle.calc_eval.proofs.call.list_summary.Goals as goal
 
@@ -16,8 +16,9 @@ arguments-preserved g c =
     let args = c.args.args.now in
     let inv = c.arguments.invariant in
     let w = g.V.View.world c.args.view.now in
-    let size = next_sizes args i c.argument-item.result (omega arith) c.argument-item.is in
-    let most = c.argument_summary.ensures.most in
+    let size = next_sizes w args i c.argument-item.result (omega arith) c.argument-item.is in
+    let most : c.argument_summary.new.steps ≤ c.arguments.steps + argument_size w c.argument-item.result =
+    subst (λ u. c.argument_summary.new.steps ≤ c.arguments.steps + argument_size u c.argument-item.result) inv.same c.argument_summary.ensures.most in
     let least = c.argument_summary.ensures.least in
     let done = inv.most in
     let from = inv.least in

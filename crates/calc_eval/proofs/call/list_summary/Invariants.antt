@@ -12,5 +12,5 @@ invariant-arguments g l = record {
   total : l.total ≡ summary_of (flat_map listed (map (argument_cells (g.V.View.world l.fn.view)) (take l.argument-index l.args)));
   bounded : IsBounded l.total;
   least : l.fn.steps ≤ l.steps;
-  most : l.steps + sizes (drop l.argument-index l.args) ≤ l.fn.steps + sizes l.args;
+  most : l.steps + sizes (g.V.View.world l.fn.view) (drop l.argument-index l.args) ≤ l.fn.steps + sizes (g.V.View.world l.fn.view) l.args;
 }

@@ -1,9 +1,10 @@
-use Rattle.std.proofs.Common.{◌≡◌, ◌∙◌, sym, ap, subst, refl, arith, ℕ, ◌+◌, ◌<◌, ◌≤◌, List, [], ◌++◌, map, length, get_or, Some, None, IfOk, Global}
+use Rattle.std.proofs.Common.{◌≡◌, ◌∙◌, sym, ap, subst, refl, arith, ℕ, ◌+◌, ◌<◌, ◌≤◌, true, false, List, [], ◌++◌, map, length, get_or, Some, None, IfOk, Global}
 use Rattle.std.specs.Prelude.{slice_get}
 use Rattle.std.specs.declared.rc.Rc.{Rc}
 use Rattle.std.proofs.lemmas.Option.{slice_get_past, slice_get_read}
 use Rattle.custom_fn.specs.declared.rule.Rule.{Rule}
 use Rattle.formula_tree.specs.Arguments.{trees}
+use Rattle.formula_tree.specs.Links.{is_place_word}
 use Rattle.formula_tree.specs.Reference.{sheet_of}
 use Rattle.formula_tree.specs.Term.{Terms}
 use Rattle.formula_tree.specs.declared.node.Node.{Node}
@@ -15,9 +16,10 @@ use Rattle.calc_terms.specs.Cost.{cost, cost_all}
 use Rattle.calc_terms.specs.Meaning.{evaluated, meaning}
 use Rattle.calc_terms.specs.References.{argument_of, argument_value, reference_of}
 use Rattle.calc_terms.specs.World.{World}
+use Rattle.calc_terms.specs.declared.argument.Argument.{Argument}
 use Rattle.calc_eval.specs.internal.Steps.{cost_at, sizes, term_at, terms_at}
 use Rattle.calc_eval.proofs.Choosing.{choice_picked, chosen_value, none_picked, nothing_there}
-use Rattle.calc_eval.proofs.Costs.{two_within}
+use Rattle.calc_eval.proofs.Costs.{choice_asks, custom_asks, data_asks, plain_within, two_within}
 use Rattle.calc_eval.proofs.Lists.{all_at, as_many, terms_at-trees, found, found_cost, none}
 use Rattle.calc_eval.proofs.walk.+value.Goals as goal
 
@@ -66,13 +68,15 @@ pub arguments-trees-init : goal.arguments-trees-init
 arguments-trees-init g t c =
     let w = g.V.View.world c.args.view.now in
     let same = sym (terms_at-trees c.args.home c.args.list.now c.items-tree-items.result.now c.items-tree-items.ensures) in
-    let costs : cost_all w (sheet_of c.args.home) (all_at c.args.home c.items-tree-items.result.now) ≡ cost_all w (sheet_of c.args.home) (terms_at c.args.home c.args.list.now) = ap (cost_all w (sheet_of c.args.home)) same in
-    let none_yet : sizes c.new-args.result.items ≡ 0 = ap sizes c.new-args.ensures.items in
+    let costs : cost_all w (sheet_of c.args.home) false (all_at c.args.home c.items-tree-items.result.now) ≡ cost_all w (sheet_of c.args.home) false (terms_at c.args.home c.args.list.now) = ap (cost_all w (sheet_of c.args.home) false) same in
+    let asks : cost_all w (sheet_of c.args.home) true (all_at c.args.home c.items-tree-items.result.now) ≡ cost_all w (sheet_of c.args.home) true (terms_at c.args.home c.args.list.now) = ap (cost_all w (sheet_of c.args.home) true) same in
+    let none_yet : sizes w c.new-args.result.items ≡ 0 = ap (sizes w) c.new-args.ensures.items in
     record {
       same = refl;
       told = ap (λ xs. xs ++ evaluated w (g.C.Customs.customs c.args.customs.now) c.args.home (all_at c.args.home c.items-tree-items.result.now)) c.new-args.ensures.items
           ∙ ap (evaluated w (g.C.Customs.customs c.args.customs.now) c.args.home) same;
       least = omega arith;
+      asked = omega arith;
       room = omega arith;
     }
 
@@ -86,7 +90,7 @@ count_is : (w : World) (customs : List (List ℕ × Rule)) (home : Home) (list :
 count_is w customs home list items are = sym (as_many w customs home items) ∙ ap (λ ts. length (evaluated w customs home ts)) (sym (terms_at-trees home list items are))
 
 -- the first argument and the chosen one take no more than all
-both_within : (w u : World) (sheet : ℕ) (ts : Terms Corner) (place before between after : ℕ) → u ≡ w → 1 ≤ place → between ≤ before + cost_at w sheet ts 0 → after ≤ between + cost_at u sheet ts place → after ≤ before + cost_all w sheet ts
+both_within : (w u : World) (sheet : ℕ) (ts : Terms Corner) (place before between after : ℕ) → u ≡ w → 1 ≤ place → between ≤ before + cost_at w sheet ts 0 → after ≤ between + cost_at u sheet ts place → after ≤ before + cost_all w sheet false ts
 both_within w u sheet ts place before between after same h first second =
     let two = two_within w sheet ts place h in
     let e : cost_at u sheet ts place ≡ cost_at w sheet ts place = ap (λ v. cost_at v sheet ts place) same in
@@ -143,3 +147,28 @@ pub choice-returns-in-None-clause-most : goal.choice-returns-in-None-clause-most
 choice-returns-in-None-clause-most g t c =
     both_within (g.V.View.world c.args.view.now) (g.V.View.world c.argument_at.new.view) (sheet_of c.args.home) (terms_at c.args.home c.args.list.now) c.in-At.place c.args.steps.now c.argument_at.new.steps c.argument_at-in-At.new.steps
     c.argument_at.ensures.leaves c.in-At.ensures.among.0 c.argument_at.ensures.most c.argument_at-in-At.ensures.most
+
+pub call-returns-in-Some-Choice-clause-most : goal.call-returns-in-Some-Choice-clause-most
+call-returns-in-Some-Choice-clause-most g t c =
+    plain_within (g.V.View.world c.args.view.now) (sheet_of c.args.home) (is_place_word c.args.word.now) (terms_at c.args.home c.args.list.now) c.args.steps.now c.choice.new.steps
+    (choice_asks c.args.word.now c.in-Some-Choice.f (sym c.named.ensures ∙ c.in-Some-Choice.is ∙ ap Some c.in-Some-Choice.field-0-is)) c.choice.ensures.most
+
+-- what the arguments take and what their blocks do are no more than all
+data_within : (w u : World) (args items : List Argument) (most before between after : ℕ) → u ≡ w → args ≡ items → between + sizes w items ≤ before + most → after ≤ between + sizes u args → after ≤ before + most
+data_within w u args items most before between after same are room taken =
+    let e : sizes u args ≡ sizes w items = ap (λ v. sizes v args) same ∙ ap (sizes w) are in
+    omega (arith, room, taken, e)
+
+pub call-returns-in_ok-args-in-Some-Data-clause-most : goal.call-returns-in_ok-args-in-Some-Data-clause-most
+call-returns-in_ok-args-in-Some-Data-clause-most g t c =
+    let w = g.V.View.world c.args.view.now in
+    let ts = terms_at c.args.home c.args.list.now in
+    plain_within w (sheet_of c.args.home) (is_place_word c.args.word.now) ts c.args.steps.now c.data_value.new.steps
+    (data_asks c.args.word.now c.in-Some-Data.f (sym c.named.ensures ∙ c.in-Some-Data.is ∙ ap Some c.in-Some-Data.field-0-is))
+    (data_within w (g.V.View.world c.arguments-in-Some-Data.new.view) c.deref-in-Some-Data.result.now c.in_ok-args-in-Some-Data.args.items (cost_all w (sheet_of c.args.home) false ts)
+    c.args.steps.now c.arguments-in-Some-Data.new.steps c.data_value.new.steps c.arguments-in-Some-Data.ensures.leaves c.deref-in-Some-Data.ensures.value c.in_ok-args-in-Some-Data.ensures.room c.data_value.ensures.most)
+
+pub call-returns-in-None-clause-most : goal.call-returns-in-None-clause-most
+call-returns-in-None-clause-most g t c =
+    plain_within (g.V.View.world c.args.view.now) (sheet_of c.args.home) (is_place_word c.args.word.now) (terms_at c.args.home c.args.list.now) c.args.steps.now c.custom_call.new.steps
+    (custom_asks c.args.word.now (sym c.named.ensures ∙ c.in-None.is)) c.custom_call.ensures.most

@@ -79,11 +79,13 @@ returns-clause-most g c =
     let links = links_of v.graph in
     let marks = marks_in v.recalc in
     let linked = c.link.ensures.follows customs c.args.day c.requires.follows in
-    subst (λ (ms : List Node). TakesSteps b words ms c.args.steps.now c.recalculate.new.steps) c.link.ensures.marks
-    (steps_taken b words links marks c.args.steps.now c.recalculate.new.steps (links_exact b words customs c.args.day v c.requires.numbered linked c.in_ok-link.ensures.done)
+    let far = to_z w32 (of_z w32 c.args.day) in
+    subst (λ (ms : List Node). TakesSteps b words customs c.args.day ms c.args.steps.now c.recalculate.new.steps) c.link.ensures.marks
+    (steps_taken b words customs c.args.day links marks c.args.steps.now c.recalculate.new.steps (links_exact b words customs c.args.day v c.requires.numbered linked c.in_ok-link.ensures.done)
     (to_follow b words customs c.args.day v c.requires.numbered linked).known
-    (subst (λ (w : Workbook). plain.TakesSteps w words links marks c.args.steps.now c.recalculate.new.steps) c.in_ok-link.ensures.leaves
-    (subst (λ (ws : List (List ℕ)). plain.TakesSteps (g.T.Trees.workbook c.link.new.trees) ws links marks c.args.steps.now c.recalculate.new.steps) c.in_ok-link.ensures.words c.recalculate.ensures.most)))
+    (subst (λ (d : ℤ). plain.TakesSteps b words customs d links marks c.args.steps.now c.recalculate.new.steps) (to_z-of_z w32 c.args.day c.ranges.day)
+    (subst (λ (w : Workbook). plain.TakesSteps w words customs far links marks c.args.steps.now c.recalculate.new.steps) c.in_ok-link.ensures.leaves
+    (subst (λ (ws : List (List ℕ)). plain.TakesSteps (g.T.Trees.workbook c.link.new.trees) ws customs far links marks c.args.steps.now c.recalculate.new.steps) c.in_ok-link.ensures.words c.recalculate.ensures.most))))
 
 pub returns-clause-reads : goal.returns-clause-reads
 returns-clause-reads g c = g.T.Trees.laws.both _ _ _ c.link.ensures.reads c.recalculate.ensures.reads

@@ -1,4 +1,4 @@
-use Rattle.std.proofs.Common.{◌≡◌, ◌∙◌, ap, subst, arith, w32}
+use Rattle.std.proofs.Common.{◌∙◌, ap, subst, inr, ◌+◌, ◌≤◌, w32}
 use Rattle.std.proofs.lemmas.Int.{to_z-of_z}
 use Rattle.std.proofs.lemmas.Result.{IfOk-weaker}
 use Rattle.cell_value.specs.declared.scalar.Scalar.{Scalar}
@@ -17,7 +17,7 @@ use Rattle.recalc_core.specs.Recalc.{kept_in}
 use Rattle.recalc_core.specs.internal.KeptValues.{kept_by}
 use Rattle.recalc_core.specs.internal.Seen.{AreRead, world_in}
 use Rattle.recalc_core.specs.internal.UnderWay.{IsMeaning}
-use Rattle.recalc_core.proofs.Worked.{cost_is, same_world}
+use Rattle.recalc_core.proofs.Worked.{same_world}
 use Rattle.recalc_core.proofs.recalc.Recalc.formula_value.Goals as goal
 
 pub invariant_of-self : goal.invariant_of-self
@@ -53,8 +53,11 @@ returns-clause-most g c =
     let names = c.in_ok-names.names.items in
     let kept = kept_in c.args.self.now in
     let sheet = sheet_of c.args.home in
-    let same : world_in (kept_by c.new-seen.result.shown.kept.now) c.new-seen.result.names.now c.new-seen.result.day ≡ world_in kept names c.new-seen.result.day =
-    (λ i. world_in (kept_by (c.new-seen.ensures.kept i)) ((c.new-seen.ensures.names ∙ c.deref.ensures.value) i) c.new-seen.result.day) in
-    let costs = ap (λ (w : World). cost w sheet t) same
-    ∙ cost_is b words sheet t names kept c.new-seen.result.day (subst (λ s. AreRead b words s (names_in t) names) c.sheet.ensures (c.in_ok-names.ensures.read c.args.home)) in
-    omega (arith, c.eval-value.ensures.most, costs)
+    inr (
+      names,
+      subst (λ s. AreRead b words s (names_in t) names) c.sheet.ensures (c.in_ok-names.ensures.read c.args.home),
+      subst (λ (w : World). c.eval-value.new.steps ≤ c.args.steps.now + cost w sheet t)
+          ((λ i. world_in (kept_by (c.new-seen.ensures.kept i)) ((c.new-seen.ensures.names ∙ c.deref.ensures.value) i) (c.new-seen.ensures.day i))
+          ∙ ap (world_in kept names) (to_z-of_z w32 c.args.day c.ranges.day))
+          c.eval-value.ensures.most,
+    )

@@ -135,7 +135,8 @@ returns-in_err-renew_all-clause-most g c =
     let affected = items_of c.in_ok-affected.affected in
     let order = items_of c.in_ok-order.order in
     steps_taken b words customs c.args.day links c.requires.links marks affected order c.in_ok-affected.ensures c.in_ok-order.ensures c.args.steps.now c.renew_all.new.steps
-    (subst (λ (ns : List Node). c.renew_all.new.steps ≤ c.args.steps.now + sum_by (node_cost b words) ns) c.items-3.ensures c.renew_all.ensures.most)
+    (subst (λ (d : ℤ). c.renew_all.new.steps ≤ c.args.steps.now + sum_by (node_cost b words customs d) order) (to_z-of_z w32 c.args.day c.ranges.day)
+    (subst (λ (ns : List Node). c.renew_all.new.steps ≤ c.args.steps.now + sum_by (node_cost b words customs (to_z w32 (of_z w32 c.args.day))) ns) c.items-3.ensures c.renew_all.ensures.most))
 
 pub returns-clause-most : goal.returns-clause-most
 returns-clause-most g c =
@@ -147,4 +148,5 @@ returns-clause-most g c =
     let affected = items_of c.in_ok-affected.affected in
     let order = items_of c.in_ok-order.order in
     steps_taken b words customs c.args.day links c.requires.links marks affected order c.in_ok-affected.ensures c.in_ok-order.ensures c.args.steps.now c.renew_all.new.steps
-    (subst (λ (ns : List Node). c.renew_all.new.steps ≤ c.args.steps.now + sum_by (node_cost b words) ns) c.items-3.ensures c.renew_all.ensures.most)
+    (subst (λ (d : ℤ). c.renew_all.new.steps ≤ c.args.steps.now + sum_by (node_cost b words customs d) order) (to_z-of_z w32 c.args.day c.ranges.day)
+    (subst (λ (ns : List Node). c.renew_all.new.steps ≤ c.args.steps.now + sum_by (node_cost b words customs (to_z w32 (of_z w32 c.args.day))) ns) c.items-3.ensures c.renew_all.ensures.most))

@@ -4,9 +4,9 @@ use Rattle.formula_tree.specs.Relative.{relative}
 use Rattle.formula_tree.specs.StandsFor.{at_home}
 use Rattle.recalc_core.specs.Kept.{Kept}
 use Rattle.recalc_core.specs.Recalc.{kept_in}
-use Rattle.recalc_core.specs.internal.UnderWay.{IsMeaning}
+use Rattle.recalc_core.specs.internal.UnderWay.{IsMeaning, IsWithinCost}
 use Rattle.recalc_core.proofs.Touched.{either_differs}
-use Rattle.recalc_core.proofs.UnderWay.{formula_right, nothing_right, value_right}
+use Rattle.recalc_core.proofs.UnderWay.{formula_right, formula_within, nothing_right, value_right}
 use Rattle.recalc_core.proofs.recalc.Recalc.renew.Goals as goal
 
 pub returns-in_err-value-in-Formula-clause-others : goal.returns-in_err-value-in-Formula-clause-others
@@ -43,3 +43,31 @@ pub returns-in_ok-value-in-Formula-clause-others : goal.returns-in_ok-value-in-F
 returns-in_ok-value-in-Formula-clause-others g c = λ x apart.
     either_differs c.args.a (Some c.in_ok-value-in-Formula.value) (kept_in c.formula_value.new.self) (kept_in c.settle-in-Formula.new.self) c.settle-in-Formula.result c.settle-in-Formula.ensures.ok c.settle-in-Formula.ensures.err x apart
     ∙ ap (λ (k : Kept). k x) c.formula_value.ensures.kept
+
+pub returns-in_err-value-in-Formula-clause-most : goal.returns-in_err-value-in-Formula-clause-most
+returns-in_err-value-in-Formula-clause-most g c =
+    let b = g.T.Trees.workbook c.args.trees.now in
+    let words = g.T.Trees.words c.args.trees.now in
+    let customs = g.C.Customs.customs c.args.customs.now in
+    let kept = kept_in c.args.self.now in
+    let home = c.in-Formula.home in
+    let t = at_home home (relative c.in-Formula.tree.value) in
+    let today = to_z w32 (of_z w32 c.args.day) in
+    formula_within b words customs c.args.day c.args.a c.in-Formula.tree home c.in_ok-given.field-0 kept c.args.steps.now c.formula_value.new.steps c.requires c.in_ok-given.ensures.given c.in-Formula.is
+    (subst (λ d. IsWithinCost b words d kept home t c.args.steps.now c.formula_value.new.steps) (to_z-of_z w32 c.args.day c.ranges.day)
+    (subst (λ w. IsWithinCost w words today kept home t c.args.steps.now c.formula_value.new.steps) c.given.ensures.leaves
+    (subst (λ ws. IsWithinCost (g.T.Trees.workbook c.given.new.self) ws today kept home t c.args.steps.now c.formula_value.new.steps) c.given.ensures.words c.formula_value.ensures.most)))
+
+pub returns-in_ok-value-in-Formula-clause-most : goal.returns-in_ok-value-in-Formula-clause-most
+returns-in_ok-value-in-Formula-clause-most g c =
+    let b = g.T.Trees.workbook c.args.trees.now in
+    let words = g.T.Trees.words c.args.trees.now in
+    let customs = g.C.Customs.customs c.args.customs.now in
+    let kept = kept_in c.args.self.now in
+    let home = c.in-Formula.home in
+    let t = at_home home (relative c.in-Formula.tree.value) in
+    let today = to_z w32 (of_z w32 c.args.day) in
+    formula_within b words customs c.args.day c.args.a c.in-Formula.tree home c.in_ok-given.field-0 kept c.args.steps.now c.formula_value.new.steps c.requires c.in_ok-given.ensures.given c.in-Formula.is
+    (subst (λ d. IsWithinCost b words d kept home t c.args.steps.now c.formula_value.new.steps) (to_z-of_z w32 c.args.day c.ranges.day)
+    (subst (λ w. IsWithinCost w words today kept home t c.args.steps.now c.formula_value.new.steps) c.given.ensures.leaves
+    (subst (λ ws. IsWithinCost (g.T.Trees.workbook c.given.new.self) ws today kept home t c.args.steps.now c.formula_value.new.steps) c.given.ensures.words c.formula_value.ensures.most)))

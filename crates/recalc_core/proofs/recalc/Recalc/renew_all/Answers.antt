@@ -42,14 +42,16 @@ nodes-preserved g c =
     let is = get_or_default order i (Cell (record { sheet = 0; row = 0; col = 0 })) a c.nodes-test.true in
     let right = subst (λ (w : Workbook). IsRight w words customs today new a) c.nodes.invariant.leaves
     (subst (λ (ws : List (List ℕ)). IsRight (g.T.Trees.workbook c.nodes.trees) ws customs today new a) c.nodes.invariant.words c.in_ok-renew.ensures.right) in
-    let cost_here : node_cost (g.T.Trees.workbook c.nodes.trees) (g.T.Trees.words c.nodes.trees) a ≡ node_cost b words a = (λ j. node_cost (c.nodes.invariant.leaves j) (c.nodes.invariant.words j) a) in
-    let sums = sum_by_more (node_cost b words) order i (Cell (record { sheet = 0; row = 0; col = 0 })) c.nodes-test.true in
+    let there = node_cost (g.T.Trees.workbook c.nodes.trees) (g.T.Trees.words c.nodes.trees) customs today a in
+    let here = node_cost b words customs today a in
+    let cost_here : there ≡ here = (λ j. node_cost (c.nodes.invariant.leaves j) (c.nodes.invariant.words j) customs today a) in
+    let sums = sum_by_more (node_cost b words customs today) order i (Cell (record { sheet = 0; row = 0; col = 0 })) c.nodes-test.true in
     record {
       way = way_on b words customs today order i a old new c.nodes.invariant.way c.nodes-test.true is c.renew.ensures.others right;
       within = within_more order i a (kept_in c.args.self.now) old new c.nodes-test.true is c.nodes.invariant.within c.renew.ensures.others;
       least = omega (arith, c.nodes.invariant.least, c.renew.ensures.least);
-      most = more c.renew.new.steps c.nodes.steps c.args.steps.now (node_cost (g.T.Trees.workbook c.nodes.trees) (g.T.Trees.words c.nodes.trees) a) (node_cost b words a)
-          (sum_by (node_cost b words) (take i order)) (sum_by (node_cost b words) (take (i + 1) order)) c.renew.ensures.most cost_here c.nodes.invariant.most sums;
+      most = more c.renew.new.steps c.nodes.steps c.args.steps.now there here
+          (sum_by (node_cost b words customs today) (take i order)) (sum_by (node_cost b words customs today) (take (i + 1) order)) c.renew.ensures.most cost_here c.nodes.invariant.most sums;
       marks = c.renew.ensures.marks ∙ c.nodes.invariant.marks;
       leaves = c.renew.ensures.leaves ∙ c.nodes.invariant.leaves;
       words = c.renew.ensures.words ∙ c.nodes.invariant.words;

@@ -11,7 +11,7 @@ invariant-nodes g l = record {
   way : IsUnderWay (g.T.Trees.workbook l.fn.trees) (g.T.Trees.words l.fn.trees) (g.C.Customs.customs l.customs) l.day l.order l.node-index (kept_in l.self);
   within : DifferWithin l.order (kept_in l.fn.self) (kept_in l.self);
   least : l.fn.steps ≤ l.steps;
-  most : l.steps ≤ l.fn.steps + sum_by (node_cost (g.T.Trees.workbook l.fn.trees) (g.T.Trees.words l.fn.trees)) (take l.node-index l.order);
+  most : l.steps ≤ l.fn.steps + sum_by (node_cost (g.T.Trees.workbook l.fn.trees) (g.T.Trees.words l.fn.trees) (g.C.Customs.customs l.customs) l.day) (take l.node-index l.order);
   marks : marks_in l.self ≡ marks_in l.fn.self;
   leaves : g.T.Trees.workbook l.trees ≡ g.T.Trees.workbook l.fn.trees;
   words : g.T.Trees.words l.trees ≡ g.T.Trees.words l.fn.trees;

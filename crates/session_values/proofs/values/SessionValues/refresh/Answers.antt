@@ -35,11 +35,13 @@ returns-clause-shows g c =
 pub returns-clause-most : goal.returns-clause-most
 returns-clause-most g c =
     let s = c.args.session.now in
+    let customs = g.C.Customs.customs c.args.customs.now in
+    let most = subst (λ (d : ℤ). TakesSteps (book_of s) (words_in s) customs d (marks_in c.match-take.values) c.args.steps.now c.refresh-done.new.steps) (to_z-of_z w32 c.args.day c.ranges.day) c.refresh-done.ensures.most in
     elim c.match-take.branch [
       | in-Some w ↦
-          subst (λ (o : Option Values). TakesStepsIn (book_of s) (words_in s) o c.args.steps.now c.refresh-done.new.steps) (sym w.in-Some.is ∙ c.take.ensures.value)
-          (subst (λ (v : Values). TakesSteps (book_of s) (words_in s) (marks_in v) c.args.steps.now c.refresh-done.new.steps) w.values-is c.refresh-done.ensures.most)
+          subst (λ (o : Option Values). TakesStepsIn (book_of s) (words_in s) customs c.args.day o c.args.steps.now c.refresh-done.new.steps) (sym w.in-Some.is ∙ c.take.ensures.value)
+          (subst (λ (v : Values). TakesSteps (book_of s) (words_in s) customs c.args.day (marks_in v) c.args.steps.now c.refresh-done.new.steps) w.values-is most)
       | in-None+in_ok-values-in-None w ↦
-          subst (λ (o : Option Values). TakesStepsIn (book_of s) (words_in s) o c.args.steps.now c.refresh-done.new.steps) (sym w.in-None.is ∙ c.take.ensures.value)
-          (any_steps (book_of s) (words_in s) (marks_in c.match-take.values) c.args.steps.now c.refresh-done.new.steps c.refresh-done.ensures.most)
+          subst (λ (o : Option Values). TakesStepsIn (book_of s) (words_in s) customs c.args.day o c.args.steps.now c.refresh-done.new.steps) (sym w.in-None.is ∙ c.take.ensures.value)
+          (any_steps (book_of s) (words_in s) customs c.args.day (marks_in c.match-take.values) c.args.steps.now c.refresh-done.new.steps most)
     ]
