@@ -29,7 +29,6 @@ ghost use Rattle.book_engine.specs.internal.Turns.{Turns};
 use crate::parts::Parts;
 use crate::shown_name::ShownName;
 use crate::stop::Stop;
-use book_model::block_of;
 use cell_addr::{NO_SHEET, Place, capitals};
 use dep_graph::{Node, Nodes};
 use formula_tree::{Home, Link, Mention, mentions_of};
@@ -119,7 +118,7 @@ impl Parts {
         match mention {
             Mention::Cell(place) => Ok(Some(Link::Cell(*place))),
             Mention::Area(block) => Ok(Some(Link::Area(*block))),
-            Mention::Whole(whole) => Ok(Some(Link::Area(block_of(*whole)))),
+            Mention::Whole(whole) => Ok(Some(Link::Area(whole.block()))),
             Mention::Name(word) => self.name_link(word.as_str(), sheet),
         }
     }

@@ -7,8 +7,8 @@
 //! engine's contracts and the program's cite these definitions.
 //!
 //! What runs are the plain types that they speak of: a [`Command`] of a script, a [`Refusal`], the sheets that a session
-//! begins with, [`block_of`], by which a whole range stands in links, and [`read_content`], which says what the text given
-//! to a cell is. `read_content(alloc, "=A1")` is a formula, and `read_content(alloc, "007")` the number 7.
+//! begins with, and [`read_content`], which says what the text given to a cell is. `read_content(alloc, "=A1")` is a
+//! formula, and `read_content(alloc, "007")` the number 7.
 #![tactic(auto)]
 
 mod command;
@@ -19,7 +19,6 @@ mod limits;
 mod name;
 mod refusal;
 mod sheet_name;
-mod whole;
 
 pub use command::Command;
 pub use content::{ContentText, read_content, text_given};
@@ -28,4 +27,3 @@ pub use limits::{MAX_CELLS, MAX_NAME, MAX_SHEET_NAME, MAX_SHEETS, MAX_TEXT, MAX_
 pub use name::is_name;
 pub use refusal::Refusal;
 pub use sheet_name::is_sheet_name;
-pub use whole::block_of;

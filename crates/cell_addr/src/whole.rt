@@ -33,12 +33,11 @@ impl Whole {
         }
     }
 
-    /// The block of all cells of the range: its rows or columns from one end of the sheet to the other. The
-    /// range is inside.
+    /// The block of all cells of the range: its rows or columns from one end of the sheet to the other. It is
+    /// inside where the range is.
     pub fn block(self) -> Block
-        requires { IsWholeInside self }
         ensures block { result ≡ whole_block self }
-        ensures inside { IsBlockInside result }
+        ensures inside { IsWholeInside self → IsBlockInside result }
     {
         all_cells(self.sheet).with_span(self.axis, self.span())
     }

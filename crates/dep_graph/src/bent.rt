@@ -13,10 +13,9 @@ use crate::graph::Graph;
 use crate::net::Net;
 use crate::node::Node;
 use crate::nodes::Nodes;
-use crate::whole::bends_whole;
 use indexmap::IndexSet;
 use near_hash::NearHash;
-use shift_core::{Shift, is_bent, is_cut, moved_place};
+use shift_core::{Shift, bends_whole, is_bent, is_cut, moved_place};
 use std::alloc::AllocError;
 
 impl Graph {

@@ -18,11 +18,10 @@ use crate::graph::Graph;
 use crate::key::Key;
 use crate::net::Net;
 use crate::node::Node;
-use crate::whole::moved_whole;
 use indexmap::IndexSet;
 use near_hash::NearHash;
 use place_lines::PlaceLines;
-use shift_core::{Shift, moved_block, moved_place};
+use shift_core::{Shift, moved_block, moved_place, moved_whole};
 use std::alloc::AllocError;
 use std::collections::BTreeMap;
 

@@ -8,7 +8,6 @@ ghost use Rattle.engine_face.specs.Shown.{fits};
 use crate::session::Session;
 use crate::status::Status;
 use book_engine::Stop;
-use book_model::block_of;
 use cell_addr::{Block, NO_SHEET, Place};
 use formula_tree::Link;
 use std::alloc::{AllocError, Global};
@@ -167,7 +166,7 @@ fn link_row(start: usize, link: &Link) -> LinkRow
             word_length: 0,
         },
         Link::Area(block) => area_row(*block),
-        Link::Whole(whole) => area_row(block_of(*whole)),
+        Link::Whole(whole) => area_row(whole.block()),
         Link::Name(scope, word) => LinkRow {
             kind: 2,
             sheet: scope.unwrap_or(NO_SHEET),

@@ -28,6 +28,5 @@ mod shifting;
 mod sought;
 mod taken_back;
 mod values;
-mod whole;
 
 pub use values::Values;

@@ -11,12 +11,11 @@ ghost use Rattle.kept_values.specs.internal.TakenAlong.{AddsTaken, AreMoved, wit
 
 use crate::sought::move_words;
 use crate::values::Values;
-use crate::whole::moved_whole;
 use cell_addr::Place;
 use dep_graph::Node;
 use indexmap::IndexSet;
 use recalc_core::Recalc;
-use shift_core::{Form, Shift, destination, moved_block, moved_place};
+use shift_core::{Form, Shift, destination, moved_block, moved_place, moved_whole};
 use std::alloc::{AllocError, Global};
 use std::mem;
 

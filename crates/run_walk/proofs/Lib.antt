@@ -1,6 +1,5 @@
 pub mod Over
 pub mod Fusion
-pub mod InsideAreas
 pub mod Walking
 pub mod Freeing
 pub mod Arguments

@@ -20,6 +20,7 @@ use Rattle.shift_core.proofs.PlaceLaws.{place_moved_inside, place_returned_insid
 use Rattle.shift_core.specs.Form.{form_of}
 use Rattle.tree_rewrite.proofs.Inside.{fits-back}
 use Rattle.tree_rewrite.proofs.Passing.{full-block, shaped-at}
+use Rattle.tree_rewrite.proofs.WholeAreas.{area_after-full, area_after-inside, area_before-full, area_before-inside}
 use Rattle.tree_rewrite.specs.References.{EachReference, EachReferenceOfAll, FitsSheets}
 use Rattle.tree_rewrite.specs.Rewritten.{area_after, area_at, area_before, cell_at, placed_by}
 use Rattle.tree_rewrite.specs.Shaped.{AreShaped}
@@ -30,7 +31,6 @@ use Rattle.run_walk.specs.declared.direction.Direction.TheVariants.{Forward, Bac
 use Rattle.run_walk.specs.internal.Freed.{AllFit}
 use Rattle.run_walk.specs.internal.Walked.{TakesArea, TakesCell, area_along, area_walked, cell_walked, home_along, place_along, tree_along}
 use Rattle.run_walk.proofs.Fusion.{fits-along, walked}
-use Rattle.run_walk.proofs.InsideAreas.{after-full, after-inside, before-full, before-inside}
 use Rattle.run_walk.proofs.Over.{home_back-inside, home_over-inside}
 
 -- ---- what lies within the limits of a sheet stays so
@@ -57,16 +57,16 @@ place_along-inside Forward = stays-over place_after IsInside (λ s x y sound ins
 place_along-inside Backward = stays-back place_before IsInside (λ s x y sound inside is. place_returned_inside (form_of s) y x sound inside is)
 
 area_along-inside : (d : Direction) (run : List Shift) (lines : Option Axis) (b c : Block) → AreSound run → IsBlockInside b → area_along d run lines b ≡ Some c → IsBlockInside c
-area_along-inside Forward run lines = stays-over (λ s. area_after s lines) IsBlockInside (λ s x y sound inside is. after-inside s lines x y sound inside is) run
-area_along-inside Backward run lines = stays-back (λ s. area_before s lines) IsBlockInside (λ s x y sound inside is. before-inside s lines x y sound inside is) run
+area_along-inside Forward run lines = stays-over (λ s. area_after s lines) IsBlockInside (λ s x y sound inside is. area_after-inside s lines x y sound inside is) run
+area_along-inside Backward run lines = stays-back (λ s. area_before s lines) IsBlockInside (λ s x y sound inside is. area_before-inside s lines x y sound inside is) run
 
 pub corners-inside : (d : Direction) (run : List Shift) (lines : Option Axis) (b c : Block) → AreSound run → IsBlockInside b → area_along d run lines b ≡ Some c → IsInside (first_place c) × IsInside (last_place c)
 corners-inside d run lines b c sound inside is = let i = area_along-inside d run lines b c sound inside is in ((omega arith, omega arith), (omega arith, omega arith))
 
 -- a whole range reaches from one end of the sheet to the other, wherever it goes
 area_along-full : (d : Direction) (run : List Shift) (lines : Option Axis) (b c : Block) → AreSound run → IsFull lines b → area_along d run lines b ≡ Some c → IsFull lines c
-area_along-full Forward run lines = stays-over (λ s. area_after s lines) (IsFull lines) (λ s x y sound full is. after-full s lines x y is) run
-area_along-full Backward run lines = stays-back (λ s. area_before s lines) (IsFull lines) (λ s x y sound full is. before-full s lines x y is) run
+area_along-full Forward run lines = stays-over (λ s. area_after s lines) (IsFull lines) (λ s x y sound full is. area_after-full s lines x y is) run
+area_along-full Backward run lines = stays-back (λ s. area_before s lines) (IsFull lines) (λ s x y sound full is. area_before-full s lines x y is) run
 
 pub home_along-inside : (d : Direction) (run : List Shift) (home to : Home) → AreSound run → IsHomeInside home → home_along d run home ≡ Some to → IsHomeInside to
 home_along-inside Forward = home_over-inside

@@ -1,6 +1,5 @@
 // The two directions over a run of operations.
 ghost use Rattle.std.specs.Prelude.{◌≡◌, ◌≤◌, length, take};
-ghost use Rattle.cell_addr.specs.Place.{IsBlockInside};
 ghost use Rattle.run_walk.specs.Run.{AreSound};
 
 use crate::run::{area_back, front, place_back};
@@ -42,7 +41,6 @@ impl Direction {
     ) -> Option<Block>
         requires sound { AreSound (W.shifts way.now) }
         requires within { count ≤ length (W.shifts way.now) }
-        requires inside { IsBlockInside b }
         ensures { result ≡ area_along self (take count (W.shifts way.now)) lines b }
     {
         match self {

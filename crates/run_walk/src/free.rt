@@ -1,7 +1,6 @@
 // Operations from the front of a run that lose nothing of a tree.
 ghost use Rattle.std.specs.Prelude.{◌≡◌, ◌≢◌, ◌≤◌, None, Some, IfSome, length, take};
-ghost use Rattle.cell_addr.specs.Place.{IsBlockInside};
-ghost use Rattle.formula_tree.specs.Reference.{base_of, block_of, corner_at};
+ghost use Rattle.formula_tree.specs.Reference.{base_of, corner_at};
 ghost use Rattle.formula_tree.specs.Relative.{relative, relative_list};
 ghost use Rattle.formula_tree.specs.StandsFor.{at_home};
 ghost use Rattle.formula_tree.specs.Term.{each_corner_all, shaped, whole};
@@ -144,7 +143,6 @@ fn free_of_whole<W: Way>(
 ) -> usize
     requires sound { AreSound (W.shifts way.now) }
     requires count { count ≤ length (W.shifts way.now) }
-    requires inside { IsBlockInside (block_of (corner_at (base_of home) (first_ref axis sheet parts.0)) (corner_at (base_of home) (last_ref axis sheet parts.1))) }
     ensures within { result ≤ count }
     ensures free { NoneLoses (take result (W.shifts way.now)) (whole axis (corner_at (base_of home) (first_ref axis sheet parts.0)) (corner_at (base_of home) (last_ref axis sheet parts.1))) }
 {
@@ -164,7 +162,6 @@ fn free_of_area<W: Way>(
 ) -> usize
     requires sound { AreSound (W.shifts way.now) }
     requires count { count ≤ length (W.shifts way.now) }
-    requires inside { IsBlockInside (block_of first last) }
     ensures within { result ≤ count }
     ensures free { NoneLoses (take result (W.shifts way.now)) (shaped lines first last) }
 {
@@ -178,7 +175,6 @@ fn free_of_area<W: Way>(
 fn free_of_block<W: Way>(way: &W, count: usize, lines: Option<Axis>, b: Block) -> usize
     requires sound { AreSound (W.shifts way.now) }
     requires count { count ≤ length (W.shifts way.now) }
-    requires inside { IsBlockInside b }
     ensures within { result ≤ count }
     ensures free { IsCarriedOver (take result (W.shifts way.now)) lines b }
 {
@@ -190,8 +186,7 @@ fn free_of_block<W: Way>(way: &W, count: usize, lines: Option<Axis>, b: Block) -
 
 // The same, one operation after the other.
 fn steps_of_block(run: &[Shift], lines: Option<Axis>, b: Block) -> usize
-    requires sound { AreSound run.now }
-    requires inside { IsBlockInside b }
+    requires { AreSound run.now }
     ensures within { result ≤ length run.now }
     ensures free { IsCarriedOver (take result run.now) lines b }
 {

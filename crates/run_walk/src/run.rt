@@ -1,13 +1,12 @@
 // Places, blocks, whole ranges and homes over runs of operations.
 ghost use Rattle.std.specs.Prelude.{◌≡◌, ◌≤◌, length, take};
-ghost use Rattle.cell_addr.specs.Place.{IsBlockInside};
 ghost use Rattle.shift_core.specs.Carried.{first_place, last_place};
 ghost use Rattle.run_walk.specs.Run.{AreSound, area_back, area_over, home_back, home_over, place_back, place_over};
 
-use crate::areas::{back_area, moved_area};
 use cell_addr::{Axis, Block, Place};
 use formula_tree::Home;
 use shift_core::{Shift, back_place, moved_place};
+use tree_rewrite::{back_area, moved_area};
 
 // So many operations from the front of the run.
 pub(crate) fn front(run: &[Shift], count: usize) -> &[Shift]
@@ -33,8 +32,7 @@ pub(crate) fn place_over(run: &[Shift], p: Place) -> Option<Place>
 
 // Where they take the block, or as its block the whole range along an axis; None where one of them loses it.
 pub(crate) fn area_over(run: &[Shift], lines: Option<Axis>, b: Block) -> Option<Block>
-    requires sound { AreSound run.now }
-    requires inside { IsBlockInside b }
+    requires { AreSound run.now }
     ensures { result ≡ area_over run.now lines b }
 {
     let mut at = b;
@@ -70,8 +68,7 @@ pub(crate) fn place_back(run: &[Shift], p: Place) -> Option<Place>
 
 // Where the block, or the whole range, was before them; None where one of its ends came from nowhere.
 pub(crate) fn area_back(run: &[Shift], lines: Option<Axis>, b: Block) -> Option<Block>
-    requires sound { AreSound run.now }
-    requires inside { IsBlockInside b }
+    requires { AreSound run.now }
     ensures { result ≡ area_back run.now lines b }
 {
     let mut at = b;

@@ -1,6 +1,5 @@
 // Ways over a run of operations.
 ghost use Rattle.std.specs.Prelude.{◌≡◌, ◌≤◌, List, Some, IfSome, length, take};
-ghost use Rattle.cell_addr.specs.Place.{IsBlockInside};
 ghost use Rattle.run_walk.specs.Run.{AreSound, IsCarriedOver, area_over, home_over, place_over};
 ghost use Rattle.shift_core.specs.declared.shift.Shift.{Shift};
 
@@ -28,12 +27,10 @@ pub trait Way {
         ensures { IfSome result (λ to. place_over (take count (shifts self.now)) p ≡ Some to) };
 
     /// Where the first `count` operations take the block, or as its block the whole range along an axis, if each of them
-    /// gives it back; `None` where one of them doesn't, or the way doesn't tell. The block lies within the limits of a
-    /// sheet.
+    /// gives it back; `None` where one of them doesn't, or the way doesn't tell.
     fn carried(&self, count: usize, lines: Option<Axis>, b: Block) -> Option<Block>
         requires sound { AreSound (shifts self.now) }
         requires within { count ≤ length (shifts self.now) }
-        requires inside { IsBlockInside b }
         ensures over { IfSome result (λ to. area_over (take count (shifts self.now)) lines b ≡ Some to) }
         ensures back { IfSome result (λ to. IsCarriedOver (take count (shifts self.now)) lines b) };
 }
@@ -85,7 +82,6 @@ pub(crate) fn place_by<W: Way>(way: &W, count: usize, p: Place) -> Option<Place>
 pub(crate) fn area_by<W: Way>(way: &W, count: usize, lines: Option<Axis>, b: Block) -> Option<Block>
     requires sound { AreSound (W.shifts way.now) }
     requires within { count ≤ length (W.shifts way.now) }
-    requires inside { IsBlockInside b }
     ensures { result ≡ area_over (take count (W.shifts way.now)) lines b }
 {
     match way.carried(count, lines, b) {

@@ -45,7 +45,7 @@ impl<'a> Way for Ahead<'a> {
     }
 
     fn carried(&self, count: usize, lines: Option<Axis>, b: Block) -> Option<Block> {
-        if !is_full(lines, b) {
+        if !b.inside() || !is_full(lines, b) {
             return None;
         }
         area_over(self.lists, self.from, self.from + count, lines, b)
@@ -81,7 +81,6 @@ fn place_over(lists: &SheetShifts, from: usize, to: usize, p: Place) -> Option<P
 
 // Whether the block, where it is to stand for a whole range, reaches from one end of the sheet to the other.
 fn is_full(lines: Option<Axis>, b: Block) -> bool
-    requires { IsBlockInside b }
     ensures { IsTrue result ↔ IsFull lines b }
 {
     match lines {

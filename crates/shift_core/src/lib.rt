@@ -35,4 +35,4 @@ pub use laws::{
     unbent_wholes_keep_offsets, wholes_move_as_blocks, wholes_stay_inside,
 };
 pub use shift::{Shift, back_block, back_place, is_bent, is_cut, moved_block, moved_place, sound};
-pub use whole::{back_whole, bends_whole, moved_whole};
+pub use whole::{back_whole, bends_whole, moved_whole, runs_across};

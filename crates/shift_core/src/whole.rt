@@ -1,8 +1,8 @@
 // What structural operations do to whole ranges.
 ghost use Rattle.std.specs.Prelude.{◌≡◌, ◌↔◌, IsTrue};
-ghost use Rattle.cell_addr.specs.Whole.{IsWholeInside};
+ghost use Rattle.shift_core.specs.Form.{form_of};
 ghost use Rattle.shift_core.specs.Sound.{IsSound};
-ghost use Rattle.shift_core.specs.Wholes.{whole_after, whole_before, IsWholeBent};
+ghost use Rattle.shift_core.specs.Wholes.{runs_across, whole_after, whole_before, IsWholeBent};
 
 use crate::form::Form;
 use crate::shift::Shift;
@@ -11,8 +11,7 @@ use cell_addr::Whole;
 /// Where the operation moves the whole range; None where it is lost. An edit of rows leaves all columns from one
 /// to another, and one of columns all rows; otherwise the range goes where its block does.
 pub fn moved_whole(s: &Shift, w: Whole) -> Option<Whole>
-    requires sound { IsSound s.now }
-    requires inside { IsWholeInside w }
+    requires { IsSound s.now }
     ensures { result ≡ whole_after s.now w }
 {
     s.form().moved_whole(w)
@@ -20,8 +19,7 @@ pub fn moved_whole(s: &Shift, w: Whole) -> Option<Whole>
 
 /// Which whole range had the ends that the operation moved to those of `w`; None where one of them was nowhere.
 pub fn back_whole(s: &Shift, w: Whole) -> Option<Whole>
-    requires sound { IsSound s.now }
-    requires inside { IsWholeInside w }
+    requires { IsSound s.now }
     ensures { result ≡ whole_before s.now w }
 {
     s.form().back_whole(w)
@@ -30,21 +28,27 @@ pub fn back_whole(s: &Shift, w: Whole) -> Option<Whole>
 /// Whether the operation does more to the whole range than carry its cells along as they are: lines across it are
 /// edited on its sheet, or its block is lost, of another size, displaced in part or cut at the last row or column.
 pub fn bends_whole(s: &Shift, w: Whole) -> bool
-    requires sound { IsSound s.now }
-    requires inside { IsWholeInside w }
+    requires { IsSound s.now }
     ensures { IsTrue result ↔ IsWholeBent s.now w }
 {
     s.form().bends_whole(w)
 }
 
+/// Whether the operation edits rows, on any sheet, and the range is one of columns, or the other way round: it leaves
+/// the range.
+pub fn runs_across(s: &Shift, w: Whole) -> bool
+    ensures { result ≡ runs_across (form_of s.now) w }
+{
+    s.form().runs_across(w)
+}
+
 impl Form {
     ghost use Rattle.shift_core.specs.Sound.{IsSoundForm};
-    ghost use Rattle.shift_core.specs.Wholes.{runs_across, whole_moved, whole_returned, MeetsAcross, BendsWhole};
+    ghost use Rattle.shift_core.specs.Wholes.{whole_moved, whole_returned, MeetsAcross, BendsWhole};
 
     // Where the operation moves the whole range; None where it is lost.
     fn moved_whole(self, w: Whole) -> Option<Whole>
-        requires sound { IsSoundForm self }
-        requires inside { IsWholeInside w }
+        requires { IsSoundForm self }
         ensures { result ≡ whole_moved self w }
     {
         if self.runs_across(w) {
@@ -56,8 +60,7 @@ impl Form {
 
     // Which whole range had the ends that the operation moved to those of `w`; None where one of them was nowhere.
     fn back_whole(self, w: Whole) -> Option<Whole>
-        requires sound { IsSoundForm self }
-        requires inside { IsWholeInside w }
+        requires { IsSoundForm self }
         ensures { result ≡ whole_returned self w }
     {
         if self.runs_across(w) {
@@ -69,8 +72,7 @@ impl Form {
 
     // Whether the operation does more to the whole range than carry its cells along as they are.
     fn bends_whole(self, w: Whole) -> bool
-        requires sound { IsSoundForm self }
-        requires inside { IsWholeInside w }
+        requires { IsSoundForm self }
         ensures { IsTrue result ↔ BendsWhole self w }
     {
         let block = w.block();

@@ -1,28 +1,24 @@
 -- Where an operation takes blocks and whole ranges, by one rule. Serves the passage of trees, and the laws.
-use Rattle.std.proofs.Common.{◌≡◌, ◌∙◌, sym, ap, subst, refl, Bool, true, false, cond, Option, Some, None, option_map}
+use Rattle.std.proofs.Common.{◌≡◌, sym, ap, refl, subst, Bool, true, false, cond, Option, Some, None, option_map}
 use Rattle.std.proofs.lemmas.Option.{same_Some}
 use Rattle.cell_addr.specs.declared.axis.Axis.{Axis}
 use Rattle.cell_addr.specs.declared.place.Block.{Block}
 use Rattle.cell_addr.specs.declared.whole.Whole.{Whole}
-use Rattle.cell_addr.specs.Axis.{across, same_axis}
 use Rattle.cell_addr.specs.Place.{IsBlockInside}
 use Rattle.cell_addr.specs.Whole.{IsWholeInside, whole_block, whole_of}
-use Rattle.cell_addr.proofs.SamePlaces.{same_axis-self}
 use Rattle.cell_addr.proofs.Wholes.{whole_block-inside}
 use Rattle.shift_core.specs.Form.{form_of}
 use Rattle.shift_core.specs.Sound.{IsSound}
-use Rattle.shift_core.specs.Tables.{block_moved, block_returned, block_after, block_before}
-use Rattle.shift_core.specs.Wholes.{runs_across, whole_after, whole_before, MeetsAcross}
-use Rattle.shift_core.specs.declared.form.Form.{Form}
-use Rattle.shift_core.specs.declared.form.Form.TheVariants.{Lines, Cells, Sheet}
+use Rattle.shift_core.specs.Tables.{block_moved, block_returned}
+use Rattle.shift_core.specs.Wholes.{runs_across, whole_after, whole_before}
 use Rattle.shift_core.specs.declared.shift.Shift.{Shift}
 use Rattle.shift_core.proofs.Axes.{ends_inside}
 use Rattle.shift_core.proofs.BlockLaws.{block_moved_inside, block_returned_inside}
-use Rattle.shift_core.proofs.WholeMoves.{full-whole, whole_moves_as_block, whole_returns_as_block, whole_moved_inside, whole_returned_inside}
+use Rattle.shift_core.proofs.WholeMoves.{full-whole, whole_moved_inside, whole_returned_inside}
 use Rattle.tree_rewrite.specs.Rewritten.{area_after, area_before}
 use Rattle.tree_rewrite.specs.declared.direction.Direction.{Direction}
 use Rattle.tree_rewrite.specs.declared.direction.Direction.TheVariants.{Forward, Backward}
-use Rattle.tree_rewrite.specs.internal.Passage.{IsFull, are_crossed, area_in}
+use Rattle.tree_rewrite.specs.internal.Passage.{IsFull, area_in}
 
 -- a whole range stays one of rows, or of columns
 axis-of : (axis : Axis) (r : Option Block) (v : Whole) → option_map (whole_of axis) r ≡ Some v → v.axis ≡ axis
@@ -47,43 +43,33 @@ full-each : (axis : Axis) (r : Option Whole) (c : Block) → ((v : Whole) → r 
 full-each axis None c h e = absurd (cc)
 full-each axis (Some v) c h e = subst (IsFull (Some axis)) (same_Some _ _ e) (full-block axis v (h v refl))
 
+pub area_after-full : (s : Shift) (lines : Option Axis) (b c : Block) → area_after s lines b ≡ Some c → IsFull lines c
+area_after-full s None b c h = tt
+area_after-full s (Some axis) b c h = full-each axis (whole_after s (whole_of axis b)) c (λ v e. axis-after s (whole_of axis b) v e) h
+
+pub area_before-full : (s : Shift) (lines : Option Axis) (b c : Block) → area_before s lines b ≡ Some c → IsFull lines c
+area_before-full s None b c h = tt
+area_before-full s (Some axis) b c h = full-each axis (whole_before s (whole_of axis b)) c (λ v e. axis-before s (whole_of axis b) v e) h
+
 pub area_in-full : (d : Direction) (s : Shift) (lines : Option Axis) (b c : Block) → area_in d s lines b ≡ Some c → IsFull lines c
-area_in-full d s None b c h = tt
-area_in-full Forward s (Some axis) b c h = full-each axis (whole_after s (whole_of axis b)) c (λ v e. axis-after s (whole_of axis b) v e) h
-area_in-full Backward s (Some axis) b c h = full-each axis (whole_before s (whole_of axis b)) c (λ v e. axis-before s (whole_of axis b) v e) h
+area_in-full Forward s = area_after-full s
+area_in-full Backward s = area_before-full s
 
 -- and stays within the limits of a sheet
 inside-each : (r : Option Whole) (c : Block) → ((v : Whole) → r ≡ Some v → IsWholeInside v) → option_map whole_block r ≡ Some c → IsBlockInside c
 inside-each None c h e = absurd (cc)
 inside-each (Some v) c h e = subst IsBlockInside (same_Some _ _ e) (whole_block-inside v (h v refl))
 
-pub area_in-inside : (d : Direction) (s : Shift) (lines : Option Axis) (b c : Block) → IsSound s → IsBlockInside b → area_in d s lines b ≡ Some c → IsBlockInside c
-area_in-inside Forward s None b c sound i h = block_moved_inside (form_of s) b c sound i h
-area_in-inside Backward s None b c sound i h = block_returned_inside (form_of s) b c sound i h
-area_in-inside Forward s (Some axis) b c sound i h =
+pub area_after-inside : (s : Shift) (lines : Option Axis) (b c : Block) → IsSound s → IsBlockInside b → area_after s lines b ≡ Some c → IsBlockInside c
+area_after-inside s None b c sound i h = block_moved_inside (form_of s) b c sound i h
+area_after-inside s (Some axis) b c sound i h =
     inside-each (whole_after s (whole_of axis b)) c (λ v e. whole_moved_inside (form_of s) (whole_of axis b) v sound (ends_inside axis b i) e) h
-area_in-inside Backward s (Some axis) b c sound i h =
+
+pub area_before-inside : (s : Shift) (lines : Option Axis) (b c : Block) → IsSound s → IsBlockInside b → area_before s lines b ≡ Some c → IsBlockInside c
+area_before-inside s None b c sound i h = block_returned_inside (form_of s) b c sound i h
+area_before-inside s (Some axis) b c sound i h =
     inside-each (whole_before s (whole_of axis b)) c (λ v e. whole_returned_inside (form_of s) (whole_of axis b) v sound (ends_inside axis b i) e) h
 
--- unless an edit across leaves it, it goes where its block does
-crossed-across : (f : Form) (w : Whole) → are_crossed (Some w.axis) f ≡ runs_across f w
-crossed-across (Lines sheet axis edit) w = refl
-crossed-across (Cells source to) w = refl
-crossed-across (Sheet sheet) w = refl
-
-apart : (f : Form) (w : Whole) → runs_across f w ≡ false → ¬ MeetsAcross f w
-apart (Lines sheet axis edit) w n m = let same : same_axis w.axis (across axis) ≡ true = ap (λ a. same_axis a (across axis)) m.1 ∙ same_axis-self (across axis) in absurd (cc)
-apart (Cells source to) w n m = absurd m
-apart (Sheet sheet) w n m = absurd m
-
-pub uncrossed-after : (s : Shift) (lines : Option Axis) (b : Block) → IsSound s → IsFull lines b → are_crossed lines (form_of s) ≡ false → block_after s b ≡ area_after s lines b
-uncrossed-after s None b sound full h = refl
-uncrossed-after s (Some axis) b sound full h =
-    let w = whole_of axis b in
-    ap (block_after s) (sym full) ∙ whole_moves_as_block (form_of s) w sound (apart (form_of s) w (sym (crossed-across (form_of s) w) ∙ h))
-
-pub uncrossed-before : (s : Shift) (lines : Option Axis) (b : Block) → IsSound s → IsFull lines b → are_crossed lines (form_of s) ≡ false → block_before s b ≡ area_before s lines b
-uncrossed-before s None b sound full h = refl
-uncrossed-before s (Some axis) b sound full h =
-    let w = whole_of axis b in
-    ap (block_before s) (sym full) ∙ whole_returns_as_block (form_of s) w sound (apart (form_of s) w (sym (crossed-across (form_of s) w) ∙ h))
+pub area_in-inside : (d : Direction) (s : Shift) (lines : Option Axis) (b c : Block) → IsSound s → IsBlockInside b → area_in d s lines b ≡ Some c → IsBlockInside c
+area_in-inside Forward s = area_after-inside s
+area_in-inside Backward s = area_before-inside s

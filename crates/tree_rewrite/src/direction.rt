@@ -17,7 +17,7 @@ pub(crate) enum Direction {
 }
 
 impl Direction {
-    ghost use Rattle.tree_rewrite.specs.internal.Passage.{IsFull, area_in, home_in, place_in};
+    ghost use Rattle.tree_rewrite.specs.internal.Passage.{area_in, home_in, place_in};
 
     // Where a place goes; None where it is lost, or came from nowhere.
     pub(crate) fn place(self, s: &Shift, p: Place) -> Option<Place>
@@ -33,8 +33,7 @@ impl Direction {
     // Where a block goes, and as its block a whole range along an axis; None where it is lost, or an end of it came
     // from nowhere.
     pub(crate) fn area(self, s: &Shift, lines: Option<Axis>, b: Block) -> Option<Block>
-        requires sound { IsSound s.now }
-        requires full { IsFull lines b }
+        requires { IsSound s.now }
         ensures { result ≡ area_in self s.now lines b }
     {
         match self {

@@ -29,6 +29,7 @@ mod replacement;
 mod rewrite;
 mod walk;
 
+pub use areas::{back_area, moved_area};
 pub use loss::loses;
 pub use replacement::{Replacement, changed_area, changed_cell, replaced};
 pub use rewrite::{backward, forward};

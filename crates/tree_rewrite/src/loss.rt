@@ -8,7 +8,7 @@ ghost use Rattle.formula_tree.specs.Whole.{first_ref, last_ref};
 ghost use Rattle.shift_core.specs.Carried.{first_place, last_place};
 ghost use Rattle.shift_core.specs.Sound.{IsSound};
 ghost use Rattle.tree_rewrite.specs.Rewritten.{ComesBack, Loses};
-ghost use Rattle.tree_rewrite.specs.internal.Passage.{AllComeBack, IsFull};
+ghost use Rattle.tree_rewrite.specs.internal.Passage.{AllComeBack};
 
 use crate::areas::{back_area, moved_area};
 use crate::corners;
@@ -95,7 +95,6 @@ fn whole_comes_back(
 // Whether a block, or a whole range along an axis, has its ends again.
 fn area_comes_back(lines: Option<Axis>, first: Corner, last: Corner, s: &Shift) -> bool
     requires sound { IsSound s.now }
-    requires full { IsFull lines (block_of first last) }
     ensures { IsTrue result ↔ ComesBack s.now (shaped lines first last) }
 {
     let Some(after) = moved_area(s, lines, first.block_to(last)) else {

@@ -1,11 +1,10 @@
 -- A formula's passage over a structural operation, in either direction.
-use Rattle.std.specs.Prelude.{◌≡◌, Bool, false, Option, Some, None}
+use Rattle.std.specs.Prelude.{◌≡◌, Option, Some, None}
 use Rattle.std.specs.declared.alloc.Global.{Global}
 use Rattle.std.specs.declared.rc.Rc.{Rc}
 use Rattle.cell_addr.specs.declared.axis.Axis.{Axis}
 use Rattle.cell_addr.specs.declared.place.Place.{Place}
 use Rattle.cell_addr.specs.declared.place.Block.{Block}
-use Rattle.cell_addr.specs.Axis.{across, same_axis}
 use Rattle.cell_addr.specs.Whole.{whole_block, whole_of}
 use Rattle.formula_tree.specs.Reference.{IsHomeInside, block_of}
 use Rattle.formula_tree.specs.Relative.{relative}
@@ -17,8 +16,6 @@ use Rattle.formula_tree.specs.declared.reference.Home.{Home}
 use Rattle.formula_tree.specs.declared.reference.Ref.{Ref}
 use Rattle.shift_core.specs.Sound.{IsSound}
 use Rattle.shift_core.specs.Tables.{place_after, place_before}
-use Rattle.shift_core.specs.declared.form.Form.{Form}
-use Rattle.shift_core.specs.declared.form.Form.TheVariants.{Lines}
 use Rattle.shift_core.specs.declared.shift.Shift.{Shift}
 use Rattle.tree_rewrite.specs.References.{FitsSheets}
 use Rattle.tree_rewrite.specs.Rewritten.{cell_at, area_at, area_after, area_before, placed_by, home_by}
@@ -34,12 +31,6 @@ all_placed_by place area = mapped_all (λ c. cell_at c (place c.at)) (λ lines c
 abbrev pub IsFull : Option Axis → Block → Type 0
 IsFull None b = Unit {0}
 IsFull (Some axis) b = whole_block (whole_of axis b) ≡ b
-
--- these are whole columns and an operation of the form edits rows, or the other way round
-abbrev pub are_crossed : Option Axis → Form → Bool
-are_crossed None f = false
-are_crossed (Some along) (Lines sheet axis edit) = same_axis along (across axis)
-are_crossed (Some along) f = false
 
 -- where the operation takes a place, and a block or a whole range as its block, in a direction
 abbrev pub place_in : Direction → Shift → Place → Option Place

@@ -5,8 +5,8 @@ use Rattle.run_walk.proofs.Freeing.{carried-more}
 use Rattle.run_walk.proofs.Over.{over-more, sound-at}
 use Rattle.run_walk.proofs.free.steps_of_block.Goals as goal
 
-pub carried_area-requires-clause-sound : goal.carried_area-requires-clause-sound
-carried_area-requires-clause-sound c = sound-at c.args.run.now c.run.index (InsertRows 0 0 0) c.requires.sound c.run-test.true
+pub carried_area-requires : goal.carried_area-requires
+carried_area-requires c = sound-at c.args.run.now c.run.index (InsertRows 0 0 0) c.requires c.run-test.true
 
 pub run-preserved : goal.run-preserved
 run-preserved c =
@@ -16,5 +16,4 @@ run-preserved c =
     record {
       here = over-more (λ z. area_after z c.args.lines) run c.run.index d s c.args.b c.run.at c.in-Some.next c.run-test.true refl c.run.invariant.here c.in-Some.ensures.after;
       back = carried-more run c.run.index d s c.args.lines c.args.b c.run.at c.in-Some.next c.run-test.true refl c.in-Some.ensures.after c.in-Some.ensures.back c.run.invariant.here c.run.invariant.back;
-      inside = c.in-Some.ensures.inside;
     }

@@ -1,5 +1,5 @@
 use Rattle.std.proofs.Common.{◌≡◌, ◌<◌, ◌∷◌, None, MatchOption, subst, rules, arith}
-use Rattle.run_walk.proofs.InsideAreas.{after-full}
+use Rattle.tree_rewrite.proofs.WholeAreas.{area_after-full}
 use Rattle.sheet_shifts.specs.internal.Going.{CarriesArea, IsPast}
 use Rattle.sheet_shifts.proofs.Axes.{area-along, area-comes, goes-past, sound-left, sound-next}
 use Rattle.sheet_shifts.proofs.ahead.area_over.Goals as goal
@@ -14,8 +14,8 @@ area_over-requires-2-clause-sound c =
     let so_far = c.operations.invariant in
     sound-left c.args.lists.now.run.items c.operations.at.sheet c.args.from c.operations.index c.operations.left so_far.from c.requires.sound so_far.left
 
-pub carried_area-requires-clause-sound : goal.carried_area-requires-clause-sound
-carried_area-requires-clause-sound c =
+pub carried_area-requires : goal.carried_area-requires
+carried_area-requires c =
     let run = c.args.lists.now.run.items in
     let so_far = c.operations.invariant in
     let e = c.in-Some.other.now in
@@ -61,8 +61,8 @@ operations-preserved c =
       from = omega (arith, order, so_far.from);
       order = omega (arith, c.in-Some.ensures.1);
       left = c.behind-left.ensures;
-      inside = c.in_ok-next.ensures.inside;
-      full = after-full e.what c.args.lines here next step.0;
+      inside = c.in_ok-next.ensures.inside c.in_ok-here.ensures.inside;
+      full = area_after-full e.what c.args.lines here next step.0;
       goes = λ q on. so_far.goes q (goes-past (CarriesArea c.args.lines) run c.operations.index c.args.to here.sheet rest e behind c.operations.at here next q c.in-Some.ensures.1 comes step on);
     }
 

@@ -1,13 +1,8 @@
 use Rattle.std.proofs.Common.{◌≡◌, ◌∙◌, sym, ap, Some, None}
 use Rattle.formula_tree.specs.Reference.{block_of}
 use Rattle.tree_rewrite.specs.Rewritten.{area_after, area_before}
-use Rattle.tree_rewrite.specs.declared.direction.Direction.TheVariants.{Forward}
 use Rattle.tree_rewrite.proofs.Returns.{area-lost, area-nowhere, area-at_ends, area-has_ends}
-use Rattle.tree_rewrite.proofs.WholeAreas.{area_in-full}
 use Rattle.tree_rewrite.proofs.loss.area_comes_back.Goals as goal
-
-pub back_area-requires-clause-full : goal.back_area-requires-clause-full
-back_area-requires-clause-full c = area_in-full Forward c.args.s.now c.args.lines c.block_to.result c.in-Some.after (sym c.moved_area.ensures ∙ c.in-Some.is)
 
 pub returns-in_default : goal.returns-in_default
 returns-in_default c =

@@ -1,5 +1,5 @@
 use Rattle.std.proofs.Common.{◌≡◌, ◌∙◌, sym, ap, subst, take, Some, None}
-use Rattle.cell_addr.specs.Place.{IsBlockInside, IsInside}
+use Rattle.cell_addr.specs.Place.{IsInside}
 use Rattle.cell_value.specs.declared.fault.FaultKind.TheVariants as faults
 use Rattle.formula_tree.specs.Reference.{base_of, block_of, corner_at, ref_from}
 use Rattle.formula_tree.specs.Relative.{relative}
@@ -13,13 +13,6 @@ use Rattle.run_walk.specs.internal.Walked.{area_along}
 use Rattle.run_walk.proofs.Over.{sound-take}
 use Rattle.run_walk.proofs.Walking.{area-goes, area-lost, area-shaped, corners-inside}
 use Rattle.run_walk.proofs.walk.WalkReplacement.area.Goals as goal
-
-pub area-requires-clause-inside : goal.area-requires-clause-inside
-area-requires-clause-inside g c =
-    let w = c.args.self.now in
-    let top = corner_at (base_of w.from) c.args.first in
-    let bottom = corner_at (base_of w.from) c.args.last in
-    subst IsBlockInside (sym (corners-block c.at-top.result c.at-bottom.result top bottom c.block_to-block.result c.at-top.ensures c.at-bottom.ensures c.block_to-block.ensures)) c.requires.takes.3
 
 pub returns-in_default : goal.returns-in_default
 returns-in_default g c =

@@ -13,14 +13,6 @@ use Rattle.tree_rewrite.proofs.Walking as walking
 use Rattle.tree_rewrite.proofs.WholeAreas.{area_in-full}
 use Rattle.tree_rewrite.proofs.passage.PassageReplacement.area.Goals as goal
 
-pub area-requires-clause-full : goal.area-requires-clause-full
-area-requires-clause-full c =
-    let p = c.args.self.now in
-    let top = corner_at (base_of p.from) c.args.first in
-    let bottom = corner_at (base_of p.from) c.args.last in
-    subst (IsFull c.args.lines) (sym (passing.corners-block c.at-top.result c.at-bottom.result top bottom c.block_to-block.result c.at-top.ensures c.at-bottom.ensures c.block_to-block.ensures))
-    (passing.full-block c.args.lines c.args.first c.args.last (base_of p.from) c.requires.shape)
-
 pub returns-in_default : goal.returns-in_default
 returns-in_default c =
     let p = c.args.self.now in
