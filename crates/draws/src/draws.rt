@@ -1,8 +1,9 @@
 // Numbers, places and blocks.
-ghost use Rattle.std.specs.Prelude.{◌≡◌, ◌<◌};
+ghost use Rattle.std.specs.Prelude.{◌≡◌, ◌<◌, ◌≤◌};
+ghost use Rattle.cell_addr.specs.Axis.{limit_of};
 
 use crate::corner::{COLS_DRAWN, Corner, ROWS_DRAWN};
-use cell_addr::{Block, Place};
+use cell_addr::{Axis, Block, Place, Whole};
 use rand_core::Rng;
 use rand_pcg::Pcg32;
 
@@ -99,6 +100,24 @@ impl Draws {
             left: first.col,
             bottom: top.saturating_add(height),
             right: first.col.saturating_add(width),
+        }
+    }
+
+    /// All rows or all columns from one near the corner to another. They end on the sheet.
+    pub fn whole(&mut self) -> Whole
+        ensures sheet { result.sheet < 2 }
+        ensures last { result.last < limit_of result.axis }
+        ensures corner { self.new.from ≡ self.old.from }
+    {
+        let axis = if self.below(2) == 0 {
+            Axis::Rows
+        } else {
+            Axis::Cols
+        };
+        let whole = self.block().whole(axis);
+        Whole {
+            last: whole.last.min(axis.limit() - 1),
+            ..whole
         }
     }
 }

@@ -1,5 +1,4 @@
 // Nodes that are drawn.
-use cell_addr::{Axis, Whole};
 use dep_graph::Node;
 use draws::Draws;
 
@@ -8,22 +7,8 @@ pub(crate) fn any_node(draws: &mut Draws) -> Node {
     match draws.below(10) {
         0 => any_name(draws),
         1..4 => Node::Range(draws.block()),
-        4 => Node::Whole(any_whole(draws)),
+        4 => Node::Whole(draws.whole()),
         _ => Node::Cell(draws.place()),
-    }
-}
-
-// All rows or all columns from one near the corner to another, within the limits of a sheet.
-fn any_whole(draws: &mut Draws) -> Whole {
-    let axis = if draws.below(2) == 0 {
-        Axis::Rows
-    } else {
-        Axis::Cols
-    };
-    let whole = draws.block().whole(axis);
-    Whole {
-        last: whole.last.min(axis.limit() - 1),
-        ..whole
     }
 }
 

@@ -26,6 +26,9 @@ const GROWTH: u32 = 8;
 
 const ROLLS: u32 = 6;
 
+// One call in so many asks for the summary of whole rows or columns, of which the plain model looks at every cell.
+const SELDOM: u32 = 50;
+
 // More than the blocks that a list keeps.
 const MANY: u32 = 100_000;
 
@@ -98,6 +101,10 @@ impl List {
 
     // Makes one call, or a few that belong together.
     fn call<L: Ledger>(&mut self, steps: &mut Steps<L>) -> Result<(), AllocError> {
+        if self.draws.below(SELDOM) == 0 {
+            let whole = self.draws.whole();
+            return self.ask(whole.block(), steps);
+        }
         match self.draws.below(20) {
             0..4 => self.put(),
             4..9 => self.shift(steps),
