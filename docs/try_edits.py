@@ -6,10 +6,13 @@
     python3 docs/try_edits.py --stale      lists the crates that changed since their edits were tried, and tries none
     python3 docs/try_edits.py --in FOLDER NAME..     keeps the scratch copy there for the next time
 
-The gate tries the edits of must-fail/ alone. The others stand beside them in edits/, and are tried here: in a scratch
-copy of the repository, where they stand in must-fail/, by `rt must-fail`. docs/edits.lock has a line for each crate:
-its name, how many edits were refused, of how many, and a checksum of all that this rests on: sources and definitions
-of the crate and of those below it, without comments, and the crate's edits.
+The gate tries the edits of must-fail/ alone, each over a second proof of its crate. Here all are tried, in a scratch
+copy of the repository, and first by a check of the functions that an edit changes, alone: where the check proves these
+as they stand and not with the edit, it is refused, in some ten seconds. Whichever can't be tried so, as one of a
+constant, or is still proved so, is tried over the whole crate by `rt must-fail`.
+
+docs/edits.lock has a line for each crate: its name, how many edits were refused, of how many, and a checksum of all
+that this rests on: sources and definitions of the crate and of those below it, without comments, and the crate's edits.
 """
 import hashlib
 import re
@@ -27,6 +30,13 @@ TOLD = re.compile(r"^(?:rt: )?must-fail (\w+)/(\S+): (.*)$")
 COMMENTS, NEVER = {".rt": b"//", ".antt": b"--"}, b"\n"
 # An edit that is refused, though not by the contract that it tries.
 WEAK = ("only because a proof file names", "only by a limit of the prover")
+REFUSED = "refused, as it must be"
+# A function's head, and what an impl is of: a type, or a trait and a type.
+FUNCTION = re.compile(r'^(\s*)(?:#\[[^\]]*\]\s*)?(?:pub(?:\([a-z]+\))? )?(?:const )?(?:unsafe )?(?:extern "C" )?fn (\w+)')
+IMPL = re.compile(r"^(?:unsafe )?impl\b(?:<[^{]*?>)? (?:(\w[\w:]*)(?:<.*?>)? for )?&?(?:'\w+ )?(\w+)")
+# What a check says of a place in a file, and what says only that a proof names something that isn't there.
+PLACED = re.compile(r"(note: )?\S+:\d+:\d+: ")
+NAMES = re.compile(r"(note: )?(\./)?proofs/.*(has no field|is not in scope|has no `|was not admitted|was rejected)")
 
 
 def libraries():
@@ -83,31 +93,132 @@ def stale(named):
 
 
 def copy_to(folder):
-    """Makes or renews a scratch copy of the crates, in which every edit stands in must-fail/; what was built there stays."""
+    """Makes or renews a scratch copy of the crates, without their edits; what was built there stays."""
     shutil.copy2(ROOT / "HANDLES", folder)
     shutil.copy2(ROOT / "crates.txt", folder)
     for crate in (ROOT / "crates").iterdir():
         to = folder / "crates" / crate.name
         for part in ("src", "specs", "proofs", "must-fail", "data"):
             shutil.rmtree(to / part, ignore_errors=True)
-            if (crate / part).is_dir():
+            if part != "must-fail" and (crate / part).is_dir():
                 shutil.copytree(crate / part, to / part)
-        if (crate / "edits").is_dir():
-            shutil.copytree(crate / "edits", to / "must-fail", dirs_exist_ok=True)
+
+
+def changes(edit):
+    """What the edit changes: for each of its files the texts that go and those that come."""
+    found, file, old = {}, None, None
+    for line in edit.read_text().splitlines():
+        word, _, text = line.partition(": ")
+        if word == "file":
+            file = text.strip()
+        elif word == "old":
+            old = text
+        elif word == "new" or line == "new:":
+            found.setdefault(file, []).append((old, text if word == "new" else ""))
+    return found
+
+
+def function_at(crate, path, text, at):
+    """The name, as a check knows it, of the function around a place of a source file; None where there is none."""
+    before = text[: text.find("\n", at)].splitlines()
+    name, indent, own = None, 0, ""
+    for line in reversed(before):
+        head = FUNCTION.match(line)
+        if name is None and head:
+            indent, name = len(head[1]), head[2]
+            if not indent:
+                break
+        elif name and (of := IMPL.match(line)):
+            own = of[2] + (of[1] or "").rpartition(":")[2] + "::"
+            break
+        elif name is None and line.rstrip() == "}":
+            return None
+    if name is None:
+        return None
+    # (a check names a method by the module of its type, wherever the impl stands)
+    module = [crate, *(it for it in Path(path).with_suffix("").parts[1:] if it != "lib")]
+    return own + name if own else "::".join([*module, name])
+
+
+def functions_of(crate, folder, edit):
+    """The names of the functions that an edit changes, and the edited files; None where an old text isn't there once, or
+    stands in no function."""
+    names, files = [], {}
+    for path, pairs in changes(edit).items():
+        text = (folder / "crates" / crate / path).read_text()
+        for old, new in pairs:
+            if text.count(old) != 1:
+                return None
+            names.append(function_at(crate, path, text, text.find(old) + len(old) - len(old.lstrip())))
+            text = text.replace(old, new)
+        files[path] = text
+    return None if None in names else (list(dict.fromkeys(names)), files)
+
+
+def check(crate, folder, names):
+    """What a check of these functions alone says, and its status."""
+    words = [word for name in names for word in ("--only", name)]
+    ran = subprocess.run(["rt", "check", "--jobs", "1", *words], cwd=folder / "crates" / crate, stdout=subprocess.PIPE, stderr=subprocess.STDOUT, text=True, errors="replace")
+    return ran.stdout.splitlines(), ran.returncode
+
+
+def refusal(lines, status):
+    """What is to be said of an edit by what a check of its functions says; None where that tells nothing."""
+    if status != 1 or not any(line.startswith("only=") for line in lines):
+        return None
+    told = [line for line in lines if PLACED.match(line)]
+    told = [line for line in told if ": error" in line or line.startswith("note: ")] or told
+    first = next((line for line in told if not NAMES.match(line)), "")
+    if told and not first:
+        return None
+    return f"{REFUSED}: {first[:160]}"
+
+
+def tried_alone(crate, folder):
+    """Tries the edits of a crate by the functions that they change: what is said of each, with None for those that want the
+    whole crate."""
+    found = {edit: functions_of(crate, folder, edit) for edit in edits_of(crate)}
+    every = list(dict.fromkeys(name for it in found.values() if it for name in it[0]))
+    whole = [name for name in every if check(crate, folder, [name])[1]] if every and check(crate, folder, every)[1] else []
+    said = {}
+    for edit, it in found.items():
+        said[edit] = None
+        if it and not any(name in whole for name in it[0]):
+            kept = {path: (folder / "crates" / crate / path).read_text() for path in it[1]}
+            try:
+                for path, text in it[1].items():
+                    (folder / "crates" / crate / path).write_text(text)
+                said[edit] = refusal(*check(crate, folder, it[0]))
+            finally:
+                for path, text in kept.items():
+                    (folder / "crates" / crate / path).write_text(text)
+        print(f"{crate}/{edit.name}: {said[edit] or 'wants the whole crate'}", flush=True)
+    return said
+
+
+def tried_whole(edits, folder):
+    """Tries edits over their whole crates: what is said of each, and what else there is to say."""
+    for edit in edits:
+        to = folder / "crates" / edit.parts[-3] / "must-fail"
+        to.mkdir(exist_ok=True)
+        shutil.copy2(edit, to)
+    names = sorted({edit.parts[-3] for edit in edits})
+    ran = subprocess.run(["rt", "must-fail", *names], cwd=folder, stdout=subprocess.PIPE, stderr=subprocess.STDOUT, text=True, errors="replace")
+    told = [TOLD.match(line) or line for line in ran.stdout.splitlines()]
+    said = {(it[1], it[2]): it[3] for it in told if not isinstance(it, str)}
+    return {edit: said.get((edit.parts[-3], edit.name), "NOT TRIED") for edit in edits}, [it for it in told if isinstance(it, str)]
 
 
 def tried(names, folder):
-    """Tries the edits of the crates: for each crate how many were refused, and what is to be said of the others."""
+    """Tries the edits of the crates: what is said of each."""
     copy_to(folder)
-    ran = subprocess.run(["rt", "must-fail", *names], cwd=folder, stdout=subprocess.PIPE, stderr=subprocess.STDOUT, text=True)
-    refused, said = dict.fromkeys(names, 0), []
-    for line in ran.stdout.splitlines():
-        told = TOLD.match(line)
-        if told and told[3].startswith("refused, as it must be"):
-            refused[told[1]] += 1
-        if not told or not told[3].startswith("refused") or any(weak in told[3] for weak in WEAK):
-            said.append(line)
-    return refused, said
+    said = {edit: told for name in names for edit, told in tried_alone(name, folder).items()}
+    rest = [edit for edit, told in said.items() if told is None]
+    if rest:
+        whole, more = tried_whole(rest, folder)
+        said.update(whole)
+        print("\n".join(more))
+    return said
 
 
 def main(words):
@@ -125,9 +236,13 @@ def main(words):
     with tempfile.TemporaryDirectory(prefix="edits-") as scratch:
         folder = place or Path(scratch)
         folder.mkdir(parents=True, exist_ok=True)
-        refused, said = tried(names, folder)
-    print("\n".join(said))
+        said = tried(names, folder)
+    good = {edit for edit, told in said.items() if told.startswith("refused")}
+    for edit, told in said.items():
+        if edit not in good or any(weak in told for weak in WEAK):
+            print(f"{edit.parts[-3]}/{edit.name}: {told}")
     known = {name: told for name, told in noted().items() if name in named and edits_of(name)}
+    refused = {name: sum(edit in good for edit in edits_of(name)) for name in names}
     for name in names:
         if edits_of(name):
             known[name] = [str(refused[name]), str(len(edits_of(name))), sums[name]]
