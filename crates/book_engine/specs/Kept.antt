@@ -102,6 +102,23 @@ LeavesLine result old new = LeavesLineIn result (session_kept old) (session_kept
 abbrev pub KeepsElsewhere : {C : Type 0} {G : Ghosts C} → Place → Engine C G → Engine C G → Type 0
 KeepsElsewhere p old new = book.KeepsElsewhere p (book_kept old) (book_kept new)
 
+-- only formulas that lag behind the cursor may be kept otherwise than before: live ones that are kept as of an earlier position, and
+-- have a standing there
+abbrev pub MovesLagging : {C : Type 0} {G : Ghosts C} → Engine C G → Engine C G → Type 0
+MovesLagging old new = store.MovesLagging (book_kept old).lazy.line.cursor (book_kept old).lazy (book_kept new).lazy
+
+-- each formula is kept as it was, or as of the cursor
+abbrev pub ComeToCursor : {C : Type 0} {G : Ghosts C} → Engine C G → Engine C G → Type 0
+ComeToCursor old new = store.StayOrComeTo (book_kept old).lazy.line.cursor (book_kept old).lazy (book_kept new).lazy
+
+-- all formulas together went on over so many operations at most, and each that lags still has more before it than are left of these
+abbrev pub GoOnWithin : {C : Type 0} {G : Ghosts C} → ℕ → Engine C G → Engine C G → Type 0
+GoOnWithin budget old new = store.GoOnWithin budget (book_kept old).lazy (book_kept new).lazy
+
+-- no formula lags behind the cursor
+abbrev pub AreCaughtUp : {C : Type 0} {G : Ghosts C} → Engine C G → Type 0
+AreCaughtUp e = store.AreCaughtUp (book_kept e).lazy
+
 -- a paste of what waits: after a cut it moves a block, and otherwise it writes cells
 abbrev pub KeepsAtPaste : {C : Type 0} {G : Ghosts C} → Clip → Engine C G → Engine C G → Type 0
 KeepsAtPaste (clips.Cut area) old new = KeepsAtShift old new

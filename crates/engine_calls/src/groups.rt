@@ -89,6 +89,30 @@ pub(crate) fn a_long_line_is_settled(engine: &mut Engine<NoCustoms>) -> Result<b
     Ok(settled && after && before && oldest)
 }
 
+// Idle time takes formulas along, those that the budget suffices for, until none is left; undo has them as they were.
+pub(crate) fn idle_time_is_spent(engine: &mut Engine<NoCustoms>) -> Result<bool, Stop> {
+    engine.add_sheet("Plan")?;
+    engine.set(place(0, 0), "=B5")?;
+    engine.set(place(0, 1), "=B6")?;
+    for _ in 0..10 {
+        engine.insert_rows(0, 1, 1)?;
+    }
+    let none = !engine.settle_idle(9)? && kept_at(engine, 0) == Some(0);
+    let one = !engine.settle_idle(15)? && kept_at(engine, 0) == Some(10);
+    let left = kept_at(engine, 1) == Some(0);
+    let all = engine.settle_idle(10)? && kept_at(engine, 1) == Some(10);
+    let again = engine.settle_idle(0)?;
+    engine.undo()?;
+    let before = reads(engine, 0, 0, "=B14") && reads(engine, 0, 1, "=B15");
+    Ok(none && one && left && all && again && before)
+}
+
+// As of which position of the line the formula in the first row of a column is kept.
+fn kept_at(engine: &Engine<NoCustoms>, col: u32) -> Option<u64> {
+    let stored = engine.stored(place(0, col))?;
+    Some(stored.position)
+}
+
 // Formulas that were replaced come back with undo as far as the steps reach, however many were swept before.
 pub(crate) fn replaced_formulas_come_back(engine: &mut Engine<NoCustoms>) -> Result<bool, Stop> {
     engine.add_sheet("Plan")?;

@@ -43,6 +43,7 @@ enum Calls {
     Columns,
     Steps,
     Line,
+    Idle,
     Replaced,
     Names,
     Clipboard,
@@ -53,7 +54,7 @@ enum Calls {
 }
 
 impl Group {
-    const ALL: [(Group, &'static str); 14] = [
+    const ALL: [(Group, &'static str); 15] = [
         (Group::Given, "begins with given sheets"),
         (Group::Limit, "steps are kept up to the limit"),
         (Group::Counted, "formulas are worked out once"),
@@ -66,6 +67,7 @@ impl Group {
         ),
         (Group::Over(Calls::Steps), "steps go back and forward"),
         (Group::Over(Calls::Line), "a long line is settled"),
+        (Group::Over(Calls::Idle), "idle time is spent"),
         (Group::Over(Calls::Replaced), "replaced formulas come back"),
         (Group::Over(Calls::Names), "names come and go"),
         (Group::Over(Calls::Clipboard), "blocks are pasted"),
@@ -94,6 +96,7 @@ impl Calls {
             Calls::Columns => groups::formulas_follow_columns(engine),
             Calls::Steps => groups::steps_go_back_and_forward(engine),
             Calls::Line => groups::a_long_line_is_settled(engine),
+            Calls::Idle => groups::idle_time_is_spent(engine),
             Calls::Replaced => groups::replaced_formulas_come_back(engine),
             Calls::Names => groups::names_come_and_go(engine),
             Calls::Clipboard => groups::blocks_are_pasted(engine),

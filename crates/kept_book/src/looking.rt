@@ -1,10 +1,10 @@
 // Formulas that are looked up: as they are kept, or as of the cursor.
-ghost use Rattle.std.specs.Prelude.{◌≡◌, ◌∷◌, None, Some, IfOk, OnOk, option_map};
+ghost use Rattle.std.specs.Prelude.{◌≡◌, ◌↔◌, ◌∷◌, true, None, Some, IfOk, OnOk, option_map};
 ghost use Rattle.std.specs.FinMap as map;
 ghost use Rattle.formula_tree.specs.Pooled.{held};
 ghost use Rattle.formula_tree.specs.Relative.{relative};
 ghost use Rattle.lazy_store.specs.Holders.{IsFront};
-ghost use Rattle.lazy_store.specs.Store.{position_in};
+ghost use Rattle.lazy_store.specs.Store.{AreCaughtUp, GoOnWithin, MovesLagging, StayOrComeTo, position_in};
 ghost use Rattle.name_table.specs.Named.{names_of, words_of};
 ghost use Rattle.name_table.specs.Scopes.{key_of};
 ghost use Rattle.book_values.specs.Names.{Key};
@@ -84,5 +84,23 @@ impl Book {
             Some(id) => Ok(Some(self.lazy.read(pool, id)?)),
             None => Ok(None),
         }
+    }
+
+    /// Takes formulas that are kept as of a position before the cursor to it, as far as the budget of operations goes: those of the
+    /// workbook, and others that have a standing there. The answer is whether none is left. Costs what
+    /// [`lazy_store::Lazy::catch_up`] does.
+    pub fn catch_up(&mut self, pool: &mut Pool, budget: u64) -> Result<bool, AllocError>
+        ensures same { SameBook self.old self.new }
+        ensures line { self.new.lazy.line ≡ self.old.lazy.line }
+        ensures grid { self.new.grid ≡ self.old.grid }
+        ensures names { self.new.names ≡ self.old.names }
+        ensures next { self.new.next_id ≡ self.old.next_id }
+        ensures others { MovesLagging self.old.lazy.line.cursor self.old.lazy self.new.lazy }
+        ensures placed { OnOk result (StayOrComeTo self.old.lazy.line.cursor self.old.lazy self.new.lazy) }
+        ensures budget { OnOk result (GoOnWithin budget self.old.lazy self.new.lazy) }
+        ensures all { IfOk result (λ all. (all ≡ true) ↔ AreCaughtUp self.new.lazy) }
+        ensures pool { IsFront (held pool.old) (held pool.new) }
+    {
+        self.lazy.catch_up(pool, budget)
     }
 }

@@ -1,11 +1,12 @@
-// Formulas that are read: each is taken to the cursor, and the session stays.
-ghost use Rattle.std.specs.Prelude.{◌≡◌, IfOk, OnOk, option_map};
+// Formulas that are read, or catch up: each is taken to the cursor, and the session stays.
+ghost use Rattle.std.specs.Prelude.{◌≡◌, ◌↔◌, true, IfOk, OnOk, option_map};
 ghost use Rattle.std.specs.FinMap as map;
 ghost use Rattle.std.specs.List.{All};
 ghost use Rattle.cell_addr.specs.Place.{covers};
 ghost use Rattle.cell_addr.specs.declared.place.Place.{Place as PlaceSeen};
 ghost use Rattle.clip_board.specs.Clips.{items_of};
 ghost use Rattle.grid_store.specs.Grid.{cells_of};
+ghost use Rattle.lazy_store.specs.Store.{AreCaughtUp, GoOnWithin, MovesLagging, StayOrComeTo};
 ghost use Rattle.name_table.specs.Named.{names_of};
 ghost use Rattle.name_table.specs.Scopes.{key_of};
 ghost use Rattle.book_cells.specs.Workbook.{Content};
@@ -58,5 +59,21 @@ impl Session {
         ensures same { SameBook self.old.book self.new.book }
     {
         self.book.copied_cells(&mut self.pool, area)
+    }
+
+    /// Takes formulas of the session's workbooks that are kept as of a position before the cursor to it, as far as the budget of
+    /// operations goes, where they have a standing there. The answer is whether none is left. Costs what
+    /// [`kept_book::Book::catch_up`] does.
+    pub fn catch_up(&mut self, budget: u64) -> Result<bool, AllocError>
+        ensures state { state_of self.new ≡ state_of self.old }
+        ensures same { SameBook self.old.book self.new.book }
+        ensures line { self.new.book.lazy.line ≡ self.old.book.lazy.line }
+        ensures names { self.new.book.names ≡ self.old.book.names }
+        ensures others { MovesLagging self.old.book.lazy.line.cursor self.old.book.lazy self.new.book.lazy }
+        ensures placed { OnOk result (StayOrComeTo self.old.book.lazy.line.cursor self.old.book.lazy self.new.book.lazy) }
+        ensures budget { OnOk result (GoOnWithin budget self.old.book.lazy self.new.book.lazy) }
+        ensures all { IfOk result (λ all. (all ≡ true) ↔ AreCaughtUp self.new.book.lazy) }
+    {
+        self.book.catch_up(&mut self.pool, budget)
     }
 }

@@ -86,6 +86,11 @@ impl Guarded {
         Ok(Some(tree))
     }
 
+    /// Takes formulas that lag behind the cursor to it within the budget, and says whether none is left.
+    pub(crate) fn catch_up(&mut self, pool: &mut Pool, budget: u64) -> Result<bool, AllocError> {
+        self.store.catch_up(pool, budget)
+    }
+
     /// Moves the cursor to a position of the line.
     pub(crate) fn move_cursor(&mut self, position: u64) {
         let (first, last) = (self.store.line().first(), self.store.line().last());

@@ -26,6 +26,7 @@ use std::process::ExitCode;
 enum Group {
     Line,
     Read,
+    CaughtUp,
     Lost,
     Clipped,
     Whole,
@@ -34,9 +35,10 @@ enum Group {
 }
 
 impl Group {
-    const ALL: [(Group, &'static str); 7] = [
+    const ALL: [(Group, &'static str); 8] = [
         (Group::Line, "a line is cut and forgotten"),
         (Group::Read, "a formula is read, looked up and settled"),
+        (Group::CaughtUp, "formulas catch up within a budget"),
         (Group::Lost, "a lost reference comes back"),
         (Group::Clipped, "a clipped block is whole again"),
         (Group::Whole, "whole columns have a lost one again"),
@@ -49,6 +51,7 @@ impl Group {
         match self {
             Group::Line => rows::a_line_is_cut_and_forgotten(alloc),
             Group::Read => rows::all_hold(alloc, &rows::READ_AND_SETTLED),
+            Group::CaughtUp => rows::all_hold(alloc, &rows::CAUGHT_UP),
             Group::Lost => rows::all_hold(alloc, &rows::LOST_AND_BACK),
             Group::Clipped => rows::all_hold(alloc, &rows::CLIPPED_AND_WHOLE),
             Group::Whole => rows::all_hold(alloc, &rows::WHOLE_AND_BACK),

@@ -64,6 +64,8 @@ pub(crate) enum Step {
     Shift(Shift),
     /// The cursor goes to the position.
     MoveTo(u64),
+    /// Formulas that lag behind the cursor come to it within the budget; whether none is left.
+    CatchUp(u64, bool),
     /// The store is settled to the position.
     Settle(u64),
     /// A formula is removed, put back or forgotten.
@@ -95,6 +97,33 @@ pub(crate) const READ_AND_SETTLED: [Step; 9] = [
     Step::Settle(1),
     Step::First(1),
     Step::IsNowhere(ID, 0),
+];
+
+/// Formulas catch up in their order within a budget, each whose operations it suffices for; one without a standing at the cursor
+/// and a removed one are left alone, and so is one that is kept beyond it.
+pub(crate) const CAUGHT_UP: [Step; 22] = [
+    Step::Put(ID, 0, "=B5"),
+    Step::Shift(INSERT),
+    Step::Put(OTHER, 2, "=B3"),
+    Step::Shift(INSERT),
+    Step::CatchUp(1, false),
+    Step::Keeps(ID, 0, 0, "=B5"),
+    Step::Keeps(OTHER, 2, 3, "=B4"),
+    Step::CatchUp(2, true),
+    Step::Keeps(ID, 2, 0, "=B7"),
+    Step::Shift(DELETE_FIRST),
+    Step::CatchUp(0, false),
+    Step::CatchUp(1, true),
+    Step::Keeps(ID, 2, 0, "=B7"),
+    Step::Keeps(OTHER, 3, 2, "=B3"),
+    Step::IsNowhere(ID, 3),
+    Step::Shift(INSERT),
+    Step::Change(Change::Remove, OTHER),
+    Step::CatchUp(0, true),
+    Step::Keeps(OTHER, 3, 2, "=B3"),
+    Step::MoveTo(2),
+    Step::CatchUp(9, true),
+    Step::Keeps(OTHER, 3, 2, "=B3"),
 ];
 
 /// A reference that was lost is there again when the cursor goes back, whether the formula was read or not.
@@ -228,6 +257,9 @@ impl Scene {
             Step::MoveTo(position) => {
                 self.store.move_cursor(position);
                 Ok(self.store.store().line().cursor() == position)
+            }
+            Step::CatchUp(budget, all) => {
+                Ok(self.store.catch_up(&mut self.pool, budget)? == all)
             }
             Step::Settle(position) => self.store.settle(&mut self.pool, position),
             Step::Change(change, id) => Ok(self.store.change(change, id)),

@@ -11,3 +11,4 @@ pub mod Positions
 pub mod Born
 pub mod Runs
 pub mod Noted
+pub mod Budgets

@@ -83,7 +83,7 @@ not-off Before k h there = le-ltb h.position k (omega (arith, there))
 not-off Beyond k h there = le-ltb k h.position (omega (arith, there))
 not-off Returning k h there = ap (λ b. b && nat_le h.birth k) (le-ltb k h.position (omega (arith, there)))
 
-stand-trans : {S : Type 0} (line : Track) (old mid new : HashMap ℕ Holder S) → StandAlong line old mid → StandAlong line mid new → StandAlong line old new
+pub stand-trans : {S : Type 0} (line : Track) (old mid new : HashMap ℕ Holder S) → StandAlong line old mid → StandAlong line mid new → StandAlong line old new
 stand-trans line old mid new a b = record {
   at = λ id k. b.at id k ∙ a.at id k;
   live = λ id. b.live id ∙ a.live id;

@@ -1,6 +1,6 @@
 -- What a store keeps of a formula, and the standing that the formula has by it at each position of the line.
 -- Source: this project's own.
-use Rattle.std.specs.Prelude.{◌≡◌, ℕ, zero, suc, ◌+◌, ◌-◌, ◌<◌, ◌≤◌, max, nat_lt, if◌then◌else◌, Bool, true, Option, Some, None, MatchOption, option_and_then, unwrap_or}
+use Rattle.std.specs.Prelude.{◌≡◌, ◌≢◌, ℕ, zero, suc, ◌+◌, ◌-◌, ◌<◌, ◌≤◌, max, nat_lt, if◌then◌else◌, Bool, true, Option, Some, None, MatchOption, option_and_then, unwrap_or}
 use Rattle.formula_tree.specs.StandsFor.{at_home}
 use Rattle.formula_tree.specs.Term.{Term}
 use Rattle.formula_tree.specs.declared.reference.Home.{Home}
@@ -91,3 +91,9 @@ pub record IsAlong (line : Track) (low high : ℕ) (f : ℕ → Standing) (h : K
 pub record IsCoherent (line : Track) (h : Kept) : Type 0 where
   pub along : IsAlong line (lowest line h) h.position (history line h) h
   pub within : h.position ≤ last line
+
+-- a live formula that is kept as of a position before this one, where it has a standing
+pub record Lags (line : Track) (k : ℕ) (h : Kept) : Type 0 where
+  pub live : h.live ≡ true
+  pub before : h.position < k
+  pub there : at line h k ≢ None

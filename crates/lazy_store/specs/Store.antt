@@ -1,13 +1,14 @@
 -- What a store stands for: a line, which of its formulas are live, and the standing of each at each position of the
 -- line. Source: this project's own.
-use Rattle.std.specs.Prelude.{◌≡◌, ◌≢◌, ℕ, ◌+◌, ◌<◌, ◌≤◌, max, min, nat_le, if◌then◌else◌, Bool, true, Option, Some, None, option_map, option_and_then}
+use Rattle.std.specs.Prelude.{◌≡◌, ◌≢◌, ◌⊎◌, ℕ, ◌+◌, ◌-◌, ◌<◌, ◌≤◌, max, min, nat_le, if◌then◌else◌, Bool, true, Option, Some, None, option_map, option_and_then, unwrap_or}
 use Rattle.std.specs.HashMap as hash
+use Rattle.std.specs.List.{sum_by}
 use Rattle.formula_tree.specs.Term.{Term}
 use Rattle.formula_tree.specs.declared.reference.Home.{Home}
 use Rattle.formula_tree.specs.declared.reference.Ref.{Ref}
 use Rattle.shift_core.specs.declared.shift.Shift.{Shift}
 use Rattle.lazy_store.specs.Holders.{kept_under}
-use Rattle.lazy_store.specs.Kept.{Kept, at}
+use Rattle.lazy_store.specs.Kept.{Kept, Lags, at}
 use Rattle.lazy_store.specs.Standing.{Standing, after}
 use Rattle.lazy_store.specs.declared.lazy.Lazy.{Lazy}
 
@@ -112,3 +113,28 @@ stored_in store id = option_map (λ h. (h.position, (h.home, h.tree))) (kept_in 
 -- the formulas that are kept as of the position or a later one stay so
 abbrev pub KeepsFrom : ℕ → Lazy → Lazy → Type 0
 KeepsFrom k old new = (id : ℕ) (h : Kept) → kept_in old id ≡ Some h → k ≤ h.position → stored_in new id ≡ stored_in old id
+
+-- only formulas that lag behind the position may be kept otherwise than before
+abbrev pub MovesLagging : ℕ → Lazy → Lazy → Type 0
+MovesLagging k old new = (id : ℕ) (h : Kept) → kept_in old id ≡ Some h → ¬ Lags old.line k h → kept_in new id ≡ Some h
+
+-- each formula is kept as it was, or as of the position
+abbrev pub StayOrComeTo : ℕ → Lazy → Lazy → Type 0
+StayOrComeTo k old new = (id : ℕ) (h : Kept) → kept_in new id ≡ Some h → (kept_in old id ≡ Some h) ⊎ (h.position ≡ k)
+
+-- over how many operations a formula went on, and all together
+abbrev pub gone_on : Lazy → Lazy → ℕ → ℕ
+gone_on old new id = unwrap_or (position_in new id) 0 - unwrap_or (position_in old id) 0
+
+abbrev pub all_gone_on : Lazy → Lazy → ℕ
+all_gone_on old new = sum_by (gone_on old new) (hash.keys old.holders)
+
+-- all formulas together went on over so many operations at most, and each that lags behind the cursor still has more before it
+-- than are left of these
+pub record GoOnWithin (budget : ℕ) (old new : Lazy) : Type 0 where
+  pub most : all_gone_on old new ≤ budget
+  pub left : (id : ℕ) (h : Kept) → kept_in new id ≡ Some h → Lags new.line new.line.cursor h → budget < all_gone_on old new + (new.line.cursor - h.position)
+
+-- no formula lags behind the cursor
+abbrev pub AreCaughtUp : Lazy → Type 0
+AreCaughtUp store = (id : ℕ) (h : Kept) → kept_in store id ≡ Some h → ¬ Lags store.line store.line.cursor h

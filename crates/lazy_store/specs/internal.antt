@@ -4,3 +4,4 @@ pub mod Recent
 pub mod Steps
 pub mod Sweeps
 pub mod Pending
+pub mod Passes

@@ -1,5 +1,5 @@
 // The line with its formulas.
-ghost use Rattle.std.specs.Prelude.{◌≡◌, ◌≢◌, [], ℕ, ◌+◌, ◌<◌, ◌≤◌, true, false, None, Some, IfOk, IfSome, OnOk, OnErr, IsOk, if◌then◌else◌, is_some, nat_eq, option_map, option_and_then};
+ghost use Rattle.std.specs.Prelude.{◌≡◌, ◌≢◌, ◌↔◌, [], ℕ, ◌+◌, ◌<◌, ◌≤◌, true, false, None, Some, IfOk, IfSome, OnOk, OnErr, IsOk, if◌then◌else◌, is_some, nat_eq, option_map, option_and_then};
 ghost use Rattle.std.specs.HashSet.{contains};
 ghost use Rattle.formula_tree.specs.Pooled.{held};
 ghost use Rattle.formula_tree.specs.Reference.{IsHomeInside};
@@ -15,6 +15,7 @@ ghost use Rattle.lazy_store.specs.internal.Recent.{AreNoted};
 ghost use Rattle.lazy_store.specs.internal.Props.{are_coherent-prop, is_sound_line-prop};
 
 use crate::among::Among;
+use crate::catching_up::catch_up;
 use crate::holder::Holder;
 use crate::holders::{Side, bring, bring_all, cut_all, drop_born_beyond, keep_among};
 use crate::pending::Listed;
@@ -53,7 +54,7 @@ impl Drop for Lazy {
 }
 
 impl Lazy {
-    ghost use Rattle.lazy_store.specs.Store.{AreBehind, AreReturned, CanComeBack, CanGoOn, ComeBackTo, GoOnTo, KeepsAll, KeepsBehind, KeepsBornBeyond, KeepsFrom, KeepsOthers, ReturnTo, StandsAsBefore, StandsFrom, StandsOneOn, StandsUpTo, at_in, if_born_by, kept_in, live_in, spare_in, stored_in};
+    ghost use Rattle.lazy_store.specs.Store.{AreBehind, AreCaughtUp, AreReturned, CanComeBack, CanGoOn, ComeBackTo, GoOnTo, GoOnWithin, KeepsAll, KeepsBehind, KeepsBornBeyond, KeepsFrom, KeepsOthers, MovesLagging, ReturnTo, StandsAsBefore, StandsFrom, StandsOneOn, StandsUpTo, StayOrComeTo, at_in, if_born_by, kept_in, live_in, spare_in, stored_in};
 
     /// A store without operations and formulas, whose positions are all 0.
     pub fn new(alloc: Global) -> Result<Lazy, AllocError>
@@ -256,6 +257,28 @@ impl Lazy {
             unreachable!()
         };
         Ok(holder.tree.clone()?)
+    }
+
+    /// Takes live formulas that are kept as of a position before the cursor to it, in the order of the store, as far as the
+    /// budget goes: each costs as many units of it as there are operations between, and one for which those that are left don't
+    /// suffice stays as it is; so does, whatever was spent, one with more operations before it than the whole budget. The answer is
+    /// whether none is left: whether each live formula with a standing at the cursor is kept as of that or a later position. Formulas
+    /// that are kept as of these, removed ones, and those without a standing at the cursor are left alone. No formula's standings
+    /// change, whatever the answer; for want of memory one formula may have come part of the way. Costs a look at each formula, for
+    /// those that are taken what [`Lazy::read`] does, and for others, by their homes alone, the operations between, where the formula
+    /// has no standing at the cursor up to the one that loses its home.
+    pub fn catch_up(&mut self, pool: &mut Pool, budget: u64) -> Result<bool, AllocError>
+        ensures standings { StandsAsBefore self.old self.new }
+        ensures others { MovesLagging self.old.line.cursor self.old self.new }
+        ensures placed { OnOk result (StayOrComeTo self.old.line.cursor self.old self.new) }
+        ensures budget { OnOk result (GoOnWithin budget self.old self.new) }
+        ensures all { IfOk result (λ all. (all ≡ true) ↔ AreCaughtUp self.new) }
+        ensures line { self.new.line ≡ self.old.line }
+        ensures spare { spare_in self.new ≡ spare_in self.old }
+        ensures pool { IsFront (held pool.old) (held pool.new) }
+    {
+        let (alloc, recent) = (self.alloc, &mut self.recent);
+        catch_up(alloc, &mut self.holders, recent, &self.line, pool, budget)
     }
 
     /// Puts an operation on the line at the cursor, in place of those beyond it, and moves the cursor behind it. The

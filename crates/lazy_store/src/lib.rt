@@ -19,6 +19,7 @@
 #![tactic(auto)]
 
 mod among;
+mod catching_up;
 mod holder;
 mod holders;
 mod homes;
