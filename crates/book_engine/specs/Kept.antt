@@ -38,6 +38,7 @@ use Rattle.kept_values.specs.Values.{marks_in, merged_in}
 use Rattle.kept_values.specs.declared.values.Values.{Values}
 use Rattle.session_values.specs.Following.{book_of, words_in}
 use Rattle.session_values.specs.Naming.{MarksAddition, MarksChange, MarksRemoval}
+use Rattle.session_values.specs.Parts.{MarksPartsBack, MarksPartsForth}
 use Rattle.session_values.specs.Refreshed.{IsUnmarked, TakesStepsIn}
 use Rattle.session_values.specs.Shifting.{MarksShift, MarksShiftBack, is_replaced_cell}
 use Rattle.session_values.specs.Touched.{AreTouched, AreTouchedAtMost}
@@ -199,17 +200,19 @@ pub record MarksReturned (s back : Shift) (changes : List Change) (old new : Opt
   pub marks : MarksShiftBack s back touched removed old new
 
 -- a step is taken back or done again. Where it is one structural operation that another one takes back, this holds of both; where it changes cells,
--- or which sheets there are, alone, those that it lists may be marked; after any other step nothing may be kept any more
-pub record MarksStep (line : Line) (changes : List Change) (Marks : Shift → Shift → Type 0) (old new : Option Values) : Type 0 where
+-- or which sheets there are, alone, those that it lists may be marked; and of any other step, which drops a sheet, changes one name or has several
+-- parts, that holds
+pub record MarksStep (line : Line) (changes : List Change) (Marks : Shift → Shift → Type 0) (Parts : Type 0) (old new : Option Values) : Type 0 where
   pub operation : (s back : Shift) → operation_of line changes ≡ Some s → opposite_of s ≡ Some back → Marks s back
   pub cells : AreOfCells changes → AreTouched (is_listed changes) old new
+  pub parts : ¬ AreOfCells changes → ((s back : Shift) → operation_of line changes ≡ Some s → opposite_of s ≡ Some back → ⊥) → Parts
 
--- so by undo, and by redo
+-- so by undo, and by redo; of any other step each part leaves its marks, one after the other, and takes along those of the parts before it
 abbrev pub MarksUndoneIn : Session → Option Values → Option Values → Type 0
-MarksUndoneIn s old new = MarksStep (line_of s.book) (to_undo s) (λ operation back. MarksReturned operation back (to_undo s) old new) old new
+MarksUndoneIn s old new = MarksStep (line_of s.book) (to_undo s) (λ operation back. MarksReturned operation back (to_undo s) old new) (MarksPartsBack s (to_undo s) old new) old new
 
 abbrev pub MarksRedoneIn : Session → Option Values → Option Values → Type 0
-MarksRedoneIn s old new = MarksStep (line_of s.book) (to_redo s) (λ operation back. MarksAlong operation old new) old new
+MarksRedoneIn s old new = MarksStep (line_of s.book) (to_redo s) (λ operation back. MarksAlong operation old new) (MarksPartsForth s (to_redo s) old new) old new
 
 -- and in an engine: a structural operation, undo, and redo
 abbrev pub MarksOperation : {C : Type 0} {G : Ghosts C} → Shift → Engine C G → Engine C G → Type 0

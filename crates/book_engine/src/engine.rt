@@ -46,10 +46,10 @@ use undo_book::UndoBook;
 /// is kept, and marks the formulas that it bends or that ask where a reference is, the cells of a moved block and of where it goes,
 /// and the names of a dropped sheet; a name that gets another formula is marked, with one that is removed each formula that used it,
 /// and with one that is added each formula that uses its word where that found none. Undo and redo of changes of cells mark these, of
-/// a change of a name what that touches, and of a structural operation they take back or along what is kept; a step of several such
-/// changes they follow one after the other. After those of a dropped sheet, and of a block that was moved among other changes, the
-/// next read works the whole workbook out. Each change says by a clause, `marks`, `left` or `values`, which marks there are after it;
-/// of undo and redo of one change of a name [`SessionValues::name_turned`] says it, and of a step of several changes no clause does.
+/// a change of a name what that touches, and of a structural operation they take back or along what is kept; where a dropped sheet comes back,
+/// its cells and names are marked, and each formula that had lost a reference; a step of several such changes they follow one after
+/// the other. After those of a block that was moved among other changes the next read works the whole workbook out. Each change,
+/// undo and redo says by a clause, `marks`, `left` or `values`, which marks there are after it.
 pub struct Engine<C: Customs> {
     pub(crate) parts: Parts,
     pub(crate) waiting: Waiting,

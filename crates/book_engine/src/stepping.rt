@@ -9,6 +9,7 @@ ghost use Rattle.kept_steps.specs.Turned.{AreOfCells, is_listed, name_of, operat
 ghost use Rattle.lazy_store.specs.Store.{KeepsAll};
 ghost use Rattle.recalc_core.specs.Shifted.{drops_scope};
 ghost use Rattle.session_values.specs.Naming.{turn_of};
+ghost use Rattle.session_values.specs.Parts.{MarksPartsBack, MarksPartsForth};
 ghost use Rattle.session_values.specs.Touched.{AreTouched, AreTouchedAtMost, IsStepMarked};
 ghost use Rattle.shift_core.specs.Form.{form_of};
 ghost use Rattle.shift_core.specs.Opposite.{opposite_of};
@@ -28,7 +29,7 @@ use std::alloc::AllocError;
 impl Parts {
     // Takes the newest step back. What is kept of values goes along: at once, where the step is one structural operation that has an
     // opposite, one change of a name, or changes of cells alone; else part by part, as far as each part is an operation on lines, a
-    // change of one name or one of cells alone. Over any other part nothing is kept any more.
+    // dropped sheet, a change of one name or one of cells alone. Over any other part nothing is kept any more.
     pub(crate) fn step_back(&mut self) -> Result<(), AllocError>
         requires fits { Fits self.old }
         requires closed { self.old.session.batch ≡ None }
@@ -82,6 +83,7 @@ impl Parts {
         ensures kept { KeepsAll self.old.session.book.lazy self.new.session.book.lazy }
         ensures follow { ValuesFollowStill self.old self.new }
         ensures marks { AreOfCells (to_undo self.old.session) → AreTouched (is_listed (to_undo self.old.session)) self.old.values.values self.new.values.values }
+        ensures parts { OnOk result (¬ AreOfCells (to_undo self.old.session) → MarksPartsBack self.old.session (to_undo self.old.session) self.old.values.values self.new.values.values) }
     {
         if let Some(name) = self.session.name_undone() {
             return self.name_back(&name);
@@ -102,6 +104,7 @@ impl Parts {
         ensures kept { KeepsAll self.old.session.book.lazy self.new.session.book.lazy }
         ensures follow { ValuesFollowStill self.old self.new }
         ensures marks { AreOfCells (to_undo self.old.session) → AreTouched (is_listed (to_undo self.old.session)) self.old.values.values self.new.values.values }
+        ensures parts { OnOk result (MarksPartsBack self.old.session (to_undo self.old.session) self.old.values.values self.new.values.values) }
     {
         self.session.undo()?;
         self.values
@@ -133,6 +136,7 @@ impl Parts {
         ensures kept { KeepsAll self.old.session.book.lazy self.new.session.book.lazy }
         ensures follow { ValuesFollowStill self.old self.new }
         ensures marks { AreOfCells (to_undo self.old.session) → AreTouched (is_listed (to_undo self.old.session)) self.old.values.values self.new.values.values }
+        ensures parts { OnOk result (MarksPartsBack self.old.session (to_undo self.old.session) self.old.values.values self.new.values.values) }
     {
         self.values
             .parts_turned_back(&self.session, self.session.parts_undone());
@@ -195,6 +199,7 @@ impl Parts {
         ensures kept { KeepsAll self.old.session.book.lazy self.new.session.book.lazy }
         ensures follow { ValuesFollowStill self.old self.new }
         ensures marks { AreOfCells (to_redo self.old.session) → AreTouched (is_listed (to_redo self.old.session)) self.old.values.values self.new.values.values }
+        ensures parts { OnOk result (¬ AreOfCells (to_redo self.old.session) → MarksPartsForth self.old.session (to_redo self.old.session) self.old.values.values self.new.values.values) }
     {
         if let Some(name) = self.session.name_redone() {
             return self.name_forth(&name);
@@ -215,6 +220,7 @@ impl Parts {
         ensures kept { KeepsAll self.old.session.book.lazy self.new.session.book.lazy }
         ensures follow { ValuesFollowStill self.old self.new }
         ensures marks { AreOfCells (to_redo self.old.session) → AreTouched (is_listed (to_redo self.old.session)) self.old.values.values self.new.values.values }
+        ensures parts { OnOk result (MarksPartsForth self.old.session (to_redo self.old.session) self.old.values.values self.new.values.values) }
     {
         self.session.redo()?;
         self.values
@@ -246,6 +252,7 @@ impl Parts {
         ensures kept { KeepsAll self.old.session.book.lazy self.new.session.book.lazy }
         ensures follow { ValuesFollowStill self.old self.new }
         ensures marks { AreOfCells (to_redo self.old.session) → AreTouched (is_listed (to_redo self.old.session)) self.old.values.values self.new.values.values }
+        ensures parts { OnOk result (MarksPartsForth self.old.session (to_redo self.old.session) self.old.values.values self.new.values.values) }
     {
         self.values
             .parts_turned_forth(&self.session, self.session.parts_redone());

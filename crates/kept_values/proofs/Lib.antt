@@ -11,3 +11,4 @@ pub mod LostBefore
 pub mod Gathered
 pub mod Shifted
 pub mod TakenBack
+pub mod Returned

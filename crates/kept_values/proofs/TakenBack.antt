@@ -209,7 +209,7 @@ module _ (s back : Shift) (b c : Workbook) (words : List (List ℕ)) (customs : 
   }
 
 -- where more nodes are of both lists, some are among others still
-among_losing : (v : Values) (few many few_then many_then : List Node) → ((a : Node) → has a few_then ≡ (has a few || loses_in v a)) → ((a : Node) → has a many_then ≡ (has a many || loses_in v a)) → AreAmong few many → AreAmong few_then many_then
+pub among_losing : (v : Values) (few many few_then many_then : List Node) → ((a : Node) → has a few_then ≡ (has a few || loses_in v a)) → ((a : Node) → has a many_then ≡ (has a many || loses_in v a)) → AreAmong few many → AreAmong few_then many_then
 among_losing v few many few_then many_then one two among a h = two a ∙ ⊎_elim
     (λ (front : has a few ≡ true). or_left (has a many) (loses_in v a) (among a front))
     (λ (lost : loses_in v a ≡ true). or_right (has a many) (loses_in v a) lost)

@@ -3,17 +3,20 @@ use Rattle.std.specs.Prelude.{◌≡◌, ◌⊎◌, ℕ, ℤ, Bool, true, false,
 use Rattle.std.specs.FinMap as map
 use Rattle.cell_addr.specs.declared.place.Place.{Place}
 use Rattle.custom_fn.specs.declared.rule.Rule.{Rule}
+use Rattle.formula_tree.specs.Reference.{sheet_of}
 use Rattle.shift_core.specs.Form.{form_of}
 use Rattle.shift_core.specs.declared.shift.Shift.{Shift}
+use Rattle.shift_core.specs.declared.shift.Shift.TheVariants.{DropSheet}
 use Rattle.book_values.specs.Names.{Key, tree_in}
 use Rattle.book_values.specs.Workbook as book
-use Rattle.book_values.specs.Workbook.{Workbook, scope_sheet}
+use Rattle.book_values.specs.Workbook.{Workbook, home_of, scope_sheet}
 use Rattle.dep_graph.specs.Bent.{IsBentBy}
 use Rattle.dep_graph.specs.Needs.{Links}
 use Rattle.dep_graph.specs.Nodes.{has}
 use Rattle.dep_graph.specs.Shifted.{node_after}
 use Rattle.dep_graph.specs.declared.node.Node.{Node}
 use Rattle.dep_graph.specs.declared.node.Node.TheVariants.{Cell, Name, Range, Whole}
+use Rattle.recalc_core.specs.Kept.{stands}
 use Rattle.recalc_core.specs.Laws.{AreKnown}
 use Rattle.recalc_core.specs.Nodes.{AreNumbered, node_at}
 use Rattle.recalc_core.specs.Shifted.{drops_scope}
@@ -42,6 +45,18 @@ abbrev pub FollowsBack : Shift → Shift → List Node → List Node → Values 
 FollowsBack s back touched removed v w =
     (b c : Workbook) (words : List (List ℕ)) (customs : List (List ℕ × Rule)) (today : ℤ) →
     IsBookInside b → IsBookAfter s b c → AreNumbered words c.names → HasTouched back c words touched → AreKnown words touched → AreRemoved s b removed → AreKnown words removed →
+    Follows c words customs today v → Follows b words customs today w
+
+-- the list has each node of a sheet, a cell or a name, that the workbook has
+abbrev pub HasOfSheet : ℕ → Workbook → List (List ℕ) → List Node → Type 0
+HasOfSheet sheet b words nodes = (a : Node) (x : book.Node) → node_at words a ≡ Some x → sheet_of (home_of x) ≡ sheet → stands b x ≡ true → IsTrue (has a nodes)
+
+-- where the first values follow a workbook without a sheet that was dropped, and the list has what of the sheet comes back, the second ones
+-- follow the workbook with the sheet
+abbrev pub FollowsReturn : ℕ → List Node → Values → Values → Type 0
+FollowsReturn sheet nodes v w =
+    (b c : Workbook) (words : List (List ℕ)) (customs : List (List ℕ × Rule)) (today : ℤ) →
+    IsBookInside b → IsBookAfter (DropSheet sheet) b c → AreNumbered words b.names → HasOfSheet sheet b words nodes → AreKnown words nodes →
     Follows c words customs today v → Follows b words customs today w
 
 -- a cell of a block that the operation moves, or of where that goes
@@ -80,3 +95,9 @@ MarksBack s back touched removed v w =
     (a : Node) → IsTrue (has a (marks_in w)) →
     IsTrue (has a removed)
     ⊎ ((b : Node) × ComesFrom back b a × (IsTrue (has b (marks_in v)) ⊎ (IsTrue (has b touched) ⊎ (IsProbedBy s (links_in v) b ⊎ ((asks_in v b ≡ true) ⊎ (loses_in v b ≡ true))))))
+
+-- where a dropped sheet comes back, each mark is one from before, or of a node of the list, or of a formula that asks where a reference is or has
+-- lost one
+abbrev pub MarksReturn : List Node → Values → Values → Type 0
+MarksReturn nodes v w =
+    (a : Node) → IsTrue (has a (marks_in w)) → IsTrue (has a (marks_in v)) ⊎ (IsTrue (has a nodes) ⊎ ((asks_in v a ≡ true) ⊎ (loses_in v a ≡ true)))

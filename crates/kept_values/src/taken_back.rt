@@ -17,7 +17,7 @@ use std::alloc::AllocError;
 use std::mem;
 
 impl Values {
-    ghost use Rattle.kept_values.specs.Shifted.{FollowsBack, MarksBack};
+    ghost use Rattle.kept_values.specs.Shifted.{FollowsBack, FollowsReturn, MarksBack, MarksReturn};
     ghost use Rattle.kept_values.specs.Values.{asks_in, kept_in, links_in, loses_in, marks_in, seeks_in, unlinked_in};
     ghost use Rattle.kept_values.specs.internal.TakenAlong.{AreProbed};
 
@@ -47,6 +47,20 @@ impl Values {
         self.move_seeking(back)?;
         self.carry(back)?;
         self.mark_all(removed)
+    }
+
+    /// Takes the values back over a dropped sheet, which comes back: links and values stay as they are, so that they follow the
+    /// workbook with the sheet where they followed the one without it. Marked are then the nodes that were, these nodes, which are
+    /// the cells and the names of the sheet that come back, and those whose formulas ask where a reference is or have lost one.
+    ///
+    /// For want of memory only some are marked, and the values are of no more use. Costs a look-up or two for each node that is
+    /// marked then.
+    pub fn bring_back(&mut self, nodes: &[Node]) -> Result<(), AllocError>
+        ensures follows { OnOk result ((sheet : ℕ) → FollowsReturn sheet nodes.now self.old self.new) }
+        ensures marks { OnOk result (MarksReturn nodes.now self.old self.new) }
+    {
+        self.gather(nodes, &[])?;
+        self.gather_losing()
     }
 
     // The nodes that are linked to what the operation's probe bends.

@@ -7,3 +7,4 @@ pub mod Named
 pub mod NamedBetween
 pub mod PartsFollowed
 pub mod Refreshed
+pub mod PartsMarked

@@ -1,13 +1,13 @@
 -- Nodes that a structural operation touches, listed. Serves the list of them.
-use Rattle.std.proofs.Common.{◌≡◌, ◌∙◌, sym, ap, refl, subst, ℕ, Bool, true, false, cond, ◌&&◌, ◌||◌, List, [], ◌∷◌, ◌++◌, map, Option, Some, None, is_some, option_map, ◌⊎◌, inl, inr, ⊎_elim}
-use Rattle.std.specs.Prelude.{IsTrue}
+use Rattle.std.proofs.Common.{◌≡◌, ◌≤◌, ◌<◌, ◌+◌, ◌==◌, ◌∙◌, sym, ap, refl, subst, arith, eqb-true, eq-eqb, ltb-false, ltb-true, lt-ltb, nat_lt, length, length-append, ℕ, Bool, true, false, cond, ◌&&◌, ◌||◌, List, [], ◌∷◌, ◌++◌, map, Option, Some, None, is_some, option_map, ◌⊎◌, inl, inr, ⊎_elim}
+use Rattle.std.specs.Prelude.{IsTrue, slice_get}
 use Rattle.std.specs.FinMap as fin
 use Rattle.std.specs.FinMap.{find, get-entries, get-retain_keys}
 use Rattle.std.specs.Ordering.{eq_by_cmp}
 use Rattle.std.proofs.lemmas.Cmp.{eq_by_cmp_equiv}
 use Rattle.std.proofs.lemmas.Bool.{false≢true, or_cases, or_left, or_right}
 use Rattle.std.proofs.lemmas.List.Folds.{list_any-append}
-use Rattle.std.proofs.lemmas.Option.{none-some, same_Some}
+use Rattle.std.proofs.lemmas.Option.{none-some, same_Some, slice_get-get_or, slice_get_within}
 use Rattle.std.specs.List.{list_any}
 use Rattle.cell_addr.proofs.Places.{place_cmp-IsAntisymmetric, place_cmp-IsTotalOrder}
 use Rattle.cell_addr.proofs.SamePlaces.{same_place-equal}
@@ -42,9 +42,10 @@ use Rattle.recalc_core.specs.Laws.{AreKnown}
 use Rattle.recalc_core.specs.Shifted.{drops_scope}
 use Rattle.marked_values.specs.Shifts.{is_moved_in}
 use Rattle.kept_values.specs.Shifted.{HasTouched, may_touch}
+use Rattle.kept_values.proofs.Following.{same_tests}
 use Rattle.session_values.specs.Following.{book_of, words_in}
 use Rattle.session_values.specs.Shifting.{is_replaced_cell}
-use Rattle.session_values.specs.internal.Listed.{cell_node, filled_in, is_name_of, with_named}
+use Rattle.session_values.specs.internal.Listed.{ListsBelow, cell_node, filled_in, is_name_below, is_name_of, with_named}
 
 -- ---- names of a sheet among nodes
 
@@ -88,6 +89,63 @@ named_more sheet x front names so_far a = by (is_name_of sheet x) refl
         ap (λ t. has a (cond t (names ++ x ∷ []) names)) e ∙ so_far a
         ∙ and_other (is_name_of sheet a) (has a front) (same_node a x) (λ same. ap (is_name_of sheet) (same_nodes a x same) ∙ e)
         ∙ ap (λ t. is_name_of sheet a && t) (sym (has_last a x front))
+
+-- ---- all names that a sheet can have
+
+number_more : (w n m : ℕ) → m ≡ n + 1 → (nat_lt w n || (w == n)) ≡ nat_lt w m
+number_more w n m e = same_tests (nat_lt w n || (w == n)) (nat_lt w m) forth back
+  where
+    forth : (nat_lt w n || (w == n)) ≡ true → nat_lt w m ≡ true
+    forth h = ⊎_elim
+        (λ (low : nat_lt w n ≡ true). let p : w < n = ltb-true w n low in lt-ltb w m (omega (arith, p, e)))
+        (λ (same : (w == n) ≡ true). let p : w ≡ n = eqb-true w n same in lt-ltb w m (omega (arith, p, e)))
+        (or_cases (nat_lt w n) (w == n) h)
+
+    back : nat_lt w m ≡ true → (nat_lt w n || (w == n)) ≡ true
+    back h = let p : w < m = ltb-true w m h in by (nat_lt w n) (w == n) refl refl p
+      where
+        by : (l k : Bool) → nat_lt w n ≡ l → (w == n) ≡ k → w < m → (l || k) ≡ true
+        by true k low same p = refl
+        by false true low same p = refl
+        by false false low same p = let q : n ≤ w = ltb-false w n low in absurd (false≢true (sym same ∙ eq-eqb w n (omega (arith, p, q, e))))
+
+same_and : (l m n : Bool) → ((l && m) || (l && n)) ≡ (l && (m || n))
+same_and true m n = refl
+same_and false m n = refl
+
+pub below_more : (sheet words word : ℕ) (old new : List Node) → ListsBelow sheet words old → word ≡ length old → word < words → new ≡ old ++ node.Name sheet word ∷ [] → ListsBelow sheet words new
+below_more sheet words word old new below is low listed = record {
+  within = let e = longer in let n = below.within in omega (arith, e, is, low);
+  all = λ a. ap (has a) listed ∙ has_last a (node.Name sheet word) old ∙ ap (λ t. t || same_node a (node.Name sheet word)) (below.all a) ∙ by a;
+}
+  where
+    longer : length new ≡ length old + 1
+    longer = ap length listed ∙ length-append old (node.Name sheet word ∷ [])
+
+    by : (a : Node) → (is_name_below sheet (length old) a || same_node a (node.Name sheet word)) ≡ is_name_below sheet (length new) a
+    by (node.Cell p) = refl
+    by (node.Name scope number) =
+        ap (λ n. (scope == sheet && nat_lt number (length old)) || (scope == sheet && number == n)) is
+        ∙ same_and (scope == sheet) (nat_lt number (length old)) (number == length old)
+        ∙ ap (λ t. scope == sheet && t) (number_more number (length old) (length new) longer)
+    by (node.Range block) = refl
+    by (node.Whole w) = refl
+
+-- a word that has a number is one of the words
+pub word_within : (words : List (List ℕ)) (n : ℕ) → is_some (slice_get words n) ≡ true → n < length words
+word_within words n some = by (slice_get words n) refl some
+  where
+    by : (o : Option (List ℕ)) → slice_get words n ≡ o → is_some o ≡ true → n < length words
+    by None e h = absurd (false≢true h)
+    by (Some word) e h = slice_get_within words n word e
+
+-- where the next one has none, they are all
+pub below_all : (sheet : ℕ) (words : List (List ℕ)) (nodes : List Node) (n : ℕ) → ListsBelow sheet (length words) nodes → n ≡ length nodes → is_some (slice_get words n) ≡ false → (a : Node) → has a nodes ≡ is_name_below sheet (length words) a
+below_all sheet words nodes n below is none a = below.all a ∙ ap (λ m. is_name_below sheet m a) (by (nat_lt n (length words)) refl)
+  where
+    by : (t : Bool) → nat_lt n (length words) ≡ t → length nodes ≡ length words
+    by true low = absurd (false≢true (sym none ∙ ap is_some (slice_get-get_or words n [] (ltb-true n (length words) low))))
+    by false high = let p : length words ≤ n = ltb-false n (length words) high in let q = below.within in omega (arith, p, q, is)
 
 -- ---- filled cells of a block
 

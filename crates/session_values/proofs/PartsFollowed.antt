@@ -1,8 +1,10 @@
 -- What is kept of values follows over the changes of a step. Serves steps of several parts.
-use Rattle.std.proofs.Common.{◌≡◌, ◌∙◌, sym, ap, refl, subst, ℕ, ℤ, Bool, true, false, List, [], ◌∷◌, ◌++◌, map, Option, Some, None, is_some, Result, Ok, Err}
-use Rattle.std.specs.Prelude.{OnOk}
+use Rattle.std.proofs.Common.{◌≡◌, ◌∙◌, sym, ap, refl, subst, ℕ, ℤ, nat_lt, ◌==◌, eqb-true, eq-eqb, lt-ltb, ltb-true, ◌||◌, ⊎_elim, Bool, true, false, cond, List, [], ◌∷◌, ◌++◌, get_or, length, map, Option, Some, None, is_some, Result, Ok, Err}
+use Rattle.std.specs.Prelude.{IsTrue, OnOk, slice_get}
 use Rattle.std.specs.FinMap as fin
-use Rattle.std.proofs.lemmas.Bool.{false≢true}
+use Rattle.std.proofs.lemmas.Bool.{and_from, and_parts, false≢true, false_from_ne_true, or_cases, or_left, or_right}
+use Rattle.std.proofs.lemmas.Option.{none-some, same_Some, slice_get-get_or, slice_get_within}
+use Rattle.cell_addr.specs.declared.axis.Axis.{Axis}
 use Rattle.cell_addr.specs.declared.place.Place.{Place}
 use Rattle.cell_addr.specs.declared.place.TheConstants.{NO_SHEET}
 use Rattle.custom_fn.specs.declared.rule.Rule.{Rule}
@@ -10,18 +12,25 @@ use Rattle.name_table.specs.declared.key.NameKey.{NameKey}
 use Rattle.shift_core.specs.Form.{form_of}
 use Rattle.shift_core.specs.Opposite.{opposite_of}
 use Rattle.shift_core.specs.Sound.{IsSound}
+use Rattle.shift_core.specs.declared.edit.Edit.{Edit}
 use Rattle.shift_core.specs.declared.form.Form.{Form}
 use Rattle.shift_core.specs.declared.form.Form.TheVariants.{Cells, Lines, Sheet}
+use Rattle.shift_core.specs.Tables.{place_after}
 use Rattle.shift_core.specs.declared.shift.Shift.{Shift}
-use Rattle.book_values.specs.Names.{tree_in}
+use Rattle.shift_core.specs.declared.shift.Shift.TheVariants.{InsertRows, DeleteRows, InsertCols, DeleteCols, MoveRows, MoveCols, MoveBlock, DropSheet}
+use Rattle.book_values.specs.Names.{Key, tree_in}
 use Rattle.book_values.specs.Workbook as book
+use Rattle.book_values.specs.Workbook.{scope_sheet}
 use Rattle.book_model.specs.Answers.{valued}
 use Rattle.book_model.specs.Workbook.{Workbook}
+use Rattle.dep_graph.specs.Nodes.{has}
 use Rattle.dep_graph.specs.declared.node.Node.{Node}
+use Rattle.dep_graph.specs.declared.node.Node.TheVariants.{Cell, Name, Range, Whole}
 use Rattle.recalc_core.specs.Edits.{DifferInName}
 use Rattle.recalc_core.specs.Laws.{AreKnown}
-use Rattle.recalc_core.specs.Nodes.{AreNumbered}
+use Rattle.recalc_core.specs.Nodes.{AreNumbered, name_at, node_at, scope_at}
 use Rattle.recalc_core.specs.Shifted.{drops_scope}
+use Rattle.marked_values.proofs.Alone.{place_node}
 use Rattle.marked_values.proofs.GoingBack.{keeps}
 use Rattle.marked_values.specs.Marks.{IsBookInside}
 use Rattle.marked_values.specs.Shifts.{IsBookAfter, is_moved_in}
@@ -32,14 +41,14 @@ use Rattle.kept_book.specs.Change.{Change, shift_of}
 use Rattle.kept_book.specs.Frame.{Line, Words}
 use Rattle.kept_steps.specs.Parts.{CanBeFollowed, PartTurns, Turns}
 use Rattle.kept_steps.specs.Turned.{IsRenamed, is_listed, key_spelt, name_alone}
-use Rattle.kept_values.specs.Shifted.{HasTouched}
+use Rattle.kept_values.specs.Shifted.{HasOfSheet, HasTouched}
 use Rattle.kept_values.specs.declared.values.Values.{Values}
 use Rattle.session_values.specs.Following.{FollowsIn}
 use Rattle.session_values.specs.Naming.{turn_of}
 use Rattle.session_values.specs.Parts.{FollowsPartBack, FollowsPartForth, FollowsPartsBack, FollowsPartsForth, FollowsTurnIn, IsOnLines}
-use Rattle.session_values.specs.Shifting.{FollowsShift, FollowsShiftBack}
+use Rattle.session_values.specs.Shifting.{FollowsSheetBack, FollowsShift, FollowsShiftBack}
 use Rattle.session_values.specs.Touched.{AreTouchedAtMost, IsMarkedIn, IsStepMarked}
-use Rattle.session_values.specs.internal.Listed.{cell_node}
+use Rattle.session_values.specs.internal.Listed.{cell_node, is_name_below}
 use Rattle.session_values.specs.internal.Way.{IsBackTo, IsForthTo}
 use Rattle.session_values.proofs.Followed.{cells_follow}
 use Rattle.session_values.proofs.Listed.{cells_known, replaced_listed}
@@ -82,10 +91,98 @@ module _ (line : Line) (words : Words) (c : Change) (s : Shift) (old new : Optio
       over (valued b) (valued d) words customs today (inside words b turns.before) (after b d turns (keeps s back sound opposite NO_SHEET).0) turns.after.numbered (nothing_touched back (valued d) words lines) (nothing_known words)
       (subst (λ (ns : List Node). AreRemoved s (valued b) ns) (sym same) (removed_are b d turns)) (subst (λ (ns : List Node). AreKnown words ns) (sym same) (cells_known words c.replaced)) follows
 
-  pub lines_forth : IsOnLines (form_of s) → FollowsShift s [] old new → FollowsPartForth line words c old new
-  lines_forth lines over b d customs today turns follows =
-      over (valued b) (valued d) words words customs today (inside words b turns.before) (after b d turns (no_scope (form_of s) NO_SHEET lines)) turns.before.numbered turns.after.numbered (λ i w e. e)
-      (nothing_touched s (valued b) words lines) (nothing_known words) follows
+  pub lines_forth : (sheet : ℕ) (axis : Axis) (edit : Edit) → form_of s ≡ Lines sheet axis edit → FollowsShift s [] old new → FollowsPartForth line words c old new
+  lines_forth sheet axis edit form over b d customs today turns follows =
+      over (valued b) (valued d) words words customs today (inside words b turns.before) (after b d turns (ap (λ f. drops_scope f NO_SHEET) form)) turns.before.numbered turns.after.numbered (λ i w e. e)
+      (nothing_touched s (valued b) words (subst IsOnLines (sym form) tt)) (nothing_known words) follows
+
+-- ---- dropped sheets
+
+-- a name of the sheet is one of a word with a number
+names_below : (words : List (List ℕ)) (sheet : ℕ) (a : Node) (key : Key) → node_at words a ≡ Some (book.name key) → (scope_sheet key.scope == sheet) ≡ true → is_name_below sheet (length words) a ≡ true
+names_below words sheet (Cell p) key at on = absurd (cc)
+names_below words sheet (Name scope number) key at on = by (slice_get words number) refl
+  where
+    back : (t : Bool) → (scope == NO_SHEET) ≡ t → scope_sheet (cond t None (Some scope)) ≡ scope
+    back true e = sym (eqb-true scope NO_SHEET e)
+    back false e = refl
+
+    by : (o : Option (List ℕ)) → slice_get words number ≡ o → is_name_below sheet (length words) (Name scope number) ≡ true
+    by None e = absurd (none-some (book.name key) (sym (ap (name_at scope) e) ∙ at))
+    by (Some word) e =
+        let same : book.name (record { scope = scope_at scope; word = word }) ≡ book.name key = same_Some (book.name (record { scope = scope_at scope; word = word })) (book.name key) (sym (ap (name_at scope) e) ∙ at) in
+        let of_key : scope_at scope ≡ key.scope = cc in
+        and_from (scope == sheet) (nat_lt number (length words))
+        (ap (λ n. n == sheet) (sym (back (scope == NO_SHEET) refl) ∙ ap scope_sheet of_key) ∙ on)
+        (lt-ltb number (length words) (slice_get_within words number word e))
+names_below words sheet (Range block) key at on = absurd (none-some (book.name key) at)
+names_below words sheet (Whole w) key at on = absurd (none-some (book.name key) at)
+
+-- and such names are known
+below_known : (words : List (List ℕ)) (sheet : ℕ) (a : Node) → is_name_below sheet (length words) a ≡ true → (x : book.Node) × (node_at words a ≡ Some x)
+below_known words sheet (Cell p) h = absurd (false≢true h)
+below_known words sheet (Name scope number) h = (
+  book.name (record { scope = scope_at scope; word = get_or words number [] }),
+  ap (name_at scope) (slice_get-get_or words number [] (ltb-true number (length words) (and_parts (scope == sheet) (nat_lt number (length words)) h).1)),
+)
+below_known words sheet (Range block) h = absurd (false≢true h)
+below_known words sheet (Whole w) h = absurd (false≢true h)
+
+module _ (words : List (List ℕ)) (sheet : ℕ) (names : List Node) (all : (a : Node) → has a names ≡ is_name_below sheet (length words) a) where
+  -- they are what a dropped sheet touches beside what links tell
+  names_touched : (s : Shift) (b : book.Workbook) → form_of s ≡ Sheet sheet → HasTouched s b words names
+  names_touched s b form = record {
+    filled = λ p moved some. absurd (false≢true (ap (λ f. is_moved_in f p) (sym form) ∙ moved));
+    names = λ a key at drops some. all a ∙ names_below words sheet a key at (ap (λ f. drops_scope f (scope_sheet key.scope)) (sym form) ∙ drops);
+  }
+
+  names_known : AreKnown words names
+  names_known a h = below_known words sheet a (sym (all a) ∙ h)
+
+module _ (line : Line) (words : Words) (c : Change) (s : Shift) (old new : Option Values) (sound : IsSound s) (is : shift_of line c ≡ Some s) (sheet : ℕ) (form : form_of s ≡ Sheet sheet) (apart : ¬ (sheet ≡ NO_SHEET)) where
+  global : drops_scope (form_of s) NO_SHEET ≡ false
+  global = ap (λ f. drops_scope f NO_SHEET) form ∙ false_from_ne_true (NO_SHEET == sheet) (λ same. apart (sym (eqb-true NO_SHEET sheet same)))
+
+  pub sheet_forth : (names : List Node) → ((a : Node) → has a names ≡ is_name_below sheet (length words) a) → FollowsShift s names old new → FollowsPartForth line words c old new
+  sheet_forth names all over b d customs today turns follows =
+      over (valued b) (valued d) words words customs today (inside words b turns.before) (after line words c s old new sound is b d turns global) turns.before.numbered turns.after.numbered (λ i w e. e)
+      (names_touched words sheet names all s (valued b) form) (names_known words sheet names all) follows
+
+-- only that operation has the form
+pub is_drop : (s : Shift) (sheet : ℕ) → form_of s ≡ Sheet sheet → s ≡ DropSheet sheet
+is_drop (InsertRows on start count) sheet e = absurd (cc)
+is_drop (DeleteRows on start count) sheet e = absurd (cc)
+is_drop (InsertCols on start count) sheet e = absurd (cc)
+is_drop (DeleteCols on start count) sheet e = absurd (cc)
+is_drop (MoveRows on start count before) sheet e = absurd (cc)
+is_drop (MoveCols on start count before) sheet e = absurd (cc)
+is_drop (MoveBlock source to) sheet e = absurd (cc)
+is_drop (DropSheet on) sheet e = cc
+
+module _ (line : Line) (words : Words) (c : Change) (s : Shift) (old new : Option Values) (sound : IsSound s) (is : shift_of line c ≡ Some s) (sheet : ℕ) (form : form_of s ≡ Sheet sheet) (apart : ¬ (sheet ≡ NO_SHEET))
+    (nodes : List Node) (all : (a : Node) → has a nodes ≡ (is_name_below sheet (length words) a || has a (map cell_node c.replaced))) where
+  same : s ≡ DropSheet sheet
+  same = is_drop s sheet form
+
+  back_known : AreKnown words nodes
+  back_known a h = ⊎_elim
+      (λ (name : is_name_below sheet (length words) a ≡ true). below_known words sheet a name)
+      (λ (cell : has a (map cell_node c.replaced) ≡ true). cells_known words c.replaced a cell)
+      (or_cases (is_name_below sheet (length words) a) (has a (map cell_node c.replaced)) (sym (all a) ∙ h))
+
+  -- what of the sheet comes back is listed
+  of_sheet : (b d : Workbook) → PartTurns line words c b d → HasOfSheet sheet (valued b) words nodes
+  of_sheet b d turns a (book.place p) at on here =
+      let gone : place_after s p ≡ None = ap (λ x. place_after x p) same ∙ ap (λ t. cond t None (Some p)) (eq-eqb p.sheet sheet on) in
+      subst (λ n. IsTrue (has n nodes)) (sym (place_node words a p at))
+      (all (Cell p) ∙ or_right (is_name_below sheet (length words) (Cell p)) (has (Cell p) (map cell_node c.replaced)) (replaced_listed (c ∷ []) c.replaced p refl (turns.lost s p is gone here)))
+  of_sheet b d turns a (book.name key) at on here =
+      all a ∙ or_left (is_name_below sheet (length words) a) (has a (map cell_node c.replaced)) (names_below words sheet a key at (eq-eqb (scope_sheet key.scope) sheet on))
+
+  pub sheet_back : FollowsSheetBack sheet nodes old new → FollowsPartBack line words c old new
+  sheet_back over b d customs today turns follows =
+      over (valued b) (valued d) words customs today (inside words b turns.before)
+      (subst (λ (x : Shift). IsBookAfter x (valued b) (valued d)) same (after line words c s old new sound is b d turns (global line words c s old new sound is sheet form apart))) turns.before.numbered (of_sheet b d turns) back_known follows
 
 -- ---- changes of cells
 

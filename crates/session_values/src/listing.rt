@@ -1,5 +1,5 @@
 // The nodes that structural operations of a session touch.
-ghost use Rattle.std.specs.Prelude.{◌≡◌, ◌&&◌, ◌++◌, ℕ, true, IfOk, IsSome, IsTrue, List, OnOk, Some, map};
+ghost use Rattle.std.specs.Prelude.{◌≡◌, ◌&&◌, ◌||◌, ◌++◌, ℕ, true, IfOk, IsSome, IsTrue, List, OnOk, Some, is_some, length, map, slice_get};
 ghost use Rattle.cell_addr.specs.Place.{IsBlockInside};
 ghost use Rattle.cell_addr.specs.declared.place.Place.{Place as PlaceSeen};
 ghost use Rattle.shift_core.specs.Carried as carrying;
@@ -15,7 +15,7 @@ ghost use Rattle.kept_steps.specs.Turned.{is_replaced, replaced_of, to_undo};
 ghost use Rattle.kept_values.specs.Shifted.{HasTouched, may_touch};
 ghost use Rattle.session_values.specs.Following.{book_of, words_in};
 ghost use Rattle.session_values.specs.Shifting.{is_replaced_cell};
-ghost use Rattle.session_values.specs.internal.Listed.{cell_node, filled_in, is_name_of, with_named};
+ghost use Rattle.session_values.specs.internal.Listed.{cell_node, filled_in, is_name_below, is_name_of, with_named};
 
 use cell_addr::{Block, Place};
 use dep_graph::{Node, Nodes};
@@ -130,4 +130,45 @@ fn add_named(a: Node, sheet: u32, names: &mut Nodes) -> Result<(), AllocError>
         Node::Range(_) => Ok(()),
         Node::Whole(_) => Ok(()),
     }
+}
+
+// The nodes of all names that a sheet can have, of each word one, whether there are such names or not.
+pub(crate) fn scope_nodes(session: &Session, sheet: u32) -> Result<Nodes, AllocError>
+    ensures { IfOk result (λ nodes. (a : NodeSeen) → has a (items_of nodes) ≡ is_name_below sheet (length (words_in session.now)) a) }
+{
+    let mut nodes = Nodes::new(session.book.alloc)?;
+    'words: while is_word(session, next_word(&nodes)) {
+        nodes.push(Node::Name {
+            scope: sheet,
+            word: next_word(&nodes),
+        })?;
+    }
+    Ok(nodes)
+}
+
+// Whether a word of the session's names has the number.
+fn is_word(session: &Session, word: u64) -> bool
+    ensures { result ≡ is_some (slice_get (words_in session.now) word) }
+{
+    session.book.names.spelling(word).is_some()
+}
+
+// The number of the word behind those whose names are listed.
+fn next_word(nodes: &Nodes) -> u64
+    ensures { result ≡ length (items_of nodes.now) }
+{
+    nodes.items().len() as u64
+}
+
+// What can come back of a dropped sheet: these cells, and all names that it can have.
+pub(crate) fn sheet_nodes(
+    session: &Session,
+    sheet: u32,
+    cells: &[(Place, Cell)],
+) -> Result<Nodes, AllocError>
+    ensures { IfOk result (λ nodes. (a : NodeSeen) → has a (items_of nodes) ≡ (is_name_below sheet (length (words_in session.now)) a || has a (map cell_node cells.now))) }
+{
+    let mut nodes = scope_nodes(session, sheet)?;
+    add_cells(cells, &mut nodes)?;
+    Ok(nodes)
 }

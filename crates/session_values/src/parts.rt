@@ -1,17 +1,18 @@
 // What is kept of a session's values over the parts of a step, one after the other.
-ghost use Rattle.std.specs.Prelude.{◌≡◌, ◌↔◌, IfSome, IsTrue, OnOk, Some, is_some};
+ghost use Rattle.std.specs.Prelude.{◌≡◌, ◌↔◌, IfSome, IsTrue, None, OnOk, Some, is_some};
 ghost use Rattle.cell_addr.specs.declared.place.TheConstants.{NO_SHEET as no_sheet};
 ghost use Rattle.shift_core.specs.Form.{form_of};
+ghost use Rattle.shift_core.specs.declared.form.Form.TheVariants.{Sheet};
 ghost use Rattle.shift_core.specs.Opposite.{opposite_of};
 ghost use Rattle.shift_core.specs.Sound.{IsSound};
 ghost use Rattle.kept_book.specs.Change.{shift_of};
 ghost use Rattle.kept_book.specs.Kept.{change_of, changes_of, line_of, name_change};
 ghost use Rattle.kept_steps.specs.Turned.{AreOfCells};
 ghost use Rattle.session_values.specs.Following.{words_in};
-ghost use Rattle.session_values.specs.Naming.{turn_of};
-ghost use Rattle.session_values.specs.Parts.{FollowsPartBack, FollowsPartForth, FollowsPartsBack, FollowsPartsForth, FollowsTurnIn, IsOnLines};
+ghost use Rattle.session_values.specs.Naming.{MarksTurn, turn_of};
+ghost use Rattle.session_values.specs.Parts.{FollowsPartBack, FollowsPartForth, FollowsPartsBack, FollowsPartsForth, FollowsTurnIn, IsOnLines, MarksPartBack, MarksPartForth, MarksPartsBack, MarksPartsForth};
 
-use crate::listing::cell_nodes;
+use crate::listing::{cell_nodes, scope_nodes, sheet_nodes};
 use crate::naming::NameTurn;
 use crate::touching::is_of_cells;
 use crate::values::SessionValues;
@@ -44,17 +45,22 @@ impl SessionValues {
     /// Over a part that is anything else, and where there is no memory for it, nothing is kept any more. Costs for each part what
     /// [`SessionValues::touch_cells`], [`SessionValues::take_back`] or [`SessionValues::name_turned`] does.
     pub fn parts_turned_back(&mut self, session: &Session, parts: &[Part])
-        ensures { FollowsPartsBack (line_of session.now.book) (words_in session.now) (changes_of parts.now) self.old.values self.new.values }
+        ensures follows { FollowsPartsBack (line_of session.now.book) (words_in session.now) (changes_of parts.now) self.old.values self.new.values }
+        ensures marks { MarksPartsBack session.now (changes_of parts.now) self.old.values self.new.values }
     {
         for index in (0..parts.len()).rev() {
             self.part_turned_back(session, &parts[index]);
         }
     }
 
-    /// Takes what is kept along with the parts of a step of the session that is done again, the first one first, likewise. What
-    /// follows the workbook before the step follows the one after it then.
+    /// Takes what is kept along with the parts of a step of the session that is done again, the first one first, likewise; a sheet
+    /// that a part drops is followed too. What follows the workbook before the step follows the one after it then.
+    ///
+    /// Over a move of cells, and where there is no memory for it, nothing is kept any more. Costs likewise; for a dropped sheet what
+    /// [`SessionValues::shift`] does, and the number of all words that names ever had.
     pub fn parts_turned_forth(&mut self, session: &Session, parts: &[Part])
-        ensures { FollowsPartsForth (line_of session.now.book) (words_in session.now) (changes_of parts.now) self.old.values self.new.values }
+        ensures follows { FollowsPartsForth (line_of session.now.book) (words_in session.now) (changes_of parts.now) self.old.values self.new.values }
+        ensures marks { MarksPartsForth session.now (changes_of parts.now) self.old.values self.new.values }
     {
         'parts: for part in parts {
             self.part_turned_forth(session, part);
@@ -63,7 +69,8 @@ impl SessionValues {
 
     // Takes what is kept along with one part that is taken back.
     fn part_turned_back(&mut self, session: &Session, part: &Part)
-        ensures { FollowsPartBack (line_of session.now.book) (words_in session.now) (change_of part.now) self.old.values self.new.values }
+        ensures follows { FollowsPartBack (line_of session.now.book) (words_in session.now) (change_of part.now) self.old.values self.new.values }
+        ensures marks { MarksPartBack session.now (change_of part.now) self.old.values self.new.values }
     {
         match self.part_back(session, part) {
             Ok(()) => (),
@@ -73,7 +80,8 @@ impl SessionValues {
 
     // Takes what is kept along with one part that is done again.
     fn part_turned_forth(&mut self, session: &Session, part: &Part)
-        ensures { FollowsPartForth (line_of session.now.book) (words_in session.now) (change_of part.now) self.old.values self.new.values }
+        ensures follows { FollowsPartForth (line_of session.now.book) (words_in session.now) (change_of part.now) self.old.values self.new.values }
+        ensures marks { MarksPartForth session.now (change_of part.now) self.old.values self.new.values }
     {
         match self.part_forth(session, part) {
             Ok(()) => (),
@@ -83,28 +91,75 @@ impl SessionValues {
 
     // The same; errs for want of memory.
     fn part_back(&mut self, session: &Session, part: &Part) -> Result<(), AllocError>
-        ensures { OnOk result (FollowsPartBack (line_of session.now.book) (words_in session.now) (change_of part.now) self.old.values self.new.values) }
+        ensures follows { OnOk result (FollowsPartBack (line_of session.now.book) (words_in session.now) (change_of part.now) self.old.values self.new.values) }
+        ensures marks { OnOk result (MarksPartBack session.now (change_of part.now) self.old.values self.new.values) }
     {
         match session.operation_in(part) {
-            Some(s) => self.lines_back(session, &s, part),
+            Some(s) => self.operation_back(session, &s, part),
             None => self.change_back(session, part),
         }
     }
 
     fn part_forth(&mut self, session: &Session, part: &Part) -> Result<(), AllocError>
-        ensures { OnOk result (FollowsPartForth (line_of session.now.book) (words_in session.now) (change_of part.now) self.old.values self.new.values) }
+        ensures follows { OnOk result (FollowsPartForth (line_of session.now.book) (words_in session.now) (change_of part.now) self.old.values self.new.values) }
+        ensures marks { OnOk result (MarksPartForth session.now (change_of part.now) self.old.values self.new.values) }
     {
         match session.operation_in(part) {
-            Some(s) => self.lines_forth(session, &s, part),
+            Some(s) => self.operation_forth(session, &s, part),
             None => self.change_forth(session, part),
         }
     }
 
     // Over a part with this operation that is taken back.
+    fn operation_back(
+        &mut self,
+        session: &Session,
+        s: &Shift,
+        part: &Part,
+    ) -> Result<(), AllocError>
+        requires sound { IsSound s.now }
+        requires operation { shift_of (line_of session.now.book) (change_of part.now) ≡ Some s.now }
+        ensures follows { OnOk result (FollowsPartBack (line_of session.now.book) (words_in session.now) (change_of part.now) self.old.values self.new.values) }
+        ensures marks { OnOk result (MarksPartBack session.now (change_of part.now) self.old.values self.new.values) }
+    {
+        match s.form() {
+            Form::Lines { .. } => self.lines_back(session, s, part),
+            Form::Cells { .. } => {
+                self.forget();
+                Ok(())
+            }
+            Form::Sheet { sheet } => self.sheet_back(session, s, sheet, part),
+        }
+    }
+
+    // Over one that drops a sheet, which comes back.
+    fn sheet_back(
+        &mut self,
+        session: &Session,
+        s: &Shift,
+        sheet: u32,
+        part: &Part,
+    ) -> Result<(), AllocError>
+        requires sound { IsSound s.now }
+        requires form { form_of s.now ≡ Sheet sheet }
+        requires operation { shift_of (line_of session.now.book) (change_of part.now) ≡ Some s.now }
+        ensures follows { OnOk result (FollowsPartBack (line_of session.now.book) (words_in session.now) (change_of part.now) self.old.values self.new.values) }
+        ensures marks { OnOk result (MarksPartBack session.now (change_of part.now) self.old.values self.new.values) }
+    {
+        if sheet == NO_SHEET {
+            self.forget();
+            return Ok(());
+        }
+        let nodes = sheet_nodes(session, sheet, part.replaced.items())?;
+        self.bring_back(nodes.items())
+    }
+
+    // Over one on lines.
     fn lines_back(&mut self, session: &Session, s: &Shift, part: &Part) -> Result<(), AllocError>
         requires sound { IsSound s.now }
         requires operation { shift_of (line_of session.now.book) (change_of part.now) ≡ Some s.now }
-        ensures { OnOk result (FollowsPartBack (line_of session.now.book) (words_in session.now) (change_of part.now) self.old.values self.new.values) }
+        ensures follows { OnOk result (FollowsPartBack (line_of session.now.book) (words_in session.now) (change_of part.now) self.old.values self.new.values) }
+        ensures marks { OnOk result (MarksPartBack session.now (change_of part.now) self.old.values self.new.values) }
     {
         let Some(back) = lines_opposite(s) else {
             self.forget();
@@ -115,21 +170,54 @@ impl SessionValues {
     }
 
     // Over one that is done again.
-    fn lines_forth(&mut self, session: &Session, s: &Shift, part: &Part) -> Result<(), AllocError>
+    fn operation_forth(
+        &mut self,
+        session: &Session,
+        s: &Shift,
+        part: &Part,
+    ) -> Result<(), AllocError>
         requires sound { IsSound s.now }
         requires operation { shift_of (line_of session.now.book) (change_of part.now) ≡ Some s.now }
-        ensures { OnOk result (FollowsPartForth (line_of session.now.book) (words_in session.now) (change_of part.now) self.old.values self.new.values) }
+        ensures follows { OnOk result (FollowsPartForth (line_of session.now.book) (words_in session.now) (change_of part.now) self.old.values self.new.values) }
+        ensures marks { OnOk result (MarksPartForth session.now (change_of part.now) self.old.values self.new.values) }
     {
-        if !is_on_lines(s) {
+        match s.form() {
+            Form::Lines { .. } => self.shift(s, &[]),
+            Form::Cells { .. } => {
+                self.forget();
+                Ok(())
+            }
+            Form::Sheet { sheet } => self.sheet_forth(session, s, sheet, part),
+        }
+    }
+
+    // Over one that drops a sheet and is done again.
+    fn sheet_forth(
+        &mut self,
+        session: &Session,
+        s: &Shift,
+        sheet: u32,
+        part: &Part,
+    ) -> Result<(), AllocError>
+        requires sound { IsSound s.now }
+        requires form { form_of s.now ≡ Sheet sheet }
+        requires operation { shift_of (line_of session.now.book) (change_of part.now) ≡ Some s.now }
+        ensures follows { OnOk result (FollowsPartForth (line_of session.now.book) (words_in session.now) (change_of part.now) self.old.values self.new.values) }
+        ensures marks { OnOk result (MarksPartForth session.now (change_of part.now) self.old.values self.new.values) }
+    {
+        if sheet == NO_SHEET {
             self.forget();
             return Ok(());
         }
-        self.shift(s, &[])
+        let names = scope_nodes(session, sheet)?;
+        self.shift(s, names.items())
     }
 
     // Over a part without an operation that is taken back.
     fn change_back(&mut self, session: &Session, part: &Part) -> Result<(), AllocError>
-        ensures { OnOk result (FollowsPartBack (line_of session.now.book) (words_in session.now) (change_of part.now) self.old.values self.new.values) }
+        requires { shift_of (line_of session.now.book) (change_of part.now) ≡ None }
+        ensures follows { OnOk result (FollowsPartBack (line_of session.now.book) (words_in session.now) (change_of part.now) self.old.values self.new.values) }
+        ensures marks { OnOk result (MarksPartBack session.now (change_of part.now) self.old.values self.new.values) }
     {
         match name_alone(part) {
             Some(name) => {
@@ -143,7 +231,9 @@ impl SessionValues {
 
     // Over one that is done again.
     fn change_forth(&mut self, session: &Session, part: &Part) -> Result<(), AllocError>
-        ensures { OnOk result (FollowsPartForth (line_of session.now.book) (words_in session.now) (change_of part.now) self.old.values self.new.values) }
+        requires { shift_of (line_of session.now.book) (change_of part.now) ≡ None }
+        ensures follows { OnOk result (FollowsPartForth (line_of session.now.book) (words_in session.now) (change_of part.now) self.old.values self.new.values) }
+        ensures marks { OnOk result (MarksPartForth session.now (change_of part.now) self.old.values self.new.values) }
     {
         match name_alone(part) {
             Some(name) => {
@@ -157,7 +247,8 @@ impl SessionValues {
 
     // Over a change of this name, by what it does to the name.
     fn name_turned_in(&mut self, session: &Session, name: &NameChange, turn: NameTurn)
-        ensures { FollowsTurnIn (name_change name.now).0 turn (words_in session.now) self.old.values self.new.values }
+        ensures follows { FollowsTurnIn (name_change name.now).0 turn (words_in session.now) self.old.values self.new.values }
+        ensures marks { MarksTurn (name_change name.now).0 turn session.now self.old.values self.new.values }
     {
         if is_no_sheet(name.scope) {
             self.forget();

@@ -1,8 +1,8 @@
 // What is kept of a session's values over a structural operation.
-ghost use Rattle.std.specs.Prelude.{◌≡◌, None, OnErr, OnOk, Some};
+ghost use Rattle.std.specs.Prelude.{◌≡◌, ℕ, None, OnErr, OnOk, Some};
 ghost use Rattle.shift_core.specs.Opposite.{opposite_of};
 ghost use Rattle.shift_core.specs.Sound.{IsSound};
-ghost use Rattle.session_values.specs.Shifting.{FollowsShift, FollowsShiftBack, MarksShift, MarksShiftBack};
+ghost use Rattle.session_values.specs.Shifting.{FollowsSheetBack, FollowsShift, FollowsShiftBack, MarksSheetBack, MarksShift, MarksShiftBack};
 
 use crate::values::SessionValues;
 use dep_graph::Node;
@@ -88,6 +88,18 @@ impl SessionValues {
     {
         match &mut self.values {
             Some(values) => values.take_back(s, back, touched, removed),
+            None => Ok(()),
+        }
+    }
+
+    // Takes what is kept back over a dropped sheet that is going to come back, where these nodes are listed: each cell and each name
+    // of the sheet that comes back. For want of memory only some of it is marked.
+    pub(crate) fn bring_back(&mut self, nodes: &[Node]) -> Result<(), AllocError>
+        ensures follows { OnOk result ((sheet : ℕ) → FollowsSheetBack sheet nodes.now self.old.values self.new.values) }
+        ensures marks { OnOk result (MarksSheetBack nodes.now self.old.values self.new.values) }
+    {
+        match &mut self.values {
+            Some(values) => values.bring_back(nodes),
             None => Ok(()),
         }
     }

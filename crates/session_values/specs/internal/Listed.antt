@@ -1,8 +1,9 @@
 -- Nodes of a session's workbook that are listed.
-use Rattle.std.specs.Prelude.{ℕ, ◌==◌, ◌++◌, ◌∷◌, [], Bool, false, if◌then◌else◌, List, map}
+use Rattle.std.specs.Prelude.{◌≡◌, ◌≤◌, ℕ, ◌==◌, ◌&&◌, ◌++◌, ◌∷◌, [], nat_lt, Bool, false, if◌then◌else◌, List, length, map}
 use Rattle.std.specs.FinMap as fin
 use Rattle.cell_addr.specs.declared.place.Block.{Block}
 use Rattle.cell_addr.specs.declared.place.Place.{Place}
+use Rattle.dep_graph.specs.Nodes.{has}
 use Rattle.dep_graph.specs.declared.node.Node.{Node}
 use Rattle.dep_graph.specs.declared.node.Node.TheVariants as node
 use Rattle.grid_store.specs.Grid.{cells_of, within}
@@ -23,6 +24,18 @@ is_name_of sheet (node.Cell p) = false
 is_name_of sheet (node.Name scope word) = scope == sheet
 is_name_of sheet (node.Range b) = false
 is_name_of sheet (node.Whole w) = false
+
+-- it is one, of a word with a number below this one
+abbrev pub is_name_below : ℕ → ℕ → Node → Bool
+is_name_below sheet words (node.Cell p) = false
+is_name_below sheet words (node.Name scope word) = scope == sheet && nat_lt word words
+is_name_below sheet words (node.Range b) = false
+is_name_below sheet words (node.Whole w) = false
+
+-- they are the names of the sheet of the first words, as many as they are, of so many words
+pub record ListsBelow (sheet words : ℕ) (nodes : List Node) : Type 0 where
+  pub within : length nodes ≤ words
+  pub all : (a : Node) → has a nodes ≡ is_name_below sheet (length nodes) a
 
 -- the nodes with one more, if it is such a name
 abbrev pub with_named : ℕ → Node → List Node → List Node

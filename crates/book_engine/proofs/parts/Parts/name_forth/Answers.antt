@@ -1,12 +1,13 @@
 use Rattle.std.proofs.Common.{◌≡◌, ◌≢◌, ◌||◌, ◌∙◌, sym, subst, refl, true, is_some, Some}
 use Rattle.cell_addr.specs.declared.place.TheConstants.{NO_SHEET}
 use Rattle.kept_book.specs.Kept.{name_change}
+use Rattle.kept_steps.specs.Turned.{to_redo}
 use Rattle.name_table.specs.declared.key.NameKey.{NameKey}
-use Rattle.session_values.specs.Naming.{FollowsTurn, had_formula, has_formula, turn_of}
+use Rattle.session_values.specs.Naming.{FollowsTurn, MarksTurn, had_formula, has_formula, turn_of}
 use Rattle.session_values.specs.declared.naming.NameTurn.{NameTurn}
 use Rattle.session_values.proofs.NamedBetween.{turn_had, turn_has}
 use Rattle.book_engine.proofs.Following.{follow_renamed, follow_state, more_as}
-use Rattle.book_engine.proofs.TurnedMarks.{not_of_cells}
+use Rattle.book_engine.proofs.TurnedMarks.{name_parts_forth, not_of_cells}
 use Rattle.book_engine.proofs.parts.Parts.name_forth.Goals as goal
 
 pub name_turned-requires : goal.name_turned-requires
@@ -39,3 +40,15 @@ returns-in_err-redo-clause-marks c = λ cells. absurd (not_of_cells _ _ c.requir
 
 pub returns-clause-marks : goal.returns-clause-marks
 returns-clause-marks c = λ cells. absurd (not_of_cells _ _ c.requires.name cells)
+
+pub returns-clause-parts : goal.returns-clause-parts
+returns-clause-parts c =
+    let name = c.args.name.now in
+    let key = (name_change name).0 in
+    let x = c.args.self.now.session in
+    let new = c.redo.new.self in
+    let before = c.args.self.now.values.values in
+    let after = c.name_turned.new.self.values in
+    name_parts_forth x new (to_redo x) key name.before name.after before after c.requires.name c.redo.ensures.words
+    (subst (λ (k : NameKey). MarksTurn k (turn_of (is_some name.before) (is_some name.after)) new before after) c.key_of.ensures
+    (subst (λ (t : NameTurn). MarksTurn c.key_of.result t new before after) c.turn_forth.ensures c.name_turned.ensures.marks))
