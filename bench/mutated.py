@@ -57,11 +57,11 @@ BOOK_CAUSES = (rb"missing|not UTF-8|sheet name invalid|sheet name taken|too many
 RUBBISH = (
     b"", b" ", b"\0", b"\xff", b"\xc3", b"\xc0\x80", b"\xed\xa0\x80", b"\xf4\x90\x80\x80", b"\xef\xbb\xbf", "é€😀".encode(), b'"', b'""',
     b"'", b"''", b"'!", b"!", b"!A1", b"$", b":", b",", b"\r", b"\n", b"\r\n", b"\\", b"\\n", b"\x7f", b"\t", b"#", b"#REF!", b"=", b"==",
-    b"%", b"(", b")", b"{1}", b"[", b"0", b"-0", b"-1", b"00", b"1", b"40000", b"40001", b"39999", b"18278", b"18279", b"65536", b"9999999",
+    b"%", b"(", b")", b"{1}", b"[", b"0", b"-0", b"-1", b"00", b"1", b"1048576", b"1048577", b"1048575", b"40001", b"18278", b"18279", b"65536", b"9999999",
     b"10000000", b"2147483647", b"2147483648", b"4294967295", b"4294967296", b"18446744073709551615", b"18446744073709551616",
     b"999999999999.999999", b"-999999999999.999999", b"1000000000000", b"999999999999.9999995", b"0.0000005", b"1e308", b"0x10", b"NaN",
-    b"A0", b"A00001", b"A1", b"a1", b"ZZZ1", b"A40000", b"ZZZ40000", b"ZZZ40001", b"AAAA1", b"A1:B2", b"B2:A1", b"A1:A1", b"A1:A1:A1",
-    b"A1:ZZ900", b"A39999:B40000", b"Sheet1", b"sheet1!A1", b"'Sheet1'!A1", b"Nope!A1", b"''!A1", b"Sheet1!Sheet1!A1", b"=A1", b"=1/0",
+    b"A0", b"A00001", b"A1", b"a1", b"ZZZ1", b"A40000", b"A40001", b"ZZZ1048576", b"ZZZ1048577", b"A50000_", b"AAAA1", b"A1:B2", b"B2:A1", b"A1:A1", b"A1:A1:A1",
+    b"A1:ZZ900", b"A1048575:B1048576", b"Sheet1", b"sheet1!A1", b"'Sheet1'!A1", b"Nope!A1", b"''!A1", b"Sheet1!Sheet1!A1", b"=A1", b"=1/0",
     b"=A1:B2", b"=SUM(A1:C9)", b"=A1+", b'="', b"='", b"=#REF!", b"=SUM(", b'=REPT("x",32767)', b'=REPT("ab",16384)&A1', b"=2^1000",
     b"=DATE(9999,12,31)+1", b"=VLOOKUP(A1,A1:C9,3,TRUE)", b"=INDEX(A1:C9,-1,1)", b"=MID(A1,2,99999)", b"=999999999999.999999*2",
     b"TRUE", b"--", b"--strict", b"K" * 255, b"K" * 256, b"s" * 101,
@@ -335,7 +335,7 @@ def mended(data):
     kept = []
     for record in script.records(data):
         try:
-            script.command(record)
+            script.command(record, len(kept) + 1)
         except script.NoCommand:
             continue
         kept.append(b",".join(b'"' + part.replace(b'"', b'""') + b'"' if set(part) & set(b',"\r\n') else part for part in record))
@@ -456,7 +456,7 @@ def commands(data):
     words = []
     for number, record in enumerate(script.records(data), 1):
         try:
-            script.command(record)
+            script.command(record, number)
         except script.NoCommand as cause:
             return words, f"record {number}: {cause}".encode()
         words.append(record[0].decode())

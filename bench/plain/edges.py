@@ -7,6 +7,8 @@ import grammar
 from case import Case, line
 from grammar import COLUMNS, ROWS
 
+# A million cells are those of 25 columns of so many rows.
+MANY = 40_000
 READS = [line(["value", "A1"]), line(["formula", "A1"]), line(["content", "A1"])]
 
 
@@ -21,7 +23,7 @@ def books(case, **named):
 def rows(draw):
     last = draw.choice((b"", b'""\n', b'"",""\n', b"x\n", b",x\n", b"\n\n"))
     case = Case(records=[line(["value", f"A{ROWS}"]), line(["insert-rows", "Deep", "1", "1"])])
-    return books(case, Deep=b"1\n" * ROWS + last)
+    return books(case, Deep=b'""\n' * (ROWS - 1) + b"1\n" + last)
 
 
 def columns(draw):
@@ -41,8 +43,8 @@ def long_field(draw):
 def all_cells(draw):
     """A million cells, or a few less or more."""
     missing = draw.choice((-1, 0, 1, 4))
-    filled = (",".join("1" * 24) + "\n").encode() * ROWS
-    rest = b"x\n" * (ROWS - max(missing, 0)) + (b"" if missing >= 0 else b"1,2\n")
+    filled = (",".join("1" * 24) + "\n").encode() * MANY
+    rest = b"x\n" * (MANY - max(missing, 0)) + (b"" if missing >= 0 else b"1,2\n")
     records = [
         ["set", "Rest!C1", "5"], ["set", "Rest!C2", "5"], ["set", "Filled!A1", "=COUNT(A2:Z40000)"],
         ["value", "Filled!A1"], ["copy", "Filled!A1:B3"], ["paste", "Rest!D1"],

@@ -6,7 +6,7 @@ import functions
 import grammar
 from grammar import ROWS
 
-NAMES = ("RATE", "rate", "PAIR", "tax.1", "_x", "Line", "A50000", "ABC", "TRUE", "B2", "1x", "", "a b")
+NAMES = ("RATE", "rate", "PAIR", "tax.1", "_x", "Line", "A1048577", "A50000", "a40001_", "ABC", "TRUE", "B2", "1x", "", "a b")
 SIGNS = ("+", "-", "*", "/", "^", "&", "=", "<>", "<", ">", "<=", ">=")
 FAULTS = ("#N/A", "#DIV/0!", "#VALUE!", "#NUM!", "#REF!", "#NAME?", "#CYCLE!", "#ERROR!")
 LITERALS = (
@@ -139,7 +139,7 @@ class Formulas:
         return end() + (" : " if self.one_in(20) else ":") + end()
 
     def name(self):
-        return self.draw.choice(NAMES[:6])
+        return self.draw.choice(NAMES[:9])
 
     # Parts.
 

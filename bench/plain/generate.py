@@ -13,11 +13,11 @@ TEXTS = (
     "", "x", "Y", "apple", "Apple", "'", "'=1", "'12", "''", "true", "False", "-3", "+4", ".5", "1.",
     "1.25", "0.1", "2", "3", "5", "10", "007", "1.0000005", "-0.0000004", "999999999999.999999",
     "1000000000000", "1e3", "5%", " 1", "a\\b", "a\nb", "a\rb", "a,b", 'a"b', "é", "€", "=", "=1+",
-    "=1 2", "=(", "=A1:", "=#REF!", "=#n/a", "=Nope!A1", "=Nope!A1:B2", "=A50000", "=$A50000",
+    "=1 2", "=(", "=A1:", "=#REF!", "=#n/a", "=Nope!A1", "=Nope!A1:B2", "=A1048577", "=$A1048577", "=A50000", "=a40001_*2", "=A50000 (1)", "=A50000!A1", "=$A$50000", "=A50000! A1",
     "=\"a", "=1..2", "=TRUE", "=true()", "=' A'!A1", "=1<>2", "=A1 :B2", "=- -1", "=2%%",
     "=POSTAGE(0.5)", "=LEVY(6000)", "45351", "60", "1", "0", "-1", "=IF(A1,1/0,2)",
     "=SUM(C:A)", "=SUM($D:D)", "=SUM(5:$2)", "=COUNT( b : $C )", "=Nope!A:B", "=SUM(Stock!2:3)",
-    "=A:1", "=A:B2", "=A1:B", "=0:1", "=01:2", "=1.0:2", "=40001:1", "=ABCD:A", "=$A:", "=:2",
+    "=A:1", "=A:B2", "=A1:B", "=0:1", "=01:2", "=1.0:2", "=1048577:1", "=40001:1", "=ABCD:A", "=$A:", "=:2",
     "=A:B:C", "=A:B!C1", "=A:B(1)", "=A:TRUE", "=ABC", "=ABC+SUM(ABC:ABC)", "=Stock!A:Stock!B",
 )
 
@@ -83,7 +83,7 @@ class Maker(Formulas):
 
     def count(self):
         if self.one_in(30):
-            return self.draw.choice(("0", "0000000", "39999", "40000", "9999999", "0000002"))
+            return self.draw.choice(("0", "0000000", "1048575", "1048576", "9999999", "0000002"))
         return str(self.draw.randint(1, 3))
 
     def scope(self):
@@ -241,6 +241,8 @@ class Maker(Formulas):
         case = Case()
         if self.mode in ("malformed", "mixed", "undo", "books"):
             self.words(case)
+        if self.one_in(4):
+            case.records.append(self.record(["version", self.draw.choice("1112")]))
         case.records += [self.record(["add-sheet", name]) for name in self.sheets[1:3]]
         if self.mode != "books":
             case.records += self.filling()

@@ -7,7 +7,9 @@ import numbers
 import values
 from values import Fault, Number, Text, Truth
 
-ROWS = 40000
+ROWS = 1048576
+# The rows of sheets in scripts of version 1.
+OLD_ROWS = 40000
 COLUMNS = 18278
 LEVELS = 64
 ADDRESS = re.compile(r"(\$?)([A-Za-z]{1,3})(\$?)([1-9][0-9]*)")
@@ -247,6 +249,50 @@ def run(token, following):
     if truth is not None:
         return ("truth", Truth(truth))
     return ("name" if NAME_WORD.fullmatch(token) else "other", token)
+
+
+# Texts of scripts of version 1: a word that is an address behind the old last row was a name, and gets one `_` more.
+
+
+GAP_WORD = re.compile(r"\$?[A-Za-z]{1,3}\$?([1-9][0-9]{0,6})_*")
+PIECE = re.compile(
+    r"[0-9]+(?:\.[0-9]*)?|\.[0-9]+"
+    r'|"(?:[^"]|"")*"(?!")'
+    r"|'(?:[^']|'')*'(?!')"
+    r"|(?P<run>[A-Za-z_$][A-Za-z0-9_.$]*)"
+    r"|[=<>&+\-*/^%(),:! \t\n\r]"
+)
+
+
+def migrated_name(word):
+    found = GAP_WORD.fullmatch(word)
+    if not found or not OLD_ROWS < int(found[1]) <= ROWS:
+        return word
+    return word + "_" if column_number(word.lstrip("$").rstrip("_$0123456789")) <= COLUMNS else word
+
+
+def migrated(text):
+    """What a text of version 1 is today; it stays where it doesn't begin with `=` or can't be cut into pieces."""
+    if not text.startswith("="):
+        return text
+    at, found = 1, "="
+    while at < len(text):
+        fault = next(
+            (f for f in values.FAULTS
+             if values.capital(text[at:at + len(f.spelling)]) == f.spelling),
+            None,
+        )
+        match = PIECE.match(text, at)
+        if fault is None and not match:
+            return text
+        end = at + len(fault.spelling) if fault is not None else match.end()
+        piece, behind = text[at:end], text[end:]
+        is_word = fault is None and match["run"] is not None
+        if is_word and behind[:1] != "!" and behind.lstrip(BLANKS)[:1] != "(":
+            piece = migrated_name(piece)
+        found += piece
+        at = end
+    return found
 
 
 # The reader. Each method is a line of the grammar and answers a tree and its levels.

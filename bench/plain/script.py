@@ -118,6 +118,24 @@ def word(text):
     return text
 
 
+def name_word(text):
+    """The word of a named expression."""
+    return text
+
+
+def formula_text(text):
+    """A text that may be a formula."""
+    return text
+
+
+# What the fields of scripts of version 1 are today.
+MIGRATED = {name_word: grammar.migrated_name, formula_text: grammar.migrated}
+
+
+def version_field(text):
+    return form(r"[12]", text)[0]
+
+
 def row_field(text):
     return int(form(r"[1-9][0-9]{0,6}", text)[0])
 
@@ -134,7 +152,7 @@ def count(text):
 # isn't `ok` alone.
 
 COMMANDS = {
-    "set": ((place, word), Session.set),
+    "set": ((place, formula_text), Session.set),
     "clear": ((block,), Session.clear),
     "insert-rows": ((word, row_field, count), lambda s, *f: s.insert("row", *f)),
     "delete-rows": ((word, row_field, count), lambda s, *f: s.delete("row", *f)),
@@ -147,9 +165,9 @@ COMMANDS = {
     "drop-sheet": ((word,), Session.drop_sheet),
     "rename-sheet": ((word, word), Session.rename_sheet),
     "clear-sheet": ((word,), Session.clear_sheet),
-    "add-name": ((word, word, word), Session.add_name),
-    "change-name": ((word, word, word), Session.change_name),
-    "remove-name": ((word, word), Session.remove_name),
+    "add-name": ((name_word, word, formula_text), Session.add_name),
+    "change-name": ((name_word, word, formula_text), Session.change_name),
+    "remove-name": ((name_word, word), Session.remove_name),
     "paste": ((place,), Session.paste),
     "copy": ((block,), Session.copy),
     "cut": ((block,), Session.cut),
@@ -164,19 +182,22 @@ COMMANDS = {
     "content": ((place,), Session.content),
     "precedents": ((place,), Session.precedents),
     "dependents": ((place,), Session.dependents),
-    "name-value": ((word, word), Session.name_value),
-    "try": ((word, word), Session.try_formula),
+    "name-value": ((name_word, word), Session.name_value),
+    "try": ((word, formula_text), Session.try_formula),
 }
+# Of a script's first record alone.
+VERSION = ((version_field,), lambda s, version: None)
 
 
 class NoCommand(Exception):
     """A record is no command, for this cause."""
 
 
-def command(record):
-    """What a record asks for: what is done, and its fields."""
+def command(record, number=2, is_old=False):
+    """What the record of this number asks for in a script that is of version 1 or not: what is done, and its fields."""
     try:
-        forms, action = COMMANDS[record[0].decode()]
+        name = record[0].decode()
+        forms, action = VERSION if number == 1 and name == "version" else COMMANDS[name]
     except (UnicodeDecodeError, KeyError):
         raise NoCommand("unknown command") from None
     if len(record) - 1 != len(forms):
@@ -184,7 +205,8 @@ def command(record):
     fields = []
     for at, (field, form_) in enumerate(zip(record[1:], forms), 1):
         try:
-            fields.append(form_(field.decode()))
+            read = form_(field.decode())
+            fields.append(MIGRATED[form_](read) if is_old and form_ in MIGRATED else read)
         except (UnicodeDecodeError, BadField):
             raise NoCommand(f"bad field {at}") from None
     return action, fields
@@ -207,9 +229,11 @@ def answer(session, action, fields):
 
 def run(session, script, strict, write):
     """Answers each command of a script by `write`, and answers the status."""
+    is_old = False
     for at, record in enumerate(records(script), 1):
         try:
-            action, fields = command(record)
+            action, fields = command(record, at, is_old)
+            is_old = is_old or (action is VERSION[1] and fields == ["1"])
         except NoCommand as cause:
             write(line(f"record {at}: {cause}"))
             return 3

@@ -11,7 +11,7 @@
  * Each call but the few that answer a truth value or a number ends with a status. In each case but FZ_DONE and FZ_NO_ROOM
  * the workbook is as it was, with its steps of undo and what waits to be pasted, and so are the caller's rooms and counts.
  *
- * Places. Rows and columns are counted from 0: A1 is row 0 and column 0. A sheet has 40,000 rows and 18,278 columns, and
+ * Places. Rows and columns are counted from 0: A1 is row 0 and column 0. A sheet has 1,048,576 rows and 18,278 columns, and
  * a number that fz_add_sheet tells and that no other sheet of the workbook ever gets. A block is given by its first and
  * last row and column.
  *

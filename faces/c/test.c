@@ -88,7 +88,7 @@ static void short_rooms(void)
     CHECK(fz_value_text(&book, 0, 0, 0, NULL, 0, &length) == FZ_NO_ROOM && length == 4);
     CHECK(fz_sheet_name(&book, 0, room, 3, &length) == FZ_NO_ROOM && length == 4);
     length = 99;
-    CHECK(fz_formula(&book, 0, 40000, 0, room, sizeof room, &length) == FZ_OUTSIDE && length == 99);
+    CHECK(fz_formula(&book, 0, 1048576, 0, room, sizeof room, &length) == FZ_OUTSIDE && length == 99);
     CHECK(fz_sheet_name(&book, 5, room, sizeof room, &length) == FZ_NO_SHEET && length == 99);
     CHECK(memcmp(room, "'=1+1.", 6) == 0);
     fz_close(&book);

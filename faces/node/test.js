@@ -115,7 +115,7 @@ test('formulas follow', () => opened((book) => {
   reads('F6', '=D4+#REF!');
   fails('BadSpan', () => book.insertRows(0, 0, 0));
   fails('NoSheet', () => book.insertRows(3, 0, 1));
-  fails('Outside', () => book.set({ sheet: 0, row: 40_000, col: 0 }, '1'));
+  fails('Outside', () => book.set({ sheet: 0, row: 1_048_576, col: 0 }, '1'));
 }));
 
 test('sheets', () => opened((book) => {
@@ -304,7 +304,7 @@ test('numbers are read and printed', () => {
 });
 
 test('addresses are read and printed', () => {
-  for (const [text, row, col] of [['A1', 0, 0], ['Z9', 8, 25], ['AA10', 9, 26], ['ZZZ40000', 39_999, 18_277]]) {
+  for (const [text, row, col] of [['A1', 0, 0], ['Z9', 8, 25], ['AA10', 9, 26], ['ZZZ1048576', 1_048_575, 18_277]]) {
     assert.deepEqual(place(3, text), { sheet: 3, row, col });
     assert.equal(address({ sheet: 3, row, col }), text);
   }

@@ -77,11 +77,11 @@ turn_over s t key Changed old new same marks =
     subst (λ (ws : List (List ℕ)). (word : List ℕ) → slice_get ws key.word ≡ Some word → MarksFor (λ v a. node_at ws a ≡ Some (book.name (key_spelt key word))) old new) same marks
 turn_over s t key Removed old new same marks =
     subst (λ (ws : List (List ℕ)). (word : List ℕ) → slice_get ws key.word ≡ Some word
-        → MarksFor (λ v a. (node_at ws a ≡ Some (book.name (key_spelt key word))) ⊎ ((n : Node) × (node_at ws n ≡ Some (book.name (key_spelt key word))) × IsTrue (has n (links_in v a)))) old new) same marks
+    → MarksFor (λ v a. (node_at ws a ≡ Some (book.name (key_spelt key word))) ⊎ ((n : Node) × (node_at ws n ≡ Some (book.name (key_spelt key word))) × IsTrue (has n (links_in v a)))) old new) same marks
 turn_over s t key Added old new same marks =
     subst (λ (ws : List (List ℕ)). (word : List ℕ) → slice_get ws key.word ≡ Some word
-        → MarksFor (λ v a. (node_at ws a ≡ Some (book.name (key_of key.scope word)))
-        ⊎ ((seeks_in v word a ≡ true) ⊎ ((n : Node) × (node_at ws n ≡ Some (book.name (key_of None word))) × IsTrue (has n (links_in v a))))) old new) same marks
+    → MarksFor (λ v a. (node_at ws a ≡ Some (book.name (key_of key.scope word)))
+    ⊎ ((seeks_in v word a ≡ true) ⊎ ((n : Node) × (node_at ws n ≡ Some (book.name (key_of None word))) × IsTrue (has n (links_in v a))))) old new) same marks
 turn_over s t key Absent old new same marks = marks
 
 pub name_parts_back : (s t : Session) (changes : List Change) (key : NameKey) (before after : Option ℕ) (old new : Option Values) → name_of changes ≡ Some (key, (before, after)) → words_in t ≡ words_in s

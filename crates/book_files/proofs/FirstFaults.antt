@@ -8,6 +8,7 @@ use Rattle.std.proofs.lemmas.Str.{IsUtf8-from_is_utf8, is_utf8-from_IsUtf8}
 use Rattle.book_model.specs.Given.{GivenSheet}
 use Rattle.book_model.specs.Refusals.{is_sheet_name}
 use Rattle.book_model.specs.declared.given.BookCell.{BookCell}
+use Rattle.cell_addr.specs.declared.place.TheConstants.{COLS, ROWS}
 use Rattle.book_files.specs.Books.{book_sheet_of, field_fault, file_cells, filled_after, first_fault, first_of, is_filled, or_behind, sheet_name_of, sheet_unless}
 use Rattle.book_files.specs.Laws.{IsFaultOf, IsFirstWrong, IsWrong, IsWrongAt}
 use Rattle.book_files.specs.declared.fault.BookFault.{BookFault}
@@ -64,22 +65,22 @@ filled_full filled c = (
 )
 
 -- what is wrong with a field
-tests-wrong : (filled : ℕ) (c : BookCell) (e : BookFault) → FirstTest (nat_le 40000 c.row) (nat_le 18278 c.col) (nat_lt 8192 (length c.text)) (is_filled c && nat_le 1000000 filled) e → IsWrong filled c e
+tests-wrong : (filled : ℕ) (c : BookCell) (e : BookFault) → FirstTest (nat_le ROWS c.row) (nat_le COLS c.col) (nat_lt 8192 (length c.text)) (is_filled c && nat_le 1000000 filled) e → IsWrong filled c e
 tests-wrong filled c NotUtf8 h = h
 tests-wrong filled c BadSheetName h = h
-tests-wrong filled c Rows h = (at_least 40000 c.row).0 h
-tests-wrong filled c Columns h = ((below 40000 c.row).0 h.0, (at_least 18278 c.col).0 h.1)
-tests-wrong filled c FieldLength h = ((below 40000 c.row).0 h.0, (below 18278 c.col).0 h.1, (more 8192 (length c.text)).0 h.2)
-tests-wrong filled c Cells h = let w = (filled_full filled c).0 h.3 in ((below 40000 c.row).0 h.0, (below 18278 c.col).0 h.1, (at_most 8192 (length c.text)).0 h.2, w.0, w.1)
+tests-wrong filled c Rows h = (at_least ROWS c.row).0 h
+tests-wrong filled c Columns h = ((below ROWS c.row).0 h.0, (at_least COLS c.col).0 h.1)
+tests-wrong filled c FieldLength h = ((below ROWS c.row).0 h.0, (below COLS c.col).0 h.1, (more 8192 (length c.text)).0 h.2)
+tests-wrong filled c Cells h = let w = (filled_full filled c).0 h.3 in ((below ROWS c.row).0 h.0, (below COLS c.col).0 h.1, (at_most 8192 (length c.text)).0 h.2, w.0, w.1)
 tests-wrong filled c NoMemory h = h
 
-wrong-tests : (filled : ℕ) (c : BookCell) (e : BookFault) → IsWrong filled c e → FirstTest (nat_le 40000 c.row) (nat_le 18278 c.col) (nat_lt 8192 (length c.text)) (is_filled c && nat_le 1000000 filled) e
+wrong-tests : (filled : ℕ) (c : BookCell) (e : BookFault) → IsWrong filled c e → FirstTest (nat_le ROWS c.row) (nat_le COLS c.col) (nat_lt 8192 (length c.text)) (is_filled c && nat_le 1000000 filled) e
 wrong-tests filled c NotUtf8 h = h
 wrong-tests filled c BadSheetName h = h
-wrong-tests filled c Rows h = (at_least 40000 c.row).1 h
-wrong-tests filled c Columns h = ((below 40000 c.row).1 h.0, (at_least 18278 c.col).1 h.1)
-wrong-tests filled c FieldLength h = ((below 40000 c.row).1 h.0, (below 18278 c.col).1 h.1, (more 8192 (length c.text)).1 h.2)
-wrong-tests filled c Cells h = ((below 40000 c.row).1 h.0, (below 18278 c.col).1 h.1, (at_most 8192 (length c.text)).1 h.2, (filled_full filled c).1 (h.3, h.4))
+wrong-tests filled c Rows h = (at_least ROWS c.row).1 h
+wrong-tests filled c Columns h = ((below ROWS c.row).1 h.0, (at_least COLS c.col).1 h.1)
+wrong-tests filled c FieldLength h = ((below ROWS c.row).1 h.0, (below COLS c.col).1 h.1, (more 8192 (length c.text)).1 h.2)
+wrong-tests filled c Cells h = ((below ROWS c.row).1 h.0, (below COLS c.col).1 h.1, (at_most 8192 (length c.text)).1 h.2, (filled_full filled c).1 (h.3, h.4))
 wrong-tests filled c NoMemory h = h
 
 fault-wrong : (filled : ℕ) (c : BookCell) (e : BookFault) → field_fault filled c ≡ Some e → IsWrong filled c e

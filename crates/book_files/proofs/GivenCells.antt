@@ -4,6 +4,7 @@ use Rattle.std.specs.Prelude.{All, AllPairs, filter}
 use Rattle.std.proofs.lemmas.Bool.Decides.{nat_tests}
 use Rattle.book_model.specs.Given.{IsGivenCell, StandApart}
 use Rattle.book_model.specs.declared.given.BookCell.{BookCell}
+use Rattle.cell_addr.specs.declared.place.TheConstants.{COLS, ROWS}
 use Rattle.book_files.specs.Books.{field_fault, filled_after, first_fault, first_of, is_filled, or_behind, table_cells}
 use Rattle.book_files.specs.Laws.{ReadsBefore}
 use Rattle.book_files.specs.declared.fault.BookFault.{BookFault}
@@ -22,9 +23,9 @@ passes false false false f e = (refl, refl, refl)
 
 fine-cell : (filled : ℕ) (c : BookCell) → field_fault filled c ≡ None → IsGivenCell c
 fine-cell filled c e =
-    let p = passes (nat_le 40000 c.row) (nat_le 18278 c.col) (nat_lt 8192 (length c.text)) (is_filled c && nat_le 1000000 filled) e in
-    let row : nat_le 40000 c.row ≡ false = p.0 in
-    let col : nat_le 18278 c.col ≡ false = p.1 in
+    let p = passes (nat_le ROWS c.row) (nat_le COLS c.col) (nat_lt 8192 (length c.text)) (is_filled c && nat_le 1000000 filled) e in
+    let row : nat_le ROWS c.row ≡ false = p.0 in
+    let col : nat_le COLS c.col ≡ false = p.1 in
     let text : nat_lt 8192 (length c.text) ≡ false = p.2 in
     (grind (arith, nat_tests), grind (arith, nat_tests), grind (arith, nat_tests))
 

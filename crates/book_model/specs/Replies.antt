@@ -51,40 +51,41 @@ place_of b spot = record { sheet = sheet_of b spot.sheet; row = spot.top; col = 
 abbrev pub block_of : Workbook → Spot → Block
 block_of b spot = record { sheet = sheet_of b spot.sheet; top = spot.top; left = spot.left; bottom = spot.bottom; right = spot.right }
 
--- what a command asks for
-abbrev pub operation_of : Workbook → Command → Operation
-operation_of b (command.Set at text) = op.set (place_of b at) text
-operation_of b (command.Clear area) = op.clear (block_of b area)
-operation_of b (command.InsertRows sheet at count) = op.structural (shift.InsertRows (sheet_named b sheet) at count)
-operation_of b (command.DeleteRows sheet at count) = op.structural (shift.DeleteRows (sheet_named b sheet) at count)
-operation_of b (command.InsertCols sheet at count) = op.structural (shift.InsertCols (sheet_named b sheet) at count)
-operation_of b (command.DeleteCols sheet at count) = op.structural (shift.DeleteCols (sheet_named b sheet) at count)
-operation_of b (command.MoveRows sheet from count before) = op.structural (shift.MoveRows (sheet_named b sheet) from count before)
-operation_of b (command.MoveCols sheet from count before) = op.structural (shift.MoveCols (sheet_named b sheet) from count before)
-operation_of b (command.AddSheet name) = op.add_sheet name
-operation_of b (command.DropSheet sheet) = op.structural (shift.DropSheet (sheet_named b sheet))
-operation_of b (command.RenameSheet sheet name) = op.rename_sheet (sheet_named b sheet) name
-operation_of b (command.ClearSheet sheet) = op.clear_sheet (sheet_named b sheet)
-operation_of b (command.AddName name scope text) = op.add_name name (scope_named b scope) text
-operation_of b (command.ChangeName name scope text) = op.change_name name (scope_named b scope) text
-operation_of b (command.RemoveName name scope) = op.remove_name name (scope_named b scope)
-operation_of b (command.Copy area) = op.copy (block_of b area)
-operation_of b (command.Cut area) = op.cut (block_of b area)
-operation_of b (command.Paste at) = op.paste (place_of b at)
-operation_of b (command.MoveBlock area at) = op.structural (shift.MoveBlock (block_of b area) (place_of b at))
-operation_of b command.Begin = op.begin
-operation_of b command.Commit = op.commit
-operation_of b command.Suspend = op.suspend
-operation_of b command.Resume = op.resume
-operation_of b command.Undo = op.undo
-operation_of b command.Redo = op.redo
-operation_of b (command.Value at) = op.value (place_of b at)
-operation_of b (command.Formula at) = op.formula (place_of b at)
-operation_of b (command.Content at) = op.content (place_of b at)
-operation_of b (command.Precedents at) = op.precedents (place_of b at)
-operation_of b (command.Dependents at) = op.dependents (place_of b at)
-operation_of b (command.NameValue name sheet) = op.name_value name (sheet_named b sheet)
-operation_of b (command.Try sheet text) = op.try_formula (sheet_named b sheet) text
+-- what a command asks a workbook for; a script's version asks for nothing
+abbrev pub operation_of : Workbook → Command → Option Operation
+operation_of b (command.Set at text) = Some (op.set (place_of b at) text)
+operation_of b (command.Clear area) = Some (op.clear (block_of b area))
+operation_of b (command.InsertRows sheet at count) = Some (op.structural (shift.InsertRows (sheet_named b sheet) at count))
+operation_of b (command.DeleteRows sheet at count) = Some (op.structural (shift.DeleteRows (sheet_named b sheet) at count))
+operation_of b (command.InsertCols sheet at count) = Some (op.structural (shift.InsertCols (sheet_named b sheet) at count))
+operation_of b (command.DeleteCols sheet at count) = Some (op.structural (shift.DeleteCols (sheet_named b sheet) at count))
+operation_of b (command.MoveRows sheet from count before) = Some (op.structural (shift.MoveRows (sheet_named b sheet) from count before))
+operation_of b (command.MoveCols sheet from count before) = Some (op.structural (shift.MoveCols (sheet_named b sheet) from count before))
+operation_of b (command.AddSheet name) = Some (op.add_sheet name)
+operation_of b (command.DropSheet sheet) = Some (op.structural (shift.DropSheet (sheet_named b sheet)))
+operation_of b (command.RenameSheet sheet name) = Some (op.rename_sheet (sheet_named b sheet) name)
+operation_of b (command.ClearSheet sheet) = Some (op.clear_sheet (sheet_named b sheet))
+operation_of b (command.AddName name scope text) = Some (op.add_name name (scope_named b scope) text)
+operation_of b (command.ChangeName name scope text) = Some (op.change_name name (scope_named b scope) text)
+operation_of b (command.RemoveName name scope) = Some (op.remove_name name (scope_named b scope))
+operation_of b (command.Copy area) = Some (op.copy (block_of b area))
+operation_of b (command.Cut area) = Some (op.cut (block_of b area))
+operation_of b (command.Paste at) = Some (op.paste (place_of b at))
+operation_of b (command.MoveBlock area at) = Some (op.structural (shift.MoveBlock (block_of b area) (place_of b at)))
+operation_of b command.Begin = Some op.begin
+operation_of b command.Commit = Some op.commit
+operation_of b command.Suspend = Some op.suspend
+operation_of b command.Resume = Some op.resume
+operation_of b command.Undo = Some op.undo
+operation_of b command.Redo = Some op.redo
+operation_of b (command.Value at) = Some (op.value (place_of b at))
+operation_of b (command.Formula at) = Some (op.formula (place_of b at))
+operation_of b (command.Content at) = Some (op.content (place_of b at))
+operation_of b (command.Precedents at) = Some (op.precedents (place_of b at))
+operation_of b (command.Dependents at) = Some (op.dependents (place_of b at))
+operation_of b (command.NameValue name sheet) = Some (op.name_value name (sheet_named b sheet))
+operation_of b (command.Try sheet text) = Some (op.try_formula (sheet_named b sheet) text)
+operation_of b (command.Version version) = None
 
 -- the text of a cell's formula, or `none`
 abbrev pub formula_text : Option (List ℕ) → List ℕ
@@ -195,9 +196,26 @@ line_of text = escaped text ++ 10 ∷ []
 abbrev pub line_answering : Operation → State → List ℕ
 line_answering op d = line_of (answer_unless (cause op d) (answer op d))
 
--- the line that answers a command, and the session after it
+-- why what a command asks for isn't done, the line that answers it, and the session after it; what asks for nothing is
+-- answered `ok`
+abbrev pub refusal_of : Option Operation → State → Option Refusal
+refusal_of None d = None
+refusal_of (Some op) d = cause op d
+
+abbrev pub line_asked : Option Operation → State → List ℕ
+line_asked None d = line_of (codes "ok")
+line_asked (Some op) d = line_answering op d
+
+abbrev pub state_asked : Option Operation → State → State
+state_asked None d = d
+state_asked (Some op) d = next op d
+
+-- of a command: its refusal, its line and the session after it
+abbrev pub refused_for : Command → State → Option Refusal
+refused_for c d = refusal_of (operation_of d.book c) d
+
 abbrev pub reply : Command → State → List ℕ
-reply c d = line_answering (operation_of d.book c) d
+reply c d = line_asked (operation_of d.book c) d
 
 abbrev pub next_state : Command → State → State
-next_state c d = next (operation_of d.book c) d
+next_state c d = state_asked (operation_of d.book c) d

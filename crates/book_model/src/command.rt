@@ -1,6 +1,15 @@
 // The commands of a script.
 use cell_addr::{Spot, Text};
 
+/// How a script was meant, which its first record may say. This project's own.
+#[derive(Clone, Copy, PartialEq, Eq, Debug)]
+pub enum Version {
+    /// By sheets of 40,000 rows: what is an address of a row behind these now was a name.
+    One,
+    /// As scripts are read without that record.
+    Two,
+}
+
 /// One command of a script: its word with the fields in their order. Sheets are named, rows and columns are counted
 /// from 0. This project's own.
 #[derive(Drop, Debug)]
@@ -69,4 +78,6 @@ pub enum Command {
     NameValue(Text, Text),
     /// Asks for what a formula, as its text, would show in the first cell of a sheet, which comes first.
     Try(Text, Text),
+    /// Says of which version the script is; the workbook stays as it is.
+    Version(Version),
 }

@@ -20,7 +20,7 @@ mod name;
 mod refusal;
 mod sheet_name;
 
-pub use command::Command;
+pub use command::{Command, Version};
 pub use content::{ContentText, read_content, text_given};
 pub use given::{BookCell, BookCells, BookSheet};
 pub use limits::{MAX_CELLS, MAX_NAME, MAX_SHEET_NAME, MAX_SHEETS, MAX_TEXT, MAX_UNDO};

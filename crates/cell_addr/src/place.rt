@@ -4,7 +4,7 @@ ghost use Rattle.cell_addr.specs.Place.{IsInside, IsBlockInside, Covers, CoverOn
 ghost use Rattle.cell_addr.specs.internal.Blocks.{IsInOrder, Overlap, Encloses};
 
 /// How many rows a sheet has. This project's own limit.
-pub const ROWS: u32 = 40_000;
+pub const ROWS: u32 = 1_048_576;
 
 /// How many columns a sheet has: the last one is ZZZ. This project's own limit.
 pub const COLS: u32 = 18_278;

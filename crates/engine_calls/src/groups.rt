@@ -190,7 +190,7 @@ pub(crate) fn links_are_listed_in_order(engine: &mut Engine<NoCustoms>) -> Resul
     Ok(
         is_what_is_needed(&needed)
             && is_what_needs(&needing)
-            && engine.dependents(place(40_000, 0)).is_err(),
+            && engine.dependents(place(1_048_576, 0)).is_err(),
     )
 }
 

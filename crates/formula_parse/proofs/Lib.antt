@@ -1,4 +1,8 @@
 pub mod AsciiFronts
+pub mod Pieces
+pub mod GapWords
+pub mod MigratedTokens
+pub mod MigratedTrees
 pub mod Streams
 pub mod Symbols
 pub mod Corners
@@ -8,3 +12,5 @@ pub mod ReaderLoops
 pub mod SpeltTokens
 pub mod ReadTexts
 pub mod CanonicalRead
+mod Whiles
+mod Capitals

@@ -1,4 +1,5 @@
 -- What only the proofs of bodies need.
 pub mod Front
+pub mod Pieces
 pub mod Stream
 pub mod Tree

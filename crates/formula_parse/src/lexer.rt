@@ -116,7 +116,7 @@ fn front(text: &str) -> Option<(Token<'_>, &str)>
 }
 
 // Whether the text begins with a number: a digit, or a point and a digit.
-fn begins_number(text: &[u8]) -> bool
+pub(crate) fn begins_number(text: &[u8]) -> bool
     ensures { result ≡ begins_number text.now }
 {
     match text {
@@ -126,7 +126,7 @@ fn begins_number(text: &[u8]) -> bool
 }
 
 // The number that the text begins with, as written.
-fn number_token(text: &str) -> (Token<'_>, &str)
+pub(crate) fn number_token(text: &str) -> (Token<'_>, &str)
     ensures { Some (token_of result.0, result.1.now) ≡ number_front text.now }
 {
     let (number, rest) = split_front(text, number_length(text.as_bytes()));
@@ -175,7 +175,7 @@ fn sheet_token(text: &str) -> Option<(Token<'_>, &str)>
 }
 
 // The fault that the text begins with, in letters of any case.
-fn fault_token(text: &str) -> Option<(Token<'_>, &str)>
+pub(crate) fn fault_token(text: &str) -> Option<(Token<'_>, &str)>
     ensures { option_map (λ p. (token_of p.0, p.1.now)) result ≡ option_map (fault_token text.now) (find (begins_with_fault text.now) faults) }
 {
     let fault = fault_in_front(text.as_bytes())?;
@@ -202,7 +202,7 @@ fn begins_with_fault(text: &[u8], fault: FaultKind) -> bool
 }
 
 // The symbol that the text begins with; the longest operator is taken.
-fn symbol(text: &str) -> Option<(Symbol, &str)>
+pub(crate) fn symbol(text: &str) -> Option<(Symbol, &str)>
     ensures { option_map (λ p. (symbol_token p.0, p.1.now)) result ≡ symbol_of text.now }
 {
     match text.as_bytes() {

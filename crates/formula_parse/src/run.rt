@@ -81,7 +81,7 @@ fn truth_of(run: &str) -> Option<bool>
 }
 
 // The address that the run is: letters and digits, each with a `$` in front or without.
-fn corner_of(run: &[u8]) -> Option<Address>
+pub(crate) fn corner_of(run: &[u8]) -> Option<Address>
     ensures { result ≡ corner_of run.now }
 {
     corner_after(begins_with(run, b'$'), after_dollar(run))

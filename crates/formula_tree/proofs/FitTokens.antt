@@ -18,7 +18,7 @@ use Rattle.formula_tree.specs.Token.{Token}
 use Rattle.formula_tree.specs.Token as tok
 use Rattle.formula_tree.specs.Run.{is_blank, begins_run, is_run_byte, begins_with, begins_with_any, after_while, is_word, after_dollar, address_at, corner_of, truth_of, word_token, lone_token, ends_sheet_name, is_sheet_run, run_token}
 use Rattle.cell_addr.specs.Quoted.{quoted}
-use Rattle.formula_tree.specs.Tokens.{Front, number_length, begins_number, text_token, sheet_token, begins_with_fault, fault_token, byte_token, pair_op, sign_token, token_at, and_tokens, tokens_in}
+use Rattle.formula_tree.specs.Tokens.{Front, number_length, begins_number, text_token, sheet_token, begins_with_fault, fault_token, byte_token, pair_op, sign_token, token_at, and_tokens, tokens_in, tokens_in_by}
 use Rattle.formula_tree.specs.Proper.{IsName}
 use Rattle.formula_tree.proofs.TokenSteps.{chosen}
 
@@ -159,7 +159,7 @@ all-cond true x y h g = h
 all-cond false x y h g = g
 
 fit-tokens_in : (n : ℕ) (cs : List ℕ) → FitAll (tokens_in n cs)
-unfolding tokens_in
+unfolding tokens_in_by
 fit-tokens_in zero cs = tt
 fit-tokens_in (suc n) [] = tt
 fit-tokens_in (suc n) (c ∷ cs) =

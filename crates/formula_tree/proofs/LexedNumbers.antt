@@ -45,15 +45,15 @@ lexes-digits [] cs tokens h e l = cc
 lexes-digits (c ∷ ws) cs tokens h e l =
     lexes-token c (ws ++ cs) (tok.Number (c ∷ ws)) cs tokens (digit-not_blank c h) (number-token c ws cs h e) (omega (arith, length-append ws cs)) l
 
-number_length-digits : (ws rest : List ℕ) → list_all is_digit ws ≡ true → begins_with_any is_digit rest ≡ false → number_length (ws ++ rest) ≡ length ws + decimals_length rest
+pub number_length-digits : (ws rest : List ℕ) → list_all is_digit ws ≡ true → begins_with_any is_digit rest ≡ false → number_length (ws ++ rest) ≡ length ws + decimals_length rest
 number_length-digits ws rest h g =
     ap (λ n. n + decimals_length (after_while is_digit (ws ++ rest))) (prefix_len-append is_digit ws rest h g)
     ∙ ap (λ r. length ws + decimals_length r) (after_while-append is_digit ws rest h g)
 
-decimals_length-none : (cs : List ℕ) → begins_with 46 cs ≡ false → decimals_length cs ≡ 0
+pub decimals_length-none : (cs : List ℕ) → begins_with 46 cs ≡ false → decimals_length cs ≡ 0
 decimals_length-none cs h = cond-false (begins_with 46 cs) (1 + prefix_len is_digit (drop 1 cs)) 0 h
 
-decimals_length-some : (ds cs : List ℕ) → list_all is_digit ds ≡ true → begins_with_any is_digit cs ≡ false → decimals_length (46 ∷ (ds ++ cs)) ≡ 1 + length ds
+pub decimals_length-some : (ds cs : List ℕ) → list_all is_digit ds ≡ true → begins_with_any is_digit cs ≡ false → decimals_length (46 ∷ (ds ++ cs)) ≡ 1 + length ds
 decimals_length-some ds cs h g = ap (λ n. 1 + n) (prefix_len-append is_digit ds cs h g)
 
 whole-begins : (ws rest : List ℕ) → IsWholePart ws → begins_with_any is_digit (ws ++ rest) ≡ true
@@ -104,18 +104,18 @@ number-begins (pos n) h g cs = plain-begins (text_of (pos n)) cs (plain-unsigned
 number-begins (negsuc n) h g cs = cc
 
 -- a byte other than the quote belongs to the content
-quoted-other : (q c : ℕ) (cs : List ℕ) → (c == q) ≡ false → quoted q (c ∷ cs) ≡ with_byte c (quoted q cs)
+pub quoted-other : (q c : ℕ) (cs : List ℕ) → (c == q) ≡ false → quoted q (c ∷ cs) ≡ with_byte c (quoted q cs)
 quoted-other q c [] h = rw h refl
 quoted-other q c (d ∷ ds) h = rw h refl
 
 same_byte : (q : ℕ) → (q == q) ≡ true
 same_byte q = grind (arith, nat_tests)
 
-quoted-close : (q : ℕ) (cs : List ℕ) → begins_with q cs ≡ false → quoted q (q ∷ cs) ≡ Some ([], cs)
+pub quoted-close : (q : ℕ) (cs : List ℕ) → begins_with q cs ≡ false → quoted q (q ∷ cs) ≡ Some ([], cs)
 quoted-close q [] h = rw (same_byte q) refl
 quoted-close q (d ∷ cs) h = rw (same_byte q, h) refl
 
-quoted-twice : (q : ℕ) (cs : List ℕ) → quoted q (q ∷ q ∷ cs) ≡ with_byte q (quoted q cs)
+pub quoted-twice : (q : ℕ) (cs : List ℕ) → quoted q (q ∷ q ∷ cs) ≡ with_byte q (quoted q cs)
 quoted-twice q cs = rw (same_byte q) refl
 
 doubled-by : (q : ℕ) (b : Bool) (c : ℕ) (cs rest : List ℕ) → (c == q) ≡ b → quoted q (doubled q cs ++ (q ∷ rest)) ≡ Some (cs, rest)

@@ -12,7 +12,7 @@ use Rattle.formula_tree.specs.Token.{Token}
 use Rattle.formula_tree.specs.Token as tok
 use Rattle.formula_tree.specs.Level.{op_of}
 use Rattle.formula_tree.specs.Run.{is_blank, is_run_byte, begins_with, begins_with_any, after_while}
-use Rattle.formula_tree.specs.Tokens.{token_at, tokens_in}
+use Rattle.formula_tree.specs.Tokens.{token_at, tokens_in, tokens_in_by}
 use Rattle.formula_tree.specs.Canonical.{op_text, sign_text}
 
 -- the text has these tokens, and each number of steps above its length finds them
@@ -20,14 +20,14 @@ abbrev pub Lexes : List ℕ → List Token → Type 0
 Lexes cs tokens = (n : ℕ) → length cs < n → tokens_in n cs ≡ Some tokens
 
 pub lexes-nil : Lexes [] []
-unfolding tokens_in
+unfolding tokens_in_by
 lexes-nil zero h = absurd (omega arith)
 lexes-nil (suc n) h = refl
 
 -- one token more in front
 pub lexes-token : (c : ℕ) (cs : List ℕ) (token : Token) (rest : List ℕ) (tokens : List Token) → is_blank c ≡ false → token_at c cs ≡ Some (token, rest)
     → length rest ≤ length cs → Lexes rest tokens → Lexes (c ∷ cs) (token ∷ tokens)
-unfolding tokens_in
+unfolding tokens_in_by
 lexes-token c cs token rest tokens b e h l zero g = absurd (omega arith)
 lexes-token c cs token rest tokens b e h l (suc n) g = let more : tokens_in n rest ≡ Some tokens = l n (omega arith) in rw (b, e, more) refl
 

@@ -47,20 +47,30 @@ after_while p cs = drop (prefix_len p cs) cs
 abbrev pub after_dollar : List ℕ → List ℕ
 after_dollar cs = if begins_with 36 cs then drop 1 cs else cs
 
--- the address of a row and a column, where they lie within the limits
-abbrev pub address_at : Bool → Bool → ℕ × ℕ → Option Address
-address_at col_fixed row_fixed (row, col) = if nat_lt row ROWS && nat_lt col COLS
+-- the address of a row and a column, where they lie within the limits of a sheet of so many rows
+abbrev pub address_by : ℕ → Bool → Bool → ℕ × ℕ → Option Address
+address_by rows col_fixed row_fixed (row, col) = if nat_lt row rows && nat_lt col COLS
     then Some (record { row = row; col = col; row_fixed = row_fixed; col_fixed = col_fixed })
     else None
 
--- the address that a run is: letters and digits, each with a `$` in front or without
-abbrev pub corner_after : Bool → List ℕ → Option Address
-corner_after col_fixed cs = option_and_then
-    (address_at col_fixed (begins_with 36 (after_letters cs)))
+-- the address that a run is, of a sheet of so many rows: letters and digits, each with a `$` in front or without
+abbrev pub corner_after_by : ℕ → Bool → List ℕ → Option Address
+corner_after_by rows col_fixed cs = option_and_then
+    (address_by rows col_fixed (begins_with 36 (after_letters cs)))
     (option_zip (row_of (after_dollar (after_letters cs))) (column_of (letters cs)))
 
+abbrev pub corner_by : ℕ → List ℕ → Option Address
+corner_by rows run = corner_after_by rows (begins_with 36 run) (after_dollar run)
+
+-- the same of a sheet as it is
+abbrev pub address_at : Bool → Bool → ℕ × ℕ → Option Address
+address_at col_fixed row_fixed at = address_by ROWS col_fixed row_fixed at
+
+abbrev pub corner_after : Bool → List ℕ → Option Address
+corner_after col_fixed cs = corner_after_by ROWS col_fixed cs
+
 abbrev pub corner_of : List ℕ → Option Address
-corner_of run = corner_after (begins_with 36 run) (after_dollar run)
+corner_of run = corner_by ROWS run
 
 -- the end of a whole range at a line, where that lies within the limit
 abbrev pub end_at : Axis → Bool → ℕ → ℕ → Option End
@@ -99,10 +109,14 @@ ends_sheet_name cs = begins_with 33 cs && not (begins_with_any is_blank (drop 1 
 abbrev pub is_sheet_run : List ℕ → List ℕ → Bool
 is_sheet_run run cs = is_bare_name run && ends_sheet_name cs
 
--- what a run is, and what follows it: before `!` a sheet's name, before `(` a function's word,
--- then an address, a truth value, a name
-abbrev pub run_token : List ℕ → List ℕ → Token × List ℕ
-run_token run cs = if is_sheet_run run cs then (tok.Sheet run, drop 1 cs)
+-- what a run is, and what follows it, of a sheet of so many rows: before `!` a sheet's name, before `(` a function's
+-- word, then an address, a truth value, a name
+abbrev pub run_token_by : ℕ → List ℕ → List ℕ → Token × List ℕ
+run_token_by rows run cs = if is_sheet_run run cs then (tok.Sheet run, drop 1 cs)
     else (if begins_with 40 (after_while is_blank cs)
     then (if is_word run then (tok.Word run, cs) else (tok.Other run, cs))
-    else (lone_token run (corner_of run), cs))
+    else (lone_token run (corner_by rows run), cs))
+
+-- the same of a sheet as it is
+abbrev pub run_token : List ℕ → List ℕ → Token × List ℕ
+run_token run cs = run_token_by ROWS run cs

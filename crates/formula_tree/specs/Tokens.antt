@@ -3,6 +3,7 @@ use Rattle.std.specs.Prelude.{ℕ, zero, suc, ◌+◌, Bool, ◌&&◌, ◌||◌,
 use Rattle.std.specs.List.{prefix_len, take_while, find}
 use Rattle.std.specs.Option.{option_map}
 use Rattle.digits.specs.Digits.{is_digit}
+use Rattle.cell_addr.specs.declared.place.TheConstants.{ROWS}
 use Rattle.cell_addr.specs.Quoted.{quoted}
 use Rattle.cell_value.specs.declared.fault.FaultKind.{FaultKind}
 use Rattle.cell_value.specs.Fault.{fault_text, faults, spells}
@@ -10,7 +11,7 @@ use Rattle.formula_tree.specs.declared.operator.Op.{Op}
 use Rattle.formula_tree.specs.declared.operator.Op.TheVariants as op
 use Rattle.formula_tree.specs.Token.{Token}
 use Rattle.formula_tree.specs.Token as tok
-use Rattle.formula_tree.specs.Run.{is_blank, begins_run, is_run_byte, begins_with, begins_with_any, after_while, ends_sheet_name, run_token}
+use Rattle.formula_tree.specs.Run.{is_blank, begins_run, is_run_byte, begins_with, begins_with_any, after_while, ends_sheet_name, run_token_by}
 
 -- a token, and what follows it; nothing where the text begins with no token
 abbrev pub Front : Type 0
@@ -72,9 +73,9 @@ abbrev pub sign_token : Option Op → ℕ → List ℕ → Front
 sign_token (Some o) c cs = Some (tok.Operator o, drop 1 cs)
 sign_token None c cs = option_map (λ token. (token, cs)) (byte_token c)
 
--- the token that a text begins with, by its first byte
-abbrev pub token_at : ℕ → List ℕ → Front
-token_at c cs = if begins_run c then Some (run_token (take_while is_run_byte (c ∷ cs)) (after_while is_run_byte (c ∷ cs)))
+-- the token that a text begins with, by its first byte; of a sheet of so many rows
+abbrev pub token_by : ℕ → ℕ → List ℕ → Front
+token_by rows c cs = if begins_run c then Some (run_token_by rows (take_while is_run_byte (c ∷ cs)) (after_while is_run_byte (c ∷ cs)))
     else if begins_number (c ∷ cs) then Some (tok.Number (take (number_length (c ∷ cs)) (c ∷ cs)), drop (number_length (c ∷ cs)) (c ∷ cs))
     else if c == 34 then option_map text_token (quoted 34 cs)
     else if c == 39 then option_and_then sheet_token (quoted 39 cs)
@@ -87,15 +88,25 @@ and_tokens None rest = None
 and_tokens (Some front) rest = option_map (λ tokens. front.0 ∷ tokens) (rest front.1)
 
 -- one step: a blank means nothing, and each other byte begins a token
-abbrev pub tokens_step : (List ℕ → Option (List Token)) → List ℕ → Option (List Token)
-tokens_step rest [] = Some []
-tokens_step rest (c ∷ cs) = if is_blank c then rest cs else and_tokens (token_at c cs) rest
+abbrev pub tokens_step_by : ℕ → (List ℕ → Option (List Token)) → List ℕ → Option (List Token)
+tokens_step_by rows rest [] = Some []
+tokens_step_by rows rest (c ∷ cs) = if is_blank c then rest cs else and_tokens (token_by rows c cs) rest
 
 -- the tokens of a text, in so many steps; nothing where the text isn't made of tokens
-unfoldable pub tokens_in : ℕ → List ℕ → Option (List Token)
-tokens_in zero cs = None
-tokens_in (suc steps) cs = tokens_step (tokens_in steps) cs
+unfoldable pub tokens_in_by : ℕ → ℕ → List ℕ → Option (List Token)
+tokens_in_by rows zero cs = None
+tokens_in_by rows (suc steps) cs = tokens_step_by rows (tokens_in_by rows steps) cs
 
 -- the tokens of a text: each step takes a byte or more
+abbrev pub tokens_by : ℕ → List ℕ → Option (List Token)
+tokens_by rows cs = tokens_in_by rows (length cs + 1) cs
+
+-- the same of a sheet as it is
+abbrev pub token_at : ℕ → List ℕ → Front
+token_at c cs = token_by ROWS c cs
+
+abbrev pub tokens_in : ℕ → List ℕ → Option (List Token)
+tokens_in steps cs = tokens_in_by ROWS steps cs
+
 abbrev pub tokens_of : List ℕ → Option (List Token)
-tokens_of cs = tokens_in (length cs + 1) cs
+tokens_of cs = tokens_by ROWS cs

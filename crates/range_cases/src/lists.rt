@@ -27,7 +27,7 @@ const GROWTH: u32 = 8;
 const ROLLS: u32 = 6;
 
 // One call in so many asks for the summary of whole rows or columns, of which the plain model looks at every cell.
-const SELDOM: u32 = 50;
+const SELDOM: u32 = 1_300;
 
 // More than the blocks that a list keeps.
 const MANY: u32 = 100_000;

@@ -144,17 +144,38 @@ fn moved_as_it_is(s: &Shift, b: Block) -> Option<Block>
     }
 }
 
+// How far from the ends of a block its lines are looked at one by one. Operations are drawn near a corner of the sheet, so
+// the lines between move as their neighbours.
+const NEAR: u32 = 60;
+
 // Whether each cell of the block moves to the same offset in the other.
 fn moves_all(s: &Shift, b: Block, moved: Block) -> bool
     requires { IsSound s.now }
 {
-    'rows: for row in b.top..b.bottom.saturating_add(1) {
-        'cols: for col in b.left..b.right.saturating_add(1) {
-            let to_row = moved.top.wrapping_add(row.wrapping_sub(b.top));
-            let to_col = moved.left.wrapping_add(col.wrapping_sub(b.left));
-            if moved_place(s, place(b, row, col)) != Some(place(moved, to_row, to_col)) {
-                return false;
-            }
+    let first_end = b.bottom.min(b.top.saturating_add(NEAR));
+    let last_start = b.bottom.saturating_sub(NEAR).max(b.top);
+    'first: for row in b.top..first_end.saturating_add(1) {
+        if !moves_row(s, b, moved, row) {
+            return false;
+        }
+    }
+    'last: for row in last_start..b.bottom.saturating_add(1) {
+        if !moves_row(s, b, moved, row) {
+            return false;
+        }
+    }
+    true
+}
+
+// Whether each cell of a row of the block moves to the same offset in the other.
+fn moves_row(s: &Shift, b: Block, moved: Block, row: u32) -> bool
+    requires { IsSound s.now }
+{
+    'cols: for col in b.left..b.right.saturating_add(1) {
+        let to_row = moved.top.wrapping_add(row.wrapping_sub(b.top));
+        let to_col = moved.left.wrapping_add(col.wrapping_sub(b.left));
+        if moved_place(s, place(b, row, col)) != Some(place(moved, to_row, to_col)) {
+            return false;
         }
     }
     true

@@ -12,6 +12,7 @@ use Rattle.std.proofs.lemmas.Option.{same_Some}
 use Rattle.cell_addr.specs.Place.{IsBlockInside}
 use Rattle.cell_addr.specs.declared.place.Block.{Block}
 use Rattle.cell_addr.specs.declared.place.Place.{Place}
+use Rattle.cell_addr.specs.declared.place.TheConstants.{COLS, ROWS}
 use Rattle.cell_value.specs.Summary.{no_values, summary_of}
 use Rattle.cell_value.specs.declared.scalar.Scalar.{Scalar}
 use Rattle.cell_value.specs.declared.summary.Summary.{Summary}
@@ -26,10 +27,10 @@ unfolding summary_of
 nothing_yet = refl
 
 -- a block of at most so many cells
-pub cells_fit : (b : Block) → IsBlockInside b → cells_in b ≤ 40000 * 18278
+pub cells_fit : (b : Block) → IsBlockInside b → cells_in b ≤ ROWS * COLS
 cells_fit b (rows, bottom, cols, right) =
-    let high : height b ≤ 40000 = omega arith in
-    let wide : width b ≤ 18278 = omega arith in
+    let high : height b ≤ ROWS = omega arith in
+    let wide : width b ≤ COLS = omega arith in
     mul-le-mul high wide
 
 pub one_row : (b : Block) → cells_in (last_row b) ≡ width b

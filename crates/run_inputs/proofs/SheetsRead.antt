@@ -10,6 +10,7 @@ use Rattle.std.proofs.lemmas.List.Quantifiers.{all_pairs_push}
 use Rattle.std.proofs.lemmas.Slice.Eq.{bytes_eq-Decides}
 use Rattle.cell_addr.specs.Sheets.{same_name}
 use Rattle.cell_addr.specs.Text.{folded}
+use Rattle.cell_addr.specs.declared.place.TheConstants.{COLS, ROWS}
 use Rattle.cell_addr.proofs.Places.{place_cmp-IsTotalOrder}
 use Rattle.book_files.specs.Books.{book_sheet_of, field_fault, filled_after, first_fault, is_filled, or_behind, sheet_name_of, sheet_unless, file_cells}
 use Rattle.book_files.specs.declared.fault.BookFault.{BookFault}
@@ -111,7 +112,7 @@ and-true b = refl
 
 passes-count : (filled : ℕ) (c : BookCell) (b : Bool) → is_filled c ≡ b → field_fault filled c ≡ None → filled ≤ 1000000 → cond b (filled + 1) filled ≤ 1000000
 passes-count filled c true is none most =
-    let last = last_passes (nat_le 40000 c.row) (nat_le 18278 c.col) (nat_lt 8192 (length c.text)) (is_filled c && nat_le 1000000 filled) Rows Columns FieldLength Cells none in
+    let last = last_passes (nat_le ROWS c.row) (nat_le COLS c.col) (nat_lt 8192 (length c.text)) (is_filled c && nat_le 1000000 filled) Rows Columns FieldLength Cells none in
     let full : nat_le 1000000 filled ≡ false = sym (ap (λ t. t && nat_le 1000000 filled) is) ∙ last in
     grind (arith, nat_tests, full)
 passes-count filled c false is none most = most

@@ -1,7 +1,7 @@
 -- Each word is found as it is written, one case for each. Serves the law of the table.
 use Rattle.std.proofs.Common.{refl}
 use Rattle.script_lang.specs.Laws.{WordsAreNamed}
-use Rattle.script_lang.specs.declared.word.Word.TheVariants.{Set, Clear, InsertRows, DeleteRows, InsertCols, DeleteCols, MoveRows, MoveCols, AddSheet, DropSheet, RenameSheet, ClearSheet, AddName, ChangeName, RemoveName, Copy, Cut, Paste, MoveBlock, Begin, Commit, Suspend, Resume, Undo, Redo, Value, Formula, Content, Precedents, Dependents, NameValue, Try}
+use Rattle.script_lang.specs.declared.word.Word.TheVariants.{Set, Clear, InsertRows, DeleteRows, InsertCols, DeleteCols, MoveRows, MoveCols, AddSheet, DropSheet, RenameSheet, ClearSheet, AddName, ChangeName, RemoveName, Copy, Cut, Paste, MoveBlock, Begin, Commit, Suspend, Resume, Undo, Redo, Value, Formula, Content, Precedents, Dependents, NameValue, Try, Version}
 
 pub words_are_named : WordsAreNamed
 words_are_named Set = refl
@@ -36,3 +36,4 @@ words_are_named Precedents = refl
 words_are_named Dependents = refl
 words_are_named NameValue = refl
 words_are_named Try = refl
+words_are_named Version = refl

@@ -1,10 +1,12 @@
 -- The forms of fields. Rows and columns are those of addresses. Source: OpenFormula's references without `$`, and
 -- this project's own.
-use Rattle.std.specs.Prelude.{ℕ, Bool, ◌&&◌, if◌then◌else◌, nat_le, List, length, Option, Some, None, option_and_then}
+use Rattle.std.specs.Prelude.{ℕ, bytes_eq, codes, Bool, ◌&&◌, if◌then◌else◌, nat_le, List, length, Option, Some, None, option_and_then}
 use Rattle.std.specs.List.{list_all}
 use Rattle.std.specs.Str.{is_utf8}
 use Rattle.digits.specs.Digits.{is_digit, value}
 use Rattle.cell_addr.specs.Address.{spot_of}
+use Rattle.book_model.specs.declared.command.Version.{Version}
+use Rattle.book_model.specs.declared.command.Version.TheVariants.{One, Two}
 use Rattle.cell_addr.specs.declared.spot.Spot.{Spot}
 use Rattle.script_lang.specs.declared.form.TheConstants.{COUNT_DIGITS}
 
@@ -29,3 +31,7 @@ is_count cs = (nat_le 1 (length cs) && nat_le (length cs) COUNT_DIGITS) && list_
 
 abbrev pub count_of : List ℕ → Option ℕ
 count_of cs = if is_count cs then Some (value cs) else None
+
+-- the version that a field names
+abbrev pub version_field : List ℕ → Option Version
+version_field field = if bytes_eq field (codes "1") then Some One else (if bytes_eq field (codes "2") then Some Two else None)

@@ -4,7 +4,7 @@ use Rattle.std.specs.List.{find}
 use Rattle.script_lang.specs.declared.word.Word.{Word}
 use Rattle.script_lang.specs.declared.word.Word.TheVariants as word
 use Rattle.script_lang.specs.declared.word.FieldKind.{FieldKind}
-use Rattle.script_lang.specs.declared.word.FieldKind.TheVariants.{Place, Block, Sheet, Scope, Row, Column, Count, RowBefore, ColumnBefore, Name, Text}
+use Rattle.script_lang.specs.declared.word.FieldKind.TheVariants.{Place, Block, Sheet, Scope, Row, Column, Count, RowBefore, ColumnBefore, Name, Text, Version}
 
 -- the line of a word: how it is written, and what fields follow it
 abbrev pub line : Word → List ℕ × List FieldKind
@@ -40,6 +40,7 @@ line word.Precedents = (codes "precedents", Place ∷ [])
 line word.Dependents = (codes "dependents", Place ∷ [])
 line word.NameValue = (codes "name-value", Name ∷ Sheet ∷ [])
 line word.Try = (codes "try", Sheet ∷ Text ∷ [])
+line word.Version = (codes "version", Version ∷ [])
 
 -- all words
 abbrev pub words : List Word
@@ -50,7 +51,7 @@ words = word.Set ∷ word.Clear
     ∷ word.Copy ∷ word.Cut ∷ word.Paste ∷ word.MoveBlock
     ∷ word.Begin ∷ word.Commit ∷ word.Suspend ∷ word.Resume ∷ word.Undo ∷ word.Redo
     ∷ word.Value ∷ word.Formula ∷ word.Content ∷ word.Precedents ∷ word.Dependents
-    ∷ word.NameValue ∷ word.Try ∷ []
+    ∷ word.NameValue ∷ word.Try ∷ word.Version ∷ []
 
 -- the word that is written so, in exactly these letters
 abbrev pub word_named : List ℕ → Option Word

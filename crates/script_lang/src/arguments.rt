@@ -4,8 +4,9 @@ ghost use Rattle.script_lang.specs.Arguments.{no_arguments, no_spot, said_by, wi
 ghost use Rattle.script_lang.specs.internal.Reading.{Leaves};
 
 use crate::error::ScriptError;
-use crate::form::{read_block, read_count, read_single, read_text};
+use crate::form::{read_block, read_count, read_single, read_text, read_version};
 use crate::word::FieldKind;
+use book_model::Version;
 use cell_addr::{Spot, Text, read_column, read_row};
 use std::alloc::Global;
 
@@ -24,6 +25,8 @@ pub struct Arguments {
     pub before: u32,
     pub name: Text,
     pub text: Text,
+    /// The version of a script; the newest where no field says it.
+    pub version: Version,
 }
 
 impl Arguments {
@@ -40,6 +43,7 @@ impl Arguments {
             before: 0,
             name: Text::new(String::new(alloc)),
             text: Text::new(String::new(alloc)),
+            version: Version::Two,
         }
     }
 
@@ -67,6 +71,7 @@ impl Arguments {
             FieldKind::ColumnBefore => self.before = said(number, read_column(field))?,
             FieldKind::Name => self.name = said(number, read_text(alloc, field)?)?,
             FieldKind::Text => self.text = said(number, read_text(alloc, field)?)?,
+            FieldKind::Version => self.version = said(number, read_version(field))?,
         }
         Ok(())
     }

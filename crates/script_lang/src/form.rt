@@ -1,8 +1,9 @@
 // The forms of fields: what a text, a block, a place and a count look like.
 ghost use Rattle.std.specs.Prelude.{◌≡◌, IfOk};
 ghost use Rattle.std.specs.Option.{option_copied};
-ghost use Rattle.script_lang.specs.Forms.{block_field, count_of, is_count, place_field, text_field};
+ghost use Rattle.script_lang.specs.Forms.{block_field, count_of, is_count, place_field, text_field, version_field};
 
+use book_model::Version;
 use cell_addr::{AddrError, Spot, Text, read_place};
 use digits::{all_digits, value_at_most};
 use std::alloc::{AllocError, Global};
@@ -54,6 +55,17 @@ pub fn read_count(field: &[u8]) -> Option<u32>
         Some(value_at_most(field, MOST) as u32)
     } else {
         None
+    }
+}
+
+/// The version of a script that a field names: `1` or `2`. `None` where the field is another.
+pub fn read_version(field: &[u8]) -> Option<Version>
+    ensures { result ≡ version_field field.now }
+{
+    match field {
+        [b'1'] => Some(Version::One),
+        [b'2'] => Some(Version::Two),
+        _ => None,
     }
 }
 

@@ -10,6 +10,9 @@
 //! frob,1                unknown command
 //! value,??              bad field 1
 //! ```
+//!
+//! A script whose first record is `version,1` was written when a sheet had 40,000 rows. [`command_in`] takes its texts and
+//! names along: what is an address now and was a name gets one `_` more.
 #![tactic(auto)]
 
 mod arguments;
@@ -20,4 +23,5 @@ mod script;
 mod word;
 
 pub use error::ScriptError;
-pub use script::command;
+pub use formula_parse::{migrated, migrated_name};
+pub use script::{command, command_in, version_after};

@@ -1,29 +1,31 @@
 // How the records of a script say commands.
-ghost use Rattle.std.specs.Prelude.{◌≡◌, ◌+◌, ◌<◌, ◌≤◌, drop, length};
+ghost use Rattle.std.specs.Prelude.{◌≡◌, ◌+◌, ◌<◌, ◌≤◌, IfOk, drop, length};
 ghost use Rattle.csv.specs.Records.{fields_of};
 ghost use Rattle.script_lang.specs.Arguments.{no_arguments, read_from};
-ghost use Rattle.script_lang.specs.Command.{Says, command_of, command_with, word_in};
+ghost use Rattle.script_lang.specs.Command.{Says, command_in, command_of, command_with, migrated_command, of_version, version_after, word_at, word_in};
 ghost use Rattle.script_lang.specs.internal.Reading.{field};
 
 use crate::arguments::{Arguments, no_spot};
 use crate::error::ScriptError;
 use crate::word::{FieldKind, MAX_FIELDS, Word};
-use book_model::Command;
+use book_model::{Command, Version};
 use cell_addr::{Spot, Text};
 use csv::ByteRecord;
-use std::alloc::Global;
+use formula_parse::{migrated, migrated_name};
+use std::alloc::{AllocError, Global};
 use std::mem;
 
-/// The command that a record says. The first field is its word, and the fields behind it are its arguments.
+/// The command that a record says, which has this number among those of its script; the first has number 1. The first
+/// field is its word, and the fields behind it are its arguments.
 ///
 /// # Errors
-/// `UnknownCommand` exactly where the first field is no command's word; else `FieldCount` exactly
-/// where the number of fields differs; else `BadField` for the first field that hasn't its form or
-/// isn't UTF-8; and `NoMemory`.
-pub fn command(alloc: Global, fields: &ByteRecord) -> Result<Command, ScriptError>
-    ensures { Says result (command_of (fields_of fields.now)) }
+/// `UnknownCommand` exactly where the first field is no command's word, or is `version` in another record than the first;
+/// else `FieldCount` exactly where the number of fields differs; else `BadField` for the first field that hasn't its form
+/// or isn't UTF-8; and `NoMemory`.
+pub fn command(alloc: Global, fields: &ByteRecord, number: u64) -> Result<Command, ScriptError>
+    ensures { Says result (command_of number (fields_of fields.now)) }
 {
-    let Some(word) = first_word(fields) else {
+    let Some(word) = first_word(fields, number) else {
         return Err(ScriptError::UnknownCommand);
     };
     let (_, kinds) = word.line();
@@ -34,11 +36,81 @@ pub fn command(alloc: Global, fields: &ByteRecord) -> Result<Command, ScriptErro
     Ok(command_with(alloc, word, &mut arguments))
 }
 
-// The word that the first field spells.
-fn first_word(fields: &ByteRecord) -> Option<Word>
-    ensures { result ≡ word_in (fields_of fields.now) }
+/// The command that a record says in a script of this version, as it is meant today: in one of version 1, a formula's text
+/// and a name that is given, removed or asked for are taken along as [`migrated`] and [`migrated_name`] say.
+///
+/// # Errors
+/// Those of [`command`].
+pub fn command_in(
+    alloc: Global,
+    version: Version,
+    fields: &ByteRecord,
+    number: u64,
+) -> Result<Command, ScriptError>
+    ensures { Says result (command_in version number (fields_of fields.now)) }
 {
-    Word::named(fields.get(0)?)
+    let command = command(alloc, fields, number)?;
+    match version {
+        Version::One => Ok(migrated_command(alloc, command)?),
+        Version::Two => Ok(command),
+    }
+}
+
+/// The version of a script behind a command: the one that this says, or the one before.
+pub fn version_after(version: Version, command: &Command) -> Version
+    ensures { result ≡ version_after version command.now }
+{
+    match command {
+        Command::Version(said) => *said,
+        _ => version,
+    }
+}
+
+// A command of a script of version 1 as it is meant today.
+fn migrated_command(alloc: Global, command: Command) -> Result<Command, AllocError>
+    ensures { IfOk result (λ new. new ≡ migrated_command command) }
+{
+    match command {
+        Command::Set(at, text) => Ok(Command::Set(at, migrated(alloc, text.as_str())?)),
+        Command::AddName(name, scope, text) => Ok(Command::AddName(
+            migrated_name(alloc, name.as_str())?,
+            scope,
+            migrated(alloc, text.as_str())?,
+        )),
+        Command::ChangeName(name, scope, text) => Ok(Command::ChangeName(
+            migrated_name(alloc, name.as_str())?,
+            scope,
+            migrated(alloc, text.as_str())?,
+        )),
+        Command::RemoveName(name, scope) => Ok(Command::RemoveName(
+            migrated_name(alloc, name.as_str())?,
+            scope,
+        )),
+        Command::NameValue(name, sheet) => Ok(Command::NameValue(
+            migrated_name(alloc, name.as_str())?,
+            sheet,
+        )),
+        Command::Try(sheet, text) => Ok(Command::Try(sheet, migrated(alloc, text.as_str())?)),
+        other => Ok(other),
+    }
+}
+
+// The word that the first field of the record of this number spells.
+fn first_word(fields: &ByteRecord, number: u64) -> Option<Word>
+    ensures { result ≡ word_in number (fields_of fields.now) }
+{
+    let word = Word::named(fields.get(0)?)?;
+    word_at(number, word)
+}
+
+// The word, where it may stand in the record of this number: a script's version is said by its first record alone.
+fn word_at(number: u64, word: Word) -> Option<Word>
+    ensures { result ≡ word_at number word }
+{
+    match word {
+        Word::Version if number != 1 => None,
+        _ => Some(word),
+    }
 }
 
 // What the fields behind the word say, which are of these kinds.
@@ -83,6 +155,7 @@ fn command_with(alloc: Global, word: Word, arguments: &mut Arguments) -> Command
         before,
         name,
         text,
+        version,
     } = arguments;
     match word {
         Word::Set => Command::Set(take_spot(place), take(alloc, text)),
@@ -121,6 +194,7 @@ fn command_with(alloc: Global, word: Word, arguments: &mut Arguments) -> Command
         Word::Dependents => Command::Dependents(take_spot(place)),
         Word::NameValue => Command::NameValue(take(alloc, name), take(alloc, sheet)),
         Word::Try => Command::Try(take(alloc, sheet), take(alloc, text)),
+        Word::Version => Command::Version(*version),
     }
 }
 

@@ -3,7 +3,7 @@ ghost use Rattle.std.specs.Prelude.{◌≡◌, ◌≤◌, length};
 ghost use Rattle.script_lang.specs.Words.{line, word_named};
 
 use FieldKind::{
-    Block, Column, ColumnBefore, Count, Name, Place, Row, RowBefore, Scope, Sheet, Text,
+    Block, Column, ColumnBefore, Count, Name, Place, Row, RowBefore, Scope, Sheet, Text, Version,
 };
 
 /// The word that a command begins with.
@@ -41,6 +41,7 @@ pub enum Word {
     Dependents,
     NameValue,
     Try,
+    Version,
 }
 
 /// What a field says, and so which form it has.
@@ -68,6 +69,8 @@ pub enum FieldKind {
     Name,
     /// A text that is given.
     Text,
+    /// The version of a script: `1` or `2`.
+    Version,
 }
 
 /// How many fields stand behind a word at most.
@@ -75,7 +78,7 @@ pub const MAX_FIELDS: usize = 4;
 
 impl Word {
     /// All words.
-    pub const ALL: [Word; 32] = [
+    pub const ALL: [Word; 33] = [
         Word::Set,
         Word::Clear,
         Word::InsertRows,
@@ -108,6 +111,7 @@ impl Word {
         Word::Dependents,
         Word::NameValue,
         Word::Try,
+        Word::Version,
     ];
 
     /// The word's line in the table: how it is written, and the fields behind it.
@@ -149,6 +153,7 @@ impl Word {
             Word::Dependents => ("dependents", &[Place]),
             Word::NameValue => ("name-value", &[Name, Sheet]),
             Word::Try => ("try", &[Sheet, Text]),
+            Word::Version => ("version", &[Version]),
         }
     }
 

@@ -1,6 +1,6 @@
 -- Which marks there are after a part of a step was taken back or done again. Serves steps of several parts.
 use Rattle.std.proofs.Common.{◌≡◌, ◌<◌, ◌∙◌, sym, ap, subst, refl, arith, ltb-true, nat_lt, not, cond, ◌||◌, ℕ, Bool, true, false, List, [], ◌∷◌, map, Option, Some, None, is_some, Result, Ok, Err, ⊎_elim}
-use Rattle.std.specs.Prelude.{IfSome, IsTrue, OnOk}
+use Rattle.std.specs.Prelude.{IfSome, OnOk}
 use Rattle.std.proofs.lemmas.Bool.{and_parts, false≢true, or_cases, or_left, or_right}
 use Rattle.std.proofs.lemmas.Option.{none-some, same_Some}
 use Rattle.name_table.specs.declared.key.NameKey.{NameKey}
@@ -88,9 +88,12 @@ module _ (s : Session) (c : Change) (old new : Option Values) where
     lines_marked_back back removed opposite all marks = record {
       operation = λ y other is_y is_other.
           let same = same_operation y is_y in
-          let turned : back ≡ other = same_Some back other (sym opposite ∙ ap opposite_of same ∙ is_other) in
-          (removed, all, with_some (λ o. MarksShiftBack y other [] removed old o) new
-          (subst (λ (b : Shift). MarksShiftBack y b [] removed old new) turned (subst (λ (z : Shift). MarksShiftBack z back [] removed old new) same marks)));
+          let turned : back ≡ other = same_Some back other (sym opposite ∙ ap opposite_of same ∙ is_other) in (
+            removed,
+            all,
+            with_some (λ o. MarksShiftBack y other [] removed old o) new
+                (subst (λ (b : Shift). MarksShiftBack y b [] removed old new) turned (subst (λ (z : Shift). MarksShiftBack z back [] removed old new) same marks)),
+          );
       sheet = λ sheet is_drop. absurd (none-some back (ap opposite_of (sym (same_operation (DropSheet sheet) is_drop)) ∙ opposite));
       cells = λ of_cells. absurd (no_cells (line_of s.book) c x is of_cells);
       name = λ key before after named. absurd (no_name (line_of s.book) c x (key, (before, after)) is named);

@@ -1,5 +1,5 @@
 -- What is kept of values over the changes of a step, one after the other. Source: this project's own.
-use Rattle.std.specs.Prelude.{◌≡◌, ◌||◌, ⊤, ℕ, ℤ, Bool, true, List, [], ◌∷◌, Option, Some, None, is_some, slice_get, IfSome, IsTrue}
+use Rattle.std.specs.Prelude.{◌≡◌, ◌||◌, ⊤, ℕ, ℤ, Bool, true, List, [], ◌∷◌, Option, Some, is_some, slice_get, IfSome, IsTrue}
 use Rattle.custom_fn.specs.declared.rule.Rule.{Rule}
 use Rattle.name_table.specs.declared.key.NameKey.{NameKey}
 use Rattle.shift_core.specs.Opposite.{opposite_of}

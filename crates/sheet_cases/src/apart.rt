@@ -3,11 +3,11 @@ use crate::case::Case;
 use crate::given::push_filling;
 use book_engine::{Engine, EngineParts};
 use book_files::Records;
-use book_model::Command;
+use book_model::{Command, Version};
 use calc_eval::Customs;
 use csv::ByteRecord;
 use run_inputs::empty_book;
-use script_lang::command;
+use script_lang::{command_in, version_after};
 use sheet_cli::Session;
 use std::alloc::{AllocError, Global};
 use std::sync::ledger::Ledger;
@@ -41,6 +41,8 @@ pub(crate) fn answered<C: Customs, L: Ledger>(
     let session = Session::new(alloc, &sheets, UNDO_LIMIT, registry, case.day)?;
     let mut run = Run {
         session: Some(session),
+        version: Version::Two,
+        number: 0,
     };
     let mut lines = Vec::new(alloc);
     run.answer_all(alloc, &script, &mut lines, steps)?;
@@ -52,6 +54,9 @@ pub(crate) fn answered<C: Customs, L: Ledger>(
 struct Run<C: Customs> {
     // None only after want of memory, which ends the run.
     session: Option<Box<Session<C>>>,
+    version: Version,
+    // How many records were read.
+    number: u64,
 }
 
 impl<C: Customs> Run<C> {
@@ -80,9 +85,11 @@ impl<C: Customs> Run<C> {
         lines: &mut Vec<u8>,
         steps: &mut Steps<L>,
     ) -> Result<bool, AllocError> {
-        let Ok(command) = command(alloc, fields) else {
+        self.number = self.number.saturating_add(1);
+        let Ok(command) = command_in(alloc, self.version, fields, self.number) else {
             return Ok(false);
         };
+        self.version = version_after(self.version, &command);
         self.execute(alloc, &command, lines, steps)?;
         Ok(true)
     }

@@ -5,10 +5,10 @@ use book_files::{FileMap, MemFolder, MemSink, MemSource};
 use std::alloc::{AllocError, Global};
 use toml::Value;
 
-// The columns that a case can fill, and their rows.
+// The columns that a case can fill, and how many cells of each.
 const COLUMNS: &str = "ABCDEFGHIJKLMNOPQRSTUVWXYZ";
 
-const ROWS: u32 = 40_000;
+const COLUMN_CELLS: u32 = 40_000;
 
 /// What a run is given.
 #[derive(Drop)]
@@ -132,7 +132,7 @@ pub(crate) fn push_filling(
 ) -> Result<(), AllocError> {
     let mut left = count;
     'columns: for column in COLUMNS.chars() {
-        let rows = left.min(ROWS);
+        let rows = left.min(COLUMN_CELLS);
         'rows: for row in 1..=rows {
             let line = format!(in alloc; "set,{column}{row},1\n")?;
             script.extend_from_slice(line.as_bytes())?;

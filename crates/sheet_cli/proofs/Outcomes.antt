@@ -13,13 +13,14 @@ use Rattle.book_model.specs.Workbook.{State}
 use Rattle.book_model.specs.declared.command.Command.{Command}
 use Rattle.book_engine.specs.Engine.{StandsFor}
 use Rattle.book_engine.specs.declared.engine.Engine.{Engine}
-use Rattle.script_lang.specs.Command.{command_of}
+use Rattle.book_model.specs.declared.command.Version.{Version}
+use Rattle.script_lang.specs.Command.{command_in, version_after}
 use Rattle.script_lang.specs.declared.error.ScriptError.{ScriptError}
 use Rattle.sheet_cli.specs.Answering.{is_refused, outcome_from, record_outcome, record_text}
 use Rattle.run_inputs.specs.Outcome.{Outcome, followed_by}
 use Rattle.sheet_cli.specs.declared.ending.Stop.{Stop}
 use Rattle.sheet_cli.specs.declared.ending.Stop.TheVariants as stop
-use Rattle.sheet_cli.specs.internal.Answers.{AnswersPart, AnswersRecord, PartOfCommand}
+use Rattle.sheet_cli.specs.internal.Answers.{AnswersPart, AnswersRecord, PartOfCommand, version_behind}
 use Rattle.sheet_cli.specs.internal.Ends.{Printed, PrintedLine}
 
 -- what was taken since an old moment, and then the rest, is the whole
@@ -91,79 +92,79 @@ pub completes-so_far : (old now : Option (List ℕ)) (rest whole : List ℕ) →
 completes-so_far old now rest whole c = completes-part old now now rest whole c (part-none now rest)
 
 -- no record left
-pub outcome-none : (strict : Bool) (d : State) (k : ℕ) → outcome_from strict d k [] ≡ ([], 0)
+pub outcome-none : (strict : Bool) (version : Version) (d : State) (k : ℕ) → outcome_from strict version d k [] ≡ ([], 0)
 unfolding outcome_from
-outcome-none strict d k = refl
+outcome-none strict version d k = refl
 
 -- a record, and those after it
-pub outcome-more : (strict : Bool) (d : State) (k : ℕ) (fields : List (List ℕ)) (rest : List (List (List ℕ)))
-    → outcome_from strict d k (fields ∷ rest) ≡ record_outcome strict d k (command_of fields) (λ after. outcome_from strict after (k + 1) rest)
+pub outcome-more : (strict : Bool) (version : Version) (d : State) (k : ℕ) (fields : List (List ℕ)) (rest : List (List (List ℕ)))
+    → outcome_from strict version d k (fields ∷ rest) ≡ record_outcome strict version d k (command_in version k fields) (λ v after. outcome_from strict v after (k + 1) rest)
 unfolding outcome_from
-outcome-more strict d k fields rest = refl
+outcome-more strict version d k fields rest = refl
 
 -- the engine is in a session in which the records that are left, the first of them with this number, complete the whole
-abbrev pub Leads : {C : Type 0} {G : Ghosts C} → (C → List (List ℕ × Rule)) → Bool → Engine C G → ℕ → List (List (List ℕ)) → Option (List ℕ) → Option (List ℕ) → Outcome → Type 0
-Leads customs strict engine k left old now whole = (d : State) × (StandsFor customs engine d × Completes old now (outcome_from strict d k left).0 whole.0 × ((outcome_from strict d k left).1 ≡ whole.1))
+abbrev pub Leads : {C : Type 0} {G : Ghosts C} → (C → List (List ℕ × Rule)) → Bool → Version → Engine C G → ℕ → List (List (List ℕ)) → Option (List ℕ) → Option (List ℕ) → Outcome → Type 0
+Leads customs strict version engine k left old now whole = (d : State) × (StandsFor customs engine d × Completes old now (outcome_from strict version d k left).0 whole.0 × ((outcome_from strict version d k left).1 ≡ whole.1))
 
 -- the outcome of a record that did this and doesn't end the run: its reply, and the rest in the next session
-outcome-goes : {C : Type 0} {G : Ghosts C} (customs : C → List (List ℕ × Rule)) (strict : Bool) (said : Result Command ScriptError) (k : ℕ) (before after : Engine C G) (d : State) (old new : Option (List ℕ)) (rest : State → Outcome) → AnswersRecord customs strict said k None before after old new → StandsFor customs before d
-    → (line : List ℕ) × (next : State) × (Appends old new line × StandsFor customs after next × (record_outcome strict d k said rest ≡ followed_by line (rest next)))
-outcome-goes customs strict (Ok command) k before after d old new rest did stands = let now = did d stands in (reply command d, next_state command d, (now.1, now.2, rw now.0 refl))
-outcome-goes customs strict (Err e) k before after d old new rest did stands = absurd did
+outcome-goes : {C : Type 0} {G : Ghosts C} (customs : C → List (List ℕ × Rule)) (strict : Bool) (version : Version) (said : Result Command ScriptError) (k : ℕ) (before after : Engine C G) (d : State) (old new : Option (List ℕ)) (rest : Version → State → Outcome) → AnswersRecord customs strict said k None before after old new → StandsFor customs before d
+    → (line : List ℕ) × (next : State) × (Appends old new line × StandsFor customs after next × (record_outcome strict version d k said rest ≡ followed_by line (rest (version_behind version said) next)))
+outcome-goes customs strict version (Ok command) k before after d old new rest did stands = let now = did d stands in (reply command d, next_state command d, (now.1, now.2, rw now.0 refl))
+outcome-goes customs strict version (Err e) k before after d old new rest did stands = absurd did
 
 -- the outcome of a record that did this and ends the run: its line and its status
-outcome-ends : {C : Type 0} {G : Ghosts C} (customs : C → List (List ℕ × Rule)) (strict : Bool) (said : Result Command ScriptError) (k status : ℕ) (before after : Engine C G) (d : State) (old new : Option (List ℕ)) (rest : State → Outcome) → AnswersRecord customs strict said k (Some status) before after old new → StandsFor customs before d
-    → (line : List ℕ) × (Appends old new line × (record_outcome strict d k said rest ≡ (line, status)))
-outcome-ends customs strict (Ok command) k status before after d old new rest did stands = let now = did d stands in (reply command d, (now.1, rw (now.0, now.2) refl))
-outcome-ends customs strict (Err e) k status before after d old new rest did stands = (line_of (record_text k e), (did.0, rw did.1 refl))
+outcome-ends : {C : Type 0} {G : Ghosts C} (customs : C → List (List ℕ × Rule)) (strict : Bool) (version : Version) (said : Result Command ScriptError) (k status : ℕ) (before after : Engine C G) (d : State) (old new : Option (List ℕ)) (rest : Version → State → Outcome) → AnswersRecord customs strict said k (Some status) before after old new → StandsFor customs before d
+    → (line : List ℕ) × (Appends old new line × (record_outcome strict version d k said rest ≡ (line, status)))
+outcome-ends customs strict version (Ok command) k status before after d old new rest did stands = let now = did d stands in (reply command d, (now.1, rw (now.0, now.2) refl))
+outcome-ends customs strict version (Err e) k status before after d old new rest did stands = (line_of (record_text k e), (did.0, rw did.1 refl))
 
 -- the outcome of a record of whose line a part was written
-outcome-part : {C : Type 0} {G : Ghosts C} (customs : C → List (List ℕ × Rule)) (strict : Bool) (said : Result Command ScriptError) (k : ℕ) (before : Engine C G) (d : State) (old new : Option (List ℕ)) (rest : State → Outcome) → AnswersPart customs said k before old new → StandsFor customs before d
-    → AppendsPart old new (record_outcome strict d k said rest).0
-outcome-part customs strict (Ok command) k before d old new rest part stands = of (strict && is_refused d command)
+outcome-part : {C : Type 0} {G : Ghosts C} (customs : C → List (List ℕ × Rule)) (strict : Bool) (version : Version) (said : Result Command ScriptError) (k : ℕ) (before : Engine C G) (d : State) (old new : Option (List ℕ)) (rest : Version → State → Outcome) → AnswersPart customs said k before old new → StandsFor customs before d
+    → AppendsPart old new (record_outcome strict version d k said rest).0
+outcome-part customs strict version (Ok command) k before d old new rest part stands = of (strict && is_refused d command)
   where
-    of : (ends : Bool) → AppendsPart old new (cond ends (reply command d, 1) (followed_by (reply command d) (rest (next_state command d)))).0
+    of : (ends : Bool) → AppendsPart old new (cond ends (reply command d, 1) (followed_by (reply command d) (rest (version_after version command) (next_state command d)))).0
     of true = part d stands
-    of false = part-longer old new (reply command d) (rest (next_state command d)).0 (part d stands)
-outcome-part customs strict (Err e) k before d old new rest part stands = part
+    of false = part-longer old new (reply command d) (rest (version_after version command) (next_state command d)).0 (part d stands)
+outcome-part customs strict version (Err e) k before d old new rest part stands = part
 
 -- a record that doesn't end the run: what was written and the rest still make the whole
-pub goes_on : {C : Type 0} {G : Ghosts C} (customs : C → List (List ℕ × Rule)) (strict : Bool) (old now new : Option (List ℕ)) (before after : Engine C G) (k : ℕ) (left rest : List (List (List ℕ))) (fields : List (List ℕ)) (whole : Outcome) → left ≡ fields ∷ rest → AnswersRecord customs strict (command_of fields) k None before after now new
-    → Leads customs strict before k left old now whole → Leads customs strict after (k + 1) rest old new whole
-goes_on customs strict old now new before after k left rest fields whole is did (d, (stands, written, status)) =
-    let g = outcome-goes customs strict (command_of fields) k before after d now new (λ next. outcome_from strict next (k + 1) rest) did stands in
-    let e : outcome_from strict d k left ≡ followed_by g.0 (outcome_from strict g.1 (k + 1) rest) = ap (λ l. outcome_from strict d k l) is ∙ outcome-more strict d k fields rest ∙ g.2.2 in
+pub goes_on : {C : Type 0} {G : Ghosts C} (customs : C → List (List ℕ × Rule)) (strict : Bool) (version : Version) (old now new : Option (List ℕ)) (before after : Engine C G) (k : ℕ) (left rest : List (List (List ℕ))) (fields : List (List ℕ)) (whole : Outcome) → left ≡ fields ∷ rest → AnswersRecord customs strict (command_in version k fields) k None before after now new
+    → Leads customs strict version before k left old now whole → Leads customs strict (version_behind version (command_in version k fields)) after (k + 1) rest old new whole
+goes_on customs strict version old now new before after k left rest fields whole is did (d, (stands, written, status)) =
+    let g = outcome-goes customs strict version (command_in version k fields) k before after d now new (λ v next. outcome_from strict v next (k + 1) rest) did stands in
+    let e : outcome_from strict version d k left ≡ followed_by g.0 (outcome_from strict (version_behind version (command_in version k fields)) g.1 (k + 1) rest) = ap (λ l. outcome_from strict version d k l) is ∙ outcome-more strict version d k fields rest ∙ g.2.2 in
     let P : Outcome → Type 0 = λ o. Completes old now o.0 whole.0 in
-    (g.1, (g.2.1, completes-write old now new g.0 (outcome_from strict g.1 (k + 1) rest).0 whole.0 (subst P e written) g.2.0, sym (ap (λ (o : Outcome). o.1) e) ∙ status))
+    (g.1, (g.2.1, completes-write old now new g.0 (outcome_from strict (version_behind version (command_in version k fields)) g.1 (k + 1) rest).0 whole.0 (subst P e written) g.2.0, sym (ap (λ (o : Outcome). o.1) e) ∙ status))
 
 -- a record that ends the run: what was written is the whole
-pub stops : {C : Type 0} {G : Ghosts C} (customs : C → List (List ℕ × Rule)) (strict : Bool) (old now new : Option (List ℕ)) (before after : Engine C G) (k end : ℕ) (left rest : List (List (List ℕ))) (fields : List (List ℕ)) (whole : Outcome) → left ≡ fields ∷ rest → AnswersRecord customs strict (command_of fields) k (Some end) before after now new
-    → Leads customs strict before k left old now whole → Appends old new whole.0 × (end ≡ whole.1)
-stops customs strict old now new before after k end left rest fields whole is did (d, (stands, written, status)) =
-    let g = outcome-ends customs strict (command_of fields) k end before after d now new (λ next. outcome_from strict next (k + 1) rest) did stands in
-    let e : outcome_from strict d k left ≡ (g.0, end) = ap (λ l. outcome_from strict d k l) is ∙ outcome-more strict d k fields rest ∙ g.1.1 in
+pub stops : {C : Type 0} {G : Ghosts C} (customs : C → List (List ℕ × Rule)) (strict : Bool) (version : Version) (old now new : Option (List ℕ)) (before after : Engine C G) (k end : ℕ) (left rest : List (List (List ℕ))) (fields : List (List ℕ)) (whole : Outcome) → left ≡ fields ∷ rest → AnswersRecord customs strict (command_in version k fields) k (Some end) before after now new
+    → Leads customs strict version before k left old now whole → Appends old new whole.0 × (end ≡ whole.1)
+stops customs strict version old now new before after k end left rest fields whole is did (d, (stands, written, status)) =
+    let g = outcome-ends customs strict version (command_in version k fields) k end before after d now new (λ v next. outcome_from strict v next (k + 1) rest) did stands in
+    let e : outcome_from strict version d k left ≡ (g.0, end) = ap (λ l. outcome_from strict version d k l) is ∙ outcome-more strict version d k fields rest ∙ g.1.1 in
     let P : Outcome → Type 0 = λ o. Completes old now o.0 whole.0 in
     (completes-last old now new g.0 whole.0 (subst P e written) g.1.0, sym (ap (λ (o : Outcome). o.1) e) ∙ status)
 
 -- a record that wasn't answered to its end: what was written is a part of the whole
-pub breaks : {C : Type 0} {G : Ghosts C} (customs : C → List (List ℕ × Rule)) (strict : Bool) (old now new : Option (List ℕ)) (before : Engine C G) (k : ℕ) (left rest : List (List (List ℕ))) (fields : List (List ℕ)) (whole : Outcome) → left ≡ fields ∷ rest → AnswersPart customs (command_of fields) k before now new
-    → Leads customs strict before k left old now whole → AppendsPart old new whole.0
-breaks customs strict old now new before k left rest fields whole is part (d, (stands, written, status)) =
-    let p = outcome-part customs strict (command_of fields) k before d now new (λ next. outcome_from strict next (k + 1) rest) part stands in
-    let e : outcome_from strict d k left ≡ record_outcome strict d k (command_of fields) (λ next. outcome_from strict next (k + 1) rest) = ap (λ l. outcome_from strict d k l) is ∙ outcome-more strict d k fields rest in
-    completes-part old now new (outcome_from strict d k left).0 whole.0 written (subst (λ (o : Outcome). AppendsPart now new o.0) (sym e) p)
+pub breaks : {C : Type 0} {G : Ghosts C} (customs : C → List (List ℕ × Rule)) (strict : Bool) (version : Version) (old now new : Option (List ℕ)) (before : Engine C G) (k : ℕ) (left rest : List (List (List ℕ))) (fields : List (List ℕ)) (whole : Outcome) → left ≡ fields ∷ rest → AnswersPart customs (command_in version k fields) k before now new
+    → Leads customs strict version before k left old now whole → AppendsPart old new whole.0
+breaks customs strict version old now new before k left rest fields whole is part (d, (stands, written, status)) =
+    let p = outcome-part customs strict version (command_in version k fields) k before d now new (λ v next. outcome_from strict v next (k + 1) rest) part stands in
+    let e : outcome_from strict version d k left ≡ record_outcome strict version d k (command_in version k fields) (λ v next. outcome_from strict v next (k + 1) rest) = ap (λ l. outcome_from strict version d k l) is ∙ outcome-more strict version d k fields rest in
+    completes-part old now new (outcome_from strict version d k left).0 whole.0 written (subst (λ (o : Outcome). AppendsPart now new o.0) (sym e) p)
 
 -- no record is left: what was written is the whole
-pub ends : {C : Type 0} {G : Ghosts C} (customs : C → List (List ℕ × Rule)) (strict : Bool) (old now : Option (List ℕ)) (engine : Engine C G) (k : ℕ) (left : List (List (List ℕ))) (whole : Outcome) → left ≡ [] → Leads customs strict engine k left old now whole
+pub ends : {C : Type 0} {G : Ghosts C} (customs : C → List (List ℕ × Rule)) (strict : Bool) (version : Version) (old now : Option (List ℕ)) (engine : Engine C G) (k : ℕ) (left : List (List (List ℕ))) (whole : Outcome) → left ≡ [] → Leads customs strict version engine k left old now whole
     → Appends old now whole.0 × (0 ≡ whole.1)
-ends customs strict old now engine k left whole is (d, (stands, written, status)) =
-    let e : outcome_from strict d k left ≡ ([], 0) = ap (λ l. outcome_from strict d k l) is ∙ outcome-none strict d k in
+ends customs strict version old now engine k left whole is (d, (stands, written, status)) =
+    let e : outcome_from strict version d k left ≡ ([], 0) = ap (λ l. outcome_from strict version d k l) is ∙ outcome-none strict version d k in
     let P : Outcome → Type 0 = λ o. Completes old now o.0 whole.0 in
     (completes-end old now whole.0 (subst P e written), sym (ap (λ (o : Outcome). o.1) e) ∙ status)
 
 -- what was written so far is a part of the whole
-pub so_far : {C : Type 0} {G : Ghosts C} (customs : C → List (List ℕ × Rule)) (strict : Bool) (old now : Option (List ℕ)) (engine : Engine C G) (k : ℕ) (left : List (List (List ℕ))) (whole : Outcome) → Leads customs strict engine k left old now whole → AppendsPart old now whole.0
-so_far customs strict old now engine k left whole (d, (stands, written, status)) = completes-so_far old now (outcome_from strict d k left).0 whole.0 written
+pub so_far : {C : Type 0} {G : Ghosts C} (customs : C → List (List ℕ × Rule)) (strict : Bool) (version : Version) (old now : Option (List ℕ)) (engine : Engine C G) (k : ℕ) (left : List (List (List ℕ))) (whole : Outcome) → Leads customs strict version engine k left old now whole → AppendsPart old now whole.0
+so_far customs strict version old now engine k left whole (d, (stands, written, status)) = completes-so_far old now (outcome_from strict version d k left).0 whole.0 written
 
 -- a part was printed before a run was stopped, though not by a fault in reading
 pub stopped : (o : Outcome) (old new : Option (List ℕ)) (s : Stop) → (s ≡ stop.ReadFault → ⊥) → AppendsPart old new o.0 → Printed o old new (Err s)

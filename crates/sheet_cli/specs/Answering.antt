@@ -1,11 +1,11 @@
 -- What a run prints of its commands: a line for each, or a summary of all. Source: this project's own.
 use Rattle.std.specs.Prelude.{ℕ, ◌+◌, ◌&&◌, if◌then◌else◌, Bool, List, [], ◌∷◌, ◌++◌, length, filter, Option, Some, None, Result, Ok, Err, is_some, codes}
 use Rattle.std.specs.Fmt.{decimal}
-use Rattle.book_model.specs.Refusals.{cause}
-use Rattle.book_model.specs.Replies.{line_of, next_state, operation_of, reply}
+use Rattle.book_model.specs.Replies.{line_of, next_state, refused_for, reply}
 use Rattle.book_model.specs.Workbook.{State}
 use Rattle.book_model.specs.declared.command.Command.{Command}
-use Rattle.script_lang.specs.Command.{command_of}
+use Rattle.book_model.specs.declared.command.Version.{Version}
+use Rattle.script_lang.specs.Command.{command_in, version_after}
 use Rattle.script_lang.specs.declared.error.ScriptError.{ScriptError}
 use Rattle.script_lang.specs.declared.error.ScriptError.TheVariants.{UnknownCommand, FieldCount, BadField, NoMemory}
 use Rattle.run_inputs.specs.Outcome.{Outcome, ended, followed_by}
@@ -23,21 +23,22 @@ record_text k e = (codes "record " ++ decimal k ++ codes ": ") ++ cause_text e
 
 -- the command is refused in the session
 abbrev pub is_refused : State → Command → Bool
-is_refused d c = is_some (cause (operation_of d.book c) d)
+is_refused d c = is_some (refused_for c d)
 
 -- a command: its reply, and then the rest of the run; where a refusal ends the run, a refused command is its last
 abbrev pub command_outcome : Bool → State → Command → (State → Outcome) → Outcome
 command_outcome strict d c rest = if strict && is_refused d c then (reply c d, 1) else followed_by (reply c d) (rest (next_state c d))
 
--- a record: what its command does, or the end of the run where it is none
-abbrev pub record_outcome : Bool → State → ℕ → Result Command ScriptError → (State → Outcome) → Outcome
-record_outcome strict d k (Ok c) rest = command_outcome strict d c rest
-record_outcome strict d k (Err e) rest = ended 3 (record_text k e)
+-- a record of a script of this version: what its command does, or the end of the run where it is none
+abbrev pub record_outcome : Bool → Version → State → ℕ → Result Command ScriptError → (Version → State → Outcome) → Outcome
+record_outcome strict version d k (Ok c) rest = command_outcome strict d c (rest (version_after version c))
+record_outcome strict version d k (Err e) rest = ended 3 (record_text k e)
 
 -- the records from number k on, in a session; the end of the script ends a run with status 0
-unfoldable pub outcome_from : Bool → State → ℕ → List (List (List ℕ)) → Outcome
-outcome_from strict d k [] = ([], 0)
-outcome_from strict d k (fields ∷ rest) = record_outcome strict d k (command_of fields) (λ after. outcome_from strict after (k + 1) rest)
+unfoldable pub outcome_from : Bool → Version → State → ℕ → List (List (List ℕ)) → Outcome
+outcome_from strict version d k [] = ([], 0)
+outcome_from strict version d k (fields ∷ rest) =
+    record_outcome strict version d k (command_in version k fields) (λ next after. outcome_from strict next after (k + 1) rest)
 
 -- the line that answers a command, and whether that is a refusal
 pub record Answered : Type 0 where

@@ -7,6 +7,7 @@ use Rattle.csv.specs.Reading.{records, default_config, strip_bom}
 use Rattle.book_files.specs.Outside.{AppendsPart}
 use Rattle.book_files.specs.declared.input.TheConstants.{MAX_INPUT}
 use Rattle.book_model.specs.Given.{GivenSheet, session_given}
+use Rattle.book_model.specs.declared.command.Version.TheVariants.{Two}
 use Rattle.book_model.specs.Replies.{line_of}
 use Rattle.command_words.specs.Words.{Said, meaning}
 use Rattle.generator.specs.Generated.{generated}
@@ -19,7 +20,7 @@ usage = ended 2 (codes "usage: sheetrun [--undo-limit N] [--strict] [--script FI
 
 -- a script's outcome, from a session of these sheets on, with these custom functions and on this day
 abbrev pub script_outcome : List (List ℕ × Rule) → ℤ → Said → List GivenSheet → List ℕ → Outcome
-script_outcome customs day said sheets bytes = outcome_from said.strict (session_given said.undo_limit customs day sheets) 1 (records default_config (strip_bom bytes))
+script_outcome customs day said sheets bytes = outcome_from said.strict Two (session_given said.undo_limit customs day sheets) 1 (records default_config (strip_bom bytes))
 
 -- the outcome of a generated list of commands of this size
 abbrev pub generated_outcome : List (List ℕ × Rule) → ℤ → Said → ℕ → Outcome

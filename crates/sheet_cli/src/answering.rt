@@ -12,10 +12,11 @@ ghost use Rattle.csv.specs.Reading.{default_config, records, strip_bom};
 ghost use Rattle.csv.specs.Records.{fields_of};
 ghost use Rattle.generator.specs.declared.TheConstants.{MAX_SIZE};
 ghost use Rattle.run_inputs.specs.Outcome.{ended};
-ghost use Rattle.script_lang.specs.Command.{command_of};
+ghost use Rattle.script_lang.specs.Command.{command_in};
+ghost use Rattle.book_model.specs.declared.command.Version.TheVariants.{Two};
 ghost use Rattle.sheet_cli.specs.Answering.{answers_from, cause_text, outcome_from, record_text, summary_outcome};
 ghost use Rattle.sheet_cli.specs.Run.{generated_outcome, script_outcome};
-ghost use Rattle.sheet_cli.specs.internal.Answers.{AnswersCommand, AnswersPart, AnswersRecord, PartOfCommand};
+ghost use Rattle.sheet_cli.specs.internal.Answers.{AnswersCommand, AnswersPart, AnswersRecord, PartOfCommand, version_behind};
 ghost use Rattle.sheet_cli.specs.internal.Ends.{EndsScript, Printed, PrintedLine};
 ghost use Rattle.sheet_cli.specs.internal.Tallied.{Adds, summary_of};
 
@@ -23,13 +24,13 @@ use crate::ending::{ANSWERED, NO_COMMAND, REFUSED, Stop};
 use crate::line::line;
 use crate::session::{Answer, Session};
 use book_files::{Records, Sink};
-use book_model::{BookSheet, Command};
+use book_model::{BookSheet, Command, Version};
 use calc_eval::Customs;
 use command_words::Words;
 use csv::ByteRecord;
 use generator::generate;
 use run_inputs::empty_book;
-use script_lang::{ScriptError, command};
+use script_lang::{ScriptError, command_in, version_after};
 use std::alloc::{AllocError, Global};
 use std::sync::ledger::Ledger;
 use steps::Steps;
@@ -68,15 +69,25 @@ fn run_records<C: Customs, O: Sink, L: Ledger>(
     steps: &mut Steps<L>,
 ) -> Result<u8, Stop>
     requires { length script.now ≤ MAX_INPUT }
-    ensures printed { (d : State) → StandsFor C.customs session.old.engine d → Printed (outcome_from strict d 1 (records default_config (strip_bom script.now))) (O.taken out.old) (O.taken out.new) result }
+    ensures printed { (d : State) → StandsFor C.customs session.old.engine d → Printed (outcome_from strict Two d 1 (records default_config (strip_bom script.now))) (O.taken out.old) (O.taken out.new) result }
     ensures write_fault { IsErrOf result Stop.WriteFault → Rose (O.faults out.old) (O.faults out.new) }
     ensures status { EndsScript result }
 {
     let mut records = Records::open(alloc, script);
     let mut number: u64 = 0;
+    let mut version = Version::Two;
     'records: while records.advance()? {
         number += 1;
-        match run_record(alloc, session, strict, number, records.fields(), out, steps) {
+        match run_record(
+            alloc,
+            session,
+            strict,
+            &mut version,
+            number,
+            records.fields(),
+            out,
+            steps,
+        ) {
             Ok(None) => {}
             Ok(Some(status)) => return Ok(status),
             Err(stop) => return Err(stop),
@@ -85,25 +96,30 @@ fn run_records<C: Customs, O: Sink, L: Ledger>(
     Ok(ANSWERED)
 }
 
-// Answers one record of a script. Where it ends the run, the status.
+// Answers one record of a script of this version, which the record may say. Where it ends the run, the status.
 fn run_record<C: Customs, O: Sink, L: Ledger>(
     alloc: Global,
     session: &mut Session<C>,
     strict: bool,
+    version: &mut Version,
     number: u64,
     fields: &ByteRecord,
     out: &mut O,
     steps: &mut Steps<L>,
 ) -> Result<Option<u8>, Stop>
-    ensures answered { IfOk result (λ end. AnswersRecord C.customs strict (command_of (fields_of fields.now)) number end session.old.engine session.new.engine (O.taken out.old) (O.taken out.new)) }
-    ensures part { OnErr result (AnswersPart C.customs (command_of (fields_of fields.now)) number session.old.engine (O.taken out.old) (O.taken out.new)) }
+    ensures answered { IfOk result (λ end. AnswersRecord C.customs strict (command_in version.old number (fields_of fields.now)) number end session.old.engine session.new.engine (O.taken out.old) (O.taken out.new)) }
+    ensures part { OnErr result (AnswersPart C.customs (command_in version.old number (fields_of fields.now)) number session.old.engine (O.taken out.old) (O.taken out.new)) }
+    ensures version { IfOk result (λ _. version.new ≡ version_behind version.old (command_in version.old number (fields_of fields.now))) }
     ensures no_read_fault { IsErrOf result Stop.ReadFault → ⊥ }
     ensures write_fault { IsErrOf result Stop.WriteFault → Rose (O.faults out.old) (O.faults out.new) }
     ensures later { O.faults out.old ≤ O.faults out.new }
     ensures status { IfOk result (λ end. IfSome end (λ status. (status ≡ 1) ⊎ (status ≡ 3))) }
 {
-    match command(alloc, fields) {
-        Ok(command) => run_command(session, strict, &command, out, steps),
+    match command_in(alloc, *version, fields, number) {
+        Ok(command) => {
+            *version = version_after(*version, &command);
+            run_command(session, strict, &command, out, steps)
+        }
         Err(ScriptError::NoMemory) => Err(Stop::NoMemory),
         Err(cause) => {
             refuse_record(alloc, number, cause, out)?;

@@ -86,6 +86,7 @@ impl<C: Customs> Session<C> {
             Command::Dependents(at) => self.dependents(at),
             Command::NameValue(name, sheet) => self.name_value(name, sheet, steps),
             Command::Try(sheet, text) => self.try_formula(sheet, text, steps),
+            Command::Version(_) => Ok(accepted(line(self.alloc, "ok")?)),
             _ => self.change(command),
         }
     }

@@ -62,7 +62,7 @@ pub(crate) const FILLED: [Spot; 7] = [
     (0, 3, 2),
     (0, 4, 0),
     (0, 9, 5),
-    (0, 39_999, 18_277),
+    (0, 1_048_575, 18_277),
     (1, 3, 1),
 ];
 
@@ -72,7 +72,7 @@ pub(crate) const AS_FILLED: [(Spot, u64); 7] = [
     ((0, 3, 2), 2),
     ((0, 4, 0), 3),
     ((0, 9, 5), 4),
-    ((0, 39_999, 18_277), 5),
+    ((0, 1_048_575, 18_277), 5),
     ((1, 3, 1), 6),
 ];
 
@@ -89,7 +89,7 @@ pub(crate) const OPERATIONS: &[Operation] = &[
         &[
             ((0, 0, 0), 0),
             ((0, 7, 5), 4),
-            ((0, 39_997, 18_277), 5),
+            ((0, 1_048_573, 18_277), 5),
             ((1, 3, 1), 6),
         ],
         &[(0, 3, 1), (0, 3, 2), (0, 4, 0)],
@@ -108,7 +108,7 @@ pub(crate) const OPERATIONS: &[Operation] = &[
             ((0, 12, 5), 4),
             ((1, 3, 1), 6),
         ],
-        &[(0, 39_999, 18_277)],
+        &[(0, 1_048_575, 18_277)],
     ),
     (
         Shift::MoveRows {
@@ -123,7 +123,7 @@ pub(crate) const OPERATIONS: &[Operation] = &[
             ((0, 8, 5), 4),
             ((0, 9, 1), 1),
             ((0, 9, 2), 2),
-            ((0, 39_999, 18_277), 5),
+            ((0, 1_048_575, 18_277), 5),
             ((1, 3, 1), 6),
         ],
         &[],
@@ -142,7 +142,7 @@ pub(crate) const OPERATIONS: &[Operation] = &[
             ((0, 9, 9), 4),
             ((1, 3, 1), 6),
         ],
-        &[(0, 39_999, 18_277)],
+        &[(0, 1_048_575, 18_277)],
     ),
     (
         Shift::DeleteCols {
@@ -153,7 +153,7 @@ pub(crate) const OPERATIONS: &[Operation] = &[
         &[
             ((0, 3, 0), 2),
             ((0, 9, 3), 4),
-            ((0, 39_999, 18_275), 5),
+            ((0, 1_048_575, 18_275), 5),
             ((1, 3, 1), 6),
         ],
         &[(0, 0, 0), (0, 3, 1), (0, 4, 0)],
@@ -171,7 +171,7 @@ pub(crate) const OPERATIONS: &[Operation] = &[
             ((0, 3, 1), 2),
             ((0, 4, 2), 3),
             ((0, 9, 5), 4),
-            ((0, 39_999, 18_277), 5),
+            ((0, 1_048_575, 18_277), 5),
             ((1, 3, 1), 6),
         ],
         &[],
@@ -196,7 +196,7 @@ pub(crate) const OPERATIONS: &[Operation] = &[
             ((0, 3, 2), 1),
             ((0, 4, 1), 3),
             ((0, 9, 5), 4),
-            ((0, 39_999, 18_277), 5),
+            ((0, 1_048_575, 18_277), 5),
             ((1, 3, 1), 6),
         ],
         &[(0, 3, 2)],
@@ -209,7 +209,7 @@ pub(crate) const OPERATIONS: &[Operation] = &[
             ((0, 3, 2), 2),
             ((0, 4, 0), 3),
             ((0, 9, 5), 4),
-            ((0, 39_999, 18_277), 5),
+            ((0, 1_048_575, 18_277), 5),
         ],
         &[(1, 3, 1)],
     ),
@@ -279,7 +279,7 @@ const LOWER_ROWS: Block = Block {
     sheet: 0,
     top: 3,
     left: 0,
-    bottom: 39_999,
+    bottom: 1_048_575,
     right: 5,
 };
 
@@ -335,7 +335,7 @@ fn are_cleared(grid: &mut Grid<Cell>) -> Result<bool, AllocError> {
 // Takes the first cell out, and none off the sheet. Whether the others stay.
 fn is_taken(grid: &mut Grid<Cell>) -> bool {
     let is_out = grid.take(place((0, 0, 0))).is_some();
-    is_out && grid.take(place((0, 40_000, 0))).is_none() && grid.filled() == 2
+    is_out && grid.take(place((0, 1_048_576, 0))).is_none() && grid.filled() == 2
 }
 
 // Whether the grid lists its cells and is emptied of them.

@@ -1,31 +1,31 @@
-// Lines of a sheet of 40,000 rows over edits, reckoned by hand.
+// Lines of a sheet of 1,048,576 rows over edits, reckoned by hand.
 use shift_core::Edit;
 use stable_lines::{LineTable, SheetLines};
 use std::alloc::{AllocError, Global};
 
-const ROWS: u32 = 40_000;
+const ROWS: u32 = 1_048_576;
 
 // Two lines inserted at the sixth.
 const INSERTED: Edit = Edit::Insert { at: 5, count: 2 };
 
 // Whether the lines in front of the inserted ones stay, and those behind them follow.
 fn are_inserted(table: &LineTable) -> bool {
-    table.line(4) == Some(4) && table.line(5) == Some(40_000) && table.line(7) == Some(5)
+    table.line(4) == Some(4) && table.line(5) == Some(1_048_576) && table.line(7) == Some(5)
 }
 
 // Whether the last lines are pushed off.
 fn are_pushed_off(table: &LineTable) -> bool {
-    table.position(7) == Some(9) && table.position(39_998) == None && table.line(ROWS) == None
+    table.position(7) == Some(9) && table.position(1_048_574) == None && table.line(ROWS) == None
 }
 
 // Whether the lines are back, but for those that were pushed off.
 fn are_back(table: &LineTable) -> bool {
-    table.line(5) == Some(5) && table.position(40_000) == None && are_lost(table)
+    table.line(5) == Some(5) && table.position(1_048_576) == None && are_lost(table)
 }
 
 // Whether the last line is another one.
 fn are_lost(table: &LineTable) -> bool {
-    table.position(39_999) == None && table.line(39_999) != Some(39_999)
+    table.position(1_048_575) == None && table.line(1_048_575) != Some(1_048_575)
 }
 
 // Whether lines are inserted and taken back.

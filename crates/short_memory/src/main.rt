@@ -10,11 +10,12 @@
 ghost use Rattle.std.specs.Prelude.{◌≡◌, ◌<◌};
 
 use book_files::{Records, StdSource, read_all};
+use book_model::Version;
 use calc_eval::Customs;
 use csv::ByteRecord;
 use custom_fn::Registry;
 use run_inputs::empty_book;
-use script_lang::{ScriptError, command};
+use script_lang::{ScriptError, command_in, version_after};
 use sheet_cli::Session;
 use std::alloc::{AllocError, Global};
 use std::io::{self, Write};
@@ -75,8 +76,18 @@ fn answer_records<C: Customs, L: Ledger>(
 ) -> io::Result<u8> {
     let mut out = io::writer(rt);
     let mut records = Records::open(rt.alloc(), script);
+    let mut version = Version::Two;
+    let mut number: u64 = 0;
     'records: while records.advance()? {
-        match answer(rt.alloc(), session, records.fields(), steps) {
+        number = number.saturating_add(1);
+        match answer(
+            rt.alloc(),
+            session,
+            &mut version,
+            number,
+            records.fields(),
+            steps,
+        ) {
             Ok(Some(line)) => out.write_all(&line)?,
             Ok(None) => return Ok(NO_COMMAND),
             Err(AllocError) => out.write_all(NO_MEMORY)?,
@@ -85,15 +96,20 @@ fn answer_records<C: Customs, L: Ledger>(
     Ok(0)
 }
 
-// The line that answers a record, if it is a command.
+// The line that answers the record of this number of a script of this version, if it is a command.
 fn answer<C: Customs, L: Ledger>(
     alloc: Global,
     session: &mut Session<C>,
+    version: &mut Version,
+    number: u64,
     fields: &ByteRecord,
     steps: &mut Steps<L>,
 ) -> Result<Option<Vec<u8>>, AllocError> {
-    match command(alloc, fields) {
-        Ok(command) => Ok(Some(session.execute(&command, steps)?.line)),
+    match command_in(alloc, *version, fields, number) {
+        Ok(command) => {
+            *version = version_after(*version, &command);
+            Ok(Some(session.execute(&command, steps)?.line))
+        }
         Err(ScriptError::NoMemory) => Err(AllocError),
         Err(_) => Ok(None),
     }

@@ -12,10 +12,10 @@
 //! numbers that no row had:
 //!
 //! ```text
-//! let table = LineTable::new(alloc, 40_000)?;
+//! let table = LineTable::new(alloc, 1_048_576)?;
 //! let edited = table.edited(alloc, Edit::Insert { at: 5, count: 2 })?;
 //! edited.position(7)  // Some(9)
-//! edited.line(5)      // Some(40_000)
+//! edited.line(5)      // Some(1_048_576)
 //! ```
 #![tactic(auto)]
 

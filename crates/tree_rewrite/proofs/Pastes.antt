@@ -154,11 +154,11 @@ pub pasted-back : (sheets : List (ℕ × List ℕ)) (from to : Home) (t : Term C
 pasted-back sheets from to t = seen-back to (pasted sheets from to t) (fits-inside (pasted sheets from to t) (pasted-fits sheets from to t))
 
 -- a line within the limits lies where the formula's own line lies from it
-line-stays : (from to line n : ℕ) (z : ℤ) → pos line +ℤ (pos to -ℤ pos from) ≡ z → line_of z < n → n ≤ 40000 → pos (line_of z) -ℤ pos to ≡ pos line -ℤ pos from
+line-stays : (from to line n : ℕ) (z : ℤ) → pos line +ℤ (pos to -ℤ pos from) ≡ z → line_of z < n → n ≤ ROWS → pos (line_of z) -ℤ pos to ≡ pos line -ℤ pos from
 line-stays from to line n (pos k) e h i = let m : min k 4294967295 ≡ k = omega arith in rw m (omega (arith, ints, e))
 line-stays from to line n (negsuc k) e h i = absurd (omega arith)
 
-part-stays : (from to : ℕ) (fixed : Bool) (line n : ℕ) → line_pasted from to fixed line < n → n ≤ 40000 → part_from to fixed (line_pasted from to fixed line) ≡ part_from from fixed line
+part-stays : (from to : ℕ) (fixed : Bool) (line n : ℕ) → line_pasted from to fixed line < n → n ≤ ROWS → part_from to fixed (line_pasted from to fixed line) ≡ part_from from fixed line
 part-stays from to true line n h i = refl
 part-stays from to false line n h i = ap (λ z. Rel z) (line-stays from to line n (pos line +ℤ (pos to -ℤ pos from)) refl h i)
 

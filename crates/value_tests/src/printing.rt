@@ -24,9 +24,9 @@ const CELLS: &[(Home, SheetPart, Part, Part, &str)] = &[
     (
         HOME,
         SheetPart::Own,
-        Part::Rel(39_999),
+        Part::Rel(1_048_575),
         Part::Rel(18_277),
-        "=ZZZ40000",
+        "=ZZZ1048576",
     ),
     (HOME, SheetPart::Id(1), Part::Rel(0), Part::Abs(0), "=$A1"),
     (HOME, SheetPart::Id(7), Part::Abs(0), Part::Abs(0), "=$A$1"),
@@ -88,7 +88,7 @@ const FIRST: Ref = Ref {
 
 const LAST: Ref = Ref {
     sheet: SheetPart::Id(1),
-    row: Part::Rel(39_999),
+    row: Part::Rel(1_048_575),
     col: Part::Abs(2),
 };
 
@@ -106,6 +106,6 @@ fn text_of_a_block(rt: HostRuntime) -> Result<(), Fail> {
     let sheets = OneSheet {
         name: Text::from_str(rt.alloc(), "Two")?,
     };
-    assert!(rt; block_is_printed(rt.alloc(), &sheets, "=A$1:$C40000")?);
+    assert!(rt; block_is_printed(rt.alloc(), &sheets, "=A$1:$C1048576")?);
     Ok(())
 }

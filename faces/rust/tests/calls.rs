@@ -152,7 +152,7 @@ fn formulas_follow() {
     assert_eq!(book.insert_rows(0, 0, 0), refused(Refusal::BadSpan));
     assert_eq!(book.insert_rows(3, 0, 1), refused(Refusal::NoSheet));
     assert_eq!(
-        book.set(Place::new(0, 40_000, 0), "1"),
+        book.set(Place::new(0, 1_048_576, 0), "1"),
         refused(Refusal::Outside)
     );
     assert_eq!(
@@ -498,7 +498,7 @@ fn addresses_are_read_and_printed() {
         ("A1", 0, 0),
         ("Z9", 8, 25),
         ("AA10", 9, 26),
-        ("ZZZ40000", 39_999, 18_277),
+        ("ZZZ1048576", 1_048_575, 18_277),
     ] {
         let at = Place::new(3, row, col);
         assert_eq!(Place::read(3, address), Ok(at));

@@ -2,8 +2,7 @@
 use Rattle.std.specs.Prelude.{◌≡◌, ℕ, ◌&&◌, List, Bool, true, false, Option, Some, None, Result, Ok, Err, ⊤}
 use Rattle.std.specs.Io.KnownBytes.{Appends}
 use Rattle.calc_eval.specs.declared.customs.Customs.{Ghosts}
-use Rattle.book_model.specs.Refusals.{cause}
-use Rattle.book_model.specs.Replies.{line_of, next_state, operation_of, refused_text, reply}
+use Rattle.book_model.specs.Replies.{line_of, next_state, refused_for, refused_text, reply}
 use Rattle.book_model.specs.Workbook.{State}
 use Rattle.book_model.specs.declared.command.Command.{Command}
 use Rattle.book_model.specs.declared.command.Command.TheVariants as command
@@ -12,6 +11,8 @@ use Rattle.book_engine.specs.Engine.{StandsFor}
 use Rattle.book_engine.specs.declared.engine.Engine.{Engine}
 use Rattle.book_engine.specs.declared.stop.Stop as engine
 use Rattle.book_engine.specs.declared.stop.Stop.TheVariants.{Refused, NoMemory}
+use Rattle.book_model.specs.declared.command.Version.{Version}
+use Rattle.script_lang.specs.Command.{version_after}
 use Rattle.script_lang.specs.declared.error.ScriptError.{ScriptError}
 use Rattle.book_files.specs.Outside.{AppendsPart}
 use Rattle.book_files.specs.declared.error.WriteError.{WriteError}
@@ -31,8 +32,8 @@ Executes customs c old new line refused = (d : State) → StandsFor customs old 
 
 -- a call for what a command asks for, whichever session the engine was in
 abbrev pub DoesFor : {C X : Type 0} {G : Ghosts C} → (C → List (List ℕ × Rule)) → Command → (State → X → Type 0) → Engine C G → Engine C G → Result X engine.Stop → Type 0
-DoesFor customs c Answers old new (Ok x) = (d : State) → StandsFor customs old d → (cause (operation_of d.book c) d ≡ None) × Answers d x × StandsFor customs new (next_state c d)
-DoesFor customs c Answers old new (Err (Refused r)) = (d : State) → StandsFor customs old d → (cause (operation_of d.book c) d ≡ Some r) × StandsFor customs new (next_state c d)
+DoesFor customs c Answers old new (Ok x) = (d : State) → StandsFor customs old d → (refused_for c d ≡ None) × Answers d x × StandsFor customs new (next_state c d)
+DoesFor customs c Answers old new (Err (Refused r)) = (d : State) → StandsFor customs old d → (refused_for c d ≡ Some r) × StandsFor customs new (next_state c d)
 DoesFor customs c Answers old new (Err NoMemory) = Keeps customs old new
 
 -- the command is a change that answers nothing
@@ -45,6 +46,7 @@ IsChange (command.Precedents at) = ⊥
 IsChange (command.Dependents at) = ⊥
 IsChange (command.NameValue name sheet) = ⊥
 IsChange (command.Try sheet text) = ⊥
+IsChange (command.Version version) = ⊥
 IsChange _ = ⊤
 
 -- the line of a call that stopped; of want of memory there is none
@@ -66,6 +68,11 @@ abbrev pub AnswersRecord : {C : Type 0} {G : Ghosts C} → (C → List (List ℕ
 AnswersRecord customs strict (Ok c) k end before after old new = AnswersCommand customs strict c end before after old new
 AnswersRecord customs strict (Err e) k None before after old new = ⊥
 AnswersRecord customs strict (Err e) k (Some status) before after old new = Appends old new (line_of (record_text k e)) × (status ≡ 3)
+
+-- the version of a script behind a record
+abbrev pub version_behind : Version → Result Command ScriptError → Version
+version_behind version (Ok c) = version_after version c
+version_behind version (Err e) = version
 
 -- the front of the line that answers a command, or a record, went to the sink
 abbrev pub PartOfCommand : {C : Type 0} {G : Ghosts C} → (C → List (List ℕ × Rule)) → Command → Engine C G → Option (List ℕ) → Option (List ℕ) → Type 0

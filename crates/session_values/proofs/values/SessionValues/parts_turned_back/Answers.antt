@@ -11,8 +11,7 @@ use Rattle.session_values.proofs.values.SessionValues.parts_turned_back.Goals as
 pub loop-index-init : goal.loop-index-init
 loop-index-init c =
     let s = c.args.session.now in
-    let ps = c.args.parts.now in
-    (
+    let ps = c.args.parts.now in (
       back_first (line_of s.book) (words_in s) (changes_of ps) (changes_of (take (length ps) ps)) c.args.self.now.values (ap changes_of (take-length ps)),
       none_back s (changes_of (drop (length ps) ps)) c.args.self.now.values (ap changes_of (drop-length ps)),
     )
@@ -24,11 +23,12 @@ loop-index-preserved c =
     let i = c.loop-index.index - 1 in
     let p = c.index-parts-index.result in
     let last : c.loop-index.index ≡ i + 1 = omega (arith, c.loop-index-test.true) in
-    let below : i < length ps = omega (arith, c.loop-index-test.true, c.loop-index.auto.index) in
-    (back_more (line_of s.book) (words_in s) (changes_of ps) (changes_of (take c.loop-index.index ps)) (changes_of (take i ps)) (change_of p) c.args.self.now.values c.loop-index.self.values c.part_turned_back.new.self.values
-    (ap (λ n. changes_of (take n ps)) last ∙ parts-before ps i p below c.index-parts-index.is) c.loop-index.invariant.0 c.part_turned_back.ensures.follows,
-    more_back s (changes_of (drop i ps)) (changes_of (drop c.loop-index.index ps)) (change_of p) c.args.self.now.values c.loop-index.self.values c.part_turned_back.new.self.values
-    (parts-at ps i p below c.index-parts-index.is ∙ ap (λ n. change_of p ∷ changes_of (drop n ps)) (sym last)) c.loop-index.invariant.1 c.part_turned_back.ensures.marks)
+    let below : i < length ps = omega (arith, c.loop-index-test.true, c.loop-index.auto.index) in (
+      back_more (line_of s.book) (words_in s) (changes_of ps) (changes_of (take c.loop-index.index ps)) (changes_of (take i ps)) (change_of p) c.args.self.now.values c.loop-index.self.values c.part_turned_back.new.self.values
+          (ap (λ n. changes_of (take n ps)) last ∙ parts-before ps i p below c.index-parts-index.is) c.loop-index.invariant.0 c.part_turned_back.ensures.follows,
+      more_back s (changes_of (drop i ps)) (changes_of (drop c.loop-index.index ps)) (change_of p) c.args.self.now.values c.loop-index.self.values c.part_turned_back.new.self.values
+          (parts-at ps i p below c.index-parts-index.is ∙ ap (λ n. change_of p ∷ changes_of (drop n ps)) (sym last)) c.loop-index.invariant.1 c.part_turned_back.ensures.marks,
+    )
 
 pub returns-clause-follows : goal.returns-clause-follows
 returns-clause-follows c =

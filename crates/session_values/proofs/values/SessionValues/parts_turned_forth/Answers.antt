@@ -15,11 +15,12 @@ parts-preserved c =
     let s = c.args.session.now in
     let ps = c.args.parts.now in
     let i = c.parts.part-index in
-    let p = c.part-item.result in
-    (forth_more (line_of s.book) (words_in s) (changes_of ps) (changes_of (drop i ps)) (changes_of (drop (i + 1) ps)) (change_of p) c.args.self.now.values c.parts.self.values c.part_turned_forth.new.self.values
-    (parts-at ps i p c.parts-test.true c.part-item.is) c.parts.invariant.0 c.part_turned_forth.ensures.follows,
-    more_forth s (changes_of ps) (changes_of (drop i ps)) (changes_of (drop (i + 1) ps)) (change_of p) c.args.self.now.values c.parts.self.values c.part_turned_forth.new.self.values
-    (parts-at ps i p c.parts-test.true c.part-item.is) c.parts.invariant.1 c.part_turned_forth.ensures.marks)
+    let p = c.part-item.result in (
+      forth_more (line_of s.book) (words_in s) (changes_of ps) (changes_of (drop i ps)) (changes_of (drop (i + 1) ps)) (change_of p) c.args.self.now.values c.parts.self.values c.part_turned_forth.new.self.values
+          (parts-at ps i p c.parts-test.true c.part-item.is) c.parts.invariant.0 c.part_turned_forth.ensures.follows,
+      more_forth s (changes_of ps) (changes_of (drop i ps)) (changes_of (drop (i + 1) ps)) (change_of p) c.args.self.now.values c.parts.self.values c.part_turned_forth.new.self.values
+          (parts-at ps i p c.parts-test.true c.part-item.is) c.parts.invariant.1 c.part_turned_forth.ensures.marks,
+    )
 
 pub returns-clause-follows : goal.returns-clause-follows
 returns-clause-follows c =
