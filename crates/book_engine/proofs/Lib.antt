@@ -28,5 +28,6 @@ pub mod ListedLinks
 pub mod LeastAreas
 pub mod FilledPlaces
 pub mod ListedNames
+pub mod UsedNames
 pub mod IdleReads
 mod TriedCosts

@@ -6,13 +6,14 @@ ghost use Rattle.shift_core.specs.declared.shift.Shift.TheVariants as shifts;
 ghost use Rattle.dep_graph.specs.Nodes.{items_of};
 ghost use Rattle.formula_tree.specs.Relative.{relative};
 ghost use Rattle.book_model.specs.Answers.{content_text, dependents_of, formula_of, name_value_of, precedents_of, tried_value, value_of};
+ghost use Rattle.book_model.specs.Clipboard.{nothing};
 ghost use Rattle.book_model.specs.Given.{CanBegin, given_sheets, session_given};
 ghost use Rattle.book_model.specs.Operation as op;
 ghost use Rattle.book_model.specs.Replies.{first_sheet};
 ghost use Rattle.book_model.specs.Sound.{IsLinkInside};
 ghost use Rattle.book_model.specs.Workbook.{State};
 ghost use Rattle.book_model.specs.declared.limits.TheConstants.{MAX_UNDO};
-ghost use Rattle.book_engine.specs.Seen.{Fits, ValuesFollow};
+ghost use Rattle.book_engine.specs.Seen.{Fits, ValuesFollow, with_clipboard};
 ghost use Rattle.session_values.specs.Refreshed.{IsUnmarked};
 ghost use Rattle.book_engine.specs.internal.FitsProp.{fits-prop};
 ghost use Rattle.book_engine.specs.internal.FollowProp.{follow-prop};
@@ -395,6 +396,17 @@ impl<C: Customs> Engine<C> {
         self.parts.check_clear(area)?;
         self.waiting = Waiting::cut(area);
         Ok(())
+    }
+
+    /// Empties the clipboard: neither a copy nor a cut waits to be pasted any more. It is no step, and no open batch refuses it. Costs
+    /// the cells that were copied.
+    pub fn clear_clipboard(&mut self)
+        ensures clears { (d : State) → StandsFor C.customs self.old d → StandsFor C.customs self.new (with_clipboard nothing d) }
+        ensures line { KeepsLine self.old self.new }
+        ensures kept { KeepsAll self.old self.new }
+        ensures values { KeepsValues self.old self.new }
+    {
+        self.waiting = Waiting::nothing();
     }
 
     /// Pastes what waits, its first cell at a place. After a copy each cell of the block there holds what the copied one

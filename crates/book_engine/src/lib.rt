@@ -21,6 +21,7 @@ mod asking;
 mod checks;
 mod copying;
 mod engine;
+mod formulas;
 mod idle;
 pub mod laws;
 mod links;

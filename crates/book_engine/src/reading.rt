@@ -245,7 +245,7 @@ impl Parts {
 }
 
 // The first cell of the sheet.
-fn first_cell(sheet: u32) -> Place
+pub(crate) fn first_cell(sheet: u32) -> Place
     ensures { result ≡ first_cell sheet }
 {
     Place {

@@ -180,6 +180,22 @@ pub(crate) fn blocks_are_pasted(engine: &mut Engine<NoCustoms>) -> Result<bool, 
     )
 }
 
+// Neither a copy nor a cut waits any more once the clipboard is cleared.
+pub(crate) fn a_clipboard_is_cleared(engine: &mut Engine<NoCustoms>) -> Result<bool, Stop> {
+    engine.add_sheet("Plan")?;
+    engine.copy(block(0, 0))?;
+    engine.clear_clipboard();
+    let copied = engine.paste(place(1, 1));
+    engine.cut(block(0, 0))?;
+    engine.clear_clipboard();
+    let cut = engine.paste(place(1, 1));
+    Ok(
+        engine.is_clipboard_empty()
+            && copied == Err(Stop::Refused(Refusal::NothingToPaste))
+            && cut == Err(Stop::Refused(Refusal::NothingToPaste)),
+    )
+}
+
 // What a formula needs is listed in its order, and what needs a cell by place and then by name.
 pub(crate) fn links_are_listed_in_order(engine: &mut Engine<NoCustoms>) -> Result<bool, Stop> {
     engine.add_sheet("Plan")?;

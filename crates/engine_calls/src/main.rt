@@ -8,6 +8,7 @@ ghost use Rattle.book_model.specs.declared.limits.TheConstants.{MAX_UNDO};
 mod areas;
 mod cells;
 mod counted;
+mod formulas;
 mod groups;
 mod no_customs;
 mod on_heap;
@@ -18,6 +19,7 @@ use book_model::{BookCell, BookCells, BookSheet};
 use cell_addr::Text;
 use cells::reads;
 use counted::formulas_are_worked_out_once;
+use formulas::formulas_are_read_alone;
 use groups::kept;
 use no_customs::NoCustoms;
 use on_heap::{begun, built};
@@ -47,14 +49,16 @@ enum Calls {
     Replaced,
     Names,
     Clipboard,
+    Cleared,
     Links,
     Values,
+    Formulas,
     // Three changes, of which so many steps are to be kept; `None` where none can be undone.
     Kept(Option<usize>),
 }
 
 impl Group {
-    const ALL: [(Group, &'static str); 15] = [
+    const ALL: [(Group, &'static str); 17] = [
         (Group::Given, "begins with given sheets"),
         (Group::Limit, "steps are kept up to the limit"),
         (Group::Counted, "formulas are worked out once"),
@@ -71,8 +75,10 @@ impl Group {
         (Group::Over(Calls::Replaced), "replaced formulas come back"),
         (Group::Over(Calls::Names), "names come and go"),
         (Group::Over(Calls::Clipboard), "blocks are pasted"),
+        (Group::Over(Calls::Cleared), "a clipboard is cleared"),
         (Group::Over(Calls::Links), "links are listed in order"),
         (Group::Over(Calls::Values), "values follow names"),
+        (Group::Over(Calls::Formulas), "formulas are read alone"),
     ];
 
     // Whether its calls answer as they should.
@@ -100,8 +106,10 @@ impl Calls {
             Calls::Replaced => groups::replaced_formulas_come_back(engine),
             Calls::Names => groups::names_come_and_go(engine),
             Calls::Clipboard => groups::blocks_are_pasted(engine),
+            Calls::Cleared => groups::a_clipboard_is_cleared(engine),
             Calls::Links => groups::links_are_listed_in_order(engine),
             Calls::Values => groups::values_follow_names(engine),
+            Calls::Formulas => formulas_are_read_alone(engine),
             Calls::Kept(steps) => Ok(kept(engine)? == steps),
         }
     }

@@ -1,0 +1,14 @@
+use Rattle.std.proofs.Common.{ap}
+use Rattle.kept_book.specs.declared.book.Book.{Book}
+use Rattle.lazy_store.specs.Store.{kept_in}
+use Rattle.book_engine.proofs.KeptLine.{line_kept}
+use Rattle.book_engine.proofs.engine.Engine.names_in.Goals as goal
+
+pub invariant_of-self : goal.invariant_of-self
+invariant_of-self g c = record { fits = c.names_in.ensures.fits; follow = c.names_in.ensures.follow (g.C.Customs.customs c.args.self.now.customs) c.args.self.now.day c.args.self.now.follow }
+
+pub returns-clause-line : goal.returns-clause-line
+returns-clause-line g c = line_kept c.args.self.now.parts.session.book.lazy.line c.names_in.new.self.session.book.lazy.line (ap (λ (b : Book). b.lazy.line) c.names_in.ensures.book)
+
+pub returns-clause-kept : goal.returns-clause-kept
+returns-clause-kept g c id = ap (λ (b : Book). kept_in b.lazy id) c.names_in.ensures.book

@@ -1,0 +1,151 @@
+// Formulas as such, which no cell holds: their canonical texts, and the names that they use.
+ghost use Rattle.std.specs.Prelude.{◌≡◌, ◌++◌, ◌∷◌, [], IfOk, OnOk, Some, map};
+ghost use Rattle.std.specs.List.{filter_map};
+ghost use Rattle.cell_addr.specs.Text.{capitals};
+ghost use Rattle.formula_tree.specs.Mentions.{word_of};
+ghost use Rattle.formula_tree.specs.Proper.{IsProper};
+ghost use Rattle.formula_tree.specs.StandsFor as standing;
+ghost use Rattle.formula_tree.specs.Term.{Term};
+ghost use Rattle.formula_tree.specs.declared.reference.Corner.{Corner};
+ghost use Rattle.book_model.specs.Answers.{first_cell};
+ghost use Rattle.book_model.specs.Workbook.{State};
+ghost use Rattle.kept_book.specs.Formula.{tree_at};
+ghost use Rattle.book_engine.specs.Areas.{Answered};
+ghost use Rattle.book_engine.specs.Formulas.{names_used_of, normal_text_of, text_cause, tree_on, words_used};
+ghost use Rattle.book_engine.specs.Seen.{Fits, ValuesFollowStill, state_of};
+
+use crate::engine::Engine;
+use crate::naming::read_tree;
+use crate::parts::Parts;
+use crate::reading::first_cell;
+use crate::stop::Stop;
+use calc_eval::Customs;
+use cell_addr::{Text, capitals};
+use formula_print::print;
+use formula_tree::{Home, Mention, Tree, mentions_of};
+use kept_steps::Session;
+use std::alloc::{AllocError, Global};
+
+#[tactic(auto, unfolding(crate::specs::Engine::StandsFor))]
+impl<C: Customs> Engine<C> {
+    ghost use Rattle.book_engine.specs.Engine.{StandsFor};
+    ghost use Rattle.book_engine.specs.Kept.{KeepsAll, KeepsLine, KeepsValues};
+
+    /// The canonical text of the formula that the text spells on the sheet: what [`Engine::formula`] answers of a cell of the
+    /// sheet that is given the text. No cell is touched, and it is answered while values are suspended too. Costs about the bytes of
+    /// both texts.
+    ///
+    /// # Errors
+    /// `NoSheet`, `TextLimit` past 8,192 bytes, `BadFormula` where the text is no formula; the first that holds.
+    pub fn normal_text(&mut self, sheet: u32, text: &str) -> Result<Text, Stop>
+        ensures answered { (d : State) → StandsFor C.customs self.old d → Answered (text_cause d.book sheet text.now) (λ shown. normal_text_of d.book sheet text.now ≡ Some shown) result }
+        ensures stays { (d : State) → StandsFor C.customs self.old d → StandsFor C.customs self.new d }
+        ensures line { KeepsLine self.old self.new }
+        ensures kept { KeepsAll self.old self.new }
+        ensures values { KeepsValues self.old self.new }
+    {
+        self.parts.normal_text(sheet, text)
+    }
+
+    /// The names that the formula of the text uses, in capitals, in the order of the formula, each once; whether or not there are such
+    /// named expressions. Of a word that is listed the sheet's own name is meant where it has one, and else the whole workbook's.
+    /// Costs about the bytes of the text, and each word is compared with those listed before it. It is answered while values are
+    /// suspended too.
+    ///
+    /// # Errors
+    /// Those of [`Engine::normal_text`].
+    pub fn names_in(&mut self, sheet: u32, text: &str) -> Result<Vec<Text>, Stop>
+        ensures answered { (d : State) → StandsFor C.customs self.old d → Answered (text_cause d.book sheet text.now) (λ words. names_used_of d.book sheet text.now ≡ Some words.items) result }
+        ensures stays { (d : State) → StandsFor C.customs self.old d → StandsFor C.customs self.new d }
+        ensures line { KeepsLine self.old self.new }
+        ensures kept { KeepsAll self.old self.new }
+        ensures values { KeepsValues self.old self.new }
+    {
+        self.parts.names_in(sheet, text)
+    }
+}
+
+impl Parts {
+    // The canonical text of the formula that the text spells on the sheet.
+    fn normal_text(&mut self, sheet: u32, text: &str) -> Result<Text, Stop>
+        requires { Fits self.old }
+        ensures answered { Answered (text_cause (state_of self.old).book sheet text.now) (λ shown. normal_text_of (state_of self.old).book sheet text.now ≡ Some shown) result }
+        ensures state { state_of self.new ≡ state_of self.old }
+        ensures fits { Fits self.new }
+        ensures book { self.new.session.book ≡ self.old.session.book }
+        ensures follow { ValuesFollowStill self.old self.new }
+        ensures values { self.new.values ≡ self.old.values }
+    {
+        let tree = self.tree_on(sheet, text)?;
+        let book = &self.session.book;
+        let home = Home::Cell(first_cell(sheet));
+        let shown = print(book.alloc, &tree, home, &book.names)?;
+        Ok(shown)
+    }
+
+    // The names that the formula of the text uses.
+    fn names_in(&mut self, sheet: u32, text: &str) -> Result<Vec<Text>, Stop>
+        requires { Fits self.old }
+        ensures answered { Answered (text_cause (state_of self.old).book sheet text.now) (λ words. names_used_of (state_of self.old).book sheet text.now ≡ Some words.items) result }
+        ensures state { state_of self.new ≡ state_of self.old }
+        ensures fits { Fits self.new }
+        ensures book { self.new.session.book ≡ self.old.session.book }
+        ensures follow { ValuesFollowStill self.old self.new }
+        ensures values { self.new.values ≡ self.old.values }
+    {
+        let tree = self.tree_on(sheet, text)?;
+        let home = Home::Cell(first_cell(sheet));
+        let words = words_used(self.session.book.alloc, &tree, home)?;
+        Ok(words)
+    }
+
+    // The tree that the text spells on the sheet, in a formula in its first cell.
+    #[tactic(auto, using(crate::proofs::Following::follow_same))]
+    fn tree_on(&mut self, sheet: u32, text: &str) -> Result<Tree, Stop>
+        ensures answered { Answered (text_cause (state_of self.old).book sheet text.now) (λ tree. (tree_on (state_of self.old).book sheet text.now ≡ Some (tree_at (first_cell sheet) tree)) × IsProper (tree_at (first_cell sheet) tree)) result }
+        ensures state { state_of self.new ≡ state_of self.old }
+        ensures book { self.new.session.book ≡ self.old.session.book }
+        ensures follow { ValuesFollowStill self.old self.new }
+        ensures values { self.new.values ≡ self.old.values }
+    {
+        self.check_sheet(sheet)?;
+        let Session { pool, book, .. } = &mut self.session;
+        read_tree(
+            book.alloc,
+            pool,
+            &book.names,
+            Home::Cell(first_cell(sheet)),
+            text,
+        )
+    }
+}
+
+// The words of the names that the tree uses in a formula at the home, in capitals, each once.
+fn words_used(alloc: Global, tree: &Tree, home: Home) -> Result<Vec<Text>, AllocError>
+    ensures { IfOk result (λ words. (t : Term Corner) → standing.StandsFor tree.now home t → words.items ≡ words_used t) }
+{
+    let mentions = mentions_of(alloc, tree, home)?;
+    let words = raised_words(alloc, &mentions)?;
+    Ok(words)
+}
+
+// The words of the names among the mentions, in capitals.
+fn raised_words(alloc: Global, mentions: &[Mention]) -> Result<Vec<Text>, AllocError>
+    ensures { IfOk result (λ words. words.items ≡ map capitals (filter_map word_of mentions.now)) }
+{
+    let mut words = Vec::new(alloc);
+    'mentions: for mention in mentions {
+        push_word(alloc, &mut words, mention)?;
+    }
+    Ok(words)
+}
+
+// Puts the word of a mention at the end, in capitals, if it is a name.
+fn push_word(alloc: Global, words: &mut Vec<Text>, mention: &Mention) -> Result<(), AllocError>
+    ensures { OnOk result (words.new.items ≡ words.old.items ++ map capitals (filter_map word_of (mention.now ∷ []))) }
+{
+    if let Mention::Name(word) = mention {
+        words.push(capitals(alloc, word.as_str())?)?;
+    }
+    Ok(())
+}
