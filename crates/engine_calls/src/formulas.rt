@@ -14,7 +14,7 @@ pub(crate) fn formulas_are_read_alone(engine: &mut Engine<NoCustoms>) -> Result<
     let unread = engine.normal_text(0, "2+3");
     let nowhere = engine.names_in(2, "=1");
     Ok(
-        text.as_str() == "=SUM(Plan!B1:C2,A1*RATE)"
+        text.as_str() == "=SUM(Plan!B1:C2,A1*rate)"
             && are_rate_and_tax(&names)
             && matches!(unread, Err(Stop::Refused(Refusal::BadFormula)))
             && matches!(nowhere, Err(Stop::Refused(Refusal::NoSheet))),
