@@ -1,6 +1,5 @@
 use Rattle.std.proofs.Common.{ap}
 use Rattle.kept_book.specs.declared.book.Book.{Book}
-use Rattle.lazy_store.specs.Store.{kept_in}
 use Rattle.book_engine.proofs.KeptLine.{line_kept}
 use Rattle.book_engine.proofs.engine.Engine.names_in.Goals as goal
 
@@ -9,6 +8,3 @@ invariant_of-self g c = record { fits = c.names_in.ensures.fits; follow = c.name
 
 pub returns-clause-line : goal.returns-clause-line
 returns-clause-line g c = line_kept c.args.self.now.parts.session.book.lazy.line c.names_in.new.self.session.book.lazy.line (ap (λ (b : Book). b.lazy.line) c.names_in.ensures.book)
-
-pub returns-clause-kept : goal.returns-clause-kept
-returns-clause-kept g c id = ap (λ (b : Book). kept_in b.lazy id) c.names_in.ensures.book
