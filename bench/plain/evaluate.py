@@ -198,6 +198,13 @@ class Formula:
                 return area(meaning)
         return self.value(tree)
 
+    def single(self, tree):
+        """The value of an argument where one value is wanted."""
+        found = self.argument(tree)
+        if not isinstance(found, Area):
+            return found
+        return values.VALUE if found.is_block else self.evaluation.cell((found.sheet, found.row, found.col))
+
     def wanted(self, tree):
         """The value of a tree where one value is wanted; a fault may stop the work."""
         if tree is None or isinstance(tree, (Number, values.Text, Truth, Fault)):

@@ -57,7 +57,7 @@ def is_area(argument):
 
 
 def number(formula, tree):
-    return values.as_number(formula.value(tree))
+    return values.as_number(formula.single(tree))
 
 
 def integer(formula, tree):
@@ -66,11 +66,11 @@ def integer(formula, tree):
 
 
 def text(formula, tree):
-    return values.as_text(formula.value(tree))
+    return values.as_text(formula.single(tree))
 
 
 def truth(formula, tree):
-    return values.as_truth(formula.value(tree))
+    return values.as_truth(formula.single(tree))
 
 
 def block(formula, tree):
@@ -211,7 +211,7 @@ def criterion(value):
 
 def asked_for(formula, tree):
     """What a criterion as an argument asks."""
-    return criterion(values.no_fault(formula.value(tree)))
+    return criterion(values.no_fault(formula.single(tree)))
 
 
 def offsets(formula, area):
@@ -365,7 +365,7 @@ def row_of(formula, area, row):
 
 
 def wanted_value(formula, tree):
-    value = values.no_fault(formula.value(tree))
+    value = values.no_fault(formula.single(tree))
     return Number(0) if value is NOTHING else value
 
 
@@ -436,7 +436,7 @@ def choose(formula, which, *arguments):
     at = integer(formula, which)
     if not 1 <= at <= len(arguments):
         return values.VALUE
-    return formula.value(arguments[at - 1])
+    return formula.single(arguments[at - 1])
 
 
 # Texts.
@@ -646,7 +646,7 @@ def not_available(formula):
 def tells(word, holds):
     @function(word, 1, 1)
     def body(formula, tree):
-        return Truth(holds(formula.value(tree)))
+        return Truth(holds(formula.single(tree)))
 
 
 tells("ISERROR", lambda value: isinstance(value, Fault))
@@ -661,20 +661,20 @@ tells("ISBLANK", lambda value: value is NOTHING)
 @function("IF", 2, 3)
 def if_(formula, asked, then, otherwise=None):
     if truth(formula, asked):
-        return formula.value(then)
-    return Truth(False) if otherwise is None else formula.value(otherwise)
+        return formula.single(then)
+    return Truth(False) if otherwise is None else formula.single(otherwise)
 
 
 @function("IFERROR", 2, 2)
 def if_error(formula, tree, instead):
-    value = formula.value(tree)
-    return formula.value(instead) if isinstance(value, Fault) else value
+    value = formula.single(tree)
+    return formula.single(instead) if isinstance(value, Fault) else value
 
 
 @function("IFNA", 2, 2)
 def if_not_available(formula, tree, instead):
-    value = formula.value(tree)
-    return formula.value(instead) if value == values.NA else value
+    value = formula.single(tree)
+    return formula.single(instead) if value == values.NA else value
 
 
 # Places.
