@@ -26,15 +26,20 @@ use Rattle.book_model.specs.Clipboard.{Clipboard, nothing, copied, moving}
 use Rattle.book_model.specs.Names.{NameMap, is_on_sheet, with_tree}
 use Rattle.book_model.specs.Workbook.{Workbook}
 use Rattle.book_model.specs.Content.{content_given, content_of, tree_given}
+use Rattle.book_model.specs.declared.content.ContentText.{ContentText}
 
 -- the contents where a place has this one, or none
 abbrev pub placed : Place → Option Content → Contents → Contents
 placed at None cells = map.remove cells at
 placed at (Some c) cells = map.insert cells at c
 
+-- a cell gets this, or becomes empty
+abbrev pub with_given_content : Place → ContentText → Workbook → Workbook
+with_given_content at said b = record b { cells = placed at (content_given b.sheets at.sheet said) b.cells }
+
 -- a cell gets what a text says
 abbrev pub with_content : Place → List ℕ → Workbook → Workbook
-with_content at text b = record b { cells = placed at (content_given b.sheets at.sheet (content_of text)) b.cells }
+with_content at text b = with_given_content at (content_of text) b
 
 -- the cells that pass a test become empty
 abbrev pub emptied : (Place → Bool) → Workbook → Workbook
