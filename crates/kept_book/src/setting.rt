@@ -7,7 +7,7 @@ ghost use Rattle.grid_store.specs.Grid.{cells_of, items_of, within};
 ghost use Rattle.name_table.specs.Listed.{listed};
 ghost use Rattle.shift_core.specs.Maps.{AreInside};
 ghost use Rattle.shift_line.specs.Track.{with_spare};
-ghost use Rattle.book_model.specs.Changes.{emptied, with_content};
+ghost use Rattle.book_model.specs.Changes.{emptied, with_content, with_given_content};
 ghost use Rattle.book_model.specs.Content.{content_given, tree_given};
 ghost use Rattle.kept_book.specs.Copied.{IsCopied, content_copied, entry_copied};
 ghost use Rattle.kept_book.specs.Formula.{IsFormula, tree_at};
@@ -42,6 +42,28 @@ impl Book {
         ensures kept { KeepsBelow self.old.next_id self.old.lazy self.new.lazy }
     {
         let content = read_content(self.alloc, text)?;
+        let part = self.fill_content(pool, at, content)?;
+        Ok(part)
+    }
+
+    /// Gives a cell a content, or empties it, and answers what that changed, likewise. Costs about the length of a formula's text,
+    /// and of another content nothing for its length, with the logarithm of the number of filled cells.
+    pub fn fill_content(
+        &mut self,
+        pool: &mut Pool,
+        at: Place,
+        content: ContentText,
+    ) -> Result<Part, AllocError>
+        requires inside { IsInside at }
+        requires stand { IsStanding self.old }
+        ensures ok { OnOk result (workbook self.new ≡ with_given_content at content (workbook self.old)) }
+        ensures makes { IfOk result (λ part. Makes self.old self.new (change_of part)) }
+        ensures replaced { IfOk result (λ part. items_of part.replaced ≡ listed_at at (map.get (cells_of self.old.grid) at)) }
+        ensures written { IfOk result (λ part. All (λ e. e.0 ≡ at) (items_of part.written)) }
+        ensures err { OnErr result (SameBook self.old self.new) }
+        ensures line { self.new.lazy.line ≡ with_spare self.new.lazy.line.spare self.old.lazy.line }
+        ensures kept { KeepsBelow self.old.next_id self.old.lazy self.new.lazy }
+    {
         let given = given(self.alloc, pool, &self.names, at, content)?;
         let replaced = replaced_at(self.alloc, &self.grid, at)?;
         let part = self.write(replaced, given)?;
