@@ -6,6 +6,7 @@ pub mod Turning
 pub mod Pushed
 pub mod FilledCells
 pub mod Following
+pub mod GivenCells
 pub mod Stepped
 pub mod PartsStepped
 pub mod TurnedMarks

@@ -22,6 +22,7 @@ mod checks;
 mod copying;
 mod engine;
 mod formulas;
+mod giving;
 mod idle;
 pub mod laws;
 mod links;
