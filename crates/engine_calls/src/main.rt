@@ -9,6 +9,7 @@ mod areas;
 mod cells;
 mod counted;
 mod formulas;
+mod giving;
 mod groups;
 mod no_customs;
 mod on_heap;
@@ -20,6 +21,7 @@ use cell_addr::Text;
 use cells::reads;
 use counted::formulas_are_worked_out_once;
 use formulas::formulas_are_read_alone;
+use giving::{apostrophes_count, contents_are_given};
 use groups::kept;
 use no_customs::NoCustoms;
 use on_heap::{begun, built};
@@ -34,6 +36,7 @@ enum Group {
     Limit,
     Counted,
     Areas,
+    Apostrophes,
     Over(Calls),
 }
 
@@ -53,12 +56,13 @@ enum Calls {
     Links,
     Values,
     Formulas,
+    Contents,
     // Three changes, of which so many steps are to be kept; `None` where none can be undone.
     Kept(Option<usize>),
 }
 
 impl Group {
-    const ALL: [(Group, &'static str); 17] = [
+    const ALL: [(Group, &'static str); 19] = [
         (Group::Given, "begins with given sheets"),
         (Group::Limit, "steps are kept up to the limit"),
         (Group::Counted, "formulas are worked out once"),
@@ -79,6 +83,8 @@ impl Group {
         (Group::Over(Calls::Links), "links are listed in order"),
         (Group::Over(Calls::Values), "values follow names"),
         (Group::Over(Calls::Formulas), "formulas are read alone"),
+        (Group::Over(Calls::Contents), "contents are given"),
+        (Group::Apostrophes, "apostrophes count"),
     ];
 
     // Whether its calls answer as they should.
@@ -88,6 +94,7 @@ impl Group {
             Group::Limit => steps_are_kept_up_to_the_limit(alloc),
             Group::Counted => formulas_are_worked_out_once(alloc),
             Group::Areas => areas_are_read(alloc),
+            Group::Apostrophes => apostrophes_count(alloc),
             Group::Over(calls) => held(alloc, 20, calls),
         }
     }
@@ -110,6 +117,7 @@ impl Calls {
             Calls::Links => groups::links_are_listed_in_order(engine),
             Calls::Values => groups::values_follow_names(engine),
             Calls::Formulas => formulas_are_read_alone(engine),
+            Calls::Contents => contents_are_given(engine),
             Calls::Kept(steps) => Ok(kept(engine)? == steps),
         }
     }
