@@ -7,6 +7,7 @@ pub mod Pushed
 pub mod FilledCells
 pub mod Following
 pub mod GivenCells
+pub mod WrittenCells
 pub mod Stepped
 pub mod PartsStepped
 pub mod TurnedMarks

@@ -39,6 +39,7 @@ mod stop;
 mod taken_apart;
 mod undoing;
 mod waiting;
+mod writing;
 
 pub use areas::Kind;
 pub use engine::Engine;

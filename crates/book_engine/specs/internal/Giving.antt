@@ -1,7 +1,8 @@
--- Contents that are given to cells as they are.
-use Rattle.std.specs.Prelude.{◌≡◌, ◌≢◌, ◌&&◌, ℕ, Bool, not, nat_le, nat_lt, List, [], ◌∷◌, length, is_none}
+-- Contents that are given to cells as they are, and how many cells are filled once texts are given to many.
+use Rattle.std.specs.Prelude.{◌≡◌, ◌≢◌, ◌&&◌, ◌==◌, ◌+◌, ◌-◌, ℕ, Bool, true, false, not, nat_le, nat_lt, List, [], ◌∷◌, length, is_none, is_some}
 use Rattle.std.specs.FinMap as map
 use Rattle.cell_addr.specs.declared.place.Place.{Place}
+use Rattle.book_cells.specs.Workbook.{Book as Contents}
 use Rattle.book_model.specs.Content.{content_of}
 use Rattle.book_model.specs.Refusals.{Cause, is_outside}
 use Rattle.book_model.specs.Workbook.{State, has_sheet}
@@ -24,3 +25,15 @@ of_given d at long =
     ∷ (long, TextLimit)
     ∷ (is_none (map.get d.book.cells at) && nat_le MAX_CELLS (map.len d.book.cells), CellLimit)
     ∷ []
+
+-- how many cells are filled after one, which was filled before or wasn't, was emptied or filled
+abbrev pub counted : Bool → Bool → ℕ → ℕ
+counted true true n = n - 1
+counted true false n = n
+counted false true n = n
+counted false false n = n + 1
+
+-- and after all of these, each of which another cell is given
+abbrev pub counted_all : Contents → List (Place × List ℕ) → ℕ → ℕ
+counted_all m [] n = n
+counted_all m (e ∷ es) n = counted_all m es (counted (is_some (map.get m e.0)) (length e.1 == 0) n)
