@@ -1,10 +1,12 @@
-// Cells that are given numbers, truth values and texts as they are.
+// Cells that are given numbers, truth values and texts as they are, and cells that are written together.
+ghost use Rattle.std.specs.Prelude.{◌≢◌};
+
 use super::cells::place;
 use super::on_heap::built;
 use crate::no_customs::NoCustoms;
 use book_engine::{Engine, Kind, Stop};
 use book_model::Refusal;
-use cell_addr::Place;
+use cell_addr::{Place, Text};
 use fix_num::Fixed;
 use std::alloc::{AllocError, Global};
 
@@ -75,4 +77,57 @@ fn long_text(alloc: Global, first: &str) -> Result<String, AllocError> {
         text.push('x')?;
     }
     Ok(text)
+}
+
+// Cells are written together: as one step, or none of them.
+pub(crate) fn cells_are_written_together(alloc: Global) -> Result<bool, Stop> {
+    let mut engine = built(alloc, 20, NoCustoms)?;
+    engine.add_sheet("Plan")?;
+    write_two(alloc, &mut engine, "20", place_below(0), "=A1+1")?;
+    let written = holds(&mut engine, 0, Kind::Number, "20")?
+        && holds(&mut engine, 1, Kind::Formula, "=A1+1")?;
+    write_two(alloc, &mut engine, "'=x", place_below(0), "")?;
+    let again = holds(&mut engine, 0, Kind::Text, "'=x")?
+        && holds(&mut engine, 1, Kind::Empty, "")?;
+    let refused = write_two(alloc, &mut engine, "3", place_below(1), "4");
+    let stay = refused == Err(Stop::Refused(Refusal::NoSheet))
+        && holds(&mut engine, 0, Kind::Text, "'=x")?;
+    engine.undo()?;
+    let back = holds(&mut engine, 0, Kind::Number, "20")?
+        && holds(&mut engine, 1, Kind::Formula, "=A1+1")?;
+    engine.undo()?;
+    let filled = engine.filled_in(0)?;
+    Ok(written && again && stay && back && filled.is_empty())
+}
+
+// Writes the first cell of the first sheet and another cell.
+fn write_two(
+    alloc: Global,
+    engine: &mut Engine<NoCustoms>,
+    text: &str,
+    other: Place,
+    below: &str,
+) -> Result<(), Stop>
+    requires { other.row ≢ 0 }
+{
+    let first = Place {
+        sheet: 0,
+        row: 0,
+        col: 0,
+    };
+    let text = Text::from_str(alloc, text)?;
+    let below = Text::from_str(alloc, below)?;
+    let cells = [(first, text), (other, below)];
+    engine.write_all(&cells)
+}
+
+// The second cell of the first column of a sheet.
+fn place_below(sheet: u32) -> Place
+    ensures { result.row ≢ 0 }
+{
+    Place {
+        sheet,
+        row: 1,
+        col: 0,
+    }
 }

@@ -21,7 +21,7 @@ use cell_addr::Text;
 use cells::reads;
 use counted::formulas_are_worked_out_once;
 use formulas::formulas_are_read_alone;
-use giving::{apostrophes_count, contents_are_given};
+use giving::{apostrophes_count, cells_are_written_together, contents_are_given};
 use groups::kept;
 use no_customs::NoCustoms;
 use on_heap::{begun, built};
@@ -37,6 +37,7 @@ enum Group {
     Counted,
     Areas,
     Apostrophes,
+    Written,
     Over(Calls),
 }
 
@@ -62,7 +63,7 @@ enum Calls {
 }
 
 impl Group {
-    const ALL: [(Group, &'static str); 19] = [
+    const ALL: [(Group, &'static str); 20] = [
         (Group::Given, "begins with given sheets"),
         (Group::Limit, "steps are kept up to the limit"),
         (Group::Counted, "formulas are worked out once"),
@@ -85,6 +86,7 @@ impl Group {
         (Group::Over(Calls::Formulas), "formulas are read alone"),
         (Group::Over(Calls::Contents), "contents are given"),
         (Group::Apostrophes, "apostrophes count"),
+        (Group::Written, "cells are written together"),
     ];
 
     // Whether its calls answer as they should.
@@ -95,6 +97,7 @@ impl Group {
             Group::Counted => formulas_are_worked_out_once(alloc),
             Group::Areas => areas_are_read(alloc),
             Group::Apostrophes => apostrophes_count(alloc),
+            Group::Written => cells_are_written_together(alloc),
             Group::Over(calls) => held(alloc, 20, calls),
         }
     }
