@@ -5,6 +5,7 @@ pub mod Content
 pub mod Operation
 pub mod Changes
 pub mod Refusals
+pub mod RefusalNames
 pub mod Session
 pub mod Answers
 pub mod Replies

@@ -17,12 +17,12 @@ use Rattle.book_model.specs.Workbook.{Workbook, State}
 use Rattle.book_model.specs.Operation.{Operation}
 use Rattle.book_model.specs.Operation as op
 use Rattle.book_model.specs.Refusals.{cause}
+use Rattle.book_model.specs.RefusalNames.{refusal_name, refusal_number}
 use Rattle.book_model.specs.Session.{next}
 use Rattle.book_model.specs.Answers.{value_of, formula_of, content_text, precedents_of, dependents_of, name_value_of, tried_value}
 use Rattle.book_model.specs.declared.command.Command.{Command}
 use Rattle.book_model.specs.declared.command.Command.TheVariants as command
 use Rattle.book_model.specs.declared.refusal.Refusal.{Refusal}
-use Rattle.book_model.specs.declared.refusal.Refusal.TheVariants as refusal
 
 -- the first sheet of the list
 abbrev pub first_sheet : Workbook → Option ℕ
@@ -125,51 +125,7 @@ answer (op.try_formula sheet text) d = shown_text (tried_value d sheet text)
 answer (op.add_sheet name) d = codes "ok " ++ decimal d.next_sheet
 answer _ d = codes "ok"
 
--- the number and the name of a refusal
-abbrev pub refusal_number : Refusal → ℕ
-refusal_number refusal.NoSheet = 1
-refusal_number refusal.SheetNameTaken = 2
-refusal_number refusal.SheetNameInvalid = 3
-refusal_number refusal.Outside = 4
-refusal_number refusal.SizeLimit = 5
-refusal_number refusal.CellLimit = 6
-refusal_number refusal.NameTaken = 7
-refusal_number refusal.NameInvalid = 8
-refusal_number refusal.NoSuchName = 9
-refusal_number refusal.RelativeAddress = 10
-refusal_number refusal.NothingToUndo = 11
-refusal_number refusal.NothingToRedo = 12
-refusal_number refusal.NothingToPaste = 13
-refusal_number refusal.Suspended = 14
-refusal_number refusal.BatchOpen = 15
-refusal_number refusal.NoBatch = 16
-refusal_number refusal.BadSpan = 17
-refusal_number refusal.TextLimit = 18
-refusal_number refusal.SheetLimit = 19
-refusal_number refusal.BadFormula = 20
-
-abbrev pub refusal_name : Refusal → List ℕ
-refusal_name refusal.NoSheet = codes "NoSheet"
-refusal_name refusal.SheetNameTaken = codes "SheetNameTaken"
-refusal_name refusal.SheetNameInvalid = codes "SheetNameInvalid"
-refusal_name refusal.Outside = codes "Outside"
-refusal_name refusal.SizeLimit = codes "SizeLimit"
-refusal_name refusal.CellLimit = codes "CellLimit"
-refusal_name refusal.NameTaken = codes "NameTaken"
-refusal_name refusal.NameInvalid = codes "NameInvalid"
-refusal_name refusal.NoSuchName = codes "NoSuchName"
-refusal_name refusal.RelativeAddress = codes "RelativeAddress"
-refusal_name refusal.NothingToUndo = codes "NothingToUndo"
-refusal_name refusal.NothingToRedo = codes "NothingToRedo"
-refusal_name refusal.NothingToPaste = codes "NothingToPaste"
-refusal_name refusal.Suspended = codes "Suspended"
-refusal_name refusal.BatchOpen = codes "BatchOpen"
-refusal_name refusal.NoBatch = codes "NoBatch"
-refusal_name refusal.BadSpan = codes "BadSpan"
-refusal_name refusal.TextLimit = codes "TextLimit"
-refusal_name refusal.SheetLimit = codes "SheetLimit"
-refusal_name refusal.BadFormula = codes "BadFormula"
-
+-- the text of a refusal: its number and its name
 abbrev pub refused_text : Refusal → List ℕ
 refused_text r = (codes "refused " ++ decimal (refusal_number r) ++ codes " ") ++ refusal_name r
 
