@@ -8,7 +8,6 @@ pub mod Refusals
 pub mod RefusalNames
 pub mod Session
 pub mod Answers
-pub mod Replies
 pub mod Given
 pub mod Sound
 pub mod Laws

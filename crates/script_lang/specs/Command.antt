@@ -1,10 +1,10 @@
 -- What a record of a script says. Source: this project's own.
 use Rattle.std.specs.Prelude.{◌≡◌, ◌==◌, ◌+◌, if◌then◌else◌, ℕ, List, length, drop, Option, Some, None, Result, Ok, Err, option_and_then, ⊤}
 use Rattle.csv.specs.Records.{field_at}
-use Rattle.book_model.specs.declared.command.Command.{Command}
-use Rattle.book_model.specs.declared.command.Command.TheVariants.{Set, Clear, InsertRows, DeleteRows, InsertCols, DeleteCols, MoveRows, MoveCols, AddSheet, DropSheet, RenameSheet, ClearSheet, AddName, ChangeName, RemoveName, Copy, Cut, Paste, MoveBlock, Begin, Commit, Suspend, Resume, Undo, Redo, Value, Formula, Content, Precedents, Dependents, NameValue, Try, Version}
-use Rattle.book_model.specs.declared.command.Version as Version
-use Rattle.book_model.specs.declared.command.Version.TheVariants as versions
+use Rattle.script_lang.specs.declared.commands.Command.{Command}
+use Rattle.script_lang.specs.declared.commands.Command.TheVariants.{Set, Clear, InsertRows, DeleteRows, InsertCols, DeleteCols, MoveRows, MoveCols, AddSheet, DropSheet, RenameSheet, ClearSheet, AddName, ChangeName, RemoveName, Copy, Cut, Paste, MoveBlock, Begin, Commit, Suspend, Resume, Undo, Redo, Value, Formula, Content, Precedents, Dependents, NameValue, Try, Version}
+use Rattle.script_lang.specs.declared.commands.Version as Version
+use Rattle.script_lang.specs.declared.commands.Version.TheVariants as versions
 use Rattle.formula_parse.specs.Migrated.{migrated, migrated_name}
 use Rattle.script_lang.specs.Words.{line, word_named}
 use Rattle.script_lang.specs.Arguments.{and_said, no_arguments, read_from}
