@@ -9,9 +9,8 @@ ghost use Rattle.book_model.specs.Answers.{content_text, dependents_of, formula_
 ghost use Rattle.book_model.specs.Clipboard.{nothing};
 ghost use Rattle.book_model.specs.Given.{CanBegin, given_sheets, session_given};
 ghost use Rattle.book_model.specs.Operation as op;
-ghost use Rattle.book_model.specs.Replies.{first_sheet};
+ghost use Rattle.book_model.specs.Workbook.{State, first_sheet};
 ghost use Rattle.book_model.specs.Sound.{IsLinkInside};
-ghost use Rattle.book_model.specs.Workbook.{State};
 ghost use Rattle.book_model.specs.declared.limits.TheConstants.{MAX_UNDO};
 ghost use Rattle.book_engine.specs.Seen.{Fits, ValuesFollow, with_clipboard};
 ghost use Rattle.session_values.specs.Refreshed.{IsUnmarked};

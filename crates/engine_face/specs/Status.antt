@@ -2,7 +2,7 @@
 use Rattle.std.specs.Prelude.{ℕ, ◌==◌, List, [], ◌∷◌, map, find, unwrap_or, Result, Ok, Err}
 use Rattle.book_model.specs.declared.refusal.Refusal.TheVariants as refusal
 use Rattle.book_model.specs.declared.refusal.Refusal.{Refusal}
-use Rattle.book_model.specs.Replies.{refusal_number}
+use Rattle.book_model.specs.RefusalNames.{refusal_number}
 use Rattle.book_engine.specs.declared.stop.Stop as stops
 use Rattle.book_engine.specs.declared.stop.Stop.TheVariants as stop
 use Rattle.engine_face.specs.declared.status.Status.{Status}
