@@ -18,6 +18,7 @@
 mod absolute;
 mod areas;
 mod asking;
+mod cause;
 mod checks;
 mod copying;
 mod engine;
@@ -40,6 +41,7 @@ mod undoing;
 mod waiting;
 
 pub use areas::Kind;
+pub use cause::Change;
 pub use engine::Engine;
 pub use kept_steps::Entry;
 pub use listing::NameEntry;
