@@ -21,6 +21,7 @@ mod asking;
 mod cause;
 mod checks;
 mod copying;
+mod cycles;
 mod engine;
 mod formulas;
 mod idle;
