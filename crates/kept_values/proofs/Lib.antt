@@ -12,4 +12,4 @@ pub mod Gathered
 pub mod Shifted
 pub mod TakenBack
 pub mod Returned
-pub mod Cycles
+pub mod CyclicCells

@@ -8,7 +8,7 @@ use Rattle.kept_values.proofs.LinkedAnew.{marked_on}
 use Rattle.kept_values.proofs.cycles.set_of.Goals as goal
 
 pub nodes-init : goal.nodes-init
-nodes-init c = λ a. ap (has a) c.new-set.ensures
+nodes-init c = λ a. ap (has a) c.new-set.ensures.empty
 
 pub nodes-preserved : goal.nodes-preserved
 nodes-preserved c =

@@ -5,7 +5,7 @@ use Rattle.dep_graph.specs.declared.node.Node.{Node}
 use Rattle.dep_graph.specs.declared.node.Node.TheVariants.{Cell}
 use Rattle.dep_graph.proofs.Listing.{if_ok}
 use Rattle.kept_values.specs.Values.{links_in}
-use Rattle.kept_values.proofs.Cycles.{filtered_same, left_cyclic}
+use Rattle.kept_values.proofs.CyclicCells.{filtered_same, left_cyclic}
 use Rattle.kept_values.proofs.values.Values.on_cycle.Goals as goal
 
 pub returns : goal.returns
