@@ -55,6 +55,7 @@ impl SessionValues {
         ensures follows { (customs : List (List ℕ × Rule)) (today : ℤ) → AreFollowing customs today session.old self.old.values → AreFollowing customs today session.new self.new.values }
         ensures reads { Reads session.old session.new }
     {
+        session.names_are_nodes();
         self.link(session)?;
         match &self.values {
             Some(values) => values.on_cycle(places),
