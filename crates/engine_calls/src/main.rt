@@ -6,6 +6,7 @@ ghost use Rattle.std.specs.Prelude.{◌≤◌};
 ghost use Rattle.book_model.specs.declared.limits.TheConstants.{MAX_UNDO};
 
 mod areas;
+mod asked;
 mod cells;
 mod counted;
 mod formulas;
@@ -15,6 +16,7 @@ mod no_customs;
 mod on_heap;
 
 use areas::areas_are_read;
+use asked::{causes_are_asked, steps_are_forgotten};
 use book_engine::{Engine, Stop};
 use book_model::{BookCell, BookCells, BookSheet};
 use cell_addr::Text;
@@ -58,12 +60,14 @@ enum Calls {
     Values,
     Formulas,
     Contents,
+    Asked,
+    Forgotten,
     // Three changes, of which so many steps are to be kept; `None` where none can be undone.
     Kept(Option<usize>),
 }
 
 impl Group {
-    const ALL: [(Group, &'static str); 20] = [
+    const ALL: [(Group, &'static str); 22] = [
         (Group::Given, "begins with given sheets"),
         (Group::Limit, "steps are kept up to the limit"),
         (Group::Counted, "formulas are worked out once"),
@@ -87,6 +91,8 @@ impl Group {
         (Group::Over(Calls::Contents), "contents are given"),
         (Group::Apostrophes, "apostrophes count"),
         (Group::Written, "cells are written together"),
+        (Group::Over(Calls::Asked), "causes are asked beforehand"),
+        (Group::Over(Calls::Forgotten), "steps are forgotten"),
     ];
 
     // Whether its calls answer as they should.
@@ -121,6 +127,8 @@ impl Calls {
             Calls::Values => groups::values_follow_names(engine),
             Calls::Formulas => formulas_are_read_alone(engine),
             Calls::Contents => contents_are_given(engine),
+            Calls::Asked => causes_are_asked(engine),
+            Calls::Forgotten => steps_are_forgotten(engine),
             Calls::Kept(steps) => Ok(kept(engine)? == steps),
         }
     }
