@@ -92,4 +92,4 @@ forgotten_sound d s = record {
   where
     none_left : (batch : Option Batch) → ClearedBy batch []
     none_left None = tt
-    none_left (Some batch) changed = refl
+    none_left (Some batch) = λ changed. refl

@@ -24,17 +24,29 @@ use std::alloc::AllocError;
 #[derive(Clone, Copy, Debug)]
 pub enum Change<'a> {
     /// [`Engine::set`].
-    Set { at: Place, text: &'a str },
+    Set {
+        at: Place,
+        text: &'a str,
+    },
     /// [`Engine::clear`].
-    Clear { area: Block },
+    Clear {
+        area: Block,
+    },
     /// Rows or columns that are put in, deleted or moved, a moved block, a dropped sheet.
     Structural(Shift),
     /// [`Engine::add_sheet`].
-    AddSheet { name: &'a str },
+    AddSheet {
+        name: &'a str,
+    },
     /// [`Engine::rename_sheet`].
-    RenameSheet { sheet: u32, name: &'a str },
+    RenameSheet {
+        sheet: u32,
+        name: &'a str,
+    },
     /// [`Engine::clear_sheet`].
-    ClearSheet { sheet: u32 },
+    ClearSheet {
+        sheet: u32,
+    },
     /// [`Engine::add_name`].
     AddName {
         name: &'a str,
@@ -48,13 +60,22 @@ pub enum Change<'a> {
         text: &'a str,
     },
     /// [`Engine::remove_name`].
-    RemoveName { name: &'a str, scope: Option<u32> },
+    RemoveName {
+        name: &'a str,
+        scope: Option<u32>,
+    },
     /// [`Engine::copy`].
-    Copy { area: Block },
+    Copy {
+        area: Block,
+    },
     /// [`Engine::cut`].
-    Cut { area: Block },
+    Cut {
+        area: Block,
+    },
     /// [`Engine::paste`] of what waits now.
-    Paste { at: Place },
+    Paste {
+        at: Place,
+    },
     /// [`Engine::begin`].
     Begin,
     /// [`Engine::commit`].

@@ -95,12 +95,7 @@ impl Parts {
     }
 
     // Where a name is added.
-    pub(crate) fn check_added(
-        &self,
-        name: &str,
-        scope: Option<u32>,
-        text: &str,
-    ) -> Result<(), Stop>
+    pub(crate) fn check_added(&self, name: &str, scope: Option<u32>, text: &str) -> Result<(), Stop>
         ensures { Answered (cause (op.add_name name.now scope text.now) (state_of self.now)) (λ x. ⊤) result }
     {
         self.check_new_name(name, scope)?;

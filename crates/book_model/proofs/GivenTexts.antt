@@ -1,6 +1,6 @@
 -- The texts that give a number, a truth value or a text say just that. Serves the law of given texts, and the calls that give a
 -- cell one of these.
-use Rattle.std.proofs.Common.{◌≡◌, ◌∙◌, sym, ap, subst, refl, arith, ℕ, suc, ℤ, pos, negsuc, ◌+◌, ◌<◌, ◌≤◌, ◌&&◌, ◌/◌, ◌%◌, ◌^◌, ◌==◌, nat_lt, Bool, true, false, cond, List, [], ◌∷◌, length, take, Result, Ok, Err, eqb-true}
+use Rattle.std.proofs.Common.{◌≡◌, ◌≢◌, ◌∙◌, sym, ap, subst, refl, arith, ℕ, suc, ℤ, pos, negsuc, ◌+◌, ◌<◌, ◌≤◌, ◌&&◌, ◌/◌, ◌%◌, ◌^◌, ◌==◌, nat_lt, Bool, true, false, cond, List, [], ◌∷◌, length, take, Result, Ok, Err, eqb-true}
 use Rattle.std.proofs.lemmas.Bool.Decides.{nat_tests}
 use Rattle.std.proofs.lemmas.Fmt.{length-decimal-le}
 use Rattle.std.proofs.lemmas.List.{length-append}
@@ -116,3 +116,14 @@ number_short (negsuc n) h = let short = unsigned_short (suc n) h in not_above (s
 pub truth_short : (b : Bool) → nat_lt 8192 (length (truth_text b)) ≡ false
 truth_short true = refl
 truth_short false = refl
+
+one_more : (n most : ℕ) → n ≢ most → nat_lt most n ≡ nat_lt most (suc n)
+one_more n most other = grind (arith, nat_tests)
+
+-- whether the text that gives a text is too long shows without it, but where that text has just as many bytes as may be given
+pub text_long : (w : List ℕ) → length w ≢ 8192 → nat_lt 8192 (length w) ≡ nat_lt 8192 (length (text_given w))
+text_long w other = go (is_kept (content_of w) w)
+  where
+    go : (b : Bool) → nat_lt 8192 (length w) ≡ nat_lt 8192 (length (cond b w (39 ∷ w)))
+    go true = refl
+    go false = one_more (length w) 8192 other

@@ -38,11 +38,13 @@ fn causes_of_cells(engine: &Engine<NoCustoms>) -> Result<bool, Stop> {
         source: block(1, 1),
         to: place(5, 5),
     }))?;
-    Ok(nowhere == Some(Refusal::NoSheet)
-        && set.is_none()
-        && named == Some(Refusal::SheetNameTaken)
-        && none == Some(Refusal::BadSpan)
-        && moved.is_none())
+    Ok(
+        nowhere == Some(Refusal::NoSheet)
+            && set.is_none()
+            && named == Some(Refusal::SheetNameTaken)
+            && none == Some(Refusal::BadSpan)
+            && moved.is_none(),
+    )
 }
 
 // Of names and of their texts.
@@ -66,10 +68,12 @@ fn causes_of_names(engine: &Engine<NoCustoms>) -> Result<bool, Stop> {
         name: "tax",
         scope: None,
     })?;
-    Ok(taken == Some(Refusal::NameTaken)
-        && relative == Some(Refusal::RelativeAddress)
-        && unread == Some(Refusal::BadFormula)
-        && unknown == Some(Refusal::NoSuchName))
+    Ok(
+        taken == Some(Refusal::NameTaken)
+            && relative == Some(Refusal::RelativeAddress)
+            && unread == Some(Refusal::BadFormula)
+            && unknown == Some(Refusal::NoSuchName),
+    )
 }
 
 // Of steps, batches and what waits to be pasted.
@@ -85,12 +89,14 @@ fn causes_of_steps(engine: &mut Engine<NoCustoms>) -> Result<bool, Stop> {
     let undone = engine.cause(&Change::Undo)?;
     engine.commit()?;
     let redone = engine.cause(&Change::Redo)?;
-    Ok(nothing == Some(Refusal::NothingToPaste)
-        && copied.is_none()
-        && cut == Some(Refusal::BadSpan)
-        && open == Some(Refusal::BatchOpen)
-        && undone == Some(Refusal::BatchOpen)
-        && redone == Some(Refusal::NothingToRedo))
+    Ok(
+        nothing == Some(Refusal::NothingToPaste)
+            && copied.is_none()
+            && cut == Some(Refusal::BadSpan)
+            && open == Some(Refusal::BatchOpen)
+            && undone == Some(Refusal::BatchOpen)
+            && redone == Some(Refusal::NothingToRedo),
+    )
 }
 
 // Steps are forgotten, those of an open batch apart, and the workbook stays.

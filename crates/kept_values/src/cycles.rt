@@ -51,11 +51,7 @@ fn set_of(alloc: Global, nodes: &[Node]) -> Result<IndexSet<Node>, AllocError>
 }
 
 // Those of the places whose cells aren't in the set.
-fn left_out(
-    alloc: Global,
-    set: &IndexSet<Node>,
-    places: &[Place],
-) -> Result<Vec<Place>, AllocError>
+fn left_out(alloc: Global, set: &IndexSet<Node>, places: &[Place]) -> Result<Vec<Place>, AllocError>
     ensures { IfOk result (λ left. left.items ≡ filter (λ p. not (has (Cell p) set.now.keys)) places.now) }
 {
     let mut left = Vec::new(alloc);

@@ -18,6 +18,8 @@ filled_after-requires-clause-few c = c.requires.fits.book.count
 pub returns-clause-cause : goal.returns-clause-cause
 returns-clause-cause c =
     let d = state_of c.args.self.now in
-    let after = with_copy c.args.area (contents_copied c.args.cells.now) c.args.at d.book in
-    (three-none (not (has_sheet d.book c.args.at.sheet)) (is_block_outside (destination c.args.area c.args.at)) (nat_lt 1000000 (fin.len after.cells)) NoSheet Outside CellLimit c.in_ok-check_there.ensures
-    (few-enough c.in_ok-filled_after.field-0 (fin.len after.cells) (sym c.in_ok-filled_after.ensures) c.if-branch-gt-MAX_CELLS.false), tt)
+    let after = with_copy c.args.area (contents_copied c.args.cells.now) c.args.at d.book in (
+      three-none (not (has_sheet d.book c.args.at.sheet)) (is_block_outside (destination c.args.area c.args.at)) (nat_lt 1000000 (fin.len after.cells)) NoSheet Outside CellLimit c.in_ok-check_there.ensures
+          (few-enough c.in_ok-filled_after.field-0 (fin.len after.cells) (sym c.in_ok-filled_after.ensures) c.if-branch-gt-MAX_CELLS.false),
+      tt,
+    )
