@@ -274,7 +274,7 @@ typedef struct fz_name {
 
 /* All names: those of the whole workbook, then those of each sheet by its number, within a scope by the bytes of words. */
 fz_status fz_names(fz_book *book, fz_name *names, size_t name_room, char *words, size_t words_size, fz_sizes *sizes);
-/* The text of the formula of a scope's own name, when fz_add_name or fz_change_name is given it. */
+/* The text of the formula of a scope's own name, which fz_add_name and fz_change_name take. */
 fz_status fz_name_text(fz_book *book, const char *name, size_t name_length, uint32_t scope, char *room, size_t size,
                        size_t *length);
 /* The text that fz_formula answers of a cell of the sheet that is given the formula of the text, without being in a cell. */
