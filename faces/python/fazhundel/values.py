@@ -44,6 +44,18 @@ class Fault(IntEnum):
     ERROR = 8
 
 
+class Kind(IntEnum):
+    """What kind of content a cell has."""
+
+    EMPTY = 0
+    NUMBER = 1
+    TEXT = 2
+    TRUTH = 3
+    FORMULA = 5
+    #: A formula that has no tree, kept as its text.
+    UNREADABLE = 6
+
+
 #: What a cell shows: None where it is empty.
 Value = Union[None, Decimal, str, bool, Fault]
 
