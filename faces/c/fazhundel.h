@@ -77,7 +77,8 @@ enum {
     FZ_NOT_UTF8 = 67,           /* bytes that were to be a text aren't UTF-8 */
     FZ_BAD_LIMIT = 68,          /* more than 1,000 steps were to be undone */
     FZ_BAD_TABLE = 69,          /* the rules aren't those of custom functions */
-    FZ_STILL_OPEN = 70          /* the book holds a workbook already */
+    FZ_STILL_OPEN = 70,         /* the book holds a workbook already */
+    FZ_BAD_NUMBER = 71          /* a number is 10^12 or more in absolute value */
 };
 
 /* A number that no sheet has: as a scope, the whole workbook. */
@@ -126,6 +127,13 @@ bool fz_is_open(const fz_book *book);
 
 /* Gives a cell the content that the text says: nothing, a formula behind =, a number, TRUE or FALSE, or a text. */
 fz_status fz_set(fz_book *book, uint32_t sheet, uint32_t row, uint32_t col, const char *text, size_t length);
+/* Gives a cell a number of so many millionths, without a text. FZ_BAD_NUMBER. */
+fz_status fz_set_number(fz_book *book, uint32_t sheet, uint32_t row, uint32_t col, int64_t millionths);
+/* Gives a cell a truth value. */
+fz_status fz_set_truth(fz_book *book, uint32_t sheet, uint32_t row, uint32_t col, bool truth);
+/* Gives a cell this text as it is, which needs no apostrophe: 007 stays three characters, =A1 is no formula, and no bytes are
+ * a text too. The apostrophe that fz_content answers in front of such a text counts among the 8,192 bytes. */
+fz_status fz_set_text(fz_book *book, uint32_t sheet, uint32_t row, uint32_t col, const char *text, size_t length);
 /* Empties the cells of a block. */
 fz_status fz_clear(fz_book *book, uint32_t sheet, uint32_t top, uint32_t left, uint32_t bottom, uint32_t right);
 /* Puts so many rows or columns before one of the sheet. */
@@ -162,6 +170,8 @@ fz_status fz_cut(fz_book *book, uint32_t sheet, uint32_t top, uint32_t left, uin
 fz_status fz_clear_clipboard(fz_book *book);
 fz_status fz_undo(fz_book *book);
 fz_status fz_redo(fz_book *book);
+/* Forgets the steps that can be undone and done again; an open batch stays open. Nothing refuses it. */
+fz_status fz_clear_history(fz_book *book);
 /* The changes from begin to commit are one step; values aren't answered in between. */
 fz_status fz_begin(fz_book *book);
 fz_status fz_commit(fz_book *book);
@@ -312,6 +322,9 @@ fz_status fz_precedents(fz_book *book, uint32_t sheet, uint32_t row, uint32_t co
 /* The cells and then the names whose formulas need a cell. */
 fz_status fz_dependents(fz_book *book, uint32_t sheet, uint32_t row, uint32_t col, fz_link *links, size_t link_room,
                         char *words, size_t words_size, fz_counts *counts);
+/* The cells of a sheet that are on a cycle, row by row, and how many there are: those whose needs lead back to them. A cell
+ * that only reads one of these isn't among them. */
+fz_status fz_on_cycle(fz_book *book, uint32_t sheet, fz_place *places, size_t place_room, size_t *count);
 
 /* What a workbook is in. Of a book that holds none: false, an empty clipboard, no sheets. */
 

@@ -72,6 +72,68 @@ static void cells_and_values(void)
     fz_close(&book);
 }
 
+/* The kind of a cell's content, or 9. */
+static uint32_t kind_of(fz_book *book, uint32_t row, uint32_t col)
+{
+    uint32_t kind = 9;
+    fz_kind(book, 0, row, col, &kind);
+    return kind;
+}
+
+/* Whether the cell holds a text, shows it, and is given it by another one. */
+static bool holds_text(fz_book *book, uint32_t row, uint32_t col, const char *text, const char *given)
+{
+    char room[16];
+    size_t length = 99;
+    return kind_of(book, row, col) == FZ_TEXT && shows(book, row, col, text)
+        && fz_content(book, 0, row, col, room, sizeof room, &length) == FZ_DONE && length == strlen(given)
+        && memcmp(room, given, length) == 0;
+}
+
+/* Numbers and truth values come to cells without a text, each as a step. */
+static void numbers_and_truths_are_given(void)
+{
+    fz_book book = opened();
+    CHECK(fz_set_number(&book, 0, 0, 0, -1500000) == FZ_DONE && shows(&book, 0, 0, "-1.5"));
+    CHECK(kind_of(&book, 0, 0) == FZ_NUMBER && fz_set_number(&book, 0, 0, 0, 1) == FZ_DONE && shows(&book, 0, 0, "0.000001"));
+    CHECK(fz_undo(&book) == FZ_DONE && shows(&book, 0, 0, "-1.5"));
+    CHECK(fz_set_number(&book, 0, 0, 1, 999999999999999999) == FZ_DONE && shows(&book, 0, 1, "999999999999.999999"));
+    CHECK(fz_set_number(&book, 0, 0, 1, -999999999999999999) == FZ_DONE && shows(&book, 0, 1, "-999999999999.999999"));
+    CHECK(fz_set_number(&book, 0, 0, 1, 1000000000000000000) == FZ_BAD_NUMBER);
+    CHECK(fz_set_number(&book, 0, 0, 1, -1000000000000000000) == FZ_BAD_NUMBER);
+    CHECK(fz_set_number(&book, 0, 0, 1, INT64_MAX) == FZ_BAD_NUMBER);
+    CHECK(fz_set_number(&book, 0, 0, 1, INT64_MIN) == FZ_BAD_NUMBER && shows(&book, 0, 1, "-999999999999.999999"));
+    CHECK(fz_set_number(&book, 5, 0, 0, 0) == FZ_NO_SHEET && fz_set_number(&book, 0, 1048576, 0, 0) == FZ_OUTSIDE);
+    CHECK(fz_set_truth(&book, 0, 1, 0, true) == FZ_DONE && shows(&book, 1, 0, "TRUE"));
+    CHECK(fz_set_truth(&book, 0, 1, 0, false) == FZ_DONE && shows(&book, 1, 0, "FALSE") && kind_of(&book, 1, 0) == FZ_TRUTH);
+    CHECK(fz_set_truth(&book, 5, 0, 0, true) == FZ_NO_SHEET && fz_set_truth(&book, 0, 0, 18278, true) == FZ_OUTSIDE);
+    CHECK(fz_undo(&book) == FZ_DONE && shows(&book, 1, 0, "TRUE"));
+    fz_close(&book);
+}
+
+/* A text comes to a cell as it is, whatever it looks like, and the apostrophe that it needs counts as a byte of it. */
+static void texts_are_given(void)
+{
+    static char many[8193];
+    fz_book book = opened();
+    size_t length = 9;
+    CHECK(fz_set_text(&book, 0, 0, 0, "tax", 3) == FZ_DONE && holds_text(&book, 0, 0, "tax", "tax"));
+    CHECK(fz_set_text(&book, 0, 0, 0, "007", 3) == FZ_DONE && holds_text(&book, 0, 0, "007", "'007"));
+    CHECK(fz_set_text(&book, 0, 0, 1, "=A1", 3) == FZ_DONE && holds_text(&book, 0, 1, "=A1", "'=A1") && reads(&book, 0, 1, ""));
+    CHECK(fz_set_text(&book, 0, 0, 2, "true", 4) == FZ_DONE && holds_text(&book, 0, 2, "true", "'true"));
+    CHECK(fz_set_text(&book, 0, 0, 3, "'tis", 4) == FZ_DONE && holds_text(&book, 0, 3, "'tis", "''tis"));
+    CHECK(fz_set_text(&book, 0, 0, 4, NULL, 0) == FZ_DONE && holds_text(&book, 0, 4, "", "'"));
+    CHECK(fz_undo(&book) == FZ_DONE && kind_of(&book, 0, 4) == FZ_EMPTY);
+    memset(many, 'x', sizeof many);
+    CHECK(fz_set_text(&book, 0, 1, 0, many, 8193) == FZ_TEXT_LIMIT && fz_set_text(&book, 0, 1, 0, many, 8192) == FZ_DONE);
+    CHECK(fz_content(&book, 0, 1, 0, NULL, 0, &length) == FZ_NO_ROOM && length == 8192);
+    many[0] = '=';
+    CHECK(fz_set_text(&book, 0, 1, 0, many, 8192) == FZ_TEXT_LIMIT && fz_set_text(&book, 0, 1, 0, many, 8191) == FZ_DONE);
+    CHECK(fz_content(&book, 0, 1, 0, NULL, 0, &length) == FZ_NO_ROOM && length == 8192);
+    CHECK(fz_set_text(&book, 5, 0, 0, "x", 1) == FZ_NO_SHEET && fz_set_text(&book, 0, 1048576, 0, "x", 1) == FZ_OUTSIDE);
+    fz_close(&book);
+}
+
 /* The room is tested before anything is written, and the length that is needed is told. */
 static void short_rooms(void)
 {
@@ -152,6 +214,21 @@ static void steps_and_batches(void)
     fz_close(&book);
 }
 
+/* Both lists of steps are forgotten, but not an open batch. */
+static void history_is_cleared(void)
+{
+    fz_book book = opened();
+    CHECK(set(&book, 0, 0, "1") == FZ_DONE && set(&book, 0, 0, "2") == FZ_DONE && fz_undo(&book) == FZ_DONE);
+    CHECK(fz_can_undo(&book) && fz_can_redo(&book) && fz_clear_history(&book) == FZ_DONE);
+    CHECK(!fz_can_undo(&book) && !fz_can_redo(&book) && shows(&book, 0, 0, "1"));
+    CHECK(fz_undo(&book) == FZ_NOTHING_TO_UNDO && fz_redo(&book) == FZ_NOTHING_TO_REDO);
+    CHECK(fz_clear_history(&book) == FZ_DONE && fz_begin(&book) == FZ_DONE && set(&book, 0, 0, "3") == FZ_DONE);
+    CHECK(fz_clear_history(&book) == FZ_DONE && fz_has_batch(&book) && fz_commit(&book) == FZ_DONE);
+    CHECK(shows(&book, 0, 0, "3") && fz_undo(&book) == FZ_DONE && shows(&book, 0, 0, "1") && !fz_can_undo(&book));
+    CHECK(fz_suspend(&book) == FZ_DONE && fz_clear_history(&book) == FZ_DONE && !fz_can_redo(&book));
+    fz_close(&book);
+}
+
 static void blocks_are_pasted(void)
 {
     fz_book book = opened();
@@ -181,6 +258,33 @@ static void links_are_listed(void)
     CHECK(fz_dependents(&book, 0, 0, 0, links, 3, words, sizeof words, &counts) == FZ_DONE);
     CHECK(counts.links == 2 && links[0].kind == FZ_LINK_CELL && links[0].top == 2 && links[1].kind == FZ_LINK_NAME);
     CHECK(fz_dependents(&book, 0, 9, 9, NULL, 0, NULL, 0, &counts) == FZ_DONE && counts.links == 0 && counts.words == 0);
+    fz_close(&book);
+}
+
+/* The cells on a cycle, and not those that only read one; also where values aren't answered. */
+static void cycles_are_listed(void)
+{
+    fz_book book = opened();
+    fz_place places[4] = {{9, 9}, {9, 9}, {9, 9}, {9, 9}};
+    size_t count = 9;
+    uint32_t number;
+    CHECK(fz_on_cycle(&book, 0, NULL, 0, &count) == FZ_DONE && count == 0);
+    CHECK(set(&book, 0, 0, "=B1+1") == FZ_DONE && set(&book, 0, 1, "=A1") == FZ_DONE && set(&book, 0, 2, "=A1") == FZ_DONE);
+    CHECK(set(&book, 2, 1, "=SUM(B3:B4)") == FZ_DONE && set(&book, 3, 1, "7") == FZ_DONE);
+    CHECK(fz_on_cycle(&book, 0, NULL, 0, &count) == FZ_NO_ROOM && count == 3);
+    count = 9;
+    CHECK(fz_on_cycle(&book, 0, places, 2, &count) == FZ_NO_ROOM && count == 3 && places[0].row == 9 && places[1].col == 9);
+    CHECK(fz_on_cycle(&book, 0, places, 3, &count) == FZ_DONE && count == 3 && places[3].row == 9 && places[3].col == 9);
+    CHECK(places[0].row == 0 && places[0].col == 0 && places[1].row == 0 && places[1].col == 1);
+    CHECK(places[2].row == 2 && places[2].col == 1 && shows(&book, 2, 1, "#CYCLE!") && shows(&book, 0, 2, "#CYCLE!"));
+    CHECK(fz_add_sheet(&book, "Two", 3, &number) == FZ_DONE);
+    CHECK(fz_on_cycle(&book, number, places, 4, &count) == FZ_DONE && count == 0);
+    CHECK(set(&book, 0, 1, "2") == FZ_DONE && fz_suspend(&book) == FZ_DONE);
+    CHECK(fz_on_cycle(&book, 0, places, 4, &count) == FZ_DONE && count == 1 && places[0].row == 2 && places[0].col == 1);
+    CHECK(fz_resume(&book) == FZ_DONE && fz_begin(&book) == FZ_DONE && set(&book, 2, 1, "2") == FZ_DONE);
+    CHECK(fz_on_cycle(&book, 0, NULL, 0, &count) == FZ_DONE && count == 0);
+    count = 9;
+    CHECK(fz_on_cycle(&book, 5, places, 4, &count) == FZ_NO_SHEET && count == 9 && places[0].row == 2);
     fz_close(&book);
 }
 
@@ -364,6 +468,7 @@ static void bytes_that_are_no_text(void)
     size_t length = 7;
     fz_sizes sizes = {7, 7};
     CHECK(fz_set(&book, 0, 0, 0, "\xff", 1) == FZ_NOT_UTF8 && !shows(&book, 0, 0, "\xff"));
+    CHECK(fz_set_text(&book, 0, 0, 0, "\xff", 1) == FZ_NOT_UTF8 && shows(&book, 0, 0, ""));
     CHECK(fz_add_sheet(&book, "\xc3", 1, &number) == FZ_NOT_UTF8 && number == 9);
     CHECK(fz_rename_sheet(&book, 0, "\xc3", 1) == FZ_NOT_UTF8);
     CHECK(fz_add_name(&book, "a\xff", 2, FZ_WORKBOOK, "=1", 2) == FZ_NOT_UTF8);
@@ -392,6 +497,9 @@ static void closed_books(void)
     CHECK(sizeof book == 16 && !fz_is_open(&book));
     fz_close(&book);
     CHECK(set(&book, 0, 0, "1") == FZ_NOT_OPEN && fz_undo(&book) == FZ_NOT_OPEN && fz_suspend(&book) == FZ_NOT_OPEN);
+    CHECK(fz_set_number(&book, 0, 0, 0, 1) == FZ_NOT_OPEN && fz_set_truth(&book, 0, 0, 0, true) == FZ_NOT_OPEN);
+    CHECK(fz_set_text(&book, 0, 0, 0, "1", 1) == FZ_NOT_OPEN && fz_clear_history(&book) == FZ_NOT_OPEN);
+    CHECK(fz_on_cycle(&book, 0, NULL, 0, &length) == FZ_NOT_OPEN && length == 7);
     CHECK(fz_add_sheet(&book, "Plan", 4, &number) == FZ_NOT_OPEN && number == 7);
     CHECK(fz_value(&book, 0, 0, 0, NULL, 0, &value) == FZ_NOT_OPEN && value.kind == 7);
     CHECK(fz_formula(&book, 0, 0, 0, NULL, 0, &length) == FZ_NOT_OPEN && length == 7);
@@ -421,12 +529,16 @@ static void closed_books(void)
 int main(void)
 {
     cells_and_values();
+    numbers_and_truths_are_given();
+    texts_are_given();
     short_rooms();
     formulas_follow();
     sheets_and_names();
     steps_and_batches();
+    history_is_cleared();
     blocks_are_pasted();
     links_are_listed();
+    cycles_are_listed();
     areas_are_told();
     cells_are_listed();
     names_are_listed();
