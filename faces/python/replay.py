@@ -107,7 +107,7 @@ def lines(edit: str, column: bool) -> Callable:
 
 # What each command asks of the face.
 ANSWERS: Dict[str, Callable] = {
-    "set": lambda f, to, text: f.book.set(f.place(to), text),
+    "set": lambda f, to, text: given(f, f.place(to), text),
     "clear": lambda f, area: f.book.clear(f.block(area)),
     **{f"{what}-rows": lines(f"{what}_rows", False) for what in ("insert", "delete", "move")},
     **{f"{what}-cols": lines(f"{what}_cols", True) for what in ("insert", "delete", "move")},
@@ -167,6 +167,18 @@ def content(face: Face, of: Place) -> str:
     return text
 
 
+def given(face: Face, to: Place, text: str) -> None:
+    """Gives a cell what a text says: in every other row by the call for its kind, where it is no formula."""
+    if to.row % 2 == 0 or text == "" or text[0] == "=":
+        face.book.set(to, text)
+    elif text.lstrip("-")[:1].isdigit():
+        face.book.set_number(to, Decimal(text))
+    elif text == "TRUE":
+        face.book.set_truth(to, True)
+    else:
+        face.book.set_text(to, text[1:] if text[0] == "'" else text)
+
+
 def named(face: Face, word: str, scope: Optional[int], text: str) -> None:
     """Adds a name, which is listed then, and whose text uses names or not."""
     face.book.add_name(word, text, scope)
@@ -182,14 +194,21 @@ def resumed(face: Face) -> None:
 
 
 def left(face: Face) -> None:
-    """Looks over the workbook at the end: each sheet is used as far as its cells are filled, and the clipboard is emptied."""
+    """Looks over the workbook at the end: each sheet is used as far as its cells are filled, and those on a cycle show it.
+
+    The clipboard is emptied and the history forgotten.
+    """
     face.book.clear_clipboard()
-    assert face.book.is_clipboard_empty()
+    face.book.clear_history()
+    assert face.book.is_clipboard_empty() and not face.book.can_undo() and not face.book.can_redo()
+    is_shown = not face.book.is_suspended() and not face.book.has_batch()
     for sheet in face.book.sheets():
         places, area = face.book.filled_in(sheet), face.book.used_area(sheet)
         rows, cols = [place.row for place in places], [place.col for place in places]
         assert area == (Block(sheet, min(rows), min(cols), max(rows), max(cols)) if places else None), area
         assert area is None or list(face.book.contents(area)) == places, places
+        cyclic = face.book.on_cycle(sheet)
+        assert not is_shown or all(face.book.value(at) is Fault.CYCLE for at in cyclic), cyclic
 
 
 def main() -> None:

@@ -2,6 +2,7 @@
 from contextlib import contextmanager
 from ctypes import byref, c_size_t, c_uint32, create_string_buffer
 from datetime import date
+from decimal import Decimal
 from threading import get_ident
 from typing import Callable, Dict, Iterator, List, Mapping, Optional, Tuple, Union
 
@@ -9,7 +10,7 @@ from . import library
 from .library import CALLED, NO_NUMBER
 from .rules import Bands, Tiers, table
 from .statuses import NO_ROOM, check
-from .values import Block, Fault, Kind, Link, Name, Place, Value, decimal
+from .values import Block, Fault, Kind, Link, Name, Place, Value, decimal, millionths
 
 # The day whose serial number is 0.
 DAY_0 = date(1899, 12, 30)
@@ -51,6 +52,18 @@ class Workbook:
     def set(self, at: Place, text: str) -> None:
         """Gives a cell the content that the text says."""
         self._do("set", *at, *_text(text))
+
+    def set_number(self, at: Place, number: Union[Decimal, int]) -> None:
+        """Gives a cell a number of at most six places, below 10^12 in absolute value."""
+        self._do("set_number", *at, millionths(number))
+
+    def set_truth(self, at: Place, truth: bool) -> None:
+        """Gives a cell a truth value."""
+        self._do("set_truth", *at, truth)
+
+    def set_text(self, at: Place, text: str) -> None:
+        """Gives a cell this text as it is, which needs no apostrophe: `007` stays three characters, `=A1` is no formula."""
+        self._do("set_text", *at, *_text(text))
 
     def clear(self, area: Block) -> None:
         """Empties the cells of a block."""
@@ -171,6 +184,10 @@ class Workbook:
     def redo(self) -> None:
         """Does the step again that was taken back last."""
         self._do("redo")
+
+    def clear_history(self) -> None:
+        """Forgets the steps that can be undone and done again; an open batch stays open."""
+        self._do("clear_history")
 
     def can_undo(self) -> bool:
         """Whether undo would be accepted now."""
@@ -303,6 +320,10 @@ class Workbook:
     def dependents(self, at: Place) -> List[Link]:
         """The cells and then the names whose formulas need a cell."""
         return self._links("dependents", at)
+
+    def on_cycle(self, sheet: int) -> List[Place]:
+        """The cells of a sheet that are on a cycle, row by row: those whose needs lead back to them."""
+        return self._places("on_cycle", sheet, sheet)
 
     # The calls of the library.
 
