@@ -323,7 +323,7 @@ fz_status fz_precedents(fz_book *book, uint32_t sheet, uint32_t row, uint32_t co
 fz_status fz_dependents(fz_book *book, uint32_t sheet, uint32_t row, uint32_t col, fz_link *links, size_t link_room,
                         char *words, size_t words_size, fz_counts *counts);
 /* The cells of a sheet that are on a cycle, row by row, and how many there are: those whose needs lead back to them. A cell
- * that only reads one of these isn't among them. */
+ * that only reads one of these isn't among them. They are told in a batch and suspended too. FZ_NO_SHEET. */
 fz_status fz_on_cycle(fz_book *book, uint32_t sheet, fz_place *places, size_t place_room, size_t *count);
 
 /* What a workbook is in. Of a book that holds none: false, an empty clipboard, no sheets. */

@@ -132,9 +132,9 @@ export class Workbook {
   /** Gives a cell the content that the text says: nothing, a formula behind =, a number, TRUE or FALSE, or a text. */
   set(at: Place, text: string): void;
   /** Gives a cell a number, in millionths or as a decimal text: 10500000n and '10.5' are the same. RangeError where it is 10^12 or
-   * more in absolute value, or the text spells no number. */
+   * more in absolute value, or the text spells no number; else it throws as set does. */
   setNumber(at: Place, number: bigint | string): void;
-  /** Gives a cell a truth value. */
+  /** Gives a cell a truth value. It throws as set does. */
   setTruth(at: Place, truth: boolean): void;
   /** Gives a cell this text as it is, which needs no apostrophe: '007' stays three characters, '=A1' is no formula. The apostrophe
    * that content answers in front of such a text counts among the 8,192 bytes that a text may have. */
@@ -188,7 +188,7 @@ export class Workbook {
   removeName(name: string, scope?: number | null): void;
   /** All names: those of the whole workbook, then those of each sheet by its number, within a scope by the bytes of their words. */
   names(): Name[];
-  /** The text of the formula of the scope's own name, which addName takes. */
+  /** The text of the formula of the scope's own name, which addName takes. Throws NoSheet, NoSuchName. */
   nameText(name: string, scope?: number | null): string;
   /** What a name shows that the word finds on the sheet. */
   nameValue(name: string, sheet: number): Value;
@@ -241,7 +241,8 @@ export class Workbook {
    * is as before. */
   settleIdle(budget: number): boolean;
 
-  // Areas. A cell is filled where it has a content, also a formula that shows nothing.
+  // Areas. A cell is filled where it has a content, also a formula that shows nothing. These calls throw NoSheet, those of a place
+  // or a block Outside, and values Suspended, as a value does.
 
   /** What kind of content a cell has. */
   kind(at: Place): Kind;
@@ -265,10 +266,11 @@ export class Workbook {
   valueText(at: Place): string;
   /** What the formula of the text would show in the first cell of the sheet, without being in a cell. */
   tryFormula(sheet: number, text: string): Value;
-  /** The text that formula answers of a cell of the sheet that is given the formula of the text, without being in a cell. */
+  /** The text that formula answers of a cell of the sheet that is given the formula of the text, without being in a cell. Throws
+   * NoSheet, TextLimit, BadFormula. */
   normalText(sheet: number, text: string): string;
   /** The words in capitals that the formula of the text uses as names, in its order and each once, also where there is no such
-   * name. */
+   * name. It throws likewise. */
   namesIn(sheet: number, text: string): string[];
   /** The text of a cell's formula, or null. */
   formula(at: Place): string | null;
@@ -279,6 +281,6 @@ export class Workbook {
   /** The cells and then the names whose formulas need a cell. */
   dependents(at: Place): Link[];
   /** The cells of a sheet that are on a cycle, row by row: those whose needs lead back to them. A cell that only reads one of these
-   * isn't among them. */
+   * isn't among them. They are told in a batch and suspended too. Throws NoSheet. */
   onCycle(sheet: number): Place[];
 }

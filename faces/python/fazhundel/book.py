@@ -322,7 +322,7 @@ class Workbook:
         return self._links("dependents", at)
 
     def on_cycle(self, sheet: int) -> List[Place]:
-        """The cells of a sheet that are on a cycle, row by row: those whose needs lead back to them."""
+        """The cells of a sheet on a cycle, row by row: those whose needs lead back to them, and none that only reads one."""
         return self._places("on_cycle", sheet, sheet)
 
     # The calls of the library.

@@ -58,12 +58,12 @@ impl Workbook {
         self.book.set(at, text)
     }
 
-    /// Gives a cell a number.
+    /// Gives a cell a number, and is refused as [`set`](Workbook::set) is.
     pub fn set_number(&mut self, at: Place, number: Number) -> Result<(), Error> {
         self.book.set_number(at, number)
     }
 
-    /// Gives a cell a truth value.
+    /// Gives a cell a truth value, likewise.
     pub fn set_truth(&mut self, at: Place, truth: bool) -> Result<(), Error> {
         self.book.set_truth(at, truth)
     }
@@ -186,15 +186,15 @@ impl Workbook {
     }
 }
 
-/// Named expressions, in the scope of a sheet, or of the whole workbook where there is no scope. Adding, changing and taking one
-/// away is a step of undo, or a part of the open batch's.
+/// Named expressions, in the scope of a sheet, or of the whole workbook where there is no scope. Adding, changing and taking
+/// one away is a step of undo, or a part of the open batch's.
 impl Workbook {
     /// All names: those of the whole workbook, then those of each sheet by its number, within a scope by the bytes of their words.
     pub fn names(&self) -> Result<Vec<Name>, Error> {
         self.book.names()
     }
 
-    /// The text of the formula of the scope's own name, which [`add_name`](Workbook::add_name) takes.
+    /// The text of the formula of the scope's own name, which [`add_name`](Workbook::add_name) takes. `NoSheet`, `NoSuchName`.
     pub fn name_text(&self, name: &str, scope: Option<u32>) -> Result<String, Error> {
         self.book.name_text(name, scope_number(scope))
     }
@@ -362,7 +362,8 @@ impl Workbook {
     }
 }
 
-/// Areas. A cell is filled where it has a content, also a formula that shows nothing.
+/// Areas. A cell is filled where it has a content, also a formula that shows nothing. These calls are refused with `NoSheet`,
+/// those of a place or a block with `Outside`, and `values` with `Suspended`, as a value is.
 impl Workbook {
     /// What kind of content a cell has.
     pub fn kind(&self, at: Place) -> Result<Kind, Error> {
@@ -384,8 +385,8 @@ impl Workbook {
         self.book.used_area(sheet)
     }
 
-    /// What the filled cells of a block show, row by row: of a whole sheet those of its [`used_area`](Workbook::used_area). One such
-    /// call takes far less time than to ask cell by cell.
+    /// What the filled cells of a block show, row by row: of a whole sheet those of its [`used_area`](Workbook::used_area). One
+    /// such call takes far less time than to ask cell by cell.
     pub fn values(&self, area: Block) -> Result<Vec<(Place, Value)>, Error> {
         self.book.values(area)
     }
@@ -414,13 +415,13 @@ impl Workbook {
     }
 
     /// The text that [`formula`](Workbook::formula) answers of a cell of the sheet that is given the formula of the text, without
-    /// being in a cell.
+    /// being in a cell. `NoSheet`, `TextLimit`, `BadFormula`.
     pub fn normal_text(&self, sheet: u32, text: &str) -> Result<String, Error> {
         self.book.normal_text(sheet, text)
     }
 
     /// The words in capitals that the formula of the text uses as names, in its order and each once, also where there is no such
-    /// name.
+    /// name. It is refused likewise.
     pub fn names_in(&self, sheet: u32, text: &str) -> Result<Vec<String>, Error> {
         self.book.names_in(sheet, text)
     }
@@ -447,7 +448,7 @@ impl Workbook {
     }
 
     /// The cells of a sheet that are on a cycle, row by row: those whose needs lead back to them. A cell that only reads one of
-    /// these isn't among them.
+    /// these isn't among them. They are told in a batch and suspended too. `NoSheet`.
     pub fn on_cycle(&self, sheet: u32) -> Result<Vec<Place>, Error> {
         self.book.on_cycle(sheet)
     }
