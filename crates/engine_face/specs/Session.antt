@@ -60,8 +60,8 @@ abbrev pub Stays : Session → Session → Type 0
 Stays old new = (d : State) → Stands old d → Stands new d
 
 -- idle time is spent: each formula is kept as it was or as of the cursor, and all together went on over so many operations at most, and
--- each that lags still has more before it than are left of these; or there was no memory
-abbrev pub Settles : ℕ → Session → Session → Status → Type 0
+-- each that lags still has more before it than are left of these; or there was no memory. Who calls the session never looks inside
+unfoldable pub Settles : ℕ → Session → Session → Status → Type 0
 Settles budget old new Done = ComeToCursor old.engine new.engine × GoOnWithin budget old.engine new.engine
 Settles budget old new NoMemory = ⊤
 Settles budget old new status = ⊥

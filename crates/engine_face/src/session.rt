@@ -236,6 +236,7 @@ impl Session {
 
     /// Spends idle time on formulas that lag behind, as [`Engine::settle_idle`]: tells 1 where none is left, else 0. For want
     /// of memory nothing is told.
+    #[tactic(auto, unfolding(crate::specs::Session::Settles))]
     pub fn settle_idle(&mut self, budget: u64, none_left: &mut u32) -> Status
         ensures stays { Stays self.old self.new }
         ensures does { Settles budget self.old self.new result }

@@ -1,6 +1,8 @@
+use Rattle.engine_face.specs.Session.{Settles}
 use Rattle.engine_face.proofs.session.Session.settle_idle.Goals as goal
 
 pub returns-in-Ok-clause-does : goal.returns-in-Ok-clause-does
+unfolding Settles
 returns-in-Ok-clause-does c = (c.in-Ok.ensures.placed, c.in-Ok.ensures.budget)
 
 pub returns-in-Ok-clause-told : goal.returns-in-Ok-clause-told
