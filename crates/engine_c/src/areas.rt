@@ -3,7 +3,7 @@ ghost use Rattle.std.specs.Prelude.{◌≡◌, ◌&&◌, None, length, true};
 ghost use Rattle.book_model.specs.Operation as op;
 ghost use Rattle.book_model.specs.Refusals.{cause};
 ghost use Rattle.area_reads.specs.Reads.{values_cause};
-ghost use Rattle.engine_face.specs.Areas.{SaysUsed, kind_at, rows_in_block, rows_on_sheet};
+ghost use Rattle.engine_face.specs.Areas.{SaysUsed, kind_at, rows_in_block, rows_on_cycle, rows_on_sheet};
 ghost use Rattle.engine_face.specs.Lists.{content_rows, content_texts, list_sizes, value_rows, value_texts};
 ghost use Rattle.engine_face.specs.Session.{Finds, Tells, Told, Wrote};
 ghost use Rattle.engine_face.specs.Shown.{fits};
@@ -83,6 +83,28 @@ pub extern "C" fn fz_filled_in(
         return Status::NotOpen.number();
     };
     let status = session.filled_in(sheet, rows, count);
+    book.put(session);
+    status.number()
+}
+
+/// The cells of a sheet that are on a cycle, and how many there are.
+#[unsafe(no_mangle)]
+pub extern "C" fn fz_on_cycle(
+    book: &mut Book,
+    sheet: u32,
+    rows: &mut [PlaceRow],
+    count: &mut usize,
+) -> u8
+    ensures does { Over (Finds (cause (op.clear_sheet sheet)) (λ d. fits (rows_on_cycle sheet d) rows.old)) book.old.handle.value book.new.handle.value (status_numbered result) }
+    ensures wrote { Over (λ old new status. Wrote (rows_on_cycle sheet) rows.old rows.new old status) book.old.handle.value book.new.handle.value (status_numbered result) }
+    ensures told { Over (λ old new status. Told (λ d. length (rows_on_cycle sheet d)) count.old count.new old status) book.old.handle.value book.new.handle.value (status_numbered result) }
+    ensures unwritten { book.old.handle.value ≡ None → rows.new ≡ rows.old }
+    ensures untold { book.old.handle.value ≡ None → count.new ≡ count.old }
+{
+    let Some(mut session) = book.take() else {
+        return Status::NotOpen.number();
+    };
+    let status = session.on_cycle(sheet, rows, count);
     book.put(session);
     status.number()
 }

@@ -1,7 +1,7 @@
 // Steps of undo, batches, suspended evaluation, and idle time.
 ghost use Rattle.std.specs.Prelude.{◌≡◌, None};
 ghost use Rattle.book_model.specs.Operation as op;
-ghost use Rattle.engine_face.specs.Session.{Asks, AsksAlways, SettledTold, Settles, Stays};
+ghost use Rattle.engine_face.specs.Session.{Asks, AsksAlways, Forgets, SettledTold, Settles, Stays};
 ghost use Rattle.engine_face.specs.Status.{status_numbered};
 ghost use Rattle.engine_face.specs.declared.status.Status.TheVariants.{Done};
 ghost use Rattle.engine_c.specs.Calls.{Over};
@@ -85,6 +85,20 @@ pub extern "C" fn fz_resume(book: &mut Book) -> u8
         return Status::NotOpen.number();
     };
     session.resume();
+    book.put(session);
+    Status::Done.number()
+}
+
+/// Forgets the steps that can be undone and done again.
+#[unsafe(no_mangle)]
+pub extern "C" fn fz_clear_history(book: &mut Book) -> u8
+    ensures does { Over (λ old new status. Forgets old new) book.old.handle.value book.new.handle.value (status_numbered result) }
+    ensures done { Over (λ old new status. status ≡ Done) book.old.handle.value book.new.handle.value (status_numbered result) }
+{
+    let Some(mut session) = book.take() else {
+        return Status::NotOpen.number();
+    };
+    session.clear_history();
     book.put(session);
     Status::Done.number()
 }

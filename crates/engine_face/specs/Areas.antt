@@ -4,7 +4,7 @@ use Rattle.std.specs.FinMap as fin
 use Rattle.cell_addr.specs.declared.place.Block.{Block}
 use Rattle.cell_addr.specs.declared.place.Place.{Place}
 use Rattle.book_model.specs.Workbook.{State, Workbook}
-use Rattle.book_engine.specs.Areas.{IsUsedArea, filled_in_block, filled_on_sheet, kind_of}
+use Rattle.book_engine.specs.Areas.{IsUsedArea, cyclic_on_sheet, filled_in_block, filled_on_sheet, kind_of}
 use Rattle.book_engine.specs.declared.areas.Kind.{Kind}
 use Rattle.book_engine.specs.declared.areas.Kind.TheVariants as kind
 use Rattle.engine_face.specs.declared.areas.PlaceRow.{PlaceRow}
@@ -36,6 +36,10 @@ rows_in_block area d = place_rows (filled_in_block area d.book)
 
 abbrev pub rows_on_sheet : ℕ → State → List PlaceRow
 rows_on_sheet sheet d = place_rows (filled_on_sheet sheet d.book)
+
+-- and those of a sheet that are on a cycle
+abbrev pub rows_on_cycle : ℕ → State → List PlaceRow
+rows_on_cycle sheet d = place_rows (cyclic_on_sheet sheet d)
 
 -- a used area as numbers
 abbrev pub used_row : Option Block → UsedArea

@@ -1,11 +1,14 @@
 -- What the calls of a session do and tell. Source: this project's own.
 use Rattle.std.specs.Prelude.{◌≡◌, ◌≤◌, ◌<◌, ◌==◌, ◌↔◌, if◌then◌else◌, ℕ, ℤ, Bool, true, false, List, [], length, Option, None, Some, Result, Ok, Err, ⊤}
+use Rattle.cell_addr.specs.declared.place.Place.{Place}
 use Rattle.cell_addr.specs.declared.place.TheConstants.{NO_SHEET}
 use Rattle.custom_fn.specs.declared.rule.Rule.{Rule}
+use Rattle.fix_num.specs.Text.{text_of}
+use Rattle.fix_num.specs.declared.error.NumError.{NumError}
 use Rattle.book_model.specs.Clipboard.{nothing}
 use Rattle.book_model.specs.Given.{session_given}
 use Rattle.book_model.specs.declared.limits.TheConstants.{MAX_UNDO}
-use Rattle.book_model.specs.Operation.{Operation}
+use Rattle.book_model.specs.Operation.{Operation, set}
 use Rattle.book_model.specs.Refusals.{cause}
 use Rattle.book_model.specs.Session.{next}
 use Rattle.book_model.specs.Workbook.{State}
@@ -18,7 +21,7 @@ use Rattle.rule_table.specs.Rules.{rules_of}
 use Rattle.engine_face.specs.Shown.{Fits, filled, truth_bit}
 use Rattle.engine_face.specs.declared.session.Session.{Session}
 use Rattle.engine_face.specs.declared.status.Status.{Status}
-use Rattle.engine_face.specs.declared.status.Status.TheVariants.{Done, Refused, NoMemory, NoRoom, BadLimit, BadTable}
+use Rattle.engine_face.specs.declared.status.Status.TheVariants.{Done, Refused, NoMemory, NoRoom, BadLimit, BadTable, BadNumber}
 
 -- the session's engine is in this session of the plain machine
 abbrev pub Stands : Session → State → Type 0
@@ -112,3 +115,12 @@ NameFits (Some name) room written status = Fits name room written status
 abbrev pub NameTold : Option (List ℕ) → ℕ → ℕ → Type 0
 NameTold None had told = told ≡ had
 NameTold (Some name) had told = told ≡ length name
+
+-- a call that gives a cell the number of so many millionths: the operation that gives its text; no such number is given, and all stays
+abbrev pub AsksNumber : Place → Result ℤ NumError → Session → Session → Status → Type 0
+AsksNumber at (Ok number) old new status = Asks (set at (text_of number)) old new status
+AsksNumber at (Err error) old new status = (status ≡ BadNumber) × (new ≡ old)
+
+-- no step can be undone or done again any more, and all else of the session stays
+abbrev pub Forgets : Session → Session → Type 0
+Forgets old new = (d : State) → Stands old d → Stands new (record d { undo = []; redo = [] })

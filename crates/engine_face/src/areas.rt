@@ -2,7 +2,7 @@
 ghost use Rattle.std.specs.Prelude.{◌≡◌, IfOk, length, map, true};
 ghost use Rattle.book_model.specs.Operation as op;
 ghost use Rattle.book_model.specs.Refusals.{cause};
-ghost use Rattle.engine_face.specs.Areas.{SaysUsed, kind_at, kind_number, place_row, place_rows, rows_in_block, rows_on_sheet, used_row};
+ghost use Rattle.engine_face.specs.Areas.{SaysUsed, kind_at, kind_number, place_row, place_rows, rows_in_block, rows_on_cycle, rows_on_sheet, used_row};
 ghost use Rattle.engine_face.specs.Lists.{Made};
 ghost use Rattle.engine_face.specs.Shown.{EndFits, EndTold, fits};
 ghost use Rattle.engine_face.specs.Status.{status_of_end};
@@ -75,6 +75,18 @@ impl Session {
         ensures told { Told (λ d. length (rows_on_sheet sheet d)) count.old count.new self.now result }
     {
         let end = rows_made(self.alloc, self.engine.filled_in(sheet));
+        answer_places(end, rows, count)
+    }
+
+    /// The cells of a sheet that are on a cycle, as [`Engine::on_cycle`].
+    ///
+    /// [`Engine::on_cycle`]: book_engine::Engine::on_cycle
+    pub fn on_cycle(&mut self, sheet: u32, rows: &mut [PlaceRow], count: &mut usize) -> Status
+        ensures does { Finds (cause (op.clear_sheet sheet)) (λ d. fits (rows_on_cycle sheet d) rows.old) self.old self.new result }
+        ensures wrote { Wrote (rows_on_cycle sheet) rows.old rows.new self.old result }
+        ensures told { Told (λ d. length (rows_on_cycle sheet d)) count.old count.new self.old result }
+    {
+        let end = rows_made(self.alloc, self.engine.on_cycle(sheet));
         answer_places(end, rows, count)
     }
 

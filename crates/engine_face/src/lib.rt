@@ -20,6 +20,7 @@ mod naming;
 mod questions;
 mod room;
 mod session;
+mod setting;
 mod shown;
 mod status;
 

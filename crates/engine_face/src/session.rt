@@ -27,7 +27,7 @@ pub struct Session {
 }
 
 impl Session {
-    ghost use Rattle.engine_face.specs.Session.{Asks, AsksAlways, Clears, SettledTold, Settles, Stays, Told};
+    ghost use Rattle.engine_face.specs.Session.{Asks, AsksAlways, Clears, Forgets, SettledTold, Settles, Stays, Told};
     ghost use Rattle.rule_table.specs.Table.{rules_told};
 
     /// A workbook without sheets, of which so many steps can be undone, whose formulas can call the custom functions of the
@@ -218,6 +218,13 @@ impl Session {
         ensures { AsksAlways op.resume self.old self.new }
     {
         self.engine.resume();
+    }
+
+    /// Forgets the steps that can be undone and done again, as [`Engine::clear_history`].
+    pub fn clear_history(&mut self)
+        ensures { Forgets self.old self.new }
+    {
+        self.engine.clear_history();
     }
 
     /// Goes back to the workbook from before the last step, as [`Engine::undo`].
