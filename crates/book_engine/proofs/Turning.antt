@@ -2,6 +2,7 @@
 use Rattle.std.proofs.Common.{◌≡◌, ◌∙◌, sym, ap, subst, refl, arith, ℕ, ◌==◌, Bool, true, false, cond, not, [], Option, Some, None, is_some, IsSome, Result, Ok, Err}
 use Rattle.std.proofs.lemmas.Bool.{false≢true}
 use Rattle.std.proofs.lemmas.Bool.Decides.{nat_tests}
+use Rattle.std.proofs.lemmas.List.Elements.{All-nil}
 use Rattle.std.specs.FinMap.{get-retain_keys, same_map}
 use Rattle.cell_addr.proofs.Places.{place_cmp-IsTotalOrder, place_cmp-IsAntisymmetric}
 use Rattle.std.specs.FinMap as fin
@@ -12,7 +13,7 @@ use Rattle.shift_core.specs.Maps.{AreInside}
 use Rattle.book_model.specs.Operation.{Operation}
 use Rattle.book_model.specs.Refusals.{cause}
 use Rattle.book_model.specs.Session.{done, next, unless_refused}
-use Rattle.book_model.specs.Sound.{ClearedBy, IsSound}
+use Rattle.book_model.specs.Sound.{ClearedBy, IsSound, IsSoundBook}
 use Rattle.book_model.specs.Workbook.{Batch, State}
 use Rattle.book_model.specs.declared.refusal.Refusal.{Refusal}
 use Rattle.book_model.proofs.SoundSteps.{next_sound, refused_same}
@@ -80,8 +81,8 @@ emptied_sheet m sheet inside = same_map place_cmp-IsTotalOrder place_cmp-IsAntis
 pub forgotten_sound : (d : State) → IsSound d → IsSound (record d { undo = []; redo = [] })
 forgotten_sound d s = record {
   book = s.book;
-  undo = tt;
-  redo = tt;
+  undo = All-nil (IsSoundBook d.next_sheet);
+  redo = All-nil (IsSoundBook d.next_sheet);
   batch = s.batch;
   clip = s.clip;
   few = s.few;
