@@ -7,4 +7,4 @@ use Rattle.book_engine.proofs.parts.Parts.on_cycle.Goals as goal
 
 pub returns-clause-answered : goal.returns-clause-answered
 returns-clause-answered c = λ customs today.
-    (c.in_ok-places.ensures.0, c.in_ok-found.ensures.found customs today ∙ ap (filter (λ p. cyclic (network (book_of c.args.self.now.session) customs today) (place p))) (c.deref.ensures ∙ c.in_ok-places.ensures.1))
+    (c.in_ok-places.ensures.0, c.in_ok-found.ensures.found customs today ∙ ap (filter (λ p. cyclic (network (book_of c.args.self.now.session) customs today) (place p))) (c.deref.ensures.value ∙ c.in_ok-places.ensures.1))
