@@ -28,7 +28,7 @@ fi
 node=$(command -v node) && headers=$(dirname "$(dirname "$(readlink -f "$node")")")/include/node
 if test -n "$node" && test -f "$headers/node_api.h"; then
     $CC -std=c11 -O2 -Wall -Wextra -fPIC -shared -fvisibility=hidden -I "$headers" -I "$top/faces/c" \
-        -o "$out/fazhundel.node" "$top/faces/node/binding.c" "$library" "$heap" -Wl,--exclude-libs,ALL
+        -o "$out/fazhundel.node" "$top/faces/node/"*.c "$library" "$heap" -Wl,--exclude-libs,ALL
 else
     echo 'no node with its header here: the addon was not built'
 fi

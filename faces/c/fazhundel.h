@@ -21,10 +21,11 @@
  * Rooms. A text that a call answers is written at the head of a room of the caller's, and its length is told. Where the
  * room is too short nothing is written, the status is FZ_NO_ROOM and the length that is needed is told all the same, so
  * a room of 0 bytes asks for it. A room of no bytes may be at any place, NULL among them. Behind the text the room is as it
- * was.
+ * was. So it is with a list of rows, and with one whose rows have texts: these stand one after the other in a room of their
+ * own, and where one of the two rooms is too short neither is written.
  *
- * Pointers to a book, a number, a length, a value or counts are never NULL, and no two pointers of one call lead to the
- * same memory.
+ * Pointers to a book, a number, a count, a length, a value, a used area, counts or sizes are never NULL, and no two pointers
+ * of one call lead to the same memory.
  *
  * Threads. A workbook is used by one thread: the one that opened it makes each call and closes it. Different threads may
  * each have workbooks of their own at the same time. No call may be made from a signal handler, or in the child of a fork
@@ -76,7 +77,8 @@ enum {
     FZ_NOT_UTF8 = 67,           /* bytes that were to be a text aren't UTF-8 */
     FZ_BAD_LIMIT = 68,          /* more than 1,000 steps were to be undone */
     FZ_BAD_TABLE = 69,          /* the rules aren't those of custom functions */
-    FZ_STILL_OPEN = 70          /* the book holds a workbook already */
+    FZ_STILL_OPEN = 70,         /* the book holds a workbook already */
+    FZ_BAD_NUMBER = 71          /* a number is 10^12 or more in absolute value */
 };
 
 /* A number that no sheet has: as a scope, the whole workbook. */
@@ -125,6 +127,13 @@ bool fz_is_open(const fz_book *book);
 
 /* Gives a cell the content that the text says: nothing, a formula behind =, a number, TRUE or FALSE, or a text. */
 fz_status fz_set(fz_book *book, uint32_t sheet, uint32_t row, uint32_t col, const char *text, size_t length);
+/* Gives a cell a number of so many millionths, without a text. FZ_BAD_NUMBER. */
+fz_status fz_set_number(fz_book *book, uint32_t sheet, uint32_t row, uint32_t col, int64_t millionths);
+/* Gives a cell a truth value. */
+fz_status fz_set_truth(fz_book *book, uint32_t sheet, uint32_t row, uint32_t col, bool truth);
+/* Gives a cell this text as it is, which needs no apostrophe: 007 stays three characters, =A1 is no formula, and no bytes are
+ * a text too. The apostrophe that fz_content answers in front of such a text counts among the 8,192 bytes. */
+fz_status fz_set_text(fz_book *book, uint32_t sheet, uint32_t row, uint32_t col, const char *text, size_t length);
 /* Empties the cells of a block. */
 fz_status fz_clear(fz_book *book, uint32_t sheet, uint32_t top, uint32_t left, uint32_t bottom, uint32_t right);
 /* Puts so many rows or columns before one of the sheet. */
@@ -157,14 +166,23 @@ fz_status fz_paste(fz_book *book, uint32_t sheet, uint32_t row, uint32_t col);
 
 fz_status fz_copy(fz_book *book, uint32_t sheet, uint32_t top, uint32_t left, uint32_t bottom, uint32_t right);
 fz_status fz_cut(fz_book *book, uint32_t sheet, uint32_t top, uint32_t left, uint32_t bottom, uint32_t right);
+/* Empties the clipboard: nothing waits to be pasted then. Nothing refuses it. */
+fz_status fz_clear_clipboard(fz_book *book);
 fz_status fz_undo(fz_book *book);
 fz_status fz_redo(fz_book *book);
+/* Forgets the steps that can be undone and done again; an open batch stays open. Nothing refuses it. */
+fz_status fz_clear_history(fz_book *book);
 /* The changes from begin to commit are one step; values aren't answered in between. */
 fz_status fz_begin(fz_book *book);
 fz_status fz_commit(fz_book *book);
 /* Values aren't answered from suspend to resume. */
 fz_status fz_suspend(fz_book *book);
 fz_status fz_resume(fz_book *book);
+/* Spends idle time on formulas that weren't read since structural operations went past them, so that no later call takes
+ * all of them over these at once. Each costs as many units of the budget as there are such operations, and one for which
+ * what is left of it doesn't suffice stays as it is. Tells 1 where no such formula is left, else 0. What every other call
+ * answers is as before. */
+fz_status fz_settle_idle(fz_book *book, uint64_t budget, uint32_t *none_left);
 
 /* Questions. None of them changes the workbook. */
 
@@ -203,6 +221,81 @@ fz_status fz_formula(fz_book *book, uint32_t sheet, uint32_t row, uint32_t col, 
 /* The text that gives the cell its content, when fz_set is given it. */
 fz_status fz_content(fz_book *book, uint32_t sheet, uint32_t row, uint32_t col, char *room, size_t size, size_t *length);
 
+/* The kinds of contents that are no kinds of values: a formula, and one that has no tree and is kept as its text. */
+enum { FZ_FORMULA = 5, FZ_UNREADABLE = 6 };
+
+/* What kind of content a cell has: FZ_EMPTY, FZ_NUMBER, FZ_TEXT, FZ_TRUTH, FZ_FORMULA or FZ_UNREADABLE. */
+fz_status fz_kind(fz_book *book, uint32_t sheet, uint32_t row, uint32_t col, uint32_t *kind);
+
+/* Areas. A cell is filled where it has a content, also a formula that shows nothing. */
+
+/* A place of the sheet that was asked for. */
+typedef struct fz_place {
+    uint32_t row;
+    uint32_t col;
+} fz_place;
+
+/* The filled places of a block, row by row, and how many there are. */
+fz_status fz_filled(fz_book *book, uint32_t sheet, uint32_t top, uint32_t left, uint32_t bottom, uint32_t right,
+                    fz_place *places, size_t place_room, size_t *count);
+/* Those of a sheet. */
+fz_status fz_filled_in(fz_book *book, uint32_t sheet, fz_place *places, size_t place_room, size_t *count);
+
+/* How far a sheet is used: the least block over its filled cells. */
+typedef struct fz_used {
+    uint32_t is_used;  /* 1; or 0 where no cell is filled, and so the next four */
+    uint32_t top;
+    uint32_t left;
+    uint32_t bottom;
+    uint32_t right;
+} fz_used;
+
+fz_status fz_used_area(fz_book *book, uint32_t sheet, fz_used *used);
+
+/* A filled cell of the sheet that was asked for. */
+typedef struct fz_cell {
+    uint32_t row;
+    uint32_t col;
+    fz_shown shown;     /* what it shows, as fz_value tells it, or its content, which is always a text */
+    size_t text_start;  /* how many bytes the texts before its own have: where it begins in the room of texts */
+} fz_cell;
+
+/* How much room a list needs whose rows have texts, told as a length is. */
+typedef struct fz_sizes {
+    size_t rows;
+    size_t bytes;  /* those of all texts */
+} fz_sizes;
+
+/* What the filled cells of a block show, row by row. Values aren't answered in a batch or suspended. */
+fz_status fz_values(fz_book *book, uint32_t sheet, uint32_t top, uint32_t left, uint32_t bottom, uint32_t right,
+                    fz_cell *cells, size_t cell_room, char *texts, size_t texts_size, fz_sizes *sizes);
+/* The texts that give them their contents. */
+fz_status fz_contents(fz_book *book, uint32_t sheet, uint32_t top, uint32_t left, uint32_t bottom, uint32_t right,
+                      fz_cell *cells, size_t cell_room, char *texts, size_t texts_size, fz_sizes *sizes);
+
+/* Names and formulas as such. */
+
+/* A name, its word in capitals. */
+typedef struct fz_name {
+    uint32_t scope;      /* a sheet's number or FZ_WORKBOOK; of fz_names_in always FZ_NO_NUMBER */
+    size_t word_start;   /* how many bytes the words before it have: where it begins in the room of words */
+    size_t word_length;
+} fz_name;
+
+/* All names: those of the whole workbook, then those of each sheet by its number, within a scope by the bytes of words. */
+fz_status fz_names(fz_book *book, fz_name *names, size_t name_room, char *words, size_t words_size, fz_sizes *sizes);
+/* The text of the formula of a scope's own name, which fz_add_name and fz_change_name take. */
+fz_status fz_name_text(fz_book *book, const char *name, size_t name_length, uint32_t scope, char *room, size_t size,
+                       size_t *length);
+/* The text that fz_formula answers of a cell of the sheet that is given the formula of the text, without being in a cell. */
+fz_status fz_normal_text(fz_book *book, uint32_t sheet, const char *text, size_t text_length, char *room, size_t size,
+                         size_t *length);
+/* The words that the formula of the text uses as names, in its order and each once, also where there is no such name. */
+fz_status fz_names_in(fz_book *book, uint32_t sheet, const char *text, size_t text_length, fz_name *names, size_t name_room,
+                      char *words, size_t words_size, fz_sizes *sizes);
+
+/* Links. */
+
 enum { FZ_LINK_CELL = 0, FZ_LINK_BLOCK = 1, FZ_LINK_NAME = 2 };
 
 /* A link of a formula: a cell, a block, or a name by its scope and its word. */
@@ -229,6 +322,9 @@ fz_status fz_precedents(fz_book *book, uint32_t sheet, uint32_t row, uint32_t co
 /* The cells and then the names whose formulas need a cell. */
 fz_status fz_dependents(fz_book *book, uint32_t sheet, uint32_t row, uint32_t col, fz_link *links, size_t link_room,
                         char *words, size_t words_size, fz_counts *counts);
+/* The cells of a sheet that are on a cycle, row by row, and how many there are: those whose needs lead back to them. A cell
+ * that only reads one of these isn't among them. They are told in a batch and suspended too. FZ_NO_SHEET. */
+fz_status fz_on_cycle(fz_book *book, uint32_t sheet, fz_place *places, size_t place_room, size_t *count);
 
 /* What a workbook is in. Of a book that holds none: false, an empty clipboard, no sheets. */
 

@@ -42,6 +42,19 @@ export const Faults: Readonly<Record<Fault['name'], Fault>>;
 /** What a cell shows: null where it is empty, a number in millionths, a text, a truth value or a fault. */
 export type Value = null | bigint | string | boolean | Fault;
 
+/** What kind of content a cell has; an unreadable one is a formula that has no tree, kept as its text. */
+export type Kind = 'empty' | 'number' | 'text' | 'truth' | 'formula' | 'unreadable';
+
+/** A filled cell, with what it shows. */
+export interface ShownCell extends Place {
+  value: Value;
+}
+
+/** A filled cell, with the text that gives it its content. */
+export interface HeldCell extends Place {
+  content: string;
+}
+
 /** The number that a text spells, in millionths: '10.5' is 10500000n. RangeError where it spells none. */
 export function millionths(text: string): bigint;
 
@@ -118,6 +131,14 @@ export class Workbook {
 
   /** Gives a cell the content that the text says: nothing, a formula behind =, a number, TRUE or FALSE, or a text. */
   set(at: Place, text: string): void;
+  /** Gives a cell a number, in millionths or as a decimal text: 10500000n and '10.5' are the same. RangeError where it is 10^12 or
+   * more in absolute value, or the text spells no number; else it throws as set does. */
+  setNumber(at: Place, number: bigint | string): void;
+  /** Gives a cell a truth value. It throws as set does. */
+  setTruth(at: Place, truth: boolean): void;
+  /** Gives a cell this text as it is, which needs no apostrophe: '007' stays three characters, '=A1' is no formula. The apostrophe
+   * that content answers in front of such a text counts among the 8,192 bytes that a text may have. */
+  setText(at: Place, text: string): void;
   /** Empties the cells of a block. */
   clear(area: Block): void;
   /** Puts so many rows before a row of the sheet. */
@@ -156,7 +177,8 @@ export class Workbook {
   /** The name of a sheet. */
   sheetName(sheet: number): string;
 
-  // Named expressions, in the scope of a sheet, or of the whole workbook where there is none. The first three are steps too.
+  // Named expressions, in the scope of a sheet, or of the whole workbook where there is none. Adding, changing and taking one away
+  // is a step too.
 
   /** Adds a name with the formula of the text. */
   addName(name: string, text: string, scope?: number | null): void;
@@ -164,6 +186,10 @@ export class Workbook {
   changeName(name: string, text: string, scope?: number | null): void;
   /** Takes a name away. */
   removeName(name: string, scope?: number | null): void;
+  /** All names: those of the whole workbook, then those of each sheet by its number, within a scope by the bytes of their words. */
+  names(): Name[];
+  /** The text of the formula of the scope's own name, which addName takes. Throws NoSheet, NoSuchName. */
+  nameText(name: string, scope?: number | null): string;
   /** What a name shows that the word finds on the sheet. */
   nameValue(name: string, sheet: number): Value;
 
@@ -175,15 +201,19 @@ export class Workbook {
   cut(area: Block): void;
   /** Pastes what waits, its first cell at a place: a step of undo, or a part of the open batch's. */
   paste(at: Place): void;
+  /** Empties the clipboard: nothing waits to be pasted then. Nothing refuses it. */
+  clearClipboard(): void;
   /** Whether nothing waits to be pasted. */
   readonly isClipboardEmpty: boolean;
 
-  // Steps, batches and suspended evaluation.
+  // Steps, batches, suspended evaluation and idle time.
 
   /** Takes the newest step back. */
   undo(): void;
   /** Does the step again that was taken back last. */
   redo(): void;
+  /** Forgets the steps that can be undone and done again; an open batch stays open. Nothing refuses it. */
+  clearHistory(): void;
   /** Whether undo would be accepted now. */
   readonly canUndo: boolean;
   /** Whether redo would be accepted now. */
@@ -205,6 +235,28 @@ export class Workbook {
   readonly isSuspended: boolean;
   /** Does what the function does while evaluation is suspended, and resumes it in any case. */
   suspended<T>(inside: (book: this) => T): T;
+  /** Spends idle time on formulas that weren't read since structural operations went past them, so that no later call takes all of
+   * them over these at once. Each costs as many units of the budget, a whole number below 2^53, as there are such operations, and
+   * one for which what is left of it doesn't suffice stays as it is. Whether no such formula is left; what every other call answers
+   * is as before. */
+  settleIdle(budget: number): boolean;
+
+  // Areas. A cell is filled where it has a content, also a formula that shows nothing. These calls throw NoSheet, those of a place
+  // or a block Outside, and values Suspended, as a value does.
+
+  /** What kind of content a cell has. */
+  kind(at: Place): Kind;
+  /** The filled places of a block, row by row. */
+  filled(area: Block): Place[];
+  /** Those of a sheet. */
+  filledIn(sheet: number): Place[];
+  /** How far a sheet is used: the least block over its filled cells, or null where no cell is filled. */
+  usedArea(sheet: number): Block | null;
+  /** What the filled cells of a block show, row by row: of a whole sheet those of its usedArea. One such call takes far less time
+   * than to ask cell by cell. */
+  values(area: Block): ShownCell[];
+  /** The texts that give the filled cells of a block their contents, row by row. */
+  contents(area: Block): HeldCell[];
 
   // Values, texts and links. Values are worked out when they are first asked for.
 
@@ -212,10 +264,14 @@ export class Workbook {
   value(at: Place): Value;
   /** The same as a text: -3, 0.5, TRUE, #DIV/0!. */
   valueText(at: Place): string;
-  /** The filled cells of a block with what they show, row by row. It asks for each place of the block, the empty ones too. */
-  values(area: Block): Generator<[Place, Value], void, void>;
   /** What the formula of the text would show in the first cell of the sheet, without being in a cell. */
   tryFormula(sheet: number, text: string): Value;
+  /** The text that formula answers of a cell of the sheet that is given the formula of the text, without being in a cell. Throws
+   * NoSheet, TextLimit, BadFormula. */
+  normalText(sheet: number, text: string): string;
+  /** The words in capitals that the formula of the text uses as names, in its order and each once, also where there is no such
+   * name. It throws likewise. */
+  namesIn(sheet: number, text: string): string[];
   /** The text of a cell's formula, or null. */
   formula(at: Place): string | null;
   /** The text that gives the cell its content, when set is given it. */
@@ -224,4 +280,7 @@ export class Workbook {
   precedents(at: Place): Link[];
   /** The cells and then the names whose formulas need a cell. */
   dependents(at: Place): Link[];
+  /** The cells of a sheet that are on a cycle, row by row: those whose needs lead back to them. A cell that only reads one of these
+   * isn't among them. They are told in a batch and suspended too. Throws NoSheet. */
+  onCycle(sheet: number): Place[];
 }

@@ -18,7 +18,9 @@ const path = require('node:path');
 
 const { FazhundelError } = require('./errors.js');
 const { bands, table, tiers } = require('./rules.js');
-const { Fault, Faults, address, block, decimal, linkOf, millionths, place, shown, valueOf } = require('./values.js');
+const {
+  Fault, Faults, address, block, decimal, kindOf, linkOf, millionths, numberOf, place, shown, valueOf,
+} = require('./values.js');
 
 const ADDON = process.env.FAZHUNDEL_ADDON ?? path.join(__dirname, '..', 'out', 'fazhundel.node');
 const calls = require(path.resolve(ADDON))(FazhundelError);
@@ -48,6 +50,11 @@ function serial(day) {
   return Date.UTC(day.getFullYear(), day.getMonth(), day.getDate()) / DAY + UNIX_DAY;
 }
 
+/** Places of a sheet as the addon answers them. */
+function placesOf(sheet, places) {
+  return places.map(([row, col]) => ({ sheet, row, col }));
+}
+
 class Workbook {
   #book;
 
@@ -68,6 +75,18 @@ class Workbook {
 
   set({ sheet, row, col }, text) {
     calls.set(this.#book, sheet, row, col, textOf(text));
+  }
+
+  setNumber({ sheet, row, col }, number) {
+    calls.setNumber(this.#book, sheet, row, col, numberOf(number));
+  }
+
+  setTruth({ sheet, row, col }, truth) {
+    calls.setTruth(this.#book, sheet, row, col, truth);
+  }
+
+  setText({ sheet, row, col }, text) {
+    calls.setText(this.#book, sheet, row, col, textOf(text));
   }
 
   clear({ sheet, top, left, bottom, right }) {
@@ -154,6 +173,14 @@ class Workbook {
     calls.removeName(this.#book, textOf(name), scope);
   }
 
+  names() {
+    return calls.names(this.#book).map(([scope, word]) => ({ scope, word }));
+  }
+
+  nameText(name, scope = null) {
+    return calls.nameText(this.#book, textOf(name), scope);
+  }
+
   nameValue(name, sheet) {
     return valueOf(calls.nameValue(this.#book, textOf(name), sheet));
   }
@@ -172,11 +199,15 @@ class Workbook {
     calls.paste(this.#book, sheet, row, col);
   }
 
+  clearClipboard() {
+    calls.clearClipboard(this.#book);
+  }
+
   get isClipboardEmpty() {
     return calls.isClipboardEmpty(this.#book);
   }
 
-  // Steps, batches and suspended evaluation.
+  // Steps, batches, suspended evaluation and idle time.
 
   undo() {
     calls.undo(this.#book);
@@ -184,6 +215,10 @@ class Workbook {
 
   redo() {
     calls.redo(this.#book);
+  }
+
+  clearHistory() {
+    calls.clearHistory(this.#book);
   }
 
   get canUndo() {
@@ -236,6 +271,43 @@ class Workbook {
     }
   }
 
+  settleIdle(budget) {
+    return calls.settleIdle(this.#book, budget);
+  }
+
+  // Areas.
+
+  kind({ sheet, row, col }) {
+    return kindOf(calls.kind(this.#book, sheet, row, col));
+  }
+
+  filled({ sheet, top, left, bottom, right }) {
+    return placesOf(sheet, calls.filled(this.#book, sheet, top, left, bottom, right));
+  }
+
+  filledIn(sheet) {
+    return placesOf(sheet, calls.filledIn(this.#book, sheet));
+  }
+
+  usedArea(sheet) {
+    const used = calls.usedArea(this.#book, sheet);
+    if (used === null) {
+      return null;
+    }
+    const [top, left, bottom, right] = used;
+    return { sheet, top, left, bottom, right };
+  }
+
+  values({ sheet, top, left, bottom, right }) {
+    const cells = calls.values(this.#book, sheet, top, left, bottom, right);
+    return cells.map(([row, col, value]) => ({ sheet, row, col, value: valueOf(value) }));
+  }
+
+  contents({ sheet, top, left, bottom, right }) {
+    const cells = calls.contents(this.#book, sheet, top, left, bottom, right);
+    return cells.map(([row, col, content]) => ({ sheet, row, col, content }));
+  }
+
   // Values, texts and links.
 
   value({ sheet, row, col }) {
@@ -246,20 +318,16 @@ class Workbook {
     return calls.valueText(this.#book, sheet, row, col);
   }
 
-  *values({ sheet, top, left, bottom, right }) {
-    for (let row = top; row <= bottom; row++) {
-      for (let col = left; col <= right; col++) {
-        const at = { sheet, row, col };
-        const value = this.value(at);
-        if (value !== null || this.formula(at) !== null) {
-          yield [at, value];
-        }
-      }
-    }
-  }
-
   tryFormula(sheet, text) {
     return valueOf(calls.tryFormula(this.#book, sheet, textOf(text)));
+  }
+
+  normalText(sheet, text) {
+    return calls.normalText(this.#book, sheet, textOf(text));
+  }
+
+  namesIn(sheet, text) {
+    return calls.namesIn(this.#book, sheet, textOf(text)).map(([, word]) => word);
   }
 
   formula({ sheet, row, col }) {
@@ -276,6 +344,10 @@ class Workbook {
 
   dependents({ sheet, row, col }) {
     return calls.dependents(this.#book, sheet, row, col).map(linkOf);
+  }
+
+  onCycle(sheet) {
+    return placesOf(sheet, calls.onCycle(this.#book, sheet));
   }
 }
 

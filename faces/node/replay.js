@@ -1,8 +1,9 @@
 'use strict';
 
 // Answers a script on standard input through the package, as sheetrun does: `faces/scripts.py` compares the two.
+const assert = require('node:assert/strict');
 const fs = require('node:fs');
-const { FazhundelError, Workbook, address, bands, block, place, shown, tiers } = require('./index.js');
+const { Faults, FazhundelError, Workbook, address, bands, block, place, shown, tiers } = require('./index.js');
 
 // The number of a sheet that is gone: no sheet has it.
 const GONE = 1024;
@@ -50,13 +51,85 @@ const over = (text) => block(...parted(text));
 const row = (text) => Number(text) - 1;
 const col = (text) => place(0, `${text}1`).col;
 
-/** What a cell shows, by both calls that tell it. */
-function value(of) {
-  const [by, text] = [shown(book.value(of)), book.valueText(of)];
-  if (by !== text) {
-    throw new Error(`${by} is shown as ${text}`);
+/** The block of a cell alone. */
+function alone({ sheet, row, col }) {
+  return { sheet, top: row, left: col, bottom: row, right: col };
+}
+
+/** Gives a cell what a text says: in every other row by the call for its kind, where it is no formula. */
+function give(to, text) {
+  if (to.row % 2 === 0 || text === '' || text.startsWith('=')) {
+    book.set(to, text);
+  } else if (/^-?\d/.test(text)) {
+    book.setNumber(to, text);
+  } else if (text === 'TRUE') {
+    book.setTruth(to, true);
+  } else {
+    book.setText(to, text.replace(/^'/, ''));
   }
+}
+
+/** Adds a name, which is listed then, and whose text uses names or not. */
+function addName(word, scope, text) {
+  book.addName(word, text, scope);
+  assert.ok(book.names().some((name) => name.scope === scope && name.word === word.toUpperCase()), word);
+  for (const first of book.sheets().slice(0, 1)) {
+    assert.deepEqual(book.namesIn(first, book.nameText(word, scope)), text === '=Total' ? ['TOTAL'] : []);
+  }
+}
+
+/** What a cell shows, by the three calls that tell it. */
+function value(of) {
+  const [by, text] = [book.value(of), book.valueText(of)];
+  const listed = book.values(alone(of));
+  assert.equal(shown(by), text);
+  assert.equal(listed[0]?.value ?? null, by);
+  assert.deepEqual(listed.map(({ sheet, row, col }) => ({ sheet, row, col })), book.filled(alone(of)));
   return text;
+}
+
+/** The text of a cell's formula, which is canonical where it could be read. */
+function formula(of) {
+  const [text, kind] = [book.formula(of), book.kind(of)];
+  assert.equal(text !== null, kind === 'formula' || kind === 'unreadable');
+  assert.ok(kind !== 'formula' || book.normalText(of.sheet, text) === text, text);
+  return text ?? 'none';
+}
+
+/** The text of a cell's content, by both calls that tell it. */
+function content(of) {
+  const text = book.content(of);
+  assert.deepEqual(book.contents(alone(of)), text === '' ? [] : [{ ...of, content: text }]);
+  return text;
+}
+
+/** Lets the computation go on, and spends idle time, after which each answer is as before. */
+function resume() {
+  book.resume();
+  book.settleIdle(3);
+}
+
+/** Looks over the workbook at the end: each sheet is used as far as its cells are filled, and those on a cycle show it; the
+ * clipboard is emptied and the history forgotten. */
+function left() {
+  book.clearClipboard();
+  book.clearHistory();
+  assert.deepEqual([book.isClipboardEmpty, book.canUndo, book.canRedo], [true, false, false]);
+  for (const on of book.sheets()) {
+    const [places, used] = [book.filledIn(on), book.usedArea(on)];
+    assert.deepEqual(used, least(on, places));
+    assert.deepEqual(used && book.contents(used).map(({ sheet, row, col }) => ({ sheet, row, col })), used && places);
+    const cyclic = book.onCycle(on);
+    assert.ok(book.isSuspended || book.hasBatch || cyclic.every((cell) => book.value(cell) === Faults.CYCLE));
+  }
+}
+
+/** The least block over places, or null. */
+function least(sheet, places) {
+  const [rows, cols] = [places.map((at) => at.row), places.map((at) => at.col)];
+  return places.length === 0
+    ? null
+    : { sheet, top: Math.min(...rows), left: Math.min(...cols), bottom: Math.max(...rows), right: Math.max(...cols) };
 }
 
 function link(to) {
@@ -69,7 +142,7 @@ const links = (list) => list.map(link).join(' ');
 
 // What each command asks of the workbook.
 const ANSWERS = {
-  set: (to, text) => book.set(at(to), text),
+  set: (to, text) => give(at(to), text),
   clear: (area) => book.clear(over(area)),
   'insert-rows': (on, first, count) => book.insertRows(sheet(on), row(first), Number(count)),
   'insert-cols': (on, first, count) => book.insertCols(sheet(on), col(first), Number(count)),
@@ -82,7 +155,7 @@ const ANSWERS = {
   'drop-sheet': (on) => book.dropSheet(sheet(on)),
   'rename-sheet': (on, name) => book.renameSheet(sheet(on), name),
   'clear-sheet': (on) => book.clearSheet(sheet(on)),
-  'add-name': (word, of, text) => book.addName(word, text, scope(of)),
+  'add-name': (word, of, text) => addName(word, scope(of), text),
   'change-name': (word, of, text) => book.changeName(word, text, scope(of)),
   'remove-name': (word, of) => book.removeName(word, scope(of)),
   copy: (area) => book.copy(over(area)),
@@ -93,10 +166,10 @@ const ANSWERS = {
   begin: () => book.begin(),
   commit: () => book.commit(),
   suspend: () => book.suspend(),
-  resume: () => book.resume(),
+  resume: () => resume(),
   value: (of) => value(at(of)),
-  formula: (of) => book.formula(at(of)) ?? 'none',
-  content: (of) => book.content(at(of)),
+  formula: (of) => formula(at(of)),
+  content: (of) => content(at(of)),
   precedents: (of) => links(book.precedents(at(of))),
   dependents: (of) => links(book.dependents(at(of))),
   'name-value': (word, on) => shown(book.nameValue(word, sheet(on))),
@@ -119,4 +192,5 @@ function reply([word, ...fields]) {
 book.addSheet('Sheet1');
 const replies = records(fs.readFileSync(0, 'utf8')).map((record) => `${reply(record)}\n`);
 process.stdout.write(replies.join(''));
+left();
 book.close();

@@ -1,6 +1,6 @@
 'use strict';
 
-const { isInRange, millionths } = require('./values.js');
+const { numberOf } = require('./values.js');
 
 /** A custom function of one value. */
 class Rule {
@@ -9,17 +9,6 @@ class Rule {
     this.hasTiers = hasTiers;
     Object.freeze(this);
   }
-}
-
-/** A number in millionths, given so or as a text. */
-function numberOf(given) {
-  if (typeof given !== 'bigint') {
-    return millionths(given);
-  }
-  if (!isInRange(given)) {
-    throw new RangeError(`${given} millionths are out of range`);
-  }
-  return given;
 }
 
 /** Answers the second number of the last pair whose first one isn't above the value; #N/A below the first pair. */

@@ -54,18 +54,107 @@ test('cells and values', () => opened((book) => {
   shows(book, 'D1', '');
 }));
 
+test('contents are given', () => opened((book) => {
+  const gives = (number, text) => {
+    book.setNumber(at('A1'), number);
+    shows(book, 'A1', text);
+    assert.equal(book.kind(at('A1')), 'number');
+  };
+  gives(-1_500_000n, '-1.5');
+  gives('10.5', '10.5');
+  gives(10n ** 18n - 1n, '999999999999.999999');
+  gives(1n - 10n ** 18n, '-999999999999.999999');
+  for (const number of [10n ** 18n, -(10n ** 18n), 2n ** 64n, '1000000000000', 'seven']) {
+    assert.throws(() => book.setNumber(at('A1'), number), RangeError);
+  }
+  for (const number of [7, null, undefined, true]) {
+    assert.throws(() => book.setNumber(at('A1'), number), TypeError);
+  }
+  book.undo();
+  shows(book, 'A1', '999999999999.999999');
+  for (const truth of [true, false]) {
+    book.setTruth(at('A2'), truth);
+    assert.deepEqual([book.value(at('A2')), book.kind(at('A2'))], [truth, 'truth']);
+  }
+  for (const truth of [1, 'true', null, undefined]) {
+    assert.throws(() => book.setTruth(at('A2'), truth), TypeError);
+  }
+  const texts = [['hüte', ''], ['007', "'"], ['true', "'"], ['=A1', "'"], ["'tis", "'"], ['', "'"], ['\u{1f600}', '']];
+  for (const [text, front] of texts) {
+    const content = front + text;
+    book.setText(at('A3'), text);
+    assert.deepEqual([book.value(at('A3')), book.content(at('A3')), book.kind(at('A3'))], [text, content, 'text']);
+  }
+  const long = '='.repeat(8_192);
+  fails('TextLimit', () => book.setText(at('A3'), long));
+  book.setText(at('A3'), long.slice(1));
+  assert.equal(book.value(at('A3')), long.slice(1));
+  fails('NotUtf8', () => book.setText(at('A3'), 'half \ud83d'));
+  assert.throws(() => book.setText(at('A3'), 7), TypeError);
+  fails('NoSheet', () => book.setNumber(place(9, 'A1'), 1n));
+  fails('Outside', () => book.setTruth({ sheet: 0, row: 1_048_576, col: 0 }, true));
+  fails('NoSheet', () => book.setText(place(9, 'A1'), 'x'));
+}));
+
 test('filled cells are listed', () => opened((book) => {
-  book.set(at('B2'), '7');
-  book.set(at('A3'), '=Z9');
-  book.set(at('C2'), 'x');
-  book.set(at('D2'), 'outside');
-  assert.deepEqual([...book.values(over('A1:C3'))], [
-    [at('B2'), 7_000_000n],
-    [at('C2'), 'x'],
-    [at('A3'), null],
+  assert.equal(book.usedArea(0), null);
+  assert.deepEqual(book.filledIn(0), []);
+  const contents = [['B2', '7'], ['C2', 'x'], ['D2', "'=2"], ['A3', '=Z9'], ['A4', '=1/0'], ['B4', '=1<2']];
+  for (const [where, content] of contents) {
+    book.set(at(where), content);
+  }
+  assert.deepEqual(book.values(over('A1:C4')), [
+    { ...at('B2'), value: 7_000_000n },
+    { ...at('C2'), value: 'x' },
+    { ...at('A3'), value: null },
+    { ...at('A4'), value: Faults.DIV0 },
+    { ...at('B4'), value: true },
   ]);
-  assert.deepEqual([...book.values(over('F1:G9'))], []);
-  fails('NoSheet', () => [...book.values(block(9, 'A1'))]);
+  assert.deepEqual(book.contents(over('A1:D9')), contents.map(([where, content]) => ({ ...at(where), content })));
+  assert.deepEqual(book.filled(over('A1:C3')), ['B2', 'C2', 'A3'].map(at));
+  assert.deepEqual(book.filledIn(0), contents.map(([where]) => at(where)));
+  assert.deepEqual(book.usedArea(0), over('A2:D4'));
+  assert.deepEqual(book.values(over('F1:G9')), []);
+  assert.equal(book.usedArea(book.addSheet('Two')), null);
+}));
+
+test('areas are refused', () => opened((book) => {
+  const [gone, none] = [block(9, 'A1:F6'), { sheet: 0, top: 3, left: 0, bottom: 2, right: 0 }];
+  for (const ask of ['values', 'contents', 'filled']) {
+    fails('NoSheet', () => book[ask](gone));
+    fails('Outside', () => book[ask](none));
+    assert.throws(() => book[ask](at('A1')), TypeError);
+  }
+  fails('NoSheet', () => book.filledIn(9));
+  fails('NoSheet', () => book.usedArea(9));
+  fails('NoSheet', () => book.kind(place(9, 'A1')));
+  fails('Outside', () => book.kind({ sheet: 0, row: 0, col: 18_278 }));
+  book.set(at('A1'), '=1');
+  book.suspended(() => {
+    fails('Suspended', () => book.values(over('A1:C3')));
+    assert.deepEqual(book.contents(over('A1:C3')), [{ ...at('A1'), content: '=1' }]);
+  });
+}));
+
+test('kinds are told', () => opened((book) => {
+  const kinds = { 1: 'number', x: 'text', true: 'truth', '=1': 'formula', '=1+': 'unreadable', '': 'empty' };
+  for (const [text, kind] of Object.entries(kinds)) {
+    book.set(at('A1'), text);
+    assert.equal(book.kind(at('A1')), kind);
+  }
+}));
+
+test('cycles are listed', () => opened((book) => {
+  assert.deepEqual(book.onCycle(0), []);
+  for (const [where, text] of [['A1', '=B1+1'], ['B1', '=A1'], ['C1', '=A1'], ['B3', '=SUM(B3:B4)']]) {
+    book.set(at(where), text);
+  }
+  assert.deepEqual(book.onCycle(0), ['A1', 'B1', 'B3'].map(at));
+  shows(book, 'C1', '#CYCLE!');
+  book.suspend();
+  book.set(at('B1'), '1');
+  assert.deepEqual(book.onCycle(0), [at('B3')]);
+  fails('NoSheet', () => book.onCycle(9));
 }));
 
 test('long answers come whole', () => opened((book) => {
@@ -91,6 +180,18 @@ test('long answers come whole', () => opened((book) => {
   assert.equal(links.length, 78);
   assert.equal(links[39].scope, null);
   assert.match(links[77].word, /^NAME_W{20}_\d+$/);
+  const names = book.names();
+  assert.equal(names.length, 39);
+  assert.ok(names.every(({ scope, word }) => scope === null && /^NAME_W{20}_\d+$/.test(word)));
+  assert.equal(book.filledIn(0).length, 42);
+  const [values, contents] = [book.values(over('A1:D41')), book.contents(over('A1:D41'))];
+  assert.deepEqual([values.length, values[0], values[41]], [42, { ...at('A1'), value: long }, { ...at('D41'), value: long }]);
+  assert.deepEqual([contents.length, contents[41]], [42, { ...at('D41'), content: '=A1' }]);
+  const sum = `=${names.map(({ word }) => word).join('+')}`;
+  assert.equal(book.namesIn(0, sum).length, 39);
+  assert.equal(book.normalText(0, sum), sum);
+  book.addName('total', sum);
+  assert.equal(book.nameText('TOTAL'), sum);
   book.renameSheet(0, 'n'.repeat(100));
   assert.equal(book.sheetName(0).length, 100);
   fails('TextLimit', () => book.set(at('A1'), 'x'.repeat(8_193)));
@@ -151,6 +252,62 @@ test('names', () => opened((book) => {
   book.removeName('rate', null);
 }));
 
+test('names are listed', () => opened((book) => {
+  assert.deepEqual(book.names(), []);
+  book.addName('rate', '=0.50*(2)', 0);
+  book.addName('to', '=2');
+  assert.deepEqual(book.names(), [{ scope: null, word: 'TO' }, { scope: 0, word: 'RATE' }]);
+  assert.deepEqual([book.nameText('RATE', 0), book.nameText('to')], ['=0.5*(2)', '=2']);
+  fails('NoSuchName', () => book.nameText('to', 0));
+  fails('NoSheet', () => book.nameText('to', 9));
+  fails('NoSheet', () => book.nameText('to', 2 ** 32 - 1));
+}));
+
+test('texts of formulas are read', () => opened((book) => {
+  assert.equal(book.normalText(0, '= sum( a1 )'), '=SUM(A1)');
+  assert.deepEqual(book.namesIn(0, '=ab+rate*AB'), ['AB', 'RATE']);
+  assert.deepEqual(book.namesIn(0, '=1'), []);
+  fails('BadFormula', () => book.normalText(0, 'sum'));
+  fails('BadFormula', () => book.namesIn(0, '=ab+'));
+  fails('NoSheet', () => book.normalText(9, '=1'));
+  fails('NoSheet', () => book.namesIn(9, '=ab'));
+  fails('NotUtf8', () => book.namesIn(0, '=\ud83d'));
+}));
+
+test('the history is cleared', () => opened((book) => {
+  book.set(at('A1'), '1');
+  book.set(at('A1'), '2');
+  book.undo();
+  assert.deepEqual([book.canUndo, book.canRedo], [true, true]);
+  book.clearHistory();
+  assert.deepEqual([book.canUndo, book.canRedo], [false, false]);
+  fails('NothingToUndo', () => book.undo());
+  fails('NothingToRedo', () => book.redo());
+  book.batch(() => {
+    book.set(at('A1'), '3');
+    book.clearHistory();
+  });
+  shows(book, 'A1', '3');
+  book.undo();
+  shows(book, 'A1', '1');
+  assert.equal(book.canUndo, false);
+}));
+
+test('idle time is spent', () => opened((book) => {
+  book.set(at('A10'), '=B9');
+  assert.equal(book.settleIdle(0), true);
+  book.insertRows(0, 0, 1);
+  book.insertRows(0, 0, 2);
+  assert.equal(book.settleIdle(1), false);
+  assert.equal(book.settleIdle(Number.MAX_SAFE_INTEGER), true);
+  assert.equal(book.settleIdle(0), true);
+  assert.equal(book.formula(at('A13')), '=B12');
+  for (const budget of [-1, 0.5, 2 ** 53, NaN]) {
+    assert.throws(() => book.settleIdle(budget), RangeError);
+  }
+  assert.throws(() => book.settleIdle(1n), TypeError);
+}));
+
 test('steps and batches', () => opened((book) => {
   book.begin();
   assert.equal(book.hasBatch, true);
@@ -203,6 +360,11 @@ test('blocks are pasted', () => opened((book) => {
   book.paste(at('A3'));
   assert.equal(book.formula(at('A3')), '=B1');
   fails('NothingToPaste', () => book.paste(at('A5')));
+  book.copy(over('A3:B3'));
+  book.clearClipboard();
+  assert.equal(book.isClipboardEmpty, true);
+  fails('NothingToPaste', () => book.paste(at('A5')));
+  book.clearClipboard();
 }));
 
 test('links are listed', () => opened((book) => {
@@ -268,6 +430,19 @@ test('books are opened and closed', () => {
   assert.equal(book.isOpen, false);
   fails('NotOpen', () => book.set(at('A1'), '1'));
   fails('NotOpen', () => book.value(at('A1')));
+  for (const call of ['clearClipboard', 'clearHistory', 'names']) {
+    fails('NotOpen', () => book[call]());
+  }
+  fails('NotOpen', () => book.setNumber(at('A1'), 1n));
+  fails('NotOpen', () => book.setTruth(at('A1'), true));
+  fails('NotOpen', () => book.setText(at('A1'), ''));
+  fails('NotOpen', () => book.kind(at('A1')));
+  fails('NotOpen', () => book.values(over('A1')));
+  fails('NotOpen', () => book.filledIn(0));
+  fails('NotOpen', () => book.usedArea(0));
+  fails('NotOpen', () => book.normalText(0, '=1'));
+  fails('NotOpen', () => book.settleIdle(1));
+  fails('NotOpen', () => book.onCycle(0));
   fails('NotOpen', () => book.canUndo);
   fails('NotOpen', () => book.sheets());
   fails('NotOpen', () => book.sheetId('Plan'));

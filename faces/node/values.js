@@ -78,6 +78,14 @@ function valueOf(answer) {
   return typeof answer === 'number' ? FAULTS[answer - 1] : answer;
 }
 
+/** The kinds of contents by their numbers; 4 is a fault's, which is no content. */
+const KINDS = ['empty', 'number', 'text', 'truth', undefined, 'formula', 'unreadable'];
+
+/** A kind of content as the addon answers it. */
+function kindOf(answer) {
+  return KINDS[answer];
+}
+
 /** What a person sees of a value: nothing, -3, the text itself, TRUE, #DIV/0!. */
 function shown(value) {
   switch (typeof value) {
@@ -88,6 +96,17 @@ function shown(value) {
     default:
       return value === null ? '' : String(value);
   }
+}
+
+/** A number in millionths, given so or as a text. */
+function numberOf(given) {
+  if (typeof given !== 'bigint') {
+    return millionths(given);
+  }
+  if (!isInRange(given)) {
+    throw new RangeError(`${given} millionths are out of range`);
+  }
+  return given;
 }
 
 /** The row and the column of an address. */
@@ -150,4 +169,4 @@ function linkOf([kind, sheet, top, left, bottom, right, word]) {
   }
 }
 
-module.exports = { Fault, Faults, address, block, decimal, isInRange, linkOf, millionths, place, shown, valueOf };
+module.exports = { Fault, Faults, address, block, decimal, kindOf, linkOf, millionths, numberOf, place, shown, valueOf };

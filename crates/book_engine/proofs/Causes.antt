@@ -1,17 +1,20 @@
 -- The causes of a refusal, tested in two parts. Serves the calls on names, and the values of names and tried formulas.
-use Rattle.std.proofs.Common.{◌≡◌, ◌≢◌, ◌∙◌, sym, ap, refl, cond, ℕ, Bool, true, false, not, ◌||◌, ◌==◌, List, [], ◌∷◌, ◌++◌, Option, Some, None, is_some, Result, Ok, Err, eqb-true}
+use Rattle.std.proofs.Common.{◌≡◌, ◌≢◌, ◌∙◌, sym, ap, refl, cond, ℕ, ℤ, Bool, true, false, not, ◌||◌, ◌==◌, List, [], ◌∷◌, ◌++◌, Option, Some, None, is_some, Result, Ok, Err, eqb-true}
 use Rattle.std.specs.Prelude.{is_ok}
 use Rattle.std.proofs.lemmas.Bool.{false≢true}
 use Rattle.std.proofs.lemmas.List.Elements.{All-head, All-tail}
 use Rattle.std.proofs.lemmas.Option.{none-some}
 use Rattle.std.specs.List.{All, list_any}
 use Rattle.std.specs.Option.{is_none}
+use Rattle.custom_fn.specs.declared.rule.Rule.{Rule}
 use Rattle.cell_addr.specs.Sheets.{AreSheets}
 use Rattle.cell_addr.specs.declared.place.TheConstants.{NO_SHEET}
 use Rattle.book_model.specs.Operation.{Operation}
+use Rattle.book_model.specs.Operation as op
 use Rattle.book_model.specs.Refusals.{Cause, cause, first_cause}
 use Rattle.book_model.specs.Workbook.{State, Workbook, has_scope}
 use Rattle.book_model.specs.declared.refusal.Refusal.{Refusal}
+use Rattle.book_engine.specs.Seen.{with_rules}
 use Rattle.book_engine.specs.declared.stop.Stop.{Stop}
 use Rattle.book_engine.specs.declared.stop.Stop.TheVariants.{Refused, NoMemory}
 use Rattle.book_engine.specs.internal.Names.{Reads}
@@ -89,3 +92,32 @@ third_misses true h m r s t e = absurd (none-some r (sym e))
 third_misses false true m r s t e = absurd (none-some s (sym e))
 third_misses false false true r s t e = absurd (none-some t (sym e))
 third_misses false false false r s t e = refl
+
+-- causes don't rest on the custom functions or the day
+pub cause_rules : (customs : List (List ℕ × Rule)) (today : ℤ) (o : Operation) (d : State) → cause o (with_rules customs today d) ≡ cause o d
+cause_rules customs today (op.set at text) d = refl
+cause_rules customs today (op.clear area) d = refl
+cause_rules customs today (op.structural s) d = refl
+cause_rules customs today (op.add_sheet name) d = refl
+cause_rules customs today (op.rename_sheet sheet name) d = refl
+cause_rules customs today (op.clear_sheet sheet) d = refl
+cause_rules customs today (op.add_name name scope text) d = refl
+cause_rules customs today (op.change_name name scope text) d = refl
+cause_rules customs today (op.remove_name name scope) d = refl
+cause_rules customs today (op.copy area) d = refl
+cause_rules customs today (op.cut area) d = refl
+cause_rules customs today (op.paste at) d = refl
+cause_rules customs today op.begin d = refl
+cause_rules customs today op.commit d = refl
+cause_rules customs today op.suspend d = refl
+cause_rules customs today op.resume d = refl
+cause_rules customs today op.undo d = refl
+cause_rules customs today op.redo d = refl
+cause_rules customs today (op.value at) d = refl
+cause_rules customs today (op.formula at) d = refl
+cause_rules customs today (op.content at) d = refl
+cause_rules customs today (op.precedents at) d = refl
+cause_rules customs today (op.dependents at) d = refl
+cause_rules customs today (op.name_value name sheet) d = refl
+cause_rules customs today (op.try_formula sheet text) d = refl
+cause_rules customs today (op.write_all cells) d = refl

@@ -6,6 +6,8 @@ pub mod Turning
 pub mod Pushed
 pub mod FilledCells
 pub mod Following
+pub mod GivenCells
+pub mod WrittenCells
 pub mod Stepped
 pub mod PartsStepped
 pub mod TurnedMarks

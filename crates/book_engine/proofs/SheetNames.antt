@@ -12,8 +12,7 @@ use Rattle.std.specs.List.{list_any}
 use Rattle.cell_addr.specs.Text.{folded}
 use Rattle.cell_addr.specs.Sheets.{same_name, id_in, name_in, AreApart}
 use Rattle.cell_addr.proofs.Listed.{folded-same_name, same_name-true}
-use Rattle.book_model.specs.Replies.{first_sheet}
-use Rattle.book_model.specs.Workbook.{State, Workbook, has_sheet}
+use Rattle.book_model.specs.Workbook.{State, Workbook, first_sheet, has_sheet}
 
 -- a sheet of the number is in the list where it has a name there
 pub has-name : (sheets : List (ℕ × List ℕ)) (id : ℕ) → is_some (name_in sheets id) ≡ list_any (λ s. s.0 == id) sheets

@@ -1,7 +1,8 @@
 -- A call leads from one sound session to another. Serves the calls of the engine.
-use Rattle.std.proofs.Common.{◌≡◌, ◌∙◌, sym, ap, subst, refl, arith, ℕ, ◌==◌, Bool, true, false, cond, not, Option, Some, None, is_some, IsSome, Result, Ok, Err}
+use Rattle.std.proofs.Common.{◌≡◌, ◌∙◌, sym, ap, subst, refl, arith, ℕ, ◌==◌, Bool, true, false, cond, not, [], Option, Some, None, is_some, IsSome, Result, Ok, Err}
 use Rattle.std.proofs.lemmas.Bool.{false≢true}
 use Rattle.std.proofs.lemmas.Bool.Decides.{nat_tests}
+use Rattle.std.proofs.lemmas.List.Elements.{All-nil}
 use Rattle.std.specs.FinMap.{get-retain_keys, same_map}
 use Rattle.cell_addr.proofs.Places.{place_cmp-IsTotalOrder, place_cmp-IsAntisymmetric}
 use Rattle.std.specs.FinMap as fin
@@ -12,8 +13,8 @@ use Rattle.shift_core.specs.Maps.{AreInside}
 use Rattle.book_model.specs.Operation.{Operation}
 use Rattle.book_model.specs.Refusals.{cause}
 use Rattle.book_model.specs.Session.{done, next, unless_refused}
-use Rattle.book_model.specs.Sound.{IsSound}
-use Rattle.book_model.specs.Workbook.{State}
+use Rattle.book_model.specs.Sound.{ClearedBy, IsSound, IsSoundBook}
+use Rattle.book_model.specs.Workbook.{Batch, State}
 use Rattle.book_model.specs.declared.refusal.Refusal.{Refusal}
 use Rattle.book_model.proofs.SoundSteps.{next_sound, refused_same}
 use Rattle.book_engine.specs.declared.stop.Stop.{Stop}
@@ -75,3 +76,21 @@ emptied_sheet m sheet inside = same_map place_cmp-IsTotalOrder place_cmp-IsAntis
     go : (q : Place) (r : Option Content) → fin.get m q ≡ r → cond (not (covers (whole_sheet sheet) q)) r None ≡ cond (not (q.sheet == sheet)) r None
     go q None e = none (not (covers (whole_sheet sheet) q)) (not (q.sheet == sheet))
     go q (Some x) e = ap (λ b. cond (not b) (Some x) None) (covers_same sheet q (inside q (ap is_some e)))
+
+-- a session is sound without its steps
+pub forgotten_sound : (d : State) → IsSound d → IsSound (record d { undo = []; redo = [] })
+forgotten_sound d s = record {
+  book = s.book;
+  undo = All-nil (IsSoundBook d.next_sheet);
+  redo = All-nil (IsSoundBook d.next_sheet);
+  batch = s.batch;
+  clip = s.clip;
+  few = s.few;
+  cleared = none_left d.batch;
+  steps = omega arith;
+  limit = s.limit;
+}
+  where
+    none_left : (batch : Option Batch) → ClearedBy batch []
+    none_left None = tt
+    none_left (Some batch) = λ changed. refl

@@ -1,6 +1,6 @@
 -- What is asked of cells, of areas and of names: what kind of content a cell has, which places are filled, how far a sheet is used,
 -- and which names there are. Source: this project's own.
-use Rattle.std.specs.Prelude.{◌≡◌, ◌==◌, ⊤, ℕ, Bool, List, [], map, Option, Some, None, option_map, IsSome, Result, Ok, Err}
+use Rattle.std.specs.Prelude.{◌≡◌, ◌==◌, ⊤, ℕ, Bool, List, [], filter, map, Option, Some, None, option_map, IsSome, Result, Ok, Err}
 use Rattle.std.specs.FinMap as fin
 use Rattle.cell_addr.specs.Place.{Covers, covers}
 use Rattle.cell_addr.specs.Text.{capitals}
@@ -8,10 +8,12 @@ use Rattle.cell_addr.specs.declared.place.Block.{Block}
 use Rattle.cell_addr.specs.declared.place.Place.{Place}
 use Rattle.book_cells.specs.Workbook.{Content, number, truth, text, formula, unreadable}
 use Rattle.book_values.specs.Names.{Key}
-use Rattle.book_values.specs.Workbook.{scope_sheet}
-use Rattle.book_model.specs.Answers.{by_capitals}
+use Rattle.value_network.specs.Network.{cyclic}
+use Rattle.book_values.specs.Values.{network}
+use Rattle.book_values.specs.Workbook.{place, scope_sheet}
+use Rattle.book_model.specs.Answers.{by_capitals, valued}
 use Rattle.book_model.specs.Content.{tree_shown}
-use Rattle.book_model.specs.Workbook.{Workbook}
+use Rattle.book_model.specs.Workbook.{State, Workbook}
 use Rattle.book_model.specs.declared.refusal.Refusal.{Refusal}
 use Rattle.book_engine.specs.declared.areas.Kind.{Kind}
 use Rattle.book_engine.specs.declared.areas.Kind.TheVariants as kind
@@ -62,6 +64,10 @@ IsFilledOn sheet b p = (p.sheet ≡ sheet) × IsSome (fin.get b.cells p)
 abbrev pub IsUsedArea : ℕ → Workbook → Option Block → Type 0
 IsUsedArea sheet b None = filled_on_sheet sheet b ≡ []
 IsUsedArea sheet b (Some area) = IsLeastOver (IsFilledOn sheet b) area
+
+-- the filled places of a sheet that are on a cycle: their needs lead back to them
+abbrev pub cyclic_on_sheet : ℕ → State → List Place
+cyclic_on_sheet sheet d = filter (λ p. cyclic (network (valued d.book) d.customs d.today) (place p)) (filled_on_sheet sheet d.book)
 
 -- a name as it is listed, its word in capitals
 abbrev pub entry_of : Key → NameEntry

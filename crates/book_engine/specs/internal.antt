@@ -13,3 +13,4 @@ pub mod FollowProp
 pub mod WaitingProp
 pub mod Areas
 pub mod Listing
+pub mod Giving

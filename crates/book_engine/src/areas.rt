@@ -109,7 +109,7 @@ impl Parts {
     }
 
     // The filled places of a sheet.
-    fn filled_in(&self, sheet: u32) -> Result<Vec<Place>, Stop>
+    pub(crate) fn filled_in(&self, sheet: u32) -> Result<Vec<Place>, Stop>
         requires { Fits self.now }
         ensures { Answered (cause (op.clear_sheet sheet) (state_of self.now)) (λ places. places.items ≡ filled_on_sheet sheet (state_of self.now).book) result }
     {

@@ -203,7 +203,7 @@ impl Parts {
     }
 
     // Whether the workbook is full and the cell empty.
-    fn is_full_without(&self, at: Place) -> bool
+    pub(crate) fn is_full_without(&self, at: Place) -> bool
         ensures { result ≡ (is_none (map.get (state_of self.now).book.cells at) && nat_le MAX_CELLS (map.len (state_of self.now).book.cells)) }
     {
         self.session.book.grid.cell(at).is_none() && self.session.book.grid.filled() >= MAX_CELLS
@@ -384,7 +384,7 @@ fn is_past(at: u32, count: u32, limit: u32) -> bool
 }
 
 // Whether the place isn't within the limits of a sheet.
-fn is_outside(at: Place) -> bool
+pub(crate) fn is_outside(at: Place) -> bool
     ensures { result ≡ is_outside at }
 {
     at.row >= ROWS || at.col >= COLS

@@ -1,5 +1,5 @@
 // Cells that are copied, and pasted as a step.
-ghost use Rattle.std.specs.Prelude.{◌≡◌, ◌≤◌, ◌∷◌, [], IfOk, List, OnOk, not};
+ghost use Rattle.std.specs.Prelude.{◌≡◌, ◌≤◌, ◌∷◌, ⊤, [], IfOk, List, OnOk, not};
 ghost use Rattle.std.specs.BTreeSet.{btree_set_len, contains};
 ghost use Rattle.std.specs.FinMap as map;
 ghost use Rattle.std.specs.List.{All, cons_option, filter_map};
@@ -10,13 +10,14 @@ ghost use Rattle.shift_core.specs.Carried as carrying;
 ghost use Rattle.book_model.specs.Changes.{with_copy};
 ghost use Rattle.book_model.specs.Clipboard as clipboard;
 ghost use Rattle.book_model.specs.Operation as op;
-ghost use Rattle.book_model.specs.Refusals.{first_cause, is_block_outside};
+ghost use Rattle.book_model.specs.Refusals.{cause, first_cause, is_block_outside};
 ghost use Rattle.book_model.specs.Workbook.{has_sheet};
 ghost use Rattle.book_model.specs.declared.limits.TheConstants.{MAX_CELLS};
 ghost use Rattle.book_model.specs.declared.refusal.Refusal.TheVariants as refusals;
 ghost use Rattle.kept_book.specs.Copied.{IsCopied, contents_copied};
 ghost use Rattle.kept_steps.specs.Kept.{KeepsInUse};
 ghost use Rattle.session_values.specs.Touched.{AreTouchedAtMost};
+ghost use Rattle.book_engine.specs.Areas.{Answered};
 ghost use Rattle.book_engine.specs.Engine.{NoAnswer};
 ghost use Rattle.book_engine.specs.Seen.{Fits, ValuesFollowStill, clip_of, state_of, with_clipboard};
 ghost use Rattle.book_engine.specs.internal.Pasting.{ArePlaces, place_pasted};
@@ -67,10 +68,7 @@ impl Parts {
         ensures follow { ValuesFollowStill self.old self.new }
         ensures touched { AreTouchedAtMost (covers (carrying.destination area at)) self.old.values.values self.new.values.values }
     {
-        self.check_paste(area, at)?;
-        if self.filled_after(area, cells, at)? > MAX_CELLS {
-            return Err(Stop::Refused(Refusal::CellLimit));
-        }
+        self.check_copied(area, cells, at)?;
         let there = destination(area, at);
         touch_filled(&self.session, &mut self.values, there)?;
         self.session.paste(area, cells, at)?;
@@ -78,8 +76,27 @@ impl Parts {
         Ok(())
     }
 
+    // Where copied cells of a block are pasted.
+    pub(crate) fn check_copied(
+        &self,
+        area: Block,
+        cells: &[(Place, CopyItem)],
+        at: Place,
+    ) -> Result<(), Stop>
+        requires fits { Fits self.now }
+        requires block { IsBlockInside area }
+        ensures cause { Answered (cause (op.paste at) (with_clipboard (clipboard.copied area (contents_copied cells.now)) (state_of self.now))) (λ x. ⊤) result }
+        ensures there { OnOk result (IsBlockInside (carrying.destination area at)) }
+    {
+        self.check_there(area, at)?;
+        if self.filled_after(area, cells, at)? > MAX_CELLS {
+            return Err(Stop::Refused(Refusal::CellLimit));
+        }
+        Ok(())
+    }
+
     // Where a copied block is pasted, but for its number of cells.
-    fn check_paste(&self, area: Block, at: Place) -> Result<(), Refusal>
+    fn check_there(&self, area: Block, at: Place) -> Result<(), Refusal>
         requires { IsBlockInside area }
         ensures { IsCause result (first_cause ((not (has_sheet (state_of self.now).book at.sheet), refusals.NoSheet) ∷ (is_block_outside (carrying.destination area at), refusals.Outside) ∷ [])) }
     {

@@ -1,5 +1,5 @@
 // The engine, and its calls.
-ghost use Rattle.std.specs.Prelude.{◌≡◌, ◌≤◌, All, IfOk, OnErr, OnOk, length, option_map};
+ghost use Rattle.std.specs.Prelude.{◌≡◌, ◌≤◌, [], All, IfOk, OnErr, OnOk, length, option_map};
 ghost use Rattle.cell_addr.specs.Place.{covers, same_place};
 ghost use Rattle.cell_addr.specs.Sheets.{id_in, name_in};
 ghost use Rattle.shift_core.specs.declared.shift.Shift.TheVariants as shifts;
@@ -9,9 +9,8 @@ ghost use Rattle.book_model.specs.Answers.{content_text, dependents_of, formula_
 ghost use Rattle.book_model.specs.Clipboard.{nothing};
 ghost use Rattle.book_model.specs.Given.{CanBegin, given_sheets, session_given};
 ghost use Rattle.book_model.specs.Operation as op;
-ghost use Rattle.book_model.specs.Replies.{first_sheet};
+ghost use Rattle.book_model.specs.Workbook.{State, first_sheet};
 ghost use Rattle.book_model.specs.Sound.{IsLinkInside};
-ghost use Rattle.book_model.specs.Workbook.{State};
 ghost use Rattle.book_model.specs.declared.limits.TheConstants.{MAX_UNDO};
 ghost use Rattle.book_engine.specs.Seen.{Fits, ValuesFollow, with_clipboard};
 ghost use Rattle.session_values.specs.Refreshed.{IsUnmarked};
@@ -513,6 +512,18 @@ impl<C: Customs> Engine<C> {
         self.parts.redo()?;
         self.waiting.clear_cut();
         Ok(())
+    }
+
+    /// Forgets the steps that can be undone and those that can be done again: until the next change there is nothing to undo or redo.
+    /// The workbook stays, what waits to be pasted too, and an open batch, whose changes still become one step. Costs what the
+    /// steps list.
+    pub fn clear_history(&mut self)
+        ensures clears { (d : State) → StandsFor C.customs self.old d → StandsFor C.customs self.new (record d { undo = []; redo = [] }) }
+        ensures line { KeepsLine self.old self.new }
+        ensures kept { KeepsAll self.old self.new }
+        ensures values { KeepsValues self.old self.new }
+    {
+        self.parts.clear_history();
     }
 
     /// What a cell shows. Costs a look-up where nothing changed since the last read of a value; else what the changes since then

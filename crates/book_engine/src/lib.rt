@@ -18,10 +18,13 @@
 mod absolute;
 mod areas;
 mod asking;
+mod cause;
 mod checks;
 mod copying;
+mod cycles;
 mod engine;
 mod formulas;
+mod giving;
 mod idle;
 pub mod laws;
 mod links;
@@ -38,10 +41,23 @@ mod stop;
 mod taken_apart;
 mod undoing;
 mod waiting;
+mod writing;
 
 pub use areas::Kind;
+pub use cause::Change;
 pub use engine::Engine;
-pub use kept_steps::Entry;
 pub use listing::NameEntry;
 pub use stop::Stop;
 pub use taken_apart::EngineParts;
+
+// What callers need of the crates below, so that an application lists this crate alone.
+pub use book_model::{BookCell, BookCells, BookSheet, Refusal};
+pub use calc_eval::Customs;
+pub use cell_addr::{Block, Place, Text};
+pub use cell_value::{FaultKind, Scalar};
+pub use custom_fn::Registry;
+pub use fix_num::Fixed;
+pub use formula_tree::Link;
+pub use kept_steps::Entry;
+pub use shift_core::Shift;
+pub use steps::Steps;

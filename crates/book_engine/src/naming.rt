@@ -1,5 +1,5 @@
 // Named expressions that are added, changed and removed.
-ghost use Rattle.std.specs.Prelude.{◌≡◌, OnErr, OnOk, Some};
+ghost use Rattle.std.specs.Prelude.{◌≡◌, ⊤, OnErr, OnOk, Some};
 ghost use Rattle.book_values.specs.Names.{key_of};
 ghost use Rattle.name_table.specs.Listed.{listed};
 ghost use Rattle.formula_tree.specs.Proper.{IsProper};
@@ -7,12 +7,14 @@ ghost use Rattle.formula_tree.specs.Reference.{IsHomeInside, sheet_of};
 ghost use Rattle.formula_tree.specs.Relative.{relative};
 ghost use Rattle.formula_tree.specs.StandsFor.{at_home};
 ghost use Rattle.book_values.specs.Workbook.{scope_sheet};
+ghost use Rattle.book_model.specs.Changes.{name_tree};
 ghost use Rattle.book_model.specs.Content.{tree_given};
 ghost use Rattle.book_model.specs.Operation as op;
-ghost use Rattle.book_model.specs.Refusals.{first_cause, of_name_text, of_tried_text};
+ghost use Rattle.book_model.specs.Refusals.{cause, first_cause, of_name_text, of_tried_text};
 ghost use Rattle.kept_book.specs.Formula.{tree_in_scope};
 ghost use Rattle.kept_steps.specs.Kept.{KeepsInUse};
 ghost use Rattle.session_values.specs.Naming.{MarksAddition, MarksChange, MarksRemoval};
+ghost use Rattle.book_engine.specs.Areas.{Answered};
 ghost use Rattle.book_engine.specs.Engine.{NoAnswer};
 ghost use Rattle.book_engine.specs.Seen.{Fits, ValuesFollowStill, state_of};
 ghost use Rattle.book_engine.specs.internal.Names.{Reads};
@@ -89,6 +91,37 @@ impl Parts {
         self.check_known_name(name, scope)?;
         self.session.name(scope, name, None)?;
         self.values.name_removed(&self.session, scope, name);
+        Ok(())
+    }
+
+    // Where a name is added.
+    pub(crate) fn check_added(&self, name: &str, scope: Option<u32>, text: &str) -> Result<(), Stop>
+        ensures { Answered (cause (op.add_name name.now scope text.now) (state_of self.now)) (λ x. ⊤) result }
+    {
+        self.check_new_name(name, scope)?;
+        self.check_name_text(scope, text)
+    }
+
+    // Where a name gets another formula.
+    pub(crate) fn check_changed(
+        &self,
+        name: &str,
+        scope: Option<u32>,
+        text: &str,
+    ) -> Result<(), Stop>
+        ensures { Answered (cause (op.change_name name.now scope text.now) (state_of self.now)) (λ x. ⊤) result }
+    {
+        self.check_known_name(name, scope)?;
+        self.check_name_text(scope, text)
+    }
+
+    // Where a text is given to a name of the scope: its tree is read, and dropped.
+    fn check_name_text(&self, scope: Option<u32>, text: &str) -> Result<(), Stop>
+        ensures { Answered (first_cause (of_name_text text.now (name_tree scope text.now (state_of self.now).book))) (λ x. ⊤) result }
+    {
+        let book = &self.session.book;
+        let mut pool = Pool::new(book.alloc)?;
+        let _tree = read_name(book.alloc, &mut pool, &book.names, scope, text)?;
         Ok(())
     }
 }

@@ -1,5 +1,5 @@
 // Steps that can be undone and redone, batches of changes, and suspension.
-ghost use Rattle.std.specs.Prelude.{◌≡◌, true, false, OnErr, OnOk};
+ghost use Rattle.std.specs.Prelude.{◌≡◌, [], true, false, OnErr, OnOk};
 ghost use Rattle.book_model.specs.Operation as op;
 ghost use Rattle.book_model.specs.Refusals.{cause};
 ghost use Rattle.lazy_store.specs.Store.{KeepsAll};
@@ -22,9 +22,7 @@ impl Parts {
         ensures follow { ValuesFollowStill self.old self.new }
         ensures values { self.new.values ≡ self.old.values }
     {
-        if self.session.batch.is_some() {
-            return Err(Stop::Refused(Refusal::BatchOpen));
-        }
+        self.check_begin()?;
         self.session.begin();
         Ok(())
     }
@@ -38,11 +36,22 @@ impl Parts {
         ensures follow { ValuesFollowStill self.old self.new }
         ensures values { self.new.values ≡ self.old.values }
     {
-        if self.session.batch.is_none() {
-            return Err(Stop::Refused(Refusal::NoBatch));
-        }
+        self.check_commit()?;
         self.session.commit();
         Ok(())
+    }
+
+    // Forgets the steps that can be undone and done again.
+    pub(crate) fn clear_history(&mut self)
+        requires { Fits self.old }
+        ensures state { state_of self.new ≡ record (state_of self.old) { undo = []; redo = [] } }
+        ensures fits { Fits self.new }
+        ensures kept { KeepsAll self.old.session.book.lazy self.new.session.book.lazy }
+        ensures line { self.new.session.book.lazy.line ≡ self.old.session.book.lazy.line }
+        ensures follow { ValuesFollowStill self.old self.new }
+        ensures values { self.new.values ≡ self.old.values }
+    {
+        self.session.forget_steps();
     }
 
     // Stops the computation of values.
@@ -67,6 +76,26 @@ impl Parts {
         ensures values { self.new.values ≡ self.old.values }
     {
         self.session.resume();
+    }
+
+    // Where a batch is opened.
+    pub(crate) fn check_begin(&self) -> Result<(), Refusal>
+        ensures { IsCause result (cause op.begin (state_of self.now)) }
+    {
+        if self.session.batch.is_some() {
+            return Err(Refusal::BatchOpen);
+        }
+        Ok(())
+    }
+
+    // Where the batch is closed.
+    pub(crate) fn check_commit(&self) -> Result<(), Refusal>
+        ensures { IsCause result (cause op.commit (state_of self.now)) }
+    {
+        if self.session.batch.is_none() {
+            return Err(Refusal::NoBatch);
+        }
+        Ok(())
     }
 
     // Where a step is taken back.

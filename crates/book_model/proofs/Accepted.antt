@@ -1,5 +1,5 @@
 -- What an operation that isn't refused is: a structural one is sound. Serves the laws of sessions, and the engine.
-use Rattle.std.proofs.Common.{◌≡◌, sym, refl, arith, inl, inr, ℕ, ◌≤◌, ◌<◌, ◌+◌, ◌==◌, ◌&&◌, ◌||◌, nat_lt, Bool, true, false, cond, not, List, [], ◌∷◌, Option, Some, None}
+use Rattle.std.proofs.Common.{◌≡◌, ◌∙◌, ◌++◌, sym, ap, refl, arith, inl, inr, ℕ, ◌≤◌, ◌<◌, ◌+◌, ◌==◌, ◌&&◌, ◌||◌, nat_lt, Bool, true, false, cond, not, List, [], ◌∷◌, Option, Some, None}
 use Rattle.std.specs.Prelude.{nat_le, ◌⊎◌, ⊤}
 use Rattle.std.proofs.lemmas.Bool.{cases_lt}
 use Rattle.std.proofs.lemmas.Bool.Decides.{nat_tests}
@@ -33,6 +33,14 @@ none_first false r found e = (refl, e)
 pub none_hold : (cs : List Cause) → first_cause cs ≡ None → NoneHold cs
 none_hold [] e = tt
 none_hold (c ∷ cs) e = let h = none_first c.0 c.1 (first_cause cs) e in (h.0, none_hold cs h.1)
+
+-- nor any of two parts
+pub none_in : (cs ds : List Cause) → first_cause (cs ++ ds) ≡ None → (first_cause cs ≡ None) × (first_cause ds ≡ None)
+none_in [] ds e = (refl, e)
+none_in (c ∷ cs) ds e =
+    let h = none_first c.0 c.1 (first_cause (cs ++ ds)) e in
+    let k = none_in cs ds h.1 in
+    (ap (λ b. cond b (Some c.1) (first_cause cs)) h.0 ∙ k.0, k.1)
 
 pub is_known : (b : Bool) → not b ≡ false → b ≡ true
 is_known true e = refl

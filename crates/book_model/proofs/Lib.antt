@@ -2,6 +2,7 @@ pub mod Counts
 pub mod KnownSheets
 pub mod SheetLists
 pub mod Contents
+pub mod GivenTexts
 pub mod ShiftedBooks
 pub mod NameOrder
 pub mod NameMaps

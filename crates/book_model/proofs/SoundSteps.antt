@@ -10,7 +10,8 @@ use Rattle.std.specs.FinMap as map
 use Rattle.cell_addr.specs.declared.place.Block.{Block}
 use Rattle.cell_addr.specs.declared.place.Place.{Place}
 use Rattle.cell_addr.proofs.Places.{place_cmp-IsTotalOrder, place_cmp-IsAntisymmetric}
-use Rattle.cell_addr.specs.Place.{IsBlockInside, covers}
+use Rattle.cell_addr.specs.Place.{IsBlockInside, IsInside, covers}
+use Rattle.cell_addr.specs.Sheets.{AreSheets}
 use Rattle.book_cells.specs.Workbook.{Book as Contents, Content}
 use Rattle.book_cells.specs.Workbook as contents
 use Rattle.formula_tree.specs.Term.{Term}
@@ -19,10 +20,10 @@ use Rattle.book_values.specs.Names.{Key, key_of}
 use Rattle.book_model.specs.Clipboard.{Clipboard, nothing, copied, moving, copy_of, without_cut}
 use Rattle.book_model.specs.Names.{are_absolute}
 use Rattle.book_model.specs.Workbook.{Workbook, Batch, State, has_scope, has_sheet}
-use Rattle.book_model.specs.Operation.{Operation, set, clear, structural, add_sheet, rename_sheet, clear_sheet, add_name, change_name, remove_name, begin, commit, suspend, resume, undo, redo, copy, cut, paste, value, formula, content, precedents, dependents, name_value, try_formula}
-use Rattle.book_model.specs.Refusals.{causes, cause, first_cause, is_relative, of_clip}
+use Rattle.book_model.specs.Operation.{Operation, set, clear, structural, add_sheet, rename_sheet, clear_sheet, add_name, change_name, remove_name, begin, commit, suspend, resume, undo, redo, copy, cut, paste, value, formula, content, precedents, dependents, name_value, try_formula, write_all}
+use Rattle.book_model.specs.Refusals.{at_cells, at_place, causes, cause, first_cause, is_relative, of_clip, of_texts}
 use Rattle.book_model.specs.Content.{content_given, content_of}
-use Rattle.book_model.specs.Changes.{with_content, emptied, shifted, with_sheet, renamed, named, unnamed, name_tree, with_clip, with_copy, with_name}
+use Rattle.book_model.specs.Changes.{all_placed, placed, with_content, with_contents, emptied, shifted, with_sheet, renamed, named, unnamed, name_tree, with_clip, with_copy, with_name}
 use Rattle.book_model.specs.Session.{changed, changed_in, closed, done, kept, next, opened, redone, undone, unless_refused}
 use Rattle.book_model.specs.Sound.{ClearedBy, IsSound, IsSoundBatch, IsSoundBook, IsSoundClip, IsContentOf, IsCellOf, IsNameOf}
 use Rattle.book_model.specs.declared.refusal.Refusal.{Refusal}
@@ -33,7 +34,7 @@ use Rattle.shift_core.specs.Carried.{destination}
 use Rattle.shift_core.specs.Form.{form_of}
 use Rattle.shift_core.specs.declared.shift.Shift.{Shift}
 use Rattle.shift_core.specs.declared.shift.Shift.TheVariants.{MoveBlock}
-use Rattle.book_model.proofs.Accepted.{none_hold, is_known, is_inside, is_block_inside, sound_form}
+use Rattle.book_model.proofs.Accepted.{none_hold, none_in, is_known, is_inside, is_block_inside, sound_form}
 use Rattle.book_model.proofs.ShiftedBooks.{shifted_book}
 use Rattle.book_model.proofs.Contents.{given_is, named_is, placed_cells, emptied_cells}
 use Rattle.book_model.proofs.PastedCells.{content-proper, copied-from, pasted-cells}
@@ -62,6 +63,31 @@ set_sound d at text s e =
     (placed_cells (IsCellOf d.book) at (content_given d.book.sheets at.sheet (content_of text)) d.book.cells
     (λ x given. (is_inside at h.1.0, here, given_is d.book at.sheet (content_of text) x s.book.sheets here given)) s.book.cells)
     (at_most 1000000 (map.len (with_content at text d.book).cells) h.1.1.1.0)
+
+-- texts that are given to cells: these are inside, and on sheets of the book
+pub cells_known : (d : State) (cells : List (Place × List ℕ)) → first_cause (at_cells d.book cells) ≡ None → All (λ e. IsInside e.0 × (has_sheet d.book e.0.sheet ≡ true)) cells
+cells_known d [] e = λ k x l. absurd (omega arith)
+cells_known d (c ∷ cs) e =
+    let both = none_in (at_place d c.0) (at_cells d.book cs) e in
+    let h = none_hold (at_place d c.0) both.0 in
+    All-cons (λ x. IsInside x.0 × (has_sheet d.book x.0.sheet ≡ true)) c cs (is_inside c.0 h.1.0, is_known (has_sheet d.book c.0.sheet) h.0) (cells_known d cs both.1)
+
+-- what they give are cells of the book
+placed_sound : (b : Workbook) (given : List (Place × List ℕ)) (cells : Contents) → AreSheets b.sheets → All (λ e. IsInside e.0 × (has_sheet b e.0.sheet ≡ true)) given
+    → ((p : Place) (c : Content) → map.get cells p ≡ Some c → IsCellOf b p c) → (p : Place) (c : Content) → map.get (all_placed b.sheets given cells) p ≡ Some c → IsCellOf b p c
+placed_sound b [] cells are known old = old
+placed_sound b (e ∷ es) cells are known old =
+    let here = All-head (λ x. IsInside x.0 × (has_sheet b x.0.sheet ≡ true)) e es known in
+    let gives = content_given b.sheets e.0.sheet (content_of e.1) in
+    placed_sound b es (placed e.0 gives cells) are (All-tail (λ x. IsInside x.0 × (has_sheet b x.0.sheet ≡ true)) e es known)
+    (placed_cells (IsCellOf b) e.0 gives cells (λ x given. (here.0, here.1, given_is b e.0.sheet (content_of e.1) x are here.1 given)) old)
+
+write_sound : (d : State) (cells : List (Place × List ℕ)) → IsSound d → cause (write_all cells) d ≡ None → IsSoundBook d.next_sheet (with_contents cells d.book)
+write_sound d cells s e =
+    let both = none_in (at_cells d.book cells) (of_texts d cells) e in
+    let h = none_hold (of_texts d cells) both.1 in
+    with_cells d.next_sheet d.book (with_contents cells d.book).cells s.book (placed_sound d.book cells d.book.cells s.book.sheets (cells_known d cells both.0) s.book.cells)
+    (at_most 1000000 (map.len (with_contents cells d.book).cells) h.1.0)
 
 -- emptied cells
 emptied_sound : (d : State) (test : Place → Bool) → IsSound d → IsSoundBook d.next_sheet (emptied test d.book)
@@ -333,6 +359,7 @@ done_sound (precedents at) d s e = s
 done_sound (dependents at) d s e = s
 done_sound (name_value name sheet) d s e = s
 done_sound (try_formula sheet text) d s e = s
+done_sound (write_all cells) d s e = change_sound d (with_contents cells d.book) s (write_sound d cells s e)
 
 -- an operation leads from a sound session to a sound one
 pub next_sound : (op : Operation) (d : State) → IsSound d → IsSound (next op d)

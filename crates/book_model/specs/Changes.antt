@@ -1,7 +1,7 @@
 -- The workbook after each change: every formula of every sheet follows a structural operation at once.
 -- Source: HyperFormula's guide in outline, and this project's own in the exact rules.
 use Rattle.std.specs.Prelude as std
-use Rattle.std.specs.Prelude.{ℕ, ◌==◌, if◌then◌else◌, Bool, true, not, List, [], ◌∷◌, ◌++◌, filter, Option, Some, None}
+use Rattle.std.specs.Prelude.{◌≢◌, ℕ, ◌==◌, if◌then◌else◌, Bool, true, not, List, [], ◌∷◌, ◌++◌, filter, Option, Some, None, AllPairs}
 use Rattle.std.specs.FinMap as map
 use Rattle.std.specs.List.{filter_map}
 use Rattle.cell_addr.specs.Place.{covers}
@@ -26,15 +26,33 @@ use Rattle.book_model.specs.Clipboard.{Clipboard, nothing, copied, moving}
 use Rattle.book_model.specs.Names.{NameMap, is_on_sheet, with_tree}
 use Rattle.book_model.specs.Workbook.{Workbook}
 use Rattle.book_model.specs.Content.{content_given, content_of, tree_given}
+use Rattle.book_model.specs.declared.content.ContentText.{ContentText}
 
 -- the contents where a place has this one, or none
 abbrev pub placed : Place → Option Content → Contents → Contents
 placed at None cells = map.remove cells at
 placed at (Some c) cells = map.insert cells at c
 
+-- a cell gets this, or becomes empty
+abbrev pub with_given_content : Place → ContentText → Workbook → Workbook
+with_given_content at said b = record b { cells = placed at (content_given b.sheets at.sheet said) b.cells }
+
 -- a cell gets what a text says
 abbrev pub with_content : Place → List ℕ → Workbook → Workbook
-with_content at text b = record b { cells = placed at (content_given b.sheets at.sheet (content_of text)) b.cells }
+with_content at text b = with_given_content at (content_of text) b
+
+-- the contents where places of the sheets have what texts say, given one after the other
+abbrev pub all_placed : List (ℕ × List ℕ) → List (Place × List ℕ) → Contents → Contents
+all_placed sheets [] cells = cells
+all_placed sheets (e ∷ es) cells = all_placed sheets es (placed e.0 (content_given sheets e.0.sheet (content_of e.1)) cells)
+
+-- cells get what texts say
+abbrev pub with_contents : List (Place × List ℕ) → Workbook → Workbook
+with_contents given b = record b { cells = all_placed b.sheets given b.cells }
+
+-- no two of these texts are for one place
+abbrev pub HaveDistinctPlaces : List (Place × List ℕ) → Type 0
+HaveDistinctPlaces given = AllPairs (λ e f. e.0 ≢ f.0) given
 
 -- the cells that pass a test become empty
 abbrev pub emptied : (Place → Bool) → Workbook → Workbook

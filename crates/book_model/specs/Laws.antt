@@ -1,14 +1,19 @@
 -- What holds of sessions.
-use Rattle.std.specs.Prelude.{◌≡◌, ◌≤◌, ℕ, ℤ, List, Some, All}
+use Rattle.std.specs.Prelude.{◌≡◌, ◌≤◌, ℕ, ℤ, Bool, List, Some, All}
 use Rattle.custom_fn.specs.declared.rule.Rule.{Rule}
+use Rattle.fix_num.specs.Number.{IsInside}
+use Rattle.fix_num.specs.Text.{text_of}
 use Rattle.cell_addr.specs.declared.place.Place.{Place}
+use Rattle.cell_value.specs.Scalar.{truth_text}
 use Rattle.book_model.specs.Answers.{dependents_of, precedents_of}
+use Rattle.book_model.specs.Content.{content_of, text_given}
 use Rattle.book_model.specs.Operation.{Operation}
 use Rattle.book_model.specs.Workbook.{State}
 use Rattle.book_model.specs.Refusals.{cause}
 use Rattle.book_model.specs.Session.{next}
 use Rattle.book_model.specs.Given.{GivenSheet, session_given, CanBegin}
 use Rattle.book_model.specs.Sound.{IsLinkInside, IsSound}
+use Rattle.book_model.specs.declared.content.ContentText.TheVariants as said
 use Rattle.book_model.specs.declared.limits.TheConstants.{MAX_UNDO}
 use Rattle.book_model.specs.declared.refusal.Refusal.{Refusal}
 
@@ -24,3 +29,9 @@ RefusalsChangeNothing = (op : Operation) (d : State) (r : Refusal) → cause op 
 -- what a formula of a sound session needs, and what needs a cell, stands within the limits of a sheet
 abbrev pub LinksAreInside : Type 0
 LinksAreInside = (d : State) (at : Place) → IsSound d → All IsLinkInside (precedents_of d at) × All IsLinkInside (dependents_of d at)
+
+-- the text of a number says the number, that of a truth value the truth value, and the text that gives a text says that text
+abbrev pub GivenTextsSayIt : Type 0
+GivenTextsSayIt = ((m : ℤ) → IsInside m → content_of (text_of m) ≡ said.Number m)
+    × ((b : Bool) → content_of (truth_text b) ≡ said.Truth b)
+    × ((w : List ℕ) → content_of (text_given w) ≡ said.Text w)

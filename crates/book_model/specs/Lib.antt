@@ -5,9 +5,9 @@ pub mod Content
 pub mod Operation
 pub mod Changes
 pub mod Refusals
+pub mod RefusalNames
 pub mod Session
 pub mod Answers
-pub mod Replies
 pub mod Given
 pub mod Sound
 pub mod Laws

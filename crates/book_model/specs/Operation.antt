@@ -49,3 +49,5 @@ pub data Operation : Type 0 where
   name_value : List ℕ → ℕ → Operation
   -- what a formula would show in the first cell of a sheet
   try_formula : ℕ → List ℕ → Operation
+  -- gives cells the contents that texts say, all of them together
+  write_all : List (Place × List ℕ) → Operation

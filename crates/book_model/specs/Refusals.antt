@@ -1,6 +1,6 @@
 -- Why an operation is refused: the causes of each, in the order in which they are tested. The first that holds is the
 -- answer. Source: this project's own.
-use Rattle.std.specs.Prelude.{ℕ, ◌+◌, ◌==◌, ◌&&◌, ◌||◌, nat_lt, nat_le, if◌then◌else◌, Bool, true, false, not, List, [], ◌∷◌, length, Option, Some, None, is_none, is_some}
+use Rattle.std.specs.Prelude.{ℕ, ◌+◌, ◌++◌, ◌==◌, ◌&&◌, ◌||◌, nat_lt, nat_le, if◌then◌else◌, Bool, true, false, not, List, [], ◌∷◌, length, Option, Some, None, is_none, is_some}
 use Rattle.std.specs.List.{list_any, list_all}
 use Rattle.std.specs.FinMap as map
 use Rattle.cell_addr.specs.declared.place.Place.{Place}
@@ -24,8 +24,8 @@ use Rattle.book_model.specs.Clipboard.{Clipboard, nothing, copied, moving}
 use Rattle.book_model.specs.Content.{tree_given}
 use Rattle.book_model.specs.Names.{are_absolute, is_name}
 use Rattle.book_model.specs.Workbook.{Workbook, State, has_name, has_scope, has_sheet}
-use Rattle.book_model.specs.Operation.{Operation, set, clear, structural, add_sheet, rename_sheet, clear_sheet, add_name, change_name, remove_name, begin, commit, suspend, resume, undo, redo, copy, cut, paste, value, formula, content, precedents, dependents, name_value, try_formula}
-use Rattle.book_model.specs.Changes.{name_tree, with_content, with_copy}
+use Rattle.book_model.specs.Operation.{Operation, set, clear, structural, add_sheet, rename_sheet, clear_sheet, add_name, change_name, remove_name, begin, commit, suspend, resume, undo, redo, copy, cut, paste, value, formula, content, precedents, dependents, name_value, try_formula, write_all}
+use Rattle.book_model.specs.Changes.{name_tree, with_content, with_contents, with_copy}
 use Rattle.book_model.specs.declared.limits.TheConstants.{MAX_CELLS, MAX_SHEETS, MAX_SHEET_NAME, MAX_TEXT}
 use Rattle.book_model.specs.declared.refusal.Refusal.{Refusal}
 use Rattle.book_model.specs.declared.refusal.Refusal.TheVariants.{NoSheet, SheetNameTaken, SheetNameInvalid, Outside, SizeLimit, CellLimit, NameTaken, NameInvalid, NoSuchName, RelativeAddress, NothingToUndo, NothingToRedo, NothingToPaste, Suspended, BatchOpen, NoBatch, BadSpan, TextLimit, SheetLimit, BadFormula}
@@ -61,9 +61,13 @@ is_sheet_name name = (nat_lt 0 (length name) && nat_le (length name) MAX_SHEET_N
 abbrev pub is_taken : Workbook → ℕ → List ℕ → Bool
 is_taken b id name = list_any (λ s. not (s.0 == id) && same_name s.1 name) b.sheets
 
--- where a place is asked for, or a block
+-- where a place is asked for, or places that are given texts one after the other, or a block
 abbrev pub at_place : State → Place → List Cause
 at_place d at = (not (has_sheet d.book at.sheet), NoSheet) ∷ (is_outside at, Outside) ∷ []
+
+abbrev pub at_cells : Workbook → List (Place × List ℕ) → List Cause
+at_cells b [] = []
+at_cells b (e ∷ es) = (not (has_sheet b e.0.sheet), NoSheet) ∷ (is_outside e.0, Outside) ∷ at_cells b es
 
 abbrev pub at_block : State → Block → List Cause
 at_block d area = (not (has_sheet d.book area.sheet), NoSheet) ∷ (is_block_outside area, Outside) ∷ []
@@ -131,6 +135,13 @@ of_name_text text tree =
     ∷ (is_relative tree, RelativeAddress)
     ∷ []
 
+-- cells are given texts, of which none is too long, and which don't fill too many
+abbrev pub of_texts : State → List (Place × List ℕ) → List Cause
+of_texts d cells =
+    (list_any (λ e. nat_lt MAX_TEXT (length e.1)) cells, TextLimit)
+    ∷ (nat_lt MAX_CELLS (map.len (with_contents cells d.book).cells), CellLimit)
+    ∷ []
+
 -- the table of refusals, a line for each operation
 abbrev pub causes : Operation → State → List Cause
 causes (set at text) d =
@@ -188,6 +199,7 @@ causes (try_formula sheet text) d =
     (is_suspended d, Suspended)
     ∷ (not (has_sheet d.book sheet), NoSheet)
     ∷ of_tried_text text (tree_given d.book.sheets sheet text)
+causes (write_all cells) d = at_cells d.book cells ++ of_texts d cells
 
 -- why an operation is refused in a session, if it is
 abbrev pub cause : Operation → State → Option Refusal

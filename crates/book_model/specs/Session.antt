@@ -3,8 +3,8 @@ use Rattle.std.specs.Prelude.{◌+◌, ◌==◌, if◌then◌else◌, true, fals
 use Rattle.cell_addr.specs.Place.{covers}
 use Rattle.book_model.specs.Clipboard.{copy_of, moving, without_cut}
 use Rattle.book_model.specs.Workbook.{Workbook, Batch, State}
-use Rattle.book_model.specs.Operation.{Operation, set, clear, structural, add_sheet, rename_sheet, clear_sheet, add_name, change_name, remove_name, copy, cut, paste, begin, commit, suspend, resume, undo, redo, value, formula, content, precedents, dependents, name_value, try_formula}
-use Rattle.book_model.specs.Changes.{with_content, emptied, shifted, with_sheet, renamed, named, unnamed, with_clip}
+use Rattle.book_model.specs.Operation.{Operation, set, clear, structural, add_sheet, rename_sheet, clear_sheet, add_name, change_name, remove_name, copy, cut, paste, begin, commit, suspend, resume, undo, redo, value, formula, content, precedents, dependents, name_value, try_formula, write_all}
+use Rattle.book_model.specs.Changes.{with_content, with_contents, emptied, shifted, with_sheet, renamed, named, unnamed, with_clip}
 use Rattle.book_model.specs.Refusals.{cause}
 use Rattle.book_model.specs.declared.refusal.Refusal.{Refusal}
 
@@ -66,6 +66,7 @@ done (precedents at) d = d
 done (dependents at) d = d
 done (name_value name sheet) d = d
 done (try_formula sheet text) d = d
+done (write_all cells) d = changed (with_contents cells d.book) d
 
 -- a refusal changes nothing
 abbrev pub unless_refused : Option Refusal → State → State → State

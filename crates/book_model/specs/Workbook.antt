@@ -1,5 +1,5 @@
 -- A workbook, and the state of a session that works on it. Source: this project's own.
-use Rattle.std.specs.Prelude.{ℕ, ℤ, ◌==◌, Bool, true, List, Option, Some, None, is_some}
+use Rattle.std.specs.Prelude.{ℕ, ℤ, ◌==◌, Bool, true, List, [], ◌∷◌, Option, Some, None, is_some}
 use Rattle.std.specs.FinMap as map
 use Rattle.std.specs.List.{list_any}
 use Rattle.book_cells.specs.Workbook.{Book as Contents}
@@ -49,3 +49,10 @@ has_scope b (Some sheet) = has_sheet b sheet
 -- the book has a name of this scope and word
 abbrev pub has_name : Workbook → Key → Bool
 has_name b key = is_some (map.get b.names key)
+
+-- the first sheet of the list
+abbrev pub first_sheet : Workbook → Option ℕ
+first_sheet b = first_of b.sheets where
+  first_of : List (ℕ × List ℕ) → Option ℕ
+  first_of [] = None
+  first_of (sheet ∷ rest) = Some sheet.0

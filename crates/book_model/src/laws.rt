@@ -1,5 +1,5 @@
 //! What holds of every session: laws, with nothing to run.
-ghost use Rattle.book_model.specs.Laws.{LinksAreInside, SessionsAreSound, RefusalsChangeNothing};
+ghost use Rattle.book_model.specs.Laws.{GivenTextsSayIt, LinksAreInside, SessionsAreSound, RefusalsChangeNothing};
 
 /// A session that begins with given sheets is sound, and operations lead from one sound session to another: each filled
 /// cell is inside a sheet of the book, each formula's tree is proper, and its sheets are the book's.
@@ -16,4 +16,9 @@ pub fn refusals_change_nothing()
 /// that need a cell.
 pub fn links_are_inside()
     ensures { LinksAreInside }
+{}
+
+/// What a cell's content is where its text is that of a number, of a truth value, or the one that gives a text.
+pub fn given_texts_say_it()
+    ensures { GivenTextsSayIt }
 {}

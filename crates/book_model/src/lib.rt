@@ -3,15 +3,14 @@
 //! It stands in the specs alone: a workbook is a list of sheets, a finite map from places to contents
 //! (`Workbook.antt`), and one from scopes and words to the trees of names (`Names.antt`); an operation is refused by
 //! the first cause of its line in a table (`Refusals.antt`), and else gives the next session (`Session.antt`,
-//! `Changes.antt`) and an answer (`Answers.antt`); a command of a script is answered by a line (`Replies.antt`). The
-//! engine's contracts and the program's cite these definitions.
+//! `Changes.antt`) and an answer (`Answers.antt`). The engine's contracts cite these definitions, and so do those of
+//! what stands over it.
 //!
-//! What runs are the plain types that they speak of: a [`Command`] of a script, a [`Refusal`], the sheets that a session
-//! begins with, and [`read_content`], which says what the text given to a cell is. `read_content(alloc, "=A1")` is a
-//! formula, and `read_content(alloc, "007")` the number 7.
+//! What runs are the plain types that they speak of: a [`Refusal`], the sheets that a session begins with, and
+//! [`read_content`], which says what the text given to a cell is. `read_content(alloc, "=A1")` is a formula, and
+//! `read_content(alloc, "007")` the number 7.
 #![tactic(auto)]
 
-mod command;
 mod content;
 mod given;
 pub mod laws;
@@ -20,7 +19,6 @@ mod name;
 mod refusal;
 mod sheet_name;
 
-pub use command::{Command, Version};
 pub use content::{ContentText, read_content, text_given};
 pub use given::{BookCell, BookCells, BookSheet};
 pub use limits::{MAX_CELLS, MAX_NAME, MAX_SHEET_NAME, MAX_SHEETS, MAX_TEXT, MAX_UNDO};

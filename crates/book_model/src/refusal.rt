@@ -1,49 +1,49 @@
 // Why an operation is refused.
 ghost use Rattle.std.specs.Prelude.{◌≡◌};
-ghost use Rattle.book_model.specs.Replies.{refusal_number, refusal_name};
+ghost use Rattle.book_model.specs.RefusalNames.{refusal_name, refusal_number};
 
-/// Why an operation is refused. A refused operation changes nothing. This project's own numbers.
+/// Why an operation is refused. A refused operation changes nothing. This project's own.
 #[derive(Clone, Copy, PartialEq, Eq, Debug)]
 pub enum Refusal {
-    /// 1: the workbook has no such sheet.
+    /// The workbook has no such sheet.
     NoSheet,
-    /// 2: another sheet has the name, in some case of its ASCII letters.
+    /// Another sheet has the name, in some case of its ASCII letters.
     SheetNameTaken,
-    /// 3: the name hasn't 1 to 100 bytes, or has a control character.
+    /// The name hasn't 1 to 100 bytes, or has a control character.
     SheetNameInvalid,
-    /// 4: the place, the block or the span isn't within the limits of a sheet.
+    /// The place, the block or the span isn't within the limits of a sheet.
     Outside,
-    /// 5: a filled cell would be pushed off the sheet.
+    /// A filled cell would be pushed off the sheet.
     SizeLimit,
-    /// 6: more cells would be filled than a workbook may have.
+    /// More cells would be filled than a workbook may have.
     CellLimit,
-    /// 7: the scope has a name of this word, in some case of its ASCII letters.
+    /// The scope has a name of this word, in some case of its ASCII letters.
     NameTaken,
-    /// 8: the word isn't of the form of a name, as [`crate::is_name`] has it.
+    /// The word isn't of the form of a name, as [`crate::is_name`] has it.
     NameInvalid,
-    /// 9: there is no such name.
+    /// There is no such name.
     NoSuchName,
-    /// 10: a reference of a name's formula lacks a `$`, or, in a name of the whole workbook, its sheet.
+    /// A reference of a name's formula lacks a `$`, or, in a name of the whole workbook, its sheet.
     RelativeAddress,
-    /// 11: no step can be undone.
+    /// No step can be undone.
     NothingToUndo,
-    /// 12: no step can be redone.
+    /// No step can be redone.
     NothingToRedo,
-    /// 13: nothing was copied or cut, or what was cut is pasted or no longer waits.
+    /// Nothing was copied or cut, or what was cut is pasted or no longer waits.
     NothingToPaste,
-    /// 14: the computation of values is suspended, or a batch is open.
+    /// The computation of values is suspended, or a batch is open.
     Suspended,
-    /// 15: a batch is open.
+    /// A batch is open.
     BatchOpen,
-    /// 16: no batch is open.
+    /// No batch is open.
     NoBatch,
-    /// 17: the span has no lines, or is moved to where it is.
+    /// The span has no lines, or is moved to where it is.
     BadSpan,
-    /// 18: the text is longer than a text given to a cell, to a name or for a try may be.
+    /// The text is longer than a text given to a cell, to a name or for a try may be.
     TextLimit,
-    /// 19: all sheet numbers of the session are used.
+    /// All sheet numbers of the session are used.
     SheetLimit,
-    /// 20: the text is no formula.
+    /// The text is no formula.
     BadFormula,
 }
 
@@ -52,55 +52,42 @@ impl Refusal {
     pub fn number(self) -> u8
         ensures { result ≡ refusal_number self }
     {
-        match self {
-            Refusal::NoSheet => 1,
-            Refusal::SheetNameTaken => 2,
-            Refusal::SheetNameInvalid => 3,
-            Refusal::Outside => 4,
-            Refusal::SizeLimit => 5,
-            Refusal::CellLimit => 6,
-            Refusal::NameTaken => 7,
-            Refusal::NameInvalid => 8,
-            Refusal::NoSuchName => 9,
-            Refusal::RelativeAddress => 10,
-            Refusal::NothingToUndo => 11,
-            Refusal::NothingToRedo => 12,
-            Refusal::NothingToPaste => 13,
-            Refusal::Suspended => 14,
-            Refusal::BatchOpen => 15,
-            Refusal::NoBatch => 16,
-            Refusal::BadSpan => 17,
-            Refusal::TextLimit => 18,
-            Refusal::SheetLimit => 19,
-            Refusal::BadFormula => 20,
-        }
+        self.line().0
     }
 
     /// The name that a reply gives.
     pub fn name(self) -> &'static str
         ensures { result.now ≡ refusal_name self }
     {
+        self.line().1
+    }
+
+    // Its line in the table of refusals: its number and its name.
+    fn line(self) -> (u8, &'static str)
+        ensures number { result.0 ≡ refusal_number self }
+        ensures name { result.1.now ≡ refusal_name self }
+    {
         match self {
-            Refusal::NoSheet => "NoSheet",
-            Refusal::SheetNameTaken => "SheetNameTaken",
-            Refusal::SheetNameInvalid => "SheetNameInvalid",
-            Refusal::Outside => "Outside",
-            Refusal::SizeLimit => "SizeLimit",
-            Refusal::CellLimit => "CellLimit",
-            Refusal::NameTaken => "NameTaken",
-            Refusal::NameInvalid => "NameInvalid",
-            Refusal::NoSuchName => "NoSuchName",
-            Refusal::RelativeAddress => "RelativeAddress",
-            Refusal::NothingToUndo => "NothingToUndo",
-            Refusal::NothingToRedo => "NothingToRedo",
-            Refusal::NothingToPaste => "NothingToPaste",
-            Refusal::Suspended => "Suspended",
-            Refusal::BatchOpen => "BatchOpen",
-            Refusal::NoBatch => "NoBatch",
-            Refusal::BadSpan => "BadSpan",
-            Refusal::TextLimit => "TextLimit",
-            Refusal::SheetLimit => "SheetLimit",
-            Refusal::BadFormula => "BadFormula",
+            Refusal::NoSheet => (1, "NoSheet"),
+            Refusal::SheetNameTaken => (2, "SheetNameTaken"),
+            Refusal::SheetNameInvalid => (3, "SheetNameInvalid"),
+            Refusal::Outside => (4, "Outside"),
+            Refusal::SizeLimit => (5, "SizeLimit"),
+            Refusal::CellLimit => (6, "CellLimit"),
+            Refusal::NameTaken => (7, "NameTaken"),
+            Refusal::NameInvalid => (8, "NameInvalid"),
+            Refusal::NoSuchName => (9, "NoSuchName"),
+            Refusal::RelativeAddress => (10, "RelativeAddress"),
+            Refusal::NothingToUndo => (11, "NothingToUndo"),
+            Refusal::NothingToRedo => (12, "NothingToRedo"),
+            Refusal::NothingToPaste => (13, "NothingToPaste"),
+            Refusal::Suspended => (14, "Suspended"),
+            Refusal::BatchOpen => (15, "BatchOpen"),
+            Refusal::NoBatch => (16, "NoBatch"),
+            Refusal::BadSpan => (17, "BadSpan"),
+            Refusal::TextLimit => (18, "TextLimit"),
+            Refusal::SheetLimit => (19, "SheetLimit"),
+            Refusal::BadFormula => (20, "BadFormula"),
         }
     }
 }

@@ -3,16 +3,12 @@
 
 ghost use Rattle.std.specs.Prelude.{◌≡◌, ◌<◌};
 
-use book_engine::{Engine, Stop};
-use calc_eval::Customs;
-use cell_addr::{Place, Text};
-use custom_fn::Registry;
+use book_engine::{Customs, Engine, Place, Registry, Steps, Stop, Text};
 use std::alloc::Global;
 use std::io::{self, Write};
 use std::marker::Brand;
 use std::process::ExitCode;
 use std::sync::ledger::{Blank, Ledger};
-use steps::Steps;
 
 // Two lines of a quantity and a price, and what each and both come to: row, column and text.
 const CELLS: [(u32, u32, &str); 7] = [

@@ -1,8 +1,11 @@
 // Cells, blocks, rows and columns.
 ghost use Rattle.std.specs.Prelude.{◌≡◌, IsUtf8};
 ghost use Rattle.shift_core.specs.declared.shift.Shift.TheVariants as shifts;
+ghost use Rattle.book_model.specs.Content.{text_given};
 ghost use Rattle.book_model.specs.Operation as op;
-ghost use Rattle.engine_face.specs.Session.{Asks};
+ghost use Rattle.cell_value.specs.Scalar.{truth_text};
+ghost use Rattle.fix_num.specs.Number.{within};
+ghost use Rattle.engine_face.specs.Session.{Asks, AsksNumber};
 ghost use Rattle.engine_face.specs.Status.{status_numbered};
 ghost use Rattle.engine_face.specs.declared.status.Status.TheVariants.{NotUtf8};
 ghost use Rattle.engine_c.specs.Calls.{Over};
@@ -25,6 +28,56 @@ pub extern "C" fn fz_set(book: &mut Book, sheet: u32, row: u32, col: u32, text: 
         return Status::NotOpen.number();
     };
     let status = session.set(Place { sheet, row, col }, text);
+    book.put(session);
+    status.number()
+}
+
+/// Gives a cell the number of so many millionths.
+#[unsafe(no_mangle)]
+pub extern "C" fn fz_set_number(
+    book: &mut Book,
+    sheet: u32,
+    row: u32,
+    col: u32,
+    millionths: i64,
+) -> u8
+    ensures { Over (AsksNumber (record { sheet = sheet; row = row; col = col }) (within millionths)) book.old.handle.value book.new.handle.value (status_numbered result) }
+{
+    let Some(mut session) = book.take() else {
+        return Status::NotOpen.number();
+    };
+    let status = session.set_number(Place { sheet, row, col }, millionths);
+    book.put(session);
+    status.number()
+}
+
+/// Gives a cell a truth value.
+#[unsafe(no_mangle)]
+pub extern "C" fn fz_set_truth(book: &mut Book, sheet: u32, row: u32, col: u32, truth: bool) -> u8
+    ensures { Over (Asks (op.set (record { sheet = sheet; row = row; col = col }) (truth_text truth))) book.old.handle.value book.new.handle.value (status_numbered result) }
+{
+    let Some(mut session) = book.take() else {
+        return Status::NotOpen.number();
+    };
+    let status = session.set_truth(Place { sheet, row, col }, truth);
+    book.put(session);
+    status.number()
+}
+
+/// Gives a cell this text, as it is.
+#[unsafe(no_mangle)]
+pub extern "C" fn fz_set_text(book: &mut Book, sheet: u32, row: u32, col: u32, text: &[u8]) -> u8
+    ensures does { IsUtf8 text.now → Over (Asks (op.set (record { sheet = sheet; row = row; col = col }) (text_given text.now))) book.old.handle.value book.new.handle.value (status_numbered result) }
+    ensures no_text { ¬ (IsUtf8 text.now) → status_numbered result ≡ NotUtf8 }
+    ensures no_text_left { ¬ (IsUtf8 text.now) → book.new.handle.value ≡ book.old.handle.value }
+{
+    let Ok(text) = str::from_utf8(text) else {
+        return Status::NotUtf8.number();
+    };
+    let Some(mut session) = book.take() else {
+        return Status::NotOpen.number();
+    };
+    let status = session.set_text(Place { sheet, row, col }, text);
     book.put(session);
     status.number()
 }

@@ -1,8 +1,9 @@
 // What is copied, cut and pasted.
 ghost use Rattle.std.specs.Prelude.{◌≡◌};
 ghost use Rattle.book_model.specs.Operation as op;
-ghost use Rattle.engine_face.specs.Session.{Asks};
+ghost use Rattle.engine_face.specs.Session.{Asks, Clears};
 ghost use Rattle.engine_face.specs.Status.{status_numbered};
+ghost use Rattle.engine_face.specs.declared.status.Status.TheVariants.{Done};
 ghost use Rattle.engine_c.specs.Calls.{Over};
 
 use crate::book::Book;
@@ -72,4 +73,18 @@ pub extern "C" fn fz_paste(book: &mut Book, sheet: u32, row: u32, col: u32) -> u
     let status = session.paste(Place { sheet, row, col });
     book.put(session);
     status.number()
+}
+
+/// Empties the clipboard.
+#[unsafe(no_mangle)]
+pub extern "C" fn fz_clear_clipboard(book: &mut Book) -> u8
+    ensures does { Over (λ old new status. Clears old new) book.old.handle.value book.new.handle.value (status_numbered result) }
+    ensures done { Over (λ old new status. status ≡ Done) book.old.handle.value book.new.handle.value (status_numbered result) }
+{
+    let Some(mut session) = book.take() else {
+        return Status::NotOpen.number();
+    };
+    session.clear_clipboard();
+    book.put(session);
+    Status::Done.number()
 }

@@ -4,10 +4,12 @@
 //! does stands in `engine_face`; here are the calls alone.
 #![tactic(auto)]
 
+mod areas;
 mod book;
 mod cells;
 mod clipboard;
 mod handle;
+mod listing;
 mod names;
 mod opening;
 mod questions;

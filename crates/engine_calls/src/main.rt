@@ -6,20 +6,24 @@ ghost use Rattle.std.specs.Prelude.{◌≤◌};
 ghost use Rattle.book_model.specs.declared.limits.TheConstants.{MAX_UNDO};
 
 mod areas;
+mod asked;
 mod cells;
 mod counted;
 mod formulas;
+mod giving;
 mod groups;
 mod no_customs;
 mod on_heap;
 
 use areas::areas_are_read;
+use asked::{causes_are_asked, steps_are_forgotten};
 use book_engine::{Engine, Stop};
 use book_model::{BookCell, BookCells, BookSheet};
 use cell_addr::Text;
 use cells::reads;
 use counted::formulas_are_worked_out_once;
 use formulas::formulas_are_read_alone;
+use giving::{apostrophes_count, cells_are_written_together, contents_are_given};
 use groups::kept;
 use no_customs::NoCustoms;
 use on_heap::{begun, built};
@@ -34,6 +38,8 @@ enum Group {
     Limit,
     Counted,
     Areas,
+    Apostrophes,
+    Written,
     Over(Calls),
 }
 
@@ -53,12 +59,15 @@ enum Calls {
     Links,
     Values,
     Formulas,
+    Contents,
+    Asked,
+    Forgotten,
     // Three changes, of which so many steps are to be kept; `None` where none can be undone.
     Kept(Option<usize>),
 }
 
 impl Group {
-    const ALL: [(Group, &'static str); 17] = [
+    const ALL: [(Group, &'static str); 22] = [
         (Group::Given, "begins with given sheets"),
         (Group::Limit, "steps are kept up to the limit"),
         (Group::Counted, "formulas are worked out once"),
@@ -79,6 +88,11 @@ impl Group {
         (Group::Over(Calls::Links), "links are listed in order"),
         (Group::Over(Calls::Values), "values follow names"),
         (Group::Over(Calls::Formulas), "formulas are read alone"),
+        (Group::Over(Calls::Contents), "contents are given"),
+        (Group::Apostrophes, "apostrophes count"),
+        (Group::Written, "cells are written together"),
+        (Group::Over(Calls::Asked), "causes are asked beforehand"),
+        (Group::Over(Calls::Forgotten), "steps are forgotten"),
     ];
 
     // Whether its calls answer as they should.
@@ -88,6 +102,8 @@ impl Group {
             Group::Limit => steps_are_kept_up_to_the_limit(alloc),
             Group::Counted => formulas_are_worked_out_once(alloc),
             Group::Areas => areas_are_read(alloc),
+            Group::Apostrophes => apostrophes_count(alloc),
+            Group::Written => cells_are_written_together(alloc),
             Group::Over(calls) => held(alloc, 20, calls),
         }
     }
@@ -110,6 +126,9 @@ impl Calls {
             Calls::Links => groups::links_are_listed_in_order(engine),
             Calls::Values => groups::values_follow_names(engine),
             Calls::Formulas => formulas_are_read_alone(engine),
+            Calls::Contents => contents_are_given(engine),
+            Calls::Asked => causes_are_asked(engine),
+            Calls::Forgotten => steps_are_forgotten(engine),
             Calls::Kept(steps) => Ok(kept(engine)? == steps),
         }
     }

@@ -2,3 +2,5 @@ mod Numbered
 mod Changing
 mod Answering
 mod Linking
+mod Finding
+mod Listing

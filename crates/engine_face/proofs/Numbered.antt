@@ -1,6 +1,6 @@
 -- The status of a refusal's number is that refusal. Serves the numbers of statuses.
 use Rattle.std.specs.Prelude.{◌≡◌, refl}
-use Rattle.book_model.specs.Replies.{refusal_number}
+use Rattle.book_model.specs.RefusalNames.{refusal_number}
 use Rattle.book_model.specs.declared.refusal.Refusal.{Refusal}
 use Rattle.book_model.specs.declared.refusal.Refusal.TheVariants as refusal
 use Rattle.engine_face.specs.Status.{status_numbered}

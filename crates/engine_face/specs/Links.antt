@@ -49,7 +49,7 @@ abbrev pub AreListed : List Link → Listed → Type 0
 AreListed links listed = (listed.rows.items ≡ link_rows 0 links) × (listed.words.items ≡ link_words links)
 
 -- rows and words stand at the heads of the two rooms, or one of these has no place and both are as they were
-abbrev pub ListFits : List LinkRow → List ℕ → List LinkRow → List LinkRow → List ℕ → List ℕ → Status → Type 0
+abbrev pub ListFits : {X : Type 0} → List X → List ℕ → List X → List X → List ℕ → List ℕ → Status → Type 0
 ListFits rows words room room_new bytes bytes_new Done = ((fits rows room && fits words bytes) ≡ true) × (room_new ≡ filled rows room) × (bytes_new ≡ filled words bytes)
 ListFits rows words room room_new bytes bytes_new NoRoom = ((fits rows room && fits words bytes) ≡ false) × (room_new ≡ room) × (bytes_new ≡ bytes)
 ListFits rows words room room_new bytes bytes_new _ = ⊥

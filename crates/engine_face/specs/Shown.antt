@@ -26,6 +26,11 @@ abbrev pub truth_number : Bool → ℤ
 truth_number true = pos 1
 truth_number false = pos 0
 
+-- the same, where no sign is
+abbrev pub truth_bit : Bool → ℕ
+truth_bit true = 1
+truth_bit false = 0
+
 -- the bytes of a text; none of any other value
 abbrev pub value_text : Scalar → List ℕ
 value_text (Text text) = text
@@ -52,16 +57,16 @@ fits items room = nat_le (length items) (length room)
 abbrev pub filled : {X : Type 0} → List X → List X → List X
 filled items room = items ++ drop (length items) room
 
--- a text stands at the head of the room, or has no place there and the room is as it was
-abbrev pub Fits : List ℕ → List ℕ → List ℕ → Status → Type 0
-Fits text old new Done = (fits text old ≡ true) × (new ≡ filled text old)
-Fits text old new NoRoom = (fits text old ≡ false) × (new ≡ old)
-Fits text old new _ = ⊥
+-- items stand at the head of the room, or have no place there and the room is as it was
+abbrev pub Fits : {X : Type 0} → List X → List X → List X → Status → Type 0
+Fits items old new Done = (fits items old ≡ true) × (new ≡ filled items old)
+Fits items old new NoRoom = (fits items old ≡ false) × (new ≡ old)
+Fits items old new _ = ⊥
 
--- so it is with the text of what the engine answered; where it stopped it is said why, and the room is as it was
-abbrev pub EndFits : {X : Type 0} → (X → List ℕ) → Result X Stop → List ℕ → List ℕ → Status → Type 0
-EndFits text (Ok x) old new status = Fits (text x) old new status
-EndFits text (Err stop) old new status = (status ≡ status_of_stop stop) × (new ≡ old)
+-- so it is with the bytes or rows of what the engine answered; where it stopped it is said why, and the room is as it was
+abbrev pub EndFits : {X Y : Type 0} → (X → List Y) → Result X Stop → List Y → List Y → Status → Type 0
+EndFits items (Ok x) old new status = Fits (items x) old new status
+EndFits items (Err stop) old new status = (status ≡ status_of_stop stop) × (new ≡ old)
 
 -- this is told of what the engine answered; where it stopped nothing is told
 abbrev pub EndTold : {X Y : Type 0} → (X → Y) → Result X Stop → Y → Y → Type 0

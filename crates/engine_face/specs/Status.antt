@@ -2,11 +2,11 @@
 use Rattle.std.specs.Prelude.{ℕ, ◌==◌, List, [], ◌∷◌, map, find, unwrap_or, Result, Ok, Err}
 use Rattle.book_model.specs.declared.refusal.Refusal.TheVariants as refusal
 use Rattle.book_model.specs.declared.refusal.Refusal.{Refusal}
-use Rattle.book_model.specs.Replies.{refusal_number}
+use Rattle.book_model.specs.RefusalNames.{refusal_number}
 use Rattle.book_engine.specs.declared.stop.Stop as stops
 use Rattle.book_engine.specs.declared.stop.Stop.TheVariants as stop
 use Rattle.engine_face.specs.declared.status.Status.{Status}
-use Rattle.engine_face.specs.declared.status.Status.TheVariants.{Done, Refused, NoMemory, NoRoom, NotOpen, NotUtf8, BadLimit, BadTable, StillOpen}
+use Rattle.engine_face.specs.declared.status.Status.TheVariants.{Done, Refused, NoMemory, NoRoom, NotOpen, NotUtf8, BadLimit, BadTable, StillOpen, BadNumber}
 
 -- the number of a status
 abbrev pub status_number : Status → ℕ
@@ -19,6 +19,7 @@ status_number NotUtf8 = 67
 status_number BadLimit = 68
 status_number BadTable = 69
 status_number StillOpen = 70
+status_number BadNumber = 71
 
 -- all refusals
 abbrev pub refusals : List Refusal
@@ -29,7 +30,7 @@ refusals =
 
 -- all statuses
 abbrev pub statuses : List Status
-statuses = Done ∷ NoMemory ∷ NoRoom ∷ NotOpen ∷ NotUtf8 ∷ BadLimit ∷ BadTable ∷ StillOpen ∷ map Refused refusals
+statuses = Done ∷ NoMemory ∷ NoRoom ∷ NotOpen ∷ NotUtf8 ∷ BadLimit ∷ BadTable ∷ StillOpen ∷ BadNumber ∷ map Refused refusals
 
 -- the status of a number
 unfoldable pub status_numbered : ℕ → Status

@@ -2,7 +2,8 @@
 //!
 //! A [`Session`] is an engine of one type, whose custom functions are rules that a [`RuleTable`] of numbers and bytes
 //! tells. Each of its calls ends with a [`Status`], which has a number. A question writes its answer into the caller's
-//! room: a value as a [`Shown`], a text at the head of a slice, links as a list of [`LinkRow`].
+//! room: a value as a [`Shown`], a text at the head of a slice, links as a list of [`LinkRow`], places of an area as one of
+//! [`PlaceRow`], its cells as one of [`CellRow`], names as one of [`NameRow`].
 //!
 //! ```text
 //! let mut session = Session::build(alloc, 20, 45_292, &table)?;
@@ -11,15 +12,23 @@
 //! ```
 #![tactic(auto)]
 
+mod areas;
 mod asking;
+mod cells;
 mod links;
+mod naming;
 mod questions;
 mod room;
 mod session;
+mod setting;
 mod shown;
 mod status;
 
+pub use areas::{PlaceRow, UsedArea};
+pub use cells::CellRow;
 pub use links::{LinkCounts, LinkRow};
+pub use naming::NameRow;
+pub use room::ListSizes;
 pub use rule_table::{RulePair, RuleRow, RuleTable};
 pub use session::Session;
 pub use shown::Shown;

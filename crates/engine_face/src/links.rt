@@ -5,6 +5,7 @@ ghost use Rattle.book_model.specs.Operation as op;
 ghost use Rattle.engine_face.specs.Links.{AreListed, EndCounts, EndLinks, ListFits, area_row, link_counts, link_row, link_rows, link_word, link_words};
 ghost use Rattle.engine_face.specs.Shown.{fits};
 
+use crate::room::write_list;
 use crate::session::Session;
 use crate::status::Status;
 use book_engine::Stop;
@@ -126,13 +127,7 @@ fn write_links(
         links: listed.rows.len(),
         words: listed.words.len(),
     };
-    if listed.rows.len() <= rows.len() && listed.words.len() <= words.len() {
-        rows[..listed.rows.len()].copy_from_slice(&listed.rows);
-        words[..listed.words.len()].copy_from_slice(&listed.words);
-        Status::Done
-    } else {
-        Status::NoRoom
-    }
+    write_list(&listed.rows, &listed.words, rows, words)
 }
 
 // The rows of links, and the words of their names.

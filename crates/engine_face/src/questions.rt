@@ -176,7 +176,7 @@ fn answer(end: Result<Scalar, Stop>, room: &mut [u8], shown: &mut Shown) -> Stat
 }
 
 // Tells the length of a text and writes it, or says why there is none.
-fn answer_text(end: Result<Text, Stop>, room: &mut [u8], needed: &mut usize) -> Status
+pub(crate) fn answer_text(end: Result<Text, Stop>, room: &mut [u8], needed: &mut usize) -> Status
     ensures fits { EndFits (λ text. text) end room.old room.new result }
     ensures told { EndTold length end needed.old needed.new }
 {

@@ -6,7 +6,7 @@ ghost use Rattle.book_model.specs.declared.limits.TheConstants.{MAX_UNDO};
 ghost use Rattle.rule_table.specs.Rules.{rules_of};
 ghost use Rattle.rule_table.specs.Table.{rules_told};
 ghost use Rattle.engine_face.specs.Session.{IsOpened, scope_of};
-ghost use Rattle.engine_face.specs.Shown.{EndTold};
+ghost use Rattle.engine_face.specs.Shown.{EndTold, truth_bit};
 ghost use Rattle.engine_face.specs.Status.{status_of_end};
 
 use crate::status::Status;
@@ -27,7 +27,7 @@ pub struct Session {
 }
 
 impl Session {
-    ghost use Rattle.engine_face.specs.Session.{Asks, AsksAlways, Told};
+    ghost use Rattle.engine_face.specs.Session.{Asks, AsksAlways, Clears, Forgets, SettledTold, Settles, Stays, Told};
     ghost use Rattle.rule_table.specs.Table.{rules_told};
 
     /// A workbook without sheets, of which so many steps can be undone, whose formulas can call the custom functions of the
@@ -185,6 +185,13 @@ impl Session {
         Status::of(self.engine.paste(at))
     }
 
+    /// Empties the clipboard, as [`Engine::clear_clipboard`].
+    pub fn clear_clipboard(&mut self)
+        ensures { Clears self.old self.new }
+    {
+        self.engine.clear_clipboard();
+    }
+
     /// Opens a batch, as [`Engine::begin`].
     pub fn begin(&mut self) -> Status
         ensures { Asks op.begin self.old self.new result }
@@ -213,6 +220,13 @@ impl Session {
         self.engine.resume();
     }
 
+    /// Forgets the steps that can be undone and done again, as [`Engine::clear_history`].
+    pub fn clear_history(&mut self)
+        ensures { Forgets self.old self.new }
+    {
+        self.engine.clear_history();
+    }
+
     /// Goes back to the workbook from before the last step, as [`Engine::undo`].
     pub fn undo(&mut self) -> Status
         ensures { Asks op.undo self.old self.new result }
@@ -225,6 +239,23 @@ impl Session {
         ensures { Asks op.redo self.old self.new result }
     {
         Status::of(self.engine.redo())
+    }
+
+    /// Spends idle time on formulas that lag behind, as [`Engine::settle_idle`]: tells 1 where none is left, else 0. For want
+    /// of memory nothing is told.
+    #[tactic(auto, unfolding(crate::specs::Session::Settles))]
+    pub fn settle_idle(&mut self, budget: u64, none_left: &mut u32) -> Status
+        ensures stays { Stays self.old self.new }
+        ensures does { Settles budget self.old self.new result }
+        ensures told { SettledTold self.new none_left.old none_left.new result }
+    {
+        match self.engine.settle_idle(budget) {
+            Ok(all) => {
+                *none_left = truth_bit(all);
+                Status::Done
+            }
+            Err(_) => Status::NoMemory,
+        }
     }
 }
 
@@ -273,6 +304,13 @@ fn tell_number(end: Result<u32, Stop>, number: &mut u32) -> Status
         }
         Err(stop) => Status::from(stop),
     }
+}
+
+// 1 for true, 0 for false.
+fn truth_bit(truth: bool) -> u32
+    ensures { result ≡ truth_bit truth }
+{
+    u32::from(truth)
 }
 
 // The scope of a number.

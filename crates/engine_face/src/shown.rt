@@ -1,5 +1,6 @@
 // Values as another language gets them.
 ghost use Rattle.std.specs.Prelude.{◌≡◌};
+ghost use Rattle.cell_value.specs.declared.scalar.Scalar.TheVariants.{Text};
 ghost use Rattle.engine_face.specs.Shown.{fault_number, shown_value, value_text};
 
 use cell_value::{FaultKind, Scalar};
@@ -36,11 +37,7 @@ impl Shown {
                 number: number.millionths(),
                 length: 0,
             },
-            Scalar::Text(text) => Shown {
-                kind: 2,
-                number: 0,
-                length: text.as_bytes().len(),
-            },
+            Scalar::Text(text) => Shown::of_text(text.as_bytes()),
             Scalar::Truth(truth) => Shown {
                 kind: 3,
                 number: i64::from(*truth),
@@ -51,6 +48,17 @@ impl Shown {
                 number: fault_number(*fault),
                 length: 0,
             },
+        }
+    }
+
+    // A text without its bytes.
+    pub(crate) fn of_text(text: &[u8]) -> Shown
+        ensures { result ≡ shown_value (Text text.now) }
+    {
+        Shown {
+            kind: 2,
+            number: 0,
+            length: text.len(),
         }
     }
 }

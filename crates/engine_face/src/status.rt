@@ -26,6 +26,8 @@ pub enum Status {
     BadTable,
     /// 70: a workbook is open already.
     StillOpen,
+    /// 71: the number is 10^12 or more in absolute value.
+    BadNumber,
 }
 
 #[tactic(auto, unfolding(crate::specs::Status::status_numbered))]
@@ -45,6 +47,7 @@ impl Status {
             Status::BadLimit => 68,
             Status::BadTable => 69,
             Status::StillOpen => 70,
+            Status::BadNumber => 71,
         }
     }
 

@@ -1,6 +1,6 @@
 -- Lists that grow by the commands of one number after the other. It serves the generator.
 use Rattle.std.proofs.Common.{◌≡◌, ap, refl, arith, ℕ, zero, suc, ◌+◌, ◌*◌, ◌/◌, List, [], ◌∷◌, ◌++◌, length, length-append, add-one}
-use Rattle.book_model.specs.declared.command.Command.{Command}
+use Rattle.script_lang.specs.declared.commands.Command.{Command}
 use Rattle.generator.specs.Generated.{edit_commands, for_each, row_commands}
 
 pub none : (f : ℕ → List Command) → for_each f 0 ≡ []

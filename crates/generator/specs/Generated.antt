@@ -4,8 +4,8 @@ use Rattle.std.specs.Prelude.{ℕ, zero, suc, ◌-◌, ◌*◌, ◌/◌, ◌%◌
 use Rattle.std.specs.Fmt.{decimal}
 use Rattle.cell_addr.specs.Address.{spot_at}
 use Rattle.cell_addr.specs.declared.spot.Spot.{Spot}
-use Rattle.book_model.specs.declared.command.Command.{Command}
-use Rattle.book_model.specs.declared.command.Command.TheVariants.{Set, InsertRows, DeleteRows, Undo, Value, Formula}
+use Rattle.script_lang.specs.declared.commands.Command.{Command}
+use Rattle.script_lang.specs.declared.commands.Command.TheVariants.{Set, InsertRows, DeleteRows, Undo, Value, Formula}
 
 -- the cells of row i, counted from 1
 abbrev pub in_a : ℕ → Spot

@@ -11,8 +11,8 @@ ghost use Rattle.std.specs.Prelude.{◌≡◌, ◌≤◌, ◌+◌, ◌-◌, ◌*
 ghost use Rattle.cell_addr.specs.Address.{spot_at};
 ghost use Rattle.generator.specs.Generated.{asked, edit_commands, generated, row_commands};
 
-use book_model::Command;
 use cell_addr::{Spot, Text};
+use script_lang::Command;
 use std::alloc::{AllocError, Global};
 
 /// The greatest size of a list. This project's own limit.

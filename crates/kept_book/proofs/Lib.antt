@@ -14,6 +14,7 @@ pub mod Joining
 pub mod ChangesInOrder
 pub mod Moving
 pub mod SetCells
+pub mod SetTogether
 pub mod NamesPut
 pub mod Looked
 pub mod ShiftedBooks

@@ -41,7 +41,7 @@ none-pasted : (sheets : List (ℕ × List ℕ)) (area : Block) (at : Place) (e :
 none-pasted sheets area at e rest h = rw h refl
 
 -- what stands at a place after entries came over others
-get-given : (es : List (Place × Content)) (m : Contents) (q : Place) → fin.get (with_given es m) q ≡ either (find place_cmp q es) (fin.get m q)
+pub get-given : (es : List (Place × Content)) (m : Contents) (q : Place) → fin.get (with_given es m) q ≡ either (find place_cmp q es) (fin.get m q)
 get-given [] m q = refl
 get-given (e ∷ es) m q = get-insert place_cmp-IsTotalOrder (with_given es m) e.0 e.1 q ∙ go (eq_by_cmp place_cmp q e.0) (get-given es m q)
   where

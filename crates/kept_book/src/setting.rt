@@ -1,5 +1,5 @@
 // Cells that are given what a text says, or emptied.
-ghost use Rattle.std.specs.Prelude.{◌≡◌, ◌==◌, [], IfOk, OnOk, OnErr, IfSome, map as each, option_map};
+ghost use Rattle.std.specs.Prelude.{◌≡◌, ◌==◌, ◌++◌, [], IfOk, OnOk, OnErr, IfSome, filter_map, map as each, option_map};
 ghost use Rattle.std.specs.List.{All, cons_option};
 ghost use Rattle.std.specs.FinMap as map;
 ghost use Rattle.cell_addr.specs.Place.{IsInside, covers};
@@ -7,18 +7,19 @@ ghost use Rattle.grid_store.specs.Grid.{cells_of, items_of, within};
 ghost use Rattle.name_table.specs.Listed.{listed};
 ghost use Rattle.shift_core.specs.Maps.{AreInside};
 ghost use Rattle.shift_line.specs.Track.{with_spare};
-ghost use Rattle.book_model.specs.Changes.{emptied, with_content};
+ghost use Rattle.book_model.specs.Changes.{HaveDistinctPlaces, emptied, with_content, with_contents, with_given_content};
 ghost use Rattle.book_model.specs.Content.{content_given, tree_given};
+ghost use Rattle.kept_book.specs.Change.{places_of};
 ghost use Rattle.kept_book.specs.Copied.{IsCopied, content_copied, entry_copied};
 ghost use Rattle.kept_book.specs.Formula.{IsFormula, tree_at};
 ghost use Rattle.kept_book.specs.Ids.{KeepsBelow};
 ghost use Rattle.kept_book.specs.Kept.{IsStanding, Makes, SameBook, change_of, workbook};
-ghost use Rattle.kept_book.specs.internal.Cells.{listed_at};
+ghost use Rattle.kept_book.specs.internal.Cells.{entry_given, listed_at, stood_at};
 
 use crate::book::Book;
 use crate::part::Part;
 use book_model::{ContentText, read_content};
-use cell_addr::{Block, COLS, Place, ROWS};
+use cell_addr::{Block, COLS, Place, ROWS, Text};
 use clip_board::CopyItem;
 use formula_parse::{ParseError, parse};
 use formula_tree::{Home, Pool, Tree};
@@ -42,8 +43,51 @@ impl Book {
         ensures kept { KeepsBelow self.old.next_id self.old.lazy self.new.lazy }
     {
         let content = read_content(self.alloc, text)?;
+        let part = self.fill_content(pool, at, content)?;
+        Ok(part)
+    }
+
+    /// Gives a cell a content, or empties it, and answers what that changed, likewise. Costs about the length of a formula's text,
+    /// and of another content nothing for its length, with the logarithm of the number of filled cells.
+    pub fn fill_content(
+        &mut self,
+        pool: &mut Pool,
+        at: Place,
+        content: ContentText,
+    ) -> Result<Part, AllocError>
+        requires inside { IsInside at }
+        requires stand { IsStanding self.old }
+        ensures ok { OnOk result (workbook self.new ≡ with_given_content at content (workbook self.old)) }
+        ensures makes { IfOk result (λ part. Makes self.old self.new (change_of part)) }
+        ensures replaced { IfOk result (λ part. items_of part.replaced ≡ listed_at at (map.get (cells_of self.old.grid) at)) }
+        ensures written { IfOk result (λ part. All (λ e. e.0 ≡ at) (items_of part.written)) }
+        ensures err { OnErr result (SameBook self.old self.new) }
+        ensures line { self.new.lazy.line ≡ with_spare self.new.lazy.line.spare self.old.lazy.line }
+        ensures kept { KeepsBelow self.old.next_id self.old.lazy self.new.lazy }
+    {
         let given = given(self.alloc, pool, &self.names, at, content)?;
         let replaced = replaced_at(self.alloc, &self.grid, at)?;
+        let part = self.write(replaced, given)?;
+        Ok(part)
+    }
+
+    /// Gives cells the contents that texts say, each of them another cell, and answers what that changed. Every other formula is kept
+    /// as it was, but those that the cells held, which aren't touched either. For want of memory the workbook is as it was. Costs
+    /// about the lengths of the texts, and for each cell the logarithm of the number of filled cells.
+    pub fn fill_all(&mut self, pool: &mut Pool, cells: &[(Place, Text)]) -> Result<Part, AllocError>
+        requires inside { All (λ e. IsInside e.0) cells.now }
+        requires distinct { HaveDistinctPlaces cells.now }
+        requires stand { IsStanding self.old }
+        ensures ok { OnOk result (workbook self.new ≡ with_contents cells.now (workbook self.old)) }
+        ensures makes { IfOk result (λ part. Makes self.old self.new (change_of part)) }
+        ensures replaced { IfOk result (λ part. items_of part.replaced ≡ filter_map (stood_at (cells_of self.old.grid)) cells.now) }
+        ensures written { IfOk result (λ part. places_of (items_of part.written) ≡ each (λ e. e.0) (filter_map (entry_given (workbook self.old).sheets) cells.now)) }
+        ensures err { OnErr result (SameBook self.old self.new) }
+        ensures line { self.new.lazy.line ≡ with_spare self.new.lazy.line.spare self.old.lazy.line }
+        ensures kept { KeepsBelow self.old.next_id self.old.lazy self.new.lazy }
+    {
+        let given = given_all(self.alloc, pool, &self.names, cells)?;
+        let replaced = replaced_all(self.alloc, &self.grid, cells)?;
         let part = self.write(replaced, given)?;
         Ok(part)
     }
@@ -163,4 +207,72 @@ fn replaced_at(alloc: Global, grid: &Grid<Cell>, at: Place) -> Result<CellList<C
         list.push(at, cell.copied(alloc)?)?;
     }
     Ok(list)
+}
+
+// What texts give to cells.
+fn given_all(
+    alloc: Global,
+    pool: &mut Pool,
+    sheets: &Names,
+    cells: &[(Place, Text)],
+) -> Result<Vec<(Place, CopyItem)>, AllocError>
+    requires { All (λ e. IsInside e.0) cells.now }
+    ensures entries { IfOk result (λ r. each entry_copied r.items ≡ filter_map (entry_given (listed sheets.now)) cells.now) }
+    ensures copied { IfOk result (λ r. All IsCopied r.items) }
+{
+    let mut list = Vec::new(alloc);
+    for (at, text) in cells {
+        push_given(alloc, pool, sheets, *at, text.as_str(), &mut list)?;
+    }
+    Ok(list)
+}
+
+// Adds what a text gives to a cell, if anything.
+fn push_given(
+    alloc: Global,
+    pool: &mut Pool,
+    sheets: &Names,
+    at: Place,
+    text: &str,
+    list: &mut Vec<(Place, CopyItem)>,
+) -> Result<(), AllocError>
+    requires { IsInside at }
+    ensures entries { OnOk result (each entry_copied list.new.items ≡ each entry_copied list.old.items ++ cons_option (entry_given (listed sheets.now) (at, text.now)) []) }
+    ensures copied { OnOk result (All IsCopied list.old.items → All IsCopied list.new.items) }
+{
+    let content = read_content(alloc, text)?;
+    if let Some(item) = item_given(alloc, pool, sheets, at, content)? {
+        list.push((at, item))?;
+    }
+    Ok(())
+}
+
+// What the cells at these places hold.
+fn replaced_all(
+    alloc: Global,
+    grid: &Grid<Cell>,
+    cells: &[(Place, Text)],
+) -> Result<CellList<Cell>, AllocError>
+    ensures { IfOk result (λ list. items_of list ≡ filter_map (stood_at (cells_of grid.now)) cells.now) }
+{
+    let mut list = CellList::new(alloc)?;
+    for (at, _) in cells {
+        push_replaced(alloc, grid, *at, &mut list)?;
+    }
+    Ok(list)
+}
+
+// Adds what the cell at a place holds.
+fn push_replaced(
+    alloc: Global,
+    grid: &Grid<Cell>,
+    at: Place,
+    list: &mut CellList<Cell>,
+) -> Result<(), AllocError>
+    ensures { OnOk result (items_of list.new ≡ items_of list.old ++ listed_at at (map.get (cells_of grid.now) at)) }
+{
+    if let Some(cell) = grid.cell(at) {
+        list.push(at, cell.copied(alloc)?)?;
+    }
+    Ok(())
 }

@@ -2,7 +2,7 @@
 -- begins or is closed. Serves all calls of sessions.
 use Rattle.std.proofs.Common.{pos, ◌≡◌, ◌∙◌, sym, ap, subst, refl, arith, inl, inr, ℕ, ◌≤◌, ◌-◌, Bool, true, false, if◌then◌else◌, List, [], ◌∷◌, ◌++◌, length, take, Option, Some, None, option_map}
 use Rattle.std.specs.Prelude.{⊤}
-use Rattle.undo_book.specs.History.{History, last_of, stepped_back, stepped_forward}
+use Rattle.undo_book.specs.History.{History, last_of, stepped_back, stepped_forward, without_entries}
 use Rattle.undo_book.proofs.LastEntries.{all_but_last-end, last_of-end}
 use Rattle.book_model.specs.Clipboard.{nothing}
 use Rattle.book_model.specs.Session.{changed, closed, kept, opened, redone, undone}
@@ -205,6 +205,28 @@ stays_in_use among low t u was first end f h b b2 s n agree fits all under from 
 pub stays : (t u : Timeline) (first end : ℕ) (f : Frame) (h : History Entry) (b b2 : Option Entry) (s : Bool) (n : ℕ) → ((high : ℕ) → Agree any_formula 0 high t u) → AreSteps t first end f h b → SameBatch b b2
     → Becomes u first end f h b2 s n (session_of t f h b s n)
 stays t u first end f h b b2 s n agree fits same = stays_in_use any_formula 0 t u first first end f h b b2 s n agree fits (λ id y. tt) (omega arith) fits.base same
+
+-- ---- the steps are forgotten
+
+pub forgotten : (t : Timeline) (first end : ℕ) (f : Frame) (h : History Entry) (b : Option Entry) (s : Bool) (n : ℕ) → AreSteps t first end f h b
+    → Becomes t first end f (without_entries h) b s n (record (session_of t f h b s n) { undo = []; redo = [] })
+forgotten t first end f h b s n fits =
+    let base = fits.base in
+    let top = fits.top in
+    let behind = oldest_first t (start_of t b f) (steps_of h.done) fits.past in
+    let ahead = furthest_last t f (steps_of h.undone) fits.ahead in (
+      record {
+        stand = fits.stand;
+        led = fits.led;
+        whole = fits.whole;
+        past = tt;
+        ahead = tt;
+        base = omega (arith, base, behind);
+        top = omega (arith, top, ahead);
+        cleared = λ e. refl;
+      },
+      refl,
+    )
 
 -- ---- steps back and forth, where no batch is open
 

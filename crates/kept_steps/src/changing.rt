@@ -12,7 +12,7 @@ ghost use Rattle.shift_core.specs.Maps.{AreInside};
 ghost use Rattle.shift_core.specs.Sound.{IsSound};
 ghost use Rattle.shift_line.specs.Track.{with_spare};
 ghost use Rattle.book_values.specs.Names.{key_of};
-ghost use Rattle.book_model.specs.Changes.{emptied, renamed, shifted, with_content, with_copy, with_name, with_sheet};
+ghost use Rattle.book_model.specs.Changes.{HaveDistinctPlaces, emptied, renamed, shifted, with_content, with_contents, with_copy, with_given_content, with_name, with_sheet};
 ghost use Rattle.book_model.specs.Session.{changed};
 ghost use Rattle.kept_book.specs.Copied.{IsCopied, contents_copied};
 ghost use Rattle.kept_book.specs.Formula.{IsProperIn, tree_in_scope};
@@ -21,7 +21,8 @@ ghost use Rattle.kept_book.specs.Kept.{IsMore};
 
 use crate::noting::{note, room};
 use crate::session::Session;
-use cell_addr::{Block, Place};
+use book_model::ContentText;
+use cell_addr::{Block, Place, Text};
 use clip_board::CopyItem;
 use formula_tree::Tree;
 use shift_core::Shift;
@@ -48,6 +49,40 @@ impl Session {
         self.sweep_where_due()?;
         let room = room(self.book.alloc, &mut self.batch)?;
         let part = self.book.fill(&mut self.pool, at, text)?;
+        note(&mut self.steps, &mut self.batch, room, part);
+        Ok(())
+    }
+
+    /// Gives a cell a content, or empties it, likewise. Costs what [`kept_book::Book::fill_content`] does, where no formulas are dropped.
+    pub fn fill_content(&mut self, at: Place, content: ContentText) -> Result<(), AllocError>
+        requires inside { IsInside at }
+        ensures ok { OnOk result (state_of self.new ≡ changed (with_given_content at content (state_of self.old).book) (state_of self.old)) }
+        ensures err { OnErr result (state_of self.new ≡ state_of self.old) }
+        ensures words { IsMore (words_of self.old.book.names) (words_of self.new.book.names) }
+        ensures line { self.new.book.lazy.line ≡ with_spare self.new.book.lazy.line.spare self.old.book.lazy.line }
+        ensures kept { KeepsInUse self.old self.new.book.lazy }
+    {
+        self.sweep_where_due()?;
+        let room = room(self.book.alloc, &mut self.batch)?;
+        let part = self.book.fill_content(&mut self.pool, at, content)?;
+        note(&mut self.steps, &mut self.batch, room, part);
+        Ok(())
+    }
+
+    /// Gives cells the contents that texts say, each of them another cell, likewise. Costs what [`kept_book::Book::fill_all`] does, where
+    /// no formulas are dropped.
+    pub fn fill_all(&mut self, cells: &[(Place, Text)]) -> Result<(), AllocError>
+        requires inside { All (λ e. IsInside e.0) cells.now }
+        requires distinct { HaveDistinctPlaces cells.now }
+        ensures ok { OnOk result (state_of self.new ≡ changed (with_contents cells.now (state_of self.old).book) (state_of self.old)) }
+        ensures err { OnErr result (state_of self.new ≡ state_of self.old) }
+        ensures words { IsMore (words_of self.old.book.names) (words_of self.new.book.names) }
+        ensures line { self.new.book.lazy.line ≡ with_spare self.new.book.lazy.line.spare self.old.book.lazy.line }
+        ensures kept { KeepsInUse self.old self.new.book.lazy }
+    {
+        self.sweep_where_due()?;
+        let room = room(self.book.alloc, &mut self.batch)?;
+        let part = self.book.fill_all(&mut self.pool, cells)?;
         note(&mut self.steps, &mut self.batch, room, part);
         Ok(())
     }

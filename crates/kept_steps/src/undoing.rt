@@ -1,5 +1,5 @@
 // Steps that are undone and done again, batches of changes, and suspension.
-ghost use Rattle.std.specs.Prelude.{◌≡◌, None, true, false, OnOk, OnErr};
+ghost use Rattle.std.specs.Prelude.{◌≡◌, None, [], true, false, OnOk, OnErr};
 ghost use Rattle.lazy_store.specs.Store.{KeepsAll};
 ghost use Rattle.name_table.specs.Named.{words_of};
 ghost use Rattle.shift_line.specs.Track.{with_spare};
@@ -34,6 +34,15 @@ impl Session {
         ensures book { self.new.book ≡ self.old.book }
     {
         close(&mut self.steps, self.batch.take());
+    }
+
+    /// Forgets the steps that can be undone and those that can be done again. An open batch stays, with its changes. No formula is
+    /// touched, and the line keeps its operations. Costs what the steps list.
+    pub fn forget_steps(&mut self)
+        ensures state { state_of self.new ≡ record (state_of self.old) { undo = []; redo = [] } }
+        ensures book { self.new.book ≡ self.old.book }
+    {
+        self.steps.clear();
     }
 
     /// Stops the computation of values.

@@ -12,3 +12,4 @@ pub mod Gathered
 pub mod Shifted
 pub mod TakenBack
 pub mod Returned
+pub mod CyclicCells

@@ -1,4 +1,5 @@
 pub mod Sought
 pub mod Values
 pub mod Shifted
+pub mod Cycles
 pub mod internal

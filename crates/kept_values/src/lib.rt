@@ -3,7 +3,8 @@
 //! [`Values`] follow a workbook that stands behind [`recalc_core::Trees`]. Whoever changes the workbook marks what it touches, and
 //! nothing is linked or worked out before the next read: [`Values::refresh`] links the marked nodes anew and works out what
 //! reaches a mark, once. A second refresh takes no step. Where links alone are asked for, [`Values::link`] links the marked
-//! nodes; the next refresh then links what was marked since. A structural operation takes links, values and marks along:
+//! nodes; the next refresh then links what was marked since. [`Values::on_cycle`] tells by the links which cells are on a cycle. A
+//! structural operation takes links, values and marks along:
 //! [`Values::shift`]; and so does its opposite, where it is taken back: [`Values::take_back`].
 //!
 //! ```text
@@ -19,6 +20,7 @@
 #![tactic(auto)]
 
 mod asking;
+mod cycles;
 mod linking;
 mod links;
 mod noting;

@@ -1,6 +1,6 @@
 -- What a run prints and its status. Source: this project's own.
 use Rattle.std.specs.Prelude.{ℕ, List, ◌++◌, Result, Ok, Err, codes}
-use Rattle.book_model.specs.Replies.{line_of}
+use Rattle.script_lang.specs.Lines.{line_of}
 use Rattle.run_inputs.specs.declared.ending.TheConstants.{TOO_LONG}
 
 -- the bytes that a run prints, and its status

@@ -3,7 +3,7 @@ use Rattle.std.specs.Prelude.{ℕ, ◌+◌, true, List, [], ◌∷◌, Option, S
 use Rattle.std.specs.Option.{option_map}
 use Rattle.cell_addr.specs.Address.{row_of, column_of}
 use Rattle.cell_addr.specs.declared.spot.Spot.{Spot}
-use Rattle.book_model.specs.declared.command.Version.TheVariants as versions
+use Rattle.script_lang.specs.declared.commands.Version.TheVariants as versions
 use Rattle.script_lang.specs.Forms.{text_field, block_field, place_field, count_of, version_field}
 use Rattle.script_lang.specs.declared.arguments.Arguments.{Arguments}
 use Rattle.script_lang.specs.declared.error.ScriptError.{ScriptError}

@@ -1,10 +1,10 @@
 -- What a record of a script says. Source: this project's own.
 use Rattle.std.specs.Prelude.{◌≡◌, ◌==◌, ◌+◌, if◌then◌else◌, ℕ, List, length, drop, Option, Some, None, Result, Ok, Err, option_and_then, ⊤}
 use Rattle.csv.specs.Records.{field_at}
-use Rattle.book_model.specs.declared.command.Command.{Command}
-use Rattle.book_model.specs.declared.command.Command.TheVariants.{Set, Clear, InsertRows, DeleteRows, InsertCols, DeleteCols, MoveRows, MoveCols, AddSheet, DropSheet, RenameSheet, ClearSheet, AddName, ChangeName, RemoveName, Copy, Cut, Paste, MoveBlock, Begin, Commit, Suspend, Resume, Undo, Redo, Value, Formula, Content, Precedents, Dependents, NameValue, Try, Version}
-use Rattle.book_model.specs.declared.command.Version as Version
-use Rattle.book_model.specs.declared.command.Version.TheVariants as versions
+use Rattle.script_lang.specs.declared.commands.Command.{Command}
+use Rattle.script_lang.specs.declared.commands.Command.TheVariants.{Set, AddName, ChangeName, RemoveName, NameValue, Try, Version}
+use Rattle.script_lang.specs.declared.commands.Version as Version
+use Rattle.script_lang.specs.declared.commands.Version.TheVariants as versions
 use Rattle.formula_parse.specs.Migrated.{migrated, migrated_name}
 use Rattle.script_lang.specs.Words.{line, word_named}
 use Rattle.script_lang.specs.Arguments.{and_said, no_arguments, read_from}
@@ -16,39 +16,7 @@ use Rattle.script_lang.specs.declared.word.Word.TheVariants as word
 
 -- the command of a word and its arguments
 abbrev pub command_with : Word → Arguments → Command
-command_with word.Set a = Set a.place a.text
-command_with word.Clear a = Clear a.block
-command_with word.InsertRows a = InsertRows a.sheet a.line a.count
-command_with word.DeleteRows a = DeleteRows a.sheet a.line a.count
-command_with word.InsertCols a = InsertCols a.sheet a.line a.count
-command_with word.DeleteCols a = DeleteCols a.sheet a.line a.count
-command_with word.MoveRows a = MoveRows a.sheet a.line a.count a.before
-command_with word.MoveCols a = MoveCols a.sheet a.line a.count a.before
-command_with word.AddSheet a = AddSheet a.name
-command_with word.DropSheet a = DropSheet a.sheet
-command_with word.RenameSheet a = RenameSheet a.sheet a.name
-command_with word.ClearSheet a = ClearSheet a.sheet
-command_with word.AddName a = AddName a.name a.sheet a.text
-command_with word.ChangeName a = ChangeName a.name a.sheet a.text
-command_with word.RemoveName a = RemoveName a.name a.sheet
-command_with word.Copy a = Copy a.block
-command_with word.Cut a = Cut a.block
-command_with word.Paste a = Paste a.place
-command_with word.MoveBlock a = MoveBlock a.block a.place
-command_with word.Begin a = Begin
-command_with word.Commit a = Commit
-command_with word.Suspend a = Suspend
-command_with word.Resume a = Resume
-command_with word.Undo a = Undo
-command_with word.Redo a = Redo
-command_with word.Value a = Value a.place
-command_with word.Formula a = Formula a.place
-command_with word.Content a = Content a.place
-command_with word.Precedents a = Precedents a.place
-command_with word.Dependents a = Dependents a.place
-command_with word.NameValue a = NameValue a.name a.sheet
-command_with word.Try a = Try a.sheet a.text
-command_with word.Version a = Version a.version
+command_with w a = (line w).2 a
 
 -- a script's version is said by its first record alone
 abbrev pub word_at : ℕ → Word → Option Word

@@ -5,8 +5,8 @@ use Rattle.std.specs.List.{list_all}
 use Rattle.std.specs.Str.{is_utf8}
 use Rattle.digits.specs.Digits.{is_digit, value}
 use Rattle.cell_addr.specs.Address.{spot_of}
-use Rattle.book_model.specs.declared.command.Version.{Version}
-use Rattle.book_model.specs.declared.command.Version.TheVariants.{One, Two}
+use Rattle.script_lang.specs.declared.commands.Version.{Version}
+use Rattle.script_lang.specs.declared.commands.Version.TheVariants.{One, Two}
 use Rattle.cell_addr.specs.declared.spot.Spot.{Spot}
 use Rattle.script_lang.specs.declared.form.TheConstants.{COUNT_DIGITS}
 

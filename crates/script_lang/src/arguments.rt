@@ -3,10 +3,10 @@ ghost use Rattle.std.specs.Prelude.{◌≡◌, []};
 ghost use Rattle.script_lang.specs.Arguments.{no_arguments, no_spot, said_by, with_field};
 ghost use Rattle.script_lang.specs.internal.Reading.{Leaves};
 
+use crate::commands::Version;
 use crate::error::ScriptError;
 use crate::form::{read_block, read_count, read_single, read_text, read_version};
 use crate::word::FieldKind;
-use book_model::Version;
 use cell_addr::{Spot, Text, read_column, read_row};
 use std::alloc::Global;
 

@@ -3,7 +3,7 @@ ghost use Rattle.std.specs.Prelude.{◌≡◌, IfOk};
 ghost use Rattle.std.specs.Option.{option_copied};
 ghost use Rattle.script_lang.specs.Forms.{block_field, count_of, is_count, place_field, text_field, version_field};
 
-use book_model::Version;
+use crate::commands::Version;
 use cell_addr::{AddrError, Spot, Text, read_place};
 use digits::{all_digits, value_at_most};
 use std::alloc::{AllocError, Global};

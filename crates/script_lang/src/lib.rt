@@ -13,15 +13,21 @@
 //!
 //! A script whose first record is `version,1` was written when a sheet had 40,000 rows. [`command_in`] takes its texts and
 //! names along: what is an address now and was a name gets one `_` more.
+//!
+//! What answers a command is printed as one line: [`line`] says how a text stands in it.
 #![tactic(auto)]
 
 mod arguments;
+mod commands;
 mod error;
 mod form;
 pub mod laws;
+mod printed;
 mod script;
 mod word;
 
+pub use commands::{Command, Version};
 pub use error::ScriptError;
 pub use formula_parse::{migrated, migrated_name};
+pub use printed::line;
 pub use script::{command, command_in, version_after};

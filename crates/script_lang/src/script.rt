@@ -6,9 +6,9 @@ ghost use Rattle.script_lang.specs.Command.{Says, command_in, command_of, comman
 ghost use Rattle.script_lang.specs.internal.Reading.{field};
 
 use crate::arguments::{Arguments, no_spot};
+use crate::commands::{Command, Version};
 use crate::error::ScriptError;
 use crate::word::{FieldKind, MAX_FIELDS, Word};
-use book_model::{Command, Version};
 use cell_addr::{Spot, Text};
 use csv::ByteRecord;
 use formula_parse::{migrated, migrated_name};

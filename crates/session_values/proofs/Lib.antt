@@ -1,6 +1,7 @@
 pub mod MarkedCells
 pub mod Followed
 pub mod Listed
+pub mod CyclicPlaces
 pub mod MentionedPlaces
 pub mod Shifted
 pub mod Named

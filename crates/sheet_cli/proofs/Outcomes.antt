@@ -8,15 +8,16 @@ use Rattle.calc_eval.specs.declared.customs.Customs.{Ghosts}
 use Rattle.book_files.specs.Outside.{AppendsPart}
 use Rattle.book_files.specs.declared.error.WriteError.{WriteError}
 use Rattle.book_files.specs.declared.error.WriteError.TheVariants as write
-use Rattle.book_model.specs.Replies.{line_of, next_state, reply}
+use Rattle.script_lang.specs.Lines.{line_of}
+use Rattle.command_answers.specs.Replies.{is_refused, next_state, record_text, reply}
 use Rattle.book_model.specs.Workbook.{State}
-use Rattle.book_model.specs.declared.command.Command.{Command}
+use Rattle.script_lang.specs.declared.commands.Command.{Command}
 use Rattle.book_engine.specs.Engine.{StandsFor}
 use Rattle.book_engine.specs.declared.engine.Engine.{Engine}
-use Rattle.book_model.specs.declared.command.Version.{Version}
+use Rattle.script_lang.specs.declared.commands.Version.{Version}
 use Rattle.script_lang.specs.Command.{command_in, version_after}
 use Rattle.script_lang.specs.declared.error.ScriptError.{ScriptError}
-use Rattle.sheet_cli.specs.Answering.{is_refused, outcome_from, record_outcome, record_text}
+use Rattle.sheet_cli.specs.Answering.{outcome_from, record_outcome}
 use Rattle.run_inputs.specs.Outcome.{Outcome, followed_by}
 use Rattle.sheet_cli.specs.declared.ending.Stop.{Stop}
 use Rattle.sheet_cli.specs.declared.ending.Stop.TheVariants as stop

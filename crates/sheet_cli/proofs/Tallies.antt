@@ -4,12 +4,12 @@ use Rattle.custom_fn.specs.declared.rule.Rule.{Rule}
 use Rattle.calc_eval.specs.declared.customs.Customs.{Ghosts}
 use Rattle.book_engine.specs.Engine.{StandsFor}
 use Rattle.book_engine.specs.declared.engine.Engine.{Engine}
-use Rattle.book_model.specs.Replies.{next_state, reply}
+use Rattle.command_answers.specs.Replies.{is_refused, next_state, reply}
 use Rattle.book_model.specs.Workbook.{State}
-use Rattle.book_model.specs.declared.command.Command.{Command}
-use Rattle.sheet_cli.specs.Answering.{Answered, answers_from, bytes_of, first_refusal, is_refused, summary, summary_outcome}
+use Rattle.script_lang.specs.declared.commands.Command.{Command}
+use Rattle.sheet_cli.specs.Answering.{Answered, answers_from, bytes_of, first_refusal, summary, summary_outcome}
 use Rattle.sheet_cli.specs.declared.answering.Tally.{Tally}
-use Rattle.sheet_cli.specs.internal.Answers.{Executes}
+use Rattle.command_answers.specs.Sessions.{Executes}
 use Rattle.sheet_cli.specs.internal.Tallied.{Adds, Completes, one_if, summary_of}
 
 -- where a refusal ends a run, the first of the answers that are left is the first of all

@@ -1,29 +1,14 @@
 -- What a run prints of its commands: a line for each, or a summary of all. Source: this project's own.
-use Rattle.std.specs.Prelude.{ℕ, ◌+◌, ◌&&◌, if◌then◌else◌, Bool, List, [], ◌∷◌, ◌++◌, length, filter, Option, Some, None, Result, Ok, Err, is_some, codes}
+use Rattle.std.specs.Prelude.{ℕ, ◌+◌, ◌&&◌, if◌then◌else◌, Bool, List, [], ◌∷◌, ◌++◌, length, filter, Option, Some, None, Result, Ok, Err, codes}
 use Rattle.std.specs.Fmt.{decimal}
-use Rattle.book_model.specs.Replies.{line_of, next_state, refused_for, reply}
 use Rattle.book_model.specs.Workbook.{State}
-use Rattle.book_model.specs.declared.command.Command.{Command}
-use Rattle.book_model.specs.declared.command.Version.{Version}
 use Rattle.script_lang.specs.Command.{command_in, version_after}
+use Rattle.script_lang.specs.Lines.{line_of}
+use Rattle.script_lang.specs.declared.commands.Command.{Command}
+use Rattle.script_lang.specs.declared.commands.Version.{Version}
 use Rattle.script_lang.specs.declared.error.ScriptError.{ScriptError}
-use Rattle.script_lang.specs.declared.error.ScriptError.TheVariants.{UnknownCommand, FieldCount, BadField, NoMemory}
+use Rattle.command_answers.specs.Replies.{is_refused, next_state, record_text, reply}
 use Rattle.run_inputs.specs.Outcome.{Outcome, ended, followed_by}
-
--- why a record is no command, as a run says it
-abbrev pub cause_text : ScriptError → List ℕ
-cause_text UnknownCommand = codes "unknown command"
-cause_text FieldCount = codes "field count"
-cause_text (BadField j) = codes "bad field " ++ decimal j
-cause_text NoMemory = codes "out of memory"
-
--- what a run says of a record that is no command; records are counted from 1
-abbrev pub record_text : ℕ → ScriptError → List ℕ
-record_text k e = (codes "record " ++ decimal k ++ codes ": ") ++ cause_text e
-
--- the command is refused in the session
-abbrev pub is_refused : State → Command → Bool
-is_refused d c = is_some (refused_for c d)
 
 -- a command: its reply, and then the rest of the run; where a refusal ends the run, a refused command is its last
 abbrev pub command_outcome : Bool → State → Command → (State → Outcome) → Outcome

@@ -7,8 +7,8 @@ use Rattle.csv.specs.Reading.{records, default_config, strip_bom}
 use Rattle.book_files.specs.Outside.{AppendsPart}
 use Rattle.book_files.specs.declared.input.TheConstants.{MAX_INPUT}
 use Rattle.book_model.specs.Given.{GivenSheet, session_given}
-use Rattle.book_model.specs.declared.command.Version.TheVariants.{Two}
-use Rattle.book_model.specs.Replies.{line_of}
+use Rattle.script_lang.specs.declared.commands.Version.TheVariants.{Two}
+use Rattle.script_lang.specs.Lines.{line_of}
 use Rattle.command_words.specs.Words.{Said, meaning}
 use Rattle.generator.specs.Generated.{generated}
 use Rattle.sheet_cli.specs.Answering.{answers_from, outcome_from, summary_outcome}

@@ -1,5 +1,4 @@
 -- What only the proofs of bodies need.
 pub mod Answers
-pub mod Links
 pub mod Ends
 pub mod Tallied

@@ -1,9 +1,8 @@
 // What a run prints of its commands: a line for each, or a summary of all.
-ghost use Rattle.std.specs.Prelude.{◌≡◌, ◌⊎◌, ◌+◌, ◌&&◌, ◌≤◌, IfOk, IfSome, OnErr, IsErrOf, length, string_bytes};
+ghost use Rattle.std.specs.Prelude.{◌≡◌, ◌⊎◌, ◌+◌, ◌&&◌, ◌≤◌, IfOk, IfSome, OnErr, IsErrOf, length};
 ghost use Rattle.book_files.specs.Outside.{Rose};
 ghost use Rattle.book_files.specs.declared.input.TheConstants.{MAX_INPUT};
 ghost use Rattle.book_model.specs.Given.{CanBegin, given_sheets};
-ghost use Rattle.book_model.specs.Replies.{line_of};
 ghost use Rattle.book_model.specs.declared.limits.TheConstants.{MAX_UNDO};
 ghost use Rattle.command_words.specs.Words.{seen};
 ghost use Rattle.book_engine.specs.Engine.{StandsFor};
@@ -13,24 +12,25 @@ ghost use Rattle.csv.specs.Records.{fields_of};
 ghost use Rattle.generator.specs.declared.TheConstants.{MAX_SIZE};
 ghost use Rattle.run_inputs.specs.Outcome.{ended};
 ghost use Rattle.script_lang.specs.Command.{command_in};
-ghost use Rattle.book_model.specs.declared.command.Version.TheVariants.{Two};
-ghost use Rattle.sheet_cli.specs.Answering.{answers_from, cause_text, outcome_from, record_text, summary_outcome};
+ghost use Rattle.script_lang.specs.Lines.{line_of};
+ghost use Rattle.script_lang.specs.declared.commands.Version.TheVariants.{Two};
+ghost use Rattle.command_answers.specs.Replies.{record_text};
+ghost use Rattle.sheet_cli.specs.Answering.{answers_from, outcome_from, summary_outcome};
 ghost use Rattle.sheet_cli.specs.Run.{generated_outcome, script_outcome};
 ghost use Rattle.sheet_cli.specs.internal.Answers.{AnswersCommand, AnswersPart, AnswersRecord, PartOfCommand, version_behind};
 ghost use Rattle.sheet_cli.specs.internal.Ends.{EndsScript, Printed, PrintedLine};
 ghost use Rattle.sheet_cli.specs.internal.Tallied.{Adds, summary_of};
 
 use crate::ending::{ANSWERED, NO_COMMAND, REFUSED, Stop};
-use crate::line::line;
-use crate::session::{Answer, Session};
 use book_files::{Records, Sink};
-use book_model::{BookSheet, Command, Version};
+use book_model::BookSheet;
 use calc_eval::Customs;
+use command_answers::{Answer, Session, record_text};
 use command_words::Words;
 use csv::ByteRecord;
 use generator::generate;
 use run_inputs::empty_book;
-use script_lang::{ScriptError, command_in, version_after};
+use script_lang::{Command, ScriptError, Version, command_in, line, version_after};
 use std::alloc::{AllocError, Global};
 use std::sync::ledger::Ledger;
 use steps::Steps;
@@ -171,28 +171,6 @@ fn refuse_record<O: Sink>(
 {
     let text = record_text(alloc, number, cause)?;
     print(alloc, out, text.as_str())
-}
-
-// What a run says of a record that is no command.
-fn record_text(alloc: Global, number: u64, cause: ScriptError) -> Result<String, AllocError>
-    ensures { IfOk result (λ text. string_bytes text ≡ record_text number cause) }
-{
-    let mut text = format!(in alloc; "record {number}: ")?;
-    let cause = cause_text(alloc, cause)?;
-    text.push_str(&cause)?;
-    Ok(text)
-}
-
-// Why a record is no command.
-fn cause_text(alloc: Global, cause: ScriptError) -> Result<String, AllocError>
-    ensures { IfOk result (λ text. string_bytes text ≡ cause_text cause) }
-{
-    match cause {
-        ScriptError::UnknownCommand => String::from_str(alloc, "unknown command"),
-        ScriptError::FieldCount => String::from_str(alloc, "field count"),
-        ScriptError::BadField(field) => format!(in alloc; "bad field {field}"),
-        ScriptError::NoMemory => String::from_str(alloc, "out of memory"),
-    }
 }
 
 /// Executes a generated list of commands from a session of one empty sheet on, and prints a summary of it, or, where the

@@ -1,7 +1,7 @@
 //! The command line of the workbook engine: what a run reads, and what it prints.
 //!
 //! [`run`] does all that the program does. It is given a `Source` of bytes and a `Sink` for them, of
-//! `book_files`: the standard streams, or streams in memory. [`Session`] answers one command at a time.
+//! `book_files`: the standard streams, or streams in memory. A `Session` of `command_answers` answers the commands.
 //!
 //! A script is a list of records, each a command that is answered by one line:
 //!
@@ -15,10 +15,6 @@
 
 mod answering;
 mod ending;
-mod line;
-mod links;
 mod program;
-mod session;
 
 pub use program::run;
-pub use session::{Answer, Session};

@@ -1,7 +1,6 @@
 // What records say.
-use book_model::{Command, Version};
 use csv::ByteRecord;
-use script_lang::{ScriptError, command, command_in, migrated, migrated_name};
+use script_lang::{Command, ScriptError, Version, command, command_in, migrated, migrated_name};
 use std::alloc::{AllocError, Global};
 
 // What the record of these fields says, where it isn't the first of its script.

@@ -1,6 +1,6 @@
 // The smallest list, and how long others are.
-use book_model::Command;
 use generator::{MAX_SIZE, generate};
+use script_lang::Command;
 use std::alloc::{AllocError, Global};
 use std::test::Fail;
 

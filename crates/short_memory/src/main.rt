@@ -10,13 +10,12 @@
 ghost use Rattle.std.specs.Prelude.{◌≡◌, ◌<◌};
 
 use book_files::{Records, StdSource, read_all};
-use book_model::Version;
 use calc_eval::Customs;
+use command_answers::Session;
 use csv::ByteRecord;
 use custom_fn::Registry;
 use run_inputs::empty_book;
-use script_lang::{ScriptError, command_in, version_after};
-use sheet_cli::Session;
+use script_lang::{ScriptError, Version, command_in, version_after};
 use std::alloc::{AllocError, Global};
 use std::io::{self, Write};
 use std::marker::Brand;

@@ -41,6 +41,10 @@ module _ {E : Type 0} where
   abbrev pub without_undone : History E → History E
   without_undone h = record h { undone = [] }
 
+  -- no entry is left
+  abbrev pub without_entries : History E → History E
+  without_entries h = record h { done = []; undone = [] }
+
   -- the newest entry is undone
   abbrev pub stepped_back : History E → History E
   stepped_back h = record h { done = all_but_last 1 h.done; undone = h.undone ++ last_of 1 h.done }

@@ -2,7 +2,7 @@
 ghost use Rattle.std.specs.Prelude.{◌≡◌, ◌+◌, ◌-◌, ◌<◌, ◌≤◌, ◌↔◌, ◌++◌, [], length, take, IsTrue, IfOk, vec_len, vec_capacity};
 ghost use Rattle.std.specs.Option.{option_to_list};
 ghost use Rattle.std.specs.VecDeque.{deque_capacity, deque_len};
-ghost use Rattle.undo_book.specs.History.{IsWithinLimit, all_but_last, last_of, pushed, stepped_back, stepped_forward, with_done, with_undone, without_newest, without_next, without_undone};
+ghost use Rattle.undo_book.specs.History.{IsWithinLimit, all_but_last, last_of, pushed, stepped_back, stepped_forward, with_done, with_undone, without_entries, without_newest, without_next, without_undone};
 
 use std::alloc::{AllocError, Global};
 use std::collections::VecDeque;
@@ -88,6 +88,14 @@ impl<E: Drop> UndoBook<E> {
         ensures { self.new ≡ without_undone self.old }
     {
         self.undone.clear();
+    }
+
+    /// Drops all entries, done and undone. Takes no memory. Costs what it drops.
+    pub fn clear(&mut self)
+        ensures { self.new ≡ without_entries self.old }
+    {
+        self.done.clear();
+        self.forget_undone();
     }
 
     /// Takes the entry that [`UndoBook::step_forward`] would take out of the book. `None` exactly where none is undone.

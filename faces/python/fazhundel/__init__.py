@@ -12,7 +12,7 @@ raises `MemoryError`.
 """
 from .book import Workbook
 from .rules import Bands, Tiers
-from .values import Block, Fault, Link, Name, Place, Value
+from .values import Block, Fault, Kind, Link, Name, Place, Value
 from .statuses import Refusal, Refused
 
-__all__ = ["Bands", "Block", "Fault", "Link", "Name", "Place", "Refusal", "Refused", "Tiers", "Value", "Workbook"]
+__all__ = ["Bands", "Block", "Fault", "Kind", "Link", "Name", "Place", "Refusal", "Refused", "Tiers", "Value", "Workbook"]

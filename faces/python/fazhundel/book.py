@@ -2,20 +2,21 @@
 from contextlib import contextmanager
 from ctypes import byref, c_size_t, c_uint32, create_string_buffer
 from datetime import date
+from decimal import Decimal
 from threading import get_ident
-from typing import Callable, Iterator, List, Mapping, Optional, Union
+from typing import Callable, Dict, Iterator, List, Mapping, Optional, Tuple, Union
 
 from . import library
 from .library import CALLED, NO_NUMBER
 from .rules import Bands, Tiers, table
 from .statuses import NO_ROOM, check
-from .values import Block, Fault, Link, Name, Place, Value, decimal
+from .values import Block, Fault, Kind, Link, Name, Place, Value, decimal, millionths
 
 # The day whose serial number is 0.
 DAY_0 = date(1899, 12, 30)
 
-# How many bytes, and how many links, a first try has room for.
-ROOM, LINK_ROOM = 256, 16
+# How many bytes, and how many rows, a first try has room for.
+ROOM, ROWS = 256, 16
 
 
 class Workbook:
@@ -51,6 +52,18 @@ class Workbook:
     def set(self, at: Place, text: str) -> None:
         """Gives a cell the content that the text says."""
         self._do("set", *at, *_text(text))
+
+    def set_number(self, at: Place, number: Union[Decimal, int]) -> None:
+        """Gives a cell a number of at most six places, below 10^12 in absolute value."""
+        self._do("set_number", *at, millionths(number))
+
+    def set_truth(self, at: Place, truth: bool) -> None:
+        """Gives a cell a truth value."""
+        self._do("set_truth", *at, truth)
+
+    def set_text(self, at: Place, text: str) -> None:
+        """Gives a cell this text as it is, which needs no apostrophe: `007` stays three characters, `=A1` is no formula."""
+        self._do("set_text", *at, *_text(text))
 
     def clear(self, area: Block) -> None:
         """Empties the cells of a block."""
@@ -119,6 +132,15 @@ class Workbook:
 
     # Named expressions: of the whole workbook, where there is no scope.
 
+    def names(self) -> List[Name]:
+        """All names: those of the whole workbook, then those of each sheet, within a scope by their words in capitals."""
+        rows, words = self._list("names", library.Name)
+        return [Name(None if row.scope == NO_NUMBER else row.scope, _word(row, words)) for row in rows]
+
+    def name_text(self, name: str, scope: Optional[int] = None) -> str:
+        """The text of the formula of a scope's own name."""
+        return self._text("name_text", *_text(name), _scope(scope))
+
     def add_name(self, name: str, text: str, scope: Optional[int] = None) -> None:
         """Adds a name with the formula of the text."""
         self._do("add_name", *_text(name), _scope(scope), *_text(text))
@@ -145,11 +167,15 @@ class Workbook:
         """Pastes what waits, its first cell at a place."""
         self._do("paste", *at)
 
+    def clear_clipboard(self) -> None:
+        """Empties the clipboard: nothing waits to be pasted then."""
+        self._do("clear_clipboard")
+
     def is_clipboard_empty(self) -> bool:
         """Whether nothing waits to be pasted."""
         return self._call("is_clipboard_empty")
 
-    # Steps, batches and suspended evaluation.
+    # Steps, batches, suspended evaluation and idle time.
 
     def undo(self) -> None:
         """Takes the newest step back."""
@@ -158,6 +184,10 @@ class Workbook:
     def redo(self) -> None:
         """Does the step again that was taken back last."""
         self._do("redo")
+
+    def clear_history(self) -> None:
+        """Forgets the steps that can be undone and done again; an open batch stays open."""
+        self._do("clear_history")
 
     def can_undo(self) -> bool:
         """Whether undo would be accepted now."""
@@ -209,6 +239,45 @@ class Workbook:
         finally:
             self.resume()
 
+    def settle_idle(self, budget: int) -> bool:
+        """Takes formulas along that weren't read since structural operations went past them, as far as the budget goes.
+
+        Each costs as many units as there are such operations. True where none is left; other answers are as before.
+        """
+        none_left = c_uint32()
+        self._do("settle_idle", budget, byref(none_left))
+        return none_left.value == 1
+
+    # Areas: of a sheet those of its `used_area`.
+
+    def kind(self, at: Place) -> Kind:
+        """What kind of content a cell has."""
+        kind = c_uint32()
+        self._do("kind", *at, byref(kind))
+        return Kind(kind.value)
+
+    def filled(self, area: Block) -> List[Place]:
+        """The places of a block that have a content, row by row."""
+        return self._places("filled", area.sheet, *area)
+
+    def filled_in(self, sheet: int) -> List[Place]:
+        """Those of a sheet."""
+        return self._places("filled_in", sheet, sheet)
+
+    def used_area(self, sheet: int) -> Optional[Block]:
+        """The least block over the filled cells of a sheet; None where it has none."""
+        used = library.Used()
+        self._do("used_area", sheet, byref(used))
+        return Block(sheet, used.top, used.left, used.bottom, used.right) if used.is_used else None
+
+    def values(self, area: Block) -> Dict[Place, Value]:
+        """What the filled cells of a block show, row by row."""
+        return self._cells("values", area)
+
+    def contents(self, area: Block) -> Dict[Place, str]:
+        """The texts that give the filled cells of a block their contents, row by row."""
+        return self._cells("contents", area)
+
     # Values, texts and links.
 
     def value(self, at: Place) -> Value:
@@ -227,6 +296,15 @@ class Workbook:
         """What the formula of the text would show in the first cell of the sheet."""
         return self._value("try", sheet, *_text(text))
 
+    def normal_text(self, sheet: int, text: str) -> str:
+        """The text of the formula of the text as a cell of the sheet shows it."""
+        return self._text("normal_text", sheet, *_text(text))
+
+    def names_in(self, sheet: int, text: str) -> List[str]:
+        """The words in capitals that the formula of the text uses as names, each once."""
+        rows, words = self._list("names_in", library.Name, sheet, *_text(text))
+        return [_word(row, words) for row in rows]
+
     def formula(self, at: Place) -> Optional[str]:
         """The text of a cell's formula, if it has one."""
         return self._text("formula", *at) or None
@@ -242,6 +320,10 @@ class Workbook:
     def dependents(self, at: Place) -> List[Link]:
         """The cells and then the names whose formulas need a cell."""
         return self._links("dependents", at)
+
+    def on_cycle(self, sheet: int) -> List[Place]:
+        """The cells of a sheet on a cycle, row by row: those whose needs lead back to them, and none that only reads one."""
+        return self._places("on_cycle", sheet, sheet)
 
     # The calls of the library.
 
@@ -278,24 +360,37 @@ class Workbook:
             return self._call(name, *words, rooms[-1], size, byref(shown))
 
         self._ask(ask, lambda: shown.length)
-        return (
-            lambda: None,
-            lambda: decimal(shown.number),
-            lambda: rooms[-1].raw[: shown.length].decode(),
-            lambda: shown.number == 1,
-            lambda: Fault(shown.number),
-        )[shown.kind]()
+        return _shown(shown, rooms[-1].raw)
 
-    def _links(self, name: str, at: Place) -> List[Link]:
-        counts, size, words_size = library.Counts(), LINK_ROOM, ROOM
+    def _places(self, name: str, sheet: int, *words: object) -> List[Place]:
+        count, rooms = c_size_t(), []
+
+        def ask(size: int) -> int:
+            rooms.append((library.Place * size)())
+            return self._call(name, *words, rooms[-1], size, byref(count))
+
+        self._ask(ask, lambda: count.value)
+        return [Place(sheet, row.row, row.col) for row in rooms[-1][: count.value]]
+
+    # The rows of a list and the bytes of their texts.
+    def _list(self, name: str, row: type, *words: object) -> Tuple[list, bytes]:
+        sizes, size, room_size = library.Sizes(), ROWS, ROOM
         while True:
-            rows, words = (library.Link * size)(), create_string_buffer(words_size)
-            status = self._call(name, *at, rows, size, words, words_size, byref(counts))
+            rows, room = (row * size)(), create_string_buffer(room_size)
+            status = self._call(name, *words, rows, size, room, room_size, byref(sizes))
             if status != NO_ROOM:
                 break
-            size, words_size = counts.links, max(counts.words, 1)
+            size, room_size = sizes.rows, max(sizes.bytes, 1)
         check(status)
-        return [_link(row, words.raw) for row in rows[: counts.links]]
+        return rows[: sizes.rows], room.raw
+
+    def _cells(self, name: str, area: Block) -> Dict[Place, Value]:
+        rows, texts = self._list(name, library.Cell, *area)
+        return {Place(area.sheet, row.row, row.col): _shown(row.shown, texts, row.text_start) for row in rows}
+
+    def _links(self, name: str, at: Place) -> List[Link]:
+        rows, words = self._list(name, library.Link, *at)
+        return [_link(row, words) for row in rows]
 
 
 def _text(text: str) -> tuple:
@@ -308,10 +403,24 @@ def _scope(scope: Optional[int]) -> int:
     return NO_NUMBER if scope is None else scope
 
 
+def _shown(shown: library.Shown, texts: bytes, start: int = 0) -> Value:
+    """A value, whose text begins there among the texts."""
+    return (
+        lambda: None,
+        lambda: decimal(shown.number),
+        lambda: texts[start : start + shown.length].decode(),
+        lambda: shown.number == 1,
+        lambda: Fault(shown.number),
+    )[shown.kind]()
+
+
+def _word(row: Union[library.Link, library.Name], words: bytes) -> str:
+    return words[row.word_start : row.word_start + row.word_length].decode()
+
+
 def _link(row: library.Link, words: bytes) -> Link:
     if row.kind == 0:
         return Place(row.sheet, row.top, row.left)
     if row.kind == 1:
         return Block(row.sheet, row.top, row.left, row.bottom, row.right)
-    word = words[row.word_start : row.word_start + row.word_length].decode()
-    return Name(None if row.sheet == NO_NUMBER else row.sheet, word)
+    return Name(None if row.sheet == NO_NUMBER else row.sheet, _word(row, words))

@@ -3,7 +3,7 @@
 It is looked for where FAZHUNDEL_LIBRARY says, else beside the faces, where `faces/build.sh` puts it.
 """
 import os
-from ctypes import CDLL, POINTER, Array, Structure, c_bool, c_char_p, c_int32, c_int64, c_size_t, c_uint8, c_uint32, c_void_p
+from ctypes import CDLL, POINTER, Array, Structure, c_bool, c_char_p, c_int32, c_int64, c_size_t, c_uint8, c_uint32, c_uint64, c_void_p
 from pathlib import Path
 
 NO_NUMBER = 2**32 - 1
@@ -46,20 +46,42 @@ class Link(Structure):
     ]
 
 
-class Counts(Structure):
-    _fields_ = [("links", c_size_t), ("words", c_size_t)]
+class Place(Structure):
+    _fields_ = [("row", c_uint32), ("col", c_uint32)]
+
+
+class Used(Structure):
+    _fields_ = [("is_used", c_uint32), ("top", c_uint32), ("left", c_uint32), ("bottom", c_uint32), ("right", c_uint32)]
+
+
+class Cell(Structure):
+    _fields_ = [("row", c_uint32), ("col", c_uint32), ("shown", Shown), ("text_start", c_size_t)]
+
+
+class Name(Structure):
+    _fields_ = [("scope", c_uint32), ("word_start", c_size_t), ("word_length", c_size_t)]
+
+
+class Sizes(Structure):
+    """How much room a list needs: the counts of links, and the sizes of any other list."""
+
+    _fields_ = [("rows", c_size_t), ("bytes", c_size_t)]
 
 
 U32, BYTES, ROOM = [c_uint32], [c_char_p, c_size_t], [c_char_p, c_size_t]
 PLACE, BLOCK = U32 * 3, U32 * 5
 LENGTH, SHOWN = [POINTER(c_size_t)], [POINTER(Shown)]
-LINKS = [POINTER(Link), c_size_t, *ROOM, POINTER(Counts)]
+LINKS, CELLS, NAMES = ([POINTER(row), c_size_t, *ROOM, POINTER(Sizes)] for row in (Link, Cell, Name))
+PLACES = [POINTER(Place), c_size_t, POINTER(c_size_t)]
 
 # The parameters of each call behind the book, and what it answers.
 CALLS = {
     "open": (U32 + [c_int32, POINTER(Rule), c_size_t, POINTER(Pair), c_size_t, *BYTES], c_uint8),
     "close": ([], None),
     "set": (PLACE + BYTES, c_uint8),
+    "set_number": (PLACE + [c_int64], c_uint8),
+    "set_truth": (PLACE + [c_bool], c_uint8),
+    "set_text": (PLACE + BYTES, c_uint8),
     "clear": (BLOCK, c_uint8),
     "move_block": (BLOCK + PLACE, c_uint8),
     **{f"{what}_{lines}": (U32 * 3, c_uint8) for what in ("insert", "delete") for lines in ("rows", "cols")},
@@ -74,15 +96,28 @@ CALLS = {
     "paste": (PLACE, c_uint8),
     "copy": (BLOCK, c_uint8),
     "cut": (BLOCK, c_uint8),
-    **{name: ([], c_uint8) for name in ("undo", "redo", "begin", "commit", "suspend", "resume")},
+    "clear_clipboard": ([], c_uint8),
+    **{name: ([], c_uint8) for name in ("undo", "redo", "clear_history", "begin", "commit", "suspend", "resume")},
+    "settle_idle": ([c_uint64, POINTER(c_uint32)], c_uint8),
     "value": (PLACE + ROOM + SHOWN, c_uint8),
     "value_text": (PLACE + ROOM + LENGTH, c_uint8),
     "name_value": (BYTES + U32 + ROOM + SHOWN, c_uint8),
     "try": (U32 + BYTES + ROOM + SHOWN, c_uint8),
     "formula": (PLACE + ROOM + LENGTH, c_uint8),
     "content": (PLACE + ROOM + LENGTH, c_uint8),
+    "kind": (PLACE + [POINTER(c_uint32)], c_uint8),
+    "filled": (BLOCK + PLACES, c_uint8),
+    "filled_in": (U32 + PLACES, c_uint8),
+    "used_area": (U32 + [POINTER(Used)], c_uint8),
+    "values": (BLOCK + CELLS, c_uint8),
+    "contents": (BLOCK + CELLS, c_uint8),
+    "names": (NAMES, c_uint8),
+    "name_text": (BYTES + U32 + ROOM + LENGTH, c_uint8),
+    "normal_text": (U32 + BYTES + ROOM + LENGTH, c_uint8),
+    "names_in": (U32 + BYTES + NAMES, c_uint8),
     "precedents": (PLACE + LINKS, c_uint8),
     "dependents": (PLACE + LINKS, c_uint8),
+    "on_cycle": (U32 + PLACES, c_uint8),
     **{name: ([], c_bool) for name in ("can_undo", "can_redo", "has_batch", "is_suspended", "is_clipboard_empty")},
     "sheet_count": ([], c_size_t),
     "sheet_at": ([c_size_t], c_uint32),

@@ -1,7 +1,7 @@
 """How calls end, and what is raised where they weren't done."""
 from enum import IntEnum
 
-DONE, NO_MEMORY, NO_ROOM, NOT_OPEN, NOT_UTF8, BAD_LIMIT, BAD_TABLE, STILL_OPEN = 0, 64, 65, 66, 67, 68, 69, 70
+DONE, NO_MEMORY, NO_ROOM, NOT_OPEN, NOT_UTF8, BAD_LIMIT, BAD_TABLE, STILL_OPEN, BAD_NUMBER = 0, 64, 65, 66, 67, 68, 69, 70, 71
 
 
 class Refusal(IntEnum):
@@ -50,4 +50,5 @@ def check(status: int) -> None:
         BAD_LIMIT: ValueError("at most 1,000 steps can be undone"),
         BAD_TABLE: ValueError("these aren't the rules of custom functions"),
         STILL_OPEN: ValueError("the workbook is open already"),
+        BAD_NUMBER: ValueError("the number is 10^12 or more in absolute value"),
     }[status]

@@ -1,6 +1,7 @@
 """Places, values and links."""
 from decimal import Decimal
 from enum import IntEnum
+from fractions import Fraction
 from typing import NamedTuple, Optional, Union
 
 MILLION = 1_000_000
@@ -44,6 +45,18 @@ class Fault(IntEnum):
     ERROR = 8
 
 
+class Kind(IntEnum):
+    """What kind of content a cell has."""
+
+    EMPTY = 0
+    NUMBER = 1
+    TEXT = 2
+    TRUTH = 3
+    FORMULA = 5
+    #: A formula that has no tree, kept as its text.
+    UNREADABLE = 6
+
+
 #: What a cell shows: None where it is empty.
 Value = Union[None, Decimal, str, bool, Fault]
 
@@ -60,7 +73,7 @@ def decimal(millionths: int) -> Decimal:
 
 def millionths(number: Union[Decimal, int]) -> int:
     """The number as a whole number of millionths. ValueError where it is none of 64 bits."""
-    scaled = Decimal(number) * MILLION
-    if scaled != int(scaled) or not -(2**63) <= int(scaled) < 2**63:
+    scaled = Fraction(number) * MILLION
+    if scaled.denominator != 1 or not -(2**63) <= scaled < 2**63:
         raise ValueError(f"{number} is no number of millionths")
     return int(scaled)

@@ -23,13 +23,11 @@ mod options;
 mod place;
 mod rules;
 mod value;
-mod values;
 mod workbook;
 
 pub use error::{Error, Refusal};
 pub use options::Options;
-pub use place::{BadAddress, Block, Link, Place};
+pub use place::{BadAddress, Block, Link, Name, Place};
 pub use rules::Rule;
-pub use value::{BadNumber, Fault, Number, Value};
-pub use values::Values;
+pub use value::{BadNumber, Fault, Kind, Number, Value};
 pub use workbook::Workbook;

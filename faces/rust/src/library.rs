@@ -10,17 +10,17 @@ mod header;
 pub(crate) use header::{Pair, Rule as RuleRow, DONE, NO_NUMBER};
 
 use crate::error::Error;
-use crate::place::{Block, Link, Place};
+use crate::place::{Block, Link, Name, Place};
 use crate::rules::Table;
-use crate::value::{Fault, Number, Value};
-use header::{Counts, Shown, Status, NO_ROOM};
+use crate::value::{Fault, Kind, Number, Value};
+use header::{Shown, Sizes, Status, Used, NO_ROOM};
 use std::borrow::Cow;
 use std::cell::UnsafeCell;
 use std::ptr;
 
-// How many bytes, and how many links, a first try has room for.
+// How many bytes, and how many rows, a first try has room for.
 const ROOM: usize = 256;
-const LINK_ROOM: usize = 16;
+const ROWS: usize = 16;
 
 /// Holds a workbook.
 pub(crate) struct Book {
@@ -104,8 +104,10 @@ impl Book {
         paste = fz_paste(sheet, row, col);
         copy = fz_copy(sheet, top, left, bottom, right);
         cut = fz_cut(sheet, top, left, bottom, right);
+        clear_clipboard = fz_clear_clipboard();
         undo = fz_undo();
         redo = fz_redo();
+        clear_history = fz_clear_history();
         begin = fz_begin();
         commit = fz_commit();
         suspend = fz_suspend();
@@ -156,6 +158,31 @@ impl Book {
         let Place { sheet, row, col } = at;
         // SAFETY: `at` leads to a book of the library; the text is given with its length.
         ended(unsafe { header::fz_set(self.at(), sheet, row, col, text.as_ptr(), text.len()) })
+    }
+
+    pub(crate) fn set_number(&mut self, at: Place, number: Number) -> Result<(), Error> {
+        let Place { sheet, row, col } = at;
+        // SAFETY: `at` leads to a book of the library.
+        ended(unsafe { header::fz_set_number(self.at(), sheet, row, col, number.millionths()) })
+    }
+
+    pub(crate) fn set_truth(&mut self, at: Place, truth: bool) -> Result<(), Error> {
+        let Place { sheet, row, col } = at;
+        // SAFETY: `at` leads to a book of the library.
+        ended(unsafe { header::fz_set_truth(self.at(), sheet, row, col, truth) })
+    }
+
+    pub(crate) fn set_text(&mut self, at: Place, text: &str) -> Result<(), Error> {
+        let Place { sheet, row, col } = at;
+        // SAFETY: `at` leads to a book of the library; the text is given with its length.
+        ended(unsafe { header::fz_set_text(self.at(), sheet, row, col, text.as_ptr(), text.len()) })
+    }
+
+    pub(crate) fn settle_idle(&mut self, budget: u64) -> Result<bool, Error> {
+        let mut none_left = 0;
+        // SAFETY: `at` leads to a book of the library.
+        ended(unsafe { header::fz_settle_idle(self.at(), budget, &mut none_left) })?;
+        Ok(none_left == 1)
     }
 
     pub(crate) fn add_sheet(&mut self, name: &str) -> Result<u32, Error> {
@@ -319,9 +346,211 @@ impl Book {
         })
     }
 
+    pub(crate) fn normal_text(&self, sheet: u32, text: &str) -> Result<String, Error> {
+        asked_text(|room, length| {
+            let (start, size) = (room.as_mut_ptr(), room.len());
+            // SAFETY: `at` leads to a book of the library; the text is given with its length, and the room with its size.
+            unsafe {
+                header::fz_normal_text(
+                    self.at(),
+                    sheet,
+                    text.as_ptr(),
+                    text.len(),
+                    start,
+                    size,
+                    length,
+                )
+            }
+        })
+    }
+
+    pub(crate) fn name_text(&self, name: &str, scope: u32) -> Result<String, Error> {
+        asked_text(|room, length| {
+            let (start, size) = (room.as_mut_ptr(), room.len());
+            // SAFETY: `at` leads to a book of the library; the text is given with its length, and the room with its size.
+            unsafe {
+                header::fz_name_text(
+                    self.at(),
+                    name.as_ptr(),
+                    name.len(),
+                    scope,
+                    start,
+                    size,
+                    length,
+                )
+            }
+        })
+    }
+}
+
+// Questions about cells and areas.
+impl Book {
+    pub(crate) fn kind(&self, at: Place) -> Result<Kind, Error> {
+        let Place { sheet, row, col } = at;
+        let mut kind = header::EMPTY;
+        // SAFETY: `at` leads to a book of the library.
+        ended(unsafe { header::fz_kind(self.at(), sheet, row, col, &mut kind) })?;
+        Ok(Kind::of_library(kind))
+    }
+
+    pub(crate) fn used_area(&self, sheet: u32) -> Result<Option<Block>, Error> {
+        let mut used = Used::default();
+        // SAFETY: `at` leads to a book of the library.
+        ended(unsafe { header::fz_used_area(self.at(), sheet, &mut used) })?;
+        let Used {
+            is_used,
+            top,
+            left,
+            bottom,
+            right,
+        } = used;
+        let area = Block::new(sheet, top, left, bottom, right);
+        Ok((is_used == 1).then_some(area))
+    }
+
+    pub(crate) fn filled(&self, area: Block) -> Result<Vec<Place>, Error> {
+        let Block {
+            sheet,
+            top,
+            left,
+            bottom,
+            right,
+        } = area;
+        asked_places(sheet, |places, count| {
+            let (rows, row_room) = (places.as_mut_ptr(), places.len());
+            // SAFETY: `at` leads to a book of the library; the room is given with its size.
+            unsafe {
+                header::fz_filled(
+                    self.at(),
+                    sheet,
+                    top,
+                    left,
+                    bottom,
+                    right,
+                    rows,
+                    row_room,
+                    count,
+                )
+            }
+        })
+    }
+
+    pub(crate) fn filled_in(&self, sheet: u32) -> Result<Vec<Place>, Error> {
+        asked_places(sheet, |places, count| {
+            let (rows, row_room) = (places.as_mut_ptr(), places.len());
+            // SAFETY: `at` leads to a book of the library; the room is given with its size.
+            unsafe { header::fz_filled_in(self.at(), sheet, rows, row_room, count) }
+        })
+    }
+
+    pub(crate) fn on_cycle(&self, sheet: u32) -> Result<Vec<Place>, Error> {
+        asked_places(sheet, |places, count| {
+            let (rows, row_room) = (places.as_mut_ptr(), places.len());
+            // SAFETY: `at` leads to a book of the library; the room is given with its size.
+            unsafe { header::fz_on_cycle(self.at(), sheet, rows, row_room, count) }
+        })
+    }
+
+    pub(crate) fn values(&self, area: Block) -> Result<Vec<(Place, Value)>, Error> {
+        let Block {
+            sheet,
+            top,
+            left,
+            bottom,
+            right,
+        } = area;
+        let ask = |cells: &mut [header::Cell], texts: &mut [u8], sizes: &mut Sizes| {
+            let (rows, row_room) = (cells.as_mut_ptr(), cells.len());
+            let (start, size) = (texts.as_mut_ptr(), texts.len());
+            // SAFETY: `at` leads to a book of the library; both rooms are given with their sizes.
+            unsafe {
+                header::fz_values(
+                    self.at(),
+                    sheet,
+                    top,
+                    left,
+                    bottom,
+                    right,
+                    rows,
+                    row_room,
+                    start,
+                    size,
+                    sizes,
+                )
+            }
+        };
+        asked_cells(sheet, ask, value_of)
+    }
+
+    pub(crate) fn contents(&self, area: Block) -> Result<Vec<(Place, String)>, Error> {
+        let Block {
+            sheet,
+            top,
+            left,
+            bottom,
+            right,
+        } = area;
+        let ask = |cells: &mut [header::Cell], texts: &mut [u8], sizes: &mut Sizes| {
+            let (rows, row_room) = (cells.as_mut_ptr(), cells.len());
+            let (start, size) = (texts.as_mut_ptr(), texts.len());
+            // SAFETY: `at` leads to a book of the library; both rooms are given with their sizes.
+            unsafe {
+                header::fz_contents(
+                    self.at(),
+                    sheet,
+                    top,
+                    left,
+                    bottom,
+                    right,
+                    rows,
+                    row_room,
+                    start,
+                    size,
+                    sizes,
+                )
+            }
+        };
+        asked_cells(sheet, ask, |_, text| text_of(text))
+    }
+}
+
+// Questions about names and links.
+impl Book {
+    pub(crate) fn names(&self) -> Result<Vec<Name>, Error> {
+        let ask = |names: &mut [header::Name], words: &mut [u8], sizes: &mut Sizes| {
+            let (rows, row_room) = (names.as_mut_ptr(), names.len());
+            let (start, size) = (words.as_mut_ptr(), words.len());
+            // SAFETY: `at` leads to a book of the library; both rooms are given with their sizes.
+            unsafe { header::fz_names(self.at(), rows, row_room, start, size, sizes) }
+        };
+        asked_list(ask, name_of)
+    }
+
+    pub(crate) fn names_in(&self, sheet: u32, text: &str) -> Result<Vec<String>, Error> {
+        let ask = |names: &mut [header::Name], words: &mut [u8], sizes: &mut Sizes| {
+            let (rows, row_room) = (names.as_mut_ptr(), names.len());
+            let (start, size) = (words.as_mut_ptr(), words.len());
+            // SAFETY: `at` leads to a book of the library; the text is given with its length, and both rooms with their sizes.
+            unsafe {
+                header::fz_names_in(
+                    self.at(),
+                    sheet,
+                    text.as_ptr(),
+                    text.len(),
+                    rows,
+                    row_room,
+                    start,
+                    size,
+                    sizes,
+                )
+            }
+        };
+        asked_list(ask, |name, words| name_of(name, words).word)
+    }
+
     pub(crate) fn precedents(&self, at: Place) -> Result<Vec<Link>, Error> {
         let Place { sheet, row, col } = at;
-        asked_links(|links, words, counts| {
+        let ask = |links: &mut [header::Link], words: &mut [u8], counts: &mut Sizes| {
             let (rows, row_room) = (links.as_mut_ptr(), links.len());
             let (start, size) = (words.as_mut_ptr(), words.len());
             // SAFETY: `at` leads to a book of the library; both rooms are given with their sizes.
@@ -338,12 +567,13 @@ impl Book {
                     counts,
                 )
             }
-        })
+        };
+        asked_list(ask, link_of)
     }
 
     pub(crate) fn dependents(&self, at: Place) -> Result<Vec<Link>, Error> {
         let Place { sheet, row, col } = at;
-        asked_links(|links, words, counts| {
+        let ask = |links: &mut [header::Link], words: &mut [u8], counts: &mut Sizes| {
             let (rows, row_room) = (links.as_mut_ptr(), links.len());
             let (start, size) = (words.as_mut_ptr(), words.len());
             // SAFETY: `at` leads to a book of the library; both rooms are given with their sizes.
@@ -360,7 +590,8 @@ impl Book {
                     counts,
                 )
             }
-        })
+        };
+        asked_list(ask, link_of)
     }
 }
 
@@ -399,21 +630,49 @@ fn asked_value(ask: impl Fn(&mut [u8], &mut Shown) -> Status) -> Result<Value, E
     asked(ask, |shown| shown.length, value_of)
 }
 
-fn asked_links(
-    ask: impl Fn(&mut [header::Link], &mut [u8], &mut Counts) -> Status,
-) -> Result<Vec<Link>, Error> {
-    let mut counts = Counts::default();
-    let mut links = vec![header::Link::default(); LINK_ROOM];
-    let mut words = vec![0; ROOM];
-    let mut status = ask(&mut links, &mut words, &mut counts);
+// What a question lists, each row read with the texts of all: asked as often, with rooms of rows and of bytes.
+fn asked_list<R: Clone + Default, A>(
+    ask: impl Fn(&mut [R], &mut [u8], &mut Sizes) -> Status,
+    read: impl Fn(&R, &[u8]) -> A,
+) -> Result<Vec<A>, Error> {
+    let mut sizes = Sizes::default();
+    let mut rows = vec![R::default(); ROWS];
+    let mut texts = vec![0; ROOM];
+    let mut status = ask(&mut rows, &mut texts, &mut sizes);
     if status == NO_ROOM {
-        links.resize(counts.links, header::Link::default());
-        words.resize(counts.words, 0);
-        status = ask(&mut links, &mut words, &mut counts);
+        rows.resize(sizes.rows, R::default());
+        texts.resize(sizes.bytes, 0);
+        status = ask(&mut rows, &mut texts, &mut sizes);
     }
     ended(status)?;
-    let links = &links[..counts.links];
-    Ok(links.iter().map(|link| link_of(link, &words)).collect())
+    let rows = &rows[..sizes.rows];
+    Ok(rows.iter().map(|row| read(row, &texts)).collect())
+}
+
+// Cells of a sheet, each with what is read of its value and its text.
+fn asked_cells<A>(
+    sheet: u32,
+    ask: impl Fn(&mut [header::Cell], &mut [u8], &mut Sizes) -> Status,
+    read: impl Fn(&Shown, &[u8]) -> A,
+) -> Result<Vec<(Place, A)>, Error> {
+    asked_list(ask, |cell, texts| {
+        let text = &texts[cell.text_start..cell.text_start + cell.shown.length];
+        (
+            Place::new(sheet, cell.row, cell.col),
+            read(&cell.shown, text),
+        )
+    })
+}
+
+// Places of a sheet, which have no texts.
+fn asked_places(
+    sheet: u32,
+    ask: impl Fn(&mut [header::Place], &mut usize) -> Status,
+) -> Result<Vec<Place>, Error> {
+    asked_list(
+        |places, _, sizes| ask(places, &mut sizes.rows),
+        |place: &header::Place, _| Place::new(sheet, place.row, place.col),
+    )
 }
 
 fn text_of(bytes: &[u8]) -> String {
@@ -444,9 +703,25 @@ fn link_of(link: &header::Link, words: &[u8]) -> Link {
     match kind {
         header::LINK_CELL => Link::Cell(Place::new(sheet, top, left)),
         header::LINK_BLOCK => Link::Block(Block::new(sheet, top, left, bottom, right)),
-        _ => Link::Name {
-            scope: (sheet != NO_NUMBER).then_some(sheet),
-            word: text_of(&words[word_start..word_start + word_length]),
-        },
+        _ => Link::Name(name_of(
+            &header::Name {
+                scope: sheet,
+                word_start,
+                word_length,
+            },
+            words,
+        )),
+    }
+}
+
+fn name_of(name: &header::Name, words: &[u8]) -> Name {
+    let &header::Name {
+        scope,
+        word_start,
+        word_length,
+    } = name;
+    Name {
+        scope: (scope != NO_NUMBER).then_some(scope),
+        word: text_of(&words[word_start..word_start + word_length]),
     }
 }

@@ -1,4 +1,4 @@
-//! Places, blocks, their addresses, and links.
+//! Places, blocks, their addresses, names and links.
 
 use std::error;
 use std::fmt;
@@ -101,6 +101,15 @@ impl From<Place> for Block {
     }
 }
 
+/// A named expression.
+#[derive(Debug, Clone, PartialEq, Eq, PartialOrd, Ord, Hash)]
+pub struct Name {
+    /// The number of the sheet that it belongs to; none where that is the whole workbook.
+    pub scope: Option<u32>,
+    /// Its word, in capitals.
+    pub word: String,
+}
+
 /// What a formula needs, or what needs a cell.
 #[derive(Debug, Clone, PartialEq, Eq, Hash)]
 pub enum Link {
@@ -109,12 +118,7 @@ pub enum Link {
     /// A block.
     Block(Block),
     /// A named expression.
-    Name {
-        /// The number of the sheet that it belongs to; none where that is the whole workbook.
-        scope: Option<u32>,
-        /// Its word, in capitals.
-        word: String,
-    },
+    Name(Name),
 }
 
 /// A text isn't an address.

@@ -1,4 +1,4 @@
-//! Numbers, faults and values.
+//! Numbers, faults, values and kinds of contents.
 
 use std::error;
 use std::fmt;
@@ -218,6 +218,38 @@ impl fmt::Display for Value {
             Value::Truth(true) => f.pad("TRUE"),
             Value::Truth(false) => f.pad("FALSE"),
             Value::Fault(fault) => fault.fmt(f),
+        }
+    }
+}
+
+/// What kind of content a cell has.
+#[derive(Debug, Clone, Copy, Default, PartialEq, Eq, Hash)]
+pub enum Kind {
+    /// None: the cell isn't filled.
+    #[default]
+    Empty = 0,
+    /// A number.
+    Number = 1,
+    /// A text.
+    Text = 2,
+    /// A truth value.
+    Truth = 3,
+    /// A formula.
+    Formula = 5,
+    /// A formula that has no tree, kept as its text.
+    Unreadable = 6,
+}
+
+impl Kind {
+    /// The kind of a number that the library answers.
+    pub(crate) fn of_library(number: u32) -> Kind {
+        match number {
+            0 => Kind::Empty,
+            1 => Kind::Number,
+            2 => Kind::Text,
+            3 => Kind::Truth,
+            5 => Kind::Formula,
+            _ => Kind::Unreadable,
         }
     }
 }

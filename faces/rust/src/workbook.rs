@@ -3,9 +3,8 @@
 use crate::error::Error;
 use crate::library::{Book, NO_NUMBER};
 use crate::options::Options;
-use crate::place::{Block, Link, Place};
-use crate::value::Value;
-use crate::values::Values;
+use crate::place::{Block, Link, Name, Place};
+use crate::value::{Kind, Number, Value};
 use std::fmt;
 
 /// A workbook: sheets with their cells, named expressions, steps of undo and what waits to be pasted.
@@ -57,6 +56,24 @@ impl Workbook {
     /// Gives a cell the content that the text says: nothing, a formula behind `=`, a number, TRUE or FALSE, or a text.
     pub fn set(&mut self, at: Place, text: &str) -> Result<(), Error> {
         self.book.set(at, text)
+    }
+
+    /// Gives a cell a number, and is refused as [`set`](Workbook::set) is.
+    pub fn set_number(&mut self, at: Place, number: Number) -> Result<(), Error> {
+        self.book.set_number(at, number)
+    }
+
+    /// Gives a cell a truth value, likewise.
+    pub fn set_truth(&mut self, at: Place, truth: bool) -> Result<(), Error> {
+        self.book.set_truth(at, truth)
+    }
+
+    /// Gives a cell this text as it is, which needs no apostrophe: `007` stays three characters, and `=A1` is no formula.
+    ///
+    /// The apostrophe that [`content`](Workbook::content) answers in front of such a text counts among the 8,192 bytes that a
+    /// text may have.
+    pub fn set_text(&mut self, at: Place, text: &str) -> Result<(), Error> {
+        self.book.set_text(at, text)
     }
 
     /// Empties the cells of a block.
@@ -169,9 +186,19 @@ impl Workbook {
     }
 }
 
-/// Named expressions, in the scope of a sheet, or of the whole workbook where there is no scope. Each of the first three calls
-/// that is done is a step of undo, or a part of the open batch's.
+/// Named expressions, in the scope of a sheet, or of the whole workbook where there is no scope. Adding, changing and taking
+/// one away is a step of undo, or a part of the open batch's.
 impl Workbook {
+    /// All names: those of the whole workbook, then those of each sheet by its number, within a scope by the bytes of their words.
+    pub fn names(&self) -> Result<Vec<Name>, Error> {
+        self.book.names()
+    }
+
+    /// The text of the formula of the scope's own name, which [`add_name`](Workbook::add_name) takes. `NoSheet`, `NoSuchName`.
+    pub fn name_text(&self, name: &str, scope: Option<u32>) -> Result<String, Error> {
+        self.book.name_text(name, scope_number(scope))
+    }
+
     /// Adds a name with the formula of the text.
     pub fn add_name(&mut self, name: &str, scope: Option<u32>, text: &str) -> Result<(), Error> {
         self.book.add_name(name, scope_number(scope), text)
@@ -224,13 +251,18 @@ impl Workbook {
         self.book.paste(at.sheet, at.row, at.col)
     }
 
+    /// Empties the clipboard: nothing waits to be pasted then. Nothing refuses it.
+    pub fn clear_clipboard(&mut self) -> Result<(), Error> {
+        self.book.clear_clipboard()
+    }
+
     /// Whether nothing waits to be pasted.
     pub fn is_clipboard_empty(&self) -> bool {
         self.book.is_clipboard_empty()
     }
 }
 
-/// Steps, batches and suspended evaluation.
+/// Steps, batches, suspended evaluation and idle time.
 impl Workbook {
     /// Takes the newest step back.
     pub fn undo(&mut self) -> Result<(), Error> {
@@ -250,6 +282,11 @@ impl Workbook {
     /// Whether [`redo`](Workbook::redo) would be accepted now.
     pub fn can_redo(&self) -> bool {
         self.book.can_redo()
+    }
+
+    /// Forgets the steps that can be undone and done again; an open batch stays open. Nothing refuses it.
+    pub fn clear_history(&mut self) -> Result<(), Error> {
+        self.book.clear_history()
     }
 
     /// Opens a batch: the changes until [`commit`](Workbook::commit) are one step. Values aren't answered in it.
@@ -314,6 +351,50 @@ impl Workbook {
         self.suspend()?;
         between(self, inside, Workbook::resume)
     }
+
+    /// Spends idle time on formulas that weren't read since structural operations went past them, so that no later call takes
+    /// all of them over these at once.
+    ///
+    /// Each costs as many units of the budget as there are such operations, and one for which what is left of it doesn't
+    /// suffice stays as it is. Whether no such formula is left; what every other call answers is as before.
+    pub fn settle_idle(&mut self, budget: u64) -> Result<bool, Error> {
+        self.book.settle_idle(budget)
+    }
+}
+
+/// Areas. A cell is filled where it has a content, also a formula that shows nothing. These calls are refused with `NoSheet`,
+/// those of a place or a block with `Outside`, and `values` with `Suspended`, as a value is.
+impl Workbook {
+    /// What kind of content a cell has.
+    pub fn kind(&self, at: Place) -> Result<Kind, Error> {
+        self.book.kind(at)
+    }
+
+    /// The filled places of a block, row by row.
+    pub fn filled(&self, area: Block) -> Result<Vec<Place>, Error> {
+        self.book.filled(area)
+    }
+
+    /// Those of a sheet.
+    pub fn filled_in(&self, sheet: u32) -> Result<Vec<Place>, Error> {
+        self.book.filled_in(sheet)
+    }
+
+    /// How far a sheet is used: the least block over its filled cells; none where no cell is filled.
+    pub fn used_area(&self, sheet: u32) -> Result<Option<Block>, Error> {
+        self.book.used_area(sheet)
+    }
+
+    /// What the filled cells of a block show, row by row: of a whole sheet those of its [`used_area`](Workbook::used_area). One
+    /// such call takes far less time than to ask cell by cell.
+    pub fn values(&self, area: Block) -> Result<Vec<(Place, Value)>, Error> {
+        self.book.values(area)
+    }
+
+    /// The texts that give the filled cells of a block their contents, row by row.
+    pub fn contents(&self, area: Block) -> Result<Vec<(Place, String)>, Error> {
+        self.book.contents(area)
+    }
 }
 
 /// Values, texts and links. Values are worked out when they are first asked for.
@@ -328,17 +409,21 @@ impl Workbook {
         self.book.value_text(at)
     }
 
-    /// The filled cells of a block with what they show, row by row.
-    ///
-    /// It asks for each place of the block, which costs some time for an empty one too: take the block that is shown, and not
-    /// a whole sheet.
-    pub fn values(&self, area: Block) -> Values<'_> {
-        Values::new(self, area)
-    }
-
     /// What the formula of the text would show in the first cell of the sheet, without being in a cell.
     pub fn try_formula(&self, sheet: u32, text: &str) -> Result<Value, Error> {
         self.book.try_formula(sheet, text)
+    }
+
+    /// The text that [`formula`](Workbook::formula) answers of a cell of the sheet that is given the formula of the text, without
+    /// being in a cell. `NoSheet`, `TextLimit`, `BadFormula`.
+    pub fn normal_text(&self, sheet: u32, text: &str) -> Result<String, Error> {
+        self.book.normal_text(sheet, text)
+    }
+
+    /// The words in capitals that the formula of the text uses as names, in its order and each once, also where there is no such
+    /// name. It is refused likewise.
+    pub fn names_in(&self, sheet: u32, text: &str) -> Result<Vec<String>, Error> {
+        self.book.names_in(sheet, text)
     }
 
     /// The text of a cell's formula, if it has one.
@@ -360,6 +445,12 @@ impl Workbook {
     /// The cells and then the names whose formulas need a cell.
     pub fn dependents(&self, at: Place) -> Result<Vec<Link>, Error> {
         self.book.dependents(at)
+    }
+
+    /// The cells of a sheet that are on a cycle, row by row: those whose needs lead back to them. A cell that only reads one of
+    /// these isn't among them. They are told in a batch and suspended too. `NoSheet`.
+    pub fn on_cycle(&self, sheet: u32) -> Result<Vec<Place>, Error> {
+        self.book.on_cycle(sheet)
     }
 }
 

@@ -1,8 +1,8 @@
 //! Makes each call at least once, and as it shouldn't be made.
 
 use fazhundel::{
-    BadAddress, BadNumber, Block, Error, Fault, Link, Number, Options, Place, Refusal, Rule, Value,
-    Workbook,
+    BadAddress, BadNumber, Block, Error, Fault, Kind, Link, Name, Number, Options, Place, Refusal,
+    Rule, Value, Workbook,
 };
 
 const TODAY: i32 = 45_292;
@@ -29,6 +29,18 @@ fn refused<T>(refusal: Refusal) -> Result<T, Error> {
 fn number(text: &str) -> Value {
     Value::Number(text.parse().unwrap())
 }
+
+fn named(scope: Option<u32>, word: &str) -> Name {
+    Name {
+        scope,
+        word: word.to_owned(),
+    }
+}
+
+// A place and a block of a sheet that there isn't, and a block that there isn't.
+const GONE: Place = Place::new(9, 0, 0);
+const GONE_AREA: Block = Block::new(9, 0, 0, 5, 5);
+const NO_AREA: Block = Block::new(0, 3, 0, 2, 0);
 
 #[track_caller]
 fn reads(book: &Workbook, address: &str, formula: &str) {
@@ -70,27 +82,139 @@ fn cells_and_values() {
 }
 
 #[test]
+fn contents_are_given() {
+    let mut book = opened();
+    let given = |text: &str| text.parse::<Number>().unwrap();
+    for text in ["-1.5", "999999999999.999999", "-999999999999.999999"] {
+        book.set_number(at("A1"), given(text)).unwrap();
+        shows(&book, "A1", text);
+        assert_eq!(book.kind(at("A1")), Ok(Kind::Number));
+    }
+    book.undo().unwrap();
+    shows(&book, "A1", "999999999999.999999");
+    for truth in [true, false] {
+        book.set_truth(at("A2"), truth).unwrap();
+        assert_eq!(book.value(at("A2")), Ok(Value::Truth(truth)));
+        assert_eq!(book.kind(at("A2")), Ok(Kind::Truth));
+    }
+    for (text, content) in [
+        ("tax", "tax"),
+        ("007", "'007"),
+        ("true", "'true"),
+        ("=A1", "'=A1"),
+        ("'tis", "''tis"),
+        ("", "'"),
+    ] {
+        book.set_text(at("A3"), text).unwrap();
+        assert_eq!(book.value(at("A3")), Ok(Value::Text(text.into())));
+        assert_eq!(book.content(at("A3")).as_deref(), Ok(content));
+        assert_eq!(book.kind(at("A3")), Ok(Kind::Text));
+    }
+    let long = "=".repeat(8_192);
+    assert_eq!(book.set_text(at("A3"), &long), refused(Refusal::TextLimit));
+    book.set_text(at("A3"), &long[1..]).unwrap();
+    assert_eq!(book.value_text(at("A3")).as_deref(), Ok(&long[1..]));
+    let outside = Place::new(0, 1_048_576, 0);
+    assert_eq!(book.set_number(GONE, given("1")), refused(Refusal::NoSheet));
+    assert_eq!(book.set_truth(outside, true), refused(Refusal::Outside));
+    assert_eq!(book.set_text(GONE, "x"), refused(Refusal::NoSheet));
+}
+
+#[test]
 fn filled_cells_are_listed() {
     let mut book = opened();
-    book.set(at("B2"), "7").unwrap();
-    book.set(at("A3"), "=Z9").unwrap();
-    book.set(at("C2"), "x").unwrap();
-    book.set(at("D2"), "outside").unwrap();
-    let listed: Result<Vec<_>, Error> = book.values(over("A1:C3")).collect();
-    let expected = vec![
+    assert_eq!(book.used_area(0), Ok(None));
+    assert_eq!(book.filled_in(0), Ok(vec![]));
+    for (address, text) in [
+        ("B2", "7"),
+        ("A3", "=Z9"),
+        ("C2", "x"),
+        ("D2", "'=2"),
+        ("A4", "=1/0"),
+    ] {
+        book.set(at(address), text).unwrap();
+    }
+    let shown = vec![
         (at("B2"), number("7")),
         (at("C2"), Value::Text("x".into())),
         (at("A3"), Value::Empty),
     ];
-    assert_eq!(listed, Ok(expected));
-    assert_eq!(book.values(over("F1:G9")).next(), None);
-    assert_eq!(book.values(Block::new(0, 3, 0, 2, 0)).next(), None);
-    let mut gone = book.values(Block::new(9, 0, 0, 5, 5));
-    assert_eq!(gone.next(), Some(refused(Refusal::NoSheet)));
-    assert_eq!(gone.next(), None);
+    assert_eq!(book.values(over("A1:C3")), Ok(shown));
+    let contents = ["7", "x", "'=2", "=Z9", "=1/0"].map(str::to_owned);
+    let places = ["B2", "C2", "D2", "A3", "A4"].map(at);
+    let held = places.into_iter().zip(contents).collect();
+    assert_eq!(book.contents(over("A1:D9")), Ok(held));
+    assert_eq!(
+        book.filled(over("A1:C3")).unwrap(),
+        ["B2", "C2", "A3"].map(at)
+    );
+    assert_eq!(book.filled_in(0).unwrap(), places);
+    assert_eq!(book.used_area(0), Ok(Some(over("A2:D4"))));
+    assert_eq!(book.values(over("F1:G9")), Ok(vec![]));
+    book.add_sheet("Two").unwrap();
+    assert_eq!(
+        (book.used_area(1), book.filled_in(1)),
+        (Ok(None), Ok(vec![]))
+    );
+}
+
+#[test]
+fn areas_are_refused() {
+    let mut book = opened();
+    book.set(at("A1"), "=1").unwrap();
+    assert_eq!(book.values(GONE_AREA), refused(Refusal::NoSheet));
+    assert_eq!(book.contents(GONE_AREA), refused(Refusal::NoSheet));
+    assert_eq!(book.filled(GONE_AREA), refused(Refusal::NoSheet));
+    assert_eq!(book.filled_in(9), refused(Refusal::NoSheet));
+    assert_eq!(book.used_area(9), refused(Refusal::NoSheet));
+    assert_eq!(book.kind(GONE), refused(Refusal::NoSheet));
+    assert_eq!(book.values(NO_AREA), refused(Refusal::Outside));
+    assert_eq!(book.contents(NO_AREA), refused(Refusal::Outside));
+    assert_eq!(book.filled(NO_AREA), refused(Refusal::Outside));
+    assert_eq!(
+        book.kind(Place::new(0, 0, 18_278)),
+        refused(Refusal::Outside)
+    );
     book.suspend().unwrap();
-    let suspended = book.values(over("A1:C3")).collect::<Result<Vec<_>, _>>();
-    assert_eq!(suspended, refused(Refusal::Suspended));
+    assert_eq!(book.values(over("A1:C3")), refused(Refusal::Suspended));
+    let held = vec![(at("A1"), "=1".to_owned())];
+    assert_eq!(book.contents(over("A1:C3")), Ok(held));
+}
+
+#[test]
+fn kinds_are_told() {
+    let mut book = opened();
+    for (text, kind) in [
+        ("1", Kind::Number),
+        ("x", Kind::Text),
+        ("true", Kind::Truth),
+        ("=1", Kind::Formula),
+        ("=1+", Kind::Unreadable),
+        ("", Kind::Empty),
+    ] {
+        book.set(at("A1"), text).unwrap();
+        assert_eq!(book.kind(at("A1")), Ok(kind));
+    }
+}
+
+#[test]
+fn cycles_are_listed() {
+    let mut book = opened();
+    assert_eq!(book.on_cycle(0), Ok(vec![]));
+    for (address, text) in [
+        ("A1", "=B1+1"),
+        ("B1", "=A1"),
+        ("C1", "=A1"),
+        ("B3", "=SUM(B3:B4)"),
+    ] {
+        book.set(at(address), text).unwrap();
+    }
+    assert_eq!(book.on_cycle(0).unwrap(), ["A1", "B1", "B3"].map(at));
+    shows(&book, "C1", "#CYCLE!");
+    book.suspend().unwrap();
+    book.set(at("B1"), "1").unwrap();
+    assert_eq!(book.on_cycle(0).unwrap(), [at("B3")]);
+    assert_eq!(book.on_cycle(9), refused(Refusal::NoSheet));
 }
 
 // Answers that have no place in the room of a first try come whole.
@@ -121,7 +245,23 @@ fn long_answers_come_whole() {
     }
     let links = book.dependents(at("A1")).unwrap();
     assert_eq!(links.len(), 78);
-    assert!(matches!(&links[77], Link::Name { scope: None, word } if word.starts_with("NAME_W")));
+    let is_name = |name: &Name| name.scope.is_none() && name.word.starts_with("NAME_W");
+    assert!(matches!(&links[77], Link::Name(name) if is_name(name)));
+    let names = book.names().unwrap();
+    assert!(names.len() == 39 && names.iter().all(is_name));
+    assert_eq!(book.filled_in(0).unwrap().len(), 42);
+    let listed = book.values(over("A1:D41")).unwrap();
+    assert_eq!(listed[0], (at("A1"), Value::Text(long.clone())));
+    assert_eq!(listed[41], (at("D41"), Value::Text(long.clone())));
+    let listed = book.contents(over("A1:D41")).unwrap();
+    assert_eq!((listed.len(), &listed[0].1), (42, &long));
+    assert_eq!(listed[41], (at("D41"), "=A1".to_owned()));
+    let sum = names.iter().map(|name| name.word.as_str());
+    let sum = format!("={}", sum.collect::<Vec<_>>().join("+"));
+    assert_eq!(book.names_in(0, &sum).unwrap().len(), 39);
+    assert_eq!(book.normal_text(0, &sum), Ok(sum.clone()));
+    book.add_name("total", None, &sum).unwrap();
+    assert_eq!(book.name_text("TOTAL", None), Ok(sum));
     book.rename_sheet(0, &"n".repeat(100)).unwrap();
     assert_eq!(book.sheet_name(0).unwrap().len(), 100);
     assert_eq!(
@@ -221,6 +361,73 @@ fn names() {
 }
 
 #[test]
+fn names_are_listed() {
+    let mut book = opened();
+    assert_eq!(book.names(), Ok(vec![]));
+    book.add_name("rate", Some(0), "=0.50*(2)").unwrap();
+    book.add_name("to", None, "=2").unwrap();
+    let names = vec![named(None, "TO"), named(Some(0), "RATE")];
+    assert_eq!(book.names(), Ok(names));
+    assert_eq!(book.name_text("RATE", Some(0)).as_deref(), Ok("=0.5*(2)"));
+    assert_eq!(book.name_text("to", None).as_deref(), Ok("=2"));
+    assert_eq!(book.name_text("to", Some(0)), refused(Refusal::NoSuchName));
+    assert_eq!(book.name_text("to", Some(9)), refused(Refusal::NoSheet));
+    assert_eq!(
+        book.name_text("to", Some(u32::MAX)),
+        refused(Refusal::NoSheet)
+    );
+}
+
+#[test]
+fn texts_of_formulas_are_read() {
+    let book = opened();
+    assert_eq!(
+        book.normal_text(0, "= sum( a1 )").as_deref(),
+        Ok("=SUM(A1)")
+    );
+    assert_eq!(book.names_in(0, "=ab+rate*AB").unwrap(), ["AB", "RATE"]);
+    assert_eq!(book.names_in(0, "=1"), Ok(vec![]));
+    assert_eq!(book.normal_text(0, "sum"), refused(Refusal::BadFormula));
+    assert_eq!(book.names_in(0, "=ab+"), refused(Refusal::BadFormula));
+    assert_eq!(book.normal_text(9, "=1"), refused(Refusal::NoSheet));
+    assert_eq!(book.names_in(9, "=ab"), refused(Refusal::NoSheet));
+}
+
+#[test]
+fn the_history_is_cleared() {
+    let mut book = opened();
+    book.set(at("A1"), "1").unwrap();
+    book.set(at("A1"), "2").unwrap();
+    book.undo().unwrap();
+    assert!(book.can_undo() && book.can_redo());
+    book.clear_history().unwrap();
+    assert!(!book.can_undo() && !book.can_redo());
+    assert_eq!(book.undo(), refused(Refusal::NothingToUndo));
+    assert_eq!(book.redo(), refused(Refusal::NothingToRedo));
+    book.begin().unwrap();
+    book.set(at("A1"), "3").unwrap();
+    book.clear_history().unwrap();
+    book.commit().unwrap();
+    shows(&book, "A1", "3");
+    book.undo().unwrap();
+    shows(&book, "A1", "1");
+    assert!(!book.can_undo());
+}
+
+#[test]
+fn idle_time_is_spent() {
+    let mut book = opened();
+    book.set(at("A10"), "=B9").unwrap();
+    assert_eq!(book.settle_idle(0), Ok(true));
+    book.insert_rows(0, 0, 1).unwrap();
+    book.insert_rows(0, 0, 2).unwrap();
+    assert_eq!(book.settle_idle(1), Ok(false));
+    assert_eq!(book.settle_idle(u64::MAX), Ok(true));
+    assert_eq!(book.settle_idle(0), Ok(true));
+    reads(&book, "A13", "=B12");
+}
+
+#[test]
 fn steps_and_batches() {
     let mut book = opened();
     book.begin().unwrap();
@@ -308,15 +515,17 @@ fn blocks_are_pasted() {
     reads(&book, "A3", "=B1");
     assert_eq!(book.formula(at("A1")), Ok(None));
     assert_eq!(book.paste(at("A5")), refused(Refusal::NothingToPaste));
+    book.copy(over("A3:B3")).unwrap();
+    book.clear_clipboard().unwrap();
+    assert!(book.is_clipboard_empty());
+    assert_eq!(book.paste(at("A5")), refused(Refusal::NothingToPaste));
+    book.clear_clipboard().unwrap();
 }
 
 #[test]
 fn links_are_listed() {
     let mut book = opened();
-    let rate = Link::Name {
-        scope: None,
-        word: "RATE".into(),
-    };
+    let rate = Link::Name(named(None, "RATE"));
     book.add_name("rate", None, "=Plan!$A$1").unwrap();
     book.set(at("A3"), "=SUM(A1:B1)+A1+rate").unwrap();
     let needed = vec![
@@ -331,10 +540,7 @@ fn links_are_listed() {
     );
     assert_eq!(book.dependents(at("J10")), Ok(vec![]));
     book.add_name("own", Some(0), "=$A$1").unwrap();
-    let own = Link::Name {
-        scope: Some(0),
-        word: "OWN".into(),
-    };
+    let own = Link::Name(named(Some(0), "OWN"));
     assert_eq!(book.dependents(at("A1")).unwrap()[2], own);
     assert_eq!(
         book.precedents(Place::new(0, 0, 18_278)),

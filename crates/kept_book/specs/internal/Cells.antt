@@ -1,5 +1,5 @@
 -- Cells that are given something to hold, and contents that entries come over.
-use Rattle.std.specs.Prelude.{ℕ, ◌+◌, List, [], ◌∷◌, Option, None, Some}
+use Rattle.std.specs.Prelude.{ℕ, ◌+◌, List, [], ◌∷◌, Option, None, Some, option_map}
 use Rattle.std.specs.FinMap as fin
 use Rattle.std.specs.declared.alloc.Global.{Global}
 use Rattle.std.specs.declared.rc.Rc.{Rc}
@@ -10,7 +10,9 @@ use Rattle.clip_board.specs.declared.clip.CopyItem.TheVariants as item
 use Rattle.formula_tree.specs.declared.node.Node.{Node}
 use Rattle.grid_store.specs.declared.cell.Cell.{Cell}
 use Rattle.grid_store.specs.declared.cell.Cell.TheVariants as cell
+use Rattle.shift_core.specs.Maps.{PlaceMap}
 use Rattle.book_model.specs.Changes.{placed}
+use Rattle.book_model.specs.Content.{content_given, content_of}
 use Rattle.book_model.specs.Workbook.{Workbook}
 
 -- the cells of what is given, formulas under ids from this one on
@@ -41,3 +43,11 @@ with_given (e ∷ es) m = fin.insert (with_given es m) e.0 e.1
 abbrev pub listed_at : Place → Option Cell → List (Place × Cell)
 listed_at at None = []
 listed_at at (Some c) = (at, c) ∷ []
+
+-- what holds the place of an entry, if anything does
+abbrev pub stood_at : {X : Type 0} → PlaceMap Cell → Place × X → Option (Place × Cell)
+stood_at m e = option_map (λ c. (e.0, c)) (fin.get m e.0)
+
+-- what a text gives to its place, if anything
+abbrev pub entry_given : List (ℕ × List ℕ) → Place × List ℕ → Option (Place × Content)
+entry_given sheets e = option_map (λ x. (e.0, x)) (content_given sheets e.0.sheet (content_of e.1))

@@ -1,58 +1,22 @@
--- What the answer to one command does, and to one record, and how a failed write stops a run.
-use Rattle.std.specs.Prelude.{◌≡◌, ℕ, ◌&&◌, List, Bool, true, false, Option, Some, None, Result, Ok, Err, ⊤}
+-- What the answer to one command does to a sink, and to one record, and how a failed write stops a run.
+use Rattle.std.specs.Prelude.{◌≡◌, ℕ, ◌&&◌, List, Bool, true, false, Option, Some, None, Result, Ok, Err}
 use Rattle.std.specs.Io.KnownBytes.{Appends}
 use Rattle.calc_eval.specs.declared.customs.Customs.{Ghosts}
-use Rattle.book_model.specs.Replies.{line_of, next_state, refused_for, refused_text, reply}
-use Rattle.book_model.specs.Workbook.{State}
-use Rattle.book_model.specs.declared.command.Command.{Command}
-use Rattle.book_model.specs.declared.command.Command.TheVariants as command
 use Rattle.custom_fn.specs.declared.rule.Rule.{Rule}
+use Rattle.book_model.specs.Workbook.{State}
 use Rattle.book_engine.specs.Engine.{StandsFor}
 use Rattle.book_engine.specs.declared.engine.Engine.{Engine}
-use Rattle.book_engine.specs.declared.stop.Stop as engine
-use Rattle.book_engine.specs.declared.stop.Stop.TheVariants.{Refused, NoMemory}
-use Rattle.book_model.specs.declared.command.Version.{Version}
 use Rattle.script_lang.specs.Command.{version_after}
+use Rattle.script_lang.specs.Lines.{line_of}
+use Rattle.script_lang.specs.declared.commands.Command.{Command}
+use Rattle.script_lang.specs.declared.commands.Version.{Version}
 use Rattle.script_lang.specs.declared.error.ScriptError.{ScriptError}
+use Rattle.command_answers.specs.Replies.{is_refused, next_state, record_text, reply}
 use Rattle.book_files.specs.Outside.{AppendsPart}
 use Rattle.book_files.specs.declared.error.WriteError.{WriteError}
 use Rattle.book_files.specs.declared.error.WriteError.TheVariants as write
 use Rattle.sheet_cli.specs.declared.ending.Stop.{Stop}
 use Rattle.sheet_cli.specs.declared.ending.Stop.TheVariants as stop
-use Rattle.sheet_cli.specs.Answering.{is_refused, record_text}
-
--- the engine stays in the session that it was in
-abbrev pub Keeps : {C : Type 0} {G : Ghosts C} → (C → List (List ℕ × Rule)) → Engine C G → Engine C G → Type 0
-Keeps customs old new = (d : State) → StandsFor customs old d → StandsFor customs new d
-
--- a command was executed: whichever session the engine was in, this line answers it, it is a refusal or not, and the
--- engine is in the next one
-abbrev pub Executes : {C : Type 0} {G : Ghosts C} → (C → List (List ℕ × Rule)) → Command → Engine C G → Engine C G → List ℕ → Bool → Type 0
-Executes customs c old new line refused = (d : State) → StandsFor customs old d → (line ≡ reply c d) × (refused ≡ is_refused d c) × StandsFor customs new (next_state c d)
-
--- a call for what a command asks for, whichever session the engine was in
-abbrev pub DoesFor : {C X : Type 0} {G : Ghosts C} → (C → List (List ℕ × Rule)) → Command → (State → X → Type 0) → Engine C G → Engine C G → Result X engine.Stop → Type 0
-DoesFor customs c Answers old new (Ok x) = (d : State) → StandsFor customs old d → (refused_for c d ≡ None) × Answers d x × StandsFor customs new (next_state c d)
-DoesFor customs c Answers old new (Err (Refused r)) = (d : State) → StandsFor customs old d → (refused_for c d ≡ Some r) × StandsFor customs new (next_state c d)
-DoesFor customs c Answers old new (Err NoMemory) = Keeps customs old new
-
--- the command is a change that answers nothing
-abbrev pub IsChange : Command → Type 0
-IsChange (command.AddSheet name) = ⊥
-IsChange (command.Value at) = ⊥
-IsChange (command.Formula at) = ⊥
-IsChange (command.Content at) = ⊥
-IsChange (command.Precedents at) = ⊥
-IsChange (command.Dependents at) = ⊥
-IsChange (command.NameValue name sheet) = ⊥
-IsChange (command.Try sheet text) = ⊥
-IsChange (command.Version version) = ⊥
-IsChange _ = ⊤
-
--- the line of a call that stopped; of want of memory there is none
-abbrev pub IsLineOfStop : engine.Stop → List ℕ → Type 0
-IsLineOfStop (Refused r) line = line ≡ line_of (refused_text r)
-IsLineOfStop NoMemory line = ⊥
 
 -- a refusal ends the run
 abbrev pub EndsAt : Bool → State → Command → Bool → Type 0

@@ -1,7 +1,7 @@
 -- What was counted of answers, and what is left to count.
 use Rattle.std.specs.Prelude.{◌≡◌, ◌+◌, ◌++◌, ℕ, Bool, true, false, List, length, filter, codes}
 use Rattle.std.specs.Fmt.{decimal}
-use Rattle.book_model.specs.Replies.{line_of}
+use Rattle.script_lang.specs.Lines.{line_of}
 use Rattle.sheet_cli.specs.Answering.{Answered, bytes_of}
 use Rattle.sheet_cli.specs.declared.answering.Tally.{Tally}
 

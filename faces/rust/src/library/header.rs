@@ -42,11 +42,57 @@ pub const TRUTH: u32 = 3;
 
 /// A value, whose text is in the room.
 #[repr(C)]
-#[derive(Default)]
+#[derive(Clone, Default)]
 pub struct Shown {
     pub kind: u32,
     pub number: i64,
     pub length: usize,
+}
+
+/// A place of the sheet that was asked for.
+#[repr(C)]
+#[derive(Clone, Default)]
+pub struct Place {
+    pub row: u32,
+    pub col: u32,
+}
+
+/// How far a sheet is used: 1 and the least block, or 0 and no block.
+#[repr(C)]
+#[derive(Default)]
+pub struct Used {
+    pub is_used: u32,
+    pub top: u32,
+    pub left: u32,
+    pub bottom: u32,
+    pub right: u32,
+}
+
+/// A filled cell of the sheet that was asked for, whose text is in the room of texts.
+#[repr(C)]
+#[derive(Clone, Default)]
+pub struct Cell {
+    pub row: u32,
+    pub col: u32,
+    pub shown: Shown,
+    pub text_start: usize,
+}
+
+/// How much room a list needs: the counts of links, and the sizes of any other list.
+#[repr(C)]
+#[derive(Default)]
+pub struct Sizes {
+    pub rows: usize,
+    pub bytes: usize,
+}
+
+/// A name, whose word is in the room of words.
+#[repr(C)]
+#[derive(Clone, Default)]
+pub struct Name {
+    pub scope: u32,
+    pub word_start: usize,
+    pub word_length: usize,
 }
 
 pub const LINK_CELL: u32 = 0;
@@ -66,14 +112,6 @@ pub struct Link {
     pub word_length: usize,
 }
 
-/// How much room an answer of links needs.
-#[repr(C)]
-#[derive(Default)]
-pub struct Counts {
-    pub links: usize,
-    pub words: usize,
-}
-
 #[rustfmt::skip]
 extern "C" {
     pub fn fz_open(book: *mut Book, undo_limit: u32, today: i32, rules: *const Rule, rule_count: usize,
@@ -82,6 +120,9 @@ extern "C" {
     pub fn fz_is_open(book: *const Book) -> bool;
 
     pub fn fz_set(book: *mut Book, sheet: u32, row: u32, col: u32, text: *const u8, length: usize) -> Status;
+    pub fn fz_set_number(book: *mut Book, sheet: u32, row: u32, col: u32, millionths: i64) -> Status;
+    pub fn fz_set_truth(book: *mut Book, sheet: u32, row: u32, col: u32, truth: bool) -> Status;
+    pub fn fz_set_text(book: *mut Book, sheet: u32, row: u32, col: u32, text: *const u8, length: usize) -> Status;
     pub fn fz_clear(book: *mut Book, sheet: u32, top: u32, left: u32, bottom: u32, right: u32) -> Status;
     pub fn fz_insert_rows(book: *mut Book, sheet: u32, at: u32, count: u32) -> Status;
     pub fn fz_insert_cols(book: *mut Book, sheet: u32, at: u32, count: u32) -> Status;
@@ -104,12 +145,15 @@ extern "C" {
 
     pub fn fz_copy(book: *mut Book, sheet: u32, top: u32, left: u32, bottom: u32, right: u32) -> Status;
     pub fn fz_cut(book: *mut Book, sheet: u32, top: u32, left: u32, bottom: u32, right: u32) -> Status;
+    pub fn fz_clear_clipboard(book: *mut Book) -> Status;
     pub fn fz_undo(book: *mut Book) -> Status;
     pub fn fz_redo(book: *mut Book) -> Status;
+    pub fn fz_clear_history(book: *mut Book) -> Status;
     pub fn fz_begin(book: *mut Book) -> Status;
     pub fn fz_commit(book: *mut Book) -> Status;
     pub fn fz_suspend(book: *mut Book) -> Status;
     pub fn fz_resume(book: *mut Book) -> Status;
+    pub fn fz_settle_idle(book: *mut Book, budget: u64, none_left: *mut u32) -> Status;
 
     pub fn fz_value(book: *mut Book, sheet: u32, row: u32, col: u32, room: *mut u8, size: usize, value: *mut Shown) -> Status;
     pub fn fz_value_text(book: *mut Book, sheet: u32, row: u32, col: u32, room: *mut u8, size: usize,
@@ -120,11 +164,31 @@ extern "C" {
                   value: *mut Shown) -> Status;
     pub fn fz_formula(book: *mut Book, sheet: u32, row: u32, col: u32, room: *mut u8, size: usize, length: *mut usize) -> Status;
     pub fn fz_content(book: *mut Book, sheet: u32, row: u32, col: u32, room: *mut u8, size: usize, length: *mut usize) -> Status;
+    pub fn fz_kind(book: *mut Book, sheet: u32, row: u32, col: u32, kind: *mut u32) -> Status;
+
+    pub fn fz_filled(book: *mut Book, sheet: u32, top: u32, left: u32, bottom: u32, right: u32,
+                     places: *mut Place, place_room: usize, count: *mut usize) -> Status;
+    pub fn fz_filled_in(book: *mut Book, sheet: u32, places: *mut Place, place_room: usize, count: *mut usize) -> Status;
+    pub fn fz_used_area(book: *mut Book, sheet: u32, used: *mut Used) -> Status;
+    pub fn fz_values(book: *mut Book, sheet: u32, top: u32, left: u32, bottom: u32, right: u32,
+                     cells: *mut Cell, cell_room: usize, texts: *mut u8, texts_size: usize, sizes: *mut Sizes) -> Status;
+    pub fn fz_contents(book: *mut Book, sheet: u32, top: u32, left: u32, bottom: u32, right: u32,
+                       cells: *mut Cell, cell_room: usize, texts: *mut u8, texts_size: usize, sizes: *mut Sizes) -> Status;
+
+    pub fn fz_names(book: *mut Book, names: *mut Name, name_room: usize, words: *mut u8, words_size: usize,
+                    sizes: *mut Sizes) -> Status;
+    pub fn fz_name_text(book: *mut Book, name: *const u8, name_length: usize, scope: u32, room: *mut u8, size: usize,
+                        length: *mut usize) -> Status;
+    pub fn fz_normal_text(book: *mut Book, sheet: u32, text: *const u8, text_length: usize, room: *mut u8, size: usize,
+                          length: *mut usize) -> Status;
+    pub fn fz_names_in(book: *mut Book, sheet: u32, text: *const u8, text_length: usize, names: *mut Name, name_room: usize,
+                       words: *mut u8, words_size: usize, sizes: *mut Sizes) -> Status;
 
     pub fn fz_precedents(book: *mut Book, sheet: u32, row: u32, col: u32, links: *mut Link, link_room: usize,
-                         words: *mut u8, words_size: usize, counts: *mut Counts) -> Status;
+                         words: *mut u8, words_size: usize, counts: *mut Sizes) -> Status;
     pub fn fz_dependents(book: *mut Book, sheet: u32, row: u32, col: u32, links: *mut Link, link_room: usize,
-                         words: *mut u8, words_size: usize, counts: *mut Counts) -> Status;
+                         words: *mut u8, words_size: usize, counts: *mut Sizes) -> Status;
+    pub fn fz_on_cycle(book: *mut Book, sheet: u32, places: *mut Place, place_room: usize, count: *mut usize) -> Status;
 
     pub fn fz_can_undo(book: *mut Book) -> bool;
     pub fn fz_can_redo(book: *mut Book) -> bool;

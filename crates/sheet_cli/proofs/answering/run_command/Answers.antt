@@ -2,7 +2,7 @@
 use Rattle.std.proofs.Common.{◌∙◌, subst}
 use Rattle.book_files.specs.Outside.{AppendsPart}
 use Rattle.sheet_cli.specs.internal.Answers.{PartOfCommand}
-use Rattle.sheet_cli.proofs.Executed.{on_err}
+use Rattle.command_answers.proofs.Executed.{on_err}
 use Rattle.sheet_cli.proofs.Outcomes.{line_part, no_part}
 use Rattle.sheet_cli.proofs.answering.run_command.Goals as goal
 

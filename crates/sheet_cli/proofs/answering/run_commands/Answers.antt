@@ -1,7 +1,7 @@
 -- Each answer is counted. The summary of all, or the refusal that ends the run, is what is printed.
 use Rattle.std.proofs.Common.{◌≡◌, ◌∙◌, sym, ap, refl, ◌+◌, suc, ◌∷◌, drop, add-one, drop-cons}
 use Rattle.std.proofs.lemmas.List.{drop_all}
-use Rattle.book_model.specs.declared.command.Command.{Command}
+use Rattle.script_lang.specs.declared.commands.Command.{Command}
 use Rattle.sheet_cli.specs.Answering.{answers_from, summary_outcome}
 use Rattle.sheet_cli.proofs.Outcomes.{no_memory, part-none}
 use Rattle.sheet_cli.proofs.Tallies.{tallied-all, tallied-ends, tallied-more, tallied-start}

@@ -3,7 +3,7 @@ use Rattle.std.proofs.Common.{◌∙◌, ap, sym, subst, w32, ℤ, List, [], ◌
 use Rattle.std.proofs.lemmas.Int.{to_z-of_z}
 use Rattle.book_engine.specs.Engine.{StandsFor}
 use Rattle.book_model.specs.Given.{given_sheets, session_given}
-use Rattle.book_model.specs.declared.command.Command.{Command}
+use Rattle.script_lang.specs.declared.commands.Command.{Command}
 use Rattle.command_words.specs.Words.{seen}
 use Rattle.run_inputs.specs.Opening.{empty_sheet}
 use Rattle.sheet_cli.specs.Answering.{answers_from, summary_outcome}

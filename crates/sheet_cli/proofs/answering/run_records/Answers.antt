@@ -1,6 +1,6 @@
 -- Each record that is answered takes the output one step further, and the last one completes it.
 use Rattle.std.proofs.Common.{ap, refl, arith, length, Ok, Err}
-use Rattle.book_model.specs.declared.command.Version.TheVariants.{Two}
+use Rattle.script_lang.specs.declared.commands.Version.TheVariants.{Two}
 use Rattle.csv.specs.Reading.{records, default_config, strip_bom}
 use Rattle.book_files.proofs.RecordCounts.{few_records}
 use Rattle.sheet_cli.specs.Answering.{outcome_from}

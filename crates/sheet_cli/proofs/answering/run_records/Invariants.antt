@@ -2,7 +2,7 @@
 use Rattle.std.proofs.Common.{◌+◌, ◌≤◌, length}
 use Rattle.book_engine.specs.Engine.{StandsFor}
 use Rattle.book_model.specs.Workbook.{State}
-use Rattle.book_model.specs.declared.command.Version.TheVariants.{Two}
+use Rattle.script_lang.specs.declared.commands.Version.TheVariants.{Two}
 use Rattle.csv.specs.Reading.{records, default_config, strip_bom}
 use Rattle.sheet_cli.specs.Answering.{outcome_from}
 use Rattle.sheet_cli.proofs.Outcomes.{Leads}

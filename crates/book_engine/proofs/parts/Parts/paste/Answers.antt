@@ -26,18 +26,10 @@ paste-requires-clause-inside c = sound_inside (state_of c.args.self.now) c.requi
 pub returns-in_err-paste-clause-fits : goal.returns-in_err-paste-clause-fits
 returns-in_err-paste-clause-fits c = subst IsSound (sym c.in_err-paste.ensures.err) c.requires.fits
 
-pub filled_after-requires-clause-few : goal.filled_after-requires-clause-few
-filled_after-requires-clause-few c = c.requires.fits.book.count
-
 pub returns-clause-fits : goal.returns-clause-fits
 returns-clause-fits c =
     let d = state_of c.args.self.now in
-    let clip = copied c.args.area (contents_copied c.args.cells.now) in
-    let after = with_copy c.args.area (contents_copied c.args.cells.now) c.args.at d.book in
-    let none : cause (paste c.args.at) (with_clipboard clip d) ≡ None =
-    three-none (not (has_sheet d.book c.args.at.sheet)) (is_block_outside (destination c.args.area c.args.at)) (nat_lt 1000000 (fin.len after.cells)) NoSheet Outside CellLimit c.in_ok-check_paste.ensures
-    (few-enough c.in_ok-filled_after.field-0 (fin.len after.cells) (sym c.in_ok-filled_after.ensures) c.if-branch-gt-MAX_CELLS.false) in
-    pasted-sound d (state_of (record { session = c.paste.new.self; values = c.touch_filled_or_forget.new.values })) c.args.area c.args.cells.now c.args.at c.requires.fits c.requires.block c.requires.copied none c.in_ok-paste.ensures.ok refl
+    pasted-sound d (state_of (record { session = c.paste.new.self; values = c.touch_filled_or_forget.new.values })) c.args.area c.args.cells.now c.args.at c.requires.fits c.requires.block c.requires.copied c.in_ok-check_copied.ensures.cause.0 c.in_ok-paste.ensures.ok refl
 
 pub returns-in_err-touch_filled-clause-follow : goal.returns-in_err-touch_filled-clause-follow
 returns-in_err-touch_filled-clause-follow c =

@@ -1,32 +1,16 @@
-use Rattle.std.proofs.Common.{◌∙◌, sym, subst, Option}
-use Rattle.kept_values.specs.Values.{Follows}
+use Rattle.std.proofs.Common.{subst, Option}
+use Rattle.dep_graph.proofs.Listing.{if_ok}
+use Rattle.dep_graph.specs.Nodes.{items_of}
+use Rattle.kept_values.specs.Values.{links_in}
 use Rattle.kept_values.specs.declared.values.Values.{Values}
-use Rattle.session_values.specs.Following.{FollowsIn, book_of, words_in}
+use Rattle.session_values.specs.Following.{book_of, words_in}
+use Rattle.session_values.specs.internal.Linked.{AreLinkedIn}
+use Rattle.session_values.proofs.MentionedPlaces.{users_mention}
 use Rattle.session_values.proofs.values.SessionValues.users.Goals as goal
-use Rattle.session_values.proofs.values.SessionValues.users.Goals.{in-Some, in-None+in_ok-values-in-None}
 
-pub linked_users-users-requires-clause-follows : goal.linked_users-users-requires-clause-follows
-linked_users-users-requires-clause-follows c =
-    let s = c.args.session.now in
-    let (customs, today, follows) = c.requires.follows in (
-      customs,
-      today,
-      elim c.match-take.branch [
-        | in-Some w ↦
-            subst (λ (v : Values). Follows (book_of s) (words_in s) customs today v) (sym w.values-is)
-            (subst (λ (o : Option Values). FollowsIn (book_of s) (words_in s) customs today o) (sym c.take.ensures.value ∙ w.in-Some.is) follows)
-        | in-None+in_ok-values-in-None w ↦
-            subst (λ (v : Values). Follows (book_of s) (words_in s) customs today v) (sym w.values-is) (w.in_ok-values-in-None.ensures customs today)
-      ],
-    )
-
-pub returns-clause-follows : goal.returns-clause-follows
-returns-clause-follows c = λ customs today follows.
-    let s = c.args.session.now in
-    c.linked_users-users.ensures.follows customs today (elim c.match-take.branch [
-      | in-Some w ↦
-          subst (λ (v : Values). Follows (book_of s) (words_in s) customs today v) (sym w.values-is)
-          (subst (λ (o : Option Values). FollowsIn (book_of s) (words_in s) customs today o) (sym c.take.ensures.value ∙ w.in-Some.is) follows)
-      | in-None+in_ok-values-in-None w ↦
-          subst (λ (v : Values). Follows (book_of s) (words_in s) customs today v) (sym w.values-is) (w.in_ok-values-in-None.ensures customs today)
-    ])
+pub returns-in-Some-clause-users : goal.returns-in-Some-clause-users
+returns-in-Some-clause-users c =
+    let b = book_of c.args.session.now in
+    let words = words_in c.args.session.now in
+    let linked = subst (λ (o : Option Values). AreLinkedIn b words o) c.in-Some.is c.in_ok-link.ensures.linked in
+    if_ok c.users.result _ _ c.users.ensures (λ nodes users. users_mention b words c.args.at (links_in c.in-Some.values) (items_of nodes) linked users)

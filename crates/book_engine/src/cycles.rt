@@ -1,0 +1,74 @@
+// Which cells are on a cycle.
+ghost use Rattle.std.specs.Prelude.{◌≡◌, ℕ, ℤ, IfOk, List, filter};
+ghost use Rattle.cell_addr.specs.declared.place.Place.{Place as PlaceSeen};
+ghost use Rattle.custom_fn.specs.declared.rule.Rule.{Rule};
+ghost use Rattle.value_network.specs.Network.{cyclic};
+ghost use Rattle.book_values.specs.Values.{network};
+ghost use Rattle.book_values.specs.Workbook as nodes;
+ghost use Rattle.book_model.specs.Operation as op;
+ghost use Rattle.book_model.specs.Refusals.{cause};
+ghost use Rattle.book_model.specs.Workbook.{State};
+ghost use Rattle.kept_steps.specs.Reads.{Reads};
+ghost use Rattle.session_values.specs.Following.{book_of};
+ghost use Rattle.book_engine.specs.Areas.{Answered, cyclic_on_sheet};
+ghost use Rattle.book_engine.specs.Seen.{Fits, ValuesFollow, ValuesFollowStill, state_of, with_rules};
+
+use crate::engine::Engine;
+use crate::parts::Parts;
+use crate::stop::Stop;
+use calc_eval::Customs;
+use cell_addr::Place;
+use std::alloc::AllocError;
+
+#[tactic(auto, unfolding(crate::specs::Engine::StandsFor))]
+impl<C: Customs> Engine<C> {
+    ghost use Rattle.book_engine.specs.Calls.{Stays};
+    ghost use Rattle.book_engine.specs.Engine.{StandsFor};
+    ghost use Rattle.book_engine.specs.Kept.{KeepsLine};
+
+    /// The cells of a sheet that are on a cycle, row by row: those whose needs lead back to them, so that they show `#CYCLE!` by
+    /// themselves. A cell that only reads one of these isn't among them. It is answered while values are suspended too, and nothing is
+    /// worked out.
+    ///
+    /// Costs about the filled cells of the sheet and the links of all that these lead to; before it, once, the links of the formulas
+    /// that changed since a value or links were read, which are all where none were.
+    ///
+    /// # Errors
+    /// `NoSheet`.
+    pub fn on_cycle(&mut self, sheet: u32) -> Result<Vec<Place>, Stop>
+        ensures answered { (d : State) → StandsFor C.customs self.old d → Answered (cause (op.clear_sheet sheet) d) (λ places. places.items ≡ cyclic_on_sheet sheet d) result }
+        ensures stays { Stays C.customs self.old self.new }
+        ensures line { KeepsLine self.old self.new }
+    {
+        self.parts.on_cycle(sheet)
+    }
+}
+
+impl Parts {
+    // The cells of a sheet that are on a cycle, whatever the custom functions and the day.
+    fn on_cycle(&mut self, sheet: u32) -> Result<Vec<Place>, Stop>
+        requires fits { Fits self.old }
+        requires follow { (customs : List (List ℕ × Rule)) × (today : ℤ) × ValuesFollow customs today self.old }
+        ensures answered { (customs : List (List ℕ × Rule)) (today : ℤ) → Answered (cause (op.clear_sheet sheet) (state_of self.old)) (λ places. places.items ≡ cyclic_on_sheet sheet (with_rules customs today (state_of self.old))) result }
+        ensures state { state_of self.new ≡ state_of self.old }
+        ensures fits { Fits self.new }
+        ensures line { self.new.session.book.lazy.line ≡ self.old.session.book.lazy.line }
+        ensures follow { ValuesFollowStill self.old self.new }
+    {
+        let places = self.filled_in(sheet)?;
+        let found = self.cyclic_among(&places)?;
+        Ok(found)
+    }
+
+    // Those of the places that are on a cycle.
+    fn cyclic_among(&mut self, places: &[Place]) -> Result<Vec<Place>, AllocError>
+        requires fits { Fits self.old }
+        requires follow { (customs : List (List ℕ × Rule)) × (today : ℤ) × ValuesFollow customs today self.old }
+        ensures found { IfOk result (λ found. (customs : List (List ℕ × Rule)) (today : ℤ) → found.items ≡ filter (λ p. cyclic (network (book_of self.old.session) customs today) (nodes.place p)) places.now) }
+        ensures reads { Reads self.old.session self.new.session }
+        ensures follow { ValuesFollowStill self.old self.new }
+    {
+        let Parts { session, values } = self;
+        values.on_cycle(session, places)
+    }
+}

@@ -1,0 +1,3 @@
+pub mod Executed
+pub mod LineBytes
+pub mod LinkTexts

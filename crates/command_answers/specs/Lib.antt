@@ -1,0 +1,4 @@
+pub mod Asked
+pub mod Replies
+pub mod Sessions
+pub mod internal

@@ -1,0 +1,3 @@
+-- What only the proofs of bodies need.
+pub mod Answers
+pub mod Links

@@ -1,5 +1,0 @@
--- A digit less is left in each call.
-use Rattle.sheet_cli.proofs.line.+put_number.Given as goal
-
-abbrev pub decreases-put_number : goal.decreases-put_number
-decreases-put_number l = l.number
