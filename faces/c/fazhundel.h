@@ -24,7 +24,7 @@
  * was. So it is with a list of rows, and with one whose rows have texts: these stand one after the other in a room of their
  * own, and where one of the two rooms is too short neither is written.
  *
- * Pointers to a book, a number, a count, a length, a value, a used area, counts or sizes are never NULL, and no two pointers
+ * Pointers to a book, a change, a number, a count, a length, a value, a used area, counts or sizes are never NULL, and no two pointers
  * of one call lead to the same memory.
  *
  * Threads. A workbook is used by one thread: the one that opened it makes each call and closes it. Different threads may
@@ -78,7 +78,9 @@ enum {
     FZ_BAD_LIMIT = 68,          /* more than 1,000 steps were to be undone */
     FZ_BAD_TABLE = 69,          /* the rules aren't those of custom functions */
     FZ_STILL_OPEN = 70,         /* the book holds a workbook already */
-    FZ_BAD_NUMBER = 71          /* a number is 10^12 or more in absolute value */
+    FZ_BAD_NUMBER = 71,         /* a number is 10^12 or more in absolute value */
+    FZ_BAD_CELLS = 72,          /* cells to write don't stand in order, each once, or a text isn't among the bytes, or no UTF-8 */
+    FZ_BAD_CHANGE = 73          /* no change has this number */
 };
 
 /* A number that no sheet has: as a scope, the whole workbook. */
@@ -134,6 +136,20 @@ fz_status fz_set_truth(fz_book *book, uint32_t sheet, uint32_t row, uint32_t col
 /* Gives a cell this text as it is, which needs no apostrophe: 007 stays three characters, =A1 is no formula, and no bytes are
  * a text too. The apostrophe that fz_content answers in front of such a text counts among the 8,192 bytes. */
 fz_status fz_set_text(fz_book *book, uint32_t sheet, uint32_t row, uint32_t col, const char *text, size_t length);
+
+/* A cell to write. */
+typedef struct fz_written {
+    uint32_t sheet;
+    uint32_t row;
+    uint32_t col;
+    size_t text_start;   /* where its text begins among the bytes of all texts */
+    size_t text_length;
+} fz_written;
+
+/* Gives each of these cells the content that its text says, as one change: one step of undo. The cells stand in order of their
+ * sheets, in a sheet of their rows, in a row of their columns, and each once; their texts may overlap. Where one text is
+ * refused all cells stay as they were. FZ_BAD_CELLS, before any refusal. */
+fz_status fz_write_all(fz_book *book, const fz_written *cells, size_t count, const char *texts, size_t texts_size);
 /* Empties the cells of a block. */
 fz_status fz_clear(fz_book *book, uint32_t sheet, uint32_t top, uint32_t left, uint32_t bottom, uint32_t right);
 /* Puts so many rows or columns before one of the sheet. */
@@ -333,6 +349,52 @@ bool fz_can_redo(fz_book *book);
 bool fz_has_batch(fz_book *book);
 bool fz_is_suspended(fz_book *book);
 bool fz_is_clipboard_empty(fz_book *book);
+
+/* The changes that can be asked about, and what each needs of the numbers, of the name and of the text. */
+enum {
+    FZ_CHANGE_SET = 1,           /* sheet, row, col, text */
+    FZ_CHANGE_CLEAR = 2,         /* sheet, row, col, last_row, last_col */
+    FZ_CHANGE_INSERT_ROWS = 3,   /* sheet, row, count */
+    FZ_CHANGE_DELETE_ROWS = 4,   /* sheet, row, count */
+    FZ_CHANGE_MOVE_ROWS = 5,     /* sheet, row, count, to_row: before which they go */
+    FZ_CHANGE_INSERT_COLS = 6,   /* sheet, col, count */
+    FZ_CHANGE_DELETE_COLS = 7,   /* sheet, col, count */
+    FZ_CHANGE_MOVE_COLS = 8,     /* sheet, col, count, to_col */
+    FZ_CHANGE_MOVE_BLOCK = 9,    /* sheet, row, col, last_row, last_col, to_sheet, to_row, to_col */
+    FZ_CHANGE_DROP_SHEET = 10,   /* sheet */
+    FZ_CHANGE_ADD_SHEET = 11,    /* name */
+    FZ_CHANGE_RENAME_SHEET = 12, /* sheet, name */
+    FZ_CHANGE_CLEAR_SHEET = 13,  /* sheet */
+    FZ_CHANGE_ADD_NAME = 14,     /* sheet: the scope, name, text */
+    FZ_CHANGE_CHANGE_NAME = 15,  /* sheet: the scope, name, text */
+    FZ_CHANGE_REMOVE_NAME = 16,  /* sheet: the scope, name */
+    FZ_CHANGE_COPY = 17,         /* sheet, row, col, last_row, last_col */
+    FZ_CHANGE_CUT = 18,          /* sheet, row, col, last_row, last_col */
+    FZ_CHANGE_PASTE = 19,        /* sheet, row, col */
+    FZ_CHANGE_BEGIN = 20,
+    FZ_CHANGE_COMMIT = 21,
+    FZ_CHANGE_UNDO = 22,
+    FZ_CHANGE_REDO = 23
+};
+
+/* A change that is asked about. What it doesn't need says nothing. */
+typedef struct fz_change {
+    uint32_t kind;      /* FZ_CHANGE_SET to FZ_CHANGE_REDO */
+    uint32_t sheet;
+    uint32_t row;       /* of a block its first row */
+    uint32_t col;
+    uint32_t last_row;
+    uint32_t last_col;
+    uint32_t count;
+    uint32_t to_sheet;
+    uint32_t to_row;
+    uint32_t to_col;
+} fz_change;
+
+/* Why the change would be refused now: the number of the refusal, or 0 where it would be accepted. Nothing changes.
+ * FZ_BAD_CHANGE. */
+fz_status fz_cause(fz_book *book, const fz_change *change, const char *name, size_t name_length, const char *text, size_t length,
+                   fz_status *refusal);
 
 /* The list of sheets: how many there are, and the number of the one at a place of it, counted from 0, or FZ_NO_NUMBER. */
 size_t fz_sheet_count(fz_book *book);

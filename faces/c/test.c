@@ -134,6 +134,95 @@ static void texts_are_given(void)
     fz_close(&book);
 }
 
+/* Many cells come as one change, or none. */
+static void many_cells_are_written(void)
+{
+    const char texts[] = "=A2*2" "7" "\xff" "plain";
+    fz_written cells[] = {{0, 0, 0, 0, 5}, {0, 1, 0, 5, 1}, {0, 1, 3, 7, 5}, {0, 2, 0, 5, 0}};
+    const size_t size = sizeof texts - 1;
+    fz_book book = opened();
+    CHECK(set(&book, 2, 0, "old") == FZ_DONE);
+    CHECK(fz_write_all(&book, cells, 4, texts, size) == FZ_DONE);
+    CHECK(shows(&book, 0, 0, "14") && reads(&book, 0, 0, "=A2*2") && shows(&book, 1, 3, "plain") && kind_of(&book, 2, 0) == FZ_EMPTY);
+    CHECK(fz_undo(&book) == FZ_DONE && shows(&book, 2, 0, "old") && kind_of(&book, 0, 0) == FZ_EMPTY && kind_of(&book, 1, 3) == FZ_EMPTY);
+    CHECK(fz_redo(&book) == FZ_DONE && shows(&book, 0, 0, "14") && fz_write_all(&book, NULL, 0, NULL, 0) == FZ_DONE);
+
+    cells[1].row = 0; /* A1 is there already */
+    CHECK(fz_write_all(&book, cells, 2, texts, size) == FZ_BAD_CELLS && shows(&book, 1, 0, "7"));
+    cells[1].row = 1;
+    cells[0].row = 3; /* not in order */
+    CHECK(fz_write_all(&book, cells, 2, texts, size) == FZ_BAD_CELLS);
+    cells[0].row = 0;
+    cells[1].text_start = 6; /* no UTF-8 */
+    CHECK(fz_write_all(&book, cells, 2, texts, size) == FZ_BAD_CELLS);
+    cells[1].text_start = size; /* a byte behind the last one */
+    CHECK(fz_write_all(&book, cells, 2, texts, size) == FZ_BAD_CELLS);
+    cells[1].text_length = 0;
+    CHECK(fz_write_all(&book, cells, 2, texts, size) == FZ_DONE && kind_of(&book, 1, 0) == FZ_EMPTY);
+    cells[1].text_start = SIZE_MAX; /* the end doesn't overflow */
+    cells[1].text_length = 2;
+    CHECK(fz_write_all(&book, cells, 2, texts, size) == FZ_BAD_CELLS);
+    cells[1] = (fz_written){9, 0, 0, 0, 1};
+    CHECK(fz_write_all(&book, cells, 2, texts, size) == FZ_NO_SHEET && shows(&book, 0, 0, "0"));
+    cells[1] = (fz_written){0, 1048576, 0, 0, 1};
+    CHECK(fz_write_all(&book, cells, 2, texts, size) == FZ_OUTSIDE);
+    fz_close(&book);
+}
+
+/* The number of the refusal that a change would have, or 99. */
+static fz_status cause(fz_book *book, fz_change change, const char *name, const char *text)
+{
+    fz_status refusal = 99;
+    CHECK(fz_cause(book, &change, name, strlen(name), text, strlen(text), &refusal) == FZ_DONE);
+    return refusal;
+}
+
+/* It is told beforehand why a change would be refused. */
+static void causes_are_told(void)
+{
+    static char many[8194];
+    fz_book book = opened();
+    fz_status refusal = 99;
+    memset(many, 'x', sizeof many - 1);
+    CHECK(cause(&book, (fz_change){.kind = FZ_CHANGE_SET, .row = 1}, "", "=A1") == 0);
+    CHECK(cause(&book, (fz_change){.kind = FZ_CHANGE_SET}, "", many) == FZ_TEXT_LIMIT);
+    CHECK(cause(&book, (fz_change){.kind = FZ_CHANGE_CLEAR, .row = 2}, "", "") == FZ_OUTSIDE);
+    CHECK(cause(&book, (fz_change){.kind = FZ_CHANGE_CLEAR, .last_row = 2}, "", "") == 0);
+    CHECK(cause(&book, (fz_change){.kind = FZ_CHANGE_INSERT_ROWS}, "", "") == FZ_BAD_SPAN);
+    CHECK(cause(&book, (fz_change){.kind = FZ_CHANGE_INSERT_ROWS, .count = 1}, "", "") == 0);
+    CHECK(cause(&book, (fz_change){.kind = FZ_CHANGE_DELETE_ROWS, .sheet = 3, .count = 1}, "", "") == FZ_NO_SHEET);
+    CHECK(cause(&book, (fz_change){.kind = FZ_CHANGE_MOVE_ROWS, .count = 2, .to_row = 1}, "", "") == FZ_BAD_SPAN);
+    CHECK(cause(&book, (fz_change){.kind = FZ_CHANGE_MOVE_ROWS, .count = 2, .to_row = 3}, "", "") == 0);
+    CHECK(cause(&book, (fz_change){.kind = FZ_CHANGE_INSERT_COLS, .col = 18278, .count = 1}, "", "") == FZ_OUTSIDE);
+    CHECK(cause(&book, (fz_change){.kind = FZ_CHANGE_DELETE_COLS, .col = 1, .count = 1}, "", "") == 0);
+    CHECK(cause(&book, (fz_change){.kind = FZ_CHANGE_MOVE_COLS, .col = 1, .count = 1, .to_col = 18279}, "", "") == FZ_OUTSIDE);
+    CHECK(cause(&book, (fz_change){.kind = FZ_CHANGE_MOVE_BLOCK, .last_row = 1, .to_row = 1048575}, "", "") == FZ_OUTSIDE);
+    CHECK(cause(&book, (fz_change){.kind = FZ_CHANGE_MOVE_BLOCK, .last_row = 1, .to_col = 5}, "", "") == 0);
+    CHECK(cause(&book, (fz_change){.kind = FZ_CHANGE_DROP_SHEET, .sheet = 1}, "", "") == FZ_NO_SHEET);
+    CHECK(cause(&book, (fz_change){.kind = FZ_CHANGE_ADD_SHEET}, "PLAN", "") == FZ_SHEET_NAME_TAKEN);
+    CHECK(cause(&book, (fz_change){.kind = FZ_CHANGE_RENAME_SHEET}, "", "") == FZ_SHEET_NAME_INVALID);
+    CHECK(cause(&book, (fz_change){.kind = FZ_CHANGE_RENAME_SHEET}, "plan", "") == 0);
+    CHECK(cause(&book, (fz_change){.kind = FZ_CHANGE_CLEAR_SHEET, .sheet = FZ_NO_NUMBER}, "", "") == FZ_NO_SHEET);
+    CHECK(cause(&book, (fz_change){.kind = FZ_CHANGE_ADD_NAME, .sheet = FZ_WORKBOOK}, "rate", "=Plan!A1") == FZ_RELATIVE_ADDRESS);
+    CHECK(cause(&book, (fz_change){.kind = FZ_CHANGE_ADD_NAME, .sheet = FZ_WORKBOOK}, "rate", "=Plan!$A$1") == 0);
+    CHECK(cause(&book, (fz_change){.kind = FZ_CHANGE_CHANGE_NAME}, "rate", "=1") == FZ_NO_SUCH_NAME);
+    CHECK(cause(&book, (fz_change){.kind = FZ_CHANGE_REMOVE_NAME, .sheet = FZ_WORKBOOK}, "rate", "") == FZ_NO_SUCH_NAME);
+    CHECK(cause(&book, (fz_change){.kind = FZ_CHANGE_COPY, .last_row = 1048576}, "", "") == FZ_OUTSIDE);
+    CHECK(cause(&book, (fz_change){.kind = FZ_CHANGE_CUT, .last_row = 1}, "", "") == 0);
+    CHECK(cause(&book, (fz_change){.kind = FZ_CHANGE_PASTE}, "", "") == FZ_NOTHING_TO_PASTE);
+    CHECK(cause(&book, (fz_change){.kind = FZ_CHANGE_COMMIT}, "", "") == FZ_NO_BATCH);
+    CHECK(cause(&book, (fz_change){.kind = FZ_CHANGE_BEGIN}, "", "") == 0 && fz_begin(&book) == FZ_DONE);
+    CHECK(cause(&book, (fz_change){.kind = FZ_CHANGE_BEGIN}, "", "") == FZ_BATCH_OPEN && fz_commit(&book) == FZ_DONE);
+    CHECK(cause(&book, (fz_change){.kind = FZ_CHANGE_UNDO}, "", "") == 0);
+    CHECK(cause(&book, (fz_change){.kind = FZ_CHANGE_REDO}, "", "") == FZ_NOTHING_TO_REDO);
+    CHECK(fz_cause(&book, &(fz_change){.kind = 0}, NULL, 0, NULL, 0, &refusal) == FZ_BAD_CHANGE && refusal == 99);
+    CHECK(fz_cause(&book, &(fz_change){.kind = 24}, NULL, 0, NULL, 0, &refusal) == FZ_BAD_CHANGE && refusal == 99);
+    CHECK(fz_cause(&book, &(fz_change){.kind = 1}, NULL, 0, "\xff", 1, &refusal) == FZ_NOT_UTF8 && refusal == 99);
+    CHECK(fz_cause(&book, &(fz_change){.kind = 11}, "\xff", 1, NULL, 0, &refusal) == FZ_NOT_UTF8 && refusal == 99);
+    CHECK(fz_sheet_count(&book) == 1 && fz_can_undo(&book) && !fz_can_redo(&book));
+    fz_close(&book);
+}
+
 /* The room is tested before anything is written, and the length that is needed is told. */
 static void short_rooms(void)
 {
@@ -491,6 +580,7 @@ static void closed_books(void)
     fz_shown value = {7, 7, 7};
     size_t length = 7;
     uint32_t number = 7;
+    fz_status refusal = 7;
     fz_counts counts = {7, 7};
     fz_used used = {7, 7, 7, 7, 7};
     fz_sizes sizes = {7, 7};
@@ -500,6 +590,8 @@ static void closed_books(void)
     CHECK(fz_set_number(&book, 0, 0, 0, 1) == FZ_NOT_OPEN && fz_set_truth(&book, 0, 0, 0, true) == FZ_NOT_OPEN);
     CHECK(fz_set_text(&book, 0, 0, 0, "1", 1) == FZ_NOT_OPEN && fz_clear_history(&book) == FZ_NOT_OPEN);
     CHECK(fz_on_cycle(&book, 0, NULL, 0, &length) == FZ_NOT_OPEN && length == 7);
+    CHECK(fz_write_all(&book, NULL, 0, NULL, 0) == FZ_NOT_OPEN);
+    CHECK(fz_cause(&book, &(fz_change){.kind = FZ_CHANGE_UNDO}, NULL, 0, NULL, 0, &refusal) == FZ_NOT_OPEN && refusal == 7);
     CHECK(fz_add_sheet(&book, "Plan", 4, &number) == FZ_NOT_OPEN && number == 7);
     CHECK(fz_value(&book, 0, 0, 0, NULL, 0, &value) == FZ_NOT_OPEN && value.kind == 7);
     CHECK(fz_formula(&book, 0, 0, 0, NULL, 0, &length) == FZ_NOT_OPEN && length == 7);
@@ -531,6 +623,8 @@ int main(void)
     cells_and_values();
     numbers_and_truths_are_given();
     texts_are_given();
+    many_cells_are_written();
+    causes_are_told();
     short_rooms();
     formulas_follow();
     sheets_and_names();

@@ -73,6 +73,16 @@ static void *rows(struct call *call, size_t count, size_t size)
     return found;
 }
 
+/* So many numbers of an array, from one of them on. */
+static void read_row(struct call *call, napi_value array, uint32_t start, uint32_t *row, uint32_t count)
+{
+    for (uint32_t i = 0; call->is_good && i < count; i++) {
+        if (napi_get_value_uint32(call->env, element(call, array, start + i), &row[i]) != napi_ok) {
+            type_error(call, "a number was expected");
+        }
+    }
+}
+
 /* Rules as an array of five numbers for each, in the order of fz_rule. */
 static void read_rules(struct call *call, struct table *table)
 {
@@ -80,13 +90,9 @@ static void read_rules(struct call *call, struct table *table)
     uint32_t count = length_of(call, array);
     table->rules = rows(call, count / 5, sizeof *table->rules);
     for (uint32_t i = 0; call->is_good && i < count / 5; i++) {
-        uint32_t numbers[5] = {0};
-        for (uint32_t j = 0; call->is_good && j < 5; j++) {
-            if (napi_get_value_uint32(call->env, element(call, array, i * 5 + j), &numbers[j]) != napi_ok) {
-                type_error(call, "a number was expected");
-            }
-        }
-        table->rules[i] = (fz_rule){numbers[0], numbers[1], numbers[2], numbers[3], numbers[4] != 0};
+        uint32_t row[5] = {0};
+        read_row(call, array, i * 5, row, 5);
+        table->rules[i] = (fz_rule){row[0], row[1], row[2], row[3], row[4] != 0};
     }
     table->rule_count = count / 5;
 }
@@ -261,6 +267,50 @@ static napi_value set_text(napi_env env, napi_callback_info info)
     return give_text(env, info, fz_set_text);
 }
 
+/* Gives many cells what texts say: five numbers for each, in the order of fz_written, and all texts as one. */
+static napi_value write_all(napi_env env, napi_callback_info info)
+{
+    struct call call = asked(env, info);
+    napi_value array = next(&call), answer = NULL;
+    uint32_t count = length_of(&call, array) / 5;
+    fz_written *cells = rows(&call, count, sizeof *cells);
+    for (uint32_t i = 0; call.is_good && i < count; i++) {
+        uint32_t row[5] = {0};
+        read_row(&call, array, i * 5, row, 5);
+        cells[i] = (fz_written){row[0], row[1], row[2], row[3], row[4]};
+    }
+    struct text texts = text(&call);
+    if (call.is_good) {
+        answer = ended(&call, fz_write_all(call.book, cells, count, texts.bytes, texts.length));
+    }
+    free(cells);
+    free(texts.bytes);
+    return answer;
+}
+
+/* Why a change would be refused, as the number of the refusal or 0: ten numbers in the order of fz_change, a name and a text. */
+static napi_value cause(napi_env env, napi_callback_info info)
+{
+    struct call call = asked(env, info);
+    napi_value array = next(&call), answer = NULL;
+    uint32_t row[10] = {0};
+    read_row(&call, array, 0, row, 10);
+    struct text name = text(&call), formula = text(&call);
+    if (call.is_good) {
+        const fz_change change = {row[0], row[1], row[2], row[3], row[4], row[5], row[6], row[7], row[8], row[9]};
+        fz_status refusal = FZ_DONE;
+        fz_status status = fz_cause(call.book, &change, name.bytes, name.length, formula.bytes, formula.length, &refusal);
+        if (status == FZ_DONE) {
+            napi_create_uint32(env, refusal, &answer);
+        } else {
+            throw_status(&call, status);
+        }
+    }
+    free(name.bytes);
+    free(formula.bytes);
+    return answer;
+}
+
 static napi_value add_sheet(napi_env env, napi_callback_info info)
 {
     struct call call = asked(env, info);
@@ -361,14 +411,15 @@ static const struct {
     napi_callback call;
 } calls[] = {
     {"open", open_book}, {"close", close_book}, {"isOpen", is_open},
-    {"set", set}, {"setNumber", set_number}, {"setTruth", set_truth}, {"setText", set_text}, {"clear", clear},
+    {"set", set}, {"setNumber", set_number}, {"setTruth", set_truth}, {"setText", set_text},
+    {"writeAll", write_all}, {"clear", clear},
     {"insertRows", insert_rows}, {"insertCols", insert_cols}, {"deleteRows", delete_rows}, {"deleteCols", delete_cols},
     {"moveRows", move_rows}, {"moveCols", move_cols}, {"moveBlock", move_block},
     {"addSheet", add_sheet}, {"dropSheet", drop_sheet}, {"renameSheet", rename_sheet}, {"clearSheet", clear_sheet},
     {"addName", add_name}, {"changeName", change_name}, {"removeName", remove_name}, {"names", names}, {"nameText", name_text},
     {"copy", copy}, {"cut", cut}, {"paste", paste},
     {"clearClipboard", clear_clipboard}, {"isClipboardEmpty", is_clipboard_empty},
-    {"undo", undo}, {"redo", redo}, {"clearHistory", clear_history}, {"canUndo", can_undo}, {"canRedo", can_redo},
+    {"undo", undo}, {"redo", redo}, {"clearHistory", clear_history}, {"canUndo", can_undo}, {"canRedo", can_redo}, {"cause", cause},
     {"begin", begin}, {"commit", commit}, {"hasBatch", has_batch},
     {"suspend", suspend}, {"resume", resume}, {"isSuspended", is_suspended}, {"settleIdle", settle_idle},
     {"kind", kind}, {"filled", filled}, {"filledIn", filled_in}, {"usedArea", used_area},

@@ -27,6 +27,7 @@ const STATUSES = {
   67: ['NotUtf8', 'the text has half of a surrogate pair'],
   68: ['BadLimit', 'at most 1,000 steps can be undone'],
   69: ['BadTable', "the rules aren't those of custom functions"],
+  72: ['BadCells', 'a cell is to be written twice'],
 };
 
 /** The last status that is a refusal's. */
@@ -48,4 +49,9 @@ class FazhundelError extends Error {
   }
 }
 
-module.exports = { FazhundelError };
+/** The name of a refusal by its number; null for 0. */
+function refusalName(number) {
+  return number === 0 ? null : STATUSES[number][0];
+}
+
+module.exports = { FazhundelError, refusalName };

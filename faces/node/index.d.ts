@@ -100,13 +100,19 @@ export interface Options {
   rules?: Readonly<Record<string, Rule>>;
 }
 
+/** A call that can be asked about beforehand. */
+export type Change =
+  | 'set' | 'clear' | 'insertRows' | 'deleteRows' | 'moveRows' | 'insertCols' | 'deleteCols' | 'moveCols' | 'moveBlock'
+  | 'dropSheet' | 'addSheet' | 'renameSheet' | 'clearSheet' | 'addName' | 'changeName' | 'removeName'
+  | 'copy' | 'cut' | 'paste' | 'begin' | 'commit' | 'undo' | 'redo';
+
 /** A call wasn't done, and the workbook is as it was. */
 export class FazhundelError extends Error {
   constructor(status: number);
   /** The number of a refusal, 1 to 20, or 64 and more for another cause. */
   readonly status: number;
   /** The name of the refusal, as docs/SCRIPT.md has it ('NothingToUndo'), or 'NoMemory', 'NotOpen', 'NotUtf8', 'BadLimit',
-   * 'BadTable'. */
+   * 'BadTable', 'BadCells'. */
   readonly name: string;
   /** Whether the call was refused. */
   readonly isRefusal: boolean;
@@ -139,6 +145,9 @@ export class Workbook {
   /** Gives a cell this text as it is, which needs no apostrophe: '007' stays three characters, '=A1' is no formula. The apostrophe
    * that content answers in front of such a text counts among the 8,192 bytes that a text may have. */
   setText(at: Place, text: string): void;
+  /** Gives many cells the contents that their texts say, as one change: all of them or none, and one step of undo. BadCells where a
+   * cell is listed twice. */
+  writeAll(cells: Iterable<readonly [Place, string]>): void;
   /** Empties the cells of a block. */
   clear(area: Block): void;
   /** Puts so many rows before a row of the sheet. */
@@ -218,6 +227,9 @@ export class Workbook {
   readonly canUndo: boolean;
   /** Whether redo would be accepted now. */
   readonly canRedo: boolean;
+  /** Why a call that changes the workbook would be refused now, by its name and its words: book.cause('insertRows', sheet, 0, 1). It
+   * answers the refusal's name, or null where the call would be accepted. Nothing changes. */
+  cause<C extends Change>(change: C, ...words: Parameters<Workbook[C]>): string | null;
   /** Opens a batch: the changes until commit are one step. Values aren't answered in it. */
   begin(): void;
   /** Closes the batch. */

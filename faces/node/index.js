@@ -16,7 +16,8 @@
  */
 const path = require('node:path');
 
-const { FazhundelError } = require('./errors.js');
+const { changeOf } = require('./changes.js');
+const { FazhundelError, refusalName } = require('./errors.js');
 const { bands, table, tiers } = require('./rules.js');
 const {
   Fault, Faults, address, block, decimal, kindOf, linkOf, millionths, numberOf, place, shown, valueOf,
@@ -48,6 +49,19 @@ function serial(day) {
     return day;
   }
   return Date.UTC(day.getFullYear(), day.getMonth(), day.getDate()) / DAY + UNIX_DAY;
+}
+
+/** Cells to write as the addon takes them: five numbers for each, in order, and all texts as one. */
+function written(cells) {
+  const sorted = [...cells].sort(([a], [b]) => a.sheet - b.sheet || a.row - b.row || a.col - b.col);
+  const rows = [];
+  let start = 0;
+  for (const [{ sheet, row, col }, text] of sorted) {
+    const length = Buffer.byteLength(textOf(text));
+    rows.push(sheet, row, col, start, length);
+    start += length;
+  }
+  return [rows, sorted.map(([, text]) => text).join('')];
 }
 
 /** Places of a sheet as the addon answers them. */
@@ -87,6 +101,10 @@ class Workbook {
 
   setText({ sheet, row, col }, text) {
     calls.setText(this.#book, sheet, row, col, textOf(text));
+  }
+
+  writeAll(cells) {
+    calls.writeAll(this.#book, ...written(cells));
   }
 
   clear({ sheet, top, left, bottom, right }) {
@@ -227,6 +245,11 @@ class Workbook {
 
   get canRedo() {
     return calls.canRedo(this.#book);
+  }
+
+  cause(change, ...words) {
+    const [numbers, name, text] = changeOf(change, words);
+    return refusalName(calls.cause(this.#book, numbers, textOf(name), textOf(text)));
   }
 
   begin() {

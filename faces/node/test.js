@@ -96,6 +96,41 @@ test('contents are given', () => opened((book) => {
   fails('NoSheet', () => book.setText(place(9, 'A1'), 'x'));
 }));
 
+test('many cells are written at once', () => opened((book) => {
+  book.writeAll([[at('B2'), '=A1*2'], [at('A1'), '7'], [at('A2'), 'hüte']]);
+  shows(book, 'B2', '14');
+  shows(book, 'A2', 'hüte');
+  fails('BadCells', () => book.writeAll([[at('A1'), '1'], [at('A1'), '2']]));
+  fails('NoSheet', () => book.writeAll([[at('A1'), '1'], [place(9, 'A1'), '2']]));
+  fails('NotUtf8', () => book.writeAll([[at('A1'), 'half \ud83d'], [at('A2'), '\ude00']]));
+  assert.throws(() => book.writeAll([[at('A1'), 7]]), TypeError);
+  shows(book, 'B2', '14');
+  book.undo();
+  assert.equal(book.usedArea(0), null);
+  book.writeAll(new Map());
+}));
+
+test('causes are told beforehand', () => opened((book) => {
+  const area = over('A1:B2');
+  const causes = [
+    [null, 'set', at('A1'), '=A1'], ['NoSheet', 'set', place(9, 'A1'), ''], [null, 'clear', area],
+    ['BadSpan', 'insertRows', 0, 0, 0], [null, 'insertRows', 0, 0, 1], ['Outside', 'deleteRows', 0, 1_048_576, 1],
+    ['BadSpan', 'moveRows', 0, 0, 2, 1], [null, 'moveRows', 0, 0, 2, 3], [null, 'insertCols', 0, 0, 1],
+    ['BadSpan', 'deleteCols', 0, 0, 0], ['BadSpan', 'moveCols', 0, 0, 2, 1],
+    ['Outside', 'moveBlock', area, { sheet: 0, row: 1_048_575, col: 0 }], [null, 'moveBlock', area, at('F6')],
+    ['NoSheet', 'dropSheet', 9], ['SheetNameInvalid', 'addSheet', ''], ['NoSheet', 'renameSheet', 9, 'x'], [null, 'clearSheet', 0],
+    ['RelativeAddress', 'addName', 'rate', '=A1'], [null, 'addName', 'rate', '=$A$1', 0], ['NoSuchName', 'changeName', 'rate', '=1'],
+    ['NoSuchName', 'removeName', 'rate', 0], [null, 'copy', area], ['Outside', 'cut', { ...area, top: 5 }],
+    ['NothingToPaste', 'paste', at('A1')], [null, 'begin'], ['NoBatch', 'commit'], [null, 'undo'], ['NothingToRedo', 'redo'],
+  ];
+  for (const [cause, ...asked] of causes) {
+    assert.equal(book.cause(...asked), cause, asked[0]);
+  }
+  assert.throws(() => book.cause('value', at('A1')), RangeError);
+  assert.throws(() => book.cause('addSheet', 7), TypeError);
+  assert.throws(() => book.cause('insertRows', 0, 'first', 1), TypeError);
+}));
+
 test('filled cells are listed', () => opened((book) => {
   assert.equal(book.usedArea(0), null);
   assert.deepEqual(book.filledIn(0), []);
@@ -436,6 +471,8 @@ test('books are opened and closed', () => {
   fails('NotOpen', () => book.setNumber(at('A1'), 1n));
   fails('NotOpen', () => book.setTruth(at('A1'), true));
   fails('NotOpen', () => book.setText(at('A1'), ''));
+  fails('NotOpen', () => book.writeAll([]));
+  fails('NotOpen', () => book.cause('undo'));
   fails('NotOpen', () => book.kind(at('A1')));
   fails('NotOpen', () => book.values(over('A1')));
   fails('NotOpen', () => book.filledIn(0));

@@ -1,5 +1,5 @@
 // Cells, blocks, rows and columns.
-ghost use Rattle.std.specs.Prelude.{◌≡◌, IsUtf8};
+ghost use Rattle.std.specs.Prelude.{◌≡◌, IsUtf8, map};
 ghost use Rattle.shift_core.specs.declared.shift.Shift.TheVariants as shifts;
 ghost use Rattle.book_model.specs.Content.{text_given};
 ghost use Rattle.book_model.specs.Operation as op;
@@ -7,12 +7,13 @@ ghost use Rattle.cell_value.specs.Scalar.{truth_text};
 ghost use Rattle.fix_num.specs.Number.{within};
 ghost use Rattle.engine_face.specs.Session.{Asks, AsksNumber};
 ghost use Rattle.engine_face.specs.Status.{status_numbered};
+ghost use Rattle.engine_face.specs.Written.{AreWritten, IsNoTable, written_cell};
 ghost use Rattle.engine_face.specs.declared.status.Status.TheVariants.{NotUtf8};
 ghost use Rattle.engine_c.specs.Calls.{Over};
 
 use crate::book::Book;
 use cell_addr::{Block, Place};
-use engine_face::Status;
+use engine_face::{Status, WrittenRow};
 
 /// Gives a cell the content that the text says.
 #[unsafe(no_mangle)]
@@ -78,6 +79,20 @@ pub extern "C" fn fz_set_text(book: &mut Book, sheet: u32, row: u32, col: u32, t
         return Status::NotOpen.number();
     };
     let status = session.set_text(Place { sheet, row, col }, text);
+    book.put(session);
+    status.number()
+}
+
+/// Gives each of these cells the content that its text says, as one change.
+#[unsafe(no_mangle)]
+pub extern "C" fn fz_write_all(book: &mut Book, rows: &[WrittenRow], texts: &[u8]) -> u8
+    ensures does { AreWritten texts.now rows.now → Over (Asks (op.write_all (map (written_cell texts.now) rows.now))) book.old.handle.value book.new.handle.value (status_numbered result) }
+    ensures no_table { ¬ (AreWritten texts.now rows.now) → Over IsNoTable book.old.handle.value book.new.handle.value (status_numbered result) }
+{
+    let Some(mut session) = book.take() else {
+        return Status::NotOpen.number();
+    };
+    let status = session.write_all(rows, texts);
     book.put(session);
     status.number()
 }

@@ -1,18 +1,19 @@
 // What a workbook is in, and its list of sheets.
-ghost use Rattle.std.specs.Prelude.{◌≡◌, IsUtf8, is_none, is_some, false, length, option_map, slice_get, true, unwrap_or, ⊤};
+ghost use Rattle.std.specs.Prelude.{◌≡◌, IsUtf8, None, is_none, is_some, false, length, option_map, slice_get, true, unwrap_or, ⊤};
 ghost use Rattle.cell_addr.specs.Sheets.{id_in, name_in};
 ghost use Rattle.book_engine.specs.Seen.{is_nothing};
 ghost use Rattle.book_model.specs.Operation as op;
 ghost use Rattle.book_model.specs.Refusals.{cause};
 ghost use Rattle.book_model.specs.Workbook.{State};
+ghost use Rattle.engine_face.specs.Change.{TellsCause, operation_told};
 ghost use Rattle.engine_face.specs.Session.{NameFits, NameTold, Stands};
 ghost use Rattle.engine_face.specs.Status.{status_numbered};
-ghost use Rattle.engine_face.specs.declared.status.Status.TheVariants.{NotOpen};
+ghost use Rattle.engine_face.specs.declared.status.Status.TheVariants.{NotOpen, NotUtf8};
 ghost use Rattle.engine_c.specs.Calls.{Of};
 
 use crate::book::Book;
 use cell_addr::NO_SHEET;
-use engine_face::Status;
+use engine_face::{ChangeRow, Status};
 
 /// Whether undo would be accepted now; false where nothing is open, as for each such question.
 #[unsafe(no_mangle)]
@@ -82,6 +83,34 @@ pub extern "C" fn fz_is_clipboard_empty(book: &mut Book) -> bool
     let answer = session.is_clipboard_empty();
     book.put(session);
     answer
+}
+
+/// Why the change of these numbers, this name and this text would be refused now: the number of the refusal, or 0.
+#[unsafe(no_mangle)]
+pub extern "C" fn fz_cause(
+    book: &mut Book,
+    change: &ChangeRow,
+    name: &[u8],
+    text: &[u8],
+    refusal: &mut u8,
+) -> u8
+    ensures does { IsUtf8 name.now → IsUtf8 text.now → Of (λ session. TellsCause (operation_told change.now name.now text.now) refusal.old refusal.new session (status_numbered result)) (status_numbered result ≡ NotOpen) book.old.handle.value }
+    ensures no_name { ¬ (IsUtf8 name.now) → status_numbered result ≡ NotUtf8 }
+    ensures no_name_untold { ¬ (IsUtf8 name.now) → refusal.new ≡ refusal.old }
+    ensures no_text { ¬ (IsUtf8 text.now) → status_numbered result ≡ NotUtf8 }
+    ensures no_text_untold { ¬ (IsUtf8 text.now) → refusal.new ≡ refusal.old }
+    ensures closed { book.old.handle.value ≡ None → refusal.new ≡ refusal.old }
+    ensures left { book.new.handle.value ≡ book.old.handle.value }
+{
+    let (Ok(name), Ok(text)) = (str::from_utf8(name), str::from_utf8(text)) else {
+        return Status::NotUtf8.number();
+    };
+    let Some(session) = book.take() else {
+        return Status::NotOpen.number();
+    };
+    let status = session.cause(change, name, text, refusal);
+    book.put(session);
+    status.number()
 }
 
 /// How many sheets there are; 0 where nothing is open.

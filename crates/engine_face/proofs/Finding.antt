@@ -12,7 +12,7 @@ use Rattle.engine_face.specs.Shown.{EndFits, EndTold, filled, fits}
 use Rattle.engine_face.specs.Status.{status_of_end}
 use Rattle.engine_face.specs.declared.session.Session.{Session}
 use Rattle.engine_face.specs.declared.status.Status.{Status}
-use Rattle.engine_face.specs.declared.status.Status.TheVariants.{Done, Refused, NoMemory, NoRoom, NotOpen, NotUtf8, BadLimit, BadTable, StillOpen}
+use Rattle.engine_face.proofs.Ends.{fits_ends}
 
 -- what the engine answered is so in the session of the plain machine, and the session stays
 module _ {X : Type 0} (why : State → Option Refusal) (Says : State → X → Type 0) (old new : Session) (stays : Stays old new) where
@@ -43,41 +43,17 @@ module _ {X Y : Type 0} (why : State → Option Refusal) (Says : State → X →
   Answers end = (d : State) → Stands old d → Answered (why d) (Says d) end
 
   pub found : (end : Result X Stop) (status : Status) → Answers end → EndFits items end room written status → Finds why (λ d. fits (answer d) room) old new status
-  found (Ok x) Done h f = λ d stands. let a = h d stands in (a.0, ap (λ (l : List Y). fits l room) (sym (same d x a.1)) ∙ f.0, stays d stands)
-  found (Ok x) NoRoom h f = λ d stands. let a = h d stands in (a.0, ap (λ (l : List Y). fits l room) (sym (same d x a.1)) ∙ f.0, stays d stands)
-  found (Ok x) (Refused r) h f = absurd f
-  found (Ok x) NoMemory h f = absurd f
-  found (Ok x) NotOpen h f = absurd f
-  found (Ok x) NotUtf8 h f = absurd f
-  found (Ok x) BadLimit h f = absurd f
-  found (Ok x) BadTable h f = absurd f
-  found (Ok x) StillOpen h f = absurd f
+  found (Ok x) status h f = fits_ends (Finds why (λ d. fits (answer d) room) old new) (items x) room written (λ g d stands. let a = h d stands in (a.0, ap (λ (l : List Y). fits l room) (sym (same d x a.1)) ∙ g.0, stays d stands)) (λ g d stands. let a = h d stands in (a.0, ap (λ (l : List Y). fits l room) (sym (same d x a.1)) ∙ g.0, stays d stands)) status f
   found (Err (stop.Refused r)) status h f = let P : Status → Type 0 = Finds why (λ d. fits (answer d) room) old new in subst P (sym f.0) (λ d stands. (h d stands, stays d stands))
   found (Err stop.NoMemory) status h f = let P : Status → Type 0 = Finds why (λ d. fits (answer d) room) old new in subst P (sym f.0) stays
 
   pub wrote : (end : Result X Stop) (status : Status) → Answers end → EndFits items end room written status → Wrote answer room written old status
-  wrote (Ok x) Done h f = λ d stands. f.1 ∙ ap (λ (l : List Y). filled l room) (same d x (h d stands).1)
-  wrote (Ok x) NoRoom h f = f.1
-  wrote (Ok x) (Refused r) h f = absurd f
-  wrote (Ok x) NoMemory h f = absurd f
-  wrote (Ok x) NotOpen h f = absurd f
-  wrote (Ok x) NotUtf8 h f = absurd f
-  wrote (Ok x) BadLimit h f = absurd f
-  wrote (Ok x) BadTable h f = absurd f
-  wrote (Ok x) StillOpen h f = absurd f
+  wrote (Ok x) status h f = fits_ends (Wrote answer room written old) (items x) room written (λ g d stands. g.1 ∙ ap (λ (l : List Y). filled l room) (same d x (h d stands).1)) (λ g. g.1) status f
   wrote (Err (stop.Refused r)) status h f = let P : Status → Type 0 = Wrote answer room written old in subst P (sym f.0) f.1
   wrote (Err stop.NoMemory) status h f = let P : Status → Type 0 = Wrote answer room written old in subst P (sym f.0) f.1
 
   pub told : (had now : ℕ) (end : Result X Stop) (status : Status) → Answers end → EndFits items end room written status → EndTold (λ x. length (items x)) end had now → Told (λ d. length (answer d)) had now old status
-  told had now (Ok x) Done h f t = λ d stands. t ∙ ap (λ (l : List Y). length l) (same d x (h d stands).1)
-  told had now (Ok x) NoRoom h f t = λ d stands. t ∙ ap (λ (l : List Y). length l) (same d x (h d stands).1)
-  told had now (Ok x) (Refused r) h f t = absurd f
-  told had now (Ok x) NoMemory h f t = absurd f
-  told had now (Ok x) NotOpen h f t = absurd f
-  told had now (Ok x) NotUtf8 h f t = absurd f
-  told had now (Ok x) BadLimit h f t = absurd f
-  told had now (Ok x) BadTable h f t = absurd f
-  told had now (Ok x) StillOpen h f t = absurd f
+  told had now (Ok x) status h f t = fits_ends (Told (λ d. length (answer d)) had now old) (items x) room written (λ g d stands. t ∙ ap (λ (l : List Y). length l) (same d x (h d stands).1)) (λ g d stands. t ∙ ap (λ (l : List Y). length l) (same d x (h d stands).1)) status f
   told had now (Err (stop.Refused r)) status h f t = let P : Status → Type 0 = Told (λ d. length (answer d)) had now old in subst P (sym f.0) t
   told had now (Err stop.NoMemory) status h f t = let P : Status → Type 0 = Told (λ d. length (answer d)) had now old in subst P (sym f.0) t
 

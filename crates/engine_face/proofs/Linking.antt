@@ -16,7 +16,7 @@ use Rattle.engine_face.specs.declared.links.LinkCounts.{LinkCounts}
 use Rattle.engine_face.specs.declared.links.LinkRow.{LinkRow}
 use Rattle.engine_face.specs.declared.session.Session.{Session}
 use Rattle.engine_face.specs.declared.status.Status.{Status}
-use Rattle.engine_face.specs.declared.status.Status.TheVariants.{Done, Refused, NoMemory, NoRoom, NotOpen, NotUtf8, BadLimit, BadTable, StillOpen}
+use Rattle.engine_face.proofs.Ends.{links_ends, list_ends}
 
 -- the rooms have a place for both
 abbrev pub have_place : List LinkRow → List ℕ → List Link → Bool
@@ -31,54 +31,22 @@ module _ {X : Type 0} (op : Operation) (items : X → List Link) (answer : State
   Written end status = EndLinks items end room room_new bytes bytes_new status
 
   pub asked_links : (end : Result X Stop) (status : Status) → Answers end → Written end status → AsksFor op (λ d. have_place room bytes (answer d)) old new status
-  asked_links (Ok x) Done h f = λ d stands. let a = h d stands in (a.0, ap (have_place room bytes) (sym a.1) ∙ f.0, a.2)
-  asked_links (Ok x) NoRoom h f = λ d stands. let a = h d stands in (a.0, ap (have_place room bytes) (sym a.1) ∙ f.0, a.2)
-  asked_links (Ok x) NoMemory h f = λ d stands. still d (Stands new) (h d stands).2
-  asked_links (Ok x) (Refused r) h f = absurd f
-  asked_links (Ok x) NotOpen h f = absurd f
-  asked_links (Ok x) NotUtf8 h f = absurd f
-  asked_links (Ok x) BadLimit h f = absurd f
-  asked_links (Ok x) BadTable h f = absurd f
-  asked_links (Ok x) StillOpen h f = absurd f
+  asked_links (Ok x) status h f = links_ends (AsksFor op (λ d. have_place room bytes (answer d)) old new) (items x) room room_new bytes bytes_new (λ g d stands. let a = h d stands in (a.0, ap (have_place room bytes) (sym a.1) ∙ g.0, a.2)) (λ g d stands. let a = h d stands in (a.0, ap (have_place room bytes) (sym a.1) ∙ g.0, a.2)) (λ g d stands. still d (Stands new) (h d stands).2) status f
   asked_links (Err (stop.Refused r)) status h f = let P : Status → Type 0 = AsksFor op (λ d. have_place room bytes (answer d)) old new in subst P (sym f.0) h
   asked_links (Err stop.NoMemory) status h f = let P : Status → Type 0 = AsksFor op (λ d. have_place room bytes (answer d)) old new in subst P (sym f.0) h
 
   pub wrote_rows : (end : Result X Stop) (status : Status) → Answers end → Written end status → Wrote (λ d. link_rows 0 (answer d)) room room_new old status
-  wrote_rows (Ok x) Done h f = λ d stands. f.1 ∙ ap (λ (links : List Link). filled (link_rows 0 links) room) (h d stands).1
-  wrote_rows (Ok x) NoRoom h f = f.1
-  wrote_rows (Ok x) NoMemory h f = f.0
-  wrote_rows (Ok x) (Refused r) h f = absurd f
-  wrote_rows (Ok x) NotOpen h f = absurd f
-  wrote_rows (Ok x) NotUtf8 h f = absurd f
-  wrote_rows (Ok x) BadLimit h f = absurd f
-  wrote_rows (Ok x) BadTable h f = absurd f
-  wrote_rows (Ok x) StillOpen h f = absurd f
+  wrote_rows (Ok x) status h f = links_ends (Wrote (λ d. link_rows 0 (answer d)) room room_new old) (items x) room room_new bytes bytes_new (λ g d stands. g.1 ∙ ap (λ (links : List Link). filled (link_rows 0 links) room) (h d stands).1) (λ g. g.1) (λ g. g.0) status f
   wrote_rows (Err (stop.Refused r)) status h f = let P : Status → Type 0 = Wrote (λ d. link_rows 0 (answer d)) room room_new old in subst P (sym f.0) f.1
   wrote_rows (Err stop.NoMemory) status h f = let P : Status → Type 0 = Wrote (λ d. link_rows 0 (answer d)) room room_new old in subst P (sym f.0) f.1
 
   pub wrote_words : (end : Result X Stop) (status : Status) → Answers end → Written end status → Wrote (λ d. link_words (answer d)) bytes bytes_new old status
-  wrote_words (Ok x) Done h f = λ d stands. f.2 ∙ ap (λ (links : List Link). filled (link_words links) bytes) (h d stands).1
-  wrote_words (Ok x) NoRoom h f = f.2
-  wrote_words (Ok x) NoMemory h f = f.1
-  wrote_words (Ok x) (Refused r) h f = absurd f
-  wrote_words (Ok x) NotOpen h f = absurd f
-  wrote_words (Ok x) NotUtf8 h f = absurd f
-  wrote_words (Ok x) BadLimit h f = absurd f
-  wrote_words (Ok x) BadTable h f = absurd f
-  wrote_words (Ok x) StillOpen h f = absurd f
+  wrote_words (Ok x) status h f = links_ends (Wrote (λ d. link_words (answer d)) bytes bytes_new old) (items x) room room_new bytes bytes_new (λ g d stands. g.2 ∙ ap (λ (links : List Link). filled (link_words links) bytes) (h d stands).1) (λ g. g.2) (λ g. g.1) status f
   wrote_words (Err (stop.Refused r)) status h f = let P : Status → Type 0 = Wrote (λ d. link_words (answer d)) bytes bytes_new old in subst P (sym f.0) f.2
   wrote_words (Err stop.NoMemory) status h f = let P : Status → Type 0 = Wrote (λ d. link_words (answer d)) bytes bytes_new old in subst P (sym f.0) f.2
 
   pub told_counts : (had now : LinkCounts) (end : Result X Stop) (status : Status) → Answers end → Written end status → EndCounts items end had now status → Told (λ d. link_counts (answer d)) had now old status
-  told_counts had now (Ok x) Done h f t = λ d stands. t ∙ ap link_counts (h d stands).1
-  told_counts had now (Ok x) NoRoom h f t = λ d stands. t ∙ ap link_counts (h d stands).1
-  told_counts had now (Ok x) NoMemory h f t = t
-  told_counts had now (Ok x) (Refused r) h f t = absurd f
-  told_counts had now (Ok x) NotOpen h f t = absurd f
-  told_counts had now (Ok x) NotUtf8 h f t = absurd f
-  told_counts had now (Ok x) BadLimit h f t = absurd f
-  told_counts had now (Ok x) BadTable h f t = absurd f
-  told_counts had now (Ok x) StillOpen h f t = absurd f
+  told_counts had now (Ok x) status h f t = links_ends (Told (λ d. link_counts (answer d)) had now old) (items x) room room_new bytes bytes_new (λ g d stands. t ∙ ap link_counts (h d stands).1) (λ g d stands. t ∙ ap link_counts (h d stands).1) (λ g. t) status f
   told_counts had now (Err (stop.Refused r)) status h f t = let P : Status → Type 0 = Told (λ d. link_counts (answer d)) had now old in subst P (sym f.0) t
   told_counts had now (Err stop.NoMemory) status h f t = let P : Status → Type 0 = Told (λ d. link_counts (answer d)) had now old in subst P (sym f.0) t
 
@@ -95,12 +63,4 @@ module _ (links : List Link) (rows room room_new : List LinkRow) (words bytes by
       λ i. record { links = p i; words = q i }
 
   pub told_written : (status : Status) → ListFits rows words room room_new bytes bytes_new status → LinksTold links had now status
-  told_written Done f = counted
-  told_written NoRoom f = counted
-  told_written (Refused r) f = absurd f
-  told_written NoMemory f = absurd f
-  told_written NotOpen f = absurd f
-  told_written NotUtf8 f = absurd f
-  told_written BadLimit f = absurd f
-  told_written BadTable f = absurd f
-  told_written StillOpen f = absurd f
+  told_written status f = list_ends (LinksTold links had now) rows room room_new words bytes bytes_new (λ g. counted) (λ g. counted) status f

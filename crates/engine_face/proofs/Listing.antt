@@ -21,7 +21,7 @@ use Rattle.engine_face.specs.declared.naming.NameRow.{NameRow}
 use Rattle.engine_face.specs.declared.room.ListSizes.{ListSizes}
 use Rattle.engine_face.specs.declared.session.Session.{Session}
 use Rattle.engine_face.specs.declared.status.Status.{Status}
-use Rattle.engine_face.specs.declared.status.Status.TheVariants.{Done, Refused, NoMemory, NoRoom, NotOpen, NotUtf8, BadLimit, BadTable, StillOpen}
+use Rattle.engine_face.proofs.Ends.{list_ends}
 use Rattle.engine_face.proofs.Finding.{made}
 
 -- the list that was made is that of the session of the plain machine, and the session stays
@@ -42,54 +42,22 @@ module _ {X Y : Type 0} (why : State → Option Refusal) (Says : State → X →
   sizes_same d x says = ap (λ (l : List Y). list_sizes l (bytes x)) (same_rows d x says) ∙ ap (λ (w : List ℕ). list_sizes (rows_of d) w) (same_bytes d x says)
 
   pub found_list : (end : Result X Stop) (status : Status) → Answers end → Written end status → Finds why (λ d. have_place (rows_of d) (bytes_of d)) old new status
-  found_list (Ok x) Done h f = λ d stands. let a = h d stands in (a.0, places_same d x true a.1 f.0, stays d stands)
-  found_list (Ok x) NoRoom h f = λ d stands. let a = h d stands in (a.0, places_same d x false a.1 f.0, stays d stands)
-  found_list (Ok x) (Refused r) h f = absurd f
-  found_list (Ok x) NoMemory h f = absurd f
-  found_list (Ok x) NotOpen h f = absurd f
-  found_list (Ok x) NotUtf8 h f = absurd f
-  found_list (Ok x) BadLimit h f = absurd f
-  found_list (Ok x) BadTable h f = absurd f
-  found_list (Ok x) StillOpen h f = absurd f
+  found_list (Ok x) status h f = list_ends (Finds why (λ d. have_place (rows_of d) (bytes_of d)) old new) (rows x) room room_new (bytes x) texts texts_new (λ g d stands. let a = h d stands in (a.0, places_same d x true a.1 g.0, stays d stands)) (λ g d stands. let a = h d stands in (a.0, places_same d x false a.1 g.0, stays d stands)) status f
   found_list (Err (stop.Refused r)) status h f = let P : Status → Type 0 = Finds why (λ d. have_place (rows_of d) (bytes_of d)) old new in subst P (sym f.0) (λ d stands. (h d stands, stays d stands))
   found_list (Err stop.NoMemory) status h f = let P : Status → Type 0 = Finds why (λ d. have_place (rows_of d) (bytes_of d)) old new in subst P (sym f.0) stays
 
   pub wrote_rows : (end : Result X Stop) (status : Status) → Answers end → Written end status → Wrote rows_of room room_new old status
-  wrote_rows (Ok x) Done h f = λ d stands. f.1 ∙ ap (λ (l : List Y). filled l room) (same_rows d x (h d stands).1)
-  wrote_rows (Ok x) NoRoom h f = f.1
-  wrote_rows (Ok x) (Refused r) h f = absurd f
-  wrote_rows (Ok x) NoMemory h f = absurd f
-  wrote_rows (Ok x) NotOpen h f = absurd f
-  wrote_rows (Ok x) NotUtf8 h f = absurd f
-  wrote_rows (Ok x) BadLimit h f = absurd f
-  wrote_rows (Ok x) BadTable h f = absurd f
-  wrote_rows (Ok x) StillOpen h f = absurd f
+  wrote_rows (Ok x) status h f = list_ends (Wrote rows_of room room_new old) (rows x) room room_new (bytes x) texts texts_new (λ g d stands. g.1 ∙ ap (λ (l : List Y). filled l room) (same_rows d x (h d stands).1)) (λ g. g.1) status f
   wrote_rows (Err (stop.Refused r)) status h f = let P : Status → Type 0 = Wrote rows_of room room_new old in subst P (sym f.0) f.1
   wrote_rows (Err stop.NoMemory) status h f = let P : Status → Type 0 = Wrote rows_of room room_new old in subst P (sym f.0) f.1
 
   pub wrote_bytes : (end : Result X Stop) (status : Status) → Answers end → Written end status → Wrote bytes_of texts texts_new old status
-  wrote_bytes (Ok x) Done h f = λ d stands. f.2 ∙ ap (λ (w : List ℕ). filled w texts) (same_bytes d x (h d stands).1)
-  wrote_bytes (Ok x) NoRoom h f = f.2
-  wrote_bytes (Ok x) (Refused r) h f = absurd f
-  wrote_bytes (Ok x) NoMemory h f = absurd f
-  wrote_bytes (Ok x) NotOpen h f = absurd f
-  wrote_bytes (Ok x) NotUtf8 h f = absurd f
-  wrote_bytes (Ok x) BadLimit h f = absurd f
-  wrote_bytes (Ok x) BadTable h f = absurd f
-  wrote_bytes (Ok x) StillOpen h f = absurd f
+  wrote_bytes (Ok x) status h f = list_ends (Wrote bytes_of texts texts_new old) (rows x) room room_new (bytes x) texts texts_new (λ g d stands. g.2 ∙ ap (λ (w : List ℕ). filled w texts) (same_bytes d x (h d stands).1)) (λ g. g.2) status f
   wrote_bytes (Err (stop.Refused r)) status h f = let P : Status → Type 0 = Wrote bytes_of texts texts_new old in subst P (sym f.0) f.2
   wrote_bytes (Err stop.NoMemory) status h f = let P : Status → Type 0 = Wrote bytes_of texts texts_new old in subst P (sym f.0) f.2
 
   pub told_sizes : (had now : ListSizes) (end : Result X Stop) (status : Status) → Answers end → Written end status → EndTold (λ x. list_sizes (rows x) (bytes x)) end had now → Told (λ d. list_sizes (rows_of d) (bytes_of d)) had now old status
-  told_sizes had now (Ok x) Done h f t = λ d stands. t ∙ sizes_same d x (h d stands).1
-  told_sizes had now (Ok x) NoRoom h f t = λ d stands. t ∙ sizes_same d x (h d stands).1
-  told_sizes had now (Ok x) (Refused r) h f t = absurd f
-  told_sizes had now (Ok x) NoMemory h f t = absurd f
-  told_sizes had now (Ok x) NotOpen h f t = absurd f
-  told_sizes had now (Ok x) NotUtf8 h f t = absurd f
-  told_sizes had now (Ok x) BadLimit h f t = absurd f
-  told_sizes had now (Ok x) BadTable h f t = absurd f
-  told_sizes had now (Ok x) StillOpen h f t = absurd f
+  told_sizes had now (Ok x) status h f t = list_ends (Told (λ d. list_sizes (rows_of d) (bytes_of d)) had now old) (rows x) room room_new (bytes x) texts texts_new (λ g d stands. t ∙ sizes_same d x (h d stands).1) (λ g d stands. t ∙ sizes_same d x (h d stands).1) status f
   told_sizes had now (Err (stop.Refused r)) status h f t = let P : Status → Type 0 = Told (λ d. list_sizes (rows_of d) (bytes_of d)) had now old in subst P (sym f.0) t
   told_sizes had now (Err stop.NoMemory) status h f t = let P : Status → Type 0 = Told (λ d. list_sizes (rows_of d) (bytes_of d)) had now old in subst P (sym f.0) t
 

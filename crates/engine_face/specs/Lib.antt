@@ -4,3 +4,6 @@ pub mod Links
 pub mod Session
 pub mod Areas
 pub mod Lists
+pub mod Change
+pub mod Written
+pub mod internal

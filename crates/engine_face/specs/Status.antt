@@ -6,7 +6,7 @@ use Rattle.book_model.specs.RefusalNames.{refusal_number}
 use Rattle.book_engine.specs.declared.stop.Stop as stops
 use Rattle.book_engine.specs.declared.stop.Stop.TheVariants as stop
 use Rattle.engine_face.specs.declared.status.Status.{Status}
-use Rattle.engine_face.specs.declared.status.Status.TheVariants.{Done, Refused, NoMemory, NoRoom, NotOpen, NotUtf8, BadLimit, BadTable, StillOpen, BadNumber}
+use Rattle.engine_face.specs.declared.status.Status.TheVariants.{Done, Refused, NoMemory, NoRoom, NotOpen, NotUtf8, BadLimit, BadTable, StillOpen, BadNumber, BadCells, BadChange}
 
 -- the number of a status
 abbrev pub status_number : Status → ℕ
@@ -20,6 +20,8 @@ status_number BadLimit = 68
 status_number BadTable = 69
 status_number StillOpen = 70
 status_number BadNumber = 71
+status_number BadCells = 72
+status_number BadChange = 73
 
 -- all refusals
 abbrev pub refusals : List Refusal
@@ -30,7 +32,7 @@ refusals =
 
 -- all statuses
 abbrev pub statuses : List Status
-statuses = Done ∷ NoMemory ∷ NoRoom ∷ NotOpen ∷ NotUtf8 ∷ BadLimit ∷ BadTable ∷ StillOpen ∷ BadNumber ∷ map Refused refusals
+statuses = Done ∷ NoMemory ∷ NoRoom ∷ NotOpen ∷ NotUtf8 ∷ BadLimit ∷ BadTable ∷ StillOpen ∷ BadNumber ∷ BadCells ∷ BadChange ∷ map Refused refusals
 
 -- the status of a number
 unfoldable pub status_numbered : ℕ → Status

@@ -28,6 +28,10 @@ pub enum Status {
     StillOpen,
     /// 71: the number is 10^12 or more in absolute value.
     BadNumber,
+    /// 72: the cells to write don't stand in order, each once, or the text of one isn't among the texts or no UTF-8.
+    BadCells,
+    /// 73: no change has this number.
+    BadChange,
 }
 
 #[tactic(auto, unfolding(crate::specs::Status::status_numbered))]
@@ -48,6 +52,8 @@ impl Status {
             Status::BadTable => 69,
             Status::StillOpen => 70,
             Status::BadNumber => 71,
+            Status::BadCells => 72,
+            Status::BadChange => 73,
         }
     }
 

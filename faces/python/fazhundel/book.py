@@ -1,15 +1,16 @@
 """Workbooks."""
 from contextlib import contextmanager
-from ctypes import byref, c_size_t, c_uint32, create_string_buffer
+from ctypes import byref, c_size_t, c_uint8, c_uint32, create_string_buffer
 from datetime import date
 from decimal import Decimal
 from threading import get_ident
 from typing import Callable, Dict, Iterator, List, Mapping, Optional, Tuple, Union
 
 from . import library
+from .changes import row_of
 from .library import CALLED, NO_NUMBER
 from .rules import Bands, Tiers, table
-from .statuses import NO_ROOM, check
+from .statuses import NO_ROOM, Refusal, check
 from .values import Block, Fault, Kind, Link, Name, Place, Value, decimal, millionths
 
 # The day whose serial number is 0.
@@ -64,6 +65,15 @@ class Workbook:
     def set_text(self, at: Place, text: str) -> None:
         """Gives a cell this text as it is, which needs no apostrophe: `007` stays three characters, `=A1` is no formula."""
         self._do("set_text", *at, *_text(text))
+
+    def write_all(self, cells: Mapping[Place, str]) -> None:
+        """Gives many cells the contents that their texts say, as one change: all of them or none, and one step of undo."""
+        rows, texts = (library.Written * len(cells))(), bytearray()
+        for row, (at, text) in zip(rows, sorted(cells.items())):
+            encoded = text.encode()
+            row.sheet, row.row, row.col, row.text_start, row.text_length = *at, len(texts), len(encoded)
+            texts += encoded
+        self._do("write_all", rows, len(rows), bytes(texts), len(texts))
 
     def clear(self, area: Block) -> None:
         """Empties the cells of a block."""
@@ -196,6 +206,16 @@ class Workbook:
     def can_redo(self) -> bool:
         """Whether redo would be accepted now."""
         return self._call("can_redo")
+
+    def cause(self, change: str, *words: object) -> Optional[Refusal]:
+        """Why a call that changes the workbook would be refused now, by its name and its words; None where it would be accepted.
+
+        `book.cause("insert_rows", sheet, 0, 1)` asks about `book.insert_rows(sheet, 0, 1)`. Nothing changes.
+        """
+        row, name, text = row_of(change, words)
+        refusal = c_uint8()
+        self._do("cause", byref(row), *_text(name), *_text(text), byref(refusal))
+        return Refusal(refusal.value) if refusal.value else None
 
     def begin(self) -> None:
         """Opens a batch."""

@@ -62,6 +62,21 @@ class Name(Structure):
     _fields_ = [("scope", c_uint32), ("word_start", c_size_t), ("word_length", c_size_t)]
 
 
+class Written(Structure):
+    """A cell to write."""
+
+    _fields_ = [("sheet", c_uint32), ("row", c_uint32), ("col", c_uint32), ("text_start", c_size_t), ("text_length", c_size_t)]
+
+
+class Change(Structure):
+    """A change that is asked about."""
+
+    _fields_ = [
+        (name, c_uint32)
+        for name in ("kind", "sheet", "row", "col", "last_row", "last_col", "count", "to_sheet", "to_row", "to_col")
+    ]
+
+
 class Sizes(Structure):
     """How much room a list needs: the counts of links, and the sizes of any other list."""
 
@@ -82,6 +97,7 @@ CALLS = {
     "set_number": (PLACE + [c_int64], c_uint8),
     "set_truth": (PLACE + [c_bool], c_uint8),
     "set_text": (PLACE + BYTES, c_uint8),
+    "write_all": ([POINTER(Written), c_size_t, *BYTES], c_uint8),
     "clear": (BLOCK, c_uint8),
     "move_block": (BLOCK + PLACE, c_uint8),
     **{f"{what}_{lines}": (U32 * 3, c_uint8) for what in ("insert", "delete") for lines in ("rows", "cols")},
@@ -119,6 +135,7 @@ CALLS = {
     "dependents": (PLACE + LINKS, c_uint8),
     "on_cycle": (U32 + PLACES, c_uint8),
     **{name: ([], c_bool) for name in ("can_undo", "can_redo", "has_batch", "is_suspended", "is_clipboard_empty")},
+    "cause": ([POINTER(Change), *BYTES, *BYTES, POINTER(c_uint8)], c_uint8),
     "sheet_count": ([], c_size_t),
     "sheet_at": ([c_size_t], c_uint32),
     "sheet_id": (BYTES, c_uint32),

@@ -1,7 +1,7 @@
 """How calls end, and what is raised where they weren't done."""
 from enum import IntEnum
 
-DONE, NO_MEMORY, NO_ROOM, NOT_OPEN, NOT_UTF8, BAD_LIMIT, BAD_TABLE, STILL_OPEN, BAD_NUMBER = 0, 64, 65, 66, 67, 68, 69, 70, 71
+DONE, NO_MEMORY, NO_ROOM, NOT_OPEN, NOT_UTF8, BAD_LIMIT, BAD_TABLE, STILL_OPEN, BAD_NUMBER, BAD_CELLS = 0, 64, 65, 66, 67, 68, 69, 70, 71, 72
 
 
 class Refusal(IntEnum):
@@ -51,4 +51,5 @@ def check(status: int) -> None:
         BAD_TABLE: ValueError("these aren't the rules of custom functions"),
         STILL_OPEN: ValueError("the workbook is open already"),
         BAD_NUMBER: ValueError("the number is 10^12 or more in absolute value"),
+        BAD_CELLS: ValueError("a cell is to be written twice"),
     }[status]

@@ -15,6 +15,8 @@ pub enum Error {
     BadLimit,
     /// The rules aren't those of custom functions.
     BadTable,
+    /// A cell was to be written twice.
+    BadCells,
     /// A status that none of these calls ends with: the library is another one than this crate was written for.
     Unknown(u8),
 }
@@ -26,6 +28,7 @@ impl Error {
             64 => Error::NoMemory,
             68 => Error::BadLimit,
             69 => Error::BadTable,
+            72 => Error::BadCells,
             _ => Refusal::numbered(status).map_or(Error::Unknown(status), Error::Refused),
         }
     }
@@ -37,6 +40,7 @@ impl Error {
             Error::NoMemory => 64,
             Error::BadLimit => 68,
             Error::BadTable => 69,
+            Error::BadCells => 72,
             Error::Unknown(status) => status,
         }
     }
@@ -57,6 +61,7 @@ impl fmt::Display for Error {
             Error::NoMemory => f.write_str("there was no memory"),
             Error::BadLimit => f.write_str("at most 1,000 steps can be undone"),
             Error::BadTable => f.write_str("the rules aren't those of custom functions"),
+            Error::BadCells => f.write_str("a cell was to be written twice"),
             Error::Unknown(status) => write!(f, "the library answered the status {status}"),
         }
     }

@@ -17,6 +17,7 @@
 #![deny(unsafe_code)]
 #![forbid(unsafe_op_in_unsafe_fn)]
 
+mod change;
 mod error;
 mod library;
 mod options;
@@ -25,6 +26,7 @@ mod rules;
 mod value;
 mod workbook;
 
+pub use change::Change;
 pub use error::{Error, Refusal};
 pub use options::Options;
 pub use place::{BadAddress, Block, Link, Name, Place};

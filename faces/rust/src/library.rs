@@ -7,13 +7,14 @@
 
 mod header;
 
-pub(crate) use header::{Pair, Rule as RuleRow, DONE, NO_NUMBER};
+pub(crate) use header::{Change as ChangeRow, Pair, Rule as RuleRow, DONE, NO_NUMBER};
 
-use crate::error::Error;
+use crate::change::Change;
+use crate::error::{Error, Refusal};
 use crate::place::{Block, Link, Name, Place};
 use crate::rules::Table;
 use crate::value::{Fault, Kind, Number, Value};
-use header::{Shown, Sizes, Status, Used, NO_ROOM};
+use header::{Shown, Sizes, Status, Used, Written, NO_ROOM};
 use std::borrow::Cow;
 use std::cell::UnsafeCell;
 use std::ptr;
@@ -178,6 +179,27 @@ impl Book {
         ended(unsafe { header::fz_set_text(self.at(), sheet, row, col, text.as_ptr(), text.len()) })
     }
 
+    pub(crate) fn write_all<T: AsRef<str>>(&mut self, cells: &[(Place, T)]) -> Result<(), Error> {
+        let mut sorted: Vec<&(Place, T)> = cells.iter().collect();
+        sorted.sort_by_key(|cell| cell.0);
+        let mut texts = String::new();
+        let mut rows = Vec::with_capacity(sorted.len());
+        for (Place { sheet, row, col }, text) in sorted {
+            let (text, text_start) = (text.as_ref(), texts.len());
+            texts.push_str(text);
+            rows.push(Written {
+                sheet: *sheet,
+                row: *row,
+                col: *col,
+                text_start,
+                text_length: text.len(),
+            });
+        }
+        let (row, count, text, size) = (rows.as_ptr(), rows.len(), texts.as_ptr(), texts.len());
+        // SAFETY: `at` leads to a book of the library; rows and bytes are given with their numbers.
+        ended(unsafe { header::fz_write_all(self.at(), row, count, text, size) })
+    }
+
     pub(crate) fn settle_idle(&mut self, budget: u64) -> Result<bool, Error> {
         let mut none_left = 0;
         // SAFETY: `at` leads to a book of the library.
@@ -254,6 +276,26 @@ fn apart<'a>(text: &'a str, other: &str) -> Cow<'a, str> {
 
 // Questions.
 impl Book {
+    pub(crate) fn cause(&self, change: Change<'_>) -> Result<Option<Refusal>, Error> {
+        let (row, name, text) = change.row();
+        let text = apart(text, name);
+        let (name, name_length) = (name.as_ptr(), name.len());
+        let mut refusal = DONE;
+        // SAFETY: `at` leads to a book of the library; the texts are given with their lengths, and lie apart.
+        ended(unsafe {
+            header::fz_cause(
+                self.at(),
+                &row,
+                name,
+                name_length,
+                text.as_ptr(),
+                text.len(),
+                &mut refusal,
+            )
+        })?;
+        Ok(Refusal::numbered(refusal))
+    }
+
     pub(crate) fn sheet_count(&self) -> usize {
         // SAFETY: `at` leads to a book of the library.
         unsafe { header::fz_sheet_count(self.at()) }

@@ -1,6 +1,7 @@
 //! Workbooks.
 
-use crate::error::Error;
+use crate::change::Change;
+use crate::error::{Error, Refusal};
 use crate::library::{Book, NO_NUMBER};
 use crate::options::Options;
 use crate::place::{Block, Link, Name, Place};
@@ -74,6 +75,13 @@ impl Workbook {
     /// text may have.
     pub fn set_text(&mut self, at: Place, text: &str) -> Result<(), Error> {
         self.book.set_text(at, text)
+    }
+
+    /// Gives many cells the contents that their texts say, as one change: all of them or none, and one step of undo.
+    ///
+    /// [`Error::BadCells`] where a cell is listed twice.
+    pub fn write_all<T: AsRef<str>>(&mut self, cells: &[(Place, T)]) -> Result<(), Error> {
+        self.book.write_all(cells)
     }
 
     /// Empties the cells of a block.
@@ -282,6 +290,21 @@ impl Workbook {
     /// Whether [`redo`](Workbook::redo) would be accepted now.
     pub fn can_redo(&self) -> bool {
         self.book.can_redo()
+    }
+
+    /// Why a call would be refused now; `None` where it would be accepted. Nothing changes.
+    ///
+    /// ```
+    /// use fazhundel::{Change, Refusal, Workbook};
+    ///
+    /// let mut book = Workbook::open()?;
+    /// let sheet = book.add_sheet("Invoice")?;
+    /// assert_eq!(book.cause(Change::InsertRows(sheet, 0, 0))?, Some(Refusal::BadSpan));
+    /// assert_eq!(book.cause(Change::InsertRows(sheet, 0, 1))?, None);
+    /// # Ok::<(), fazhundel::Error>(())
+    /// ```
+    pub fn cause(&self, change: Change<'_>) -> Result<Option<Refusal>, Error> {
+        self.book.cause(change)
     }
 
     /// Forgets the steps that can be undone and done again; an open batch stays open. Nothing refuses it.

@@ -1,8 +1,8 @@
 //! Makes each call at least once, and as it shouldn't be made.
 
 use fazhundel::{
-    BadAddress, BadNumber, Block, Error, Fault, Kind, Link, Name, Number, Options, Place, Refusal,
-    Rule, Value, Workbook,
+    BadAddress, BadNumber, Block, Change, Error, Fault, Kind, Link, Name, Number, Options, Place,
+    Refusal, Rule, Value, Workbook,
 };
 
 const TODAY: i32 = 45_292;
@@ -118,6 +118,76 @@ fn contents_are_given() {
     assert_eq!(book.set_number(GONE, given("1")), refused(Refusal::NoSheet));
     assert_eq!(book.set_truth(outside, true), refused(Refusal::Outside));
     assert_eq!(book.set_text(GONE, "x"), refused(Refusal::NoSheet));
+}
+
+#[test]
+fn many_cells_are_written_at_once() {
+    let mut book = opened();
+    book.write_all(&[(at("B2"), "=A1*2"), (at("A1"), "7"), (at("A2"), "plain")])
+        .unwrap();
+    assert_eq!(book.value_text(at("B2")).as_deref(), Ok("14"));
+    let twice = [(at("A1"), "1"), (at("A1"), "2")];
+    assert_eq!(book.write_all(&twice), Err(Error::BadCells));
+    let gone = [(at("A1"), "1"), (GONE, "2")];
+    assert_eq!(book.write_all(&gone), refused(Refusal::NoSheet));
+    assert_eq!(book.value_text(at("B2")).as_deref(), Ok("14"));
+    book.undo().unwrap();
+    assert_eq!(book.used_area(0), Ok(None));
+    book.write_all::<String>(&[]).unwrap();
+}
+
+#[test]
+fn causes_are_told_beforehand() {
+    let mut book = opened();
+    let area = Block::new(0, 0, 0, 1, 1);
+    for (change, cause) in [
+        (Change::Set(at("A1"), "=A1"), None),
+        (Change::Set(GONE, ""), Some(Refusal::NoSheet)),
+        (Change::Clear(area), None),
+        (Change::InsertRows(0, 0, 0), Some(Refusal::BadSpan)),
+        (Change::DeleteRows(0, 1_048_576, 1), Some(Refusal::Outside)),
+        (Change::MoveRows(0, 0, 2, 1), Some(Refusal::BadSpan)),
+        (Change::MoveRows(0, 0, 2, 3), None),
+        (Change::InsertCols(0, 0, 1), None),
+        (Change::DeleteCols(0, 0, 0), Some(Refusal::BadSpan)),
+        (Change::MoveCols(0, 0, 2, 1), Some(Refusal::BadSpan)),
+        (
+            Change::MoveBlock(area, Place::new(0, 1_048_575, 0)),
+            Some(Refusal::Outside),
+        ),
+        (Change::MoveBlock(area, Place::new(0, 5, 5)), None),
+        (Change::DropSheet(9), Some(Refusal::NoSheet)),
+        (Change::AddSheet(""), Some(Refusal::SheetNameInvalid)),
+        (Change::RenameSheet(9, "x"), Some(Refusal::NoSheet)),
+        (Change::ClearSheet(0), None),
+        (
+            Change::AddName("rate", "=A1", None),
+            Some(Refusal::RelativeAddress),
+        ),
+        (Change::AddName("rate", "=$A$1", Some(0)), None),
+        (
+            Change::ChangeName("rate", "=1", None),
+            Some(Refusal::NoSuchName),
+        ),
+        (
+            Change::RemoveName("rate", Some(0)),
+            Some(Refusal::NoSuchName),
+        ),
+        (Change::Copy(area), None),
+        (
+            Change::Cut(Block::new(0, 1, 0, 0, 0)),
+            Some(Refusal::Outside),
+        ),
+        (Change::Paste(at("A1")), Some(Refusal::NothingToPaste)),
+        (Change::Begin, None),
+        (Change::Commit, Some(Refusal::NoBatch)),
+        (Change::Undo, None),
+        (Change::Redo, Some(Refusal::NothingToRedo)),
+    ] {
+        assert_eq!(book.cause(change), Ok(cause), "{change:?}");
+    }
+    book.undo().unwrap();
+    assert_eq!(book.cause(Change::Redo), Ok(None));
 }
 
 #[test]

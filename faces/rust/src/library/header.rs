@@ -78,6 +78,32 @@ pub struct Cell {
     pub text_start: usize,
 }
 
+/// A cell to write, whose text is among the bytes of all texts.
+#[repr(C)]
+pub struct Written {
+    pub sheet: u32,
+    pub row: u32,
+    pub col: u32,
+    pub text_start: usize,
+    pub text_length: usize,
+}
+
+/// A change that is asked about.
+#[repr(C)]
+#[derive(Clone, Default)]
+pub struct Change {
+    pub kind: u32,
+    pub sheet: u32,
+    pub row: u32,
+    pub col: u32,
+    pub last_row: u32,
+    pub last_col: u32,
+    pub count: u32,
+    pub to_sheet: u32,
+    pub to_row: u32,
+    pub to_col: u32,
+}
+
 /// How much room a list needs: the counts of links, and the sizes of any other list.
 #[repr(C)]
 #[derive(Default)]
@@ -123,6 +149,7 @@ extern "C" {
     pub fn fz_set_number(book: *mut Book, sheet: u32, row: u32, col: u32, millionths: i64) -> Status;
     pub fn fz_set_truth(book: *mut Book, sheet: u32, row: u32, col: u32, truth: bool) -> Status;
     pub fn fz_set_text(book: *mut Book, sheet: u32, row: u32, col: u32, text: *const u8, length: usize) -> Status;
+    pub fn fz_write_all(book: *mut Book, cells: *const Written, count: usize, texts: *const u8, texts_size: usize) -> Status;
     pub fn fz_clear(book: *mut Book, sheet: u32, top: u32, left: u32, bottom: u32, right: u32) -> Status;
     pub fn fz_insert_rows(book: *mut Book, sheet: u32, at: u32, count: u32) -> Status;
     pub fn fz_insert_cols(book: *mut Book, sheet: u32, at: u32, count: u32) -> Status;
@@ -195,6 +222,8 @@ extern "C" {
     pub fn fz_has_batch(book: *mut Book) -> bool;
     pub fn fz_is_suspended(book: *mut Book) -> bool;
     pub fn fz_is_clipboard_empty(book: *mut Book) -> bool;
+    pub fn fz_cause(book: *mut Book, change: *const Change, name: *const u8, name_length: usize, text: *const u8,
+                    length: usize, refusal: *mut Status) -> Status;
 
     pub fn fz_sheet_count(book: *mut Book) -> usize;
     pub fn fz_sheet_at(book: *mut Book, index: usize) -> u32;

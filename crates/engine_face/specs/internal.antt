@@ -1,0 +1,2 @@
+-- What only the proofs of bodies need.
+pub mod Rising
