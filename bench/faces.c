@@ -70,16 +70,33 @@ int main(int count, char **words)
     tell("value", since, (double)rounds * cells);
 
     fz_cell *rows = malloc(cells * sizeof *rows);
-    fz_cell_counts counts;
+    fz_sizes sizes;
     if (rows == NULL) {
         return 1;
     }
     since = worked();
     for (uint32_t round = 0; round < rounds; round++) {
-        must(fz_values(&book, sheet, 0, 0, cells - 1, 0, rows, cells, NULL, 0, &counts), "fz_values");
+        must(fz_values(&book, sheet, 0, 0, cells - 1, 0, rows, cells, NULL, 0, &sizes), "fz_values");
     }
     tell("values", since, (double)rounds * cells);
     free(rows);
+
+    fz_written *written = malloc(cells * sizeof *written);
+    char *texts = malloc((size_t)cells * TEXT_ROOM);
+    if (written == NULL || texts == NULL) {
+        return 1;
+    }
+    size_t bytes = 0;
+    for (uint32_t row = 0; row < cells; row++) {
+        int length = snprintf(texts + bytes, TEXT_ROOM, "%u", row);
+        written[row] = (fz_written){sheet, row, 1, bytes, (size_t)length};
+        bytes += (size_t)length;
+    }
+    since = worked();
+    must(fz_write_all(&book, written, cells, texts, bytes), "fz_write_all");
+    tell("write_all", since, cells);
+    free(written);
+    free(texts);
     fz_close(&book);
     return 0;
 }

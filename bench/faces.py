@@ -3,7 +3,8 @@
     python3 bench/faces.py [--cells N] [--rounds N] [--counted]
 
 It wants what faces/build.sh makes. A column of numbers (100,000, or as many as --cells says) is set number by number, set once more,
-set as texts, read cell by cell and read at once, and so for half as many and a quarter, which shows the growth. A line has the
+set as texts, read cell by cell and read at once, and another one written at once, and so for half as many and a quarter, which shows
+the growth. A line has the
 nanoseconds of the processor that one call takes, or one cell where many are read at once, by the median of the rounds (3); with
 --counted the instructions that valgrind's callgrind counts for the whole program in C, per cell.
 """
@@ -59,20 +60,28 @@ def instructions(program, cells):
 def in_python(cells):
     """What a call takes in Python."""
     sys.path.insert(0, str(ROOT / "faces" / "python"))
-    from fazhundel import Workbook
+    from fazhundel import Block, Place, Workbook
 
     with Workbook() as book:
         sheet = book.add_sheet("Sheet")
-        since = time.process_time()
-        for row in range(cells):
-            sheet[row, 0] = row
-        put = time.process_time() - since
-        sheet[0, 0]
-        since = time.process_time()
-        for row in range(cells):
-            sheet[row, 0]
-        read = time.process_time() - since
-    return {"set": 1e9 * put / cells, "value": 1e9 * read / cells}
+        places = [Place(sheet, row, 0) for row in range(cells)]
+
+        def timed(call):
+            since = time.process_time()
+            call()
+            return 1e9 * (time.process_time() - since) / cells
+
+        def each(call):
+            for place in places:
+                call(place)
+
+        found = {"set_number": timed(lambda: each(lambda place: book.set_number(place, place.row)))}
+        book.value(places[0])
+        found["value"] = timed(lambda: each(book.value))
+        found["values"] = timed(lambda: book.values(Block(sheet, 0, 0, cells - 1, 0)))
+        texts = {place: str(place.row) for place in places}
+        found["write_all"] = timed(lambda: book.write_all(texts))
+    return found
 
 
 def main():

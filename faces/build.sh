@@ -16,6 +16,8 @@ heap=$kit/c/liblibc_c.a
 for program in example test; do
     $CC -std=c99 -O2 -Wall -Wextra -pedantic -I "$top/faces/c" -o "$out/$program" "$top/faces/c/$program.c" "$library" "$heap"
 done
+$CC -std=c99 -O2 -Wall -Wextra -pedantic -I "$top/faces/c" -o "$out/refused" "$top/faces/c/refused.c" "$library" "$heap" \
+    -Wl,--wrap=malloc,--wrap=realloc
 $CC -shared -o "$out/libfazhundel.so" -Wl,--whole-archive "$library" -Wl,--no-whole-archive "$heap" \
     -Wl,--version-script="$top/faces/c/exported"
 

@@ -1,12 +1,14 @@
 #!/bin/sh
 # Runs what faces/build.sh built: each example against what it must print, the calls of the tests in C, Rust and JavaScript, those
-# in C under valgrind where it is there, and random scripts through each other face against sheetrun, where the gate built that.
+# in C under valgrind where it is there and with each allocation refused, and random scripts through each other face against
+# sheetrun, where the gate built that.
 set -e
 top=$(cd "$(dirname "$0")/.." && pwd)
 out=$top/faces/out
 
 test "$("$out/example")" = 381
 "$out/test"
+"$out/refused"
 if command -v valgrind > /dev/null; then
     valgrind -q --leak-check=full --error-exitcode=2 "$out/test"
 else
