@@ -1,4 +1,6 @@
 /* Times calls of the library for C: `bench/faces.py` builds and runs it. Its words: how many cells, how many rounds. */
+#define _POSIX_C_SOURCE 200809L
+
 #include "fazhundel.h"
 
 #include <stdio.h>
