@@ -12,5 +12,6 @@ pub mod ReaderLoops
 pub mod SpeltTokens
 pub mod ReadTexts
 pub mod CanonicalRead
+pub mod OpenFrames
 mod Whiles
 mod Capitals
