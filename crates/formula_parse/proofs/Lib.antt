@@ -13,5 +13,6 @@ pub mod SpeltTokens
 pub mod ReadTexts
 pub mod CanonicalRead
 pub mod OpenFrames
+pub mod SpeltReached
 mod Whiles
 mod Capitals

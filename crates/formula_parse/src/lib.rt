@@ -24,5 +24,5 @@ mod token;
 mod wrong;
 
 pub use formula::{ParseError, parse};
-pub use wrong::{TextSpan};
+pub use wrong::{TextSpan, parse_error};
 pub use migration::{migrated, migrated_name};

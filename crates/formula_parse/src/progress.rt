@@ -1,8 +1,9 @@
 // How far the tokens of a formula are read: what was read last, and what may come next.
-ghost use Rattle.std.specs.Prelude.{◌≡◌};
+ghost use Rattle.std.specs.Prelude.{◌≡◌, false, None, if◌then◌else◌};
 ghost use Rattle.std.specs.Option.{option_map};
 ghost use Rattle.formula_tree.specs.Level.{percent_level};
 ghost use Rattle.formula_parse.specs.internal.Front.{token_of};
+ghost use Rattle.formula_parse.specs.declared.progress.Kind.TheVariants as kinds;
 ghost use Rattle.formula_parse.specs.internal.Progress.{frames_of, line_of, kind_of, within, opened, signed, begun, atom, no_arguments, at_operand, at_call, at_sheet, is_last, at_last, joined, settled, operator, percent, comma, closed, at_tree, at_first, advanced, is_outermost, is_whole};
 
 use crate::frames::{Frame, Frames};
@@ -64,14 +65,25 @@ impl Kind {
             Token::Text(after_quote) => Kind::Atom(after_quoted(after_quote, '"').is_some(), None),
             Token::Truth(_) | Token::Fault(_) => Kind::Atom(true, None),
             Token::Sheet(_) => Kind::Sheet,
-            Token::QuotedSheet(after_quote) if after_quoted(after_quote, '\'').is_some() => Kind::Sheet,
-            Token::QuotedSheet(_) | Token::Stray => Kind::Atom(false, None),
+            Token::QuotedSheet(after_quote) => sheet(after_quoted(after_quote, '\'').is_some()),
+            Token::Stray => Kind::Atom(false, None),
             Token::Corner(_) => Kind::Corner,
             Token::Name(word) => Kind::Atom(true, line_of(word)),
             Token::Word(_) => Kind::Word,
             Token::Other(run) => Kind::Atom(false, line_of(run)),
             Token::Symbol(symbol) => Kind::Symbol(symbol),
         }
+    }
+}
+
+// A sheet's name where it is closed, and else what no production takes.
+fn sheet(is_closed: bool) -> Kind
+    ensures { result ≡ if is_closed then kinds.Sheet else kinds.Atom false None }
+{
+    if is_closed {
+        Kind::Sheet
+    } else {
+        Kind::Atom(false, None)
     }
 }
 
