@@ -14,5 +14,6 @@ pub mod ReadTexts
 pub mod CanonicalRead
 pub mod OpenFrames
 pub mod SpeltReached
+pub mod FrontsReached
 mod Whiles
 mod Capitals
