@@ -1,6 +1,6 @@
 -- What was read goes on to a whole formula, whatever state it reaches, and is one where the state is whole. Serves
 -- `parse_error`.
-use Rattle.std.proofs.Common.{◌≡◌, ◌∙◌, sym, ap, refl, arith, subst, ℕ, suc, ◌+◌, ◌<◌, ◌≤◌, max, ◌==◌, ◌&&◌, Bool, true, false, cond, nat_le, nat_lt, List, [], ◌∷◌, ◌++◌, length, Option, Some, None, append_assoc, ◌⊎◌, inl, inr}
+use Rattle.std.proofs.Common.{◌≡◌, ◌∙◌, sym, ap, refl, arith, subst, ℕ, suc, ◌+◌, ◌<◌, ◌≤◌, max, ◌==◌, ◌&&◌, Bool, true, false, cond, nat_le, nat_lt, if◌then◌else◌, List, [], ◌∷◌, ◌++◌, length, Option, Some, None, append_assoc, ◌⊎◌, inl, inr, Ok, Err}
 use Rattle.std.specs.Option.{option_and_then, option_map}
 use Rattle.std.specs.Result.{is_ok}
 use Rattle.std.proofs.lemmas.Bool.{leb-true, leb-false, eqb-true}
@@ -36,6 +36,8 @@ use Rattle.formula_parse.specs.declared.progress.Last.{Last}
 use Rattle.formula_parse.specs.declared.progress.Last.TheVariants as lasts
 use Rattle.formula_parse.specs.declared.progress.Stage.{Stage}
 use Rattle.formula_parse.specs.declared.progress.Stage.TheVariants as stages
+use Rattle.formula_parse.specs.Fronts.{IsFront}
+use Rattle.formula_parse.specs.internal.Progress as progress
 use Rattle.formula_parse.specs.internal.Progress.{State, kind_of, line_of, pushed, within, opened, signed, begun, atom, no_arguments, is_last, joined, joined_then, settled, operator, comma, closed, at_tree, advanced, is_outermost, is_whole, start, step, reached}
 use Rattle.formula_parse.proofs.SpeltReached.{floor, leaf-depth}
 
@@ -294,3 +296,283 @@ module _ (home : ℕ) (find : List ℕ → Option ℕ) where
   whole (stages.First false range) frames ahead h e = cc
   whole (stages.Last range) frames ahead h e = cc
   whole (stages.Tree deepest) frames ahead h e = tree-whole deepest frames ahead h e
+
+  -- one token more
+  abbrev HeldAt : State → List Token → Type 0
+  HeldAt state tokens = Held state.0 state.1 tokens
+
+  -- a state that is reached under a test
+  if-reached : (b : Bool) (r : Option State) (to : State) → (if b then r else None) ≡ Some to → (b ≡ true) × (r ≡ Some to)
+  if-reached true r to e = (refl, e)
+  if-reached false r to e = cc
+
+  same-held : (from to : State) (tokens : List Token) → Some from ≡ Some to → HeldAt from tokens → HeldAt to tokens
+  same-held from to tokens e h = let same : from ≡ to = cc in subst (λ s. HeldAt s tokens) same h
+
+  -- a frame more
+  within-held : (frame : Frame) (frames : List Frame) (tokens : List Token) (to : State) → within frame frames ≡ Some to
+      → (length frames < max_levels → Holds (frame ∷ frames) tokens × CanBegin (frame ∷ frames)) → HeldAt to tokens
+  within-held frame frames tokens to e h =
+      elim (nat_lt (length frames) max_levels) as (λ c. nat_lt (length frames) max_levels ≡ c
+      → option_map (λ (all : List Frame). (stages.Operand, all)) (if c then Some (frame ∷ frames) else None) ≡ Some to → HeldAt to tokens) [
+        | true ↦ λ f g. same-held (stages.Operand, frame ∷ frames) to tokens g (h (ltb-true (length frames) max_levels f))
+        | false ↦ λ f g. cc
+      ] refl e
+
+  opened-held : (frame : Frame) (frames : List Frame) (tokens : List Token) (to : State) → opened frame frames ≡ Some to → Holds (frame ∷ frames) tokens → HeldAt to tokens
+  opened-held frame frames tokens to e h =
+      let two = if-reached (nat_lt (suc (length frames)) max_levels) (within frame frames) to e in
+      within-held frame frames tokens to two.1 (λ _. (h, inl (ltb-true (suc (length frames)) max_levels two.0)))
+
+  signed-held : (o : Op) (s : Option Sign) (frames : List Frame) (ahead : List Token) (to : State) → sign_of o ≡ s → Holds frames ahead → signed s frames ≡ Some to
+      → HeldAt to (ahead ++ tok.Operator o ∷ [])
+  signed-held o None frames ahead to f h e = cc
+  signed-held o (Some v) frames ahead to f h e =
+      opened-held around.Sign frames (ahead ++ tok.Operator o ∷ []) to e (ahead, (v, (h, ap (λ p. ahead ++ tok.Operator p ∷ []) (sym (signed_as o v f)))))
+
+  -- a leaf or a call that begins
+  begun-held : (stage : Option Stage) (frames : List Frame) (tokens : List Token) (to : State) → begun stage frames ≡ Some to
+      → ((s : Stage) → stage ≡ Some s → length frames < max_levels → Held s frames tokens) → HeldAt to tokens
+  begun-held None frames tokens to e h = let none = if-reached (nat_lt (length frames) max_levels) None to e in absurd (cc (none.1))
+  begun-held (Some s) frames tokens to e h =
+      let room = if-reached (nat_lt (length frames) max_levels) (Some (s, frames)) to e in
+      same-held (s, frames) to tokens room.1 (h s refl (ltb-true (length frames) max_levels room.0))
+
+  -- the ends of ranges
+  line-by : (axis : Axis) (single : Bool) (r : Option End) → is_last (lasts.Line axis) (kinds.Atom single (option_map (λ (b : End). b.axis) r)) ≡ true
+      → (b : End) × ((r ≡ Some b) × (axis ≡ b.axis))
+  line-by axis single None e = cc
+  line-by axis single (Some b) e = (b, (refl, same_axis-equal axis b.axis e))
+
+  line-last : (axis : Axis) (y : Token) → is_last (lasts.Line axis) (kind_of y) ≡ true → (b : End) × ((end_of ROWS y ≡ Some b) × (axis ≡ b.axis))
+  line-last axis (tok.Number w) e = line-by axis (is_ok (number_of w)) (end_of ROWS (tok.Number w)) e
+  line-last axis (tok.Name w) e = line-by axis true (end_of ROWS (tok.Name w)) e
+  line-last axis (tok.Other w) e = line-by axis false (end_of ROWS (tok.Other w)) e
+  line-last axis y e = cc
+
+  corner-last : (y : Token) → is_last lasts.Corner (kind_of y) ≡ true → (a : Address) × (y ≡ tok.Corner a)
+  corner-last (tok.Corner a) e = (a, refl)
+  corner-last y e = cc
+
+  -- a token that is a leaf, or the first end of a whole range
+  atom-held : (x : Token) (single : Bool) (r : Option End) (frames : List Frame) (ahead : List Token) (s : Stage) → end_of ROWS x ≡ r → (single ≡ true → IsLeaf (x ∷ [])) → Holds frames ahead
+      → atom (suc (length frames)) single (option_map (λ (b : End). b.axis) r) ≡ Some s → length frames < max_levels → Held s frames (ahead ++ x ∷ [])
+  atom-held x true None frames ahead s e l h f room =
+      let same : stages.Tree (suc (length frames)) ≡ s = cc in
+      subst (λ u. Held u frames (ahead ++ x ∷ [])) same (leaf-held frames ahead (x ∷ []) h room (l refl))
+  atom-held x false None frames ahead s e l h f room = cc
+  atom-held x single (Some a) frames ahead s e l h f room =
+      let same : stages.First single (lasts.Line a.axis) ≡ s = cc in
+      subst (λ u. Held u frames (ahead ++ x ∷ [])) same
+      (ahead, (x ∷ [], (h, refl, room, l, λ y g. let b = line-last a.axis y g in (_, λ ws. a_whole e b.1.0 b.1.1))))
+
+  number-leaf : (w : List ℕ) → is_ok (number_of w) ≡ true → IsLeaf (tok.Number w ∷ [])
+  number-leaf w e =
+      elim (number_of w) as (λ r. number_of w ≡ r → is_ok r ≡ true → IsLeaf (tok.Number w ∷ [])) [
+        | Ok m ↦ λ f g. (_, λ ws. a_number f)
+        | Err n ↦ λ f g. cc
+      ] refl e
+
+  -- the closing parenthesis of a call without arguments
+  none-held : (frames : List Frame) (ahead : List Token) (to : State) → Holds frames ahead → no_arguments frames ≡ Some to → HeldAt to (ahead ++ tok.Close ∷ [])
+  none-held [] ahead to h e = cc
+  none-held (around.Right own left ∷ frames) ahead to h e = cc
+  none-held (around.Sign ∷ frames) ahead to h e = cc
+  none-held (around.Parens ∷ frames) ahead to h e = cc
+  none-held (around.Arguments left ∷ frames) ahead to (b, (w, (args, (h, e, a, n, r, m)))) f =
+      let zero = if-reached (left == 0) (Some (stages.Tree (suc (length frames)), frames)) to f in
+      let low = floor-low frames b h in
+      let same : ahead ++ tok.Close ∷ [] ≡ b ++ tok.Word w ∷ tok.Open ∷ tok.Close ∷ [] =
+      ap (λ xs. xs ++ tok.Close ∷ []) (e ∙ ap (λ xs. b ++ tok.Word w ∷ tok.Open ∷ xs) (n (eqb-true left 0 zero.0))) ∙ append_assoc b (tok.Word w ∷ tok.Open ∷ []) (tok.Close ∷ []) in
+      same-held (stages.Tree (suc (length frames)), frames) to (ahead ++ tok.Close ∷ []) zero.1
+      (b, (tok.Word w ∷ tok.Open ∷ tok.Close ∷ [], (call (capitals w) no_terms, (atom_level, (h, same, λ ws. alone, omega arith, omega arith, omega arith, omega arith)))))
+
+  operand-held : (frames : List Frame) (ahead : List Token) (x : Token) (to : State) → Holds frames ahead → advanced stages.Operand frames (kind_of x) ≡ Some to → HeldAt to (ahead ++ x ∷ [])
+  operand-held frames ahead (tok.Number w) to h e =
+      begun-held _ frames (ahead ++ tok.Number w ∷ []) to e (λ s f room. atom-held (tok.Number w) (is_ok (number_of w)) (end_of ROWS (tok.Number w)) frames ahead s refl (number-leaf w) h f room)
+  operand-held frames ahead (tok.Text w) to h e =
+      begun-held _ frames (ahead ++ tok.Text w ∷ []) to e (λ s f room. atom-held (tok.Text w) true None frames ahead s refl (λ _. (_, λ ws. a_text)) h f room)
+  operand-held frames ahead (tok.Truth b) to h e =
+      begun-held _ frames (ahead ++ tok.Truth b ∷ []) to e (λ s f room. atom-held (tok.Truth b) true None frames ahead s refl (λ _. (_, λ ws. a_truth)) h f room)
+  operand-held frames ahead (tok.Fault v) to h e =
+      begun-held _ frames (ahead ++ tok.Fault v ∷ []) to e (λ s f room. atom-held (tok.Fault v) true None frames ahead s refl (λ _. (_, λ ws. a_fault)) h f room)
+  operand-held frames ahead (tok.Name w) to h e =
+      begun-held _ frames (ahead ++ tok.Name w ∷ []) to e (λ s f room. atom-held (tok.Name w) true (end_of ROWS (tok.Name w)) frames ahead s refl (λ _. (_, λ ws. a_name)) h f room)
+  operand-held frames ahead (tok.Other w) to h e =
+      begun-held _ frames (ahead ++ tok.Other w ∷ []) to e (λ s f room. atom-held (tok.Other w) false (end_of ROWS (tok.Other w)) frames ahead s refl (λ g. cc) h f room)
+  operand-held frames ahead (tok.Corner a) to h e =
+      begun-held (Some (stages.First true lasts.Corner)) frames (ahead ++ tok.Corner a ∷ []) to e (λ s f room.
+          let same : stages.First true lasts.Corner ≡ s = cc in
+          subst (λ u. Held u frames (ahead ++ tok.Corner a ∷ [])) same
+          (ahead, (tok.Corner a ∷ [], (h, refl, room, λ _. (_, λ ws. a_corner),
+              λ y g. let b = corner-last y g in subst (λ z. IsLeaf (tok.Corner a ∷ tok.Colon ∷ z ∷ [])) (sym b.1) (_, λ ws. a_range)))))
+  operand-held frames ahead (tok.Sheet w) to h e =
+      begun-held (Some stages.Sheet) frames (ahead ++ tok.Sheet w ∷ []) to e (λ s f room.
+          let same : stages.Sheet ≡ s = cc in
+          subst (λ u. Held u frames (ahead ++ tok.Sheet w ∷ [])) same (ahead, (w, (h, refl, room))))
+  operand-held frames ahead (tok.Word w) to h e =
+      begun-held (Some stages.Call) frames (ahead ++ tok.Word w ∷ []) to e (λ s f room.
+          let same : stages.Call ≡ s = cc in
+          subst (λ u. Held u frames (ahead ++ tok.Word w ∷ [])) same (ahead, (w, (h, refl, room))))
+  operand-held frames ahead (tok.Operator o) to h e = signed-held o (sign_of o) frames ahead to refl h e
+  operand-held frames ahead tok.Open to h e = opened-held around.Parens frames (ahead ++ tok.Open ∷ []) to e (ahead, (h, refl))
+  operand-held frames ahead tok.Close to h e = none-held frames ahead to h e
+  operand-held frames ahead x to h e = cc
+
+  -- behind the word of a function
+  call-held : (frames : List Frame) (ahead : List Token) (x : Token) (to : State) → Held stages.Call frames ahead → advanced stages.Call frames (kind_of x) ≡ Some to → HeldAt to (ahead ++ x ∷ [])
+  call-held frames ahead tok.Open to (b, (w, (h, e, r))) f =
+      let same : ahead ++ tok.Open ∷ [] ≡ b ++ tok.Word w ∷ tok.Open ∷ [] = ap (λ xs. xs ++ tok.Open ∷ []) e ∙ append_assoc b (tok.Word w ∷ []) (tok.Open ∷ []) in
+      within-held (around.Arguments 0) frames (ahead ++ tok.Open ∷ []) to f
+      (λ _. ((b, (w, ([], (h, same, λ ts. (ts, (λ xs zs d. d, omega arith)), λ _. refl, r, omega arith)))), inr refl))
+  call-held frames ahead x to h f = cc
+
+  -- behind a sheet's name
+  sheet-line : (w : List ℕ) (x : Token) (single : Bool) (r : Option End) (frames : List Frame) (ahead : List Token) (to : State) → end_of ROWS x ≡ r → Held stages.Sheet frames ahead
+      → advanced stages.Sheet frames (kinds.Atom single (option_map (λ (b : End). b.axis) r)) ≡ Some to → HeldAt to (ahead ++ x ∷ [])
+  sheet-line w x single None frames ahead to e h f = cc
+  sheet-line w x single (Some a) frames ahead to e (b, (s, (h, g, r))) f =
+      let same : ahead ++ x ∷ [] ≡ b ++ tok.Sheet s ∷ x ∷ [] = ap (λ xs. xs ++ x ∷ []) g ∙ append_assoc b (tok.Sheet s ∷ []) (x ∷ []) in
+      same-held (stages.First false (lasts.Line a.axis), frames) to (ahead ++ x ∷ []) f
+      (b, (tok.Sheet s ∷ x ∷ [], (h, same, r, λ z. cc, λ y z. let c = line-last a.axis y z in (_, λ ws. a_sheet_whole e c.1.0 c.1.1))))
+
+  sheet-held : (frames : List Frame) (ahead : List Token) (x : Token) (to : State) → Held stages.Sheet frames ahead → advanced stages.Sheet frames (kind_of x) ≡ Some to → HeldAt to (ahead ++ x ∷ [])
+  sheet-held frames ahead (tok.Corner a) to (b, (s, (h, g, r))) f =
+      let same : ahead ++ tok.Corner a ∷ [] ≡ b ++ tok.Sheet s ∷ tok.Corner a ∷ [] = ap (λ xs. xs ++ tok.Corner a ∷ []) g ∙ append_assoc b (tok.Sheet s ∷ []) (tok.Corner a ∷ []) in
+      same-held (stages.First true lasts.Corner, frames) to (ahead ++ tok.Corner a ∷ []) f
+      (b, (tok.Sheet s ∷ tok.Corner a ∷ [], (h, same, r, λ z. (_, λ ws. a_sheet_corner),
+          λ y z. let c = corner-last y z in subst (λ v. IsLeaf (tok.Sheet s ∷ tok.Corner a ∷ tok.Colon ∷ v ∷ [])) (sym c.1) (_, λ ws. a_sheet_range))))
+  sheet-held frames ahead (tok.Number w) to h f = sheet-line w (tok.Number w) (is_ok (number_of w)) (end_of ROWS (tok.Number w)) frames ahead to refl h f
+  sheet-held frames ahead (tok.Name w) to h f = sheet-line w (tok.Name w) true (end_of ROWS (tok.Name w)) frames ahead to refl h f
+  sheet-held frames ahead (tok.Other w) to h f = sheet-line w (tok.Other w) false (end_of ROWS (tok.Other w)) frames ahead to refl h f
+  sheet-held frames ahead x to h f = cc
+
+  -- behind the colon of a range
+  last-held : (range : Last) (frames : List Frame) (ahead : List Token) (x : Token) (to : State) → Held (stages.Last range) frames ahead → advanced (stages.Last range) frames (kind_of x) ≡ Some to
+      → HeldAt to (ahead ++ x ∷ [])
+  last-held range frames ahead x to (b, (front, (h, e, r, g))) f =
+      let ends = if-reached (is_last range (kind_of x)) (Some (stages.Tree (suc (length frames)), frames)) to f in
+      let same : b ++ (front ++ x ∷ []) ≡ ahead ++ x ∷ [] = sym (ap (λ xs. xs ++ x ∷ []) e ∙ append_assoc b front (x ∷ [])) in
+      same-held (stages.Tree (suc (length frames)), frames) to (ahead ++ x ∷ []) ends.1
+      (subst (Held (stages.Tree (suc (length frames))) frames) same (leaf-held frames b (front ++ x ∷ []) h r (g x ends.0)))
+
+  -- behind a tree, once the frames that end are settled
+  operator-held : (o : Op) (r : ℕ × List Frame) (ahead : List Token) (to : State) → Settles (level_of o) ahead r → operator (level_of o) r ≡ Some to → HeldAt to (ahead ++ tok.Operator o ∷ [])
+  operator-held o (deepest, frames) ahead to (b, (piece, (t, (h, e, p, f, d, m)))) g =
+      let some = depth_of-positive t in
+      let room = if-reached (nat_lt deepest max_levels) (within (around.Right (level_of o) (suc deepest)) frames) to g in
+      let below = ltb-true deepest max_levels room.0 in
+      let same : ahead ++ tok.Operator o ∷ [] ≡ b ++ (piece ++ tok.Operator o ∷ []) = ap (λ xs. xs ++ tok.Operator o ∷ []) e ∙ append_assoc b piece (tok.Operator o ∷ []) in
+      within-held (around.Right (level_of o) (suc deepest)) frames (ahead ++ tok.Operator o ∷ []) to room.1
+      (λ _. ((b, (piece, (o, (t, (h, same, refl, p, f, omega arith, omega arith))))), inl (omega arith)))
+
+  percent-held : (r : ℕ × List Frame) (ahead : List Token) (to : State) → Settles percent_level ahead r → progress.percent r ≡ Some to → HeldAt to (ahead ++ tok.Percent ∷ [])
+  percent-held (deepest, frames) ahead to (b, (piece, (t, (h, e, p, f, d, m)))) g =
+      let room = if-reached (nat_lt deepest max_levels) (Some (stages.Tree (suc deepest), frames)) to g in
+      let below = ltb-true deepest max_levels room.0 in
+      let same : ahead ++ tok.Percent ∷ [] ≡ b ++ (piece ++ tok.Percent ∷ []) = ap (λ xs. xs ++ tok.Percent ∷ []) e ∙ append_assoc b piece (tok.Percent ∷ []) in
+      same-held (stages.Tree (suc deepest), frames) to (ahead ++ tok.Percent ∷ []) room.1
+      (b, (piece ++ tok.Percent ∷ [], (percent t, (percent_level, (h, same, percent-piece piece t p, f, omega arith, omega arith, omega arith)))))
+
+  comma-held : (r : ℕ × List Frame) (ahead : List Token) (to : State) → Settles 0 ahead r → comma r ≡ Some to → HeldAt to (ahead ++ tok.Comma ∷ [])
+  comma-held (deepest, []) ahead to s g = cc
+  comma-held (deepest, around.Right own left ∷ frames) ahead to s g = cc
+  comma-held (deepest, around.Sign ∷ frames) ahead to s g = cc
+  comma-held (deepest, around.Parens ∷ frames) ahead to s g = cc
+  comma-held (deepest, around.Arguments left ∷ frames) ahead to (c, (piece, (t, ((b, (w, (args, (h, e, a, n, r, m)))), f, p, k, d, l)))) g =
+      let some = depth_of-positive t in
+      let all : List Token = args ++ (piece ++ tok.Comma ∷ []) in
+      let same : ahead ++ tok.Comma ∷ [] ≡ b ++ tok.Word w ∷ tok.Open ∷ all =
+      ap (λ xs. xs ++ tok.Comma ∷ []) (f ∙ ap (λ xs. xs ++ piece) e) ∙ append_assoc (b ++ tok.Word w ∷ tok.Open ∷ args) piece (tok.Comma ∷ [])
+      ∙ append_assoc b (tok.Word w ∷ tok.Open ∷ args) (piece ++ tok.Comma ∷ []) in
+      let listed : Listed (length frames) all (max deepest left) = λ ts.
+          let us = a (term t ts) in
+          let depth : suc (length frames) + depth_of_all us.0 ≡ max (suc (length frames) + max (depth_of t) (depth_of_all ts)) left = us.1.1 in
+          (us.0, (λ xs zs q.
+              let joined : args ++ (piece ++ tok.Comma ∷ xs) ≡ all ++ xs =
+              ap (λ ys. args ++ ys) (sym (append_assoc piece (tok.Comma ∷ []) xs)) ∙ sym (append_assoc args (piece ++ tok.Comma ∷ []) xs) in
+              subst (λ ys. SpellsAll home find ys us.0 zs) joined (us.1.0 (piece ++ tok.Comma ∷ xs) zs (more (p (tok.Comma ∷ xs)) q)), omega (arith, depth, d))) in
+      within-held (around.Arguments (max deepest left)) frames (ahead ++ tok.Comma ∷ []) to g
+      (λ _. ((b, (w, (all, (h, same, listed, λ z. absurd (omega (arith, z, d)), r, omega (arith, m, l))))), inl (omega (arith, d, l))))
+
+  closed-held : (r : ℕ × List Frame) (ahead : List Token) (to : State) → Settles 0 ahead r → closed r ≡ Some to → HeldAt to (ahead ++ tok.Close ∷ [])
+  closed-held (deepest, []) ahead to s g = cc
+  closed-held (deepest, around.Right own left ∷ frames) ahead to s g = cc
+  closed-held (deepest, around.Sign ∷ frames) ahead to s g = cc
+  closed-held (deepest, around.Parens ∷ frames) ahead to (c, (piece, (t, ((b, (h, e)), f, p, k, d, l)))) g =
+      let low = floor-low frames b h in
+      let same : ahead ++ tok.Close ∷ [] ≡ b ++ tok.Open ∷ (piece ++ tok.Close ∷ []) =
+      ap (λ xs. xs ++ tok.Close ∷ []) (f ∙ ap (λ xs. xs ++ piece) e) ∙ append_assoc (b ++ tok.Open ∷ []) piece (tok.Close ∷ []) ∙ append_assoc b (tok.Open ∷ []) (piece ++ tok.Close ∷ []) in
+      same-held (stages.Tree deepest, frames) to (ahead ++ tok.Close ∷ []) g
+      (b, (tok.Open ∷ (piece ++ tok.Close ∷ []), (paren t, (atom_level, (h, same, parens-piece piece t p, omega arith, omega arith, omega arith, l)))))
+  closed-held (deepest, around.Arguments left ∷ frames) ahead to (c, (piece, (t, ((b, (w, (args, (h, e, a, n, r, m)))), f, p, k, d, l)))) g =
+      let low = floor-low frames b h in
+      let us = a (term t no_terms) in
+      let depth : suc (length frames) + depth_of_all us.0 ≡ max (suc (length frames) + max (depth_of t) 0) left = us.1.1 in
+      let same : ahead ++ tok.Close ∷ [] ≡ b ++ tok.Word w ∷ tok.Open ∷ (args ++ (piece ++ tok.Close ∷ [])) =
+      ap (λ xs. xs ++ tok.Close ∷ []) (f ∙ ap (λ xs. xs ++ piece) e) ∙ append_assoc (b ++ tok.Word w ∷ tok.Open ∷ args) piece (tok.Close ∷ [])
+      ∙ append_assoc b (tok.Word w ∷ tok.Open ∷ args) (piece ++ tok.Close ∷ []) in
+      same-held (stages.Tree (max deepest left), frames) to (ahead ++ tok.Close ∷ []) g
+      (b, (tok.Word w ∷ tok.Open ∷ (args ++ (piece ++ tok.Close ∷ [])), (call (capitals w) us.0, (atom_level, (h, same, call-piece w args piece t us.0 p us.1.0, omega arith, omega arith,
+          omega (arith, depth, d), omega (arith, m, l))))))
+
+  settled-held : (level deepest : ℕ) (frames : List Frame) (ahead : List Token) → level ≤ percent_level → Held (stages.Tree deepest) frames ahead → Settles level ahead (settled level deepest frames)
+  settled-held level deepest frames ahead s (b, (piece, (t, (j, (h, e, p, f, g, d, m))))) =
+      subst (λ xs. Settles level xs (settled level deepest frames)) (sym e) (settles level deepest frames b piece t j (omega arith) h p (omega arith) f d m)
+
+  tree-held : (deepest : ℕ) (frames : List Frame) (ahead : List Token) (x : Token) (to : State) → Held (stages.Tree deepest) frames ahead → at_tree deepest frames (kind_of x) ≡ Some to
+      → HeldAt to (ahead ++ x ∷ [])
+  tree-held deepest frames ahead (tok.Operator o) to h e =
+      operator-held o (settled (level_of o) deepest frames) ahead to (settled-held (level_of o) deepest frames ahead (omega (arith, level_of-below o)) h) e
+  tree-held deepest frames ahead tok.Percent to h e = percent-held (settled percent_level deepest frames) ahead to (settled-held percent_level deepest frames ahead (omega arith) h) e
+  tree-held deepest frames ahead tok.Comma to h e = comma-held (settled 0 deepest frames) ahead to (settled-held 0 deepest frames ahead (omega arith) h) e
+  tree-held deepest frames ahead tok.Close to h e = closed-held (settled 0 deepest frames) ahead to (settled-held 0 deepest frames ahead (omega arith) h) e
+  tree-held deepest frames ahead x to h e = cc
+
+  -- behind what may be the first end of a range
+  first-tree : (single : Bool) (range : Last) (frames : List Frame) (ahead : List Token) (x : Token) (to : State) → Held (stages.First single range) frames ahead
+      → (if single then at_tree (suc (length frames)) frames (kind_of x) else None) ≡ Some to → HeldAt to (ahead ++ x ∷ [])
+  first-tree single range frames ahead x to h e =
+      let whole = if-reached single (at_tree (suc (length frames)) frames (kind_of x)) to e in
+      tree-held (suc (length frames)) frames ahead x to (first-leaf single range frames ahead h whole.0) whole.1
+
+  first-held : (single : Bool) (range : Last) (frames : List Frame) (ahead : List Token) (x : Token) (to : State) → Held (stages.First single range) frames ahead
+      → advanced (stages.First single range) frames (kind_of x) ≡ Some to → HeldAt to (ahead ++ x ∷ [])
+  first-held single range frames ahead tok.Colon to (b, (front, (h, e, r, f, g))) k =
+      let same : ahead ++ tok.Colon ∷ [] ≡ b ++ (front ++ tok.Colon ∷ []) = ap (λ xs. xs ++ tok.Colon ∷ []) e ∙ append_assoc b front (tok.Colon ∷ []) in
+      same-held (stages.Last range, frames) to (ahead ++ tok.Colon ∷ []) k
+      (b, (front ++ tok.Colon ∷ [], (h, same, r, λ y z. subst IsLeaf (sym (append_assoc front (tok.Colon ∷ []) (y ∷ []))) (g y z))))
+  first-held single range frames ahead x to h k = first-tree single range frames ahead x to h k
+
+  step-held : (stage : Stage) (frames : List Frame) (ahead : List Token) (x : Token) (to : State) → Held stage frames ahead → advanced stage frames (kind_of x) ≡ Some to → HeldAt to (ahead ++ x ∷ [])
+  step-held stages.Operand frames ahead x to h e = operand-held frames ahead x to h.0 e
+  step-held stages.Call frames ahead x to h e = call-held frames ahead x to h e
+  step-held stages.Sheet frames ahead x to h e = sheet-held frames ahead x to h e
+  step-held (stages.First single range) frames ahead x to h e = first-held single range frames ahead x to h e
+  step-held (stages.Last range) frames ahead x to h e = last-held range frames ahead x to h e
+  step-held (stages.Tree deepest) frames ahead x to h e = tree-held deepest frames ahead x to h e
+
+  next-held : (from : Option State) (tokens : List Token) (to : State) (goal : Type 0) → option_and_then (λ next. reached next tokens) from ≡ Some to
+      → ((s : State) → from ≡ Some s → reached s tokens ≡ Some to → goal) → goal
+  next-held None tokens to goal e h = cc
+  next-held (Some s) tokens to goal e h = h s refl e
+
+  tokens-held : (state : State) (ahead tokens : List Token) (to : State) → HeldAt state ahead → reached state tokens ≡ Some to → HeldAt to (ahead ++ tokens)
+  tokens-held state ahead [] to h e =
+      let same : state ≡ to = cc in
+      subst (λ xs. HeldAt to xs) (sym (append-nil ahead)) (subst (λ s. HeldAt s ahead) same h)
+  tokens-held state ahead (x ∷ tokens) to h e =
+      next-held (step state x) tokens to (HeldAt to (ahead ++ x ∷ tokens)) e
+      (λ s f g. subst (HeldAt to) (append_assoc ahead (x ∷ []) tokens) (tokens-held s (ahead ++ x ∷ []) tokens to (step-held state.0 state.1 ahead x s h f) g))
+
+  -- what was read from the start
+  start-held : (tokens : List Token) (to : State) → reached start tokens ≡ Some to → HeldAt to tokens
+  start-held tokens to e = tokens-held start [] tokens to (refl, inl (omega arith)) e
+
+-- what was read is a front, and a formula where its state is whole
+pub reached-front : (tokens : List Token) (state : State) → reached start tokens ≡ Some state → IsFront tokens
+reached-front tokens state e home find = completes home find state.0 state.1 tokens (start-held home find tokens state e)
+
+pub reached-whole : (tokens : List Token) (state : State) → reached start tokens ≡ Some state → is_whole state.0 state.1 ≡ true
+    → (home : ℕ) (find : List ℕ → Option ℕ) → (t : Term Corner) × (SpellsTokens home find tokens t × (depth_of t ≤ max_levels))
+reached-whole tokens state e w home find = whole home find state.0 state.1 tokens (start-held home find tokens state e) w
