@@ -15,5 +15,6 @@ pub mod CanonicalRead
 pub mod OpenFrames
 pub mod SpeltReached
 pub mod FrontsReached
+pub mod WrongTokens
 mod Whiles
 mod Capitals
