@@ -12,13 +12,17 @@
 #![tactic(auto)]
 
 mod formula;
+mod frames;
 mod front;
 pub mod laws;
 mod lexer;
 mod migration;
+mod progress;
 mod reader;
 mod run;
 mod token;
+mod wrong;
 
 pub use formula::{ParseError, parse};
+pub use wrong::{TextSpan, parse_error};
 pub use migration::{migrated, migrated_name};
