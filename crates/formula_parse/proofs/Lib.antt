@@ -16,5 +16,6 @@ pub mod OpenFrames
 pub mod SpeltReached
 pub mod FrontsReached
 pub mod WrongTokens
+pub mod OnePlace
 mod Whiles
 mod Capitals
