@@ -402,18 +402,28 @@ module _ (home : ℕ) (find : List ℕ → Option ℕ) where
       begun-held _ frames (ahead ++ tok.Other w ∷ []) to e (λ s f room. atom-held (tok.Other w) false (end_of ROWS (tok.Other w)) frames ahead s refl (λ g. cc) h f room)
   operand-held frames ahead (tok.Corner a) to h e =
       begun-held (Some (stages.First true lasts.Corner)) frames (ahead ++ tok.Corner a ∷ []) to e (λ s f room.
-          let same : stages.First true lasts.Corner ≡ s = cc in
-          subst (λ u. Held u frames (ahead ++ tok.Corner a ∷ [])) same
-          (ahead, (tok.Corner a ∷ [], (h, refl, room, λ _. (_, λ ws. a_corner),
-              λ y g. let b = corner-last y g in subst (λ z. IsLeaf (tok.Corner a ∷ tok.Colon ∷ z ∷ [])) (sym b.1) (_, λ ws. a_range)))))
+      let same : stages.First true lasts.Corner ≡ s = cc in
+      subst (λ u. Held u frames (ahead ++ tok.Corner a ∷ [])) same (
+        ahead,
+        (
+          tok.Corner a ∷ [],
+          (
+            h,
+            refl,
+            room,
+            λ _. (_, λ ws. a_corner),
+            λ y g. let b = corner-last y g in subst (λ z. IsLeaf (tok.Corner a ∷ tok.Colon ∷ z ∷ [])) (sym b.1) (_, λ ws. a_range),
+          ),
+        ),
+      ))
   operand-held frames ahead (tok.Sheet w) to h e =
       begun-held (Some stages.Sheet) frames (ahead ++ tok.Sheet w ∷ []) to e (λ s f room.
-          let same : stages.Sheet ≡ s = cc in
-          subst (λ u. Held u frames (ahead ++ tok.Sheet w ∷ [])) same (ahead, (w, (h, refl, room))))
+      let same : stages.Sheet ≡ s = cc in
+      subst (λ u. Held u frames (ahead ++ tok.Sheet w ∷ [])) same (ahead, (w, (h, refl, room))))
   operand-held frames ahead (tok.Word w) to h e =
       begun-held (Some stages.Call) frames (ahead ++ tok.Word w ∷ []) to e (λ s f room.
-          let same : stages.Call ≡ s = cc in
-          subst (λ u. Held u frames (ahead ++ tok.Word w ∷ [])) same (ahead, (w, (h, refl, room))))
+      let same : stages.Call ≡ s = cc in
+      subst (λ u. Held u frames (ahead ++ tok.Word w ∷ [])) same (ahead, (w, (h, refl, room))))
   operand-held frames ahead (tok.Operator o) to h e = signed-held o (sign_of o) frames ahead to refl h e
   operand-held frames ahead tok.Open to h e = opened-held around.Parens frames (ahead ++ tok.Open ∷ []) to e (ahead, (h, refl))
   operand-held frames ahead tok.Close to h e = none-held frames ahead to h e
@@ -439,9 +449,19 @@ module _ (home : ℕ) (find : List ℕ → Option ℕ) where
   sheet-held : (frames : List Frame) (ahead : List Token) (x : Token) (to : State) → Held stages.Sheet frames ahead → advanced stages.Sheet frames (kind_of x) ≡ Some to → HeldAt to (ahead ++ x ∷ [])
   sheet-held frames ahead (tok.Corner a) to (b, (s, (h, g, r))) f =
       let same : ahead ++ tok.Corner a ∷ [] ≡ b ++ tok.Sheet s ∷ tok.Corner a ∷ [] = ap (λ xs. xs ++ tok.Corner a ∷ []) g ∙ append_assoc b (tok.Sheet s ∷ []) (tok.Corner a ∷ []) in
-      same-held (stages.First true lasts.Corner, frames) to (ahead ++ tok.Corner a ∷ []) f
-      (b, (tok.Sheet s ∷ tok.Corner a ∷ [], (h, same, r, λ z. (_, λ ws. a_sheet_corner),
-          λ y z. let c = corner-last y z in subst (λ v. IsLeaf (tok.Sheet s ∷ tok.Corner a ∷ tok.Colon ∷ v ∷ [])) (sym c.1) (_, λ ws. a_sheet_range))))
+      same-held (stages.First true lasts.Corner, frames) to (ahead ++ tok.Corner a ∷ []) f (
+        b,
+        (
+          tok.Sheet s ∷ tok.Corner a ∷ [],
+          (
+            h,
+            same,
+            r,
+            λ z. (_, λ ws. a_sheet_corner),
+            λ y z. let c = corner-last y z in subst (λ v. IsLeaf (tok.Sheet s ∷ tok.Corner a ∷ tok.Colon ∷ v ∷ [])) (sym c.1) (_, λ ws. a_sheet_range),
+          ),
+        ),
+      )
   sheet-held frames ahead (tok.Number w) to h f = sheet-line w (tok.Number w) (is_ok (number_of w)) (end_of ROWS (tok.Number w)) frames ahead to refl h f
   sheet-held frames ahead (tok.Name w) to h f = sheet-line w (tok.Name w) true (end_of ROWS (tok.Name w)) frames ahead to refl h f
   sheet-held frames ahead (tok.Other w) to h f = sheet-line w (tok.Other w) false (end_of ROWS (tok.Other w)) frames ahead to refl h f
@@ -486,12 +506,17 @@ module _ (home : ℕ) (find : List ℕ → Option ℕ) where
       ap (λ xs. xs ++ tok.Comma ∷ []) (f ∙ ap (λ xs. xs ++ piece) e) ∙ append_assoc (b ++ tok.Word w ∷ tok.Open ∷ args) piece (tok.Comma ∷ [])
       ∙ append_assoc b (tok.Word w ∷ tok.Open ∷ args) (piece ++ tok.Comma ∷ []) in
       let listed : Listed (length frames) all (max deepest left) = λ ts.
-          let us = a (term t ts) in
-          let depth : suc (length frames) + depth_of_all us.0 ≡ max (suc (length frames) + max (depth_of t) (depth_of_all ts)) left = us.1.1 in
-          (us.0, (λ xs zs q.
+      let us = a (term t ts) in
+      let depth : suc (length frames) + depth_of_all us.0 ≡ max (suc (length frames) + max (depth_of t) (depth_of_all ts)) left = us.1.1 in (
+        us.0,
+        (
+          λ xs zs q.
               let joined : args ++ (piece ++ tok.Comma ∷ xs) ≡ all ++ xs =
               ap (λ ys. args ++ ys) (sym (append_assoc piece (tok.Comma ∷ []) xs)) ∙ sym (append_assoc args (piece ++ tok.Comma ∷ []) xs) in
-              subst (λ ys. SpellsAll home find ys us.0 zs) joined (us.1.0 (piece ++ tok.Comma ∷ xs) zs (more (p (tok.Comma ∷ xs)) q)), omega (arith, depth, d))) in
+              subst (λ ys. SpellsAll home find ys us.0 zs) joined (us.1.0 (piece ++ tok.Comma ∷ xs) zs (more (p (tok.Comma ∷ xs)) q)),
+          omega (arith, depth, d),
+        ),
+      ) in
       within-held (around.Arguments (max deepest left)) frames (ahead ++ tok.Comma ∷ []) to g
       (λ _. ((b, (w, (all, (h, same, listed, λ z. absurd (omega (arith, z, d)), r, omega (arith, m, l))))), inl (omega (arith, d, l))))
 
@@ -512,9 +537,27 @@ module _ (home : ℕ) (find : List ℕ → Option ℕ) where
       let same : ahead ++ tok.Close ∷ [] ≡ b ++ tok.Word w ∷ tok.Open ∷ (args ++ (piece ++ tok.Close ∷ [])) =
       ap (λ xs. xs ++ tok.Close ∷ []) (f ∙ ap (λ xs. xs ++ piece) e) ∙ append_assoc (b ++ tok.Word w ∷ tok.Open ∷ args) piece (tok.Close ∷ [])
       ∙ append_assoc b (tok.Word w ∷ tok.Open ∷ args) (piece ++ tok.Close ∷ []) in
-      same-held (stages.Tree (max deepest left), frames) to (ahead ++ tok.Close ∷ []) g
-      (b, (tok.Word w ∷ tok.Open ∷ (args ++ (piece ++ tok.Close ∷ [])), (call (capitals w) us.0, (atom_level, (h, same, call-piece w args piece t us.0 p us.1.0, omega arith, omega arith,
-          omega (arith, depth, d), omega (arith, m, l))))))
+      same-held (stages.Tree (max deepest left), frames) to (ahead ++ tok.Close ∷ []) g (
+        b,
+        (
+          tok.Word w ∷ tok.Open ∷ (args ++ (piece ++ tok.Close ∷ [])),
+          (
+            call (capitals w) us.0,
+            (
+              atom_level,
+              (
+                h,
+                same,
+                call-piece w args piece t us.0 p us.1.0,
+                omega arith,
+                omega arith,
+                omega (arith, depth, d),
+                omega (arith, m, l),
+              ),
+            ),
+          ),
+        ),
+      )
 
   settled-held : (level deepest : ℕ) (frames : List Frame) (ahead : List Token) → level ≤ percent_level → Held (stages.Tree deepest) frames ahead → Settles level ahead (settled level deepest frames)
   settled-held level deepest frames ahead s (b, (piece, (t, (j, (h, e, p, f, g, d, m))))) =

@@ -129,7 +129,11 @@ impl Frames {
     fn begin(&self, stage: Option<Stage>) -> Option<Stage>
         ensures { option_map (λ s. (s, frames_of self.now)) result ≡ begun stage (frames_of self.now) }
     {
-        if self.count() < MAX_LEVELS { stage } else { None }
+        if self.count() < MAX_LEVELS {
+            stage
+        } else {
+            None
+        }
     }
 
     // A sign in front of an operand.

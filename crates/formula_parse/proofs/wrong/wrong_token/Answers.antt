@@ -46,6 +46,8 @@ pub tokens-preserved : goal.tokens-preserved
 tokens-preserved c =
     let t = c.tokens.invariant.1 in
     let front : Some (token_of c.in-Some.token, c.in-Some.behind.now) ≡ front_of c.after_blanks-rest.result.now = search rules in
-    let some : Some (c.in-Some-advance.more, frames_of c.advance.new.self) ≡ step (c.tokens.stage, frames_of c.tokens.frames) (token_of c.in-Some.token) = search rules in
-    (search rules, taken c.args.formula.now c.tokens.next.now c.after_blanks-rest.result.now t.0 (c.tokens.stage, frames_of c.tokens.frames) t.1 t.2 c.after_blanks-rest.ensures
-        (token_of c.in-Some.token) c.in-Some.behind.now (c.in-Some-advance.more, frames_of c.advance.new.self) front some)
+    let some : Some (c.in-Some-advance.more, frames_of c.advance.new.self) ≡ step (c.tokens.stage, frames_of c.tokens.frames) (token_of c.in-Some.token) = search rules in (
+      search rules,
+      taken c.args.formula.now c.tokens.next.now c.after_blanks-rest.result.now t.0 (c.tokens.stage, frames_of c.tokens.frames) t.1 t.2 c.after_blanks-rest.ensures
+          (token_of c.in-Some.token) c.in-Some.behind.now (c.in-Some-advance.more, frames_of c.advance.new.self) front some,
+    )
