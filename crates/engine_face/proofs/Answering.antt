@@ -1,5 +1,5 @@
 -- What a question's call is by what the engine answered and what was written. Serves the questions of a session.
-use Rattle.std.proofs.Common.{◌≡◌, ◌∙◌, sym, ap, subst, refl, ℕ, Bool, List, Option, None}
+use Rattle.std.proofs.Common.{◌≡◌, ◌∙◌, sym, ap, subst, ℕ, List}
 use Rattle.std.specs.Prelude.{Result, Ok, Err}
 use Rattle.book_model.specs.Operation.{Operation}
 use Rattle.book_model.specs.Workbook.{State}

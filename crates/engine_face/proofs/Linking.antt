@@ -1,5 +1,5 @@
 -- What a question for links is by what the engine answered and what was written.
-use Rattle.std.proofs.Common.{◌≡◌, ◌∙◌, ◌+◌, sym, ap, subst, refl, ℕ, suc, Bool, ◌&&◌, List, [], ◌∷◌, length, Option, None}
+use Rattle.std.proofs.Common.{◌≡◌, ◌∙◌, ◌+◌, sym, ap, subst, refl, ℕ, suc, Bool, ◌&&◌, List, [], ◌∷◌, length}
 use Rattle.std.specs.Prelude.{Result, Ok, Err}
 use Rattle.formula_tree.specs.declared.link.Link.{Link}
 use Rattle.book_model.specs.Operation.{Operation}
@@ -46,7 +46,9 @@ module _ {X : Type 0} (op : Operation) (items : X → List Link) (answer : State
   wrote_words (Err stop.NoMemory) status h f = let P : Status → Type 0 = Wrote (λ d. link_words (answer d)) bytes bytes_new old in subst P (sym f.0) f.2
 
   pub told_counts : (had now : LinkCounts) (end : Result X Stop) (status : Status) → Answers end → Written end status → EndCounts items end had now status → Told (λ d. link_counts (answer d)) had now old status
-  told_counts had now (Ok x) status h f t = links_ends (Told (λ d. link_counts (answer d)) had now old) (items x) room room_new bytes bytes_new (λ g d stands. t ∙ ap link_counts (h d stands).1) (λ g d stands. t ∙ ap link_counts (h d stands).1) (λ g. t) status f
+  told_counts had now (Ok x) status h f t =
+      links_ends (λ s. LinksTold (items x) had now s → Told (λ d. link_counts (answer d)) had now old s) (items x) room room_new bytes bytes_new
+      (λ g u d stands. u ∙ ap link_counts (h d stands).1) (λ g u d stands. u ∙ ap link_counts (h d stands).1) (λ g u. u) status f t
   told_counts had now (Err (stop.Refused r)) status h f t = let P : Status → Type 0 = Told (λ d. link_counts (answer d)) had now old in subst P (sym f.0) t
   told_counts had now (Err stop.NoMemory) status h f t = let P : Status → Type 0 = Told (λ d. link_counts (answer d)) had now old in subst P (sym f.0) t
 

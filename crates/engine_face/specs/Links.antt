@@ -1,5 +1,5 @@
 -- Links as rows of numbers, with the words of names as bytes. Source: this project's own.
-use Rattle.std.specs.Prelude.{◌≡◌, ◌&&◌, ℕ, Bool, true, false, ◌+◌, ◌++◌, List, [], ◌∷◌, length, Option, unwrap_or, Result, Ok, Err}
+use Rattle.std.specs.Prelude.{◌≡◌, ◌&&◌, ℕ, true, false, ◌+◌, ◌++◌, List, [], ◌∷◌, length, unwrap_or, Result, Ok, Err}
 use Rattle.cell_addr.specs.Whole.{whole_block}
 use Rattle.cell_addr.specs.declared.place.Block.{Block}
 use Rattle.cell_addr.specs.declared.place.TheConstants.{NO_SHEET}

@@ -1,6 +1,6 @@
 -- What was read goes on to a whole formula, whatever state it reaches, and is one where the state is whole. Serves
 -- `parse_error`.
-use Rattle.std.proofs.Common.{◌≡◌, ◌∙◌, sym, ap, refl, arith, subst, ℕ, suc, ◌+◌, ◌<◌, ◌≤◌, max, ◌==◌, ◌&&◌, Bool, true, false, cond, nat_le, nat_lt, if◌then◌else◌, List, [], ◌∷◌, ◌++◌, length, Option, Some, None, append_assoc, ◌⊎◌, inl, inr, Ok, Err}
+use Rattle.std.proofs.Common.{◌≡◌, ◌∙◌, sym, ap, refl, arith, subst, ℕ, suc, ◌+◌, ◌<◌, ◌≤◌, max, ◌==◌, Bool, true, false, cond, nat_le, nat_lt, if◌then◌else◌, List, [], ◌∷◌, ◌++◌, length, Option, Some, None, append_assoc, ◌⊎◌, inl, inr, Ok, Err}
 use Rattle.std.specs.Option.{option_and_then, option_map}
 use Rattle.std.specs.Result.{is_ok}
 use Rattle.std.proofs.lemmas.Bool.{leb-true, leb-false, eqb-true}
@@ -9,7 +9,6 @@ use borrow.Author.Tests.{ltb-true}
 use Rattle.cell_addr.specs.declared.axis.Axis.{Axis}
 use Rattle.cell_addr.specs.declared.axis.Axis.TheVariants as axes
 use Rattle.cell_addr.specs.declared.place.TheConstants.{ROWS}
-use Rattle.cell_addr.specs.Axis.{same_axis}
 use Rattle.cell_addr.specs.Text.{capitals}
 use Rattle.cell_addr.proofs.SamePlaces.{same_axis-equal}
 use Rattle.fix_num.specs.Text.{number_of}
@@ -24,13 +23,12 @@ use Rattle.formula_tree.specs.Token.{Token}
 use Rattle.formula_tree.specs.Token as tok
 use Rattle.formula_tree.specs.Term.{Term, truth, prefix, percent, binary, call, paren, Terms, no_terms, term, depth_of, depth_of_all}
 use Rattle.formula_tree.specs.Level.{level_of, percent_level, sign_level, atom_level, op_of, sign_of}
-use Rattle.formula_tree.specs.Grammar.{Leaf, a_number, a_text, a_truth, a_fault, a_name, a_corner, a_range, a_sheet_corner, a_sheet_range, a_whole, a_sheet_whole, Spells, lower, between, followed, before, leaf, inside, alone, called, SpellsAll, last, more, SpellsTokens, end_of}
+use Rattle.formula_tree.specs.Grammar.{Leaf, a_number, a_text, a_truth, a_fault, a_name, a_corner, a_range, a_sheet_corner, a_sheet_range, a_whole, a_sheet_whole, Spells, between, followed, before, leaf, inside, alone, called, SpellsAll, last, more, SpellsTokens, end_of}
 use Rattle.formula_tree.specs.Reader.{max_levels}
 use Rattle.formula_tree.proofs.Complete.{depth_of-positive, level_of-below}
 use Rattle.formula_tree.proofs.Sound.{lower-to}
 use Rattle.formula_parse.specs.declared.frames.Frame.{Frame}
 use Rattle.formula_parse.specs.declared.frames.Frame.TheVariants as around
-use Rattle.formula_parse.specs.declared.progress.Kind.{Kind}
 use Rattle.formula_parse.specs.declared.progress.Kind.TheVariants as kinds
 use Rattle.formula_parse.specs.declared.progress.Last.{Last}
 use Rattle.formula_parse.specs.declared.progress.Last.TheVariants as lasts

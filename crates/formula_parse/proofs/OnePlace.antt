@@ -1,18 +1,15 @@
 -- A text goes wrong at one place at most, and a formula nowhere. Serves the laws `no_text_goes_wrong_at_two` and
 -- `no_formula_goes_wrong`.
-use Rattle.std.proofs.Common.{◌≡◌, ◌∙◌, sym, ap, refl, arith, subst, ℕ, suc, ◌+◌, ◌<◌, ◌≤◌, Bool, true, false, List, [], ◌∷◌, ◌++◌, length, Option, Some, None, append_assoc, ◌⊎◌, inl, inr}
+use Rattle.std.proofs.Common.{◌≡◌, ◌∙◌, sym, ap, refl, arith, subst, ℕ, Bool, true, false, List, [], ◌∷◌, ◌++◌, length, Option, Some, None, append_assoc, ◌⊎◌, inl, inr}
 use Rattle.std.specs.Option.{option_map}
 use Rattle.std.proofs.lemmas.List.{append-nil}
-use Rattle.formula_tree.specs.declared.reference.Corner.{Corner}
 use Rattle.formula_tree.specs.Token.{Token}
-use Rattle.formula_tree.specs.Term.{Term, depth_of}
 use Rattle.formula_tree.specs.Run.{is_blank, begins_with, begins_with_any}
 use Rattle.formula_tree.specs.Tokens.{Front, token_at, tokens_of}
 use Rattle.formula_tree.specs.Grammar.{SpellsTokens}
-use Rattle.formula_tree.specs.Reader.{max_levels}
 use Rattle.formula_tree.proofs.TokenSteps.{tokens_of-nil, tokens_follow}
 use Rattle.formula_parse.specs.declared.wrong.TextSpan.{TextSpan}
-use Rattle.formula_parse.specs.Fronts.{IsFormula, IsFront, IsNoFront, IsNotWhole, TokensThen, all_rest, a_blank, a_token, GoesWrongBefore, at_token, at_no_token, at_end, GoesWrongAt, as_a_whole, behind_equals}
+use Rattle.formula_parse.specs.Fronts.{IsFront, IsNoFront, IsNotWhole, TokensThen, all_rest, a_blank, a_token, GoesWrongBefore, at_token, at_no_token, at_end, as_a_whole, behind_equals}
 use Rattle.formula_parse.specs.Laws.{OnePlace, FormulasGoRight}
 
 -- any list of sheets

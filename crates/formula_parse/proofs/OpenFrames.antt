@@ -1,5 +1,5 @@
 -- Where no more frames end. Serves the settling of frames.
-use Rattle.std.proofs.Common.{◌≡◌, refl, ℕ, List, [], ◌∷◌, Option, Some, None}
+use Rattle.std.proofs.Common.{◌≡◌, refl, ℕ, List, [], ◌∷◌, Some, None}
 use Rattle.std.specs.List.{slice_get}
 use Rattle.formula_parse.specs.declared.frames.Frame.{Frame}
 use Rattle.formula_parse.specs.internal.Progress.{joined, settled}

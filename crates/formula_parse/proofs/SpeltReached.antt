@@ -20,13 +20,12 @@ use Rattle.formula_tree.specs.declared.address.End.{End}
 use Rattle.formula_tree.specs.Token.{Token}
 use Rattle.formula_tree.specs.Token as tok
 use Rattle.formula_tree.specs.Term.{Term, Terms, depth_of, depth_of_all}
-use Rattle.formula_tree.specs.Level.{level_of, percent_level, sign_level, op_of, sign_of}
+use Rattle.formula_tree.specs.Level.{level_of, percent_level, sign_level, op_of}
 use Rattle.formula_tree.specs.Grammar.{Leaf, a_number, a_text, a_truth, a_fault, a_name, a_corner, a_range, a_sheet_corner, a_sheet_range, a_whole, a_sheet_whole, Spells, lower, between, followed, before, leaf, inside, alone, called, SpellsAll, last, more, SpellsTokens, cell_on, area_on, end_of, whole_on}
 use Rattle.formula_tree.specs.Reader.{max_levels}
 use Rattle.formula_tree.proofs.Complete.{Stops, depth_of-positive, level_of-below, sign_of-op_of}
 use Rattle.formula_parse.specs.declared.frames.Frame.{Frame}
 use Rattle.formula_parse.specs.declared.frames.Frame.TheVariants as around
-use Rattle.formula_parse.specs.declared.progress.Kind.{Kind}
 use Rattle.formula_parse.specs.declared.progress.Kind.TheVariants as kinds
 use Rattle.formula_parse.specs.declared.progress.Last.{Last}
 use Rattle.formula_parse.specs.declared.progress.Last.TheVariants as lasts

@@ -1,17 +1,15 @@
 -- The tokens that a text begins with, and where it goes wrong behind them. Serves `parse_error`.
-use Rattle.std.proofs.Common.{◌≡◌, ◌∙◌, sym, ap, refl, arith, subst, ℕ, suc, ◌+◌, ◌-◌, ◌<◌, ◌≤◌, ◌==◌, Bool, true, false, if◌then◌else◌, List, [], ◌∷◌, ◌++◌, length, Option, Some, None}
+use Rattle.std.proofs.Common.{◌≡◌, ◌∙◌, sym, ap, refl, arith, subst, ℕ, suc, ◌-◌, ◌<◌, ◌≤◌, ◌==◌, Bool, true, false, if◌then◌else◌, List, [], ◌∷◌, ◌++◌, length, Some, None}
 use Rattle.std.specs.Option.{option_and_then, option_map}
 use Rattle.std.proofs.lemmas.Bool.{eqb-true}
 use Rattle.std.proofs.lemmas.List.{append-nil}
 use Rattle.cell_addr.specs.Parts.{strip_prefix}
-use Rattle.formula_tree.specs.declared.reference.Corner.{Corner}
 use Rattle.formula_tree.specs.Token.{Token}
-use Rattle.formula_tree.specs.Term.{Term, depth_of}
-use Rattle.formula_tree.specs.Run.{is_blank, begins_with, begins_with_any, after_while}
+use Rattle.formula_tree.specs.Run.{is_blank, begins_with_any, after_while}
 use Rattle.formula_tree.specs.Tokens.{Front, token_at, tokens_of}
 use Rattle.formula_tree.proofs.TokenSteps.{Short, token_at-shorter, tokens_of-nil, tokens_follow}
 use Rattle.formula_parse.specs.declared.wrong.TextSpan.{TextSpan}
-use Rattle.formula_parse.specs.Fronts.{IsFormula, TokensThen, all_rest, a_blank, a_token, GoesWrongBefore, at_token, at_no_token, at_end, GoesWrongAt, as_a_whole, behind_equals}
+use Rattle.formula_parse.specs.Fronts.{IsFormula, TokensThen, all_rest, a_blank, a_token, GoesWrongBefore, at_token, at_no_token, at_end, GoesWrongAt, behind_equals}
 use Rattle.formula_parse.specs.internal.Front.{front_of}
 use Rattle.formula_parse.specs.internal.Progress.{State, is_whole, start, step, reached}
 use Rattle.formula_parse.proofs.Streams.{after_blanks-no_blank}
@@ -131,7 +129,7 @@ wrong-within (at_token {c = c} {cs = cs} {x = x} {behind = behind} d b t f n) =
 wrong-within (at_no_token d b t f) = (then-shorter d, omega arith)
 wrong-within (at_end d f n) = (then-shorter d, omega arith)
 
--- a text that begins with `=`, and one that doesn't
+-- a text that begins with `=`
 stripped-by : (b : Bool) (c : ℕ) (cs formula : List ℕ) → (c == 61) ≡ b → Some formula ≡ (if b then Some cs else None) → c ∷ cs ≡ 61 ∷ formula
 stripped-by true c cs formula e f =
     let first : c ≡ 61 = eqb-true c 61 e in
@@ -142,17 +140,6 @@ stripped-by false c cs formula e f = absurd (cc)
 pub stripped : (text formula : List ℕ) → Some formula ≡ strip_prefix 61 text → text ≡ 61 ∷ formula
 stripped [] formula e = absurd (cc)
 stripped (c ∷ cs) formula e = stripped-by (c == 61) c cs formula refl e
-
-no_equals-by : (b : Bool) (cs : List ℕ) → None ≡ (if b then Some cs else None) → b ≡ false
-no_equals-by true cs e = absurd (cc)
-no_equals-by false cs e = refl
-
-no_equals : (text : List ℕ) → None ≡ strip_prefix 61 text → begins_with 61 text ≡ false
-no_equals [] e = refl
-no_equals (c ∷ cs) e = no_equals-by (c == 61) cs e
-
-pub wrong-whole : (text : List ℕ) (span : TextSpan) → None ≡ strip_prefix 61 text → span.at ≡ 0 → span.length ≡ length text → GoesWrongAt text span
-wrong-whole text span e f g = as_a_whole (no_equals text e) f g
 
 -- the place of the wrong token
 pub wrong-there : (text formula rest behind : List ℕ) (span : TextSpan) → Some formula ≡ strip_prefix 61 text → GoesWrongBefore formula rest behind

@@ -20,7 +20,7 @@ pub(crate) enum Frame {
 }
 
 /// All that is open, at most as many frames as a tree has levels.
-#[derive(Clone, Copy)]
+#[derive(Drop)]
 pub(crate) struct Frames {
     /// The frames from the innermost on, behind places that are free.
     list: [Frame; 64],

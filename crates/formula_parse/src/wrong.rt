@@ -19,11 +19,14 @@ pub struct TextSpan {
 
 /// The first token of the text at which no formula goes on; `None` where the text is a formula.
 ///
-/// A token is a number, a text between double quotes, a truth value, a fault, an address, a name, a
-/// function's word, a sheet's name with its `!`, an operator, `%`, or one of `:`, `,`, `(` and `)`. The tokens
-/// before the one that is told begin some formula, and no formula begins with them and it: so a formula
-/// has at most 64 levels, and the token that would need a 65th is the place. Which texts are formulas is
-/// the same for all homes and sheets, so none are asked for.
+/// In `=1+*2` it is the `*`, at 3 and of 1 byte; in `=SUM(1,2` the end, at 8 and of none; in `=1+"abc` what
+/// begins with the quote, at 3 and of 4.
+///
+/// A token is a number, a text between double quotes, a truth value, a fault, an address, a name or another
+/// run of letters, digits, `_`, `.` and `$`, a function's word, a sheet's name with its `!`, an operator, `%`,
+/// or one of `:`, `,`, `(` and `)`. Some formula begins with the tokens before the one that is told, and none
+/// with those and it. A formula has at most 64 levels, so the token that would need a 65th is the place.
+/// Which texts are formulas is the same for all homes and sheets, so none are asked for.
 ///
 /// Where the text is only the beginning of formulas, its end is the place, with a length of 0. Where no token
 /// begins, as at a stray byte or a quote that isn't closed, the rest of the text is. A text that doesn't

@@ -1,6 +1,6 @@
 use Rattle.std.proofs.Common.{◌≡◌, ◌∙◌, sym, ap, rules, [], Some, None}
 use Rattle.formula_parse.specs.internal.Front.{token_of, front_of}
-use Rattle.formula_parse.specs.internal.Progress.{State, frames_of, kind_of, start, step, reached}
+use Rattle.formula_parse.specs.internal.Progress.{frames_of, step}
 use Rattle.formula_parse.specs.declared.progress.Stage.TheVariants as stages
 use Rattle.formula_parse.specs.Fronts.{all_rest}
 use Rattle.formula_parse.proofs.WrongTokens.{ends-whole, ends-early, stray, refused, taken, taken-shorter}
