@@ -8,8 +8,9 @@
  *     }
  *     fz_close(&book);
  *
- * Each call but the few that answer a truth value or a number ends with a status. In each case but FZ_DONE and FZ_NO_ROOM
- * the workbook is as it was, with its steps of undo and what waits to be pasted, and so are the caller's rooms and counts.
+ * Each call but the few that answer a truth value or a number ends with a status. In each case but FZ_DONE the workbook is as
+ * it was, with its steps of undo and what waits to be pasted, and so are the caller's rooms and counts; FZ_NO_ROOM, which only
+ * questions answer, tells the length that is needed. Which refusals a call has docs/SCRIPT.md says at the command of its name.
  *
  * Places. Rows and columns are counted from 0: A1 is row 0 and column 0. A sheet has 1,048,576 rows and 18,278 columns, and
  * a number that fz_add_sheet tells and that no other sheet of the workbook ever gets. A block is given by its first and
@@ -171,7 +172,8 @@ fz_status fz_drop_sheet(fz_book *book, uint32_t sheet);
 fz_status fz_rename_sheet(fz_book *book, uint32_t sheet, const char *name, size_t length);
 /* Empties the cells of a sheet. */
 fz_status fz_clear_sheet(fz_book *book, uint32_t sheet);
-/* Named expressions, in the scope of a sheet or of FZ_WORKBOOK. */
+/* Named expressions, in the scope of a sheet or of FZ_WORKBOOK. The text begins with =, each reference in it has its $, and for
+ * FZ_WORKBOOK its sheet: =Invoice!$A$1. */
 fz_status fz_add_name(fz_book *book, const char *name, size_t name_length, uint32_t scope, const char *text, size_t length);
 fz_status fz_change_name(fz_book *book, const char *name, size_t name_length, uint32_t scope, const char *text, size_t length);
 fz_status fz_remove_name(fz_book *book, const char *name, size_t name_length, uint32_t scope);

@@ -11,7 +11,7 @@ const STATUSES = {
   7: ['NameTaken', 'the scope has a name of this word'],
   8: ['NameInvalid', "the word can't be a name"],
   9: ['NoSuchName', 'there is no name of this word'],
-  10: ['RelativeAddress', "a reference of a name's formula isn't fixed"],
+  10: ['RelativeAddress', "a reference of a name's formula lacks a $, or, for the whole workbook, its sheet"],
   11: ['NothingToUndo', 'there is no step to take back'],
   12: ['NothingToRedo', 'there is no step to do again'],
   13: ['NothingToPaste', 'nothing waits to be pasted'],

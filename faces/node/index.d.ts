@@ -145,8 +145,8 @@ export class Workbook {
   /** Gives a cell this text as it is, which needs no apostrophe: '007' stays three characters, '=A1' is no formula. The apostrophe
    * that content answers in front of such a text counts among the 8,192 bytes that a text may have. */
   setText(at: Place, text: string): void;
-  /** Gives many cells the contents that their texts say, as one change: all of them or none, and one step of undo. BadCells where a
-   * cell is listed twice. */
+  /** Gives many cells the contents that their texts say, as one change: all of them or none, and one step of undo. They may
+   * come in any order, also as a Map. BadCells where a cell is listed twice. */
   writeAll(cells: Iterable<readonly [Place, string]>): void;
   /** Empties the cells of a block. */
   clear(area: Block): void;
@@ -227,7 +227,7 @@ export class Workbook {
   readonly canUndo: boolean;
   /** Whether redo would be accepted now. */
   readonly canRedo: boolean;
-  /** Why a call that changes the workbook would be refused now, by its name and its words: book.cause('insertRows', sheet, 0, 1). It
+  /** Why a call of those in Change would be refused now, by its name and its words: book.cause('insertRows', sheet, 0, 1). It
    * answers the refusal's name, or null where the call would be accepted. Nothing changes. */
   cause<C extends Change>(change: C, ...words: Parameters<Workbook[C]>): string | null;
   /** Opens a batch: the changes until commit are one step. Values aren't answered in it. */

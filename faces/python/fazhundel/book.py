@@ -23,7 +23,7 @@ ROOM, ROWS = 256, 16
 class Workbook:
     """A workbook without sheets, of which `undo_limit` steps can be undone, at most 1,000.
 
-    Formulas see `today` as the day, and can call the functions of `rules` by their words.
+    Formulas see `today` as the day, without it the local day of the clock, and can call the functions of `rules` by their words.
     """
 
     def __init__(
@@ -67,7 +67,10 @@ class Workbook:
         self._do("set_text", *at, *_text(text))
 
     def write_all(self, cells: Mapping[Place, str]) -> None:
-        """Gives many cells the contents that their texts say, as one change: all of them or none, and one step of undo."""
+        """Gives many cells the contents that their texts say, as one change: all of them or none, and one step of undo.
+
+        The cells may come in any order.
+        """
         rows, texts = (library.Written * len(cells))(), bytearray()
         for row, (at, text) in zip(rows, sorted(cells.items())):
             encoded = text.encode()
@@ -152,7 +155,7 @@ class Workbook:
         return self._text("name_text", *_text(name), _scope(scope))
 
     def add_name(self, name: str, text: str, scope: Optional[int] = None) -> None:
-        """Adds a name with the formula of the text."""
+        """Adds a name with the formula of the text, each of whose references has its `$` and, without a scope, its sheet."""
         self._do("add_name", *_text(name), _scope(scope), *_text(text))
 
     def change_name(self, name: str, text: str, scope: Optional[int] = None) -> None:
@@ -208,9 +211,12 @@ class Workbook:
         return self._call("can_redo")
 
     def cause(self, change: str, *words: object) -> Optional[Refusal]:
-        """Why a call that changes the workbook would be refused now, by its name and its words; None where it would be accepted.
+        """Why a call would be refused now, by its name and its words, none of them by keyword; None where it would be accepted.
 
-        `book.cause("insert_rows", sheet, 0, 1)` asks about `book.insert_rows(sheet, 0, 1)`. Nothing changes.
+        `book.cause("insert_rows", sheet, 0, 1)` asks about `book.insert_rows(sheet, 0, 1)`. Those that can be asked about are
+        set, clear, insert_rows, delete_rows, move_rows, insert_cols, delete_cols, move_cols, move_block, drop_sheet, add_sheet,
+        rename_sheet, clear_sheet, add_name, change_name, remove_name, copy, cut, paste, begin, commit, undo and redo. Nothing
+        changes.
         """
         row, name, text = row_of(change, words)
         refusal = c_uint8()

@@ -72,7 +72,9 @@ def decimal(millionths: int) -> Decimal:
 
 
 def millionths(number: Union[Decimal, int]) -> int:
-    """The number as a whole number of millionths. ValueError where it is none of 64 bits."""
+    """The number as a whole number of millionths. ValueError where it is none of 64 bits, TypeError for any other type."""
+    if not isinstance(number, (Decimal, int)) or isinstance(number, bool):
+        raise TypeError(f"a Decimal or an int was expected, not {type(number).__name__}")
     scaled = Fraction(number) * MILLION
     if scaled.denominator != 1 or not -(2**63) <= scaled < 2**63:
         raise ValueError(f"{number} is no number of millionths")

@@ -32,10 +32,10 @@ pub enum Change<'a> {
     RenameSheet(u32, &'a str),
     /// [`clear_sheet`](crate::Workbook::clear_sheet).
     ClearSheet(u32),
-    /// [`add_name`](crate::Workbook::add_name): the name, the text and the scope.
-    AddName(&'a str, &'a str, Option<u32>),
+    /// [`add_name`](crate::Workbook::add_name): the name, the scope and the text.
+    AddName(&'a str, Option<u32>, &'a str),
     /// [`change_name`](crate::Workbook::change_name), likewise.
-    ChangeName(&'a str, &'a str, Option<u32>),
+    ChangeName(&'a str, Option<u32>, &'a str),
     /// [`remove_name`](crate::Workbook::remove_name): the name and the scope.
     RemoveName(&'a str, Option<u32>),
     /// [`copy`](crate::Workbook::copy).
@@ -64,7 +64,7 @@ impl<'a> Change<'a> {
     fn texts(self) -> (&'a str, &'a str) {
         match self {
             Change::Set(_, text) => ("", text),
-            Change::AddName(name, text, _) | Change::ChangeName(name, text, _) => (name, text),
+            Change::AddName(name, _, text) | Change::ChangeName(name, _, text) => (name, text),
             Change::AddSheet(name) | Change::RenameSheet(_, name) | Change::RemoveName(name, _) => {
                 (name, "")
             }
@@ -98,8 +98,8 @@ impl<'a> Change<'a> {
             Change::AddSheet(_) => of_sheet(11, 0),
             Change::RenameSheet(sheet, _) => of_sheet(12, sheet),
             Change::ClearSheet(sheet) => of_sheet(13, sheet),
-            Change::AddName(_, _, scope) => scoped(14, scope),
-            Change::ChangeName(_, _, scope) => scoped(15, scope),
+            Change::AddName(_, scope, _) => scoped(14, scope),
+            Change::ChangeName(_, scope, _) => scoped(15, scope),
             Change::RemoveName(_, scope) => scoped(16, scope),
             Change::Copy(area) => block(17, area),
             Change::Cut(area) => block(18, area),

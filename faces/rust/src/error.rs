@@ -194,7 +194,9 @@ impl Refusal {
             Refusal::NameTaken => "the scope has a name of this word",
             Refusal::NameInvalid => "the word can't be a name",
             Refusal::NoSuchName => "there is no name of this word",
-            Refusal::RelativeAddress => "a reference of a name's formula isn't fixed",
+            Refusal::RelativeAddress => {
+                "a reference of a name's formula lacks a $, or, for the whole workbook, its sheet"
+            }
             Refusal::NothingToUndo => "there is no step to take back",
             Refusal::NothingToRedo => "there is no step to do again",
             Refusal::NothingToPaste => "nothing waits to be pasted",

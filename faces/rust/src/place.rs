@@ -5,7 +5,7 @@ use std::fmt;
 
 const LETTERS: u32 = 26;
 
-/// A cell: the number of its sheet, its row and its column, both counted from 0.
+/// A cell: the number of its sheet, its row and its column, both counted from 0. [`address`](Place::address) prints it.
 #[derive(Debug, Clone, Copy, PartialEq, Eq, PartialOrd, Ord, Hash)]
 pub struct Place {
     /// The sheet's number.

@@ -161,12 +161,12 @@ fn causes_are_told_beforehand() {
         (Change::RenameSheet(9, "x"), Some(Refusal::NoSheet)),
         (Change::ClearSheet(0), None),
         (
-            Change::AddName("rate", "=A1", None),
+            Change::AddName("rate", None, "=A1"),
             Some(Refusal::RelativeAddress),
         ),
-        (Change::AddName("rate", "=$A$1", Some(0)), None),
+        (Change::AddName("rate", Some(0), "=$A$1"), None),
         (
-            Change::ChangeName("rate", "=1", None),
+            Change::ChangeName("rate", None, "=1"),
             Some(Refusal::NoSuchName),
         ),
         (
