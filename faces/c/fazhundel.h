@@ -25,7 +25,7 @@
  * was. So it is with a list of rows, and with one whose rows have texts: these stand one after the other in a room of their
  * own, and where one of the two rooms is too short neither is written.
  *
- * Pointers to a book, a change, a number, a count, a length, a value, a used area, counts or sizes are never NULL, and no two pointers
+ * Pointers to a book, a change, a number, a count, a length, a value, a used area, a part of a text, counts or sizes are never NULL, and no two pointers
  * of one call lead to the same memory.
  *
  * Threads. A workbook is used by one thread: the one that opened it makes each call and closes it. Different threads may
@@ -308,6 +308,18 @@ fz_status fz_name_text(fz_book *book, const char *name, size_t name_length, uint
 /* The text that fz_formula answers of a cell of the sheet that is given the formula of the text, without being in a cell. */
 fz_status fz_normal_text(fz_book *book, uint32_t sheet, const char *text, size_t text_length, char *room, size_t size,
                          size_t *length);
+
+/* A part of a text. */
+typedef struct fz_wrong {
+    uint32_t is_wrong;  /* 1; or 0 where the text is a formula, and so the next two */
+    size_t start;       /* the byte at which it begins */
+    size_t length;      /* how many bytes it has */
+} fz_wrong;
+
+/* Where a text stops being a formula: its first token at which no formula goes on. At the end of the text the part has no bytes:
+ * the text is but the front of formulas. A text that doesn't begin with = is wrong as a whole, and where no token begins, as at
+ * a quote that isn't closed, the rest of the text is. FZ_NO_SHEET, FZ_TEXT_LIMIT. */
+fz_status fz_parse_error(fz_book *book, uint32_t sheet, const char *text, size_t length, fz_wrong *wrong);
 /* The words that the formula of the text uses as names, in its order and each once, also where there is no such name. */
 fz_status fz_names_in(fz_book *book, uint32_t sheet, const char *text, size_t text_length, fz_name *names, size_t name_room,
                       char *words, size_t words_size, fz_sizes *sizes);

@@ -103,6 +103,7 @@ static struct {
     fz_sizes sizes;
     fz_counts counts;
     fz_used used;
+    fz_wrong wrong;
     size_t length;
     uint32_t number;
     fz_status refusal;
@@ -139,6 +140,7 @@ CALL(asks_names, fz_names(book, told.names, ROWS, told.room, ROOM, &told.sizes))
 CALL(asks_name_text, fz_name_text(book, TEXT("rate"), FZ_WORKBOOK, told.room, ROOM, &told.length))
 CALL(asks_normal, fz_normal_text(book, 0, TEXT("= sum( b1:b2 )+RATE"), told.room, ROOM, &told.length))
 CALL(asks_names_in, fz_names_in(book, 0, TEXT("=a1+rate*two"), told.names, ROWS, told.room, ROOM, &told.sizes))
+CALL(asks_wrong, fz_parse_error(book, 0, TEXT("=a1+rate*"), &told.wrong))
 CALL(asks_precedents, fz_precedents(book, 0, 0, 0, told.links, ROWS, told.room, ROOM, &told.counts))
 CALL(asks_dependents, fz_dependents(book, 0, 0, 1, told.links, ROWS, told.room, ROOM, &told.counts))
 CALL(asks_cycles, fz_on_cycle(book, 1, told.places, ROWS, &told.length))
@@ -181,7 +183,7 @@ static const struct {
     {"value", asks_value}, {"value_text", asks_text}, {"name_value", asks_name_value}, {"try", asks_try},
     {"formula", asks_formula}, {"content", asks_content}, {"kind", asks_kind}, {"filled", asks_filled},
     {"filled_in", asks_filled_in}, {"used_area", asks_used}, {"values", asks_values}, {"contents", asks_contents},
-    {"names", asks_names}, {"name_text", asks_name_text}, {"normal_text", asks_normal}, {"names_in", asks_names_in},
+    {"names", asks_names}, {"name_text", asks_name_text}, {"normal_text", asks_normal}, {"names_in", asks_names_in}, {"parse_error", asks_wrong},
     {"precedents", asks_precedents}, {"dependents", asks_dependents}, {"on_cycle", asks_cycles}, {"cause", asks_cause},
     {"insert_rows", inserts_rows}, {"value", asks_value}, {"delete_rows", deletes_rows}, {"move_rows", moves_rows},
     {"insert_cols", inserts_cols}, {"delete_cols", deletes_cols}, {"move_cols", moves_cols}, {"values", asks_values},

@@ -223,6 +223,35 @@ static void causes_are_told(void)
     fz_close(&book);
 }
 
+/* Whether the text goes wrong at these bytes. */
+static bool goes_wrong(fz_book *book, const char *text, size_t start, size_t length)
+{
+    fz_wrong wrong = {9, 9, 9};
+    return fz_parse_error(book, 0, text, strlen(text), &wrong) == FZ_DONE && wrong.is_wrong == 1 && wrong.start == start
+        && wrong.length == length;
+}
+
+/* It is told where a text stops being a formula. */
+static void wrong_texts_are_told(void)
+{
+    static char many[8194];
+    fz_book book = opened();
+    fz_wrong wrong = {9, 9, 9};
+    CHECK(fz_parse_error(&book, 0, "=SUM(A1:B2)*2", 13, &wrong) == FZ_DONE);
+    CHECK(wrong.is_wrong == 0 && wrong.start == 0 && wrong.length == 0);
+    CHECK(goes_wrong(&book, "=1+", 3, 0) && goes_wrong(&book, "=1+*2", 3, 1) && goes_wrong(&book, "=SUM(1,2", 8, 0));
+    CHECK(goes_wrong(&book, "=1 two", 3, 3) && goes_wrong(&book, "=\"abc", 1, 4) && goes_wrong(&book, "=1)", 2, 1));
+    CHECK(goes_wrong(&book, "abc", 0, 3) && goes_wrong(&book, "", 0, 0) && goes_wrong(&book, "=", 1, 0));
+    CHECK(goes_wrong(&book, "=A1:\xc3\xbc", 4, 2) && goes_wrong(&book, "=A1:B", 4, 1));
+    memset(many, '(', sizeof many - 1);
+    many[0] = '=';
+    CHECK(fz_parse_error(&book, 0, many, 8193, &wrong) == FZ_TEXT_LIMIT && wrong.is_wrong == 0);
+    CHECK(fz_parse_error(&book, 0, many, 8192, &wrong) == FZ_DONE && wrong.start == 64 && wrong.length == 1);
+    CHECK(fz_parse_error(&book, 1, "=1", 2, &wrong) == FZ_NO_SHEET && wrong.start == 64);
+    CHECK(fz_parse_error(&book, 0, "=\xff", 2, &wrong) == FZ_NOT_UTF8 && wrong.start == 64);
+    fz_close(&book);
+}
+
 /* The room is tested before anything is written, and the length that is needed is told. */
 static void short_rooms(void)
 {
@@ -581,6 +610,7 @@ static void closed_books(void)
     size_t length = 7;
     uint32_t number = 7;
     fz_status refusal = 7;
+    fz_wrong wrong = {7, 7, 7};
     fz_counts counts = {7, 7};
     fz_used used = {7, 7, 7, 7, 7};
     fz_sizes sizes = {7, 7};
@@ -591,6 +621,7 @@ static void closed_books(void)
     CHECK(fz_set_text(&book, 0, 0, 0, "1", 1) == FZ_NOT_OPEN && fz_clear_history(&book) == FZ_NOT_OPEN);
     CHECK(fz_on_cycle(&book, 0, NULL, 0, &length) == FZ_NOT_OPEN && length == 7);
     CHECK(fz_write_all(&book, NULL, 0, NULL, 0) == FZ_NOT_OPEN);
+    CHECK(fz_parse_error(&book, 0, "=", 1, &wrong) == FZ_NOT_OPEN && wrong.is_wrong == 7);
     CHECK(fz_cause(&book, &(fz_change){.kind = FZ_CHANGE_UNDO}, NULL, 0, NULL, 0, &refusal) == FZ_NOT_OPEN && refusal == 7);
     CHECK(fz_add_sheet(&book, "Plan", 4, &number) == FZ_NOT_OPEN && number == 7);
     CHECK(fz_value(&book, 0, 0, 0, NULL, 0, &value) == FZ_NOT_OPEN && value.kind == 7);
@@ -625,6 +656,7 @@ int main(void)
     texts_are_given();
     many_cells_are_written();
     causes_are_told();
+    wrong_texts_are_told();
     short_rooms();
     formulas_follow();
     sheets_and_names();

@@ -425,7 +425,7 @@ static const struct {
     {"kind", kind}, {"filled", filled}, {"filledIn", filled_in}, {"usedArea", used_area},
     {"values", values}, {"contents", contents},
     {"value", value}, {"valueText", value_text}, {"nameValue", name_value}, {"tryFormula", try_formula},
-    {"normalText", normal_text}, {"namesIn", names_in}, {"formula", formula}, {"content", content},
+    {"normalText", normal_text}, {"namesIn", names_in}, {"parseError", parse_error}, {"formula", formula}, {"content", content},
     {"precedents", precedents}, {"dependents", dependents}, {"onCycle", on_cycle},
     {"sheetCount", sheet_count}, {"sheetAt", sheet_at}, {"sheetId", sheet_id}, {"sheetName", sheet_name},
 };

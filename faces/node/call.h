@@ -77,6 +77,7 @@ napi_value name_value(napi_env env, napi_callback_info info);
 napi_value name_text(napi_env env, napi_callback_info info);
 napi_value try_formula(napi_env env, napi_callback_info info);
 napi_value normal_text(napi_env env, napi_callback_info info);
+napi_value parse_error(napi_env env, napi_callback_info info);
 napi_value filled(napi_env env, napi_callback_info info);
 napi_value filled_in(napi_env env, napi_callback_info info);
 napi_value on_cycle(napi_env env, napi_callback_info info);

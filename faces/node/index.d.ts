@@ -281,6 +281,10 @@ export class Workbook {
   /** The text that formula answers of a cell of the sheet that is given the formula of the text, without being in a cell. Throws
    * NoSheet, TextLimit, BadFormula. */
   normalText(sheet: number, text: string): string;
+  /** Where a text stops being a formula: its first token at which no formula goes on, by its first character and the one behind it,
+   * as slice takes them; null where the text is a formula. At the text's end the two are the same: the text is but the front of
+   * formulas. One that doesn't begin with = is wrong as a whole. NoSheet, TextLimit. */
+  parseError(sheet: number, text: string): { start: number; end: number } | null;
   /** The words in capitals that the formula of the text uses as names, in its order and each once, also where there is no such
    * name. It throws likewise. */
   namesIn(sheet: number, text: string): string[];

@@ -64,6 +64,13 @@ function written(cells) {
   return [rows, sorted.map(([, text]) => text).join('')];
 }
 
+/** The part of a text that has these bytes in UTF-8, by its first character and the one behind it, as slice takes them. */
+function partOf(text, start, length) {
+  const bytes = Buffer.from(text);
+  const first = bytes.toString('utf8', 0, start).length;
+  return { start: first, end: first + bytes.toString('utf8', start, start + length).length };
+}
+
 /** Places of a sheet as the addon answers them. */
 function placesOf(sheet, places) {
   return places.map(([row, col]) => ({ sheet, row, col }));
@@ -347,6 +354,11 @@ class Workbook {
 
   normalText(sheet, text) {
     return calls.normalText(this.#book, sheet, textOf(text));
+  }
+
+  parseError(sheet, text) {
+    const found = calls.parseError(this.#book, sheet, textOf(text));
+    return found && partOf(text, ...found);
   }
 
   namesIn(sheet, text) {

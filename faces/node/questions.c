@@ -44,6 +44,26 @@ napi_value used_area(napi_env env, napi_callback_info info)
     return used.is_used == 1 ? numbers_of(env, area, 4) : empty(env);
 }
 
+/* The first byte of a part of a text and how many bytes it has, or null where the text is a formula. */
+napi_value parse_error(napi_env env, napi_callback_info info)
+{
+    struct call call = asked(env, info);
+    uint32_t sheet = number(&call);
+    struct text formula = text(&call);
+    fz_wrong wrong = {0, 0, 0};
+    fz_status status = call.is_good ? fz_parse_error(call.book, sheet, formula.bytes, formula.length, &wrong) : FZ_DONE;
+    free(formula.bytes);
+    if (!call.is_good) {
+        return NULL;
+    }
+    if (status != FZ_DONE) {
+        throw_status(&call, status);
+        return NULL;
+    }
+    const uint32_t part[] = {(uint32_t)wrong.start, (uint32_t)wrong.length};
+    return wrong.is_wrong == 1 ? numbers_of(env, part, 2) : empty(env);
+}
+
 /* Questions whose answers have texts. Each is asked with a small room, and once more with one that is long enough where that was
  * too short. */
 

@@ -131,6 +131,19 @@ test('causes are told beforehand', () => opened((book) => {
   assert.throws(() => book.cause('insertRows', 0, 'first', 1), TypeError);
 }));
 
+test('it is told where a text stops being a formula', () => opened((book) => {
+  const wrong = [['=1+', ''], ['=1+*2', '*'], ['=1 two', 'two'], ['="hüte', '"hüte'], ['="ü"&)', ')'], ['sum', 'sum'], ['', '']];
+  for (const [text, part] of wrong) {
+    const { start, end } = book.parseError(0, text);
+    assert.equal(text.slice(start, end), part, text);
+  }
+  assert.deepEqual(book.parseError(0, '="ü"&)'), { start: 5, end: 6 });
+  assert.equal(book.parseError(0, '=SUM(A1:B2)*2'), null);
+  fails('NoSheet', () => book.parseError(9, '=1'));
+  fails('TextLimit', () => book.parseError(0, '='.repeat(8_193)));
+  assert.throws(() => book.parseError(0, 7), TypeError);
+}));
+
 test('filled cells are listed', () => opened((book) => {
   assert.equal(book.usedArea(0), null);
   assert.deepEqual(book.filledIn(0), []);
@@ -473,6 +486,7 @@ test('books are opened and closed', () => {
   fails('NotOpen', () => book.setText(at('A1'), ''));
   fails('NotOpen', () => book.writeAll([]));
   fails('NotOpen', () => book.cause('undo'));
+  fails('NotOpen', () => book.parseError(0, '=1'));
   fails('NotOpen', () => book.kind(at('A1')));
   fails('NotOpen', () => book.values(over('A1')));
   fails('NotOpen', () => book.filledIn(0));

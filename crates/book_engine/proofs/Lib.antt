@@ -33,3 +33,4 @@ pub mod ListedNames
 pub mod UsedNames
 pub mod IdleReads
 mod TriedCosts
+pub mod WrongTexts

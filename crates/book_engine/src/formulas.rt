@@ -1,4 +1,4 @@
-// Formulas as such, which no cell holds: their canonical texts, and the names that they use.
+// Formulas as such, which no cell holds: their canonical texts, the names that they use, and where their texts go wrong.
 ghost use Rattle.std.specs.Prelude.{◌≡◌, ◌++◌, ◌∷◌, [], IfOk, OnOk, Some, map};
 ghost use Rattle.std.specs.List.{filter_map};
 ghost use Rattle.cell_addr.specs.Text.{capitals};
@@ -11,7 +11,7 @@ ghost use Rattle.book_model.specs.Answers.{first_cell};
 ghost use Rattle.book_model.specs.Workbook.{State};
 ghost use Rattle.kept_book.specs.Formula.{tree_at};
 ghost use Rattle.book_engine.specs.Areas.{Answered};
-ghost use Rattle.book_engine.specs.Formulas.{names_used_of, normal_text_of, text_cause, tree_on, words_used};
+ghost use Rattle.book_engine.specs.Formulas.{TellsWrong, names_used_of, normal_text_of, text_cause, tree_on, untold_cause, words_used};
 ghost use Rattle.book_engine.specs.Seen.{Fits, ValuesFollowStill, state_of};
 
 use crate::engine::Engine;
@@ -19,8 +19,10 @@ use crate::naming::read_tree;
 use crate::parts::Parts;
 use crate::reading::first_cell;
 use crate::stop::Stop;
+use book_model::{MAX_TEXT, Refusal};
 use calc_eval::Customs;
 use cell_addr::{Text, capitals};
+use formula_parse::{TextSpan, parse_error};
 use formula_print::print;
 use formula_tree::{Home, Mention, Tree, mentions_of};
 use kept_steps::Session;
@@ -63,6 +65,20 @@ impl<C: Customs> Engine<C> {
     {
         self.parts.names_in(sheet, text)
     }
+
+    /// Where a text stops being a formula: the part of it, in bytes, that is its first token at which no formula goes on; `None`
+    /// where it is a formula. At the text's end the part has no bytes: the text is but the front of formulas. A text that doesn't
+    /// begin with `=` is wrong as a whole, and where no token begins, as at a quote that isn't closed, the rest of the text is
+    /// ([`parse_error`]). So an application can mark what its user types, as it is typed. Costs about the bytes of the text, and takes
+    /// no memory; it is answered while values are suspended too.
+    ///
+    /// # Errors
+    /// `NoSheet`, `TextLimit` past 8,192 bytes; the first that holds.
+    pub fn parse_error(&self, sheet: u32, text: &str) -> Result<Option<TextSpan>, Stop>
+        ensures { (d : State) → StandsFor C.customs self.now d → Answered (untold_cause d.book sheet text.now) (TellsWrong text.now) result }
+    {
+        self.parts.parse_error(sheet, text)
+    }
 }
 
 impl Parts {
@@ -97,6 +113,18 @@ impl Parts {
         let home = Home::Cell(first_cell(sheet));
         let words = words_used(self.session.book.alloc, &tree, home)?;
         Ok(words)
+    }
+
+    // Where a text stops being a formula.
+    #[tactic(auto, using(crate::proofs::WrongTexts::wrong_or_none))]
+    fn parse_error(&self, sheet: u32, text: &str) -> Result<Option<TextSpan>, Stop>
+        ensures { Answered (untold_cause (state_of self.now).book sheet text.now) (TellsWrong text.now) result }
+    {
+        self.check_sheet(sheet)?;
+        if text.len() > MAX_TEXT {
+            return Err(Stop::Refused(Refusal::TextLimit));
+        }
+        Ok(parse_error(text))
     }
 
     // The tree that the text spells on the sheet, in a formula in its first cell.

@@ -57,6 +57,7 @@ pub use cell_addr::{Block, Place, Text};
 pub use cell_value::{FaultKind, Scalar};
 pub use custom_fn::Registry;
 pub use fix_num::Fixed;
+pub use formula_parse::TextSpan;
 pub use formula_tree::Link;
 pub use kept_steps::Entry;
 pub use shift_core::Shift;

@@ -11,3 +11,4 @@ pub mod PastedCells
 pub mod SoundSteps
 pub mod GivenSheets
 pub mod LinksInside
+pub mod WrittenCells

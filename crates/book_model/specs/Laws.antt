@@ -1,14 +1,19 @@
 -- What holds of sessions.
-use Rattle.std.specs.Prelude.{◌≡◌, ◌≤◌, ℕ, ℤ, Bool, List, Some, All}
+use Rattle.std.specs.Prelude.{◌≡◌, ◌≤◌, ℕ, ℤ, Bool, List, Option, None, Some, All}
+use Rattle.std.specs.List.{find}
+use Rattle.std.specs.FinMap as map
 use Rattle.custom_fn.specs.declared.rule.Rule.{Rule}
 use Rattle.fix_num.specs.Number.{IsInside}
 use Rattle.fix_num.specs.Text.{text_of}
 use Rattle.cell_addr.specs.declared.place.Place.{Place}
+use Rattle.cell_addr.specs.Place.{same_place}
 use Rattle.cell_value.specs.Scalar.{truth_text}
+use Rattle.book_cells.specs.Workbook.{Content}
 use Rattle.book_model.specs.Answers.{dependents_of, precedents_of}
-use Rattle.book_model.specs.Content.{content_of, text_given}
+use Rattle.book_model.specs.Changes.{HaveDistinctPlaces, with_contents}
+use Rattle.book_model.specs.Content.{content_given, content_of, text_given}
 use Rattle.book_model.specs.Operation.{Operation}
-use Rattle.book_model.specs.Workbook.{State}
+use Rattle.book_model.specs.Workbook.{State, Workbook}
 use Rattle.book_model.specs.Refusals.{cause}
 use Rattle.book_model.specs.Session.{next}
 use Rattle.book_model.specs.Given.{GivenSheet, session_given, CanBegin}
@@ -35,3 +40,13 @@ abbrev pub GivenTextsSayIt : Type 0
 GivenTextsSayIt = ((m : ℤ) → IsInside m → content_of (text_of m) ≡ said.Number m)
     × ((b : Bool) → content_of (truth_text b) ≡ said.Truth b)
     × ((w : List ℕ) → content_of (text_given w) ≡ said.Text w)
+
+-- what a cell holds then: what the text of its entry gives, or what it held where it has none
+abbrev pub written_at : Option (Place × List ℕ) → Place → Workbook → Option Content
+written_at None at b = map.get b.cells at
+written_at (Some e) at b = content_given b.sheets at.sheet (content_of e.1)
+
+-- cells that are given what texts say, each of them once, hold just that, in whatever order; every other cell holds what it held
+abbrev pub WrittenCellsSayIt : Type 0
+WrittenCellsSayIt = (given : List (Place × List ℕ)) (b : Workbook) (at : Place) → HaveDistinctPlaces given
+    → map.get (with_contents given b).cells at ≡ written_at (find (λ e. same_place at e.0) given) at b

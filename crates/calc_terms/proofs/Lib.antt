@@ -3,3 +3,4 @@ pub mod CellsAlike
 pub mod Reading
 pub mod LinkedPlaces
 pub mod WholeBlocks
+pub mod FunctionWords

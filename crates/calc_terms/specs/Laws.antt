@@ -1,10 +1,12 @@
 -- What holds of the meaning of formulas and of its cost. Source: this project's own.
-use Rattle.std.specs.Prelude.{◌≡◌, ℕ, ⊤, Bool, true, false, List, Option, Some, None}
-use Rattle.std.specs.List.{list_any}
+use Rattle.std.specs.Prelude.{◌≡◌, ℕ, ⊤, Bool, true, false, List, Option, Some, None, bytes_eq}
+use Rattle.std.specs.List.{list_all, list_any}
 use Rattle.cell_addr.specs.declared.place.Place.{Place}
 use Rattle.cell_addr.specs.Place.{covers, same_place}
 use Rattle.cell_addr.specs.Whole.{whole_block}
+use Rattle.custom_fn.specs.Word.{is_function_word}
 use Rattle.custom_fn.specs.declared.rule.Rule.{Rule}
+use Rattle.custom_fn.specs.declared.words.TheConstants.{FUNCTION_WORDS}
 use Rattle.formula_tree.specs.Links.{links_in}
 use Rattle.formula_tree.specs.Reference.{sheet_of}
 use Rattle.formula_tree.specs.Term.{Term}
@@ -15,7 +17,9 @@ use Rattle.formula_tree.specs.declared.reference.Home.{Home}
 use Rattle.calc_terms.specs.Cost.{cost}
 use Rattle.calc_terms.specs.Meaning.{meaning}
 use Rattle.calc_terms.specs.Needs.{mentions, mentions_name}
+use Rattle.calc_terms.specs.Words.{function_named, word_of}
 use Rattle.calc_terms.specs.World.{Named, World}
+use Rattle.calc_terms.specs.declared.function.Function.{Function}
 
 -- both worlds show the same at each place that the tree mentions
 abbrev pub ShowAlike : World → World → Term Corner → Type 0
@@ -53,3 +57,13 @@ is_link_to p (links.Name scope w) = false
 -- a tree mentions the places that its links lead to, and no others
 abbrev pub LinksAreNeeds : Type 0
 LinksAreNeeds = (t : Term Corner) (p : Place) → mentions t p ≡ list_any (is_link_to p) (links_in t)
+
+-- the function that was found has this word
+abbrev pub has_word : List ℕ → Option Function → Bool
+has_word word None = false
+has_word word (Some f) = bytes_eq (word_of f) word
+
+-- the words of the list are those of the functions: each of them names one, which has it, and each function has one of them
+abbrev pub WordsAreFunctions : Type 0
+WordsAreFunctions = (list_all (λ word. has_word word.now (function_named word.now)) FUNCTION_WORDS ≡ true)
+    × ((f : Function) → is_function_word (word_of f) ≡ true)

@@ -64,6 +64,16 @@ function_named word =
     option_or (option_map function.Place (place_named word)) (
     option_map function.Data (data_named word)))
 
+-- the word of a function
+abbrev pub word_of : Function → List ℕ
+word_of (function.Choice f) = choice_word f
+word_of (function.Place f) = place_word f
+word_of (function.Data (kind.Math f)) = math.function_word f
+word_of (function.Data (kind.Logic f)) = logic.function_word f
+word_of (function.Data (kind.Text f)) = texts.function_word f
+word_of (function.Data (kind.Look f)) = look.function_word f
+word_of (function.Data (kind.Date f)) = dates.function_word f
+
 -- the argument at this place, from 0, is a list or a block
 abbrev pub takes_block : DataFn → ℕ → Bool
 takes_block (kind.Math f) at = math.takes_block f at

@@ -1,17 +1,18 @@
-// Names that are listed, their texts, and what the text of a formula is and uses.
-ghost use Rattle.std.specs.Prelude.{◌≡◌, ◌&&◌, IsUtf8, None, length};
+// Names that are listed, their texts, and what the text of a formula is, uses, and where it goes wrong.
+ghost use Rattle.std.specs.Prelude.{◌≡◌, ◌&&◌, IsUtf8, None, length, true};
 ghost use Rattle.book_model.specs.Operation as op;
 ghost use Rattle.book_model.specs.Refusals.{cause};
-ghost use Rattle.book_engine.specs.Formulas.{text_cause};
+ghost use Rattle.book_engine.specs.Formulas.{text_cause, untold_cause};
+ghost use Rattle.engine_face.specs.Areas.{SaysWrong};
 ghost use Rattle.engine_face.specs.Lists.{all_rows, all_words, list_sizes, text_of_formula, text_of_name, used_rows, used_words};
-ghost use Rattle.engine_face.specs.Session.{Finds, Told, Wrote, scope_of};
+ghost use Rattle.engine_face.specs.Session.{Finds, Tells, Told, Wrote, scope_of};
 ghost use Rattle.engine_face.specs.Shown.{fits};
 ghost use Rattle.engine_face.specs.Status.{status_numbered};
 ghost use Rattle.engine_face.specs.declared.status.Status.TheVariants.{NotUtf8};
 ghost use Rattle.engine_c.specs.Calls.{Over};
 
 use crate::book::Book;
-use engine_face::{ListSizes, NameRow, Status};
+use engine_face::{ListSizes, NameRow, Status, WrongPart};
 
 /// All names: the names and their words, each in a room.
 #[unsafe(no_mangle)]
@@ -93,6 +94,32 @@ pub extern "C" fn fz_normal_text(
         return Status::NotOpen.number();
     };
     let status = session.normal_text(sheet, text, room, needed);
+    book.put(session);
+    status.number()
+}
+
+/// Where a text stops being a formula.
+#[unsafe(no_mangle)]
+pub extern "C" fn fz_parse_error(
+    book: &mut Book,
+    sheet: u32,
+    text: &[u8],
+    part: &mut WrongPart,
+) -> u8
+    ensures does { IsUtf8 text.now → Over (Finds (λ d. untold_cause d.book sheet text.now) (λ d. true)) book.old.handle.value book.new.handle.value (status_numbered result) }
+    ensures told { IsUtf8 text.now → Over (λ old new status. Tells (λ d. SaysWrong text.now) part.old part.new old status) book.old.handle.value book.new.handle.value (status_numbered result) }
+    ensures untold { book.old.handle.value ≡ None → part.new ≡ part.old }
+    ensures no_text { ¬ (IsUtf8 text.now) → status_numbered result ≡ NotUtf8 }
+    ensures no_text_left { ¬ (IsUtf8 text.now) → book.new.handle.value ≡ book.old.handle.value }
+    ensures no_text_untold { ¬ (IsUtf8 text.now) → part.new ≡ part.old }
+{
+    let Ok(text) = str::from_utf8(text) else {
+        return Status::NotUtf8.number();
+    };
+    let Some(session) = book.take() else {
+        return Status::NotOpen.number();
+    };
+    let status = session.parse_error(sheet, text, part);
     book.put(session);
     status.number()
 }

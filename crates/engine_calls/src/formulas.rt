@@ -1,6 +1,6 @@
-// Formulas that no cell holds: their canonical texts, and the names that they use.
+// Formulas that no cell holds: their canonical texts, the names that they use, and where their texts go wrong.
 use crate::no_customs::NoCustoms;
-use book_engine::{Engine, Stop};
+use book_engine::{Engine, Stop, TextSpan};
 use book_model::Refusal;
 use cell_addr::Text;
 
@@ -13,9 +13,13 @@ pub(crate) fn formulas_are_read_alone(engine: &mut Engine<NoCustoms>) -> Result<
     let names = engine.names_in(1, "=Rate+SUM(A1,tax)*RATE")?;
     let unread = engine.normal_text(0, "2+3");
     let nowhere = engine.names_in(2, "=1");
+    let right = engine.parse_error(1, "=A1*2")?;
+    let wrong = engine.parse_error(1, "=A1*/2")?;
     Ok(
         text.as_str() == "=SUM(Plan!B1:C2,A1*rate)"
             && are_rate_and_tax(&names)
+            && right.is_none()
+            && wrong == Some(TextSpan { at: 4, length: 1 })
             && matches!(unread, Err(Stop::Refused(Refusal::BadFormula)))
             && matches!(nowhere, Err(Stop::Refused(Refusal::NoSheet))),
     )

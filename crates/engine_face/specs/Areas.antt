@@ -1,14 +1,17 @@
--- What is asked of cells and areas, as numbers and rows. Source: this project's own.
+-- What is asked of cells, areas and texts, as numbers and rows. Source: this project's own.
 use Rattle.std.specs.Prelude.{◌≡◌, ℕ, List, map, Option, None, Some}
 use Rattle.std.specs.FinMap as fin
 use Rattle.cell_addr.specs.declared.place.Block.{Block}
 use Rattle.cell_addr.specs.declared.place.Place.{Place}
+use Rattle.formula_parse.specs.declared.wrong.TextSpan.{TextSpan}
 use Rattle.book_model.specs.Workbook.{State, Workbook}
 use Rattle.book_engine.specs.Areas.{IsUsedArea, cyclic_on_sheet, filled_in_block, filled_on_sheet, kind_of}
+use Rattle.book_engine.specs.Formulas.{TellsWrong}
 use Rattle.book_engine.specs.declared.areas.Kind.{Kind}
 use Rattle.book_engine.specs.declared.areas.Kind.TheVariants as kind
 use Rattle.engine_face.specs.declared.areas.PlaceRow.{PlaceRow}
 use Rattle.engine_face.specs.declared.areas.UsedArea.{UsedArea}
+use Rattle.engine_face.specs.declared.wrong.WrongPart.{WrongPart}
 
 -- the number of a kind of content: that of the kind of value, where it is one
 abbrev pub kind_number : Kind → ℕ
@@ -49,3 +52,12 @@ used_row (Some area) = record { is_used = 1; top = area.top; left = area.left; b
 -- these numbers say how far a sheet is used
 abbrev pub SaysUsed : ℕ → Workbook → UsedArea → Type 0
 SaysUsed sheet b used = (area : Option Block) × IsUsedArea sheet b area × (used ≡ used_row area)
+
+-- a part of a text as numbers, or that there is none
+abbrev pub wrong_row : Option TextSpan → WrongPart
+wrong_row None = record { is_wrong = 0; start = 0; length = 0 }
+wrong_row (Some span) = record { is_wrong = 1; start = span.at; length = span.length }
+
+-- these numbers say where a text goes wrong
+abbrev pub SaysWrong : List ℕ → WrongPart → Type 0
+SaysWrong text told = (found : Option TextSpan) × TellsWrong text found × (told ≡ wrong_row found)

@@ -26,6 +26,7 @@ mod setting;
 mod shown;
 mod status;
 mod writing;
+mod wrong;
 
 pub use areas::{PlaceRow, UsedArea};
 pub use cause::ChangeRow;
@@ -38,3 +39,4 @@ pub use session::Session;
 pub use shown::Shown;
 pub use status::Status;
 pub use writing::WrittenRow;
+pub use wrong::WrongPart;

@@ -1,7 +1,7 @@
 // What is found of cases.
 use crate::moving::moved;
 use crate::operation::shift_of;
-use crate::reading::{column_trees, levels_of, texts_of};
+use crate::reading::{column_trees, levels_of, texts_of, wrong_place};
 use crate::setting::Setting;
 use crate::shifting::shifted;
 use formula_tree::Home;
@@ -17,6 +17,8 @@ pub(crate) fn found(
     match case.split_once(' ') {
         Some(("read", text)) => Ok(Some(of_text(alloc, setting, text)?)),
         Some(("nest", parts)) => of_nested(alloc, setting, parts),
+        Some(("wrong", text)) => Ok(Some(of_wrong(alloc, text)?)),
+        Some(("wrong-nest", parts)) => of_wrong_nested(alloc, parts),
         Some(("column", parts)) => of_column(alloc, setting, parts),
         Some((word, parts)) => over_operation(alloc, setting, word, parts),
         None => Ok(None),
@@ -43,16 +45,37 @@ fn with_controls(alloc: Global, text: &str) -> Result<String, AllocError> {
     Ok(controlled)
 }
 
-// The levels of a formula that nests: `=`, so many of a front, a middle, and so many of an end.
+// The levels of a formula that nests.
 fn of_nested(alloc: Global, setting: &Setting, parts: &str) -> Result<Option<String>, AllocError> {
+    let Some(text) = nested(alloc, parts)? else {
+        return Ok(None);
+    };
+    let levels = levels_of(alloc, setting.sheet, Home::Cell(setting.cell), &text)?;
+    Ok(Some(format!(in alloc; "{levels}")?))
+}
+
+// Where a text goes wrong.
+fn of_wrong(alloc: Global, text: &str) -> Result<String, AllocError> {
+    let text = with_controls(alloc, text)?;
+    wrong_place(alloc, &text)
+}
+
+// Where a text that nests goes wrong.
+fn of_wrong_nested(alloc: Global, parts: &str) -> Result<Option<String>, AllocError> {
+    match nested(alloc, parts)? {
+        Some(text) => Ok(Some(wrong_place(alloc, &text)?)),
+        None => Ok(None),
+    }
+}
+
+// A text that nests: `=`, so many of a front, a middle, and so many of an end.
+fn nested(alloc: Global, parts: &str) -> Result<Option<String>, AllocError> {
     let Some((count, front, middle, end)) = nested_parts(parts) else {
         return Ok(None);
     };
     let fronts = front.repeat(alloc, count)?;
     let ends = end.repeat(alloc, count)?;
-    let text = format!(in alloc; "={fronts}{middle}{ends}")?;
-    let levels = levels_of(alloc, setting.sheet, Home::Cell(setting.cell), &text)?;
-    Ok(Some(format!(in alloc; "{levels}")?))
+    Ok(Some(format!(in alloc; "={fronts}{middle}{ends}")?))
 }
 
 // How often the front and the end stand in a formula that nests, the front, the middle and the end.

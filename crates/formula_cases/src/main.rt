@@ -6,6 +6,8 @@
 //! | `home 1 4 4` | Two |
 //! | `read = 1+2*a1` | (+ 1 (* 2 1!R0C0)), printed =1+2*A1 |
 //! | `nest 63;(;1;)` | 64 |
+//! | `wrong =1+*2` | at 3, length 1 |
+//! | `wrong-nest 64;(;;` | at 64, length 1 |
 //! | `column 10000;=B…*C…` | 1 |
 //! | `shift insert-rows 1 5 2;=B6` | 1!R7C1 at 1 4 4, back 1!R5C1, lost false |
 //! | `move delete-rows 1 3 2;1 3 3 5 5` | 1 3 3 3 5, back 1 5 3 7 5, bent |

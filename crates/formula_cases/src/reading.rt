@@ -7,7 +7,7 @@ ghost use Rattle.tree_rewrite.specs.References.{FitsSheets};
 
 use crate::show::show;
 use cell_addr::{OneSheet, Place, Text};
-use formula_parse::{ParseError, parse};
+use formula_parse::{ParseError, parse, parse_error};
 use formula_print::print;
 use formula_tree::{Home, Pool, Tree, depth, to_absolute};
 use std::alloc::{AllocError, Global};
@@ -39,6 +39,14 @@ pub(crate) fn levels_of(
 {
     let mut reading = Reading::new(alloc, sheet)?;
     reading.levels(home, text)
+}
+
+/// Where a text goes wrong: at which byte, and how many bytes the wrong token has; `nowhere` where it is a formula.
+pub(crate) fn wrong_place(alloc: Global, text: &str) -> Result<String, AllocError> {
+    match parse_error(text) {
+        Some(span) => format!(in alloc; "at {}, length {}", span.at, span.length),
+        None => String::from_str(alloc, "nowhere"),
+    }
 }
 
 /// How many trees a column of so many formulas leaves in the pool. Those that would stand beyond the sheet's last row

@@ -12,5 +12,10 @@ pub mod ReaderLoops
 pub mod SpeltTokens
 pub mod ReadTexts
 pub mod CanonicalRead
+pub mod OpenFrames
+pub mod SpeltReached
+pub mod FrontsReached
+pub mod WrongTokens
+pub mod OnePlace
 mod Whiles
 mod Capitals

@@ -1,3 +1,4 @@
 pub mod Laws
+pub mod Fronts
 pub mod Migrated
 pub mod internal

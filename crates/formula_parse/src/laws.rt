@@ -1,7 +1,7 @@
 //! What holds of every formula's text: laws, with nothing to run.
 
 ghost use Rattle.formula_tree.specs.Laws.{OneTree, CanonicalSpells};
-ghost use Rattle.formula_parse.specs.Laws.{CanonicalIsRead, ReadAgain};
+ghost use Rattle.formula_parse.specs.Laws.{CanonicalIsRead, ReadAgain, OnePlace, FormulasGoRight};
 
 /// No text spells two trees.
 pub fn no_text_spells_two()
@@ -21,4 +21,14 @@ pub fn canonical_text_is_read()
 /// The tree that a text is read as is read again from its canonical text.
 pub fn what_is_read_is_read_again()
     ensures { ReadAgain }
+{}
+
+/// A text goes wrong at one place at most.
+pub fn no_text_goes_wrong_at_two()
+    ensures { OnePlace }
+{}
+
+/// A formula goes wrong nowhere.
+pub fn no_formula_goes_wrong()
+    ensures { FormulasGoRight }
 {}

@@ -94,7 +94,7 @@ fn end_of(token: Token<'_>) -> Option<End>
 
 // The token that the text begins with, and what follows it. `None` where it begins with no token: with
 // a byte that begins none, a quote that isn't closed, or a name between apostrophes without its `!`.
-fn front(text: &str) -> Option<(Token<'_>, &str)>
+pub(crate) fn front(text: &str) -> Option<(Token<'_>, &str)>
     ensures { option_map (λ p. (token_of p.0, p.1.now)) result ≡ front_of text.now }
 {
     let bytes = text.as_bytes();

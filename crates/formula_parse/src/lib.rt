@@ -4,6 +4,8 @@
 //! spelt. A text is read in one pass, by operator precedence, each token as it is wanted: no list of tokens
 //! is made, and references are seen from the home of the formula at once.
 //!
+//! [`parse_error`] tells the part of a text that is wrong: the first token at which no formula goes on.
+//!
 //! [`migrated`] takes a text along that was written when a sheet had fewer rows: what was a name and would be an address
 //! gets one `_` more, and [`migrated_name`] does so to a name that is given.
 //!
@@ -12,13 +14,17 @@
 #![tactic(auto)]
 
 mod formula;
+mod frames;
 mod front;
 pub mod laws;
 mod lexer;
 mod migration;
+mod progress;
 mod reader;
 mod run;
 mod token;
+mod wrong;
 
 pub use formula::{ParseError, parse};
 pub use migration::{migrated, migrated_name};
+pub use wrong::{TextSpan, parse_error};

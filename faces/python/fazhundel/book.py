@@ -331,6 +331,19 @@ class Workbook:
         rows, words = self._list("names_in", library.Name, sheet, *_text(text))
         return [_word(row, words) for row in rows]
 
+    def parse_error(self, sheet: int, text: str) -> Optional[slice]:
+        """Where the text stops being a formula, as a slice of it: its first token at which no formula goes on. None where it is one.
+
+        At its end the slice has no characters: the text is but the front of formulas.
+        """
+        wrong = library.Wrong()
+        self._do("parse_error", sheet, *_text(text), byref(wrong))
+        if not wrong.is_wrong:
+            return None
+        encoded = text.encode()
+        start = len(encoded[: wrong.start].decode())
+        return slice(start, start + len(encoded[wrong.start : wrong.start + wrong.length].decode()))
+
     def formula(self, at: Place) -> Optional[str]:
         """The text of a cell's formula, if it has one."""
         return self._text("formula", *at) or None

@@ -77,6 +77,12 @@ class Change(Structure):
     ]
 
 
+class Wrong(Structure):
+    """A part of a text."""
+
+    _fields_ = [("is_wrong", c_uint32), ("start", c_size_t), ("length", c_size_t)]
+
+
 class Sizes(Structure):
     """How much room a list needs: the counts of links, and the sizes of any other list."""
 
@@ -130,6 +136,7 @@ CALLS = {
     "names": (NAMES, c_uint8),
     "name_text": (BYTES + U32 + ROOM + LENGTH, c_uint8),
     "normal_text": (U32 + BYTES + ROOM + LENGTH, c_uint8),
+    "parse_error": (U32 + BYTES + [POINTER(Wrong)], c_uint8),
     "names_in": (U32 + BYTES + NAMES, c_uint8),
     "precedents": (PLACE + LINKS, c_uint8),
     "dependents": (PLACE + LINKS, c_uint8),

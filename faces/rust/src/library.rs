@@ -14,9 +14,10 @@ use crate::error::{Error, Refusal};
 use crate::place::{Block, Link, Name, Place};
 use crate::rules::Table;
 use crate::value::{Fault, Kind, Number, Value};
-use header::{Shown, Sizes, Status, Used, Written, NO_ROOM};
+use header::{Shown, Sizes, Status, Used, Written, Wrong, NO_ROOM};
 use std::borrow::Cow;
 use std::cell::UnsafeCell;
+use std::ops::Range;
 use std::ptr;
 
 // How many bytes, and how many rows, a first try has room for.
@@ -404,6 +405,19 @@ impl Book {
                 )
             }
         })
+    }
+
+    pub(crate) fn parse_error(
+        &self,
+        sheet: u32,
+        text: &str,
+    ) -> Result<Option<Range<usize>>, Error> {
+        let mut wrong = Wrong::default();
+        // SAFETY: `at` leads to a book of the library; the text is given with its length.
+        ended(unsafe {
+            header::fz_parse_error(self.at(), sheet, text.as_ptr(), text.len(), &mut wrong)
+        })?;
+        Ok((wrong.is_wrong == 1).then_some(wrong.start..wrong.start + wrong.length))
     }
 
     pub(crate) fn name_text(&self, name: &str, scope: u32) -> Result<String, Error> {

@@ -7,6 +7,7 @@ use crate::options::Options;
 use crate::place::{Block, Link, Name, Place};
 use crate::value::{Kind, Number, Value};
 use std::fmt;
+use std::ops::Range;
 
 /// A workbook: sheets with their cells, named expressions, steps of undo and what waits to be pasted.
 ///
@@ -441,6 +442,24 @@ impl Workbook {
     /// being in a cell. `NoSheet`, `TextLimit`, `BadFormula`.
     pub fn normal_text(&self, sheet: u32, text: &str) -> Result<String, Error> {
         self.book.normal_text(sheet, text)
+    }
+
+    /// The bytes of the text at which it stops being a formula: its first token at which no formula goes on. `None` where it is one.
+    ///
+    /// At the text's end there are no bytes: the text is but the front of formulas. One that doesn't begin with `=` is wrong as a
+    /// whole, and where no token begins, as at a quote that isn't closed, the rest of the text is. `NoSheet`, `TextLimit`.
+    ///
+    /// ```
+    /// use fazhundel::Workbook;
+    ///
+    /// let mut book = Workbook::open()?;
+    /// let sheet = book.add_sheet("Invoice")?;
+    /// assert_eq!(book.parse_error(sheet, "=1+*2")?, Some(3..4));
+    /// assert_eq!(book.parse_error(sheet, "=SUM(1,2)")?, None);
+    /// # Ok::<(), fazhundel::Error>(())
+    /// ```
+    pub fn parse_error(&self, sheet: u32, text: &str) -> Result<Option<Range<usize>>, Error> {
+        self.book.parse_error(sheet, text)
     }
 
     /// The words in capitals that the formula of the text uses as names, in its order and each once, also where there is no such

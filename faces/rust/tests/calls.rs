@@ -458,6 +458,17 @@ fn texts_of_formulas_are_read() {
     assert_eq!(book.names_in(0, "=ab+rate*AB").unwrap(), ["AB", "RATE"]);
     assert_eq!(book.names_in(0, "=1"), Ok(vec![]));
     assert_eq!(book.normal_text(0, "sum"), refused(Refusal::BadFormula));
+    for (text, part) in [
+        ("=1+", 3..3),
+        ("=1 two", 3..6),
+        ("=\"hüte", 1..7),
+        ("sum", 0..3),
+        ("=)", 1..2),
+    ] {
+        assert_eq!(book.parse_error(0, text), Ok(Some(part)), "{text}");
+    }
+    assert_eq!(book.parse_error(0, "=A1&\"hüte\""), Ok(None));
+    assert_eq!(book.parse_error(9, "=1"), refused(Refusal::NoSheet));
     assert_eq!(book.names_in(0, "=ab+"), refused(Refusal::BadFormula));
     assert_eq!(book.normal_text(9, "=1"), refused(Refusal::NoSheet));
     assert_eq!(book.names_in(9, "=ab"), refused(Refusal::NoSheet));

@@ -104,6 +104,15 @@ pub struct Change {
     pub to_col: u32,
 }
 
+/// A part of a text.
+#[repr(C)]
+#[derive(Default)]
+pub struct Wrong {
+    pub is_wrong: u32,
+    pub start: usize,
+    pub length: usize,
+}
+
 /// How much room a list needs: the counts of links, and the sizes of any other list.
 #[repr(C)]
 #[derive(Default)]
@@ -208,6 +217,7 @@ extern "C" {
                         length: *mut usize) -> Status;
     pub fn fz_normal_text(book: *mut Book, sheet: u32, text: *const u8, text_length: usize, room: *mut u8, size: usize,
                           length: *mut usize) -> Status;
+    pub fn fz_parse_error(book: *mut Book, sheet: u32, text: *const u8, length: usize, wrong: *mut Wrong) -> Status;
     pub fn fz_names_in(book: *mut Book, sheet: u32, text: *const u8, text_length: usize, names: *mut Name, name_room: usize,
                        words: *mut u8, words_size: usize, sizes: *mut Sizes) -> Status;
 
