@@ -4,6 +4,7 @@ pub mod LinkedAnew
 pub mod Noted
 pub mod Relinked
 pub mod SeekingNames
+pub mod Unmarked
 pub mod UnderWords
 pub mod LinkTests
 pub mod TakenAlong

@@ -27,7 +27,7 @@ impl Values {
     ///
     /// Afterwards what is kept of every place and every name is its value, and there are no marks. For want of memory the
     /// marks stay, and the values follow still. Costs the links of the nodes that were marked since they were last linked, and the
-    /// steps of what reaches a mark.
+    /// steps of what reaches a mark; nothing where there are no marks.
     pub fn refresh<T: Trees, C: Customs, L: Ledger>(
         &mut self,
         trees: &mut T,
@@ -48,6 +48,9 @@ impl Values {
         ensures words { T.words trees.new ≡ T.words trees.old }
         ensures reads { T.leaves trees.old trees.new }
     {
+        if self.marks().items().is_empty() {
+            return Ok(());
+        }
         self.link(trees)?;
         self.recalc
             .recalculate(&self.graph, trees, customs, day, steps)

@@ -8,6 +8,7 @@ use Rattle.dep_graph.specs.declared.node.Node.{Node}
 use Rattle.dep_graph.proofs.Places.{has_first}
 use Rattle.kept_values.specs.Values.{TakesSteps, marks_in}
 use Rattle.kept_values.specs.declared.values.Values.{Values}
+use Rattle.kept_values.proofs.Unmarked as unmarked
 use Rattle.session_values.specs.Refreshed.{IsUnmarked, TakesStepsIn}
 use Rattle.session_values.specs.Touched.{AreTouched}
 
@@ -18,7 +19,7 @@ any_steps b words customs today marks old new (nodes, once, reach, within) = (no
 -- no step is a step of nothing
 pub no_steps : (b : Workbook) (words : List (List ℕ)) (customs : List (List ℕ × Rule)) (today : ℤ) (values : Option Values) (n : ℕ) → TakesStepsIn b words customs today values n n
 no_steps b words customs today None n = ([], (λ i j d below inside. absurd (omega (arith, inside))), omega arith)
-no_steps b words customs today (Some v) n = ([], (λ i j d below inside. absurd (omega (arith, inside))), (λ a x h is. absurd (false≢true h)), omega arith)
+no_steps b words customs today (Some v) n = unmarked.no_steps b words customs today (marks_in v) n
 
 -- a list that has no node is empty
 none_there : (nodes : List Node) → ((a : Node) → has a nodes ≡ true → ⊥) → nodes ≡ []

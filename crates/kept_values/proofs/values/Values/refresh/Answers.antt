@@ -12,7 +12,23 @@ use Rattle.kept_values.specs.Values.{TakesSteps}
 use Rattle.kept_values.proofs.Following.{on_err, to_follow}
 use Rattle.kept_values.proofs.LinkedAnew.{AreRightOn, IsFitOn, recalculated, steps_taken}
 use Rattle.kept_values.proofs.Relinked.{links_exact, worked_out}
+use Rattle.kept_values.proofs.Unmarked.{no_steps, none_marked, unmarked_right}
 use Rattle.kept_values.proofs.values.Values.refresh.Goals as goal
+
+pub returns-then-is_empty-clause-right : goal.returns-then-is_empty-clause-right
+returns-then-is_empty-clause-right g c =
+    unmarked_right (g.T.Trees.workbook c.args.trees.now) (g.T.Trees.words c.args.trees.now) (g.C.Customs.customs c.args.customs.now) c.args.day (marks_in c.args.self.now.recalc) (kept_in c.args.self.now.recalc) 
+    (none_marked c.items.result.now (marks_in c.args.self.now.recalc) c.is_empty.result (c.items.ensures ∙ c.marks.ensures) c.is_empty.ensures c.if-is_empty.true) c.requires.follows.fit
+
+pub returns-then-is_empty-clause-unmarked : goal.returns-then-is_empty-clause-unmarked
+returns-then-is_empty-clause-unmarked _ c = none_marked c.items.result.now (marks_in c.args.self.now.recalc) c.is_empty.result (c.items.ensures ∙ c.marks.ensures) c.is_empty.ensures c.if-is_empty.true
+
+pub returns-then-is_empty-clause-most : goal.returns-then-is_empty-clause-most
+returns-then-is_empty-clause-most g c =
+    no_steps (g.T.Trees.workbook c.args.trees.now) (g.T.Trees.words c.args.trees.now) (g.C.Customs.customs c.args.customs.now) c.args.day (marks_in c.args.self.now.recalc) c.args.steps.now
+
+pub returns-then-is_empty-clause-reads : goal.returns-then-is_empty-clause-reads
+returns-then-is_empty-clause-reads g c = g.T.Trees.laws.none _
 
 pub link-requires-clause-follows : goal.link-requires-clause-follows
 link-requires-clause-follows g c = (g.C.Customs.customs c.args.customs.now, c.args.day, c.requires.follows)
