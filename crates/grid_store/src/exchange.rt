@@ -178,8 +178,11 @@ fn is_one_cell<V>(emptied: &[Place], placed: &[(Place, V)]) -> bool
 fn left_over(alloc: Global, places: &[Place], targets: &[Place]) -> Result<Vec<Place>, AllocError>
     ensures { IfOk result (λ left. left.items ≡ filter (λ p. not (is_among targets.now p)) places.now) }
 {
-    let targets = set_of(alloc, targets)?;
     let mut left = Vec::new(alloc);
+    if places.is_empty() {
+        return Ok(left);
+    }
+    let targets = set_of(alloc, targets)?;
     for at in places {
         push_if(&mut left, !targets.contains(at), *at)?;
     }
