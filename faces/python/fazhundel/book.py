@@ -1,26 +1,23 @@
 """Workbooks."""
 from contextlib import contextmanager
-from ctypes import byref, c_size_t, c_uint8, c_uint32, create_string_buffer
+from ctypes import byref, c_uint8, c_uint32
 from datetime import date
 from decimal import Decimal
-from threading import get_ident
-from typing import Callable, Dict, Iterator, List, Mapping, Optional, Tuple, Union
+from typing import Dict, Iterator, List, Mapping, Optional, Union
 
 from . import library
+from .calls import Calls
 from .changes import row_of
-from .library import CALLED, NO_NUMBER
+from .library import NO_NUMBER
 from .rules import Bands, Tiers, table
-from .statuses import NO_ROOM, Refusal, check
-from .values import Block, Fault, Kind, Link, Name, Place, Value, decimal, millionths
+from .statuses import Refusal
+from .values import Block, Kind, Link, Name, Place, Value, millionths
 
 # The day whose serial number is 0.
 DAY_0 = date(1899, 12, 30)
 
-# How many bytes, and how many rows, a first try has room for.
-ROOM, ROWS = 256, 16
 
-
-class Workbook:
+class Workbook(Calls):
     """A workbook without sheets, of which `undo_limit` steps can be undone, at most 1,000.
 
     Formulas see `today` as the day, without it the local day of the clock, and can call the functions of `rules` by their words.
@@ -32,8 +29,7 @@ class Workbook:
         today: Optional[date] = None,
         rules: Optional[Mapping[str, Union[Bands, Tiers]]] = None,
     ) -> None:
-        self._book = library.Book()
-        self._thread = get_ident()
+        super().__init__()
         told = table(rules or {})
         day = ((today or date.today()) - DAY_0).days
         self._do("open", undo_limit, day, told.rules, len(told.rules), told.pairs, len(told.pairs), told.words, len(told.words))
@@ -147,8 +143,7 @@ class Workbook:
 
     def names(self) -> List[Name]:
         """All names: those of the whole workbook, then those of each sheet, within a scope by their words in capitals."""
-        rows, words = self._list("names", library.Name)
-        return [Name(None if row.scope == NO_NUMBER else row.scope, _word(row, words)) for row in rows]
+        return [self._name(*row) for row in self._list("names", library.NAME_ROW)]
 
     def name_text(self, name: str, scope: Optional[int] = None) -> str:
         """The text of the formula of a scope's own name."""
@@ -328,8 +323,8 @@ class Workbook:
 
     def names_in(self, sheet: int, text: str) -> List[str]:
         """The words in capitals that the formula of the text uses as names, each once."""
-        rows, words = self._list("names_in", library.Name, sheet, *_text(text))
-        return [_word(row, words) for row in rows]
+        rows = self._list("names_in", library.NAME_ROW, sheet, *_text(text))
+        return [self._room.text(start, length) for _, start, length in rows]
 
     def parse_error(self, sheet: int, text: str) -> Optional[slice]:
         """Where the text stops being a formula, as a slice of it: its first token at which no formula goes on. None where it is one.
@@ -364,72 +359,25 @@ class Workbook:
         """The cells of a sheet on a cycle, row by row: those whose needs lead back to them, and none that only reads one."""
         return self._places("on_cycle", sheet, sheet)
 
-    # The calls of the library.
-
-    def _call(self, name: str, *words: object) -> int:
-        if get_ident() != self._thread:
-            raise RuntimeError("a workbook is used by the thread that opened it")
-        return getattr(CALLED, f"fz_{name}")(byref(self._book), *words)
-
-    def _do(self, name: str, *words: object) -> None:
-        check(self._call(name, *words))
-
-    # Asks with a small room, and once more with one that is long enough where that was too short.
-    def _ask(self, ask: Callable[[int], int], needed: Callable[[], int]) -> None:
-        status = ask(ROOM)
-        if status == NO_ROOM:
-            status = ask(needed())
-        check(status)
-
-    def _text(self, name: str, *words: object) -> str:
-        length, rooms = c_size_t(), []
-
-        def ask(size: int) -> int:
-            rooms.append(create_string_buffer(size))
-            return self._call(name, *words, rooms[-1], size, byref(length))
-
-        self._ask(ask, lambda: length.value)
-        return rooms[-1].raw[: length.value].decode()
-
-    def _value(self, name: str, *words: object) -> Value:
-        shown, rooms = library.Shown(), []
-
-        def ask(size: int) -> int:
-            rooms.append(create_string_buffer(size))
-            return self._call(name, *words, rooms[-1], size, byref(shown))
-
-        self._ask(ask, lambda: shown.length)
-        return _shown(shown, rooms[-1].raw)
-
-    def _places(self, name: str, sheet: int, *words: object) -> List[Place]:
-        count, rooms = c_size_t(), []
-
-        def ask(size: int) -> int:
-            rooms.append((library.Place * size)())
-            return self._call(name, *words, rooms[-1], size, byref(count))
-
-        self._ask(ask, lambda: count.value)
-        return [Place(sheet, row.row, row.col) for row in rooms[-1][: count.value]]
-
-    # The rows of a list and the bytes of their texts.
-    def _list(self, name: str, row: type, *words: object) -> Tuple[list, bytes]:
-        sizes, size, room_size = library.Sizes(), ROWS, ROOM
-        while True:
-            rows, room = (row * size)(), create_string_buffer(room_size)
-            status = self._call(name, *words, rows, size, room, room_size, byref(sizes))
-            if status != NO_ROOM:
-                break
-            size, room_size = sizes.rows, max(sizes.bytes, 1)
-        check(status)
-        return rows[: sizes.rows], room.raw
-
-    def _cells(self, name: str, area: Block) -> Dict[Place, Value]:
-        rows, texts = self._list(name, library.Cell, *area)
-        return {Place(area.sheet, row.row, row.col): _shown(row.shown, texts, row.text_start) for row in rows}
+    # Lists of the library.
 
     def _links(self, name: str, at: Place) -> List[Link]:
-        rows, words = self._list(name, library.Link, *at)
-        return [_link(row, words) for row in rows]
+        return [self._link(*row) for row in self._list(name, library.LINK_ROW, *at)]
+
+    def _link(self, kind: int, sheet: int, top: int, left: int, bottom: int, right: int, start: int, length: int) -> Link:
+        if kind == 0:
+            return Place(sheet, top, left)
+        if kind == 1:
+            return Block(sheet, top, left, bottom, right)
+        return self._name(sheet, start, length)
+
+    def _name(self, scope: int, start: int, length: int) -> Name:
+        return Name(None if scope == NO_NUMBER else scope, self._room.text(start, length))
+
+    def _cells(self, name: str, area: Block) -> Dict[Place, Value]:
+        sheet, value = area.sheet, self._room.value
+        rows = self._list(name, library.CELL_ROW, *area)
+        return {Place(sheet, row, col): value(kind, number, start, length) for row, col, kind, number, length, start in rows}
 
 
 def _text(text: str) -> tuple:
@@ -440,26 +388,3 @@ def _text(text: str) -> tuple:
 
 def _scope(scope: Optional[int]) -> int:
     return NO_NUMBER if scope is None else scope
-
-
-def _shown(shown: library.Shown, texts: bytes, start: int = 0) -> Value:
-    """A value, whose text begins there among the texts."""
-    return (
-        lambda: None,
-        lambda: decimal(shown.number),
-        lambda: texts[start : start + shown.length].decode(),
-        lambda: shown.number == 1,
-        lambda: Fault(shown.number),
-    )[shown.kind]()
-
-
-def _word(row: Union[library.Link, library.Name], words: bytes) -> str:
-    return words[row.word_start : row.word_start + row.word_length].decode()
-
-
-def _link(row: library.Link, words: bytes) -> Link:
-    if row.kind == 0:
-        return Place(row.sheet, row.top, row.left)
-    if row.kind == 1:
-        return Block(row.sheet, row.top, row.left, row.bottom, row.right)
-    return Name(None if row.sheet == NO_NUMBER else row.sheet, _word(row, words))

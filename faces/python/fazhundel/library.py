@@ -3,8 +3,10 @@
 It is looked for where FAZHUNDEL_LIBRARY says, else beside the faces, where `faces/build.sh` puts it.
 """
 import os
-from ctypes import CDLL, POINTER, Array, Structure, c_bool, c_char_p, c_int32, c_int64, c_size_t, c_uint8, c_uint32, c_uint64, c_void_p
+from ctypes import CDLL, POINTER, Structure, c_bool, c_char_p, c_int32, c_int64, c_size_t, c_uint8, c_uint32, c_uint64, c_void_p
 from pathlib import Path
+from struct import Struct as RowLayout
+from typing import Callable, Dict
 
 NO_NUMBER = 2**32 - 1
 
@@ -33,33 +35,8 @@ class Shown(Structure):
     _fields_ = [("kind", c_uint32), ("number", c_int64), ("length", c_size_t)]
 
 
-class Link(Structure):
-    _fields_ = [
-        ("kind", c_uint32),
-        ("sheet", c_uint32),
-        ("top", c_uint32),
-        ("left", c_uint32),
-        ("bottom", c_uint32),
-        ("right", c_uint32),
-        ("word_start", c_size_t),
-        ("word_length", c_size_t),
-    ]
-
-
-class Place(Structure):
-    _fields_ = [("row", c_uint32), ("col", c_uint32)]
-
-
 class Used(Structure):
     _fields_ = [("is_used", c_uint32), ("top", c_uint32), ("left", c_uint32), ("bottom", c_uint32), ("right", c_uint32)]
-
-
-class Cell(Structure):
-    _fields_ = [("row", c_uint32), ("col", c_uint32), ("shown", Shown), ("text_start", c_size_t)]
-
-
-class Name(Structure):
-    _fields_ = [("scope", c_uint32), ("word_start", c_size_t), ("word_length", c_size_t)]
 
 
 class Written(Structure):
@@ -89,11 +66,15 @@ class Sizes(Structure):
     _fields_ = [("rows", c_size_t), ("bytes", c_size_t)]
 
 
+# The rows of lists, as they lie in memory: kind, sheet, four numbers and the word of a link; row and column of a place; row, column, what
+# is shown (kind, number, length) and where its text begins of a cell; scope and word of a name.
+LINK_ROW, PLACE_ROW, CELL_ROW, NAME_ROW = (RowLayout(f"@{fields}") for fields in ("IIIIIINN", "II", "IIIqNN", "INN"))
+
 U32, BYTES, ROOM = [c_uint32], [c_char_p, c_size_t], [c_char_p, c_size_t]
 PLACE, BLOCK = U32 * 3, U32 * 5
 LENGTH, SHOWN = [POINTER(c_size_t)], [POINTER(Shown)]
-LINKS, CELLS, NAMES = ([POINTER(row), c_size_t, *ROOM, POINTER(Sizes)] for row in (Link, Cell, Name))
-PLACES = [POINTER(Place), c_size_t, POINTER(c_size_t)]
+LIST = [c_void_p, c_size_t, *ROOM, POINTER(Sizes)]
+PLACES = [c_void_p, c_size_t, POINTER(c_size_t)]
 
 # The parameters of each call behind the book, and what it answers.
 CALLS = {
@@ -131,15 +112,15 @@ CALLS = {
     "filled": (BLOCK + PLACES, c_uint8),
     "filled_in": (U32 + PLACES, c_uint8),
     "used_area": (U32 + [POINTER(Used)], c_uint8),
-    "values": (BLOCK + CELLS, c_uint8),
-    "contents": (BLOCK + CELLS, c_uint8),
-    "names": (NAMES, c_uint8),
+    "values": (BLOCK + LIST, c_uint8),
+    "contents": (BLOCK + LIST, c_uint8),
+    "names": (LIST, c_uint8),
     "name_text": (BYTES + U32 + ROOM + LENGTH, c_uint8),
     "normal_text": (U32 + BYTES + ROOM + LENGTH, c_uint8),
     "parse_error": (U32 + BYTES + [POINTER(Wrong)], c_uint8),
-    "names_in": (U32 + BYTES + NAMES, c_uint8),
-    "precedents": (PLACE + LINKS, c_uint8),
-    "dependents": (PLACE + LINKS, c_uint8),
+    "names_in": (U32 + BYTES + LIST, c_uint8),
+    "precedents": (PLACE + LIST, c_uint8),
+    "dependents": (PLACE + LIST, c_uint8),
     "on_cycle": (U32 + PLACES, c_uint8),
     **{name: ([], c_bool) for name in ("can_undo", "can_redo", "has_batch", "is_suspended", "is_clipboard_empty")},
     "cause": ([POINTER(Change), *BYTES, *BYTES, POINTER(c_uint8)], c_uint8),
@@ -150,14 +131,14 @@ CALLS = {
 }
 
 
-def load() -> CDLL:
-    """The library, with the types of its calls."""
+def load() -> Dict[str, Callable]:
+    """The calls of the library by their names, with the types of their parameters."""
     beside = Path(__file__).resolve().parents[2] / "out" / "libfazhundel.so"
     found = CDLL(os.environ.get("FAZHUNDEL_LIBRARY", str(beside)))
+    calls = {name: getattr(found, f"fz_{name}") for name in CALLS}
     for name, (parameters, answer) in CALLS.items():
-        call = getattr(found, f"fz_{name}")
-        call.argtypes, call.restype = [POINTER(Book), *parameters], answer
-    return found
+        calls[name].argtypes, calls[name].restype = [POINTER(Book), *parameters], answer
+    return calls
 
 
 CALLED = load()

@@ -1,10 +1,12 @@
 """Places, values and links."""
-from decimal import Decimal
+from decimal import Context, Decimal
 from enum import IntEnum
-from fractions import Fraction
 from typing import NamedTuple, Optional, Union
 
 MILLION = 1_000_000
+
+# Enough digits for every number of 64 bits, whatever the program's own context says.
+EXACT = Context(prec=19)
 
 
 class Place(NamedTuple):
@@ -66,16 +68,16 @@ Link = Union[Place, Block, Name]
 
 def decimal(millionths: int) -> Decimal:
     """The number of so many millionths, without zeros behind it."""
-    whole, rest = divmod(abs(millionths), MILLION)
-    text = f"{whole}.{rest:06}".rstrip("0").rstrip(".")
-    return Decimal(f"-{text}" if millionths < 0 else text)
+    whole, rest = divmod(millionths, MILLION)
+    return EXACT.normalize(EXACT.scaleb(Decimal(millionths), -6)) if rest else Decimal(whole)
 
 
 def millionths(number: Union[Decimal, int]) -> int:
     """The number as a whole number of millionths. ValueError where it is none of 64 bits, TypeError for any other type."""
     if not isinstance(number, (Decimal, int)) or isinstance(number, bool):
         raise TypeError(f"a Decimal or an int was expected, not {type(number).__name__}")
-    scaled = Fraction(number) * MILLION
-    if scaled.denominator != 1 or not -(2**63) <= scaled < 2**63:
+    above, below = number.as_integer_ratio()
+    scaled, rest = divmod(above * MILLION, below)
+    if rest or not -(2**63) <= scaled < 2**63:
         raise ValueError(f"{number} is no number of millionths")
-    return int(scaled)
+    return scaled
