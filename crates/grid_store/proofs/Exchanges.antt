@@ -18,7 +18,7 @@ use Rattle.shift_core.specs.Maps.{PlaceMap}
 use Rattle.shift_core.proofs.CarriedEntries.{eq_by_cmp-decides}
 use Rattle.shift_core.proofs.MovedMaps.{find_place}
 use Rattle.grid_store.specs.Grid.{outside, with_entries, within, without_places}
-use Rattle.grid_store.specs.internal.Exchange.{AreFilled, HasSame, LacksAll, is_among, places_of}
+use Rattle.grid_store.specs.internal.Exchange.{AreFilled, HasSame, LacksAll, is_among, is_one_cell, places_of}
 use Rattle.grid_store.proofs.Fills.{first_of_two, get-with}
 use Rattle.grid_store.proofs.PlaceMaps.{entries-kept, get-kept, same_places}
 
@@ -278,3 +278,22 @@ with-both (e ∷ es) fs m = ap (λ n. fin.insert n e.0 e.1) (with-both es fs m)
 pub each-both : {Y : Type 0} (P : Y → Type 0) (xs ys : List Y) → AllByRecursion P xs → AllByRecursion P ys → AllByRecursion P (xs ++ ys)
 each-both P [] ys h k = k
 each-both P (x ∷ xs) ys h k = (h.0, each-both P xs ys h.1 k)
+
+-- where one cell is placed it makes no difference that its place is emptied first
+pub one_placed : {X : Type 0} (ps : List Place) (es : List (Place × X)) (m : PlaceMap X) → is_one_cell ps es ≡ true → with_entries es m ≡ with_entries es (without_places ps m)
+one_placed [] [] m h = cc
+one_placed [] (e ∷ []) m h = refl
+one_placed [] (e ∷ f ∷ es) m h = cc
+one_placed (p ∷ []) [] m h = cc
+one_placed (p ∷ []) (e ∷ []) m h =
+    same_places (fin.insert m e.0 e.1) (fin.insert (fin.remove m p) e.0 e.1) (λ q.
+    get-insert place_cmp-IsTotalOrder m e.0 e.1 q ∙ over (eq_by_cmp place_cmp q e.0) (eq_by_cmp place_cmp q p) e.1 (get m q) (ap (eq_by_cmp place_cmp q) (sym (same-place p e.0 h)))
+    ∙ ap (cond (eq_by_cmp place_cmp q e.0) (Some e.1)) (sym (get-remove place_cmp-IsTotalOrder m p q)) ∙ sym (get-insert place_cmp-IsTotalOrder (fin.remove m p) e.0 e.1 q))
+  where
+    over : {X : Type 0} (a b : Bool) (x : X) (r : Option X) → a ≡ b → cond a (Some x) r ≡ cond a (Some x) (cond b None r)
+    over true b x r h = refl
+    over false true x r h = cc
+    over false false x r h = refl
+one_placed (p ∷ []) (e ∷ f ∷ es) m h = cc
+one_placed (p ∷ r ∷ ps) [] m h = cc
+one_placed (p ∷ r ∷ ps) (e ∷ es) m h = cc

@@ -3,6 +3,7 @@ pub mod KeyPlaces
 pub mod TurnedKeys
 pub mod Views
 pub mod Listings
+pub mod Stretches
 pub mod PlaceMaps
 pub mod Renewals
 pub mod Carries

@@ -51,12 +51,12 @@ IsOn sheet lines k = (k.sheet ≡ sheet) × (lines.to ≤ k.row) × (k.row < lin
 abbrev pub IsIn : ℕ → ℕ → Run → CellKey → Type 0
 IsIn sheet row lines k = (k.sheet ≡ sheet) × (k.row ≡ row) × (lines.to ≤ k.col) × (k.col < lines.to + lines.count)
 
--- the block's cells on one line of rows and some lines of columns, as far as their keys have been gone through
-pub record Progress {X : Type 0} (rows cols : SheetLines) (es : List (CellKey × X)) (area : Block) (row : ℕ) (lines : Run) (before found : BTreeMap Place (Bor X)) (rest : List (CellKey × X)) : Type 0 where
+-- the block's cells under some keys, as far as these have been gone through
+pub record Progress {X : Type 0} (rows cols : SheetLines) (es : List (CellKey × X)) (area : Block) (IsSought : CellKey → Type 0) (before found : BTreeMap Place (Bor X)) (rest : List (CellKey × X)) : Type 0 where
   pub cells : AreCellsOf area (seen rows cols es) found
   pub still : StillHas before found
   pub entries : AllByRecursion (λ e. kept es e.0 ≡ Some e.1) rest
-  pub pending : (k : CellKey) (q : Place) → IsSome (kept es k) → IsIn area.sheet row lines k → place_at rows cols k ≡ Some q → covers area q ≡ true → IsSome (look found q) ⊎ IsSome (kept rest k)
+  pub pending : (k : CellKey) (q : Place) → IsSome (kept es k) → IsSought k → place_at rows cols k ≡ Some q → covers area q ≡ true → IsSome (look found q) ⊎ IsSome (kept rest k)
 
 -- the key of a place in the block is on the lines of its row
 on_lines : (rows cols : SheetLines) (area : Block) (lines : Run) (q : Place) (k : CellKey) → AreLinesAt (table_of rows area.sheet) lines → Covers area q → key_at rows cols q ≡ Some k → lines.from ≤ q.row → q.row < lines.from + lines.count
@@ -97,15 +97,15 @@ pub still_or : {X : Type 0} (b : Bool) (c : X) (r : Option X) → IsSome r → I
 still_or true c r h = refl
 still_or false c r h = h
 
-module _ {X : Type 0} (rows cols : SheetLines) (es : List (CellKey × X)) (area : Block) (row : ℕ) (lines : Run) (before : BTreeMap Place (Bor X)) where
+module _ {X : Type 0} (rows cols : SheetLines) (es : List (CellKey × X)) (area : Block) (IsSought : CellKey → Type 0) (before : BTreeMap Place (Bor X)) where
   -- the first of what is left is not in the block
   passed_on : (e : CellKey × X) (rest : List (CellKey × X)) (k : CellKey) (q : Place) (b : Bool) (P : Type 0) → is_at (key_cmp k) e.0 ≡ b → (place_at rows cols e.0 ≡ Some q → covers area q ≡ true → ⊥)
       → place_at rows cols k ≡ Some q → covers area q ≡ true → IsSome (cond b (Some e.1) (kept rest k)) → P ⊎ IsSome (kept rest k)
   passed_on e rest k q true P same out at there some = absurd (out (ap (place_at rows cols) (sym (same_key_test k e.0 same)) ∙ at) there)
   passed_on e rest k q false P same out at there some = inr some
 
-  pub pass : (found : BTreeMap Place (Bor X)) (e : CellKey × X) (rest : List (CellKey × X)) → Progress rows cols es area row lines before found (e ∷ rest)
-      → ((q : Place) → place_at rows cols e.0 ≡ Some q → covers area q ≡ true → ⊥) → Progress rows cols es area row lines before found rest
+  pub pass : (found : BTreeMap Place (Bor X)) (e : CellKey × X) (rest : List (CellKey × X)) → Progress rows cols es area IsSought before found (e ∷ rest)
+      → ((q : Place) → place_at rows cols e.0 ≡ Some q → covers area q ≡ true → ⊥) → Progress rows cols es area IsSought before found rest
   pass found e rest p out = record {
     cells = p.cells;
     still = p.still;
@@ -125,8 +125,8 @@ module _ {X : Type 0} (rows cols : SheetLines) (es : List (CellKey × X)) (area 
       inl (ap is_some (added q ∙ ap (λ b. cond b (Some e.1) (look found q)) hit))
   added_pending found new e rest at k q false same here added there some = inr some
 
-  pub take_up : (found new : BTreeMap Place (Bor X)) (e : CellKey × X) (rest : List (CellKey × X)) (at : Place) → Progress rows cols es area row lines before found (e ∷ rest)
-      → place_at rows cols e.0 ≡ Some at → covers area at ≡ true → IsAdded found at e.1 new → Progress rows cols es area row lines before new rest
+  pub take_up : (found new : BTreeMap Place (Bor X)) (e : CellKey × X) (rest : List (CellKey × X)) (at : Place) → Progress rows cols es area IsSought before found (e ∷ rest)
+      → place_at rows cols e.0 ≡ Some at → covers area at ≡ true → IsAdded found at e.1 new → Progress rows cols es area IsSought before new rest
   take_up found new e rest at p here there added = record {
     cells = λ q c h. added_cell rows cols es area found at q e.1 c (is_at (place_cmp at) q) refl there (get-seen_at rows cols es at e.0 (key_of_place rows cols e.0 at here) ∙ p.entries.0) (p.cells q c) (sym (added q) ∙ h);
     still = λ q some. subst IsSome (sym (added q)) (still_or (is_at (place_cmp at) q) e.1 (look found q) (p.still q some));
@@ -137,14 +137,14 @@ module _ {X : Type 0} (rows cols : SheetLines) (es : List (CellKey × X)) (area 
     ];
   }
 
-  -- where no key is left, all cells on the lines are found
-  pub gone_through : (found : BTreeMap Place (Bor X)) → Progress rows cols es area row lines before found [] → AreLinesAt (table_of cols area.sheet) lines
-      → (k : CellKey) (q : Place) → IsSome (kept es k) → k.row ≡ row → place_at rows cols k ≡ Some q → covers area q ≡ true → lines.from ≤ q.col → q.col < lines.from + lines.count → IsSome (look found q)
-  gone_through found p lines_at k q some on at there low high =
-      elim (p.pending k q some (in_lines rows cols area row lines q k lines_at (Covers-from_covers area q there) (key_of_place rows cols k q at) on low high) at there) [
-        | inl h ↦ h
-        | inr h ↦ cc
-      ]
+-- where no key is left, all cells on the lines are found
+pub gone_through : {X : Type 0} (rows cols : SheetLines) (es : List (CellKey × X)) (area : Block) (row : ℕ) (lines : Run) (before found : BTreeMap Place (Bor X)) → Progress rows cols es area (IsIn area.sheet row lines) before found [] → AreLinesAt (table_of cols area.sheet) lines
+    → (k : CellKey) (q : Place) → IsSome (kept es k) → k.row ≡ row → place_at rows cols k ≡ Some q → covers area q ≡ true → lines.from ≤ q.col → q.col < lines.from + lines.count → IsSome (look found q)
+gone_through rows cols es area row lines before found p lines_at k q some on at there low high =
+    elim (p.pending k q some (in_lines rows cols area row lines q k lines_at (Covers-from_covers area q there) (key_of_place rows cols k q at) on low high) at there) [
+      | inl h ↦ h
+      | inr h ↦ cc
+    ]
 
 pub both : (a b : Bool) → a ≡ true → b ≡ false → (a && not b) ≡ true
 both true false e f = refl
@@ -168,29 +168,25 @@ from_first_in sheet a b c r s e f le = grind (arith, nat_tests)
 before_end_in : (sheet a b c r s : ℕ) → s ≡ sheet → r ≡ b → c < a → is_le (ordering_then (nat_cmp sheet s) (ordering_then (nat_cmp b r) (nat_cmp a c))) ≡ false
 before_end_in sheet a b c r s e f lt = grind (arith, nat_tests)
 
-in_range : (sheet row : ℕ) (lines : Run) (k : CellKey) → IsIn sheet row lines k → range_contains key_cmp (Included (first_in sheet row lines)) (Excluded (end_in sheet row lines)) k ≡ true
+pub in_range : (sheet row : ℕ) (lines : Run) (k : CellKey) → IsIn sheet row lines k → range_contains key_cmp (Included (first_in sheet row lines)) (Excluded (end_in sheet row lines)) k ≡ true
 in_range sheet row lines k on =
     both _ _ (from_first_in sheet lines.to row k.col k.row k.sheet on.0 on.1 on.2) (before_end_in sheet (lines.to + lines.count) row k.col k.row k.sheet on.0 on.1 on.3)
 
--- the keys on them are those of their range
-kept_in : {X : Type 0} (sheet row : ℕ) (lines : Run) (es : List (CellKey × X)) (k : CellKey) → IsIn sheet row lines k
-    → kept (entries_between key_cmp (Included (first_in sheet row lines)) (Excluded (end_in sheet row lines)) es) k ≡ kept es k
-kept_in sheet row lines es k on =
-    lookup-filter-keys (is_at (key_cmp k)) (range_contains key_cmp (Included (first_in sheet row lines)) (Excluded (end_in sheet row lines))) true
-    (λ l same. ap (range_contains key_cmp (Included (first_in sheet row lines)) (Excluded (end_in sheet row lines))) (sym (same_key_test k l same)) ∙ in_range sheet row lines k on) es
+-- a key of a range is kept as it is in the whole
+kept_between : {X : Type 0} (low high : Bound CellKey) (es : List (CellKey × X)) (k : CellKey) → range_contains key_cmp low high k ≡ true → kept (entries_between key_cmp low high es) k ≡ kept es k
+kept_between low high es k inside =
+    lookup-filter-keys (is_at (key_cmp k)) (range_contains key_cmp low high) true (λ l same. ap (range_contains key_cmp low high) (sym (same_key_test k l same)) ∙ inside) es
 
--- before the first key
-pub begun : {X : Type 0} (rows cols : SheetLines) (m : BTreeMap CellKey X) (area : Block) (row : ℕ) (lines : Run) (found : BTreeMap Place (Bor X)) (range rest : List (CellKey × X)) → AreCellsOf area (seen rows cols m.entries) found
-    → rest ≡ range → range ≡ entries_between key_cmp (Included (first_in area.sheet row lines)) (Excluded (end_in area.sheet row lines)) m.entries
-    → All (IsEntryInRange key_cmp (Included (first_in area.sheet row lines)) (Excluded (end_in area.sheet row lines)) m) range → Progress rows cols m.entries area row lines found found rest
-begun rows cols m area row lines found range rest cells same between all =
-    let first = Included (first_in area.sheet row lines) in
-    let end = Excluded (end_in area.sheet row lines) in record {
-      cells = cells;
-      still = λ q some. some;
-      entries = subst (AllByRecursion (λ e. kept m.entries e.0 ≡ Some e.1)) (sym same) (values_only first end m range (recursion_from_All (IsEntryInRange key_cmp first end m) range all));
-      pending = λ k q some on at there. inr (subst IsSome (sym (ap (λ r. kept r k) (same ∙ between) ∙ kept_in area.sheet row lines m.entries k on)) some);
-    }
+-- before the first key, where those that are sought are of the range
+pub begun : {X : Type 0} (rows cols : SheetLines) (m : BTreeMap CellKey X) (area : Block) (IsSought : CellKey → Type 0) (low high : Bound CellKey) (found : BTreeMap Place (Bor X)) (range rest : List (CellKey × X)) → AreCellsOf area (seen rows cols m.entries) found
+    → ((k : CellKey) → IsSought k → range_contains key_cmp low high k ≡ true) → rest ≡ range → range ≡ entries_between key_cmp low high m.entries
+    → All (IsEntryInRange key_cmp low high m) range → Progress rows cols m.entries area IsSought found found rest
+begun rows cols m area IsSought low high found range rest cells inside same between all = record {
+  cells = cells;
+  still = λ q some. some;
+  entries = subst (AllByRecursion (λ e. kept m.entries e.0 ≡ Some e.1)) (sym same) (values_only low high m range (recursion_from_All (IsEntryInRange key_cmp low high m) range all));
+  pending = λ k q some on at there. inr (subst IsSome (sym (ap (λ r. kept r k) (same ∙ between) ∙ kept_between low high m.entries k (inside k on))) some);
+}
 
 in_sheet : (sheet low high s r c : ℕ) → is_gt (ordering_then (nat_cmp sheet s) (ordering_then (nat_cmp low r) (nat_cmp 0 c))) ≡ false → ordering_then (nat_cmp s sheet) (ordering_then (nat_cmp r high) (nat_cmp c 0)) ≡ Less
     → (s ≡ sheet) × (low ≤ r) × (r < high)
@@ -200,7 +196,7 @@ in_rows : (sheet low high s r c : ℕ) → s ≡ sheet → low ≤ r → r < hig
     → (is_gt (ordering_then (nat_cmp sheet s) (ordering_then (nat_cmp low r) (nat_cmp 0 c))) ≡ false) × (ordering_then (nat_cmp s sheet) (ordering_then (nat_cmp r high) (nat_cmp c 0)) ≡ Less)
 in_rows sheet low high s r c e f g = (grind (arith, nat_tests), grind (arith, nat_tests))
 
-row_order : (sheet s t a b c d : ℕ) → s ≡ sheet → t ≡ sheet → is_gt (ordering_then (nat_cmp s t) (ordering_then (nat_cmp a b) (nat_cmp c d))) ≡ false → a ≤ b
+pub row_order : (sheet s t a b c d : ℕ) → s ≡ sheet → t ≡ sheet → is_gt (ordering_then (nat_cmp s t) (ordering_then (nat_cmp a b) (nat_cmp c d))) ≡ false → a ≤ b
 row_order sheet s t a b c d e f g = grind (arith, nat_tests)
 
 abbrev pub RowsRange : {X : Type 0} → BTreeMap CellKey X → ℕ → ℕ → ℕ → List (CellKey × X) → Type 0
@@ -303,7 +299,7 @@ pub search_begun : {X : Type 0} (rows cols : SheetLines) (m : BTreeMap CellKey X
     → All (IsEntryInRange key_cmp (Included (first_in area.sheet row lines)) (Excluded (end_in area.sheet row lines)) m) range → Search rows cols m.entries area row lines rest
 search_begun rows cols m area row lines range rest same between all = record {
   entries = subst (AllByRecursion (λ e. kept m.entries e.0 ≡ Some e.1)) (sym same) (values_only (Included (first_in area.sheet row lines)) (Excluded (end_in area.sheet row lines)) m range (recursion_from_All (IsEntryInRange key_cmp (Included (first_in area.sheet row lines)) (Excluded (end_in area.sheet row lines)) m) range all));
-  pending = λ k q some on at there. subst IsSome (sym (ap (λ r. kept r k) (same ∙ between) ∙ kept_in area.sheet row lines m.entries k on)) some;
+  pending = λ k q some on at there. subst IsSome (sym (ap (λ r. kept r k) (same ∙ between) ∙ kept_between (Included (first_in area.sheet row lines)) (Excluded (end_in area.sheet row lines)) m.entries k (in_range area.sheet row lines k on))) some;
 }
 
 next_pending : {X : Type 0} (rows cols : SheetLines) (area : Block) (e : CellKey × X) (rest : List (CellKey × X)) (k : CellKey) (q : Place) (b : Bool) → is_at (key_cmp k) e.0 ≡ b → (place_at rows cols e.0 ≡ Some q → covers area q ≡ true → ⊥)

@@ -1,5 +1,5 @@
 // Cells that are emptied and filled together, so that want of memory leaves the grid as it was.
-ghost use Rattle.std.specs.Prelude.{◌≡◌, ◌++◌, ◌∷◌, [], if◌then◌else◌, IfOk, OnOk, OnErr, IsSome, filter, is_none, is_some, not};
+ghost use Rattle.std.specs.Prelude.{◌≡◌, ◌++◌, ◌∷◌, [], if◌then◌else◌, IfOk, OnOk, OnErr, IsSome, filter, is_none, is_some, length, not};
 ghost use Rattle.std.specs.BTreeSet.{contains};
 ghost use Rattle.std.specs.FinMap as map;
 ghost use Rattle.cell_addr.specs.Order.{place_cmp};
@@ -7,7 +7,7 @@ ghost use Rattle.cell_addr.specs.Place.{IsInside};
 ghost use Rattle.cell_addr.specs.declared.place.Place.{Place};
 ghost use Rattle.grid_store.specs.Grid.{AreListedInside, KeepsLines, cells_of, items_of, with_entries, without_places};
 ghost use Rattle.grid_store.specs.internal.Lists.{AreEachInside};
-ghost use Rattle.grid_store.specs.internal.Exchange.{AreFilled, HasSame, LacksAll, is_among, places_of};
+ghost use Rattle.grid_store.specs.internal.Exchange.{AreFilled, HasSame, LacksAll, is_among, is_one_cell, places_of};
 
 use crate::grid::Grid;
 use crate::list::CellList;
@@ -17,14 +17,33 @@ use std::collections::BTreeSet;
 
 impl<V: Drop> Grid<V> {
     /// Empties the places, and then fills those of the list; of two cells at one place the first counts. For want of memory the
-    /// grid is as it was. Costs the places and the cells, each with the logarithm of the number of filled cells.
+    /// grid is as it was. Costs the places and the cells, each with the logarithm of the number of filled cells; where one cell is
+    /// placed, and no other place emptied, what [`Grid::put`] does.
     pub fn exchange(&mut self, emptied: &[Place], placed: CellList<V>) -> Result<(), AllocError>
         requires { AreListedInside (items_of placed) }
         ensures ok { OnOk result (cells_of self.new ≡ with_entries (items_of placed) (without_places emptied.now (cells_of self.old))) }
         ensures err { OnErr result (cells_of self.new ≡ cells_of self.old) }
         ensures lines { KeepsLines self.old self.new }
     {
+        if is_one_cell(emptied, placed.items()) {
+            return self.place_one(placed);
+        }
         self.replace(emptied, placed)
+    }
+
+    // Fills the place of the only cell of the list.
+    fn place_one(&mut self, list: CellList<V>) -> Result<(), AllocError>
+        requires inside { AreListedInside (items_of list) }
+        requires one { length (items_of list) ≡ 1 }
+        ensures ok { OnOk result (cells_of self.new ≡ with_entries (items_of list) (cells_of self.old)) }
+        ensures err { OnErr result (cells_of self.new ≡ cells_of self.old) }
+        ensures lines { KeepsLines self.old self.new }
+    {
+        let mut list = list;
+        match list.pop() {
+            Some((at, cell)) => self.set(at, cell),
+            None => unreachable!(),
+        }
     }
 
     // The same: all memory is taken before a cell is lost.
@@ -144,12 +163,26 @@ impl<V: Drop> Grid<V> {
     }
 }
 
+// Whether one cell is placed, and no place emptied but its own.
+fn is_one_cell<V>(emptied: &[Place], placed: &[(Place, V)]) -> bool
+    ensures { result ≡ is_one_cell emptied.now placed.now }
+{
+    match (emptied, placed) {
+        ([], [_]) => true,
+        ([at], [(to, _)]) => at == to,
+        _ => false,
+    }
+}
+
 // Those of the places that aren't among the targets.
 fn left_over(alloc: Global, places: &[Place], targets: &[Place]) -> Result<Vec<Place>, AllocError>
     ensures { IfOk result (λ left. left.items ≡ filter (λ p. not (is_among targets.now p)) places.now) }
 {
-    let targets = set_of(alloc, targets)?;
     let mut left = Vec::new(alloc);
+    if places.is_empty() {
+        return Ok(left);
+    }
+    let targets = set_of(alloc, targets)?;
     for at in places {
         push_if(&mut left, !targets.contains(at), *at)?;
     }

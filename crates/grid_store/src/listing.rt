@@ -5,7 +5,7 @@ ghost use Rattle.cell_addr.specs.Order.{place_cmp};
 ghost use Rattle.std.specs.FinMap as map;
 ghost use Rattle.stable_lines.specs.Sheets.{table_of};
 ghost use Rattle.grid_store.specs.Grid.{cells_of, items_of, seen_items, within};
-ghost use Rattle.grid_store.specs.internal.Listing.{AreCellsOf, AreLinesAt, HasCols, HasLines, HasRows, IsAdded, KeepsNone, StillHas, shown};
+ghost use Rattle.grid_store.specs.internal.Listing.{AreCellsOf, AreLinesAt, HasCols, HasLines, HasRows, IsAdded, KeepsNone, SpansColumns, StillHas, shown};
 
 use crate::columns::is_of_columns;
 use crate::duplicate::Duplicate;
@@ -43,9 +43,11 @@ impl<V: Duplicate> Grid<V> {
 }
 
 impl<V: Drop> Grid<V> {
-    /// The filled cells of the block, row by row. Costs about their number and that of its rows that hold any cell, these as often
-    /// as the lines of its columns stand in runs; not the number of its rows, nor of the cells beside it. Whole columns, but not
-    /// all of a sheet, cost the runs of their lines and each of their cells the logarithm of the number of filled cells.
+    /// The filled cells of the block, row by row. Costs about their number, each of them the logarithm of it, and the runs of its
+    /// rows' lines. Where rows that hold any cell hold some beside the block, each of these rows costs up to two logarithms of the
+    /// number of filled cells more; neither the number of its rows counts, nor that of the cells beside it. Where the lines of its
+    /// columns stand in several runs, each row that holds any cell costs such logarithms as often as there are runs. Whole columns,
+    /// but not all of a sheet, cost the runs of their lines and each of their cells the logarithm of the number of filled cells.
     pub fn listed_refs(&self, area: Block) -> Result<Vec<(Place, &V)>, AllocError>
         ensures { IfOk result (λ list. seen_items list.items ≡ map.entries (within area (cells_of self.now))) }
     {
@@ -107,8 +109,119 @@ impl<'a, V: Drop> View<'a, V> {
         Ok(())
     }
 
-    // Finds the seen cells of the block that are on these lines of rows, one after the other of those that hold any.
+    // Finds the seen cells of the block that are on these lines of rows.
     fn find_on(
+        &self,
+        area: Block,
+        lines: Run,
+        found: &mut BTreeMap<Place, &'a V>,
+    ) -> Result<(), AllocError>
+        requires cells { AreCellsOf area (shown self.now) found.old }
+        requires lines { AreLinesAt (table_of self.now.rows.now area.sheet) lines }
+        requires sum { lines.to + lines.count < 18446744073709551616 }
+        ensures cells { OnOk result (AreCellsOf area (shown self.now) found.new) }
+        ensures rows { OnOk result (HasRows area (shown self.now) lines.from (lines.from + lines.count) found.new) }
+        ensures still { OnOk result (StillHas found.old found.new) }
+    {
+        match self.cols_in_one(area) {
+            Some(cols) => self.find_along(area, lines, cols, found),
+            None => self.find_line_by_line(area, lines, found),
+        }
+    }
+
+    // The lines of the block's columns, where they follow one another.
+    fn cols_in_one(&self, area: Block) -> Option<Run>
+        ensures lines { IfSome result (AreLinesAt (table_of self.now.cols.now area.sheet)) }
+        ensures all { IfSome result (SpansColumns area) }
+        ensures sum { IfSome result (λ run. run.to + run.count < 18446744073709551616) }
+    {
+        if area.right < area.left {
+            return None;
+        }
+        let run = self.cols.table(area.sheet).run_from(area.left)?;
+        let count = (area.right - area.left) as u64 + 1;
+        if run.count < count {
+            return None;
+        }
+        Some(Run { count, ..run })
+    }
+
+    // Finds the seen cells of the block that are on these lines of rows and of columns, which are all of the block's columns. Goes
+    // through the cells in order, and begins anew behind each stretch of cells beside the columns.
+    fn find_along(
+        &self,
+        area: Block,
+        lines: Run,
+        cols: Run,
+        found: &mut BTreeMap<Place, &'a V>,
+    ) -> Result<(), AllocError>
+        requires cells { AreCellsOf area (shown self.now) found.old }
+        requires lines { AreLinesAt (table_of self.now.rows.now area.sheet) lines }
+        requires sum { lines.to + lines.count < 18446744073709551616 }
+        requires cols { AreLinesAt (table_of self.now.cols.now area.sheet) cols }
+        requires all { SpansColumns area cols }
+        requires cols_sum { cols.to + cols.count < 18446744073709551616 }
+        ensures cells { OnOk result (AreCellsOf area (shown self.now) found.new) }
+        ensures rows { OnOk result (HasRows area (shown self.now) lines.from (lines.from + lines.count) found.new) }
+        ensures still { OnOk result (StillHas found.old found.new) }
+    {
+        let end = lines.to + lines.count;
+        let mut row = lines.to;
+        while row < end {
+            row = self.find_up_to(area, row, end, cols, found)?;
+        }
+        Ok(())
+    }
+
+    // Finds the seen cells of the block on the lines of rows from `row` to before `end`, up to the first cell that is beside these
+    // lines of columns. Answers the line of rows to go on from, which is `end` where no cell is beside them.
+    fn find_up_to(
+        &self,
+        area: Block,
+        row: u64,
+        end: u64,
+        cols: Run,
+        found: &mut BTreeMap<Place, &'a V>,
+    ) -> Result<u64, AllocError>
+        requires cells { AreCellsOf area (shown self.now) found.old }
+        requires before { row < end }
+        requires cols { AreLinesAt (table_of self.now.cols.now area.sheet) cols }
+        requires all { SpansColumns area cols }
+        requires sum { cols.to + cols.count < 18446744073709551616 }
+        ensures within { IfOk result (λ next. (row < next) × (next ≤ end)) }
+        ensures cells { OnOk result (AreCellsOf area (shown self.now) found.new) }
+        ensures lines { IfOk result (λ next. HasLines self.now area row next found.new) }
+        ensures still { OnOk result (StillHas found.old found.new) }
+    {
+        let sheet = area.sheet;
+        let first = CellKey {
+            sheet,
+            row,
+            col: cols.to,
+        };
+        let past = CellKey {
+            sheet,
+            row: end,
+            col: 0,
+        };
+        for (key, cell) in self.cells.by_rows().range(first..past) {
+            if key.col < cols.to {
+                return Ok(key.row);
+            }
+            if key.col >= cols.to + cols.count {
+                return Ok(key.row + 1);
+            }
+            if let Some(at) = self.place(*key) {
+                if area.holds(at) {
+                    add(found, at, cell)?;
+                }
+            }
+        }
+        Ok(end)
+    }
+
+    // Finds the seen cells of the block that are on these lines of rows, one after the other of those that hold any.
+    fn find_line_by_line(
         &self,
         area: Block,
         lines: Run,

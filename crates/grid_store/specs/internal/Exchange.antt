@@ -1,5 +1,5 @@
 -- Cells that are emptied and filled together: lists of places, and maps over them.
-use Rattle.std.specs.Prelude.{◌≡◌, Bool, true, false, List, map, None, IsSome}
+use Rattle.std.specs.Prelude.{◌≡◌, Bool, true, false, List, [], ◌∷◌, map, None, IsSome}
 use Rattle.std.specs.FinMap as fin
 use Rattle.std.specs.List.{AllByRecursion, list_any}
 use Rattle.std.specs.Ordering.{eq_by_cmp}
@@ -26,3 +26,9 @@ places_of es = map (λ e. e.0) es
 -- the place of each entry is filled
 abbrev pub AreFilled : {X : Type 0} → List (Place × X) → PlaceMap X → Type 0
 AreFilled es m = AllByRecursion (λ e. IsSome (fin.get m e.0)) es
+
+-- one cell is placed, and no place is emptied but its own
+abbrev pub is_one_cell : {X : Type 0} → List Place → List (Place × X) → Bool
+is_one_cell [] (e ∷ []) = true
+is_one_cell (p ∷ []) (e ∷ []) = eq_by_cmp place_cmp p e.0
+is_one_cell _ _ = false

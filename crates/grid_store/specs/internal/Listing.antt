@@ -42,6 +42,10 @@ StillHas old new = (q : Place) → IsSome (look old q) → IsSome (look new q)
 abbrev pub AreLinesAt : LineTable → Run → Type 0
 AreLinesAt t r = (i : ℕ) → i < r.count → line_at t (r.from + i) ≡ Some (r.to + i)
 
+-- the run begins at the block's first column and has its last
+abbrev pub SpansColumns : Block → Run → Type 0
+SpansColumns area r = (r.from ≡ area.left) × (area.right < r.from + r.count)
+
 -- the cell is added at its place, and all else is as it was
 abbrev pub IsAdded : {X : Type 0} → BTreeMap Place (Bor X) → Place → X → BTreeMap Place (Bor X) → Type 0
 IsAdded old at cell new = (q : Place) → look new q ≡ (if is_at (place_cmp at) q then Some cell else look old q)

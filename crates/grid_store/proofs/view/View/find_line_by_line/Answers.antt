@@ -1,7 +1,7 @@
 -- The cells on the lines are those of the rows.
 use Rattle.std.proofs.Common.{inl, inr}
 use Rattle.grid_store.proofs.Listings.{cases_lt, covers_sheet, rows_found}
-use Rattle.grid_store.proofs.view.View.find_on.Goals as goal
+use Rattle.grid_store.proofs.view.View.find_line_by_line.Goals as goal
 
 pub returns-clause-rows : goal.returns-clause-rows
 returns-clause-rows _ c =

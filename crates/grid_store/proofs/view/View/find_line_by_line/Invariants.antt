@@ -1,6 +1,6 @@
 use Rattle.std.proofs.Common.{◌+◌, ◌-◌, ◌≤◌}
 use Rattle.grid_store.specs.internal.Listing.{AreCellsOf, HasLines, StillHas, shown}
-use Rattle.grid_store.proofs.view.View.find_on.Given as goal
+use Rattle.grid_store.proofs.view.View.find_line_by_line.Given as goal
 
 abbrev pub invariant-loop-line : goal.invariant-loop-line
 invariant-loop-line _ l = record {
