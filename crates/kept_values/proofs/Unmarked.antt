@@ -1,5 +1,5 @@
 -- Values without marks. Serves what refreshes them.
-use Rattle.std.proofs.Common.{◌≡◌, ◌==◌, ◌∙◌, sym, refl, subst, arith, Bool, false, true, ℕ, ℤ, List, [], ◌∷◌, length}
+use Rattle.std.proofs.Common.{◌≡◌, ◌==◌, ◌∙◌, sym, refl, subst, arith, Bool, true, ℕ, ℤ, List, [], ◌∷◌, length}
 use Rattle.std.specs.Prelude.{IsTrue}
 use Rattle.std.proofs.lemmas.Bool.Decides.{nat_tests}
 use Rattle.std.proofs.lemmas.Bool.{false≢true}
@@ -22,7 +22,7 @@ none_marked items marks empty same told is = sym same ∙ none_listed items (sym
 module _ (b : Workbook) (words : List (List ℕ)) (customs : List (List ℕ × Rule)) (today : ℤ) where
   -- where nothing is marked, all that is kept is right
   pub unmarked_right : (marks : List Node) (kept : Kept) → marks ≡ [] → FitsMarks b words customs today marks kept → AreRight b words customs today kept
-  unmarked_right marks kept none fit a = fit a (λ x at (m, y, marked, which). false≢true (subst (λ (ms : List Node). IsTrue (has m ms)) none marked))
+  unmarked_right marks kept none fit a = fit a (λ x at (m, y, marked, is, which). false≢true (subst (λ (ms : List Node). IsTrue (has m ms)) none marked))
 
   -- no step is a step of nothing
   pub no_steps : (marks : List Node) (n : ℕ) → TakesSteps b words customs today marks n n

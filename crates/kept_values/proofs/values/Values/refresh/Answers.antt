@@ -17,7 +17,7 @@ use Rattle.kept_values.proofs.values.Values.refresh.Goals as goal
 
 pub returns-then-is_empty-clause-right : goal.returns-then-is_empty-clause-right
 returns-then-is_empty-clause-right g c =
-    unmarked_right (g.T.Trees.workbook c.args.trees.now) (g.T.Trees.words c.args.trees.now) (g.C.Customs.customs c.args.customs.now) c.args.day (marks_in c.args.self.now.recalc) (kept_in c.args.self.now.recalc) 
+    unmarked_right (g.T.Trees.workbook c.args.trees.now) (g.T.Trees.words c.args.trees.now) (g.C.Customs.customs c.args.customs.now) c.args.day (marks_in c.args.self.now.recalc) (kept_in c.args.self.now.recalc)
     (none_marked c.items.result.now (marks_in c.args.self.now.recalc) c.is_empty.result (c.items.ensures ∙ c.marks.ensures) c.is_empty.ensures c.if-is_empty.true) c.requires.follows.fit
 
 pub returns-then-is_empty-clause-unmarked : goal.returns-then-is_empty-clause-unmarked
