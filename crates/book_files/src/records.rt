@@ -19,11 +19,21 @@ use std::marker::Model;
 ///     let first = records.fields().get(0);
 /// }
 /// ```
-#[derive(Drop)]
 pub struct Records<'a> {
     reader: Reader<&'a [u8]>,
     row: ByteRecord,
     ended: bool,
+}
+
+// Written out, so that whoever drops one calls one function.
+impl<'a> Drop for Records<'a> {
+    fn drop(self) {
+        let Records {
+            reader: _reader,
+            row: _row,
+            ended: _,
+        } = self;
+    }
 }
 
 impl<'a> Model for Records<'a> {
