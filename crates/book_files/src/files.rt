@@ -9,10 +9,19 @@ use std::alloc::{AllocError, Global};
 use std::collections::BTreeMap;
 
 /// Files in memory: the bytes of each by its name.
-#[derive(Drop)]
 pub struct FileMap {
     alloc: Global,
     files: BTreeMap<String, Vec<u8>>,
+}
+
+// Written out, so that whoever drops one calls one function.
+impl Drop for FileMap {
+    fn drop(self) {
+        let FileMap {
+            alloc: _,
+            files: _files,
+        } = self;
+    }
 }
 
 impl FileMap {
@@ -86,12 +95,23 @@ impl Folder for CalmFolder {
 }
 
 /// A folder in memory, of whose calls those with given numbers fail.
-#[derive(Drop)]
 pub struct MemFolder {
     files: FileMap,
     fails: Vec<u64>,
     calls: u64,
     faults: u64,
+}
+
+// Written out, so that whoever drops one calls one function.
+impl Drop for MemFolder {
+    fn drop(self) {
+        let MemFolder {
+            files: _files,
+            fails: _fails,
+            calls: _,
+            faults: _,
+        } = self;
+    }
 }
 
 impl MemFolder {

@@ -63,12 +63,23 @@ impl Source for CalmSource {
 }
 
 /// A source in memory, of whose calls those with given numbers fail.
-#[derive(Drop)]
 pub struct MemSource {
     stream: CalmSource,
     fails: Vec<u64>,
     calls: u64,
     faults: u64,
+}
+
+// Written out, so that whoever drops one calls one function.
+impl Drop for MemSource {
+    fn drop(self) {
+        let MemSource {
+            stream: _stream,
+            fails: _fails,
+            calls: _,
+            faults: _,
+        } = self;
+    }
 }
 
 impl Model for MemSource {
@@ -172,12 +183,23 @@ impl Sink for CalmSink {
 }
 
 /// A sink in memory, of whose calls those with given numbers fail and take nothing.
-#[derive(Drop)]
 pub struct MemSink {
     stream: CalmSink,
     fails: Vec<u64>,
     calls: u64,
     faults: u64,
+}
+
+// Written out, so that whoever drops one calls one function.
+impl Drop for MemSink {
+    fn drop(self) {
+        let MemSink {
+            stream: _stream,
+            fails: _fails,
+            calls: _,
+            faults: _,
+        } = self;
+    }
 }
 
 impl Model for MemSink {

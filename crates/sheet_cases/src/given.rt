@@ -11,12 +11,23 @@ const COLUMNS: &str = "ABCDEFGHIJKLMNOPQRSTUVWXYZ";
 const COLUMN_CELLS: u32 = 40_000;
 
 /// What a run is given.
-#[derive(Drop)]
 pub(crate) struct Given {
     pub(crate) words: Vec<String>,
     pub(crate) folder: MemFolder,
     pub(crate) input: MemSource,
     pub(crate) out: MemSink,
+}
+
+// Written out, so that whoever drops one calls one function.
+impl Drop for Given {
+    fn drop(self) {
+        let Given {
+            words: _words,
+            folder: _folder,
+            input: _input,
+            out: _out,
+        } = self;
+    }
 }
 
 impl Given {
@@ -26,11 +37,21 @@ impl Given {
         if !parts.read(case)? {
             return Ok(None);
         }
+        let Parts {
+            alloc: _,
+            words,
+            files,
+            script,
+            failing_loads,
+            failing_reads,
+            failing_writes,
+        } = parts;
+        let out = MemSink::new(alloc, failing_writes)?;
         Ok(Some(Given {
-            words: parts.words,
-            folder: MemFolder::new(parts.files, parts.failing_loads),
-            input: MemSource::new(parts.script, parts.failing_reads),
-            out: MemSink::new(alloc, parts.failing_writes)?,
+            words,
+            folder: MemFolder::new(files, failing_loads),
+            input: MemSource::new(script, failing_reads),
+            out,
         }))
     }
 }
