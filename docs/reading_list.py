@@ -41,7 +41,7 @@ PARTS = {
     "structural operations": ("shift_core/Form", "shift_core tree_rewrite"),
     "files, words and commands": ("sheet_cli/Answering", "script_lang command_words generator book_files run_inputs command_answers sheet_cli"),
 }
-PROMISES = "the lazy engine's own promises"
+PROMISES = "the engine's own promises"
 USE = re.compile(r"^\s*(?:pub )?(?:ghost )?use Rattle\.(\w+)\.specs\.([\w.]+?)(?:\.\{([^}]*)\})?(?: as (\w+))?;?\s*(?:--.*)?$")
 WORD = re.compile(r"[\w-]+(?:\.[\w-]+)*")
 
