@@ -48,8 +48,9 @@ use undo_book::UndoBook;
 /// and with one that is added each formula that uses its word where that found none. Undo and redo of changes of cells mark these, of
 /// a change of a name what that touches, and of a structural operation they take back or along what is kept; where a dropped sheet comes back,
 /// its cells and names are marked, and each formula that had lost a reference; a step of several such changes they follow one after
-/// the other. After those of a block that was moved among other changes the next read works the whole workbook out. Each change,
-/// undo and redo says by a clause, `marks`, `left` or `values`, which marks there are after it.
+/// the other. Of a block that was moved among other changes all places are marked, or, where these are more than the workbook's filled
+/// cells, the next read works the whole workbook out. Each change, undo and redo says by a clause, `marks`, `left` or `values`, which
+/// marks there are after it.
 pub struct Engine<C: Customs> {
     pub(crate) parts: Parts,
     pub(crate) waiting: Waiting,

@@ -1,11 +1,10 @@
 -- Which places are on a cycle, by links that are up to date. Serves the cells on a cycle.
 use Rattle.std.proofs.Common.{◌≡◌, ◌∙◌, sym, refl, ℕ, ℤ, List}
-use Rattle.cell_addr.specs.declared.place.Place.{Place}
 use Rattle.custom_fn.specs.declared.rule.Rule.{Rule}
 use Rattle.value_network.specs.Network.{cyclic}
 use Rattle.book_values.specs.Values.{network}
 use Rattle.book_values.specs.Workbook.{Workbook, place}
-use Rattle.dep_graph.specs.Needs.{Links, OnCycle}
+use Rattle.dep_graph.specs.Needs.{Links}
 use Rattle.dep_graph.specs.Nodes.{has}
 use Rattle.dep_graph.specs.declared.node.Node.{Node}
 use Rattle.dep_graph.specs.declared.node.Node.TheVariants.{Cell}

@@ -3,6 +3,7 @@ pub mod Followed
 pub mod Listed
 pub mod CyclicPlaces
 pub mod MentionedPlaces
+pub mod MovedNodes
 pub mod Shifted
 pub mod Named
 pub mod NamedBetween

@@ -73,7 +73,7 @@ or_none : (m : Bool) → (m || false) ≡ m
 or_none true = refl
 or_none false = refl
 
-has_last : (a x : Node) (xs : List Node) → has a (xs ++ x ∷ []) ≡ (has a xs || same_node a x)
+pub has_last : (a x : Node) (xs : List Node) → has a (xs ++ x ∷ []) ≡ (has a xs || same_node a x)
 has_last a x xs = list_any-append (same_node a) xs (x ∷ []) ∙ ap (λ t. has a xs || t) (or_none (same_node a x))
 
 pub named_more : (sheet : ℕ) (x : Node) (front names : List Node) → ((a : Node) → has a names ≡ (is_name_of sheet a && has a front)) → (a : Node)

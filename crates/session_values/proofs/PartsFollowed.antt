@@ -5,6 +5,8 @@ use Rattle.std.specs.FinMap as fin
 use Rattle.std.proofs.lemmas.Bool.{and_from, and_parts, false≢true, false_from_ne_true, or_cases, or_left, or_right}
 use Rattle.std.proofs.lemmas.Option.{none-some, same_Some, slice_get-get_or, slice_get_within}
 use Rattle.cell_addr.specs.declared.axis.Axis.{Axis}
+use Rattle.cell_addr.specs.Place.{IsBlockInside}
+use Rattle.cell_addr.specs.declared.place.Block.{Block}
 use Rattle.cell_addr.specs.declared.place.Place.{Place}
 use Rattle.cell_addr.specs.declared.place.TheConstants.{NO_SHEET}
 use Rattle.custom_fn.specs.declared.rule.Rule.{Rule}
@@ -48,10 +50,11 @@ use Rattle.session_values.specs.Naming.{turn_of}
 use Rattle.session_values.specs.Parts.{FollowsPartBack, FollowsPartForth, FollowsPartsBack, FollowsPartsForth, FollowsTurnIn, IsOnLines}
 use Rattle.session_values.specs.Shifting.{FollowsSheetBack, FollowsShift, FollowsShiftBack}
 use Rattle.session_values.specs.Touched.{AreTouchedAtMost, IsMarkedIn, IsStepMarked}
-use Rattle.session_values.specs.internal.Listed.{cell_node, is_name_below}
+use Rattle.session_values.specs.internal.Listed.{AreAdded, cell_node, is_moved_node, is_name_below}
 use Rattle.session_values.specs.internal.Way.{IsBackTo, IsForthTo}
 use Rattle.session_values.proofs.Followed.{cells_follow}
 use Rattle.session_values.proofs.Listed.{cells_known, replaced_listed}
+use Rattle.session_values.proofs.MovedNodes.{known, touched, touched_back}
 use Rattle.session_values.proofs.NamedBetween.{turn_had, turn_has}
 
 -- ---- operations on lines
@@ -95,6 +98,18 @@ module _ (line : Line) (words : Words) (c : Change) (s : Shift) (old new : Optio
   lines_forth sheet axis edit form over b d customs today turns follows =
       over (valued b) (valued d) words words customs today (inside words b turns.before) (after b d turns (ap (λ f. drops_scope f NO_SHEET) form)) turns.before.numbered turns.after.numbered (λ i w e. e)
       (nothing_touched s (valued b) words (subst IsOnLines (sym form) tt)) (nothing_known words) follows
+
+  pub block_back : (back : Shift) (source : Block) (to : Place) (moved removed : List Node) → form_of s ≡ Cells source to → opposite_of s ≡ Some back → IsBlockInside source → AreAdded (is_moved_node source to) [] moved → removed ≡ map cell_node c.replaced
+      → FollowsShiftBack s back moved removed old new → FollowsPartBack line words c old new
+  block_back back source to moved removed form opposite within are same over b d customs today turns follows =
+      over (valued b) (valued d) words customs today (inside words b turns.before) (after b d turns (keeps s back sound opposite NO_SHEET).0) turns.after.numbered
+      (touched_back source to moved are s back form opposite within (valued d) words) (known source to moved are words)
+      (subst (λ (ns : List Node). AreRemoved s (valued b) ns) (sym same) (removed_are b d turns)) (subst (λ (ns : List Node). AreKnown words ns) (sym same) (cells_known words c.replaced)) follows
+
+  pub block_forth : (source : Block) (to : Place) (moved : List Node) → form_of s ≡ Cells source to → AreAdded (is_moved_node source to) [] moved → FollowsShift s moved old new → FollowsPartForth line words c old new
+  block_forth source to moved form are over b d customs today turns follows =
+      over (valued b) (valued d) words words customs today (inside words b turns.before) (after b d turns (ap (λ f. drops_scope f NO_SHEET) form)) turns.before.numbered turns.after.numbered (λ i w e. e)
+      (touched source to moved are s form (valued b) words) (known source to moved are words) follows
 
 -- ---- dropped sheets
 

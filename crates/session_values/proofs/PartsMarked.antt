@@ -35,7 +35,7 @@ with_some : (P : Option Values → Type 0) (new : Option Values) → P new → I
 with_some P None p = tt
 with_some P (Some w) p = p
 
-nothing_listed : (test : Node → Bool) → AllPass test []
+pub nothing_listed : (test : Node → Bool) → AllPass test []
 nothing_listed test a h = absurd (false≢true h)
 
 -- ---- which kinds of changes there are
@@ -64,7 +64,7 @@ name_no_cells c y is cells = by (nat_lt c.from c.to || not (lists_names_alone c)
 
 pub nothing_marked_back : (s : Session) (c : Change) (old new : Option Values) → new ≡ None → MarksPartBack s c old new
 nothing_marked_back s c old new none = subst (λ (o : Option Values). MarksPartBack s c old o) (sym none) (record {
-  operation = λ x back is opposite. ([], nothing_listed (is_replaced_cell (c ∷ [])), tt);
+  operation = λ x back is opposite. ([], [], nothing_listed (may_touch back), nothing_listed (is_replaced_cell (c ∷ [])), tt);
   sheet = λ sheet is. ([], nothing_listed (returns_with sheet c), tt);
   cells = λ of_cells. tt;
   name = λ key before after named. (nothing_turns key (turn_of (is_some after) (is_some before)) s old).1;
@@ -84,15 +84,18 @@ module _ (s : Session) (c : Change) (old new : Option Values) where
     same_operation : (y : Shift) → shift_of (line_of s.book) c ≡ Some y → x ≡ y
     same_operation y is_y = same_Some x y (sym is ∙ is_y)
 
-    pub lines_marked_back : (back : Shift) (removed : List Node) → opposite_of x ≡ Some back → AllPass (is_replaced_cell (c ∷ [])) removed → MarksShiftBack x back [] removed old new → MarksPartBack s c old new
-    lines_marked_back back removed opposite all marks = record {
+    pub operation_marked_back : (back : Shift) (touched removed : List Node) → opposite_of x ≡ Some back → AllPass (may_touch back) touched → AllPass (is_replaced_cell (c ∷ [])) removed → MarksShiftBack x back touched removed old new
+        → MarksPartBack s c old new
+    operation_marked_back back touched removed opposite moved all marks = record {
       operation = λ y other is_y is_other.
           let same = same_operation y is_y in
           let turned : back ≡ other = same_Some back other (sym opposite ∙ ap opposite_of same ∙ is_other) in (
+            touched,
             removed,
+            subst (λ (b : Shift). AllPass (may_touch b) touched) turned moved,
             all,
-            with_some (λ o. MarksShiftBack y other [] removed old o) new
-                (subst (λ (b : Shift). MarksShiftBack y b [] removed old new) turned (subst (λ (z : Shift). MarksShiftBack z back [] removed old new) same marks)),
+            with_some (λ o. MarksShiftBack y other touched removed old o) new
+                (subst (λ (b : Shift). MarksShiftBack y b touched removed old new) turned (subst (λ (z : Shift). MarksShiftBack z back touched removed old new) same marks)),
           );
       sheet = λ sheet is_drop. absurd (none-some back (ap opposite_of (sym (same_operation (DropSheet sheet) is_drop)) ∙ opposite));
       cells = λ of_cells. absurd (no_cells (line_of s.book) c x is of_cells);

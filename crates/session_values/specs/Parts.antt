@@ -76,18 +76,18 @@ abbrev pub returns_with : ℕ → Change → Node → Bool
 returns_with sheet c a = is_replaced_cell (c ∷ []) a || may_touch (DropSheet sheet) a
 
 -- one change of a step of the session is taken back, and nothing is kept any more, or no more is marked than this. Where another operation
--- takes its operation back: cells that it lists as replaced, and what comes from a mark from before, or from a node that the operation
--- may have bent, that asks where a reference is or has lost one. Where it dropped a sheet: what was marked before, what comes back with the
+-- takes its operation back: cells that it lists as replaced, cells of a block that goes back and of where that goes, and what comes from a
+-- mark from before, or from a node that the operation may have bent, that asks where a reference is or has lost one. Where it dropped a sheet: what was marked before, what comes back with the
 -- sheet, and what asks where a reference is or has lost one. Where it changes cells alone: those that it lists. Where it changes one name
 -- alone: what such a change marks
 pub record MarksPartBack (s : Session) (c : Change) (old new : Option Values) : Type 0 where
-  pub operation : (x back : Shift) → shift_of (line_of s.book) c ≡ Some x → opposite_of x ≡ Some back → (removed : List Node) × AllPass (is_replaced_cell (c ∷ [])) removed × IfSome new (λ w. MarksShiftBack x back [] removed old (Some w))
+  pub operation : (x back : Shift) → shift_of (line_of s.book) c ≡ Some x → opposite_of x ≡ Some back → (touched removed : List Node) × AllPass (may_touch back) touched × AllPass (is_replaced_cell (c ∷ [])) removed × IfSome new (λ w. MarksShiftBack x back touched removed old (Some w))
   pub sheet : (dropped : ℕ) → shift_of (line_of s.book) c ≡ Some (DropSheet dropped) → (nodes : List Node) × AllPass (returns_with dropped c) nodes × IfSome new (λ w. MarksSheetBack nodes old (Some w))
   pub cells : IsOfCells c → AreTouchedAtMost (is_listed (c ∷ [])) old new
   pub name : (key : NameKey) (before after : Option ℕ) → name_alone c ≡ Some (key, (before, after)) → MarksTurn key (turn_of (is_some after) (is_some before)) s old new
 
 -- and one is done again. Where it has an operation: what comes from a mark from before, or from a node that the operation bends, that asks where
--- a reference is, or that is a name of a sheet that it drops
+-- a reference is, that is a cell of a block that it moves or of where that goes, or a name of a sheet that it drops
 pub record MarksPartForth (s : Session) (c : Change) (old new : Option Values) : Type 0 where
   pub operation : (x : Shift) → shift_of (line_of s.book) c ≡ Some x → (touched : List Node) × AllPass (may_touch x) touched × IfSome new (λ w. MarksShift x touched old (Some w))
   pub cells : IsOfCells c → AreTouchedAtMost (is_listed (c ∷ [])) old new

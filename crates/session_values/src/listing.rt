@@ -1,5 +1,5 @@
 // The nodes that structural operations of a session touch.
-ghost use Rattle.std.specs.Prelude.{◌≡◌, ◌&&◌, ◌||◌, ◌++◌, ℕ, true, IfOk, IsSome, IsTrue, List, OnOk, Some, is_some, length, map, slice_get};
+ghost use Rattle.std.specs.Prelude.{◌≡◌, ◌≤◌, ◌&&◌, ◌||◌, ◌++◌, ℕ, true, [], IfOk, IfSome, IsSome, IsTrue, List, OnOk, Some, is_some, length, map, slice_get};
 ghost use Rattle.cell_addr.specs.Place.{IsBlockInside};
 ghost use Rattle.cell_addr.specs.declared.place.Place.{Place as PlaceSeen};
 ghost use Rattle.shift_core.specs.Carried as carrying;
@@ -15,7 +15,7 @@ ghost use Rattle.kept_steps.specs.Turned.{is_replaced, replaced_of, to_undo};
 ghost use Rattle.kept_values.specs.Shifted.{HasTouched, may_touch};
 ghost use Rattle.session_values.specs.Following.{book_of, words_in};
 ghost use Rattle.session_values.specs.Shifting.{is_replaced_cell};
-ghost use Rattle.session_values.specs.internal.Listed.{cell_node, filled_in, is_name_below, is_name_of, with_named};
+ghost use Rattle.session_values.specs.internal.Listed.{AreAdded, cell_node, filled_in, is_moved_node, is_name_below, is_name_of, is_node_in, is_node_in_row, with_named};
 
 use cell_addr::{Block, Place};
 use dep_graph::{Node, Nodes};
@@ -73,6 +73,62 @@ fn moved_cells(session: &Session, source: Block, to: Place) -> Result<Nodes, All
     add_filled(session, source, &mut nodes)?;
     add_filled(session, destination(source, to), &mut nodes)?;
     Ok(nodes)
+}
+
+// The nodes of all places of a block that is moved and of where it goes; `None`, where the block has more places than the workbook has
+// filled cells.
+pub(crate) fn moved_places(
+    session: &Session,
+    source: Block,
+    to: Place,
+) -> Result<Option<Nodes>, AllocError>
+    requires source { IsBlockInside source }
+    requires destination { IsBlockInside (carrying.destination source to) }
+    ensures { IfOk result (λ found. IfSome found (λ nodes. AreAdded (is_moved_node source to) [] (items_of nodes))) }
+{
+    if places_in(source) > session.book.grid.filled() {
+        return Ok(None);
+    }
+    let mut nodes = Nodes::new(session.book.alloc)?;
+    add_places(source, &mut nodes)?;
+    add_places(destination(source, to), &mut nodes)?;
+    Ok(Some(nodes))
+}
+
+// How many places a block has.
+fn places_in(area: Block) -> u64
+    requires { IsBlockInside area }
+{
+    let rows = (area.bottom - area.top) as u64 + 1;
+    let cols = (area.right - area.left) as u64 + 1;
+    rows * cols
+}
+
+// Adds the nodes of all places of a block.
+fn add_places(area: Block, nodes: &mut Nodes) -> Result<(), AllocError>
+    requires { IsBlockInside area }
+    ensures { OnOk result (AreAdded (is_node_in area) (items_of nodes.old) (items_of nodes.new)) }
+{
+    'rows: for row in area.top..area.bottom + 1 {
+        add_row(area, row, nodes)?;
+    }
+    Ok(())
+}
+
+// Adds the nodes of the places of one row of a block.
+fn add_row(area: Block, row: u32, nodes: &mut Nodes) -> Result<(), AllocError>
+    requires block { IsBlockInside area }
+    requires row { (area.top ≤ row) × (row ≤ area.bottom) }
+    ensures { OnOk result (AreAdded (is_node_in_row area row) (items_of nodes.old) (items_of nodes.new)) }
+{
+    'cols: for col in area.left..area.right + 1 {
+        nodes.push(Node::Cell(Place {
+            sheet: area.sheet,
+            row,
+            col,
+        }))?;
+    }
+    Ok(())
 }
 
 // Adds the filled cells of a block.

@@ -2,7 +2,7 @@
 ghost use Rattle.std.specs.Prelude.{◌≡◌, ◌↔◌, IfSome, IsTrue, None, OnOk, Some, is_some};
 ghost use Rattle.cell_addr.specs.declared.place.TheConstants.{NO_SHEET as no_sheet};
 ghost use Rattle.shift_core.specs.Form.{form_of};
-ghost use Rattle.shift_core.specs.declared.form.Form.TheVariants.{Sheet};
+ghost use Rattle.shift_core.specs.declared.form.Form.TheVariants.{Cells, Sheet};
 ghost use Rattle.shift_core.specs.Opposite.{opposite_of};
 ghost use Rattle.shift_core.specs.Sound.{IsSound};
 ghost use Rattle.kept_book.specs.Change.{shift_of};
@@ -12,11 +12,11 @@ ghost use Rattle.session_values.specs.Following.{words_in};
 ghost use Rattle.session_values.specs.Naming.{MarksTurn, turn_of};
 ghost use Rattle.session_values.specs.Parts.{FollowsPartBack, FollowsPartForth, FollowsPartsBack, FollowsPartsForth, FollowsTurnIn, IsOnLines, MarksPartBack, MarksPartForth, MarksPartsBack, MarksPartsForth};
 
-use crate::listing::{cell_nodes, scope_nodes, sheet_nodes};
+use crate::listing::{cell_nodes, moved_places, scope_nodes, sheet_nodes};
 use crate::naming::NameTurn;
 use crate::touching::is_of_cells;
 use crate::values::SessionValues;
-use cell_addr::NO_SHEET;
+use cell_addr::{Block, NO_SHEET, Place};
 use kept_book::{NameChange, Part};
 use kept_steps::{Session, name_alone};
 use name_table::NameKey;
@@ -39,11 +39,12 @@ pub fn are_of_cells(parts: &[Part]) -> bool
 
 impl SessionValues {
     /// Takes what is kept along with the parts of a step of the session that is taken back, the last one first: cells that a part
-    /// lists are marked, an operation on lines is followed back, and of a change of one name what it touches is marked. What
+    /// lists are marked, a structural operation is followed back, and of a change of one name what it touches is marked. What
     /// follows the workbook after the step follows the one before it then.
     ///
-    /// Over a part that is anything else, and where there is no memory for it, nothing is kept any more. Costs for each part what
-    /// [`SessionValues::touch_cells`], [`SessionValues::take_back`] or [`SessionValues::name_turned`] does.
+    /// Over a move of a block that has more places than the workbook has filled cells, and where there is no memory for it, nothing is
+    /// kept any more. Costs for each part what [`SessionValues::touch_cells`], [`SessionValues::take_back`] or
+    /// [`SessionValues::name_turned`] does; for a moved block the number of its places, empty ones too.
     pub fn parts_turned_back(&mut self, session: &Session, parts: &[Part])
         ensures follows { FollowsPartsBack (line_of session.now.book) (words_in session.now) (changes_of parts.now) self.old.values self.new.values }
         ensures marks { MarksPartsBack session.now (changes_of parts.now) self.old.values self.new.values }
@@ -56,8 +57,8 @@ impl SessionValues {
     /// Takes what is kept along with the parts of a step of the session that is done again, the first one first, likewise; a sheet
     /// that a part drops is followed too. What follows the workbook before the step follows the one after it then.
     ///
-    /// Over a move of cells, and where there is no memory for it, nothing is kept any more. Costs likewise; for a dropped sheet what
-    /// [`SessionValues::shift`] does, and the number of all words that names ever had.
+    /// Over a move of such a block, and where there is no memory for it, nothing is kept any more. Costs likewise; for a dropped sheet
+    /// what [`SessionValues::shift`] does, and the number of all words that names ever had.
     pub fn parts_turned_forth(&mut self, session: &Session, parts: &[Part])
         ensures follows { FollowsPartsForth (line_of session.now.book) (words_in session.now) (changes_of parts.now) self.old.values self.new.values }
         ensures marks { MarksPartsForth session.now (changes_of parts.now) self.old.values self.new.values }
@@ -124,12 +125,32 @@ impl SessionValues {
     {
         match s.form() {
             Form::Lines { .. } => self.lines_back(session, s, part),
-            Form::Cells { .. } => {
-                self.forget();
-                Ok(())
-            }
+            Form::Cells { source, to } => self.block_back(session, s, source, to, part),
             Form::Sheet { sheet } => self.sheet_back(session, s, sheet, part),
         }
+    }
+
+    // Over one that moves a block of cells, which goes back.
+    fn block_back(
+        &mut self,
+        session: &Session,
+        s: &Shift,
+        source: Block,
+        to: Place,
+        part: &Part,
+    ) -> Result<(), AllocError>
+        requires sound { IsSound s.now }
+        requires form { form_of s.now ≡ Cells source to }
+        requires operation { shift_of (line_of session.now.book) (change_of part.now) ≡ Some s.now }
+        ensures follows { OnOk result (FollowsPartBack (line_of session.now.book) (words_in session.now) (change_of part.now) self.old.values self.new.values) }
+        ensures marks { OnOk result (MarksPartBack session.now (change_of part.now) self.old.values self.new.values) }
+    {
+        let (Some(back), Some(moved)) = (s.opposite(), moved_places(session, source, to)?) else {
+            self.forget();
+            return Ok(());
+        };
+        let removed = cell_nodes(session.book.alloc, part.replaced.items())?;
+        self.take_back(s, &back, moved.items(), removed.items())
     }
 
     // Over one that drops a sheet, which comes back.
@@ -183,12 +204,31 @@ impl SessionValues {
     {
         match s.form() {
             Form::Lines { .. } => self.shift(s, &[]),
-            Form::Cells { .. } => {
-                self.forget();
-                Ok(())
-            }
+            Form::Cells { source, to } => self.block_forth(session, s, source, to, part),
             Form::Sheet { sheet } => self.sheet_forth(session, s, sheet, part),
         }
+    }
+
+    // Over one that moves a block of cells and is done again.
+    fn block_forth(
+        &mut self,
+        session: &Session,
+        s: &Shift,
+        source: Block,
+        to: Place,
+        part: &Part,
+    ) -> Result<(), AllocError>
+        requires sound { IsSound s.now }
+        requires form { form_of s.now ≡ Cells source to }
+        requires operation { shift_of (line_of session.now.book) (change_of part.now) ≡ Some s.now }
+        ensures follows { OnOk result (FollowsPartForth (line_of session.now.book) (words_in session.now) (change_of part.now) self.old.values self.new.values) }
+        ensures marks { OnOk result (MarksPartForth session.now (change_of part.now) self.old.values self.new.values) }
+    {
+        let Some(moved) = moved_places(session, source, to)? else {
+            self.forget();
+            return Ok(());
+        };
+        self.shift(s, moved.items())
     }
 
     // Over one that drops a sheet and is done again.

@@ -1,5 +1,4 @@
-use Rattle.std.proofs.Common.{◌≡◌, ◌∷◌, [], Result, Ok, Err}
-use Rattle.std.specs.Prelude.{OnOk}
+use Rattle.std.proofs.Common.{◌∷◌, []}
 use Rattle.dep_graph.specs.Nodes.{items_of}
 use Rattle.session_values.proofs.Named.{have_linked, have_marked}
 use Rattle.session_values.proofs.naming.mark_linked.Goals as goal

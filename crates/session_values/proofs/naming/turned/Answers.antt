@@ -1,13 +1,8 @@
-use Rattle.std.proofs.Common.{◌≡◌, ◌∙◌, sym, subst, ℕ, List, Option, Some}
-use Rattle.std.specs.Prelude.{slice_get}
-use Rattle.std.proofs.lemmas.Option.{same_Some}
+use Rattle.std.proofs.Common.{sym, subst, Some}
 use Rattle.dep_graph.specs.declared.node.Node.{Node}
-use Rattle.kept_values.specs.declared.values.Values.{Values}
-use Rattle.name_table.specs.declared.key.NameKey.{NameKey}
 use Rattle.session_values.specs.Following.{words_in}
 use Rattle.session_values.specs.declared.naming.NameTurn.{NameTurn}
-use Rattle.session_values.specs.declared.naming.NameTurn.TheVariants.{Added}
-use Rattle.session_values.specs.internal.Marked.{HasMarked, HasMarkedLinked, HasSought, HasTurned, own_node, whole_node}
+use Rattle.session_values.specs.internal.Marked.{HasMarked, HasMarkedLinked, HasTurned}
 use Rattle.session_values.proofs.naming.turned.Goals as goal
 
 pub returns-in-Changed : goal.returns-in-Changed

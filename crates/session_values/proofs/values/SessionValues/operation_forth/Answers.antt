@@ -4,7 +4,7 @@ use Rattle.kept_book.specs.Kept.{change_of, line_of}
 use Rattle.kept_values.proofs.Following.{on_ok}
 use Rattle.session_values.specs.Following.{words_in}
 use Rattle.session_values.proofs.PartsFollowed.{lines_forth}
-use Rattle.session_values.proofs.PartsMarked.{nothing_marked_forth, operation_marked_forth}
+use Rattle.session_values.proofs.PartsMarked.{operation_marked_forth}
 use Rattle.session_values.proofs.values.SessionValues.operation_forth.Goals as goal
 
 pub returns-in-Lines-clause-follows : goal.returns-in-Lines-clause-follows
@@ -21,5 +21,5 @@ returns-in-Lines-clause-marks c =
     on_ok c.shift.result _ _
     (operation_marked_forth c.args.session.now (change_of c.args.part.now) c.args.self.now.values c.shift.new.self.values c.args.s.now c.requires.operation [] (λ a h. absurd (false≢true h))) c.shift.ensures.marks
 
-pub returns-in-Cells-clause-marks : goal.returns-in-Cells-clause-marks
-returns-in-Cells-clause-marks c = nothing_marked_forth c.args.session.now (change_of c.args.part.now) c.args.self.now.values c.forget.new.self.values c.forget.ensures
+pub block_forth-requires-clause-form : goal.block_forth-requires-clause-form
+block_forth-requires-clause-form c = sym c.form.ensures ∙ c.in-Cells.is
