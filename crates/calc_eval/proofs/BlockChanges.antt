@@ -6,13 +6,14 @@ use Rattle.std.proofs.Math.Nat.{suc-mul}
 use Rattle.std.proofs.lemmas.Bool.{and_from}
 use Rattle.std.proofs.lemmas.List.{replicate-append-replicate, set-append_left, set-append_right}
 use Rattle.std.proofs.lemmas.List.FromFn.{length-map-range_with_len}
+use Rattle.cell_addr.specs.Place.{height, width}
 use Rattle.cell_addr.specs.declared.place.Place.{Place}
 use Rattle.cell_addr.specs.declared.place.Block.{Block}
 use Rattle.cell_value.specs.Cells.{empty_cells, with_value}
 use Rattle.cell_value.specs.Scalar.{is_empty}
 use Rattle.cell_value.specs.declared.scalar.Scalar.{Scalar}
 use Rattle.cell_value.specs.declared.scalar.Scalar.TheVariants.{Empty}
-use Rattle.calc_terms.specs.Cells.{cells_in, height, row_values, size_of, width}
+use Rattle.calc_terms.specs.Cells.{cells_in, row_values, size_of}
 
 module _ {X : Type 0} where
   -- what is the same from a number on

@@ -7,6 +7,7 @@ use Rattle.std.proofs.lemmas.Bool.Decides.{nat_tests}
 use Rattle.std.proofs.lemmas.Grind.{flat_map-append}
 use Rattle.std.proofs.lemmas.List.{append-nil, map-append}
 use Rattle.std.proofs.lemmas.List.FromFn.{length-map-range_with_len}
+use Rattle.cell_addr.specs.Place.{height, width}
 use Rattle.cell_addr.specs.declared.place.Place.{Place}
 use Rattle.cell_addr.specs.declared.place.Block.{Block}
 use Rattle.cell_addr.specs.declared.place.TheConstants.{ROWS, COLS}
@@ -15,7 +16,7 @@ use Rattle.cell_value.specs.Cells.{Cells, with_value}
 use Rattle.cell_value.specs.Scalar.{is_empty}
 use Rattle.cell_value.specs.declared.scalar.Scalar.{Scalar}
 use Rattle.cell_value.specs.declared.scalar.Scalar.TheVariants.{Empty}
-use Rattle.calc_terms.specs.Cells.{cells_in, fits, height, row_values, size_of, width}
+use Rattle.calc_terms.specs.Cells.{cells_in, fits, row_values, size_of}
 
 -- the ends of a block within the limits of a sheet
 pub record Ends (b : Block) : Type 0 where
@@ -26,6 +27,14 @@ pub record Ends (b : Block) : Type 0 where
 
 pub fits_ends : (b : Block) → fits b ≡ true → Ends b
 fits_ends b h = record { rows = grind (arith, nat_tests); bottom = grind (arith, nat_tests); cols = grind (arith, nat_tests); right = grind (arith, nat_tests) }
+
+-- it has no more rows and columns than a sheet
+pub record Few (b : Block) : Type 0 where
+  pub rows : height b ≤ ROWS
+  pub cols : width b ≤ COLS
+
+pub fits_few : (b : Block) → fits b ≡ true → Few b
+fits_few b h = let ends = fits_ends b h in record { rows = omega (arith, ends.bottom); cols = omega (arith, ends.right) }
 
 -- a range of numbers with one more
 range-more : (a n : ℕ) → range_with_len a (suc n) ≡ range_with_len a n ++ (a + n) ∷ []

@@ -16,7 +16,7 @@ use Rattle.std.proofs.lemmas.List.{get_or-map, length-map, take_more}
 use Rattle.std.proofs.lemmas.Map.Keys.{Less-from_sorted}
 use Rattle.cell_addr.proofs.Places.{place_cmp-IsAntisymmetric}
 use Rattle.cell_addr.specs.Order.{place_cmp}
-use Rattle.cell_addr.specs.Place.{covers}
+use Rattle.cell_addr.specs.Place.{covers, height, width}
 use Rattle.cell_addr.specs.declared.place.Place.{Place}
 use Rattle.cell_addr.specs.declared.place.Block.{Block}
 use Rattle.cell_value.proofs.Summaries.{summary_of-append}
@@ -26,7 +26,7 @@ use Rattle.cell_value.specs.Summary.{alone, joined, no_values, summary_of}
 use Rattle.cell_value.specs.declared.scalar.Scalar.{Scalar}
 use Rattle.cell_value.specs.declared.scalar.Scalar.TheVariants.{Empty}
 use Rattle.cell_value.specs.declared.scalar.Scalar.TheVariants as scalar
-use Rattle.calc_terms.specs.Cells.{cells_in, height, size_of, width}
+use Rattle.calc_terms.specs.Cells.{cells_in, size_of}
 use Rattle.calc_eval.specs.Filled.{AreFilled, seen_cells, shown_by}
 use Rattle.calc_eval.proofs.BlockChanges.{empty_from_in, none_in, size_in, with_value_in}
 

@@ -1,9 +1,10 @@
 // Blocks of places that show values one by one, for views that keep neither blocks nor summaries.
-ghost use Rattle.std.specs.Prelude.{◌≡◌, ◌+◌, ◌-◌, ◌<◌, ◌≤◌, ◌^◌, suc, IfOk, true};
+ghost use Rattle.std.specs.Prelude.{◌≡◌, ◌+◌, ◌<◌, IfOk, true};
+ghost use Rattle.cell_addr.specs.Place.{height, width};
 ghost use Rattle.cell_addr.specs.declared.place.Place.{Place};
 ghost use Rattle.cell_value.specs.Summary.{IsBounded, summary_of};
 ghost use Rattle.cell_value.specs.declared.scalar.Scalar.{Scalar};
-ghost use Rattle.calc_terms.specs.Cells.{cells_in, fits, height, width};
+ghost use Rattle.calc_terms.specs.Cells.{cells_in, fits};
 
 use cell_addr::{Block, Place};
 use cell_value::{Area, Scalar, Summary};
@@ -28,8 +29,7 @@ pub fn area_of<C: Cells>(alloc: Global, cells: &C, block: Block) -> Result<Area,
     requires { fits block ≡ true }
     ensures { IfOk result (λ area. area ≡ cells_in (C.shown cells.now) block) }
 {
-    let rows = extent(block.top, block.bottom);
-    let cols = extent(block.left, block.right);
+    let (rows, cols) = extent(block);
     let mut area = Area::new(alloc, rows, cols);
     'rows: for row in 0..rows {
         'cols: for col in 0..cols {
@@ -41,7 +41,11 @@ pub fn area_of<C: Cells>(alloc: Global, cells: &C, block: Block) -> Result<Area,
 }
 
 /// What the numbers of such a block's cells come to, at the same cost and without a step.
-pub fn summary_of<C: Cells>(alloc: Global, cells: &C, block: Block) -> Result<Summary, AllocError>
+pub fn summary_of<C: Cells>(
+    alloc: Global,
+    cells: &C,
+    block: Block,
+) -> Result<Summary, AllocError>
     requires { fits block ≡ true }
     ensures means { IfOk result (λ summary. summary ≡ summary_of (cells_in (C.shown cells.now) block).values) }
     ensures bounded { IfOk result IsBounded }
@@ -50,14 +54,14 @@ pub fn summary_of<C: Cells>(alloc: Global, cells: &C, block: Block) -> Result<Su
     area_summary(&area)
 }
 
-// How many lines there are from the first to the last.
-pub(crate) fn extent(first: u32, last: u32) -> u32
-    requires order { first ≤ last }
-    requires within { last < 2 ^ 31 }
-    ensures extent { result ≡ suc last - first }
-    ensures positive { 0 < result }
+// How many rows and how many columns the block has.
+#[tactic(auto, using(crate::proofs::BlockFilling::fits_few))]
+pub(crate) fn extent(block: Block) -> (u32, u32)
+    requires { fits block ≡ true }
+    ensures rows { result.0 ≡ height block }
+    ensures cols { result.1 ≡ width block }
 {
-    last - first + 1
+    (block.height() as u32, block.width() as u32)
 }
 
 // The place in this row and column of the block, counted from its first cell.

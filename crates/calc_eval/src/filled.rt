@@ -23,8 +23,7 @@ pub fn filled_area(
     requires filled { AreFilled block (seen_cells cells.now) }
     ensures { IfOk result (λ area. area ≡ cells_in (shown_by (seen_cells cells.now)) block) }
 {
-    let rows = extent(block.top, block.bottom);
-    let cols = extent(block.left, block.right);
+    let (rows, cols) = extent(block);
     let mut area = Area::new(alloc, rows, cols);
     'cells: for cell in cells {
         let value = cell.1.copy(alloc)?;

@@ -4,10 +4,10 @@ use Rattle.std.specs.List.{filter, flat_map, range_with_len}
 use Rattle.std.proofs.lemmas.Bool.Decides.{nat_tests}
 use Rattle.cell_addr.specs.declared.place.Place.{Place}
 use Rattle.cell_addr.specs.declared.place.Block.{Block}
-use Rattle.cell_addr.specs.Place.{covers}
+use Rattle.cell_addr.specs.Place.{covers, height, width}
 use Rattle.cell_value.specs.Scalar.{is_empty}
 use Rattle.cell_value.specs.declared.scalar.Scalar.{Scalar}
-use Rattle.calc_terms.specs.Cells.{block_values, cells_in, filled_in, height, row_values, width}
+use Rattle.calc_terms.specs.Cells.{block_values, cells_in, filled_in, row_values}
 
 -- what is the same of each number of a range is the same of all
 map_range : {X : Type 0} (f g : ℕ → X) (from n : ℕ) → ((k : ℕ) → from ≤ k → k < from + n → f k ≡ g k) → map f (range_with_len from n) ≡ map g (range_with_len from n)

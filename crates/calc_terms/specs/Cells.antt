@@ -1,6 +1,7 @@
 -- The cells of a block. Source: this project's own.
-use Rattle.std.specs.Prelude.{ℕ, suc, ◌-◌, ◌*◌, Bool, not, ◌&&◌, nat_le, nat_lt, List, length, map}
+use Rattle.std.specs.Prelude.{ℕ, ◌*◌, Bool, not, ◌&&◌, nat_le, nat_lt, List, length, map}
 use Rattle.std.specs.List.{filter, flat_map, range_with_len}
+use Rattle.cell_addr.specs.Place.{height, width}
 use Rattle.cell_addr.specs.declared.place.Place.{Place}
 use Rattle.cell_addr.specs.declared.place.Block.{Block}
 use Rattle.cell_addr.specs.declared.place.TheConstants.{ROWS, COLS}
@@ -8,13 +9,7 @@ use Rattle.cell_value.specs.Scalar.{is_empty}
 use Rattle.cell_value.specs.declared.scalar.Scalar.{Scalar}
 use Rattle.cell_value.specs.Cells.{Cells}
 
--- how many rows, columns and cells a block has
-abbrev pub height : Block → ℕ
-height b = suc b.bottom - b.top
-
-abbrev pub width : Block → ℕ
-width b = suc b.right - b.left
-
+-- how many cells a block has
 abbrev pub size_of : Block → ℕ
 size_of b = height b * width b
 

@@ -1,12 +1,12 @@
 -- The functions that ask where a reference is; what its cells show isn't read. Source: OpenFormula.
 use Rattle.std.specs.Prelude.{ℕ, ◌+◌, List, [], ◌∷◌, Result, Ok, Err}
+use Rattle.cell_addr.specs.Place.{height, width}
 use Rattle.cell_addr.specs.declared.place.Place.{Place}
 use Rattle.cell_addr.specs.declared.place.Block.{Block}
 use Rattle.cell_value.specs.declared.fault.FaultKind.{FaultKind}
 use Rattle.cell_value.specs.declared.fault.FaultKind.TheVariants.{Na}
 use Rattle.cell_value.specs.declared.scalar.Scalar.{Scalar}
 use Rattle.func_args.specs.Answers.{and_then, counted, number_value}
-use Rattle.calc_terms.specs.Cells.{height, width}
 use Rattle.calc_terms.specs.declared.function.PlaceFn.{PlaceFn}
 use Rattle.calc_terms.specs.declared.function.PlaceFn.TheVariants.{Row, Column, Rows, Columns}
 

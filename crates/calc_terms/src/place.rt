@@ -1,5 +1,5 @@
 // The functions that ask where a reference is.
-ghost use Rattle.std.specs.Prelude.{◌≡◌, ◌-◌, suc};
+ghost use Rattle.std.specs.Prelude.{◌≡◌};
 ghost use Rattle.calc_terms.specs.Places.{count_in, place_count, place_value};
 
 use crate::function::PlaceFn;
@@ -43,14 +43,7 @@ fn count_in(f: PlaceFn, block: Block) -> u64
     match f {
         PlaceFn::Row => u64::from(block.top) + 1,
         PlaceFn::Column => u64::from(block.left) + 1,
-        PlaceFn::Rows => extent(block.top, block.bottom),
-        PlaceFn::Columns => extent(block.left, block.right),
+        PlaceFn::Rows => block.height(),
+        PlaceFn::Columns => block.width(),
     }
-}
-
-// How many lines there are from the first to the last.
-fn extent(first: u32, last: u32) -> u64
-    ensures { result ≡ suc last - first }
-{
-    (u64::from(last) + 1).saturating_sub(u64::from(first))
 }

@@ -1,12 +1,12 @@
 -- A block of the same size whose cells show the same, offset by offset, has the same cells. Serves the law.
 use Rattle.std.proofs.Common.{◌≡◌, ◌∙◌, sym, ap, ap₂, refl, arith, ℕ, zero, suc, ◌+◌, ◌<◌, List, ◌∷◌, ◌++◌, map}
 use Rattle.std.specs.List.{flat_map, range_with_len}
-use Rattle.cell_addr.specs.Place.{Covers}
+use Rattle.cell_addr.specs.Place.{Covers, height, width}
 use Rattle.cell_addr.specs.declared.place.Block.{Block}
 use Rattle.cell_addr.specs.declared.place.Place.{Place}
 use Rattle.cell_value.specs.declared.scalar.Scalar.{Scalar}
 use Rattle.shift_core.specs.Carried.{carried_place, first_place}
-use Rattle.calc_terms.specs.Cells.{cells_in, height, row_values, width}
+use Rattle.calc_terms.specs.Cells.{cells_in, row_values}
 use Rattle.carried_terms.specs.Carried.{ShowsAlong}
 use Rattle.carried_terms.specs.Laws.{CellsGoAlong}
 

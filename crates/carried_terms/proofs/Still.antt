@@ -7,7 +7,7 @@ use Rattle.std.proofs.lemmas.Bool.{false≢true, or_left, or_right}
 use Rattle.std.proofs.lemmas.Bool.Decides.{nat_tests}
 use Rattle.std.proofs.lemmas.List.Folds.{list_any-append}
 use Rattle.std.proofs.lemmas.Option.{same_Some}
-use Rattle.cell_addr.specs.Place.{Covers, IsBlockInside, IsInside}
+use Rattle.cell_addr.specs.Place.{Covers, IsBlockInside, IsInside, height, width}
 use Rattle.cell_addr.specs.Whole.{whole_block, whole_of}
 use Rattle.cell_addr.specs.declared.axis.Axis.{Axis}
 use Rattle.cell_addr.specs.declared.place.Block.{Block}
@@ -31,7 +31,7 @@ use Rattle.shift_core.proofs.WholeMoves.{full-whole, whole_moves_as_block}
 use Rattle.tree_rewrite.specs.References.{EachReference, EachReferenceOfAll}
 use Rattle.tree_rewrite.specs.Rewritten.{area_after, area_at, cell_at}
 use Rattle.tree_rewrite.proofs.WholeAreas.{axis-after}
-use Rattle.calc_terms.specs.Cells.{cells_in, fits, height, width}
+use Rattle.calc_terms.specs.Cells.{cells_in, fits}
 use Rattle.calc_terms.specs.References.{area_reference, full_block, own_reference}
 use Rattle.calc_terms.specs.World.{World}
 use Rattle.calc_terms.specs.declared.reference.Reference.TheVariants as reference

@@ -3,7 +3,7 @@ use Rattle.std.specs.Prelude.{◌≡◌, ⊤, ℕ, Bool, true, false, ◌&&◌, 
 use Rattle.cell_addr.specs.declared.axis.Axis.{Axis}
 use Rattle.cell_addr.specs.declared.place.Block.{Block}
 use Rattle.cell_addr.specs.declared.place.Place.{Place}
-use Rattle.cell_addr.specs.Place.{Covers}
+use Rattle.cell_addr.specs.Place.{Covers, height, width}
 use Rattle.cell_addr.specs.Whole.{whole_block, whole_of}
 use Rattle.cell_value.specs.declared.scalar.Scalar.{Scalar}
 use Rattle.formula_tree.specs.Links.{is_place_word}
@@ -13,7 +13,7 @@ use Rattle.formula_tree.specs.declared.reference.Corner.{Corner}
 use Rattle.formula_tree.specs.declared.reference.Home.{Home}
 use Rattle.shift_core.specs.Carried.{carried_place, first_place}
 use Rattle.tree_rewrite.specs.Rewritten.{placed_by}
-use Rattle.calc_terms.specs.Cells.{cells_in, fits, height, width}
+use Rattle.calc_terms.specs.Cells.{cells_in, fits}
 use Rattle.calc_terms.specs.References.{own_reference}
 use Rattle.calc_terms.specs.World.{Named, World}
 use Rattle.calc_terms.specs.declared.reference.Reference.{Reference}

@@ -3,7 +3,7 @@ use Rattle.std.specs.Prelude.{◌≡◌, ◌⊎◌, ⊤, Bool, true, false, ◌&
 use Rattle.cell_addr.specs.declared.axis.Axis.{Axis}
 use Rattle.cell_addr.specs.declared.place.Block.{Block}
 use Rattle.cell_addr.specs.declared.place.Place.{Place}
-use Rattle.cell_addr.specs.Place.{Covers, covers}
+use Rattle.cell_addr.specs.Place.{Covers, covers, height, width}
 use Rattle.formula_tree.specs.Links.{is_place_word}
 use Rattle.formula_tree.specs.Reference.{block_of}
 use Rattle.formula_tree.specs.Term.{Term, cell, area, whole, prefix, percent, binary, call, paren, Terms, no_terms, term, is_reference}
@@ -14,7 +14,6 @@ use Rattle.shift_core.specs.Tables.{block_after, place_after}
 use Rattle.shift_core.specs.declared.form.Form.{Form}
 use Rattle.shift_core.specs.declared.form.Form.TheVariants.{Cells}
 use Rattle.shift_core.specs.declared.shift.Shift.{Shift}
-use Rattle.calc_terms.specs.Cells.{height, width}
 use Rattle.carried_terms.specs.Carried.{seen_block}
 
 -- a rule puts the places of the first block exactly at those of the second one, but for places that are bare

@@ -1,6 +1,6 @@
 -- What holds of formulas of which all goes along. Source: this project's own.
 use Rattle.std.specs.Prelude.{◌≡◌, ◌⊎◌, ℕ, Bool, true, List, Option, Some}
-use Rattle.cell_addr.specs.Place.{IsBlockInside}
+use Rattle.cell_addr.specs.Place.{IsBlockInside, height, width}
 use Rattle.cell_addr.specs.declared.axis.Axis.{Axis}
 use Rattle.cell_addr.specs.declared.place.Block.{Block}
 use Rattle.cell_addr.specs.declared.place.Place.{Place}
@@ -10,7 +10,7 @@ use Rattle.formula_tree.specs.Links.{names_in}
 use Rattle.formula_tree.specs.Term.{Term}
 use Rattle.formula_tree.specs.declared.reference.Corner.{Corner}
 use Rattle.formula_tree.specs.declared.reference.Home.{Home}
-use Rattle.calc_terms.specs.Cells.{cells_in, height, width}
+use Rattle.calc_terms.specs.Cells.{cells_in}
 use Rattle.calc_terms.specs.Meaning.{meaning}
 use Rattle.calc_terms.specs.Needs.{mentions}
 use Rattle.calc_terms.specs.World.{World}

@@ -1,5 +1,5 @@
 -- Places and blocks of a sheet. Source: this project's own limits.
-use Rattle.std.specs.Prelude.{◌≡◌, ◌<◌, ◌≤◌, Bool, ◌&&◌, ◌==◌, nat_le}
+use Rattle.std.specs.Prelude.{◌≡◌, ◌<◌, ◌≤◌, ℕ, suc, ◌-◌, Bool, ◌&&◌, ◌==◌, nat_le}
 use Rattle.cell_addr.specs.declared.place.Place.{Place}
 use Rattle.cell_addr.specs.declared.place.Block.{Block}
 use Rattle.cell_addr.specs.declared.place.TheConstants.{ROWS, COLS}
@@ -11,6 +11,13 @@ IsInside p = (p.row < ROWS) × (p.col < COLS)
 -- both corners are within the limits, and the ends are in order
 abbrev pub IsBlockInside : Block → Type 0
 IsBlockInside b = (b.top ≤ b.bottom) × (b.bottom < ROWS) × (b.left ≤ b.right) × (b.right < COLS)
+
+-- how many rows and columns a block has, which are none where its ends are out of order
+abbrev pub height : Block → ℕ
+height b = suc b.bottom - b.top
+
+abbrev pub width : Block → ℕ
+width b = suc b.right - b.left
 
 -- the block covers the place: sheet, row and column lie within its ends
 abbrev pub Covers : Block → Place → Type 0

@@ -1,6 +1,6 @@
 // Places and blocks, and the limits of a sheet.
 ghost use Rattle.std.specs.Prelude.{◌≡◌, ◌<◌, ◌≤◌, ◌↔◌, IsTrue};
-ghost use Rattle.cell_addr.specs.Place.{IsInside, IsBlockInside, Covers, CoverOne, CoversAllOf, covers};
+ghost use Rattle.cell_addr.specs.Place.{IsInside, IsBlockInside, Covers, CoverOne, CoversAllOf, covers, height, width};
 ghost use Rattle.cell_addr.specs.internal.Blocks.{IsInOrder, Overlap, Encloses};
 
 /// How many rows a sheet has. This project's own limit.
@@ -48,6 +48,20 @@ impl Block {
             && self.bottom < ROWS
             && self.left <= self.right
             && self.right < COLS
+    }
+
+    /// How many rows the block has: none where its last row stands before the first.
+    pub fn height(self) -> u64
+        ensures { result ≡ height self }
+    {
+        (u64::from(self.bottom) + 1).saturating_sub(u64::from(self.top))
+    }
+
+    /// How many columns the block has: none where its last column stands before the first.
+    pub fn width(self) -> u64
+        ensures { result ≡ width self }
+    {
+        (u64::from(self.right) + 1).saturating_sub(u64::from(self.left))
     }
 
     /// Whether the block covers the place.

@@ -5,7 +5,7 @@ use Rattle.std.specs.FinMap.{empty, get, get-empty}
 use Rattle.std.specs.Option.{IfSome}
 use Rattle.std.proofs.lemmas.Bool.{and_parts, cases_eq}
 use Rattle.std.proofs.lemmas.Option.{same_Some}
-use Rattle.cell_addr.specs.Place.{CoverOne, Covers, CoversAllOf, IsBlockInside, covers}
+use Rattle.cell_addr.specs.Place.{CoverOne, Covers, CoversAllOf, IsBlockInside, covers, height, width}
 use Rattle.cell_addr.specs.declared.place.Block.{Block}
 use Rattle.cell_addr.specs.declared.place.Place.{Place}
 use Rattle.cell_value.specs.declared.scalar.Scalar.{Scalar}
@@ -22,7 +22,7 @@ use Rattle.shift_core.proofs.BlockLaws.{block_moved_inside}
 use Rattle.shift_core.proofs.CellMoves.{Covers-from_covers, Covers_inside, cases_chosen, chosen_first, chosen_second, covers-from_Covers, same_place}
 use Rattle.shift_core.proofs.UnbentBlocks.{unbent_keeps, unbent_returns}
 use Rattle.range_table.specs.Blocks.{BlockMap, block_cmp}
-use Rattle.range_table.specs.Cells.{fold, height, width}
+use Rattle.range_table.specs.Cells.{fold}
 use Rattle.range_table.specs.Laws.{KeptBlocksTakeTheirCells}
 use Rattle.range_table.specs.Shifted.{AreMoved, KeepsBlock, TakesValues, TearsBlock}
 use Rattle.range_table.specs.Table.{AreFolds}

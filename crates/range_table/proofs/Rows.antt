@@ -9,7 +9,7 @@ use Rattle.std.proofs.lemmas.Bool.Decides.{nat_tests}
 use Rattle.std.proofs.lemmas.List.{append-nil}
 use Rattle.std.proofs.lemmas.List.FromFn.{length-map-range_with_len}
 use Rattle.std.proofs.lemmas.Option.{same_Some}
-use Rattle.cell_addr.specs.Place.{IsBlockInside}
+use Rattle.cell_addr.specs.Place.{IsBlockInside, height, width}
 use Rattle.cell_addr.specs.declared.place.Block.{Block}
 use Rattle.cell_addr.specs.declared.place.Place.{Place}
 use Rattle.cell_addr.specs.declared.place.TheConstants.{COLS, ROWS}
@@ -17,7 +17,7 @@ use Rattle.cell_value.specs.Summary.{no_values, summary_of}
 use Rattle.cell_value.specs.declared.scalar.Scalar.{Scalar}
 use Rattle.cell_value.specs.declared.summary.Summary.{Summary}
 use Rattle.range_table.specs.Blocks.{BlockMap}
-use Rattle.range_table.specs.Cells.{block_values, cells_in, fold, height, nonempty, nonempty_in, row_values, width}
+use Rattle.range_table.specs.Cells.{block_values, cells_in, fold, nonempty, nonempty_in, row_values}
 use Rattle.range_table.specs.Table.{AreFolds, begun, last_row, without_last_row}
 use Rattle.range_table.specs.internal.Rows.{Begins}
 use Rattle.range_table.proofs.Sums.{flat-more, nonempty-append, nonempty-few, summary_of-count}

@@ -4,14 +4,14 @@ use Rattle.std.specs.FinMap.{empty, get, get-empty, get-insert, get-retain_keys,
 use Rattle.std.specs.List.{flat_map, range_with_len}
 use Rattle.std.specs.Ordering.{eq_by_cmp}
 use Rattle.std.proofs.lemmas.Option.{same_Some}
-use Rattle.cell_addr.specs.Place.{covers}
+use Rattle.cell_addr.specs.Place.{covers, height, width}
 use Rattle.cell_addr.specs.declared.place.Block.{Block}
 use Rattle.cell_addr.specs.declared.place.Place.{Place}
 use Rattle.cell_value.specs.Summary.{summary_of}
 use Rattle.cell_value.specs.declared.scalar.Scalar.{Scalar}
 use Rattle.cell_value.specs.declared.summary.Summary.{Summary}
 use Rattle.range_table.specs.Blocks.{BlockMap, block_cmp}
-use Rattle.range_table.specs.Cells.{fold, height, nonempty_in, row_values, width}
+use Rattle.range_table.specs.Cells.{fold, nonempty_in, row_values}
 use Rattle.range_table.specs.Laws.{FewCellsAreMerged, TouchedTablesStayRight}
 use Rattle.range_table.specs.Table.{AreFolds, begun, cells_left, last_row}
 use Rattle.shift_core.proofs.CarriedEntries.{eq_by_cmp-decides}

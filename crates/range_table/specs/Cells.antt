@@ -1,7 +1,8 @@
 -- The cells of a block, and what their numbers come to. Source: this project's own.
-use Rattle.std.specs.Prelude.{ℕ, suc, ◌-◌, ◌*◌, not, List, length, map}
+use Rattle.std.specs.Prelude.{ℕ, ◌*◌, not, List, length, map}
 use Rattle.std.specs.Borrow.{Bor}
 use Rattle.std.specs.List.{filter, flat_map, range_with_len}
+use Rattle.cell_addr.specs.Place.{height, width}
 use Rattle.cell_addr.specs.declared.place.Place.{Place}
 use Rattle.cell_addr.specs.declared.place.Block.{Block}
 use Rattle.cell_value.specs.Scalar.{is_empty}
@@ -9,13 +10,7 @@ use Rattle.cell_value.specs.Summary.{summary_of}
 use Rattle.cell_value.specs.declared.scalar.Scalar.{Scalar}
 use Rattle.cell_value.specs.declared.summary.Summary.{Summary}
 
--- how many rows, columns and cells a block has
-abbrev pub height : Block → ℕ
-height b = suc b.bottom - b.top
-
-abbrev pub width : Block → ℕ
-width b = suc b.right - b.left
-
+-- how many cells a block has
 abbrev pub cells_in : Block → ℕ
 cells_in b = height b * width b
 

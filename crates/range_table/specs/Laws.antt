@@ -1,7 +1,7 @@
 -- What keeps a table right, and how many cells are merged.
 use Rattle.std.specs.Prelude.{◌≡◌, ◌≤◌, Some, None, IsSome}
 use Rattle.std.specs.FinMap as map
-use Rattle.cell_addr.specs.Place.{Covers, IsBlockInside}
+use Rattle.cell_addr.specs.Place.{Covers, IsBlockInside, width}
 use Rattle.cell_addr.specs.declared.place.Block.{Block}
 use Rattle.cell_addr.specs.declared.place.Place.{Place}
 use Rattle.cell_value.specs.declared.scalar.Scalar.{Scalar}
@@ -11,7 +11,7 @@ use Rattle.shift_core.specs.Sound.{IsSound}
 use Rattle.shift_core.specs.Tables.{place_after}
 use Rattle.shift_core.specs.declared.shift.Shift.{Shift}
 use Rattle.range_table.specs.Blocks.{BlockMap}
-use Rattle.range_table.specs.Cells.{nonempty_in, width}
+use Rattle.range_table.specs.Cells.{nonempty_in}
 use Rattle.range_table.specs.Shifted.{KeepsBlock}
 use Rattle.range_table.specs.Table.{AreFolds, begun, cells_to_merge, last_row, without_holders}
 

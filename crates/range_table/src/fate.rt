@@ -2,15 +2,14 @@
 ghost use Rattle.std.specs.Prelude.{◌≡◌, ◌↔◌, IsTrue, IsNone, IfSome};
 ghost use Rattle.cell_addr.specs.Place.{IsBlockInside};
 ghost use Rattle.shift_core.specs.Bent.{IsBent, IsCut};
-ghost use Rattle.shift_core.specs.Carried as carried;
 ghost use Rattle.shift_core.specs.Form.{form_of};
 ghost use Rattle.shift_core.specs.Sound.{IsSound};
 ghost use Rattle.touch_index.specs.Touched.{TakesBlock};
 ghost use Rattle.range_table.specs.Shifted.{GivesUpBlock, KeepsBlock, TearsBlock};
 ghost use Rattle.range_table.specs.internal.Shifting.{IsFate};
 
-use cell_addr::{Block, Place};
-use shift_core::{Shift, is_bent, is_cut, moved_block};
+use cell_addr::Block;
+use shift_core::{Shift, destination, is_bent, is_cut, moved_block};
 
 // What an operation makes of the summary of a block.
 #[derive(Clone, Copy)]
@@ -51,6 +50,7 @@ fn takes(s: &Shift, b: Block) -> bool
         _ => false,
     }
 }
+
 // Where the block moves, unless the operation gives up what is kept for it.
 fn kept_on(s: &Shift, b: Block) -> Option<Block>
     requires sound { IsSound s.now }
@@ -84,20 +84,5 @@ fn tears(s: &Shift, b: Block) -> bool
             !source.contains(b) && (b.meets(source) || b.meets(destination(source, to)))
         }
         _ => false,
-    }
-}
-
-// The block of the size of `source` that begins at `to`.
-fn destination(source: Block, to: Place) -> Block
-    requires source_inside { IsBlockInside source }
-    requires inside { IsBlockInside (carried.destination source to) }
-    ensures { result ≡ carried.destination source to }
-{
-    Block {
-        sheet: to.sheet,
-        top: to.row,
-        left: to.col,
-        bottom: to.row + (source.bottom - source.top),
-        right: to.col + (source.right - source.left),
     }
 }

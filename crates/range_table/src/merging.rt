@@ -1,9 +1,9 @@
 // The cells of a block merged into a summary: those that aren't empty, row by row.
-ghost use Rattle.std.specs.Prelude.{◌≡◌, ◌+◌, ◌-◌, ◌<◌, ◌≤◌, ◌^◌, ◌++◌, ◌∷◌, [], suc, length, IfOk, List, OnErr, OnOk};
-ghost use Rattle.cell_addr.specs.Place.{IsBlockInside};
+ghost use Rattle.std.specs.Prelude.{◌≡◌, ◌+◌, ◌<◌, ◌≤◌, ◌^◌, ◌++◌, ◌∷◌, [], length, IfOk, List, OnErr, OnOk};
+ghost use Rattle.cell_addr.specs.Place.{IsBlockInside, width};
 ghost use Rattle.cell_value.specs.Summary.{IsBounded, summary_of};
 ghost use Rattle.cell_value.specs.declared.scalar.Scalar.{Scalar};
-ghost use Rattle.range_table.specs.Cells.{block_values, cells_in, nonempty_in, row_values, seen_values, width};
+ghost use Rattle.range_table.specs.Cells.{block_values, cells_in, nonempty_in, row_values, seen_values};
 ghost use Rattle.range_table.specs.internal.Rows.{GoesOn};
 
 use crate::cells::Cells;
@@ -147,14 +147,5 @@ fn cells_in(b: Block) -> u64
     requires { IsBlockInside b }
     ensures { result ≡ cells_in b }
 {
-    u64::from(extent(b.top, b.bottom)) * u64::from(extent(b.left, b.right))
-}
-
-// How many lines there are from the first to the last.
-fn extent(first: u32, last: u32) -> u32
-    requires order { first ≤ last }
-    requires within { last < 2 ^ 31 }
-    ensures { result ≡ suc last - first }
-{
-    last - first + 1
+    b.height() * b.width()
 }

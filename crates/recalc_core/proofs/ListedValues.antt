@@ -5,6 +5,7 @@ use Rattle.std.specs.List.{list_all}
 use Rattle.std.proofs.Math.Nat.{mul-le-mul_right, suc-mul}
 use Rattle.std.proofs.lemmas.Bool.{and_parts}
 use Rattle.std.proofs.lemmas.List.{append-nil, get_or-map, length-map, map-append, take_all, take_more}
+use Rattle.cell_addr.specs.Place.{height, width}
 use Rattle.cell_addr.specs.declared.place.Block.{Block}
 use Rattle.cell_addr.specs.declared.place.Place.{Place}
 use Rattle.cell_value.proofs.Filling.{empty_from_any}
@@ -12,7 +13,7 @@ use Rattle.cell_value.specs.Cells.{index_of}
 use Rattle.cell_value.specs.Scalar.{is_empty}
 use Rattle.cell_value.specs.declared.scalar.Scalar.{Scalar}
 use Rattle.cell_value.specs.declared.scalar.Scalar.TheVariants.{Empty}
-use Rattle.calc_terms.specs.Cells.{cells_in, height, width}
+use Rattle.calc_terms.specs.Cells.{cells_in}
 use Rattle.calc_eval.specs.Filled.{AreFilled, seen_cells, shown_by}
 use Rattle.calc_eval.proofs.BlockChanges.{none_in, size_in}
 use Rattle.calc_eval.proofs.FilledCells.{cell_fills, cols_in, seen_cell, seen_inside}

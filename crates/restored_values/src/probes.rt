@@ -1,13 +1,10 @@
 // The probe of an operation.
 ghost use Rattle.std.specs.Prelude.{◌≡◌};
 ghost use Rattle.shift_core.specs.Lines.{IsSoundEdit};
-ghost use Rattle.shift_core.specs.Opposite.{shift_of};
 ghost use Rattle.shift_core.specs.Sound.{IsSound};
 ghost use Rattle.shift_core.specs.declared.edit.Edit.TheVariants.{Move};
-ghost use Rattle.shift_core.specs.declared.form.Form.TheVariants.{Lines};
 ghost use Rattle.restored_values.specs.Probes as probes;
 
-use cell_addr::Axis;
 use shift_core::{Edit, Form, Shift};
 
 /// The operation that bends, as it stands afterwards, whatever range, whole or not, this one bends and doesn't lose, and else only what
@@ -19,7 +16,8 @@ pub fn probe(s: &Shift) -> Option<Shift>
 {
     match s.form() {
         Form::Lines { sheet, axis, edit } => {
-            Some(on_axis(sheet, axis, edit_probe(axis.limit(), edit)))
+            let edit = edit_probe(axis.limit(), edit);
+            Some(Form::Lines { sheet, axis, edit }.shift())
         }
         Form::Cells { .. } | Form::Sheet { .. } => None,
     }
@@ -55,43 +53,5 @@ fn one_moved(from: u32, before: u32) -> Edit
         from,
         count: 1,
         before,
-    }
-}
-
-// The edit of the sheet's lines along the axis, as an operation.
-fn on_axis(sheet: u32, axis: Axis, edit: Edit) -> Shift
-    ensures { result ≡ shift_of (Lines sheet axis edit) }
-{
-    match (axis, edit) {
-        (Axis::Rows, Edit::Insert { at, count }) => Shift::InsertRows { sheet, at, count },
-        (Axis::Rows, Edit::Delete { at, count }) => Shift::DeleteRows { sheet, at, count },
-        (
-            Axis::Rows,
-            Edit::Move {
-                from,
-                count,
-                before,
-            },
-        ) => Shift::MoveRows {
-            sheet,
-            from,
-            count,
-            before,
-        },
-        (Axis::Cols, Edit::Insert { at, count }) => Shift::InsertCols { sheet, at, count },
-        (Axis::Cols, Edit::Delete { at, count }) => Shift::DeleteCols { sheet, at, count },
-        (
-            Axis::Cols,
-            Edit::Move {
-                from,
-                count,
-                before,
-            },
-        ) => Shift::MoveCols {
-            sheet,
-            from,
-            count,
-            before,
-        },
     }
 }

@@ -16,8 +16,8 @@ use Rattle.tree_rewrite.specs.Rewritten.{area_after, area_at, area_before, cell_
 use Rattle.tree_rewrite.specs.internal.Passage.{all_placed_by}
 use Rattle.run_walk.specs.Run.{AreSound, area_back, area_over, place_back, place_over, tree_back, tree_over}
 use Rattle.run_walk.specs.internal.Walked.{area_along, place_along, tree_along}
-use Rattle.run_walk.specs.declared.direction.Direction.{Direction}
-use Rattle.run_walk.specs.declared.direction.Direction.TheVariants.{Forward, Backward}
+use Rattle.tree_rewrite.specs.declared.direction.Direction.{Direction}
+use Rattle.tree_rewrite.specs.declared.direction.Direction.TheVariants.{Forward, Backward}
 use Rattle.run_walk.proofs.Over.{option-all}
 
 -- a corner that is at another place already, at a third one

@@ -26,8 +26,8 @@ use Rattle.tree_rewrite.specs.Rewritten.{area_after, area_at, area_before, cell_
 use Rattle.tree_rewrite.specs.Shaped.{AreShaped}
 use Rattle.tree_rewrite.specs.internal.Passage.{IsFull}
 use Rattle.run_walk.specs.Run.{AreSound, back_all, over_all}
-use Rattle.run_walk.specs.declared.direction.Direction.{Direction}
-use Rattle.run_walk.specs.declared.direction.Direction.TheVariants.{Forward, Backward}
+use Rattle.tree_rewrite.specs.declared.direction.Direction.{Direction}
+use Rattle.tree_rewrite.specs.declared.direction.Direction.TheVariants.{Forward, Backward}
 use Rattle.run_walk.specs.internal.Freed.{AllFit}
 use Rattle.run_walk.specs.internal.Walked.{TakesArea, TakesCell, area_along, area_walked, cell_walked, home_along, place_along, tree_along}
 use Rattle.run_walk.proofs.Fusion.{fits-along, walked}

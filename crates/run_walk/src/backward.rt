@@ -8,14 +8,13 @@ ghost use Rattle.run_walk.specs.Run.{AreSound, home_back, tree_back};
 ghost use Rattle.tree_rewrite.specs.Pooled.{HoldsChanged};
 ghost use Rattle.tree_rewrite.specs.References.{FitsSheets};
 
-use crate::direction::Direction;
 use crate::run::home_back;
 use crate::walk::Walk;
 use crate::way::Steps;
 use formula_tree::{Home, Pool, Tree};
 use shift_core::Shift;
 use std::alloc::{AllocError, Global};
-use tree_rewrite::replaced;
+use tree_rewrite::{Direction, replaced};
 
 /// The tree and the home of a formula before all operations of the run, as far as those after it tell: as
 /// [`tree_rewrite::backward`] over one after the other gives them, from the last to the first, but that only the last

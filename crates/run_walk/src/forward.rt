@@ -8,13 +8,12 @@ ghost use Rattle.run_walk.specs.Run.{AreSound, home_over, tree_over};
 ghost use Rattle.tree_rewrite.specs.Pooled.{HoldsChanged};
 ghost use Rattle.tree_rewrite.specs.References.{FitsSheets};
 
-use crate::direction::Direction;
 use crate::walk::Walk;
 use crate::way::{Steps, Way, home_by};
 use formula_tree::{Home, Pool, Tree};
 use shift_core::Shift;
 use std::alloc::{AllocError, Global};
-use tree_rewrite::replaced;
+use tree_rewrite::{Direction, replaced};
 
 /// The tree and the home of a formula after all operations of the run: as [`tree_rewrite::forward`] over one after the
 /// other gives them, but that only the last tree is made.

@@ -1,11 +1,11 @@
 // References, blocks and whole ranges taken over a run of operations.
-use crate::direction::Direction;
+use crate::direction::{area_along, place_along};
 use crate::run::{first_place, last_place};
 use crate::way::Way;
 use cell_addr::Axis;
 use cell_value::FaultKind;
 use formula_tree::{Corner, Home, Node, Ref};
-use tree_rewrite::{Replacement, changed_area, changed_cell};
+use tree_rewrite::{Direction, Replacement, changed_area, changed_cell};
 
 // The walk of a formula over the first operations of a way, some of them: its direction, and the home at either end.
 #[derive(Drop)]
@@ -31,7 +31,7 @@ impl<'a, W: Way> Replacement for Walk<'a, W> {
 
     fn reference(&self, reference: Ref) -> Option<Node> {
         let corner = reference.at(self.from);
-        let Some(at) = self.direction.place(self.way, self.count, corner.at) else {
+        let Some(at) = place_along(self.direction, self.way, self.count, corner.at) else {
             return Some(Node::Fault(FaultKind::Ref));
         };
         let new = Ref::of(Corner { at, ..corner }, self.to);
@@ -41,7 +41,7 @@ impl<'a, W: Way> Replacement for Walk<'a, W> {
     fn area(&self, lines: Option<Axis>, first: Ref, last: Ref) -> Option<Node> {
         let (top, bottom) = (first.at(self.from), last.at(self.from));
         let block = top.block_to(bottom);
-        let Some(block) = self.direction.area(self.way, self.count, lines, block) else {
+        let Some(block) = area_along(self.direction, self.way, self.count, lines, block) else {
             return Some(Node::Fault(FaultKind::Ref));
         };
         let top = Corner {

@@ -57,8 +57,8 @@ impl Form {
         }
     }
 
-    // The operation of the form.
-    pub(crate) fn shift(self) -> Shift
+    /// The operation of the form: [`Shift::form`] gives the form back.
+    pub fn shift(self) -> Shift
         ensures { result ≡ shift_of self }
     {
         match self {

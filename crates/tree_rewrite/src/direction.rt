@@ -7,12 +7,12 @@ use cell_addr::{Axis, Block, Place};
 use formula_tree::Home;
 use shift_core::{Shift, back_place, moved_place};
 
-// A direction over an operation.
+/// A direction over an operation, or over several.
 #[derive(Clone, Copy, PartialEq, Eq, Debug)]
-pub(crate) enum Direction {
-    // From before it to after it.
+pub enum Direction {
+    /// From before the first to after the last one.
     Forward,
-    // From after it to before it.
+    /// From after the last to before the first one.
     Backward,
 }
 

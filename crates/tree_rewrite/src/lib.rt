@@ -30,6 +30,7 @@ mod rewrite;
 mod walk;
 
 pub use areas::{back_area, moved_area};
+pub use direction::Direction;
 pub use loss::loses;
 pub use replacement::{Replacement, changed_area, changed_cell, replaced};
 pub use rewrite::{backward, forward};

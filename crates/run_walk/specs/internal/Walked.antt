@@ -12,8 +12,8 @@ use Rattle.formula_tree.specs.declared.reference.Home.{Home}
 use Rattle.formula_tree.specs.declared.reference.Ref.{Ref}
 use Rattle.shift_core.specs.declared.shift.Shift.{Shift}
 use Rattle.run_walk.specs.Run.{AreSound, area_back, area_over, home_back, home_over, place_back, place_over, tree_back, tree_over}
-use Rattle.run_walk.specs.declared.direction.Direction.{Direction}
-use Rattle.run_walk.specs.declared.direction.Direction.TheVariants.{Forward, Backward}
+use Rattle.tree_rewrite.specs.declared.direction.Direction.{Direction}
+use Rattle.tree_rewrite.specs.declared.direction.Direction.TheVariants.{Forward, Backward}
 use Rattle.tree_rewrite.specs.References.{IsAreaInside, IsReferenceInside}
 use Rattle.tree_rewrite.specs.Rewritten.{area_at, cell_at}
 

@@ -1,6 +1,6 @@
 use Rattle.std.proofs.Common.{◌≡◌, ◌∙◌, sym, ap, subst, arith, ◌<◌}
+use Rattle.cell_addr.specs.Place.{height, width}
 use Rattle.cell_value.specs.Cells.{IsEmptyFrom, with_value}
-use Rattle.calc_terms.specs.Cells.{height, width}
 use Rattle.calc_eval.proofs.BlockFilling.{all_filled, cell_filled, cells_before, filled, next_empty, row_filled, rows_before}
 use Rattle.calc_eval.proofs.cells.area_of.Goals as goal
 
@@ -11,8 +11,8 @@ push-requires-clause-next g c =
 pub cols-preserved : goal.cols-preserved
 cols-preserved g c =
     let shown = g.C.Cells.shown c.args.cells.now in
-    let row : c.rows.row < height c.args.block = subst (λ n. c.rows.row < n) c.extent-rows.ensures.extent c.rows-test.true in
-    let col : c.cols.col < width c.args.block = subst (λ n. c.cols.col < n) c.extent-cols.ensures.extent c.cols-test.true in
+    let row : c.rows.row < height c.args.block = subst (λ n. c.rows.row < n) c.extent-rows.ensures.rows c.rows-test.true in
+    let col : c.cols.col < width c.args.block = subst (λ n. c.cols.col < n) c.extent-rows.ensures.cols c.cols-test.true in
     c.in_ok-push.ensures.ok
     ∙ ap (λ a. with_value a c.rows.row c.cols.col c.in_ok-value.value) c.cols.invariant
     ∙ cell_filled shown c.args.block c.rows.row c.cols.col c.in_ok-value.value row col (c.in_ok-value.ensures ∙ c.value.ensures ∙ ap shown c.place_in.ensures)
@@ -22,7 +22,7 @@ rows-preserved g c =
     let shown = g.C.Cells.shown c.args.cells.now in
     let within = c.cols.auto.col-end in
     let past = c.cols-test.false in
-    let is = c.extent-cols.ensures.extent in
+    let is = c.extent-rows.ensures.cols in
     let whole : c.cols.col ≡ width c.args.block = omega arith in
     c.cols.invariant
     ∙ ap (λ k. filled shown c.args.block (cells_before shown c.args.block c.rows.row k)) whole
@@ -33,7 +33,7 @@ returns g c =
     let shown = g.C.Cells.shown c.args.cells.now in
     let within = c.rows.auto.row-end in
     let past = c.rows-test.false in
-    let is = c.extent-rows.ensures.extent in
+    let is = c.extent-rows.ensures.rows in
     let whole : c.rows.row ≡ height c.args.block = omega arith in
     c.rows.invariant
     ∙ ap (λ k. filled shown c.args.block (rows_before shown c.args.block k)) whole

@@ -6,7 +6,7 @@ use Rattle.calc_eval.proofs.FilledCells.{cell_fills, cols_in, rows_in, seen_cell
 use Rattle.calc_eval.proofs.filled.filled_area.Goals as goal
 
 pub cells-init : goal.cells-init
-cells-init c = c.new-area.ensures ∙ ap₂ empty_cells c.extent-rows.ensures.extent c.extent-cols.ensures.extent ∙ none_in c.args.block
+cells-init c = c.new-area.ensures ∙ ap₂ empty_cells c.extent-rows.ensures.rows c.extent-rows.ensures.cols ∙ none_in c.args.block
 
 pub overflow_sub-cell : goal.overflow_sub-cell
 overflow_sub-cell c =

@@ -1,7 +1,8 @@
 use Rattle.std.proofs.Common.{◌≡◌, ap, arith, subst, suc, ◌+◌, ◌-◌, ◌*◌}
 use Rattle.std.specs.List.{flat_map, range_with_len}
 use Rattle.std.proofs.Math.Nat.{suc-mul}
-use Rattle.range_table.specs.Cells.{row_values, width}
+use Rattle.cell_addr.specs.Place.{width}
+use Rattle.range_table.specs.Cells.{row_values}
 use Rattle.range_table.specs.internal.Rows.{GoesOn}
 use Rattle.range_table.proofs.Sums.{goes_further, row_more}
 use Rattle.range_table.proofs.merging.with_cells.Goals as goal

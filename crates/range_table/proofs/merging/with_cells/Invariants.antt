@@ -1,7 +1,8 @@
 use Rattle.std.proofs.Common.{◌≡◌, ◌+◌, ◌-◌, ◌*◌, ◌≤◌}
 use Rattle.std.specs.List.{flat_map, range_with_len}
+use Rattle.cell_addr.specs.Place.{width}
 use Rattle.cell_value.specs.Summary.{IsBounded}
-use Rattle.range_table.specs.Cells.{row_values, width}
+use Rattle.range_table.specs.Cells.{row_values}
 use Rattle.range_table.specs.internal.Rows.{GoesOn}
 use Rattle.range_table.proofs.merging.with_cells.Given as goal
 

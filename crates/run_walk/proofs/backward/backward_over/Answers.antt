@@ -5,7 +5,7 @@ use Rattle.run_walk.specs.Run.{AreSound, home_back}
 use Rattle.run_walk.specs.internal.Walked.{area_walked, cell_walked}
 use Rattle.run_walk.proofs.Over.{home_back-inside, not-empty, take-whole}
 use Rattle.run_walk.proofs.Walking.{taken-each, walked-at_home, walked-fits}
-use Rattle.run_walk.specs.declared.direction.Direction.TheVariants.{Backward}
+use Rattle.tree_rewrite.specs.declared.direction.Direction.TheVariants.{Backward}
 use Rattle.run_walk.proofs.backward.backward_over.Goals as goal
 
 pub replaced-requires : goal.replaced-requires

@@ -3,7 +3,7 @@ use Rattle.formula_tree.specs.Relative.{relative}
 use Rattle.run_walk.specs.Run.{home_over}
 use Rattle.run_walk.proofs.Over.{home_over-inside, some-taken, sound-take}
 use Rattle.run_walk.proofs.Walking.{taken-each, walked-at_home, walked-fits}
-use Rattle.run_walk.specs.declared.direction.Direction.TheVariants.{Forward}
+use Rattle.tree_rewrite.specs.declared.direction.Direction.TheVariants.{Forward}
 use Rattle.run_walk.proofs.forward.forward_by.Goals as goal
 
 pub replaced-requires : goal.replaced-requires

@@ -21,7 +21,7 @@ returns-in_default g c =
     let top = corner_at (base_of w.from) c.args.first in
     let bottom = corner_at (base_of w.from) c.args.last in
     let between = corners-block c.at-top.result c.at-bottom.result top bottom c.block_to-block.result c.at-top.ensures c.at-bottom.ensures c.block_to-block.ensures in
-    let lost : area_along w.direction run c.args.lines (block_of top bottom) ≡ None = ap (area_along w.direction run c.args.lines) (sym between) ∙ sym c.area.ensures ∙ c.in_default.is in
+    let lost : area_along w.direction run c.args.lines (block_of top bottom) ≡ None = ap (area_along w.direction run c.args.lines) (sym between) ∙ sym c.area_along.ensures ∙ c.in_default.is in
     let is = area-lost w.direction run w.from w.to c.args.lines c.args.first c.args.last lost in
     (walking.relative-Fault faults.Ref ∙ sym is, λ q. walking.fault-no_area faults.Ref c.args.lines c.args.first c.args.last (sym is ∙ q))
 
@@ -33,7 +33,7 @@ of-new_first-requires-clause-corner g c =
     let top = corner_at (base_of w.from) c.args.first in
     let bottom = corner_at (base_of w.from) c.args.last in
     let between = corners-block c.at-top.result c.at-bottom.result top bottom c.block_to-block.result c.at-top.ensures c.at-bottom.ensures c.block_to-block.ensures in
-    let goes : area_along w.direction run c.args.lines (block_of top bottom) ≡ Some c.in-Some.block = ap (area_along w.direction run c.args.lines) (sym between) ∙ sym c.area.ensures ∙ c.in-Some.is in
+    let goes : area_along w.direction run c.args.lines (block_of top bottom) ≡ Some c.in-Some.block = ap (area_along w.direction run c.args.lines) (sym between) ∙ sym c.area_along.ensures ∙ c.in-Some.is in
     subst IsInside (sym c.first_place.ensures) (corners-inside w.direction run c.args.lines (block_of top bottom) c.in-Some.block sound c.requires.takes.3 goes).0
 
 pub of-new_last-requires-clause-corner : goal.of-new_last-requires-clause-corner
@@ -44,7 +44,7 @@ of-new_last-requires-clause-corner g c =
     let top = corner_at (base_of w.from) c.args.first in
     let bottom = corner_at (base_of w.from) c.args.last in
     let between = corners-block c.at-top.result c.at-bottom.result top bottom c.block_to-block.result c.at-top.ensures c.at-bottom.ensures c.block_to-block.ensures in
-    let goes : area_along w.direction run c.args.lines (block_of top bottom) ≡ Some c.in-Some.block = ap (area_along w.direction run c.args.lines) (sym between) ∙ sym c.area.ensures ∙ c.in-Some.is in
+    let goes : area_along w.direction run c.args.lines (block_of top bottom) ≡ Some c.in-Some.block = ap (area_along w.direction run c.args.lines) (sym between) ∙ sym c.area_along.ensures ∙ c.in-Some.is in
     subst IsInside (sym c.last_place.ensures) (corners-inside w.direction run c.args.lines (block_of top bottom) c.in-Some.block sound c.requires.takes.3 goes).1
 
 pub changed_area-requires : goal.changed_area-requires
@@ -55,7 +55,7 @@ changed_area-requires g c =
     let top = corner_at (base_of w.from) c.args.first in
     let bottom = corner_at (base_of w.from) c.args.last in
     let between = corners-block c.at-top.result c.at-bottom.result top bottom c.block_to-block.result c.at-top.ensures c.at-bottom.ensures c.block_to-block.ensures in
-    let goes : area_along w.direction run c.args.lines (block_of top bottom) ≡ Some c.in-Some.block = ap (area_along w.direction run c.args.lines) (sym between) ∙ sym c.area.ensures ∙ c.in-Some.is in
+    let goes : area_along w.direction run c.args.lines (block_of top bottom) ≡ Some c.in-Some.block = ap (area_along w.direction run c.args.lines) (sym between) ∙ sym c.area_along.ensures ∙ c.in-Some.is in
     let first = ref-at w.to c.at-top.result top c.first_place.result (first_place c.in-Some.block) c.of-new_first.result c.at-top.ensures c.first_place.ensures c.of-new_first.ensures in
     let last = ref-at w.to c.at-bottom.result bottom c.last_place.result (last_place c.in-Some.block) c.of-new_last.result c.at-bottom.ensures c.last_place.ensures c.of-new_last.ensures in
     let shape = area-shaped w.direction run w.from w.to c.args.lines c.args.first c.args.last c.in-Some.block sound c.requires.shape goes in
@@ -69,7 +69,7 @@ returns g c =
     let top = corner_at (base_of w.from) c.args.first in
     let bottom = corner_at (base_of w.from) c.args.last in
     let between = corners-block c.at-top.result c.at-bottom.result top bottom c.block_to-block.result c.at-top.ensures c.at-bottom.ensures c.block_to-block.ensures in
-    let goes : area_along w.direction run c.args.lines (block_of top bottom) ≡ Some c.in-Some.block = ap (area_along w.direction run c.args.lines) (sym between) ∙ sym c.area.ensures ∙ c.in-Some.is in
+    let goes : area_along w.direction run c.args.lines (block_of top bottom) ≡ Some c.in-Some.block = ap (area_along w.direction run c.args.lines) (sym between) ∙ sym c.area_along.ensures ∙ c.in-Some.is in
     let first = ref-at w.to c.at-top.result top c.first_place.result (first_place c.in-Some.block) c.of-new_first.result c.at-top.ensures c.first_place.ensures c.of-new_first.ensures in
     let last = ref-at w.to c.at-bottom.result bottom c.last_place.result (last_place c.in-Some.block) c.of-new_last.result c.at-bottom.ensures c.last_place.ensures c.of-new_last.ensures in
     let is = area-goes w.direction run w.from w.to c.args.lines c.args.first c.args.last c.in-Some.block goes ∙ same-area c.args.lines _ _ _ _ (sym first) (sym last) in
