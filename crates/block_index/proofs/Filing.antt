@@ -406,6 +406,19 @@ none_place keys k none = by (nat_lt (place_of keys k) (length keys)) refl none
     by true e is = absurd (cc)
     by false e is = omega (arith, not_below (place_of keys k) (length keys) e, place_within keys k)
 
+-- where a key stands that is found, whose size is in use
+pub found_size : (x : BlockIndex) (k : SlotKey) (place : ℕ) → Some place ≡ position (same_key k) x.slots.keys → has_size (key_size k) x.sizes.items ≡ true
+found_size x k place found = by (nat_lt (place_of x.slots.keys k) (length x.slots.keys)) refl found
+  where
+    below : (i n : ℕ) → nat_lt i n ≡ true → i < n
+    below i n h = grind (arith, nat_tests)
+
+    by : (t : Bool) → nat_lt (place_of x.slots.keys k) (length x.slots.keys) ≡ t → Some place ≡ cond t (Some (place_of x.slots.keys k)) None → has_size (key_size k) x.sizes.items ≡ true
+    by true e is =
+        let inside : place_of x.slots.keys k < length x.slots.keys = below (place_of x.slots.keys k) (length x.slots.keys) e in
+        subst (λ l. has_size (key_size l) x.sizes.items ≡ true) (stands_at x.slots.keys k k inside) (x.sized (place_of x.slots.keys k) k inside)
+    by false e is = absurd (cc)
+
 -- ---- by results
 
 pub on_err : {A B : Type 0} (r : Result A B) (P : Type 0) → P → OnErr r P

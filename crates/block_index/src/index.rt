@@ -1,5 +1,5 @@
 // Numbers filed under the slots of blocks.
-ghost use Rattle.std.specs.Prelude.{◌≡◌, ◌<◌, ◌++◌, ◌∷◌, ℕ, [], true, false, position, length, slice_set, IfOk, OnOk, OnErr};
+ghost use Rattle.std.specs.Prelude.{◌≡◌, ◌<◌, ◌+◌, ◌++◌, ◌∷◌, ℕ, [], true, false, position, length, slice_set, IsTrue, IfOk, OnOk, OnErr};
 ghost use Rattle.std.specs.Option.{option_to_list};
 ghost use Rattle.block_slots.specs.Slots.{has_cell, in_block};
 ghost use Rattle.needs_order.specs.Needs.{has, lists_of};
@@ -101,6 +101,27 @@ impl BlockIndex {
         ensures files { Files (in_cells sheet rows cols) number self.old self.new }
         ensures found { OnOk result ((row col : ℕ) → in_block rows cols row col ≡ true → finds self.new sheet row col number ≡ true) }
     {
+        if is_line(rows.start, rows.end) && is_line(cols.start, cols.end) {
+            let size = Size {
+                row_level: 0,
+                col_level: 0,
+            };
+            return self.file_under(sheet, size.slot_at(rows.start, cols.start), number);
+        }
+        self.file_cut(sheet, rows, cols, number)
+    }
+
+    // Files the number under each slot into which the rows by the columns of a sheet are cut.
+    fn file_cut(
+        &mut self,
+        sheet: u32,
+        rows: Range<u64>,
+        cols: Range<u64>,
+        number: usize,
+    ) -> Result<(), AllocError>
+        ensures files { Files (in_cells sheet rows cols) number self.old self.new }
+        ensures found { OnOk result ((row col : ℕ) → in_block rows cols row col ≡ true → finds self.new sheet row col number ≡ true) }
+    {
         let slots = slots(self.alloc, rows, cols)?;
         'slots: for slot in &slots {
             self.file_under(sheet, *slot, number)?;
@@ -113,7 +134,6 @@ impl BlockIndex {
         ensures files { Files (in_slot sheet slot) number self.old self.new }
         ensures found { OnOk result ((row col : ℕ) → has_cell slot row col ≡ true → finds self.new sheet row col number ≡ true) }
     {
-        self.use_size(slot.size())?;
         let place = self.slot_under(SlotKey::of(sheet, slot))?;
         self.push_at(place, number)
     }
@@ -133,15 +153,17 @@ impl BlockIndex {
 
     // The number of the slot under a key, which gets a list where it has none.
     fn slot_under(&mut self, key: SlotKey) -> Result<usize, AllocError>
-        requires { has_size (key_size key) self.old.sizes.items ≡ true }
         ensures alike { FindsAlike self.old self.new }
-        ensures sizes { self.new.sizes ≡ self.old.sizes }
+        ensures size { OnOk result (has_size (key_size key) self.new.sizes.items ≡ true) }
         ensures place { IfOk result (λ place. place ≡ place_of self.new.slots.keys key) }
         ensures inside { IfOk result (λ place. place < length self.new.slots.keys) }
     {
         match self.slots.get_index_of(&key) {
             Some(place) => Ok(place),
-            None => self.add_slot(key),
+            None => {
+                self.use_size(key.size())?;
+                self.add_slot(key)
+            }
         }
     }
 
@@ -172,6 +194,13 @@ impl BlockIndex {
         self.lists[place].push(number)?;
         Ok(())
     }
+}
+
+// Whether there is one line from the first to before the end.
+fn is_line(first: u64, end: u64) -> bool
+    ensures { IsTrue result → end ≡ first + 1 }
+{
+    first < end && end - first == 1
 }
 
 // Puts the number at the end where there is one.

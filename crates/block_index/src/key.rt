@@ -1,8 +1,8 @@
 // Under what numbers are filed.
 ghost use Rattle.std.specs.Prelude.{◌≡◌};
-ghost use Rattle.block_index.specs.internal.Keys.{key_of};
+ghost use Rattle.block_index.specs.internal.Keys.{key_of, key_size};
 
-use block_slots::Slot;
+use block_slots::{Size, Slot};
 
 // A slot of the cells of a sheet, by the levels and the indexes of its segments. The rows come last, along which slots
 // follow one another in most sheets, so that their keys are near one another.
@@ -26,6 +26,16 @@ impl SlotKey {
             col_index: slot.cols.index,
             row_level: slot.rows.level,
             row_index: slot.rows.index,
+        }
+    }
+
+    // The size of the slot.
+    pub(crate) fn size(self) -> Size
+        ensures { result ≡ key_size self }
+    {
+        Size {
+            row_level: self.row_level,
+            col_level: self.col_level,
         }
     }
 }

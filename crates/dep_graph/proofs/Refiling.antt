@@ -364,6 +364,10 @@ range_is (Some (Cell p)) a e = absurd (no_some a e)
 range_is (Some (Name scope word)) a e = absurd (no_some a e)
 range_is None a e = absurd (no_some a e)
 
+-- what a node that was looked up becomes
+pub moved_from : (s : Shift) (net : Net) (n : ℕ) (before result : Option Node) → before ≡ found_at net.nodes n → result ≡ range_in (option_and_then (node_after s) before) → result ≡ range_in (after_at s net n)
+moved_from s net n before result is becomes = becomes ∙ ap (λ o. range_in (option_and_then (node_after s) o)) is
+
 -- and a range is taken for one
 pub is_taken : (a : Node) → is_range (Some a) ≡ true → range_in (Some a) ≡ Some a
 is_taken (Range b) h = refl

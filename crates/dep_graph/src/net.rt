@@ -31,7 +31,8 @@ pub(crate) struct Net {
     // What operations find them by.
     pub(crate) touches: Touches,
     // About how much was left behind since the net was made: links that were dropped, numbers whose nodes operations made
-    // others or none, and rectangles that they filed. A range that is handed on without new lines leaves nothing behind.
+    // others or none, and rectangles that they filed. A range that is handed on leaves nothing behind, but the filing of new
+    // lines between its own counts a little, since it is one more.
     pub(crate) left_behind: usize,
     pub ghost counts: { node_count links ≡ count_of nodes },
     pub ghost rooms: { length files.current.items ≡ count_of nodes },

@@ -1,6 +1,6 @@
 // How ranges are filed after a structural operation.
 ghost use Rattle.std.specs.BTreeMap as tree;
-ghost use Rattle.std.specs.Prelude.{◌≡◌, ◌↔◌, ◌==◌, ◌<◌, ℕ, true, false, Some, None, length, slice_get, if◌then◌else◌, IsSome, IsTrue, IfOk, OnOk};
+ghost use Rattle.std.specs.Prelude.{◌≡◌, ◌↔◌, ◌==◌, ◌<◌, ℕ, true, false, Some, None, length, slice_get, if◌then◌else◌, option_and_then, IsSome, IsTrue, IfOk, OnOk};
 ghost use Rattle.std.specs.Ordering.{nat_cmp};
 ghost use Rattle.needs_order.specs.Needs.{has};
 ghost use Rattle.node_links.specs.Redirect.{few_target, is_among};
@@ -8,6 +8,7 @@ ghost use Rattle.place_lines.specs.Moved.{AreMoved};
 ghost use Rattle.place_lines.specs.declared.spot.Spot.{Spot};
 ghost use Rattle.shift_core.specs.Form.{form_of};
 ghost use Rattle.shift_core.specs.Sound.{IsSound};
+ghost use Rattle.dep_graph.specs.Shifted.{node_after};
 ghost use Rattle.dep_graph.specs.declared.node.Node.TheVariants as node;
 ghost use Rattle.dep_graph.specs.internal.Files.{AreServing, FilesOn, FindsBy, HoldsNode, IsSpotOf, finds_filing};
 ghost use Rattle.dep_graph.specs.internal.Filings.{filing_of, filing_then, is_given, owner_at};
@@ -19,6 +20,7 @@ ghost use Rattle.dep_graph.specs.internal.Touches.{AreInside, FindsTouched, IsHa
 use crate::net::Net;
 use crate::node::Node;
 use crate::serving::Serving;
+use crate::shifted::moved_node;
 use crate::touches::handed_on;
 use crate::whole::{fresh_whole, hands_on_whole};
 use cell_addr::Whole;
@@ -86,24 +88,16 @@ impl Net {
             return Ok(());
         }
         match few_target(few, number) {
-            Some(target) => match self.moved_range(s, number) {
-                Some(after) => self.refile_range(filings, lines, s, number, target, after),
-                None => Ok(()),
-            },
+            Some(target) => {
+                let before = self.nodes.node(number);
+                match moved_range(s, before) {
+                    Some(after) => {
+                        self.refile_range(filings, lines, s, number, target, before, after)
+                    }
+                    None => Ok(()),
+                }
+            }
             None => Ok(()),
-        }
-    }
-
-    // The range that the node of a number becomes; none where it becomes none.
-    fn moved_range(&self, s: &Shift, number: usize) -> Option<Node>
-        requires { IsSound s.now }
-        ensures { result ≡ range_in (after_at s.now self.now number) }
-    {
-        match self.moved(s, number)? {
-            Node::Range(block) => Some(Node::Range(block)),
-            Node::Whole(whole) => Some(Node::Whole(whole)),
-            Node::Cell(_) => None,
-            Node::Name { .. } => None,
         }
     }
 
@@ -115,10 +109,12 @@ impl Net {
         s: &Shift,
         number: usize,
         target: usize,
+        before: Option<Node>,
         after: Node,
     ) -> Result<(), AllocError>
         requires sound { IsSound s.now }
         requires moved { AreMoved (form_of s.now) self.old.nodes.lines lines.now }
+        requires before { before ≡ found_at self.old.nodes number }
         requires after { after_at s.now self.old number ≡ Some after }
         requires range { is_range (Some after) ≡ true }
         requires target { slice_get self.old.nodes.keys.keys target ≡ Some (key_of lines.now after) }
@@ -136,7 +132,7 @@ impl Net {
         if self.files.filing_then(filings, target).is_some() {
             return Ok(());
         }
-        let all = self.filings_after(lines, s, number, target, after)?;
+        let all = self.filings_after(lines, s, number, target, before, after)?;
         put_filings(filings, target, Some(all))
     }
 
@@ -148,10 +144,12 @@ impl Net {
         s: &Shift,
         number: usize,
         target: usize,
+        before: Option<Node>,
         after: Node,
     ) -> Result<Serving, AllocError>
         requires sound { IsSound s.now }
         requires moved { AreMoved (form_of s.now) self.old.nodes.lines lines.now }
+        requires before { before ≡ found_at self.old.nodes number }
         requires range { is_range (Some after) ≡ true }
         requires target { slice_get self.old.nodes.keys.keys target ≡ Some (key_of lines.now after) }
         ensures nodes { self.new.nodes ≡ self.old.nodes }
@@ -160,20 +158,13 @@ impl Net {
         ensures serving { IfOk result (λ all. AreServing self.new.files target all) }
         ensures holds { IfOk result (λ all. HoldsNode lines.now (FindsBy self.new.files target all) after) }
     {
-        if target == number && self.is_handed_on(s, number, after) {
+        if target == number && is_handed_on(s, before, after) {
             if let Some(first) = self.files.filing(number) {
                 return self.file_fresh(lines, s, number, first, after);
             }
         }
         let filing = self.file_part(lines, after, target)?;
         Ok(Serving::since(filing))
-    }
-
-    // Whether the node of a number is a range which leaves its lines to what it becomes, if that has its corners.
-    fn is_handed_on(&self, s: &Shift, number: usize, after: Node) -> bool
-        ensures { IsTrue result → IsHandedNode (form_of s.now) (found_at self.now.nodes number) after }
-    {
-        is_handed_on(s, self.nodes.node(number), after)
     }
 
     // The present filings of a range that is handed on, and one more for the lines that come in between its own.
@@ -220,6 +211,19 @@ impl Net {
         ensures exact { IfOk result (λ f. (spot : Spot) → IsTrue (finds_filing self.new.files spot f) ↔ IsSpotOf lines.now part spot) }
     {
         self.files.file(lines, part, number)
+    }
+}
+
+// The range that the operation makes of a node; none where it makes none.
+fn moved_range(s: &Shift, before: Option<Node>) -> Option<Node>
+    requires { IsSound s.now }
+    ensures { result ≡ range_in (option_and_then (node_after s.now) before) }
+{
+    match moved_node(s, before?)? {
+        Node::Range(block) => Some(Node::Range(block)),
+        Node::Whole(whole) => Some(Node::Whole(whole)),
+        Node::Cell(_) => None,
+        Node::Name { .. } => None,
     }
 }
 

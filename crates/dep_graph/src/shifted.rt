@@ -18,12 +18,16 @@ use crate::graph::Graph;
 use crate::key::Key;
 use crate::net::Net;
 use crate::node::Node;
+use crate::serving::Serving;
 use indexmap::IndexSet;
 use near_hash::NearHash;
 use place_lines::PlaceLines;
 use shift_core::{Shift, moved_block, moved_place, moved_whole};
 use std::alloc::AllocError;
 use std::collections::BTreeMap;
+
+// So many filings of lines that come in between those of ranges take about as much memory as a node does.
+const BESIDE: usize = 16;
 
 impl Graph {
     /// Moves the nodes over the operation, with their links. A lost node goes with its links. Two ranges that become
@@ -36,9 +40,9 @@ impl Graph {
     /// sheet, and each whole range, on whichever sheet, about the number of its links and of its users' links. It
     /// touches what it loses or bends, and what it takes along with moved cells; what it only carries along isn't
     /// looked at. A range that it touches costs the number of its slots besides; but where its corners keep their lines
-    /// and a move leaves their number, just the slots of the lines that come in between. Now and then, where more than
-    /// half of what is kept may have been left behind by operations and by links that were replaced, the graph is made
-    /// anew, which costs what [`Graph::copied`] does.
+    /// and a move leaves their number, just the slots of the lines that come in between. Now and then, where
+    /// operations and links that were replaced may have left behind half of the nodes that are kept, or lines that came in
+    /// between those of ranges take as much memory, the graph is made anew, which costs what [`Graph::copied`] does.
     pub fn shift(&mut self, s: &Shift) -> Result<(), AllocError>
         requires { IsSound s.now }
         ensures ok { OnOk result (AreShifted s.now (links_of self.old) (links_of self.new)) }
@@ -118,10 +122,12 @@ impl Net {
         self.nodes.lines = lines;
         self.files.put_few(&filings);
         let refiled = self.files.filed.saturating_sub(filed);
+        let beside = count_beside(&filings);
         self.left_behind = self
             .left_behind
             .saturating_add(aims.few.len())
-            .saturating_add(refiled);
+            .saturating_add(refiled.saturating_sub(beside))
+            .saturating_add(beside.div_ceil(BESIDE));
         Ok(())
     }
 
@@ -202,10 +208,9 @@ impl Net {
         moved_node(s, self.nodes.node(number)?)
     }
 
-    // Whether more than half of what is kept may have been left behind.
+    // Whether half of the numbers may have been left behind, or what was takes as much memory.
     fn is_fragmented(&self) -> bool {
-        let kept = self.nodes.len().saturating_add(self.files.filed);
-        self.left_behind > kept / 2
+        self.left_behind > self.nodes.len() / 2
     }
 
     // Makes the net anew, with the same links; where there is no memory it stays as it is.
@@ -232,6 +237,19 @@ fn add_between(
     Ok(())
 }
 
+// How many of the filings stand beside others of their nodes.
+fn count_beside(filings: &BTreeMap<usize, Option<Serving>>) -> usize {
+    let mut count = 0usize;
+    'filings: for (_, filing) in filings {
+        if let Some(all) = filing {
+            if all.first != all.last {
+                count = count.saturating_add(1);
+            }
+        }
+    }
+    count
+}
+
 // Sets the target of a number that has none yet, unless it is its own.
 fn set_target(
     few: &mut BTreeMap<usize, Option<usize>>,
@@ -248,7 +266,7 @@ fn set_target(
 }
 
 // Where the operation moves the node; None where its place or its block is lost.
-fn moved_node(s: &Shift, node: Node) -> Option<Node>
+pub(crate) fn moved_node(s: &Shift, node: Node) -> Option<Node>
     requires { IsSound s.now }
     ensures { result ≡ node_after s.now node }
 {

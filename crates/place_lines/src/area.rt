@@ -1,9 +1,4 @@
 // Blocks by the numbers of their outermost lines.
-ghost use Rattle.std.specs.Prelude.{◌≡◌};
-ghost use Rattle.place_lines.specs.Spots.{first_spot, last_spot};
-
-use crate::spot::Spot;
-
 /// A block by the numbers of its first and its last row and column, which stay while operations move these.
 #[derive(Clone, Copy, PartialEq, Eq, Hash, Debug)]
 pub struct Area {
@@ -12,28 +7,4 @@ pub struct Area {
     pub left: u64,
     pub bottom: u64,
     pub right: u64,
-}
-
-impl Area {
-    // The spot of the corner where the area begins.
-    pub(crate) fn first(self) -> Spot
-        ensures { result ≡ first_spot self }
-    {
-        Spot {
-            sheet: self.sheet,
-            row: self.top,
-            col: self.left,
-        }
-    }
-
-    // The spot of the corner where the area ends.
-    pub(crate) fn last(self) -> Spot
-        ensures { result ≡ last_spot self }
-    {
-        Spot {
-            sheet: self.sheet,
-            row: self.bottom,
-            col: self.right,
-        }
-    }
 }

@@ -101,14 +101,22 @@ impl PlaceLines {
     pub fn block(&self, area: Area) -> Option<Block>
         ensures { result ≡ block_at self.now area }
     {
-        let first = self.place(area.first())?;
-        let last = self.place(area.last())?;
+        let rows = self.rows.table(area.sheet);
+        let cols = self.cols.table(area.sheet);
+        let top = position(rows, area.top)?;
+        let left = position(cols, area.left)?;
+        let bottom = position(rows, area.bottom)?;
+        let right = if area.right == area.left {
+            left
+        } else {
+            position(cols, area.right)?
+        };
         Some(Block {
-            sheet: first.sheet,
-            top: first.row,
-            left: first.col,
-            bottom: last.row,
-            right: last.col,
+            sheet: area.sheet,
+            top,
+            left,
+            bottom,
+            right,
         })
     }
 }

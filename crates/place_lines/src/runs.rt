@@ -26,7 +26,7 @@ impl PlaceLines {
         let table = self.table(axis, sheet);
         let end = span.last as u64 + 1;
         let mut at = span.first as u64;
-        let mut runs = Vec::new(alloc);
+        let mut runs = Vec::with_capacity(alloc, 1)?;
         'walk: while at < end {
             let run = run_from(table, at as u32, end);
             at += run.end - run.start;

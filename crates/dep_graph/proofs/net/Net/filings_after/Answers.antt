@@ -1,8 +1,10 @@
 use Rattle.std.proofs.Common.{◌≡◌, ◌∙◌, arith, inl, refl, subst, sym, IfOk, Some}
 use Rattle.std.specs.Prelude.{slice_get}
+use Rattle.shift_core.specs.Form.{form_of}
 use Rattle.dep_graph.specs.internal.Files.{AreServing, FindsBy, HoldsNode, IsServing}
 use Rattle.dep_graph.specs.internal.Filings.{since}
 use Rattle.dep_graph.specs.internal.Keys.{key_of}
+use Rattle.dep_graph.specs.internal.Touches.{IsHandedNode}
 use Rattle.dep_graph.proofs.Filed.{held}
 use Rattle.dep_graph.proofs.net.Net.filings_after.Goals as goal
 
@@ -10,7 +12,7 @@ pub file_fresh-requires-clause-key : goal.file_fresh-requires-clause-key
 file_fresh-requires-clause-key c = subst (λ n. slice_get c.args.self.now.nodes.keys.keys n ≡ Some (key_of c.args.lines.now c.args.after)) c.if-target-number.true c.requires.target
 
 pub file_fresh-requires-clause-handed : goal.file_fresh-requires-clause-handed
-file_fresh-requires-clause-handed c = c.is_handed_on.ensures c.if-is_handed_on.true
+file_fresh-requires-clause-handed c = subst (λ o. IsHandedNode (form_of c.args.s.now) o c.args.after) c.requires.before (c.is_handed_on.ensures c.if-is_handed_on.true)
 
 pub file_fresh-requires-clause-first : goal.file_fresh-requires-clause-first
 file_fresh-requires-clause-first c = sym c.filing.ensures ∙ c.in-Some.is

@@ -2,7 +2,7 @@ use Rattle.std.proofs.Common.{◌≡◌, ℕ, true, take}
 use Rattle.std.specs.List.{list_any}
 use Rattle.block_slots.specs.Slots.{has_cell}
 use Rattle.block_index.specs.Index.{Files, finds, in_cells}
-use Rattle.block_index.proofs.index.BlockIndex.file.Given as goal
+use Rattle.block_index.proofs.index.BlockIndex.file_cut.Given as goal
 
 -- the cells of the slots gone by find the number
 abbrev pub invariant-slots : goal.invariant-slots

@@ -5,7 +5,7 @@ use Rattle.block_slots.specs.Slots.{has_cell, in_block}
 use Rattle.block_index.specs.Index.{Files, in_cells}
 use Rattle.block_index.specs.internal.Keys.{in_slot}
 use Rattle.block_index.proofs.Filing.{Files-on, Files-to, all_found, found_more, slot_covered}
-use Rattle.block_index.proofs.index.BlockIndex.file.Goals as goal
+use Rattle.block_index.proofs.index.BlockIndex.file_cut.Goals as goal
 
 pub returns-in_err-file_under-clause-files : goal.returns-in_err-file_under-clause-files
 returns-in_err-file_under-clause-files c =
