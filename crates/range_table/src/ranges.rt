@@ -1,5 +1,5 @@
 // Kept summaries of blocks, as callers see them.
-use crate::cells::Cells;
+use crate::cells::ListedCells;
 use crate::kept::Kept;
 use cell_addr::{Block, Place};
 use cell_value::Summary;
@@ -104,8 +104,8 @@ impl Ranges {
     /// `merged` rises by as much. For want of memory all is as it was, and no step was counted.
     ///
     /// Costs a reading of each cell that is to be merged or is empty, or, of blocks that are large beside the number of all
-    /// filled cells ([`Cells::filled`]), what the list of those that aren't empty does ([`Cells::listed`]).
-    pub fn summary<C: Cells, L: Ledger>(
+    /// filled cells ([`ListedCells::filled`]), what the list of those that aren't empty does ([`ListedCells::listed`]).
+    pub fn summary<C: ListedCells, L: Ledger>(
         &mut self,
         b: Block,
         cells: &C,

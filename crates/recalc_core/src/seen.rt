@@ -15,7 +15,7 @@ use calc_eval::{NameView, View, filled_area};
 use cell_addr::{Block, Place, same_folded};
 use cell_value::{Area, Scalar, Summary};
 use dep_graph::Node;
-use range_table::{Ranges, add_nonempty};
+use range_table::{ListedCells, Ranges, add_nonempty};
 use std::alloc::{AllocError, Global};
 use std::sync::ledger::Ledger;
 use steps::Steps;
@@ -54,7 +54,7 @@ impl<'a> Shown<'a> {
     }
 }
 
-impl range_table::Cells for Shown<'_> {
+impl ListedCells for Shown<'_> {
     ghost values = { λ s. shown_at (kept_by s.kept.now) };
 
     fn value(&self, at: Place) -> &Scalar {

@@ -8,7 +8,7 @@ use Rattle.range_table.proofs.kept.Kept.add.Goals as goal
 
 pub going_on-requires-clause-right : goal.going_on-requires-clause-right
 going_on-requires-clause-right g c =
-    let values = g.C.Cells.values c.args.cells.now in
+    let values = g.C.ListedCells.values c.args.cells.now in
     subst (λ o. IfSome o (Begins values c.args.b)) (sym c.begun-begun.ensures.begun) (begins values (map_of c.args.self.now) c.args.b c.requires.right)
 
 pub returns-clause-kept : goal.returns-clause-kept

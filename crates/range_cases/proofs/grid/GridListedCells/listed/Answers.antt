@@ -3,7 +3,7 @@ use Rattle.std.specs.List.{flat_map, range_with_len}
 use Rattle.range_table.specs.Cells.{nonempty, row_values}
 use Rattle.range_table.proofs.Sums.{nonempty-append, row_more}
 use Rattle.range_cases.specs.Grid.{value_in}
-use Rattle.range_cases.proofs.grid.GridCells.listed.Goals as goal
+use Rattle.range_cases.proofs.grid.GridListedCells.listed.Goals as goal
 
 pub rows-preserved : goal.rows-preserved
 rows-preserved c =

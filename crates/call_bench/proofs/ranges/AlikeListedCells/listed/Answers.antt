@@ -2,7 +2,7 @@ use Rattle.std.proofs.Common.{◌∙◌, sym, ap, arith, ◌+◌, ◌-◌, ◌++
 use Rattle.std.specs.List.{flat_map, range_with_len}
 use Rattle.range_table.specs.Cells.{nonempty, row_values}
 use Rattle.range_table.proofs.Sums.{nonempty-append, row_more}
-use Rattle.call_bench.proofs.ranges.AlikeCells.listed.Goals as goal
+use Rattle.call_bench.proofs.ranges.AlikeListedCells.listed.Goals as goal
 
 pub rows-preserved : goal.rows-preserved
 rows-preserved c =

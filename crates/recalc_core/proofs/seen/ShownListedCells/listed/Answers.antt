@@ -4,7 +4,7 @@ use Rattle.range_table.specs.Cells.{nonempty, seen_values}
 use Rattle.recalc_core.specs.internal.KeptValues.{kept_by}
 use Rattle.recalc_core.specs.internal.Seen.{shown_at}
 use Rattle.recalc_core.proofs.ListedValues.{listed_values, values_in, values_of}
-use Rattle.recalc_core.proofs.seen.ShownCells.listed.Goals as goal
+use Rattle.recalc_core.proofs.seen.ShownListedCells.listed.Goals as goal
 
 pub returns : goal.returns
 returns c =
