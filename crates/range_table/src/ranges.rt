@@ -1,6 +1,6 @@
 // Kept summaries of blocks, as callers see them.
 use crate::cells::ListedCells;
-use crate::kept::Kept;
+use crate::kept::KeptSummaries;
 use cell_addr::{Block, Place};
 use cell_value::Summary;
 use shift_core::Shift;
@@ -17,7 +17,7 @@ use steps::Steps;
 pub struct Ranges {
     alloc: Global,
     // None as long as nothing was kept.
-    kept: Option<Box<Kept>>,
+    kept: Option<Box<KeptSummaries>>,
     merged: u64,
 }
 
@@ -138,7 +138,7 @@ impl Ranges {
         ensures some { OnOk result (IsSome self.new.kept) }
     {
         if self.kept.is_none() {
-            self.kept = Some(Box::new(self.alloc, Kept::new(self.alloc)?)?);
+            self.kept = Some(Box::new(self.alloc, KeptSummaries::new(self.alloc)?)?);
         }
         Ok(())
     }

@@ -7,7 +7,7 @@ ghost use Rattle.range_table.specs.Table.{cells_left, last_row, without_last_row
 ghost use Rattle.range_table.specs.internal.Rows.{Begins};
 
 use crate::cells::ListedCells;
-use crate::kept::Kept;
+use crate::kept::KeptSummaries;
 use crate::merging::{Merged, with_block};
 use cell_addr::Block;
 use cell_value::Summary;
@@ -15,7 +15,7 @@ use std::alloc::AllocError;
 use std::sync::ledger::Ledger;
 use steps::Steps;
 
-impl Kept {
+impl KeptSummaries {
     ghost use Rattle.std.specs.FinMap as map;
     ghost use Rattle.range_table.specs.Table.{AreFolds, begun, cells_to_merge};
     ghost use Rattle.range_table.specs.internal.Kept.{map_of};
