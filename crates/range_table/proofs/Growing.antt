@@ -7,7 +7,7 @@ use Rattle.std.proofs.lemmas.Option.{same_Some}
 use Rattle.cell_addr.specs.declared.axis.Axis.TheVariants.{Cols, Rows}
 use Rattle.place_lines.specs.Spots.{area_of, number_of, spot_of, table_along}
 use Rattle.shift_core.specs.Carried.{first_place}
-use Rattle.place_lines.specs.declared.area.Area.{Area}
+use Rattle.place_lines.specs.declared.area.LineArea.{LineArea}
 use Rattle.cell_addr.specs.declared.place.Block.{Block}
 use Rattle.cell_value.specs.declared.summary.Summary.{Summary}
 use Rattle.place_lines.specs.declared.lines.PlaceLines.{PlaceLines}
@@ -149,7 +149,7 @@ module _ (a : KeptSummaries) (t : Table) (f : Files) (grown : Grows a.table t) (
 
 -- ---- one number more
 
-pub grows_pushed : (a b : Table) (area : Area) → b.lines ≡ a.lines → b.keys.keys ≡ a.keys.keys ++ area ∷ [] → b.states.items ≡ a.states.items ++ Left ∷ [] → Grows a b
+pub grows_pushed : (a b : Table) (area : LineArea) → b.lines ≡ a.lines → b.keys.keys ≡ a.keys.keys ++ area ∷ [] → b.states.items ≡ a.states.items ++ Left ∷ [] → Grows a b
 grows_pushed a b area lines keys states = record {
   lines = lines;
   keys = λ n x h. ap (λ ks. slice_get ks n) keys ∙ gets-more a.keys.keys (area ∷ []) n x h;
@@ -163,5 +163,5 @@ grows_same a b lines keys states = record {
   states = λ n. ap (λ l. state_at l n) states;
 }
 
-pub once_more : (keys : List Area) → IsDistinct same_area keys → AreOnce keys
+pub once_more : (keys : List LineArea) → IsDistinct same_area keys → AreOnce keys
 once_more keys distinct = AllPairs-from_IsDistinct decides_areas keys distinct
