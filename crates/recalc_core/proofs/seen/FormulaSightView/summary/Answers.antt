@@ -5,7 +5,7 @@ use Rattle.range_table.proofs.Staying.{few_are_merged}
 use Rattle.recalc_core.specs.internal.KeptValues.{kept_by}
 use Rattle.recalc_core.specs.internal.Seen.{shown_at}
 use Rattle.recalc_core.proofs.ListedValues.{most_steps}
-use Rattle.recalc_core.proofs.seen.SeenView.summary.Goals as goal
+use Rattle.recalc_core.proofs.seen.FormulaSightView.summary.Goals as goal
 
 pub returns-clause-most : goal.returns-clause-most
 unfolding filled_in

@@ -7,7 +7,7 @@ use Rattle.formula_tree.specs.StandsFor.{at_home}
 use Rattle.recalc_core.specs.internal.KeptValues.{kept_by}
 use Rattle.recalc_core.specs.internal.Seen.{named_by}
 use Rattle.recalc_core.proofs.ReadNames.{found_first}
-use Rattle.recalc_core.proofs.seen.SeenView.name.Goals as goal
+use Rattle.recalc_core.proofs.seen.FormulaSightView.name.Goals as goal
 
 pub returns-then-same_folded : goal.returns-then-same_folded
 returns-then-same_folded c =

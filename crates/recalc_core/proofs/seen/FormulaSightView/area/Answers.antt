@@ -1,7 +1,7 @@
 use Rattle.std.proofs.Common.{◌≡◌, ◌∙◌, ap, subst, IfOk}
 use Rattle.calc_eval.specs.Filled.{seen_cells, shown_by}
 use Rattle.calc_terms.specs.Cells.{cells_in}
-use Rattle.recalc_core.proofs.seen.SeenView.area.Goals as goal
+use Rattle.recalc_core.proofs.seen.FormulaSightView.area.Goals as goal
 
 pub returns : goal.returns
 returns c =

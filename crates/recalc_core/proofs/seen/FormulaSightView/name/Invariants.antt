@@ -1,7 +1,7 @@
 use Rattle.std.proofs.Common.{◌≡◌, drop}
 use Rattle.std.specs.List.{find}
 use Rattle.cell_addr.specs.Sheets.{same_name}
-use Rattle.recalc_core.proofs.seen.SeenView.name.Given as goal
+use Rattle.recalc_core.proofs.seen.FormulaSightView.name.Given as goal
 
 -- none of the names so far has the word
 abbrev pub invariant-names : goal.invariant-names
