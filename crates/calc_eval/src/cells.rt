@@ -12,7 +12,7 @@ use func_args::area_summary;
 use std::alloc::{AllocError, Global};
 
 /// Places that show values, one by one.
-pub trait Cells {
+pub trait ShownCells {
     // What each place shows.
     ghost shown: { Self → Place → Scalar };
 
@@ -25,7 +25,7 @@ pub trait Cells {
 ///
 /// It costs about as many reads as the block has cells, empty ones too.
 #[tactic(auto, using(crate::proofs::BlockFilling::fits_ends))]
-pub fn area_of<C: Cells>(alloc: Global, cells: &C, block: Block) -> Result<Area, AllocError>
+pub fn area_of<C: ShownCells>(alloc: Global, cells: &C, block: Block) -> Result<Area, AllocError>
     requires { fits block ≡ true }
     ensures { IfOk result (λ area. area ≡ cells_in (C.shown cells.now) block) }
 {
@@ -41,7 +41,7 @@ pub fn area_of<C: Cells>(alloc: Global, cells: &C, block: Block) -> Result<Area,
 }
 
 /// What the numbers of such a block's cells come to, at the same cost and without a step.
-pub fn summary_of<C: Cells>(
+pub fn summary_of<C: ShownCells>(
     alloc: Global,
     cells: &C,
     block: Block,

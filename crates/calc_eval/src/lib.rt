@@ -8,7 +8,7 @@
 //! MIN, MAX and COUNT ask the view for the summary of a block, so that a view can keep summaries; all other
 //! functions ask it for the block's cells.
 //!
-//! A view that keeps neither blocks nor summaries can read its [`Cells`] one after another, by [`area_of`] and
+//! A view that keeps neither blocks nor summaries can read its [`ShownCells`] one after another, by [`area_of`] and
 //! [`summary_of`].
 //!
 //! Work is counted in [`steps::Steps`]: at most one step for each node of the tree, beside those that summaries
@@ -23,7 +23,7 @@ mod filled;
 mod view;
 mod walk;
 
-pub use cells::{Cells, area_of, summary_of};
+pub use cells::{ShownCells, area_of, summary_of};
 pub use customs::Customs;
 pub use filled::{filled_area, filled_summary};
 pub use view::{NameView, View};

@@ -8,7 +8,7 @@ ghost use Rattle.range_table.specs.Table.{AreFolds};
 use cell_addr::{Block, Place};
 use cell_value::Scalar;
 use fix_num::Fixed;
-use range_table::{Cells, Ranges, add_nonempty};
+use range_table::{ListedCells, Ranges, add_nonempty};
 use shift_core::{Shift, sound};
 use std::alloc::{AllocError, Global};
 use std::io;
@@ -53,7 +53,7 @@ impl Alike {
     }
 }
 
-impl Cells for Alike {
+impl ListedCells for Alike {
     ghost values = { λ cells at. cells.value };
 
     fn value(&self, at: Place) -> &Scalar {

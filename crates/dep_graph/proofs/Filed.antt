@@ -21,7 +21,7 @@ use Rattle.shift_core.proofs.CellMoves.{Covers-from_covers, covers-from_Covers}
 use Rattle.place_lines.specs.Moved.{AllStay, AreMoved, IsKnown, IsKnownLine, is_known, is_known_line}
 use Rattle.place_lines.specs.Spots.{area_of, spot_of, table_along}
 use Rattle.place_lines.specs.declared.lines.PlaceLines.{PlaceLines}
-use Rattle.place_lines.specs.declared.spot.Spot.{Spot}
+use Rattle.place_lines.specs.declared.spot.LineSpot.{LineSpot}
 use Rattle.place_lines.proofs.Carried.{IsCarriedBlock, carried_spots}
 use Rattle.place_lines.proofs.Known.{same_number, spot_known, spot_was_there, stays_known}
 use Rattle.place_lines.proofs.Places.{one_block, one_place, one_spot, same_area}
@@ -56,24 +56,24 @@ line_known axis lines sheet n passes =
     (λ high. inr (leb-true _ n high))
     (or_cases (nat_lt n next) _ passes)
 
-pub known_passes : (lines : PlaceLines) (spot : Spot) → IsKnown lines spot → is_known lines spot ≡ true
+pub known_passes : (lines : PlaceLines) (spot : LineSpot) → IsKnown lines spot → is_known lines spot ≡ true
 known_passes lines spot known =
     and_from (is_known_line (table_along Rows lines spot.sheet) spot.row) (is_known_line (table_along Cols lines spot.sheet) spot.col)
     (line_passes Rows lines spot.sheet spot.row known.0) (line_passes Cols lines spot.sheet spot.col known.1)
 
-pub passes_known : (lines : PlaceLines) (spot : Spot) → is_known lines spot ≡ true → IsKnown lines spot
+pub passes_known : (lines : PlaceLines) (spot : LineSpot) → is_known lines spot ≡ true → IsKnown lines spot
 passes_known lines spot passes =
     let (row, col) = and_parts (is_known_line (table_along Rows lines spot.sheet) spot.row) (is_known_line (table_along Cols lines spot.sheet) spot.col) passes in
     (line_known Rows lines spot.sheet spot.row row, line_known Cols lines spot.sheet spot.col col)
 
 -- what was known before an operation is known after it
-known_after : (form : Form) (old new : PlaceLines) (spot : Spot) → AreMoved form old new → is_known old spot ≡ true → is_known new spot ≡ true
+known_after : (form : Form) (old new : PlaceLines) (spot : LineSpot) → AreMoved form old new → is_known old spot ≡ true → is_known new spot ≡ true
 known_after form old new spot moved passes = known_passes new spot (stays_known form old new spot moved (passes_known old spot passes))
 
 -- ---- filings that hold blocks
 
 -- what holds a range by a test does so by another that passes the same
-pub holds_as : (lines : PlaceLines) (old new : Spot → Type 0) (a : Node) → ((spot : Spot) → old spot ↔ new spot) → HoldsNode lines old a → HoldsNode lines new a
+pub holds_as : (lines : PlaceLines) (old new : LineSpot → Type 0) (a : Node) → ((spot : LineSpot) → old spot ↔ new spot) → HoldsNode lines old a → HoldsNode lines new a
 holds_as lines old new (node.Cell p) same holds = absurd holds
 holds_as lines old new (node.Name scope word) same holds = absurd holds
 holds_as lines old new (node.Range b) same holds = record {
@@ -99,7 +99,7 @@ same_whole : (v w : whole.Whole) → node.Whole v ≡ node.Whole w → v ≡ w
 same_whole v w e = cc
 
 -- of all places just those of its cells pass the test
-pub node_covers : (lines : PlaceLines) (test : Spot → Type 0) (a : Node) (p : Place) → HoldsNode lines test a → test (spot_of lines p) ↔ IsTrue (covers_node a (node.Cell p))
+pub node_covers : (lines : PlaceLines) (test : LineSpot → Type 0) (a : Node) (p : Place) → HoldsNode lines test a → test (spot_of lines p) ↔ IsTrue (covers_node a (node.Cell p))
 node_covers lines test (node.Cell q) p holds = absurd holds
 node_covers lines test (node.Name scope word) p holds = absurd holds
 node_covers lines test (node.Range b) p holds = holds.exact p
@@ -132,7 +132,7 @@ node_held lines keys files n (node.Whole w) found holds = (
 )
 
 -- what just the spots of a range pass holds it
-spots_hold : (lines : PlaceLines) (test : Spot → Type 0) (a : Node) → is_range (Some a) ≡ true → ((spot : Spot) → test spot ↔ IsSpotOf lines a spot) → HoldsNode lines test a
+spots_hold : (lines : PlaceLines) (test : LineSpot → Type 0) (a : Node) → is_range (Some a) ≡ true → ((spot : LineSpot) → test spot ↔ IsSpotOf lines a spot) → HoldsNode lines test a
 spots_hold lines test (node.Cell p) range same = absurd (false≢true range)
 spots_hold lines test (node.Name scope word) range same = absurd (false≢true range)
 spots_hold lines test (node.Range b) range same = record {
@@ -146,18 +146,18 @@ spots_hold lines test (node.Whole w) range same = lines_hold lines test w same
 
 -- a new filing that just the spots of a range find holds the range
 pub held : (lines : PlaceLines) (old files : Files) (n f : ℕ) (a : Node) → is_range (Some a) ≡ true → FilesOn old files → length old.owners.items ≡ f → owner_at files.owners f ≡ Some n
-    → ((spot : Spot) → IsTrue (finds_filing files spot f) ↔ IsSpotOf lines a spot) → HoldsNode lines (FindsBy files n (since f)) a
+    → ((spot : LineSpot) → IsTrue (finds_filing files spot f) ↔ IsSpotOf lines a spot) → HoldsNode lines (FindsBy files n (since f)) a
 held lines old files n f a range on fresh owner finds =
     spots_hold lines (FindsBy files n (since f)) a range (λ spot. (λ found. (finds spot).0 (by spot found), λ is. (f, (owner, omega arith, inl refl), (finds spot).1 is)))
   where
-    by : (spot : Spot) → FindsBy files n (since f) spot → finds_filing files spot f ≡ true
+    by : (spot : LineSpot) → FindsBy files n (since f) spot → finds_filing files spot f ≡ true
     by spot (g, (owns, from, which), found) = elim which [
       | inl same ↦ subst (λ h. finds_filing files spot h ≡ true) same found
       | inr serves ↦ let low : g < length old.owners.items = served_inside old g (sym (on.serves g) ∙ serves) in absurd (omega (arith, low, fresh, from))
     ]
 
 -- where filings were added, those of a node are found as they were
-kept_finds : (old new : Files) (n : ℕ) (all : Serving) (spot : Spot) → FilesOn old new → AreServing old n all → FindsBy old n all spot ↔ FindsBy new n all spot
+kept_finds : (old new : Files) (n : ℕ) (all : Serving) (spot : LineSpot) → FilesOn old new → AreServing old n all → FindsBy old n all spot ↔ FindsBy new n all spot
 kept_finds old new n all spot on are = (goes, comes)
   where
     goes : FindsBy old n all spot → FindsBy new n all spot
@@ -189,7 +189,7 @@ pub present_serving : (files : Files) (n f : ℕ) → filing_of files.current n 
 present_serving files n f at = ((files.owned n f at, omega arith, inl refl), (files.owned n f at, omega arith, inl refl))
 
 -- what serves a node by other filings finds the same
-pub finds_alike : (old new : Files) (n : ℕ) (all more : Serving) (spot : Spot) → new.index ≡ old.index → new.wholes ≡ old.wholes → ((f : ℕ) → IsServing old n all f ↔ IsServing new n more f) → FindsBy old n all spot ↔ FindsBy new n more spot
+pub finds_alike : (old new : Files) (n : ℕ) (all more : Serving) (spot : LineSpot) → new.index ≡ old.index → new.wholes ≡ old.wholes → ((f : ℕ) → IsServing old n all f ↔ IsServing new n more f) → FindsBy old n all spot ↔ FindsBy new n more spot
 finds_alike old new n all more spot index wholes same = (
   λ h. let (f, serves, found) = h in (f, (same f).0 serves, finds_same old new index wholes spot f ∙ found),
   λ h. let (f, serves, found) = h in (f, (same f).1 serves, sym (finds_same old new index wholes spot f) ∙ found),
@@ -198,7 +198,7 @@ finds_alike old new n all more spot index wholes same = (
 -- ---- structural operations
 
 -- unless cells are moved, what holds a block that is carried along holds the block where it stands then
-lines_carried : (form : Form) (old new : PlaceLines) (test : Spot → Type 0) (b after : Block) → IsCarriedBlock form b after → AreMoved form old new → HoldsBlock old test b → HoldsBlock new test after
+lines_carried : (form : Form) (old new : PlaceLines) (test : LineSpot → Type 0) (b after : Block) → IsCarriedBlock form b after → AreMoved form old new → HoldsBlock old test b → HoldsBlock new test after
 lines_carried form old new test b after carried moved holds = record {
   exact = λ q. (covered q, found q);
   known = λ spot found. known_after form old new spot moved (holds.known spot found);
@@ -229,7 +229,7 @@ stays_there old new b after stay same =
     = same_area (area_of old b) (area_of new b) (all_spots_stay old new (first_place b) stay) (all_spots_stay old new (last_place b) stay) in
     one_block new b after (sym here ∙ same)
 
-cells_carried : (source : Block) (to : Place) (old new : PlaceLines) (test : Spot → Type 0) (b after : Block) → AreMoved (Cells source to) old new → area_of old b ≡ area_of new after → HoldsBlock old test b → HoldsBlock new test after
+cells_carried : (source : Block) (to : Place) (old new : PlaceLines) (test : LineSpot → Type 0) (b after : Block) → AreMoved (Cells source to) old new → area_of old b ≡ area_of new after → HoldsBlock old test b → HoldsBlock new test after
 cells_carried source to old new test b after moved same holds = record {
   exact = λ q. (
     λ found. subst (λ c. covers c q ≡ true) (stays_there old new b after moved same) ((holds.exact q).0 (subst test (sym (all_spots_stay old new q moved)) found)),
@@ -238,7 +238,7 @@ cells_carried source to old new test b after moved same holds = record {
   known = λ spot found. known_after (Cells source to) old new spot moved (holds.known spot found);
 }
 
-by_form : (form : Form) (old new : PlaceLines) (test : Spot → Type 0) (b after : Block) → IsSoundForm form → AreMoved form old new → IsBlockInside b → ¬ BendsBlock form b → ¬ CutsBlock form b
+by_form : (form : Form) (old new : PlaceLines) (test : LineSpot → Type 0) (b after : Block) → IsSoundForm form → AreMoved form old new → IsBlockInside b → ¬ BendsBlock form b → ¬ CutsBlock form b
     → block_moved form b ≡ Some after → area_of old b ≡ area_of new after → HoldsBlock old test b → HoldsBlock new test after
 by_form (Lines sheet axis edit) old new test b after sound moved inside still whole moves same holds =
     lines_carried (Lines sheet axis edit) old new test b after (record { sound = sound; none = tt; inside = inside; still = still; whole = whole; moves = moves }) moved holds
@@ -248,23 +248,23 @@ by_form (Sheet sheet) old new test b after sound moved inside still whole moves 
     lines_carried (Sheet sheet) old new test b after (record { sound = sound; none = tt; inside = inside; still = still; whole = whole; moves = moves }) moved holds
 
 -- the filing of a block that an operation doesn't bend holds the block where it stands then, if it keeps its area
-pub carried : (s : Shift) (old new : PlaceLines) (test : Spot → Type 0) (b after : Block) → IsSound s → AreMoved (form_of s) old new → IsBlockInside b → ¬ IsBent s b → ¬ IsCut s b
+pub carried : (s : Shift) (old new : PlaceLines) (test : LineSpot → Type 0) (b after : Block) → IsSound s → AreMoved (form_of s) old new → IsBlockInside b → ¬ IsBent s b → ¬ IsCut s b
     → block_after s b ≡ Some after → area_of old b ≡ area_of new after → HoldsBlock old test b → HoldsBlock new test after
 carried s old new test b after sound moved inside still whole moves same holds =
     by_form (form_of s) old new test b after sound moved inside still whole moves same holds
 
 -- what holds a block that is handed on holds what it becomes, with the lines that come in
-pub served : (form : Form) (old new : PlaceLines) (before test : Spot → Type 0) (b after : Block) → IsHandedOn form old new b after
-    → ((spot : Spot) → test spot → before spot ⊎ ((part : Block) × (fresh_part form after ≡ Some part) × HasSpot new part spot))
-    → ((spot : Spot) → before spot → test spot)
-    → ((part : Block) (spot : Spot) → fresh_part form after ≡ Some part → HasSpot new part spot → test spot)
+pub served : (form : Form) (old new : PlaceLines) (before test : LineSpot → Type 0) (b after : Block) → IsHandedOn form old new b after
+    → ((spot : LineSpot) → test spot → before spot ⊎ ((part : Block) × (fresh_part form after ≡ Some part) × HasSpot new part spot))
+    → ((spot : LineSpot) → before spot → test spot)
+    → ((part : Block) (spot : LineSpot) → fresh_part form after ≡ Some part → HasSpot new part spot → test spot)
     → HoldsBlock old before b → HoldsBlock new test after
 served form old new before test b after on only grows added holds = record {
   exact = λ q. (λ passes. covered q (only (spot_of new q) passes), found q);
   known = λ spot passes. by spot (only spot passes);
 }
   where
-    by : (spot : Spot) → before spot ⊎ ((part : Block) × (fresh_part form after ≡ Some part) × HasSpot new part spot) → is_known new spot ≡ true
+    by : (spot : LineSpot) → before spot ⊎ ((part : Block) × (fresh_part form after ≡ Some part) × HasSpot new part spot) → is_known new spot ≡ true
     by spot (inl was) = known_after form old new spot on.moved (holds.known spot was)
     by spot (inr (part, is_part, (q, c, is))) = subst (λ s. is_known new s ≡ true) is (known_passes new (spot_of new q) (spot_known new q))
 

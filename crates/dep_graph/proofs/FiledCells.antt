@@ -16,7 +16,7 @@ use Rattle.cell_addr.specs.declared.place.Place.{Place}
 use Rattle.shift_core.proofs.CellMoves.{Covers-from_covers, covers-from_Covers}
 use Rattle.place_lines.specs.Spots.{AreNumbersOf, in_runs, number_of, spot_of, table_along}
 use Rattle.place_lines.specs.declared.lines.PlaceLines.{PlaceLines}
-use Rattle.place_lines.specs.declared.spot.Spot.{Spot}
+use Rattle.place_lines.specs.declared.spot.LineSpot.{LineSpot}
 use Rattle.place_lines.proofs.Places.{same_spot}
 use Rattle.dep_graph.specs.declared.files.Files.{Files}
 use Rattle.dep_graph.specs.internal.Filings.{owner_at, serves_at}
@@ -33,7 +33,7 @@ same_test false false to from = refl
 -- ---- the spots of an area
 
 -- a spot is in one of the runs of columns where its column is
-row_parts : (sheet : ℕ) (rows : Range ℕ) (cols : List (Range ℕ)) (spot : Spot) → in_row sheet rows cols spot ≡ true
+row_parts : (sheet : ℕ) (rows : Range ℕ) (cols : List (Range ℕ)) (spot : LineSpot) → in_row sheet rows cols spot ≡ true
     → (spot.sheet ≡ sheet) × (in_lines rows spot.row ≡ true) × (in_runs cols spot.col ≡ true)
 row_parts sheet rows [] spot h = absurd (false≢true h)
 row_parts sheet rows (run ∷ cols) spot h = ⊎_elim
@@ -46,7 +46,7 @@ row_parts sheet rows (run ∷ cols) spot h = ⊎_elim
     (s, row, or_right (in_lines run spot.col) (in_runs cols spot.col) col))
     (or_cases (in_run sheet rows run spot) (in_row sheet rows cols spot) h)
 
-row_from : (sheet : ℕ) (rows : Range ℕ) (cols : List (Range ℕ)) (spot : Spot) → spot.sheet ≡ sheet → in_lines rows spot.row ≡ true → in_runs cols spot.col ≡ true
+row_from : (sheet : ℕ) (rows : Range ℕ) (cols : List (Range ℕ)) (spot : LineSpot) → spot.sheet ≡ sheet → in_lines rows spot.row ≡ true → in_runs cols spot.col ≡ true
     → in_row sheet rows cols spot ≡ true
 row_from sheet rows [] spot s row col = absurd (false≢true col)
 row_from sheet rows (run ∷ cols) spot s row col = ⊎_elim
@@ -56,7 +56,7 @@ row_from sheet rows (run ∷ cols) spot s row col = ⊎_elim
     (λ (later : in_runs cols spot.col ≡ true). or_right (in_run sheet rows run spot) (in_row sheet rows cols spot) (row_from sheet rows cols spot s row later))
     (or_cases (in_lines run spot.col) (in_runs cols spot.col) col)
 
-area_parts : (sheet : ℕ) (rows cols : List (Range ℕ)) (spot : Spot) → in_area sheet rows cols spot ≡ true
+area_parts : (sheet : ℕ) (rows cols : List (Range ℕ)) (spot : LineSpot) → in_area sheet rows cols spot ≡ true
     → (spot.sheet ≡ sheet) × (in_runs rows spot.row ≡ true) × (in_runs cols spot.col ≡ true)
 area_parts sheet [] cols spot h = absurd (false≢true h)
 area_parts sheet (run ∷ rows) cols spot h = ⊎_elim
@@ -68,7 +68,7 @@ area_parts sheet (run ∷ rows) cols spot h = ⊎_elim
     (s, or_right (in_lines run spot.row) (in_runs rows spot.row) row, col))
     (or_cases (in_row sheet run cols spot) (in_area sheet rows cols spot) h)
 
-area_from : (sheet : ℕ) (rows cols : List (Range ℕ)) (spot : Spot) → spot.sheet ≡ sheet → in_runs rows spot.row ≡ true → in_runs cols spot.col ≡ true
+area_from : (sheet : ℕ) (rows cols : List (Range ℕ)) (spot : LineSpot) → spot.sheet ≡ sheet → in_runs rows spot.row ≡ true → in_runs cols spot.col ≡ true
     → in_area sheet rows cols spot ≡ true
 area_from sheet [] cols spot s row col = absurd (false≢true row)
 area_from sheet (run ∷ rows) cols spot s row col = ⊎_elim
@@ -78,7 +78,7 @@ area_from sheet (run ∷ rows) cols spot s row col = ⊎_elim
 
 -- the runs have the numbers of the lines of a block
 module _ (lines : PlaceLines) (b : Block) (rows cols : List (Range ℕ)) (are_rows : AreNumbersOf (table_along Rows lines b.sheet) (span_of Rows b) rows)
-    (are_cols : AreNumbersOf (table_along Cols lines b.sheet) (span_of Cols b) cols) (spot : Spot) where
+    (are_cols : AreNumbersOf (table_along Cols lines b.sheet) (span_of Cols b) cols) (spot : LineSpot) where
   -- so a spot of their area is that of a place of the block
   pub place_in_area : in_area b.sheet rows cols spot ≡ true → HasSpot lines b spot
   place_in_area h =
@@ -163,7 +163,7 @@ got_last [] x = refl
 got_last (y ∷ xs) x = got_last xs x
 
 -- each filing that is found is one of those that there are
-filing_inside : (files : Files) (spot : Spot) (f : ℕ) → finds_filing files spot f ≡ true → f < length files.owners.items
+filing_inside : (files : Files) (spot : LineSpot) (f : ℕ) → finds_filing files spot f ≡ true → f < length files.owners.items
 filing_inside files spot f found = elim (or_cases (finds files.index spot.sheet spot.row spot.col f) _ found) [
   | inl range ↦ files.within spot.sheet spot.row spot.col f range
   | inr along ↦ elim (or_cases (finds_along Rows files.wholes spot f) (finds_along Cols files.wholes spot f) along) [
@@ -173,17 +173,17 @@ filing_inside files spot f found = elim (or_cases (finds files.index spot.sheet 
 ]
 
 -- where the slots are the same, the same filings are found
-pub finds_same : (old new : Files) → new.index ≡ old.index → new.wholes ≡ old.wholes → (spot : Spot) (f : ℕ) → finds_filing new spot f ≡ finds_filing old spot f
+pub finds_same : (old new : Files) → new.index ≡ old.index → new.wholes ≡ old.wholes → (spot : LineSpot) (f : ℕ) → finds_filing new spot f ≡ finds_filing old spot f
 finds_same old new index wholes spot f =
     ap (λ x. finds x spot.sheet spot.row spot.col f || (finds_along Rows new.wholes spot f || finds_along Cols new.wholes spot f)) index
     ∙ ap (λ y. finds old.index spot.sheet spot.row spot.col f || (finds_along Rows y spot f || finds_along Cols y spot f)) wholes
 
 -- a new filing leaves those that there were
-module _ (test : Spot → Type 0) (filing : ℕ) (old mid new : Files) (index : mid.index ≡ old.index) (wholes : mid.wholes ≡ old.wholes) (fresh : length old.owners.items ≤ filing) (filed : FilesSpots test filing mid new) where
-  was_found : (spot : Spot) (f : ℕ) → finds_filing mid spot f ≡ finds_filing old spot f
+module _ (test : LineSpot → Type 0) (filing : ℕ) (old mid new : Files) (index : mid.index ≡ old.index) (wholes : mid.wholes ≡ old.wholes) (fresh : length old.owners.items ≤ filing) (filed : FilesSpots test filing mid new) where
+  was_found : (spot : LineSpot) (f : ℕ) → finds_filing mid spot f ≡ finds_filing old spot f
   was_found spot f = finds_same old mid index wholes spot f
 
-  others_stay : (f : ℕ) → f < length old.owners.items → (spot : Spot) → finds_filing new spot f ≡ finds_filing old spot f
+  others_stay : (f : ℕ) → f < length old.owners.items → (spot : LineSpot) → finds_filing new spot f ≡ finds_filing old spot f
   others_stay f below spot = same_test (finds_filing new spot f) (finds_filing old spot f)
       (λ found. ⊎_elim
       (λ (before : finds_filing mid spot f ≡ true). sym (was_found spot f) ∙ before)
@@ -202,7 +202,7 @@ module _ (test : Spot → Type 0) (filing : ℕ) (old mid new : Files) (index : 
   }
 
   -- nothing found the new filing before, so what finds it now passes the test
-  pub only_new : (spot : Spot) → finds_filing new spot filing ≡ true → test spot
+  pub only_new : (spot : LineSpot) → finds_filing new spot filing ≡ true → test spot
   only_new spot found = ⊎_elim
       (λ (before : finds_filing mid spot filing ≡ true). absurd (omega (arith, fresh, filing_inside old spot filing (sym (was_found spot filing) ∙ before))))
       (λ (is : test spot × (filing ≡ filing)). is.0)

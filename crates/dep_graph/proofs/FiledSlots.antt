@@ -7,7 +7,7 @@ use Rattle.cell_addr.specs.declared.axis.Axis.{Axis}
 use Rattle.cell_addr.specs.declared.axis.Axis.TheVariants.{Cols, Rows}
 use Rattle.needs_order.specs.Needs.{has}
 use Rattle.needs_order.proofs.Lists as lists
-use Rattle.place_lines.specs.declared.spot.Spot.{Spot}
+use Rattle.place_lines.specs.declared.spot.LineSpot.{LineSpot}
 use Rattle.dep_graph.specs.declared.files.Files.{Files}
 use Rattle.dep_graph.specs.internal.Files.{filed_at, finds_filing, slot_total, slots_on, slots_over}
 use Rattle.dep_graph.specs.internal.Wholes.{column_of, finds_along, is_on_sheet, number_on, slots_along}
@@ -28,7 +28,7 @@ plus_map n (x ∷ ss) s h = ⊎_elim
     (λ (later : has s ss ≡ true). lists.has-append_right (n + s) ((n + x) ∷ []) (map (λ j. n + j) ss) (plus_map n ss s later))
     (lists.has_cases s x ss h)
 
-module _ (files : Files) (spot : Spot) where
+module _ (files : Files) (spot : LineSpot) where
   abbrev count : ℕ
   count = slot_count files.index
 

@@ -15,7 +15,7 @@ use Rattle.cell_addr.specs.declared.axis.Axis.TheVariants.{Cols, Rows}
 use Rattle.cell_addr.specs.declared.whole.Whole.{Whole}
 use Rattle.place_lines.specs.Spots.{AreNumbersOf, in_runs, table_along}
 use Rattle.place_lines.specs.declared.lines.PlaceLines.{PlaceLines}
-use Rattle.place_lines.specs.declared.spot.Spot.{Spot}
+use Rattle.place_lines.specs.declared.spot.LineSpot.{LineSpot}
 use Rattle.dep_graph.specs.declared.files.Files.{Files}
 use Rattle.dep_graph.specs.internal.Files.{FilesCells, FilesSpots, finds_filing, in_run}
 use Rattle.dep_graph.specs.internal.Wholes.{IsOnLines, column_of, finds_along, is_on_sheet, number_on, on_run, on_runs}
@@ -24,18 +24,18 @@ use Rattle.dep_graph.proofs.FiledSlots.{found_on}
 -- ---- tests
 
 -- where nothing was filed
-pub spots_same : (test : Spot → Type 0) (filing : ℕ) (files : Files) → FilesSpots test filing files files
+pub spots_same : (test : LineSpot → Type 0) (filing : ℕ) (files : Files) → FilesSpots test filing files files
 spots_same test filing files = record { grows = λ spot f found. found; only = λ spot f found. inl found }
 
 -- the same by a test that passes more
-pub cells_spots : (test : Spot → Bool) (more : Spot → Type 0) (filing : ℕ) (old new : Files) → ((spot : Spot) → test spot ≡ true → more spot) → FilesCells test filing old new → FilesSpots more filing old new
+pub cells_spots : (test : LineSpot → Bool) (more : LineSpot → Type 0) (filing : ℕ) (old new : Files) → ((spot : LineSpot) → test spot ≡ true → more spot) → FilesCells test filing old new → FilesSpots more filing old new
 cells_spots test more filing old new passes filed = record {
   grows = filed.grows;
   only = λ spot f found. elim (filed.only spot f found) [ inl was ↦ inl was | inr (is, same) ↦ inr (passes spot is, same) ];
 }
 
 -- some are filed, and then others
-pub cells_on : (test part : Spot → Bool) (filing : ℕ) (a b c : Files) → ((spot : Spot) → part spot ≡ true → test spot ≡ true) → FilesCells test filing a b → FilesCells part filing b c → FilesCells test filing a c
+pub cells_on : (test part : LineSpot → Bool) (filing : ℕ) (a b c : Files) → ((spot : LineSpot) → part spot ≡ true → test spot ≡ true) → FilesCells test filing a b → FilesCells part filing b c → FilesCells test filing a c
 cells_on test part filing a b c inside first second = record {
   grows = λ spot f found. second.grows spot f (first.grows spot f found);
   only = λ spot f found. elim (second.only spot f found) [ inl was ↦ first.only spot f was | inr (is, same) ↦ inr (inside spot is, same) ];
@@ -51,7 +51,7 @@ any_next q xs i d inside h =
 
 -- ---- the lines of a whole range
 
-runs_parts : (sheet : ℕ) (axis : Axis) (runs : List (Range ℕ)) (spot : Spot) → on_runs sheet axis runs spot ≡ true
+runs_parts : (sheet : ℕ) (axis : Axis) (runs : List (Range ℕ)) (spot : LineSpot) → on_runs sheet axis runs spot ≡ true
     → (spot.sheet ≡ sheet) × (is_on_sheet axis spot ≡ true) × (in_runs runs (number_on axis spot) ≡ true)
 runs_parts sheet axis [] spot h = absurd (false≢true h)
 runs_parts sheet axis (run ∷ runs) spot h = ⊎_elim
@@ -64,7 +64,7 @@ runs_parts sheet axis (run ∷ runs) spot h = ⊎_elim
     (s, on, or_right (in_lines run (number_on axis spot)) (in_runs runs (number_on axis spot)) line))
     (or_cases (on_run sheet axis run spot) (on_runs sheet axis runs spot) h)
 
-runs_from : (sheet : ℕ) (axis : Axis) (runs : List (Range ℕ)) (spot : Spot) → spot.sheet ≡ sheet → is_on_sheet axis spot ≡ true → in_runs runs (number_on axis spot) ≡ true → on_runs sheet axis runs spot ≡ true
+runs_from : (sheet : ℕ) (axis : Axis) (runs : List (Range ℕ)) (spot : LineSpot) → spot.sheet ≡ sheet → is_on_sheet axis spot ≡ true → in_runs runs (number_on axis spot) ≡ true → on_runs sheet axis runs spot ≡ true
 runs_from sheet axis [] spot s on line = absurd (false≢true line)
 runs_from sheet axis (run ∷ runs) spot s on line = ⊎_elim
     (λ (here : in_lines run (number_on axis spot) ≡ true).
@@ -74,7 +74,7 @@ runs_from sheet axis (run ∷ runs) spot s on line = ⊎_elim
     (or_cases (in_lines run (number_on axis spot)) (in_runs runs (number_on axis spot)) line)
 
 -- the runs have the numbers of the lines of a whole range
-module _ (lines : PlaceLines) (w : Whole) (runs : List (Range ℕ)) (are : AreNumbersOf (table_along w.axis lines w.sheet) (lines_of w) runs) (spot : Spot) where
+module _ (lines : PlaceLines) (w : Whole) (runs : List (Range ℕ)) (are : AreNumbersOf (table_along w.axis lines w.sheet) (lines_of w) runs) (spot : LineSpot) where
   pub runs_on_lines : on_runs w.sheet w.axis runs spot ≡ true → IsOnLines lines w spot
   runs_on_lines h =
       let (s, on, line) = runs_parts w.sheet w.axis runs spot h in
@@ -86,13 +86,13 @@ module _ (lines : PlaceLines) (w : Whole) (runs : List (Range ℕ)) (are : AreNu
 
 -- ---- what is found by other slots
 
-found_parts : (files : Files) (spot : Spot) (f : ℕ) → finds_filing files spot f ≡ true → (finds files.index spot.sheet spot.row spot.col f ≡ true) ⊎ ((axis : Axis) × (finds_along axis files.wholes spot f ≡ true))
+found_parts : (files : Files) (spot : LineSpot) (f : ℕ) → finds_filing files spot f ≡ true → (finds files.index spot.sheet spot.row spot.col f ≡ true) ⊎ ((axis : Axis) × (finds_along axis files.wholes spot f ≡ true))
 found_parts files spot f found = elim (or_cases (finds files.index spot.sheet spot.row spot.col f) _ found) [
   | inl range ↦ inl range
   | inr along ↦ elim (or_cases (finds_along Rows files.wholes spot f) (finds_along Cols files.wholes spot f) along) [ inl row ↦ inr (Rows, row) | inr col ↦ inr (Cols, col) ]
 ]
 
-found_range : (files : Files) (spot : Spot) (f : ℕ) → finds files.index spot.sheet spot.row spot.col f ≡ true → finds_filing files spot f ≡ true
+found_range : (files : Files) (spot : LineSpot) (f : ℕ) → finds files.index spot.sheet spot.row spot.col f ≡ true → finds_filing files spot f ≡ true
 found_range files spot f h = or_left (finds files.index spot.sheet spot.row spot.col f) _ h
 
 -- ---- rows by columns
@@ -101,20 +101,20 @@ found_range files spot f h = or_left (finds files.index spot.sheet spot.row spot
 pub cells_filed : (old new : Files) (sheet : ℕ) (rows cols : Range ℕ) (filing : ℕ) → new.wholes ≡ old.wholes → blocks.Files (in_cells sheet rows cols) filing old.index new.index → FilesCells (in_run sheet rows cols) filing old new
 cells_filed old new sheet rows cols filing wholes filed = record { grows = grows; only = only }
   where
-    grows : (spot : Spot) (f : ℕ) → finds_filing old spot f ≡ true → finds_filing new spot f ≡ true
+    grows : (spot : LineSpot) (f : ℕ) → finds_filing old spot f ≡ true → finds_filing new spot f ≡ true
     grows spot f found = elim (found_parts old spot f found) [
       | inl range ↦ found_range new spot f (filed.grows spot.sheet spot.row spot.col f range)
       | inr (axis, along) ↦ found_on new spot axis f (ap (λ x. finds_along axis x spot f) wholes ∙ along)
     ]
 
-    only : (spot : Spot) (f : ℕ) → finds_filing new spot f ≡ true → (finds_filing old spot f ≡ true) ⊎ ((in_run sheet rows cols spot ≡ true) × (f ≡ filing))
+    only : (spot : LineSpot) (f : ℕ) → finds_filing new spot f ≡ true → (finds_filing old spot f ≡ true) ⊎ ((in_run sheet rows cols spot ≡ true) × (f ≡ filing))
     only spot f found = elim (found_parts new spot f found) [
       | inl range ↦ elim (filed.only spot.sheet spot.row spot.col f range) [ inl was ↦ inl (found_range old spot f was) | inr here ↦ inr here ]
       | inr (axis, along) ↦ inl (found_on old spot axis f (sym (ap (λ x. finds_along axis x spot f) wholes) ∙ along))
     ]
 
 pub cells_found : (files : Files) (sheet : ℕ) (rows cols : Range ℕ) (filing : ℕ) → ((row col : ℕ) → in_block rows cols row col ≡ true → finds files.index sheet row col filing ≡ true)
-    → (spot : Spot) → in_run sheet rows cols spot ≡ true → finds_filing files spot filing ≡ true
+    → (spot : LineSpot) → in_run sheet rows cols spot ≡ true → finds_filing files spot filing ≡ true
 cells_found files sheet rows cols filing found spot h =
     let (s, here) = and_parts (nat_eq spot.sheet sheet) (in_block rows cols spot.row spot.col) h in
     found_range files spot filing (subst (λ x. finds files.index x spot.row spot.col filing ≡ true) (sym (eqb-true spot.sheet sheet s)) (found spot.row spot.col here))
@@ -132,7 +132,7 @@ module _ (old new : Files) (sheet : ℕ) (axis : Axis) (run cols : Range ℕ) (f
   pub run_filed : new.index ≡ old.index → blocks.Files (in_cells sheet run cols) filing old.wholes new.wholes → FilesCells (on_run sheet axis run) filing old new
   run_filed index filed = record { grows = grows; only = only }
     where
-      grows : (spot : Spot) (f : ℕ) → finds_filing old spot f ≡ true → finds_filing new spot f ≡ true
+      grows : (spot : LineSpot) (f : ℕ) → finds_filing old spot f ≡ true → finds_filing new spot f ≡ true
       grows spot f found = elim (found_parts old spot f found) [
         | inl range ↦ found_range new spot f (ap (λ x. finds x spot.sheet spot.row spot.col f) index ∙ range)
         | inr (a, along) ↦
@@ -140,7 +140,7 @@ module _ (old new : Files) (sheet : ℕ) (axis : Axis) (run cols : Range ℕ) (f
             found_on new spot a f (and_from (is_on_sheet a spot) (finds new.wholes spot.sheet (number_on a spot) (column_of a) f) on (filed.grows spot.sheet (number_on a spot) (column_of a) f there))
       ]
 
-      passes : (spot : Spot) (a : Axis) → is_on_sheet a spot ≡ true → in_cells sheet run cols spot.sheet (number_on a spot) (column_of a) ≡ true → on_run sheet axis run spot ≡ true
+      passes : (spot : LineSpot) (a : Axis) → is_on_sheet a spot ≡ true → in_cells sheet run cols spot.sheet (number_on a spot) (column_of a) ≡ true → on_run sheet axis run spot ≡ true
       passes spot a on cells =
           let (s, block) = and_parts (nat_eq spot.sheet sheet) (in_block run cols (number_on a spot) (column_of a)) cells in
           let (line, col) = and_parts (in_lines run (number_on a spot)) (in_lines cols (column_of a)) block in
@@ -148,7 +148,7 @@ module _ (old new : Files) (sheet : ℕ) (axis : Axis) (run cols : Range ℕ) (f
           subst (λ b. on_run sheet b run spot ≡ true) same
           (and_from (nat_eq spot.sheet sheet) (is_on_sheet a spot && in_lines run (number_on a spot)) s (and_from (is_on_sheet a spot) (in_lines run (number_on a spot)) on line))
 
-      only : (spot : Spot) (f : ℕ) → finds_filing new spot f ≡ true → (finds_filing old spot f ≡ true) ⊎ ((on_run sheet axis run spot ≡ true) × (f ≡ filing))
+      only : (spot : LineSpot) (f : ℕ) → finds_filing new spot f ≡ true → (finds_filing old spot f ≡ true) ⊎ ((on_run sheet axis run spot ≡ true) × (f ≡ filing))
       only spot f found = elim (found_parts new spot f found) [
         | inl range ↦ inl (found_range old spot f (sym (ap (λ x. finds x spot.sheet spot.row spot.col f) index) ∙ range))
         | inr (a, along) ↦
@@ -159,7 +159,7 @@ module _ (old new : Files) (sheet : ℕ) (axis : Axis) (run cols : Range ℕ) (f
             ]
       ]
 
-  pub run_found : in_lines cols (column_of axis) ≡ true → ((row col : ℕ) → in_block run cols row col ≡ true → finds new.wholes sheet row col filing ≡ true) → (spot : Spot) → on_run sheet axis run spot ≡ true → finds_filing new spot filing ≡ true
+  pub run_found : in_lines cols (column_of axis) ≡ true → ((row col : ℕ) → in_block run cols row col ≡ true → finds new.wholes sheet row col filing ≡ true) → (spot : LineSpot) → on_run sheet axis run spot ≡ true → finds_filing new spot filing ≡ true
   run_found own found spot h =
       let (s, rest) = and_parts (nat_eq spot.sheet sheet) (is_on_sheet axis spot && in_lines run (number_on axis spot)) h in
       let (on, line) = and_parts (is_on_sheet axis spot) (in_lines run (number_on axis spot)) rest in

@@ -13,9 +13,9 @@ use Rattle.cell_addr.specs.declared.place.Place.{Place}
 use Rattle.shift_core.specs.Carried.{first_place, last_place}
 use Rattle.place_lines.specs.Laws.{IsNarrow, IsNarrowBlock}
 use Rattle.place_lines.specs.Spots.{area_of, block_at, past, place_at, positions, spot_of}
-use Rattle.place_lines.specs.declared.area.Area.{Area}
+use Rattle.place_lines.specs.declared.area.LineArea.{LineArea}
 use Rattle.place_lines.specs.declared.lines.PlaceLines.{PlaceLines}
-use Rattle.place_lines.specs.declared.spot.Spot.{Spot}
+use Rattle.place_lines.specs.declared.spot.LineSpot.{LineSpot}
 use Rattle.place_lines.proofs.Narrow.{narrow_block, narrow_numbers, narrow_place}
 use Rattle.place_lines.proofs.Places.{area_returns, block_returns, one_block, one_place, place_returns, spot_returns}
 use Rattle.needs_order.specs.Needs as plain
@@ -137,13 +137,13 @@ key_returns lines (key.Whole ends) a e =
     let (w, at, is) = mapped Whole (whole_at lines ends) a e in
     ap (key_of lines) is ∙ ap key.Whole (ends_return lines ends w at)
 
-cell_whole : (s : Spot) (e : Ends) → key.Cell s ≡ key.Whole e → ⊥
+cell_whole : (s : LineSpot) (e : Ends) → key.Cell s ≡ key.Whole e → ⊥
 cell_whole s e h = cc
 
 name_whole : (scope word : ℕ) (e : Ends) → key.Name scope word ≡ key.Whole e → ⊥
 name_whole scope word e h = cc
 
-range_whole : (a : Area) (e : Ends) → key.Range a ≡ key.Whole e → ⊥
+range_whole : (a : LineArea) (e : Ends) → key.Range a ≡ key.Whole e → ⊥
 range_whole a e h = cc
 
 same_ends : (d e : Ends) → key.Whole d ≡ key.Whole e → d ≡ e
@@ -153,7 +153,7 @@ same_ends d e h = cc
 pub one_node : (lines : PlaceLines) (a b : Node) → key_of lines a ≡ key_of lines b → a ≡ b
 one_node lines (Cell p) (Cell q) e = ap Cell (one_place lines p q (same_cell (spot_of lines p) (spot_of lines q) e))
   where
-    same_cell : (s t : Spot) → key.Cell s ≡ key.Cell t → s ≡ t
+    same_cell : (s t : LineSpot) → key.Cell s ≡ key.Cell t → s ≡ t
     same_cell s t e = cc
 one_node lines (Cell p) (Name scope word) e = absurd (apart e)
   where
@@ -187,7 +187,7 @@ one_node lines (Range b) (Name scope word) e = absurd (apart e)
     apart e = cc
 one_node lines (Range b) (Range c) e = ap Range (one_block lines b c (same_range (area_of lines b) (area_of lines c) e))
   where
-    same_range : (a d : Area) → key.Range a ≡ key.Range d → a ≡ d
+    same_range : (a d : LineArea) → key.Range a ≡ key.Range d → a ≡ d
     same_range a d e = cc
 one_node lines (Range b) (Whole w) e = absurd (range_whole (area_of lines b) (ends_of lines w) e)
 one_node lines (Whole w) (Cell p) e = absurd (cell_whole (spot_of lines p) (ends_of lines w) (sym e))

@@ -17,9 +17,9 @@ use Rattle.node_links.specs.Redirect.{few_target, is_among}
 use Rattle.node_links.specs.declared.links.Links.{Links}
 use Rattle.place_lines.specs.Moved.{AreMoved}
 use Rattle.place_lines.specs.Spots.{area_of}
-use Rattle.place_lines.specs.declared.area.Area.{Area}
+use Rattle.place_lines.specs.declared.area.LineArea.{LineArea}
 use Rattle.place_lines.specs.declared.lines.PlaceLines.{PlaceLines}
-use Rattle.place_lines.specs.declared.spot.Spot.{Spot}
+use Rattle.place_lines.specs.declared.spot.LineSpot.{LineSpot}
 use Rattle.shift_core.specs.Form.{form_of}
 use Rattle.shift_core.specs.Sound.{IsSound}
 use Rattle.shift_core.specs.Tables.{place_after}
@@ -69,7 +69,7 @@ files_on_on a b c f g = record {
 
 -- ---- filings that serve still
 
-one_area : (a b : Area) → key.Range a ≡ key.Range b → a ≡ b
+one_area : (a b : LineArea) → key.Range a ≡ key.Range b → a ≡ b
 one_area a b e = cc
 
 -- a range that keeps its number and its corners is handed on
@@ -104,12 +104,12 @@ handed_node s lines net n (Whole w) sound moved (v, found, (inside, within, many
     (Whole v, found, record { sound = sound; moved = moved; here = inside; there = within; ends = ends; count = many })
 
 -- the spot is one of the part of the node that comes in
-abbrev IsFresh : Form → PlaceLines → Node → Spot → Type 0
+abbrev IsFresh : Form → PlaceLines → Node → LineSpot → Type 0
 IsFresh form lines after spot = (part : Node) × (fresh_node form after ≡ Some part) × IsSpotOf lines part spot
 
 -- what holds a range that is handed on holds what it becomes, with the lines that come in
-node_served : (form : Form) (old new : PlaceLines) (before test : Spot → Type 0) (a after : Node) → IsNodeHandedOn form old new a after → ((spot : Spot) → test spot → before spot ⊎ IsFresh form new after spot)
-    → ((spot : Spot) → before spot → test spot) → ((spot : Spot) → IsFresh form new after spot → test spot) → HoldsNode old before a → HoldsNode new test after
+node_served : (form : Form) (old new : PlaceLines) (before test : LineSpot → Type 0) (a after : Node) → IsNodeHandedOn form old new a after → ((spot : LineSpot) → test spot → before spot ⊎ IsFresh form new after spot)
+    → ((spot : LineSpot) → before spot → test spot) → ((spot : LineSpot) → IsFresh form new after spot → test spot) → HoldsNode old before a → HoldsNode new test after
 node_served form old new before test (Cell p) after on only grows added holds = absurd holds
 node_served form old new before test (Name scope word) after on only grows added holds = absurd holds
 node_served form old new before test (Range b) (Cell q) on only grows added holds = absurd on
@@ -154,7 +154,7 @@ module _ (s : Shift) (lines : PlaceLines) (net : Net) (n first : ℕ) (after : N
 
   -- or with a filing of those that do
   module _ (files : Files) (last : ℕ) (part : Node) (is_part : fresh_node (form_of s) after ≡ Some part) (on : FilesOn net.files files) (behind : length net.files.owners.items ≡ last)
-      (owner : owner_at files.owners last ≡ Some n) (exact : (spot : Spot) → IsTrue (finds_filing files spot last) ↔ IsSpotOf lines part spot) where
+      (owner : owner_at files.owners last ≡ Some n) (exact : (spot : LineSpot) → IsTrue (finds_filing files spot last) ↔ IsSpotOf lines part spot) where
     abbrev both : Serving
     both = record { first = first; last = last }
 
@@ -170,7 +170,7 @@ module _ (s : Shift) (lines : PlaceLines) (net : Net) (n first : ℕ) (after : N
       (owner, omega (arith, first_low, behind), inl refl),
     )
 
-    only : (spot : Spot) → FindsBy files n both spot → FindsBy net.files n (since first) spot ⊎ IsFresh (form_of s) lines after spot
+    only : (spot : LineSpot) → FindsBy files n both spot → FindsBy net.files n (since first) spot ⊎ IsFresh (form_of s) lines after spot
     only spot (f, (owns, from, which), found) = by which
       where
         by : (f ≡ last) ⊎ (serves_at files.serves f ≡ true) → FindsBy net.files n (since first) spot ⊎ IsFresh (form_of s) lines after spot
@@ -180,12 +180,12 @@ module _ (s : Shift) (lines : PlaceLines) (net : Net) (n first : ℕ) (after : N
             let low : f < length net.files.owners.items = served_inside net.files f was in
             inl (f, (sym (on.owners f low) ∙ owns, from, inr was), sym (on.finds f low spot) ∙ found)
 
-    grows : (spot : Spot) → FindsBy net.files n (since first) spot → FindsBy files n both spot
+    grows : (spot : LineSpot) → FindsBy net.files n (since first) spot → FindsBy files n both spot
     grows spot (f, (owns, from, which), found) =
         let low : f < length net.files.owners.items = owner_inside net.files.owners.items f n owns in
         (f, (on.owners f low ∙ owns, from, elim which [ inl same ↦ inr (ap (serves_at files.serves) same ∙ first_serves) | inr serves ↦ inr (on.serves f ∙ serves) ]), on.finds f low spot ∙ found)
 
-    added : (spot : Spot) → IsFresh (form_of s) lines after spot → FindsBy files n both spot
+    added : (spot : LineSpot) → IsFresh (form_of s) lines after spot → FindsBy files n both spot
     added spot (p, is, has) =
         (last, (owner, omega (arith, first_low, behind), inl refl), (exact spot).1 (subst (λ x. IsSpotOf lines x spot) (same_Some p part (sym is ∙ is_part)) has))
 

@@ -7,7 +7,7 @@ use Rattle.block_index.proofs.Tests.{any_has, has_any}
 use Rattle.needs_order.specs.Needs as plain
 use Rattle.needs_order.proofs.Lists as lists
 use Rattle.place_lines.specs.declared.lines.PlaceLines.{PlaceLines}
-use Rattle.place_lines.specs.declared.spot.Spot.{Spot}
+use Rattle.place_lines.specs.declared.spot.LineSpot.{LineSpot}
 use Rattle.dep_graph.specs.declared.files.Files.{Files}
 use Rattle.dep_graph.specs.declared.node.Node.{Node}
 use Rattle.dep_graph.specs.internal.Files.{FindsBy, FindsNode, HoldsNode, IsServing, filed_at, if_present, owner_of, slots_over}
@@ -77,7 +77,7 @@ module _ (files : Files) where
   served_node n fs h = let (f, there, (first, at, serves)) = owner_has fs n h in (first, at)
 
   -- a node that is served from a filing on is found by these
-  pub found_by : (n first : ℕ) (spot : Spot) → filing_of files.current n ≡ Some first → FindsNode files n spot ↔ FindsBy files n (since first) spot
+  pub found_by : (n first : ℕ) (spot : LineSpot) → filing_of files.current n ≡ Some first → FindsNode files n spot ↔ FindsBy files n (since first) spot
   found_by n first spot at = (goes, comes)
     where
       slots : List ℕ

@@ -17,7 +17,7 @@ use Rattle.needs_order.specs.Needs.{has}
 use Rattle.needs_order.proofs.Lists.{at_has, has-append_cases, has-append_left, has-append_right, has_cases, has_first, has_or_not}
 use Rattle.place_lines.specs.Moved.{AreMoved, IsKnown, is_known}
 use Rattle.place_lines.specs.Spots.{area_of, block_at, first_spot, last_spot, number_of, place_at, spot_of, table_along}
-use Rattle.place_lines.specs.declared.area.Area.{Area}
+use Rattle.place_lines.specs.declared.area.LineArea.{LineArea}
 use Rattle.place_lines.specs.declared.lines.PlaceLines.{PlaceLines}
 use Rattle.place_lines.proofs.Known.{spot_known, spot_was_there, stays_known}
 use Rattle.place_lines.proofs.Places.{same_area}
@@ -240,7 +240,7 @@ module _ (s : Shift) (sound : IsSound s) (old new : PlaceLines) (moved : AreMove
         | inr kept ↦ inr (within, keeps old b on (subst (λ l. KeepsBlock t.index l b n) lines (kept.1 (Range b) was).1))
       ]
     where
-      one_area : (a b : Area) → key.Range a ≡ key.Range b → a ≡ b
+      one_area : (a b : LineArea) → key.Range a ≡ key.Range b → a ≡ b
       one_area a b e = cc
 
   stays_known_key : (k : Key) → IsKnownKey old k → IsKnownKey new k

@@ -27,7 +27,7 @@ use Rattle.stable_lines.specs.declared.table.LineTable.{LineTable}
 use Rattle.place_lines.specs.Moved.{AreMoved, IsKnown, IsKnownLine, is_known_line}
 use Rattle.place_lines.specs.Spots.{number_of, past, position_at, positions, spot_of, table_along}
 use Rattle.place_lines.specs.declared.lines.PlaceLines.{PlaceLines}
-use Rattle.place_lines.specs.declared.spot.Spot.{Spot}
+use Rattle.place_lines.specs.declared.spot.LineSpot.{LineSpot}
 use Rattle.place_lines.specs.internal.Low.{HasLowLines}
 use Rattle.place_lines.proofs.Known.{spot_was_there, stays_known}
 use Rattle.place_lines.proofs.LineNumbers.{has_number, number_returns, one_position, position_returns}
@@ -146,7 +146,7 @@ along_covered Rows sheet first last p h = (h.0, h.1, h.2, omega arith, omega ari
 along_covered Cols sheet first last p h = (h.0, omega arith, omega arith, h.1, h.2)
 
 -- what holds a whole range is passed by just the spots of its cells, of all places
-pub whole_covers : (lines : PlaceLines) (test : Spot → Type 0) (w : Whole) (p : Place) → HoldsWhole lines test w → test (spot_of lines p) ↔ IsTrue (covers (whole_block w) p)
+pub whole_covers : (lines : PlaceLines) (test : LineSpot → Type 0) (w : Whole) (p : Place) → HoldsWhole lines test w → test (spot_of lines p) ↔ IsTrue (covers (whole_block w) p)
 whole_covers lines test w p holds = (
   λ passes.
       let sheet : p.sheet ≡ w.sheet = holds.sheet (spot_of lines p) passes in
@@ -181,7 +181,7 @@ number_known t x = line_known t (number_of t x) (elim (has_number t x) [
 ])
 
 -- what just the spots on the lines of a whole range pass holds it
-pub lines_hold : (lines : PlaceLines) (test : Spot → Type 0) (w : Whole) → ((spot : Spot) → test spot ↔ IsOnLines lines w spot) → HoldsWhole lines test w
+pub lines_hold : (lines : PlaceLines) (test : LineSpot → Type 0) (w : Whole) → ((spot : LineSpot) → test spot ↔ IsOnLines lines w spot) → HoldsWhole lines test w
 lines_hold lines test w same = record {
   sheet = λ spot passes. ((same spot).0 passes).0;
   exact = λ spot position sheet is. (
@@ -317,7 +317,7 @@ goes_on (Sheet sheet) old new v w on = (None, (stays old new v w on.ends (on.mov
 -- ---- lines that are known
 
 -- a spot of a sheet by the number of its line along an axis; across it is past the sheet's end
-abbrev spot_along : Axis → ℕ → ℕ → Spot
+abbrev spot_along : Axis → ℕ → ℕ → LineSpot
 spot_along Rows sheet n = record { sheet = sheet; row = n; col = past 0 }
 spot_along Cols sheet n = record { sheet = sheet; row = past 0; col = n }
 
@@ -368,10 +368,10 @@ was_along f old new axis sheet x moved passes =
 
 -- ---- what holds a whole range that is handed on holds what it becomes, with the lines that come in
 
-pub whole_served : (form : Form) (old new : PlaceLines) (before test : Spot → Type 0) (v w : Whole) → IsHandedWhole form old new v w
-    → ((spot : Spot) → test spot → before spot ⊎ ((part : Whole) × (fresh_whole form w ≡ Some part) × IsOnLines new part spot))
-    → ((spot : Spot) → before spot → test spot)
-    → ((part : Whole) (spot : Spot) → fresh_whole form w ≡ Some part → IsOnLines new part spot → test spot)
+pub whole_served : (form : Form) (old new : PlaceLines) (before test : LineSpot → Type 0) (v w : Whole) → IsHandedWhole form old new v w
+    → ((spot : LineSpot) → test spot → before spot ⊎ ((part : Whole) × (fresh_whole form w ≡ Some part) × IsOnLines new part spot))
+    → ((spot : LineSpot) → before spot → test spot)
+    → ((part : Whole) (spot : LineSpot) → fresh_whole form w ≡ Some part → IsOnLines new part spot → test spot)
     → HoldsWhole old before v → HoldsWhole new test w
 whole_served form old new before test v w on only grows added holds = record {
   sheet = λ spot passes. by_sheet spot (only spot passes);
@@ -400,7 +400,7 @@ whole_served form old new before test v w on only grows added holds = record {
     parts : fresh_whole form w ≡ option_map (whole_on w) fresh
     parts = (goes_on form old new v w on).1.1
 
-    IsFresh : Spot → Type 0
+    IsFresh : LineSpot → Type 0
     IsFresh spot = (part : Whole) × (fresh_whole form w ≡ Some part) × IsOnLines new part spot
 
     -- a part is on some of the lines
@@ -408,19 +408,19 @@ whole_served form old new before test v w on only grows added holds = record {
     band_of (Some band) part h = (band, refl, same_Some (whole_on w band) part h)
     band_of None part h = absurd (cc)
 
-    on_band : (spot : Spot) → IsFresh spot → (band : Span) × (fresh ≡ Some band) × IsOnLines new (whole_on w band) spot
+    on_band : (spot : LineSpot) → IsFresh spot → (band : Span) × (fresh ≡ Some band) × IsOnLines new (whole_on w band) spot
     on_band spot (part, is_part, on_lines) =
         let (band, is, same) = band_of fresh part (sym parts ∙ is_part) in
         (band, is, subst (λ x. IsOnLines new x spot) (sym same) on_lines)
 
-    by_sheet : (spot : Spot) → before spot ⊎ IsFresh spot → spot.sheet ≡ w.sheet
+    by_sheet : (spot : LineSpot) → before spot ⊎ IsFresh spot → spot.sheet ≡ w.sheet
     by_sheet spot (inl was) = holds.sheet spot was ∙ sheets
     by_sheet spot (inr put) = (on_band spot put).2.0
 
-    same_number_on : (spot : Spot) → number_on v.axis spot ≡ number_on w.axis spot
+    same_number_on : (spot : LineSpot) → number_on v.axis spot ≡ number_on w.axis spot
     same_number_on spot = ap (λ a. number_on a spot) axes
 
-    by_known : (spot : Spot) → before spot ⊎ IsFresh spot → is_known_line u (number_on w.axis spot) ≡ true
+    by_known : (spot : LineSpot) → before spot ⊎ IsFresh spot → is_known_line u (number_on w.axis spot) ≡ true
     by_known spot (inl was) =
         let here : is_known_line (table_along v.axis old v.sheet) (number_on v.axis spot) ≡ true = holds.known spot was in
         subst (λ a. is_known_line (table_along a new w.sheet) (number_on a spot) ≡ true) axes
@@ -433,7 +433,7 @@ whole_served form old new before test v w on only grows added holds = record {
     there : (x : ℕ) → number_of (table_along v.axis new v.sheet) x ≡ number_of u x
     there x = λ i. number_of (table_along (axes i) new (sheets i)) x
 
-    inside : (spot : Spot) (position : ℕ) → spot.sheet ≡ w.sheet → number_of u position ≡ number_on w.axis spot → before spot ⊎ IsFresh spot → IsTrue (is_on_sheet w.axis spot) × IsWithin (lines_of w) position
+    inside : (spot : LineSpot) (position : ℕ) → spot.sheet ≡ w.sheet → number_of u position ≡ number_on w.axis spot → before spot ⊎ IsFresh spot → IsTrue (is_on_sheet w.axis spot) × IsWithin (lines_of w) position
     inside spot position sheet is (inl was) =
         let number : number_on v.axis spot ≡ number_of (table_along v.axis new v.sheet) position = same_number_on spot ∙ (sym is ∙ sym (there position)) in
         let (n, at) = was_along form old new v.axis v.sheet position on.moved (subst (λ m. is_known_line t m ≡ true) number (holds.known spot was)) in
@@ -444,7 +444,7 @@ whole_served form old new before test v w on only grows added holds = record {
         let one : x ≡ position = one_position u x position (low_along w.axis new w.sheet) (number ∙ sym is) in
         (on_sheet, goes.inside position (band, is_band, subst (IsWithin band) one within))
 
-    outside : (spot : Spot) (position : ℕ) → spot.sheet ≡ w.sheet → number_of u position ≡ number_on w.axis spot → is_on_sheet w.axis spot ≡ true → IsWithin (lines_of w) position → test spot
+    outside : (spot : LineSpot) (position : ℕ) → spot.sheet ≡ w.sheet → number_of u position ≡ number_on w.axis spot → is_on_sheet w.axis spot ≡ true → IsWithin (lines_of w) position → test spot
     outside spot position sheet is on_sheet within = elim (goes.from position within) [
       | inl (n, was_within, at) ↦
           grows spot ((holds.exact spot n (sheet ∙ sym sheets) (at ∙ (is ∙ sym (same_number_on spot)))).1 (subst (λ a. is_on_sheet a spot ≡ true) (sym axes) on_sheet, was_within))

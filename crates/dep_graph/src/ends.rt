@@ -4,7 +4,7 @@ ghost use Rattle.place_lines.specs.Spots.{number_of, position_at, table_along};
 ghost use Rattle.dep_graph.specs.internal.Keys.{ends_of, whole_at};
 
 use cell_addr::{Axis, Place, Whole};
-use place_lines::{PlaceLines, Spot};
+use place_lines::{LineSpot, PlaceLines};
 
 // A whole range by the numbers of its first and its last line, which stay while operations move these.
 #[derive(Clone, Copy, PartialEq, Eq, Debug)]
@@ -67,14 +67,14 @@ fn position(lines: &PlaceLines, sheet: u32, axis: Axis, number: u64) -> Option<u
     });
     match axis {
         Axis::Rows => {
-            let place = lines.place(Spot {
+            let place = lines.place(LineSpot {
                 row: number,
                 ..corner
             })?;
             Some(place.row)
         }
         Axis::Cols => {
-            let place = lines.place(Spot {
+            let place = lines.place(LineSpot {
                 col: number,
                 ..corner
             })?;

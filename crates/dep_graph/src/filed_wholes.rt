@@ -1,6 +1,6 @@
 // Whole ranges filed under the slots of their lines.
 ghost use Rattle.std.specs.Prelude.{◌≡◌, ◌<◌, ℕ, true, length, OnOk};
-ghost use Rattle.place_lines.specs.declared.spot.Spot.{Spot};
+ghost use Rattle.place_lines.specs.declared.spot.LineSpot.{LineSpot};
 ghost use Rattle.dep_graph.specs.declared.node.Node.TheVariants as node;
 ghost use Rattle.dep_graph.specs.internal.Files.{FilesCells, FilesSpots, IsSpotOf, finds_filing};
 ghost use Rattle.dep_graph.specs.internal.Wholes.{on_run, on_runs};
@@ -25,7 +25,7 @@ impl Files {
         ensures owners { self.new.owners ≡ self.old.owners }
         ensures serves { self.new.serves ≡ self.old.serves }
         ensures filed { FilesSpots (IsSpotOf lines.now (node.Whole whole)) filing self.old self.new }
-        ensures found { OnOk result ((spot : Spot) → IsSpotOf lines.now (node.Whole whole) spot → finds_filing self.new spot filing ≡ true) }
+        ensures found { OnOk result ((spot : LineSpot) → IsSpotOf lines.now (node.Whole whole) spot → finds_filing self.new spot filing ≡ true) }
     {
         let runs = lines.runs(self.alloc, whole.axis, whole.sheet, whole.span())?;
         self.file_runs(whole.sheet, whole.axis, &runs, filing)
@@ -44,7 +44,7 @@ impl Files {
         ensures owners { self.new.owners ≡ self.old.owners }
         ensures serves { self.new.serves ≡ self.old.serves }
         ensures filed { FilesCells (on_runs sheet axis runs.now) filing self.old self.new }
-        ensures found { OnOk result ((spot : Spot) → on_runs sheet axis runs.now spot ≡ true → finds_filing self.new spot filing ≡ true) }
+        ensures found { OnOk result ((spot : LineSpot) → on_runs sheet axis runs.now spot ≡ true → finds_filing self.new spot filing ≡ true) }
     {
         'runs: for run in runs {
             self.file_run(sheet, axis, run.start..run.end, filing)?;
@@ -65,7 +65,7 @@ impl Files {
         ensures owners { self.new.owners ≡ self.old.owners }
         ensures serves { self.new.serves ≡ self.old.serves }
         ensures filed { FilesCells (on_run sheet axis run) filing self.old self.new }
-        ensures found { OnOk result ((spot : Spot) → on_run sheet axis run spot ≡ true → finds_filing self.new spot filing ≡ true) }
+        ensures found { OnOk result ((spot : LineSpot) → on_run sheet axis run spot ≡ true → finds_filing self.new spot filing ≡ true) }
     {
         let column = column_of(axis);
         self.filed = self.filed.saturating_add(1);

@@ -62,7 +62,7 @@ impl Drop for Files {
 }
 
 impl Files {
-    ghost use Rattle.place_lines.specs.declared.spot.Spot.{Spot};
+    ghost use Rattle.place_lines.specs.declared.spot.LineSpot.{LineSpot};
     ghost use Rattle.dep_graph.specs.declared.node.Node.TheVariants as node;
     ghost use Rattle.dep_graph.specs.internal.Files.{AreServing, FilesCells, FilesOn, FilesSpots, IsSpotOf, filed_at, finds_filing, in_area, in_row, in_run, owner_of, slot_total};
 
@@ -135,7 +135,7 @@ impl Files {
         ensures on { FilesOn self.old self.new }
         ensures new { IfOk result (λ f. length self.old.owners.items ≡ f) }
         ensures owner { IfOk result (λ f. owner_at self.new.owners f ≡ Some number) }
-        ensures exact { IfOk result (λ f. (spot : Spot) → IsTrue (finds_filing self.new spot f) ↔ IsSpotOf lines.now range spot) }
+        ensures exact { IfOk result (λ f. (spot : LineSpot) → IsTrue (finds_filing self.new spot f) ↔ IsSpotOf lines.now range spot) }
     {
         let filing = self.owners.len();
         push_filing(&mut self.owners, &mut self.serves, number)?;
@@ -155,7 +155,7 @@ impl Files {
         ensures owners { self.new.owners ≡ self.old.owners }
         ensures serves { self.new.serves ≡ self.old.serves }
         ensures filed { FilesSpots (IsSpotOf lines.now range) filing self.old self.new }
-        ensures found { OnOk result ((spot : Spot) → IsSpotOf lines.now range spot → finds_filing self.new spot filing ≡ true) }
+        ensures found { OnOk result ((spot : LineSpot) → IsSpotOf lines.now range spot → finds_filing self.new spot filing ≡ true) }
     {
         match range {
             Node::Range(block) => self.file_block(lines, block, filing),
@@ -177,7 +177,7 @@ impl Files {
         ensures owners { self.new.owners ≡ self.old.owners }
         ensures serves { self.new.serves ≡ self.old.serves }
         ensures filed { FilesSpots (IsSpotOf lines.now (node.Range block)) filing self.old self.new }
-        ensures found { OnOk result ((spot : Spot) → IsSpotOf lines.now (node.Range block) spot → finds_filing self.new spot filing ≡ true) }
+        ensures found { OnOk result ((spot : LineSpot) → IsSpotOf lines.now (node.Range block) spot → finds_filing self.new spot filing ≡ true) }
     {
         let rows = lines.runs(self.alloc, Axis::Rows, block.sheet, block.span(Axis::Rows))?;
         let cols = lines.runs(self.alloc, Axis::Cols, block.sheet, block.span(Axis::Cols))?;
@@ -197,7 +197,7 @@ impl Files {
         ensures owners { self.new.owners ≡ self.old.owners }
         ensures serves { self.new.serves ≡ self.old.serves }
         ensures filed { FilesCells (in_area sheet rows.now cols.now) filing self.old self.new }
-        ensures found { OnOk result ((spot : Spot) → in_area sheet rows.now cols.now spot ≡ true → finds_filing self.new spot filing ≡ true) }
+        ensures found { OnOk result ((spot : LineSpot) → in_area sheet rows.now cols.now spot ≡ true → finds_filing self.new spot filing ≡ true) }
     {
         'rows: for run in rows {
             self.file_row(sheet, run.start..run.end, cols, filing)?;
@@ -218,7 +218,7 @@ impl Files {
         ensures owners { self.new.owners ≡ self.old.owners }
         ensures serves { self.new.serves ≡ self.old.serves }
         ensures filed { FilesCells (in_row sheet rows cols.now) filing self.old self.new }
-        ensures found { OnOk result ((spot : Spot) → in_row sheet rows cols.now spot ≡ true → finds_filing self.new spot filing ≡ true) }
+        ensures found { OnOk result ((spot : LineSpot) → in_row sheet rows cols.now spot ≡ true → finds_filing self.new spot filing ≡ true) }
     {
         'cols: for run in cols {
             self.file_cells(sheet, rows.start..rows.end, run.start..run.end, filing)?;
@@ -239,7 +239,7 @@ impl Files {
         ensures owners { self.new.owners ≡ self.old.owners }
         ensures serves { self.new.serves ≡ self.old.serves }
         ensures filed { FilesCells (in_run sheet rows cols) filing self.old self.new }
-        ensures found { OnOk result ((spot : Spot) → in_run sheet rows cols spot ≡ true → finds_filing self.new spot filing ≡ true) }
+        ensures found { OnOk result ((spot : LineSpot) → in_run sheet rows cols spot ≡ true → finds_filing self.new spot filing ≡ true) }
     {
         self.filed = self.filed.saturating_add(1);
         self.index.file(sheet, rows, cols, filing)

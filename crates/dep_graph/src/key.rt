@@ -6,15 +6,15 @@ ghost use Rattle.dep_graph.specs.internal.Keys.{fed_key, is_narrow, key_of, keys
 
 use crate::ends::Ends;
 use crate::node::{Node, tag};
-use place_lines::{Area, PlaceLines, Spot};
+use place_lines::{LineArea, LineSpot, PlaceLines};
 use std::hash::{Hash, Hasher};
 
 // A node by the numbers of its lines, which stay while operations move these.
 #[derive(Clone, Copy, Debug)]
 pub(crate) enum Key {
-    Cell(Spot),
+    Cell(LineSpot),
     Name { scope: u32, word: u64 },
-    Range(Area),
+    Range(LineArea),
     Whole(Ends),
 }
 
@@ -45,7 +45,7 @@ impl Key {
     }
 
     // Whether it is that of the cell at the spot.
-    fn is_cell(self, spot: Spot) -> bool
+    fn is_cell(self, spot: LineSpot) -> bool
         ensures { result ≡ same_key self (Cell spot) }
     {
         match self {
@@ -69,7 +69,7 @@ impl Key {
     }
 
     // Whether it is that of the range of the area.
-    fn is_range(self, area: Area) -> bool
+    fn is_range(self, area: LineArea) -> bool
         ensures { result ≡ same_key self (Range area) }
     {
         match self {

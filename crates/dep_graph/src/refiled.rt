@@ -5,7 +5,7 @@ ghost use Rattle.std.specs.Ordering.{nat_cmp};
 ghost use Rattle.needs_order.specs.Needs.{has};
 ghost use Rattle.node_links.specs.Redirect.{few_target, is_among};
 ghost use Rattle.place_lines.specs.Moved.{AreMoved};
-ghost use Rattle.place_lines.specs.declared.spot.Spot.{Spot};
+ghost use Rattle.place_lines.specs.declared.spot.LineSpot.{LineSpot};
 ghost use Rattle.shift_core.specs.Form.{form_of};
 ghost use Rattle.shift_core.specs.Sound.{IsSound};
 ghost use Rattle.dep_graph.specs.Shifted.{node_after};
@@ -208,7 +208,7 @@ impl Net {
         ensures files { FilesOn self.old.files self.new.files }
         ensures new { IfOk result (λ f. length self.old.files.owners.items ≡ f) }
         ensures owner { IfOk result (λ f. owner_at self.new.files.owners f ≡ Some number) }
-        ensures exact { IfOk result (λ f. (spot : Spot) → IsTrue (finds_filing self.new.files spot f) ↔ IsSpotOf lines.now part spot) }
+        ensures exact { IfOk result (λ f. (spot : LineSpot) → IsTrue (finds_filing self.new.files spot f) ↔ IsSpotOf lines.now part spot) }
     {
         self.files.file(lines, part, number)
     }

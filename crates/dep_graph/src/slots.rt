@@ -7,7 +7,7 @@ ghost use Rattle.dep_graph.specs.internal.Wholes.{column_of, is_line, is_on_shee
 use crate::arrows::add_behind;
 use crate::files::Files;
 use cell_addr::Axis;
-use place_lines::Spot;
+use place_lines::LineSpot;
 use std::alloc::{AllocError, Global};
 
 // The first number that no line of a sheet has, 2 to the 63rd: from it on numbers stand for positions past a sheet's end.
@@ -28,7 +28,7 @@ impl Files {
     }
 
     // The slots that hold a spot: those of ranges, and behind them those of whole ranges along both axes.
-    pub(crate) fn slots_at(&self, spot: Spot) -> Result<Vec<usize>, AllocError>
+    pub(crate) fn slots_at(&self, spot: LineSpot) -> Result<Vec<usize>, AllocError>
         ensures slots { IfOk result (λ slots. slots.items ≡ slots_over self.now spot) }
         ensures inside { (s : ℕ) → has s (slots_over self.now spot) ≡ true → s < slot_total self.now }
     {
@@ -39,7 +39,12 @@ impl Files {
     }
 
     // Adds the slots of whole ranges along an axis that hold a spot, as they are numbered.
-    fn add_along(&self, slots: &mut Vec<usize>, axis: Axis, spot: Spot) -> Result<(), AllocError>
+    fn add_along(
+        &self,
+        slots: &mut Vec<usize>,
+        axis: Axis,
+        spot: LineSpot,
+    ) -> Result<(), AllocError>
         ensures { OnOk result (slots.new.items ≡ slots.old.items ++ slots_on self.now axis spot) }
     {
         let along = self.slots_along(axis, spot)?;
@@ -47,7 +52,7 @@ impl Files {
     }
 
     // The slots of whole ranges along an axis that hold a spot.
-    fn slots_along(&self, axis: Axis, spot: Spot) -> Result<Vec<usize>, AllocError>
+    fn slots_along(&self, axis: Axis, spot: LineSpot) -> Result<Vec<usize>, AllocError>
         ensures { IfOk result (λ slots. slots.items ≡ slots_along axis self.now.wholes spot) }
     {
         if is_on_sheet(axis, spot) {
@@ -60,14 +65,14 @@ impl Files {
 }
 
 // Whether the spot is on a line of the sheet across the axis.
-fn is_on_sheet(axis: Axis, spot: Spot) -> bool
+fn is_on_sheet(axis: Axis, spot: LineSpot) -> bool
     ensures { result ≡ is_on_sheet axis spot }
 {
     number_on(axis.across(), spot) < PAST_LINES
 }
 
 // The number of a spot's line along an axis.
-fn number_on(axis: Axis, spot: Spot) -> u64
+fn number_on(axis: Axis, spot: LineSpot) -> u64
     ensures { result ≡ number_on axis spot }
 {
     match axis {

@@ -5,7 +5,7 @@ ghost use Rattle.cell_value.specs.declared.scalar.Scalar.TheVariants.{Empty};
 ghost use Rattle.calc_eval.specs.Named.{named_by};
 ghost use Rattle.function_cases.specs.Page.{named_in, shown_in};
 
-use calc_eval::{Cells, NameView, View, area_of, summary_of};
+use calc_eval::{NameView, ShownCells, View, area_of, summary_of};
 use cell_addr::{Block, Place, Text, same_folded};
 use cell_value::{Area, Scalar, Summary};
 use formula_tree::{Home, Tree};
@@ -55,7 +55,7 @@ impl PageCells {
     }
 }
 
-impl Cells for PageCells {
+impl ShownCells for PageCells {
     ghost shown = { λ page. shown_in page.cells.items };
 
     fn value(&self, at: Place) -> &Scalar {

@@ -16,8 +16,8 @@ use Rattle.shift_core.specs.declared.form.Form.TheVariants.{Cells, Sheet}
 use Rattle.shift_core.proofs.CarriedEntries.{find-carried, find-carried_nowhere}
 use Rattle.shift_core.proofs.MovedMaps.{each_place, find_place}
 use Rattle.grid_store.specs.Grid.{outside, with_entries, within}
-use Rattle.grid_store.specs.declared.way.Way.{Way}
-use Rattle.grid_store.specs.declared.way.Way.TheVariants.{Forth, Back}
+use Rattle.grid_store.specs.declared.way.Going.{Going}
+use Rattle.grid_store.specs.declared.way.Going.TheVariants.{Forth, Back}
 use Rattle.grid_store.specs.internal.Lists.{carried_entry}
 use Rattle.grid_store.specs.internal.Ways.{carried_map, form_goes, from_block, lost_by, onto_block, turned, whole}
 use Rattle.grid_store.proofs.Carries.{get-carried, get-carried_outside, lost-kept, returned, returns, stays_inside}
@@ -47,7 +47,7 @@ none_if true = refl
 none_if false = refl
 
 -- a dropped sheet
-dropped_goes : (w : Way) (sheet : ℕ) (q : Place) → form_goes w (Sheet sheet) q ≡ (if q.sheet == sheet then None else Some q)
+dropped_goes : (w : Going) (sheet : ℕ) (q : Place) → form_goes w (Sheet sheet) q ≡ (if q.sheet == sheet then None else Some q)
 dropped_goes Forth sheet q = refl
 dropped_goes Back sheet q = refl
 
@@ -59,7 +59,7 @@ none_by : (b : Bool) (q : Place) → b ≡ is_none (cond b None (Some q))
 none_by true q = refl
 none_by false q = refl
 
-pub sheet_cleared : {X : Type 0} (w : Way) (sheet : ℕ) (m : PlaceMap X) → AreInside m → outside (whole sheet) m ≡ carried_map (form_goes w (Sheet sheet)) m
+pub sheet_cleared : {X : Type 0} (w : Going) (sheet : ℕ) (m : PlaceMap X) → AreInside m → outside (whole sheet) m ≡ carried_map (form_goes w (Sheet sheet)) m
 sheet_cleared w sheet m all = same_places _ _ (λ q. get-kept m (λ p. not (covers (whole sheet) p)) q ∙ elim (inside_or_not q) [
   | inl i ↦
       ap (λ b. cond (not b) (get m q) None) (covers-whole sheet q i) ∙ left_by (q.sheet == sheet) m q
@@ -67,7 +67,7 @@ sheet_cleared w sheet m all = same_places _ _ (λ q. get-kept m (λ p. not (cove
   | inr out ↦ ap (λ r. cond (not (covers (whole sheet) q)) r None) (not_there m all q out (get m q) refl) ∙ none_if (not (covers (whole sheet) q)) ∙ sym (get-carried_outside w (Sheet sheet) tt m all q out)
 ])
 
-pub sheet_lost : {X : Type 0} (w : Way) (sheet : ℕ) (m : PlaceMap X) → AreInside m → entries (within (whole sheet) m) ≡ lost_by (form_goes w (Sheet sheet)) m
+pub sheet_lost : {X : Type 0} (w : Going) (sheet : ℕ) (m : PlaceMap X) → AreInside m → entries (within (whole sheet) m) ≡ lost_by (form_goes w (Sheet sheet)) m
 sheet_lost w sheet m all =
     lost-kept (form_goes w (Sheet sheet)) (covers (whole sheet)) m all (λ q i. covers-whole sheet q i ∙ none_by (q.sheet == sheet) q ∙ ap is_none (sym (dropped_goes w sheet q)))
 
@@ -89,24 +89,24 @@ each_carried f P [] h = tt
 each_carried f P (e ∷ es) h = each_or (f e.0) P e.1 (filter_map (carried_entry f) es) h.0 (each_carried f P es h.1)
 
 -- a moved block of cells
-carry : Way → Block → Place → Place → Place
+carry : Going → Block → Place → Place → Place
 carry Forth source to p = carried_place source to p
 carry Back source to p = carried_place (destination source to) (first_place source) p
 
-cells_go : (w : Way) (source : Block) (to p : Place) → form_goes w (Cells source to) p ≡ cond (covers (from_block w source to) p) (Some (carry w source to p)) (cond (covers (onto_block w source to) p) None (Some p))
+cells_go : (w : Going) (source : Block) (to p : Place) → form_goes w (Cells source to) p ≡ cond (covers (from_block w source to) p) (Some (carry w source to p)) (cond (covers (onto_block w source to) p) None (Some p))
 unfolding carry
 cells_go Forth source to p = refl
 cells_go Back source to p = refl
 
-from_turned : (w : Way) (source : Block) (to : Place) → from_block (turned w) source to ≡ onto_block w source to
+from_turned : (w : Going) (source : Block) (to : Place) → from_block (turned w) source to ≡ onto_block w source to
 from_turned Forth source to = refl
 from_turned Back source to = refl
 
-onto_turned : (w : Way) (source : Block) (to : Place) → onto_block (turned w) source to ≡ from_block w source to
+onto_turned : (w : Going) (source : Block) (to : Place) → onto_block (turned w) source to ≡ from_block w source to
 onto_turned Forth source to = refl
 onto_turned Back source to = refl
 
-cells_come : (w : Way) (source : Block) (to q : Place) → form_goes (turned w) (Cells source to) q ≡ cond (covers (onto_block w source to) q) (Some (carry (turned w) source to q)) (cond (covers (from_block w source to) q) None (Some q))
+cells_come : (w : Going) (source : Block) (to q : Place) → form_goes (turned w) (Cells source to) q ≡ cond (covers (onto_block w source to) q) (Some (carry (turned w) source to q)) (cond (covers (from_block w source to) q) None (Some q))
 cells_come w source to q =
     cells_go (turned w) source to q ∙ (λ i. cond (covers (from_turned w source to i) q) (Some (carry (turned w) source to q)) (cond (covers (onto_turned w source to i) q) None (Some q)))
 
@@ -126,7 +126,7 @@ two_parts true false r = refl
 two_parts false true r = refl
 two_parts false false r = refl
 
-module _ {X : Type 0} (w : Way) (source : Block) (to : Place) (sound : IsSoundForm (Cells source to)) (m : PlaceMap X) (all : AreInside m) where
+module _ {X : Type 0} (w : Going) (source : Block) (to : Place) (sound : IsSoundForm (Cells source to)) (m : PlaceMap X) (all : AreInside m) where
   abbrev from : Block
   from = from_block w source to
 

@@ -19,30 +19,30 @@ use Rattle.shift_core.proofs.CarriedEntries.{find-carried, find-carried_nowhere}
 use Rattle.shift_core.proofs.MovedMaps.{each_place, find_place}
 use Rattle.shift_core.proofs.PlaceLaws.{place_moved_returns, place_returned_goes, place_moved_inside, place_returned_inside}
 use Rattle.grid_store.specs.internal.Ways.{carried_map, form_goes, line_goes, lost_by, turned}
-use Rattle.grid_store.specs.declared.way.Way.{Way}
-use Rattle.grid_store.specs.declared.way.Way.TheVariants.{Forth, Back}
+use Rattle.grid_store.specs.declared.way.Going.{Going}
+use Rattle.grid_store.specs.declared.way.Going.TheVariants.{Forth, Back}
 use Rattle.grid_store.proofs.PlaceMaps.{entries-kept}
 
 -- the other way leads back
-pub returns : (w : Way) (f : Form) (p q : Place) → IsSoundForm f → IsInside p → form_goes w f p ≡ Some q → form_goes (turned w) f q ≡ Some p
+pub returns : (w : Going) (f : Form) (p q : Place) → IsSoundForm f → IsInside p → form_goes w f p ≡ Some q → form_goes (turned w) f q ≡ Some p
 returns Forth f p q sound i h = place_moved_returns f p q sound i h
 returns Back f p q sound i h = place_returned_goes f q p sound i h
 
 -- and from there it leads forth again
-pub returned : (w : Way) (f : Form) (p q : Place) → IsSoundForm f → IsInside q → form_goes (turned w) f q ≡ Some p → form_goes w f p ≡ Some q
+pub returned : (w : Going) (f : Form) (p q : Place) → IsSoundForm f → IsInside q → form_goes (turned w) f q ≡ Some p → form_goes w f p ≡ Some q
 returned Forth f p q sound i h = place_returned_goes f p q sound i h
 returned Back f p q sound i h = place_moved_returns f q p sound i h
 
-pub stays_inside : (w : Way) (f : Form) (p q : Place) → IsSoundForm f → IsInside p → form_goes w f p ≡ Some q → IsInside q
+pub stays_inside : (w : Going) (f : Form) (p q : Place) → IsSoundForm f → IsInside p → form_goes w f p ≡ Some q → IsInside q
 stays_inside Forth f p q sound i h = place_moved_inside f p q sound i h
 stays_inside Back f p q sound i h = place_returned_inside f q p sound i h
 
 -- an edit of lines goes by the line
-pub goes_by_line : (w : Way) (sheet : _) (axis : Axis) (edit : Edit) → form_goes w (Lines sheet axis edit) ≡ by_line sheet axis (line_goes w (limit_of axis) edit)
+pub goes_by_line : (w : Going) (sheet : _) (axis : Axis) (edit : Edit) → form_goes w (Lines sheet axis edit) ≡ by_line sheet axis (line_goes w (limit_of axis) edit)
 goes_by_line Forth sheet axis edit = refl
 goes_by_line Back sheet axis edit = refl
 
-module _ {X : Type 0} (w : Way) (f : Form) (sound : IsSoundForm f) (m : PlaceMap X) (all : AreInside m) where
+module _ {X : Type 0} (w : Going) (f : Form) (sound : IsSoundForm f) (m : PlaceMap X) (all : AreInside m) where
   inside_entry : (p : Place) → IsSome (find_place p (entries m)) → IsInside p
   inside_entry p some = all p (subst IsSome (sym (get-entries m p)) some)
 

@@ -13,7 +13,7 @@ use Rattle.shift_core.specs.declared.form.Form.{Form}
 use Rattle.shift_core.proofs.CarriedEntries.{eq_by_cmp-decides}
 use Rattle.shift_core.proofs.MovedMaps.{find_place}
 use Rattle.grid_store.specs.Draft.{with_change, with_changes}
-use Rattle.grid_store.specs.declared.way.Way.{Way}
+use Rattle.grid_store.specs.declared.way.Going.{Going}
 use Rattle.grid_store.specs.internal.Ways.{carried_map, form_goes, turned}
 use Rattle.grid_store.proofs.CarriedCells.{inside_or_not}
 use Rattle.grid_store.proofs.Carries.{get-carried, get-carried_outside}
@@ -69,7 +69,7 @@ outside-emptied m at all out = same_places _ _ (λ q.
     nothing (get m q) (λ some. out (subst IsInside ((eq_by_cmp-decides place_cmp-IsTotalOrder place_cmp-IsAntisymmetric q at).0 here) (all q some)))))
 
 -- changes are carried along with what they are made of
-module _ {X : Type 0} (w : Way) (f : Form) (sound : IsSoundForm f) (c : PlaceMap (Option X)) (m : PlaceMap X) (of_c : AreInside c) (of_m : AreInside m) where
+module _ {X : Type 0} (w : Going) (f : Form) (sound : IsSoundForm f) (c : PlaceMap (Option X)) (m : PlaceMap X) (of_c : AreInside c) (of_m : AreInside m) where
   by_origin : (r : Option Place) → unwrap_or (option_and_then (get c) r) (option_and_then (get m) r) ≡ option_and_then (get (with_changes (entries c) m)) r
   by_origin None = refl
   by_origin (Some p) = sym (get-changed c m p)

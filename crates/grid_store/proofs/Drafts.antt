@@ -29,7 +29,7 @@ use Rattle.grid_store.specs.Keys.{key_at, key_cmp, place_at}
 use Rattle.grid_store.specs.declared.draft.Draft.{Draft}
 use Rattle.grid_store.specs.declared.grid.Grid.{Grid}
 use Rattle.grid_store.specs.declared.key.CellKey.{CellKey}
-use Rattle.grid_store.specs.declared.way.Way.{Way}
+use Rattle.grid_store.specs.declared.way.Going.{Going}
 use Rattle.grid_store.specs.internal.Drafting.{AreMade, AreTakenOut, IsLaidOver, KeepsBase, is_gone, or_else}
 use Rattle.grid_store.specs.internal.Listing.{look}
 use Rattle.grid_store.specs.internal.Renewal.{IsRenewalOver}
@@ -89,7 +89,7 @@ pub stands_yet : {X : Type 0} (g : Grid X) (rows cols : SheetLines) → AreUncha
 stands_yet g rows cols r l k some = subst IsSome (sym (place_unchanged g.rows g.cols rows cols r l k)) (g.standing k some)
 
 -- lines of a sheet that are renewed below a draft
-module _ {X : Type 0} (way : Way) (sheet : ℕ) (axis : Axis) (edit : Edit) (sound : IsSoundEdit (limit_of axis) edit) (g : Grid X) (old new : Grid (Option X))
+module _ {X : Type 0} (way : Going) (sheet : ℕ) (axis : Axis) (edit : Edit) (sound : IsSoundEdit (limit_of axis) edit) (g : Grid X) (old new : Grid (Option X))
     (over : IsRenewalOver axis sheet (line_goes (turned way) (limit_of axis) edit) old.rows old.cols new.rows new.cols) where
   abbrev moves : Place → Option Place
   moves = form_goes way (Lines sheet axis edit)

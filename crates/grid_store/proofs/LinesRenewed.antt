@@ -11,8 +11,8 @@ use Rattle.stable_lines.specs.Lines.{AreRenewed}
 use Rattle.stable_lines.specs.Sheets.{table_of}
 use Rattle.stable_lines.specs.declared.sheets.SheetLines.{SheetLines}
 use Rattle.stable_lines.specs.declared.table.LineTable.{LineTable}
-use Rattle.grid_store.specs.declared.way.Way.{Way}
-use Rattle.grid_store.specs.declared.way.Way.TheVariants.{Forth, Back}
+use Rattle.grid_store.specs.declared.way.Going.{Going}
+use Rattle.grid_store.specs.declared.way.Going.TheVariants.{Forth, Back}
 use Rattle.grid_store.specs.internal.Renewal.{along}
 use Rattle.grid_store.specs.internal.Ways.{line_goes, turned}
 
@@ -28,12 +28,12 @@ module _ (rows cols : SheetLines) (rows_end : rows.plain.limit ≡ ROWS) (cols_e
     end : t.limit ≡ limit_of axis
     end = ap (λ (x : LineTable). x.limit) here ∙ (along axis rows cols).limits sheet ∙ ends axis
 
-    pub renewed_back : (way : Way) → way ≡ Back → IfOk r (AreRenewed (line_after t.limit edit) t) → IfOk r (AreRenewed (line_goes (turned way) (limit_of axis) edit) (table_of (along axis rows cols) sheet))
+    pub renewed_back : (way : Going) → way ≡ Back → IfOk r (AreRenewed (line_after t.limit edit) t) → IfOk r (AreRenewed (line_goes (turned way) (limit_of axis) edit) (table_of (along axis rows cols) sheet))
     renewed_back way back renewed =
-        subst (λ (w : Way). IfOk r (AreRenewed (line_goes (turned w) (limit_of axis) edit) (table_of (along axis rows cols) sheet))) (sym back)
+        subst (λ (w : Going). IfOk r (AreRenewed (line_goes (turned w) (limit_of axis) edit) (table_of (along axis rows cols) sheet))) (sym back)
         (subst (λ (x : LineTable). IfOk r (AreRenewed (line_after (limit_of axis) edit) x)) here (subst (λ n. IfOk r (AreRenewed (line_after n edit) t)) end renewed))
 
-    pub renewed_forth : (way : Way) → way ≡ Forth → IfOk r (AreRenewed (line_before t.limit edit) t) → IfOk r (AreRenewed (line_goes (turned way) (limit_of axis) edit) (table_of (along axis rows cols) sheet))
+    pub renewed_forth : (way : Going) → way ≡ Forth → IfOk r (AreRenewed (line_before t.limit edit) t) → IfOk r (AreRenewed (line_goes (turned way) (limit_of axis) edit) (table_of (along axis rows cols) sheet))
     renewed_forth way forth renewed =
-        subst (λ (w : Way). IfOk r (AreRenewed (line_goes (turned w) (limit_of axis) edit) (table_of (along axis rows cols) sheet))) (sym forth)
+        subst (λ (w : Going). IfOk r (AreRenewed (line_goes (turned w) (limit_of axis) edit) (table_of (along axis rows cols) sheet))) (sym forth)
         (subst (λ (x : LineTable). IfOk r (AreRenewed (line_before (limit_of axis) edit) x)) here (subst (λ n. IfOk r (AreRenewed (line_before n edit) t)) end renewed))

@@ -19,7 +19,7 @@ use Rattle.shift_core.proofs.Axes.{line_inside}
 use Rattle.shift_core.proofs.CarriedEntries.{carried_entry}
 use Rattle.shift_core.proofs.MovedMaps.{each_place}
 use Rattle.grid_store.specs.Grid.{HasAny, outside, within}
-use Rattle.grid_store.specs.declared.way.Way.{Way}
+use Rattle.grid_store.specs.declared.way.Going.{Going}
 use Rattle.grid_store.specs.internal.Ways.{carried_map, form_goes, line_goes, lost_by, span_has, whole}
 use Rattle.grid_store.proofs.Carries.{goes_by_line, lost-kept}
 use Rattle.grid_store.proofs.PlaceMaps.{entries-kept, get-kept, same_places}
@@ -101,7 +101,7 @@ none_from : {X : Type 0} (r : Option X) → is_none r ≡ true → r ≡ None
 none_from None h = refl
 none_from (Some x) h = cc
 
-module _ (way : Way) (sheet : ℕ) (axis : Axis) (edit : Edit) where
+module _ (way : Going) (sheet : ℕ) (axis : Axis) (edit : Edit) where
   lost_on : (span : Option Span) → ((line : ℕ) → line < limit_of axis → span_has span line ≡ is_none (line_goes way (limit_of axis) edit line)) → (q : Place) → IsInside q
       → (q.sheet == sheet && span_has span (line_of axis q)) ≡ is_none (form_goes way (Lines sheet axis edit) q)
   lost_on span lost q i =

@@ -17,7 +17,7 @@ use Rattle.stable_lines.specs.declared.sheets.SheetLines.{SheetLines}
 use Rattle.grid_store.specs.Draft.{AreGivenOut}
 use Rattle.grid_store.specs.Keys.{key_at, place_at}
 use Rattle.grid_store.specs.declared.key.CellKey.{CellKey}
-use Rattle.grid_store.specs.declared.way.Way.{Way}
+use Rattle.grid_store.specs.declared.way.Going.{Going}
 use Rattle.grid_store.specs.internal.Renewal.{IsRenewal, along}
 use Rattle.grid_store.specs.internal.Ways.{carried_map, form_goes, line_goes, turned}
 use Rattle.grid_store.proofs.Carries.{get-carried, get-carried_outside, goes_by_line, returns, stays_inside}
@@ -34,7 +34,7 @@ limit_along : (axis : Axis) (rows cols : SheetLines) → rows.plain.limit ≡ RO
 limit_along Rows rows cols rl cl = rl
 limit_along Cols rows cols rl cl = cl
 
-module _ {X : Type 0} (way : Way) (sheet : ℕ) (axis : Axis) (edit : Edit) (sound : IsSoundEdit (limit_of axis) edit) (rows cols rows' cols' : SheetLines)
+module _ {X : Type 0} (way : Going) (sheet : ℕ) (axis : Axis) (edit : Edit) (sound : IsSoundEdit (limit_of axis) edit) (rows cols rows' cols' : SheetLines)
     (renewal : IsRenewal axis sheet (line_goes (turned way) (limit_of axis) edit) rows cols rows' cols') (rl : rows.plain.limit ≡ ROWS) (cl : cols.plain.limit ≡ COLS)
     (es : List (CellKey × X)) where
   abbrev rule : ℕ → Option ℕ

@@ -14,7 +14,7 @@ ghost use Rattle.cell_addr.specs.declared.place.Place.{Place};
 use crate::duplicate::Duplicate;
 use crate::grid::Grid;
 use crate::list::CellList;
-use crate::way::{Way, lost_lines};
+use crate::way::{Going, lost_lines};
 use cell_addr::{Axis, Block, COLS, ROWS};
 use shift_core::Edit;
 use stable_lines::{LineTable, SheetLines};
@@ -24,7 +24,7 @@ impl<V: Duplicate> Grid<V> {
     // Edits the lines of a sheet: each cell stays under its key, and those of lost lines are handed out.
     pub(crate) fn carry_lines(
         &mut self,
-        way: Way,
+        way: Going,
         sheet: u32,
         axis: Axis,
         edit: Edit,
@@ -58,7 +58,7 @@ impl<V: Duplicate> Grid<V> {
     // The sheet's lines after the edit.
     pub(crate) fn renewed(
         &self,
-        way: Way,
+        way: Going,
         sheet: u32,
         axis: Axis,
         edit: Edit,
@@ -68,8 +68,8 @@ impl<V: Duplicate> Grid<V> {
     {
         let table = self.lines(axis).table(sheet);
         match way {
-            Way::Forth => table.edited(self.alloc, edit),
-            Way::Back => table.unedited(self.alloc, edit),
+            Going::Forth => table.edited(self.alloc, edit),
+            Going::Back => table.unedited(self.alloc, edit),
         }
     }
 
@@ -86,7 +86,7 @@ impl<V: Duplicate> Grid<V> {
     // Empties what the edit loses.
     fn clear_lost(
         &mut self,
-        way: Way,
+        way: Going,
         sheet: u32,
         axis: Axis,
         edit: Edit,
@@ -103,7 +103,7 @@ impl<V: Duplicate> Grid<V> {
     }
 
     // Puts the lines after the edit in place of those before it.
-    pub(crate) fn renew(&mut self, way: Way, sheet: u32, axis: Axis, edit: Edit, table: LineTable)
+    pub(crate) fn renew(&mut self, way: Going, sheet: u32, axis: Axis, edit: Edit, table: LineTable)
         requires sound { IsSoundEdit (limit_of axis) edit }
         requires room { HasRoom (along axis self.old.rows self.old.cols) sheet }
         requires renewed { AreRenewed (line_goes (turned way) (limit_of axis) edit) (table_of (along axis self.old.rows self.old.cols) sheet) table }

@@ -24,7 +24,7 @@ use crate::list::CellList;
 use crate::listing::{copies, in_order};
 use crate::moving::{blocks, both_places, carried};
 use crate::view::View;
-use crate::way::{Way, lost_lines};
+use crate::way::{Going, lost_lines};
 use cell_addr::{Axis, Block, Place};
 use shift_core::{Edit, Form, Shift};
 use std::alloc::AllocError;
@@ -132,7 +132,7 @@ impl<V: Duplicate> Draft<V> {
         ensures of { OnOk result (IsDraftOf grid.now self.new) }
     {
         let none = CellList::new(grid.alloc)?;
-        self.carry(grid, Way::Forth, s, none)
+        self.carry(grid, Going::Forth, s, none)
     }
 
     /// Takes the operation back: the removed cells come to their places, and each other cell to the place that it came from. Costs
@@ -149,14 +149,14 @@ impl<V: Duplicate> Draft<V> {
         ensures restored { OnOk result (drafted grid.now self.new ≡ restored_map s.now (items_of removed) (drafted grid.now self.old)) }
         ensures of { OnOk result (IsDraftOf grid.now self.new) }
     {
-        self.carry(grid, Way::Back, s, removed)
+        self.carry(grid, Going::Back, s, removed)
     }
 
     // Does the operation on this way, and puts more cells over what stands then.
     fn carry(
         &mut self,
         grid: &Grid<V>,
-        way: Way,
+        way: Going,
         s: &Shift,
         more: CellList<V>,
     ) -> Result<(), AllocError>
@@ -183,7 +183,7 @@ impl<V: Duplicate> Draft<V> {
     pub(crate) fn carry_lines(
         &mut self,
         grid: &Grid<V>,
-        way: Way,
+        way: Going,
         sheet: u32,
         axis: Axis,
         edit: Edit,
@@ -204,7 +204,7 @@ impl<V: Duplicate> Draft<V> {
     fn note_lost(
         &mut self,
         grid: &Grid<V>,
-        way: Way,
+        way: Going,
         sheet: u32,
         axis: Axis,
         edit: Edit,
@@ -238,7 +238,7 @@ impl<V: Duplicate> Draft<V> {
     fn carry_cells(
         &mut self,
         grid: &Grid<V>,
-        way: Way,
+        way: Going,
         source: Block,
         to: Place,
         more: CellList<V>,

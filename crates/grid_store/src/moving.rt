@@ -4,7 +4,7 @@ ghost use Rattle.cell_addr.specs.Place.{covers};
 ghost use Rattle.shift_core.specs.Maps.{lost_entries, moved_map, restored_map};
 ghost use Rattle.shift_core.specs.Sound.{IsSound, IsSoundForm};
 ghost use Rattle.shift_core.specs.declared.form.Form.TheVariants.{Cells};
-ghost use Rattle.grid_store.specs.declared.way.Way.TheVariants.{Back};
+ghost use Rattle.grid_store.specs.declared.way.Going.TheVariants.{Back};
 ghost use Rattle.grid_store.specs.Grid.{AreListedInside, cells_of, items_of, with_entries};
 ghost use Rattle.grid_store.specs.internal.Lists.{AreEachInside, carried_entry};
 ghost use Rattle.grid_store.specs.internal.Ways.{carried_map, form_goes, goes, lost_by, onto_block, from_block};
@@ -13,7 +13,7 @@ use crate::change::whole;
 use crate::duplicate::Duplicate;
 use crate::grid::Grid;
 use crate::list::CellList;
-use crate::way::Way;
+use crate::way::Going;
 use cell_addr::{Block, Place};
 use shift_core::{Form, Shift, back_place, moved_place};
 use std::alloc::{AllocError, Global};
@@ -31,10 +31,10 @@ impl<V: Duplicate> Grid<V> {
         ensures err { OnErr result (cells_of self.new ≡ cells_of self.old) }
     {
         match s.form() {
-            Form::Lines { sheet, axis, edit } => self.carry_lines(Way::Forth, sheet, axis, edit),
+            Form::Lines { sheet, axis, edit } => self.carry_lines(Going::Forth, sheet, axis, edit),
             Form::Cells { source, to } => {
                 let none = CellList::new(self.alloc)?;
-                self.carry_cells(Way::Forth, source, to, none)
+                self.carry_cells(Going::Forth, source, to, none)
             }
             Form::Sheet { sheet } => self.clear(whole(sheet)),
         }
@@ -63,7 +63,7 @@ impl<V: Duplicate> Grid<V> {
         match s.form() {
             Form::Lines { sheet, axis, edit } => self.restore_lines(sheet, axis, edit, removed),
             Form::Cells { source, to } => {
-                self.carry_cells(Way::Back, source, to, removed)?;
+                self.carry_cells(Going::Back, source, to, removed)?;
                 Ok(())
             }
             Form::Sheet { sheet } => {
@@ -77,7 +77,7 @@ impl<V: Duplicate> Grid<V> {
     // Moves the cells of a block over those of another, and puts more cells over what stands then.
     fn carry_cells(
         &mut self,
-        way: Way,
+        way: Going,
         source: Block,
         to: Place,
         more: CellList<V>,
@@ -100,7 +100,7 @@ impl<V: Duplicate> Grid<V> {
 }
 
 // The block whose cells are moved, and the one that they come to.
-pub(crate) fn blocks(way: Way, source: Block, to: Place) -> (Block, Block)
+pub(crate) fn blocks(way: Going, source: Block, to: Place) -> (Block, Block)
     requires { IsSoundForm (Cells source to) }
     ensures from { result.0 ≡ from_block way source to }
     ensures onto { result.1 ≡ onto_block way source to }
@@ -113,8 +113,8 @@ pub(crate) fn blocks(way: Way, source: Block, to: Place) -> (Block, Block)
         right: to.col + (source.right - source.left),
     };
     match way {
-        Way::Forth => (source, destination),
-        Way::Back => (destination, source),
+        Going::Forth => (source, destination),
+        Going::Back => (destination, source),
     }
 }
 
@@ -148,7 +148,7 @@ fn beside<V: Drop>(alloc: Global, list: CellList<V>, area: Block) -> Result<Cell
 
 // More cells, and behind them those of the list where their places go, those of lost places gone.
 pub(crate) fn carried<V: Drop>(
-    way: Way,
+    way: Going,
     source: Block,
     to: Place,
     list: CellList<V>,
@@ -161,8 +161,8 @@ pub(crate) fn carried<V: Drop>(
     let mut all = more;
     for (at, cell) in list.into_items() {
         let goes = match way {
-            Way::Forth => moved_place(&s, at),
-            Way::Back => back_place(&s, at),
+            Going::Forth => moved_place(&s, at),
+            Going::Back => back_place(&s, at),
         };
         if let Some(at) = goes {
             all.push(at, cell)?;

@@ -13,7 +13,7 @@ use crate::columns::is_of_columns;
 use crate::grid::Grid;
 use crate::key::CellKey;
 use crate::view::View;
-use crate::way::{Way, lost_lines};
+use crate::way::{Going, lost_lines};
 use cell_addr::{Axis, Block};
 use shift_core::{Edit, Form, Shift};
 use stable_lines::Run;
@@ -29,13 +29,13 @@ impl<V: Drop> Grid<V> {
                 sheet,
                 axis,
                 edit: Edit::Insert { at, count },
-            } => self.loses_any(Way::Forth, sheet, axis, Edit::Insert { at, count }),
+            } => self.loses_any(Going::Forth, sheet, axis, Edit::Insert { at, count }),
             _ => false,
         }
     }
 
     // Whether the edit loses a filled cell on this way.
-    fn loses_any(&self, way: Way, sheet: u32, axis: Axis, edit: Edit) -> bool
+    fn loses_any(&self, way: Going, sheet: u32, axis: Axis, edit: Edit) -> bool
         ensures { IsTrue result ↔ ((p : Place) × IsSome (map.get (cells_of self.now) p) × (form_goes way (Lines sheet axis edit) p ≡ None)) }
     {
         match lost_lines(way, edit, axis.limit()) {

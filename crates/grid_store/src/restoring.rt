@@ -4,7 +4,7 @@ ghost use Rattle.cell_addr.specs.Axis.{limit_of};
 ghost use Rattle.shift_core.specs.Lines.{IsSoundEdit};
 ghost use Rattle.shift_core.specs.declared.form.Form.TheVariants.{Lines};
 ghost use Rattle.grid_store.specs.Grid.{cells_of, items_of, with_entries};
-ghost use Rattle.grid_store.specs.declared.way.Way.TheVariants.{Back};
+ghost use Rattle.grid_store.specs.declared.way.Going.TheVariants.{Back};
 ghost use Rattle.grid_store.specs.internal.Lists.{AreEachInside};
 ghost use Rattle.grid_store.specs.internal.Ways.{carried_map, form_goes};
 
@@ -12,7 +12,7 @@ use crate::draft::Draft;
 use crate::duplicate::Duplicate;
 use crate::grid::Grid;
 use crate::list::CellList;
-use crate::way::Way;
+use crate::way::Going;
 use cell_addr::Axis;
 use shift_core::Edit;
 use std::alloc::AllocError;
@@ -32,11 +32,11 @@ impl<V: Duplicate> Grid<V> {
         ensures err { OnErr result (cells_of self.new ≡ cells_of self.old) }
     {
         if removed.items().is_empty() {
-            self.carry_lines(Way::Back, sheet, axis, edit)?;
+            self.carry_lines(Going::Back, sheet, axis, edit)?;
             return Ok(());
         }
         let mut draft = Draft::new(self)?;
-        draft.carry_lines(self, Way::Back, sheet, axis, edit, removed)?;
+        draft.carry_lines(self, Going::Back, sheet, axis, edit, removed)?;
         draft.finish(self)
     }
 }

@@ -8,20 +8,20 @@ use shift_core::Edit;
 
 // Forth as an operation is done, or back as it is taken back.
 #[derive(Clone, Copy, PartialEq, Eq, Debug)]
-pub(crate) enum Way {
+pub(crate) enum Going {
     Forth,
     Back,
 }
 
 // Of `limit` lines, those that the edit loses on this way.
-pub(crate) fn lost_lines(way: Way, edit: Edit, limit: u32) -> Option<Span>
+pub(crate) fn lost_lines(way: Going, edit: Edit, limit: u32) -> Option<Span>
     ensures lost { (line : ℕ) → line < limit → span_has result line ≡ is_none (line_goes way limit edit line) }
 {
     match (way, edit) {
-        (Way::Forth, Edit::Insert { at, count }) => pushed_lines(at, count, limit),
-        (Way::Back, Edit::Delete { at, count }) => pushed_lines(at, count, limit),
-        (Way::Forth, Edit::Delete { at, count }) => deleted_lines(at, count, limit),
-        (Way::Back, Edit::Insert { at, count }) => deleted_lines(at, count, limit),
+        (Going::Forth, Edit::Insert { at, count }) => pushed_lines(at, count, limit),
+        (Going::Back, Edit::Delete { at, count }) => pushed_lines(at, count, limit),
+        (Going::Forth, Edit::Delete { at, count }) => deleted_lines(at, count, limit),
+        (Going::Back, Edit::Insert { at, count }) => deleted_lines(at, count, limit),
         _ => None,
     }
 }

@@ -28,7 +28,7 @@ use std::alloc::{AllocError, Global};
 
 // What is given to cells: the cells, formulas by their ids, and the trees of these with their places, in the order of ids.
 #[derive(Drop)]
-struct Given {
+struct NumberedCells {
     cells: CellList<Cell>,
     trees: Vec<(Place, Tree)>,
 }
@@ -76,7 +76,11 @@ impl Book {
 }
 
 // What is given, formulas under ids from this one on.
-fn numbered(alloc: Global, first: u64, given: Vec<(Place, CopyItem)>) -> Result<Given, AllocError>
+fn numbered(
+    alloc: Global,
+    first: u64,
+    given: Vec<(Place, CopyItem)>,
+) -> Result<NumberedCells, AllocError>
     ensures cells { IfOk result (λ r. items_of r.cells ≡ cells_given first given.items) }
     ensures trees { IfOk result (λ r. r.trees.items ≡ trees_given given.items) }
     ensures room { IfOk result (λ r. first + length r.trees.items ≤ u64.MAX) }
@@ -94,7 +98,7 @@ fn numbered(alloc: Global, first: u64, given: Vec<(Place, CopyItem)>) -> Result<
             }
         }
     }
-    Ok(Given { cells, trees })
+    Ok(NumberedCells { cells, trees })
 }
 
 // The next id; none is left behind the greatest.

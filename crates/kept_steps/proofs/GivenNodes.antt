@@ -32,7 +32,7 @@ use Rattle.kept_book.specs.Numbered.{Numbered}
 use Rattle.kept_book.specs.Stored.{content_of, tree_of}
 use Rattle.recalc_core.specs.Given.{HasGiven, HasGivenAt, IsFound}
 use Rattle.recalc_core.specs.Nodes.{AreNumbered, name_at, node_at, scope_at}
-use Rattle.recalc_core.specs.declared.trees.Given.TheVariants.{Formula, Nothing}
+use Rattle.recalc_core.specs.declared.trees.NodeContent.TheVariants.{Formula, Nothing}
 use Rattle.kept_steps.specs.internal.GivenCell.{given_plain}
 
 -- ---- cells

@@ -17,7 +17,7 @@ use dep_graph::Node;
 use formula_tree::Home;
 use grid_store::Cell;
 use kept_book::home_in;
-use recalc_core::{Given, Trees};
+use recalc_core::{NodeContent, Trees};
 use std::alloc::{AllocError, Global};
 
 /// The workbook is the present one, with its names, and words are numbered as the table of names numbers them. A call takes
@@ -35,11 +35,11 @@ impl Trees for Session {
 
     ghost laws = { reads-order };
 
-    fn given(&mut self, a: Node) -> Result<Given, AllocError> {
+    fn given(&mut self, a: Node) -> Result<NodeContent, AllocError> {
         match a {
             Node::Cell(at) => self.given_cell(at),
             Node::Name { scope, word } => self.given_name(scope, word),
-            Node::Range(_) | Node::Whole(_) => Ok(Given::Nothing),
+            Node::Range(_) | Node::Whole(_) => Ok(NodeContent::Nothing),
         }
     }
 
@@ -53,18 +53,18 @@ impl Session {
     ghost use Rattle.kept_steps.specs.Session.{state_of};
 
     // What stands at a place.
-    fn given_cell(&mut self, at: Place) -> Result<Given, AllocError>
+    fn given_cell(&mut self, at: Place) -> Result<NodeContent, AllocError>
         ensures given { IfOk result (HasGiven (valued (state_of self.old).book) (seen.place at)) }
         ensures reads { Reads self.old self.new }
     {
         match self.formula(at)? {
-            Some(tree) => Ok(Given::Formula(tree, Home::Cell(at))),
+            Some(tree) => Ok(NodeContent::Formula(tree, Home::Cell(at))),
             None => self.given_value(at),
         }
     }
 
     // What stands at a place that holds no formula with a tree.
-    fn given_value(&self, at: Place) -> Result<Given, AllocError>
+    fn given_value(&self, at: Place) -> Result<NodeContent, AllocError>
         requires { content_tree (map.get (state_of self.now).book.cells at) ≡ None }
         ensures { IfOk result (HasGiven (valued (state_of self.now).book) (seen.place at)) }
     {
@@ -72,14 +72,14 @@ impl Session {
     }
 
     // What stands under the word of this number in the scope.
-    fn given_name(&mut self, scope: u32, word: u64) -> Result<Given, AllocError>
+    fn given_name(&mut self, scope: u32, word: u64) -> Result<NodeContent, AllocError>
         ensures given { IfOk result (HasGivenAt (valued (state_of self.old).book) (name_at scope (slice_get (words_of self.old.book.names) word))) }
         ensures reads { Reads self.old self.new }
     {
         let scope = scope_at(scope);
         match self.named(scope, word)? {
-            Some(tree) => Ok(Given::Formula(tree, home_in(scope))),
-            None => Ok(Given::Nothing),
+            Some(tree) => Ok(NodeContent::Formula(tree, home_in(scope))),
+            None => Ok(NodeContent::Nothing),
         }
     }
 
@@ -98,17 +98,17 @@ impl Session {
 }
 
 // What a cell that holds no formula with a tree is given as.
-fn given_plain(alloc: Global, cell: Option<&Cell>) -> Result<Given, AllocError>
+fn given_plain(alloc: Global, cell: Option<&Cell>) -> Result<NodeContent, AllocError>
     requires { id_of (option_copied cell) ≡ None }
     ensures { IfOk result (λ given. given ≡ given_plain (option_copied cell.entry)) }
 {
     match cell {
-        None => Ok(Given::Nothing),
-        Some(Cell::Number(number)) => Ok(Given::Value(Scalar::Number(*number))),
-        Some(Cell::Truth(truth)) => Ok(Given::Value(Scalar::Truth(*truth))),
-        Some(Cell::Text(text)) => Ok(Given::Value(Scalar::Text(text.copy(alloc)?))),
+        None => Ok(NodeContent::Nothing),
+        Some(Cell::Number(number)) => Ok(NodeContent::Value(Scalar::Number(*number))),
+        Some(Cell::Truth(truth)) => Ok(NodeContent::Value(Scalar::Truth(*truth))),
+        Some(Cell::Text(text)) => Ok(NodeContent::Value(Scalar::Text(text.copy(alloc)?))),
         Some(Cell::Formula(_)) => unreachable!(),
-        Some(Cell::Broken(_)) => Ok(Given::Value(Scalar::Fault(FaultKind::Error))),
+        Some(Cell::Broken(_)) => Ok(NodeContent::Value(Scalar::Fault(FaultKind::Error))),
     }
 }
 

@@ -19,8 +19,8 @@ use Rattle.dep_graph.proofs.Places.{has-append_cases, has-append_left, has-appen
 use Rattle.recalc_core.specs.Given.{HasGivenAt, IsGiven}
 use Rattle.recalc_core.specs.Laws.{AreKnown}
 use Rattle.recalc_core.specs.Nodes.{node_at}
-use Rattle.recalc_core.specs.declared.trees.Given.{Given}
-use Rattle.recalc_core.specs.declared.trees.Given.TheVariants.{Formula}
+use Rattle.recalc_core.specs.declared.trees.NodeContent.{NodeContent}
+use Rattle.recalc_core.specs.declared.trees.NodeContent.TheVariants.{Formula}
 use Rattle.recalc_core.proofs.Bridge.{same_some}
 use Rattle.kept_values.specs.Values.{AddsNoted, AreNoted}
 use Rattle.kept_values.specs.internal.Noting.{AreNotedAmong, IsNoted}
@@ -59,7 +59,7 @@ module _ (test : book.Node → Term Corner → Bool) (b : Workbook) (words : Lis
   -- ---- what the workbook asks to be noted
 
   -- a formula that is given is noted, where it passes
-  pub formula_noted : (noted : Node → Bool) (a : Node) (tree : Rc TreeNode Global) (home : Home) (given : Given) → IsGiven b words a given → given ≡ Formula tree home → ((x : book.Node) → home ≡ home_of x → test x (at_home home (relative tree.value)) ≡ true → noted a ≡ true) → IsNoted test b words noted a
+  pub formula_noted : (noted : Node → Bool) (a : Node) (tree : Rc TreeNode Global) (home : Home) (given : NodeContent) → IsGiven b words a given → given ≡ Formula tree home → ((x : book.Node) → home ≡ home_of x → test x (at_home home (relative tree.value)) ≡ true → noted a ≡ true) → IsNoted test b words noted a
   formula_noted noted a tree home given has_it same there x t at is passes =
       let has_tree = subst (λ o. HasGivenAt b o (Formula tree home)) at (subst (IsGiven b words a) same has_it) in
       there x has_tree.0 (ap (test x) (same_some (at_home home (relative tree.value)) t (sym has_tree.1 ∙ is)) ∙ passes)

@@ -16,7 +16,7 @@ ghost use Rattle.kept_values.specs.internal.Linking.{AddsFound, IsLinkedAnew, no
 use cell_addr::Text;
 use dep_graph::{Graph, Node, Nodes};
 use formula_tree::{Home, Link, Tree, names_of, places_of};
-use recalc_core::{Given, Trees};
+use recalc_core::{NodeContent, Trees};
 use std::alloc::{AllocError, Global};
 
 // Links each of the nodes to what its formula in the workbook is linked to.
@@ -60,11 +60,11 @@ fn link<T: Trees>(
     ensures reads { T.leaves trees.old trees.new }
 {
     match trees.given(a)? {
-        Given::Formula(tree, home) => {
+        NodeContent::Formula(tree, home) => {
             let needs = needs_of(alloc, trees, &tree, home)?;
             graph.link(a, needs.items())
         }
-        Given::Nothing | Given::Value(_) => {
+        NodeContent::Nothing | NodeContent::Value(_) => {
             graph.unlink(a);
             Ok(())
         }

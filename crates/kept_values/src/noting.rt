@@ -13,7 +13,7 @@ use crate::seeking::note_sought;
 use crate::sought::Sought;
 use dep_graph::Node;
 use indexmap::{IndexMap, IndexSet};
-use recalc_core::{Given, Trees};
+use recalc_core::{NodeContent, Trees};
 use restored_values::has_lost;
 use std::alloc::{AllocError, Global};
 
@@ -96,12 +96,12 @@ fn note<T: Trees>(
     ensures reads { T.leaves trees.old trees.new }
 {
     match trees.given(a)? {
-        Given::Formula(tree, home) => {
+        NodeContent::Formula(tree, home) => {
             add_if(asks_place(&tree, home), a, &mut noted.asking)?;
             add_if(has_lost(&tree), a, &mut noted.losing)?;
             note_sought(alloc, trees, &tree, home, a, &mut noted.seeking)
         }
-        Given::Nothing | Given::Value(_) => Ok(()),
+        NodeContent::Nothing | NodeContent::Value(_) => Ok(()),
     }
 }
 

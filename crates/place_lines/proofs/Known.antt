@@ -18,7 +18,7 @@ use Rattle.place_lines.specs.Moved.{AreMoved, IsKnown, IsKnownLine, OthersStay}
 use Rattle.place_lines.specs.Spots.{number_of, positions, spot_of, table_along}
 use Rattle.place_lines.specs.internal.Low.{HasLowLines}
 use Rattle.place_lines.specs.declared.lines.PlaceLines.{PlaceLines}
-use Rattle.place_lines.specs.declared.spot.Spot.{Spot}
+use Rattle.place_lines.specs.declared.spot.LineSpot.{LineSpot}
 use Rattle.place_lines.proofs.LineNumbers.{has_number, number_line, number_past}
 use Rattle.place_lines.proofs.Places.{limit_along, low_along, same_spot}
 
@@ -74,7 +74,7 @@ stays_known_line t u n w known =
       | inr high ↦ inr high
     ]
 
-pub stays_known : (f : Form) (old new : PlaceLines) (spot : Spot) → AreMoved f old new → IsKnown old spot → IsKnown new spot
+pub stays_known : (f : Form) (old new : PlaceLines) (spot : LineSpot) → AreMoved f old new → IsKnown old spot → IsKnown new spot
 stays_known f old new spot moved known = (
   stays_known_line (table_of old.rows spot.sheet) (table_of new.rows spot.sheet) spot.row (renewed_or_same f old new Rows spot.sheet moved) known.0,
   stays_known_line (table_of old.cols spot.sheet) (table_of new.cols spot.sheet) spot.col (renewed_or_same f old new Cols spot.sheet moved) known.1,

@@ -13,9 +13,9 @@ use Rattle.stable_lines.specs.Sheets.{table_of}
 use Rattle.place_lines.specs.Laws.{IsNarrow, IsNarrowBlock}
 use Rattle.place_lines.specs.Spots.{area_of, block_at, block_of, first_spot, last_spot, number_of, place_at, place_of, position_at, spot_of, table_along}
 use Rattle.place_lines.specs.internal.Low.{HasLowLines}
-use Rattle.place_lines.specs.declared.area.Area.{Area}
+use Rattle.place_lines.specs.declared.area.LineArea.{LineArea}
 use Rattle.place_lines.specs.declared.lines.PlaceLines.{PlaceLines}
-use Rattle.place_lines.specs.declared.spot.Spot.{Spot}
+use Rattle.place_lines.specs.declared.spot.LineSpot.{LineSpot}
 use Rattle.place_lines.proofs.LineNumbers.{number_returns, one_position, position_returns}
 
 -- each table has as many positions as its axis has lines, and low numbers
@@ -31,7 +31,7 @@ low_along Cols lines sheet = lines.low_cols sheet
 abbrev pub number_along : Axis → PlaceLines → Place → ℕ
 number_along axis lines p = number_of (table_along axis lines p.sheet) (line_of axis p)
 
-pub same_spot : (s t : Spot) → s.sheet ≡ t.sheet → s.row ≡ t.row → s.col ≡ t.col → s ≡ t
+pub same_spot : (s t : LineSpot) → s.sheet ≡ t.sheet → s.row ≡ t.row → s.col ≡ t.col → s ≡ t
 same_spot s t sheets rows cols = λ i. record { sheet = sheets i; row = rows i; col = cols i }
 
 -- the spots are one where the numbers are along both axes
@@ -69,7 +69,7 @@ position_there : (axis : Axis) (lines : PlaceLines) (sheet other n x : ℕ) → 
 position_there axis lines sheet other n x e h = ap (λ s. position_at (table_along axis lines s) n) (sym e) ∙ h
 
 -- and nothing else is found where it stands
-pub spot_returns : (lines : PlaceLines) (spot : Spot) (p : Place) → place_at lines spot ≡ Some p → spot_of lines p ≡ spot
+pub spot_returns : (lines : PlaceLines) (spot : LineSpot) (p : Place) → place_at lines spot ≡ Some p → spot_of lines p ≡ spot
 spot_returns lines spot p h =
     let w = place_parts spot.sheet (position_at (table_of lines.rows spot.sheet) spot.row) (position_at (table_of lines.cols spot.sheet) spot.col) p h in
     same_spot _ spot (sym w.0)
@@ -80,7 +80,7 @@ same_block : (b c : Block) → first_place b ≡ first_place c → last_place b 
 same_block b c first last =
     λ i. record { sheet = (first i).sheet; top = (first i).row; left = (first i).col; bottom = (last i).row; right = (last i).col }
 
-pub same_area : (a b : Area) → first_spot a ≡ first_spot b → last_spot a ≡ last_spot b → a ≡ b
+pub same_area : (a b : LineArea) → first_spot a ≡ first_spot b → last_spot a ≡ last_spot b → a ≡ b
 same_area a b first last =
     λ i. record { sheet = (first i).sheet; top = (first i).row; left = (first i).col; bottom = (last i).row; right = (last i).col }
 
@@ -102,7 +102,7 @@ block_parts (Some p) None b h = cc
 block_parts None last b h = cc
 
 -- and nothing else is found where it stands
-pub area_returns : (lines : PlaceLines) (area : Area) (b : Block) → block_at lines area ≡ Some b → area_of lines b ≡ area
+pub area_returns : (lines : PlaceLines) (area : LineArea) (b : Block) → block_at lines area ≡ Some b → area_of lines b ≡ area
 area_returns lines area b h =
     let w = block_parts (place_at lines (first_spot area)) (place_at lines (last_spot area)) b h in
     let first = spot_returns lines (first_spot area) w.0 w.2 in

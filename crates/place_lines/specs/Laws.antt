@@ -12,9 +12,9 @@ use Rattle.shift_core.specs.Tables.{block_after, place_after}
 use Rattle.shift_core.specs.declared.shift.Shift.{Shift}
 use Rattle.place_lines.specs.Moved.{AreMoved, IsKnown}
 use Rattle.place_lines.specs.Spots.{area_of, block_at, place_at, positions, spot_of}
-use Rattle.place_lines.specs.declared.area.Area.{Area}
+use Rattle.place_lines.specs.declared.area.LineArea.{LineArea}
 use Rattle.place_lines.specs.declared.lines.PlaceLines.{PlaceLines}
-use Rattle.place_lines.specs.declared.spot.Spot.{Spot}
+use Rattle.place_lines.specs.declared.spot.LineSpot.{LineSpot}
 
 -- the lines of the place, or of the block, are numbers of 32 bits, as those of every value of a program are
 abbrev pub IsNarrow : Place → Type 0
@@ -29,17 +29,17 @@ SpotsReturn =
     (lines : PlaceLines) →
     ((p q : Place) → spot_of lines p ≡ spot_of lines q → p ≡ q)
     × ((p : Place) → IsNarrow p → place_at lines (spot_of lines p) ≡ Some p)
-    × ((spot : Spot) (p : Place) → place_at lines spot ≡ Some p → spot_of lines p ≡ spot)
+    × ((spot : LineSpot) (p : Place) → place_at lines spot ≡ Some p → spot_of lines p ≡ spot)
     × ((b c : Block) → area_of lines b ≡ area_of lines c → b ≡ c)
     × ((b : Block) → IsNarrowBlock b → block_at lines (area_of lines b) ≡ Some b)
-    × ((area : Area) (b : Block) → block_at lines area ≡ Some b → area_of lines b ≡ area)
+    × ((area : LineArea) (b : Block) → block_at lines area ≡ Some b → area_of lines b ≡ area)
 
 -- spots are known where places have them, and stay known; a place whose spot was known before an operation has the spot
 -- that some place had then
 abbrev pub KnownSpotsWereThere : Type 0
 KnownSpotsWereThere =
     ((lines : PlaceLines) (p : Place) → IsKnown lines (spot_of lines p))
-    × ((s : Shift) (old new : PlaceLines) (spot : Spot) → AreMoved (form_of s) old new → IsKnown old spot → IsKnown new spot)
+    × ((s : Shift) (old new : PlaceLines) (spot : LineSpot) → AreMoved (form_of s) old new → IsKnown old spot → IsKnown new spot)
     × ((s : Shift) (old new : PlaceLines) (q : Place) → AreMoved (form_of s) old new → IsKnown old (spot_of new q) → ((p : Place) × (spot_of old p ≡ spot_of new q)))
 
 -- unless the operation is a move of cells, a place within its sheet that it moves keeps its spot

@@ -11,7 +11,7 @@ use Rattle.stable_lines.specs.Sheets.{table_of}
 use Rattle.stable_lines.specs.declared.table.LineTable.{LineTable}
 use Rattle.place_lines.specs.Spots.{table_along}
 use Rattle.place_lines.specs.declared.lines.PlaceLines.{PlaceLines}
-use Rattle.place_lines.specs.declared.spot.Spot.{Spot}
+use Rattle.place_lines.specs.declared.spot.LineSpot.{LineSpot}
 use Rattle.place_lines.specs.declared.past.TheConstants.{PAST}
 
 -- along the axis the lines of all other sheets are the same
@@ -34,12 +34,12 @@ abbrev pub IsKnownLine : LineTable → ℕ → Type 0
 IsKnownLine t number = (number < t.next) ⊎ (PAST ≤ number)
 
 -- both lines of the spot are known
-abbrev pub IsKnown : PlaceLines → Spot → Type 0
+abbrev pub IsKnown : PlaceLines → LineSpot → Type 0
 IsKnown lines spot = IsKnownLine (table_of lines.rows spot.sheet) spot.row × IsKnownLine (table_of lines.cols spot.sheet) spot.col
 
 -- the same as tests
 abbrev pub is_known_line : LineTable → ℕ → Bool
 is_known_line t number = nat_lt number t.next || nat_le PAST number
 
-abbrev pub is_known : PlaceLines → Spot → Bool
+abbrev pub is_known : PlaceLines → LineSpot → Bool
 is_known lines spot = is_known_line (table_of lines.rows spot.sheet) spot.row && is_known_line (table_of lines.cols spot.sheet) spot.col

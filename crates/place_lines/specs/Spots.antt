@@ -11,9 +11,9 @@ use Rattle.cell_addr.specs.declared.place.Block.{Block}
 use Rattle.stable_lines.specs.Lines.{first_line, line_at, position_of}
 use Rattle.stable_lines.specs.Sheets.{table_of}
 use Rattle.stable_lines.specs.declared.table.LineTable.{LineTable}
-use Rattle.place_lines.specs.declared.area.Area.{Area}
+use Rattle.place_lines.specs.declared.area.LineArea.{LineArea}
 use Rattle.place_lines.specs.declared.lines.PlaceLines.{PlaceLines}
-use Rattle.place_lines.specs.declared.spot.Spot.{Spot}
+use Rattle.place_lines.specs.declared.spot.LineSpot.{LineSpot}
 use Rattle.place_lines.specs.declared.past.TheConstants.{PAST}
 
 -- how many positions 32 bits count
@@ -46,7 +46,7 @@ abbrev pub AreFirst : PlaceLines → Type 0
 AreFirst lines = (axis : Axis) (sheet position : ℕ) → line_at (table_along axis lines sheet) position ≡ first_line (limit_of axis) position
 
 -- the spot of a place
-abbrev pub spot_of : PlaceLines → Place → Spot
+abbrev pub spot_of : PlaceLines → Place → LineSpot
 spot_of lines p = record {
   sheet = p.sheet;
   row = number_of (table_of lines.rows p.sheet) p.row;
@@ -59,12 +59,12 @@ place_of sheet (Some row) (Some col) = Some (record { sheet = sheet; row = row; 
 place_of sheet _ _ = None
 
 -- where a spot is; none where its row or its column stands nowhere
-abbrev pub place_at : PlaceLines → Spot → Option Place
+abbrev pub place_at : PlaceLines → LineSpot → Option Place
 place_at lines spot =
     place_of spot.sheet (position_at (table_of lines.rows spot.sheet) spot.row) (position_at (table_of lines.cols spot.sheet) spot.col)
 
 -- the area of a block
-abbrev pub area_of : PlaceLines → Block → Area
+abbrev pub area_of : PlaceLines → Block → LineArea
 area_of lines b = record {
   sheet = b.sheet;
   top = number_of (table_of lines.rows b.sheet) b.top;
@@ -79,14 +79,14 @@ block_of (Some first) (Some last) = Some (record { sheet = first.sheet; top = fi
 block_of _ _ = None
 
 -- the spots of an area's corners
-abbrev pub first_spot : Area → Spot
+abbrev pub first_spot : LineArea → LineSpot
 first_spot a = record { sheet = a.sheet; row = a.top; col = a.left }
 
-abbrev pub last_spot : Area → Spot
+abbrev pub last_spot : LineArea → LineSpot
 last_spot a = record { sheet = a.sheet; row = a.bottom; col = a.right }
 
 -- where an area is; none where one of its lines stands nowhere
-abbrev pub block_at : PlaceLines → Area → Option Block
+abbrev pub block_at : PlaceLines → LineArea → Option Block
 block_at lines a = block_of (place_at lines (first_spot a)) (place_at lines (last_spot a))
 
 -- the number is in one of the ranges

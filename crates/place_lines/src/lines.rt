@@ -6,9 +6,9 @@ ghost use Rattle.stable_lines.specs.Lines.{line_at};
 ghost use Rattle.stable_lines.specs.Sheets.{table_of};
 ghost use Rattle.place_lines.specs.declared.past.TheConstants.{PAST};
 
-use crate::area::Area;
+use crate::area::LineArea;
 use crate::past::{number, position};
-use crate::spot::Spot;
+use crate::spot::LineSpot;
 use cell_addr::{Axis, Block, Place};
 use stable_lines::{LineTable, SheetLines};
 use std::alloc::{AllocError, Global};
@@ -61,10 +61,10 @@ impl PlaceLines {
     }
 
     /// The spot of a place. Costs the logarithm of the number of runs of lines.
-    pub fn spot(&self, at: Place) -> Spot
+    pub fn spot(&self, at: Place) -> LineSpot
         ensures { result ≡ spot_of self.now at }
     {
-        Spot {
+        LineSpot {
             sheet: at.sheet,
             row: number(self.rows.table(at.sheet), at.row),
             col: number(self.cols.table(at.sheet), at.col),
@@ -72,7 +72,7 @@ impl PlaceLines {
     }
 
     /// Where a spot is; `None` where its row or its column stands nowhere. Costs what [`PlaceLines::spot`] does.
-    pub fn place(&self, spot: Spot) -> Option<Place>
+    pub fn place(&self, spot: LineSpot) -> Option<Place>
         ensures { result ≡ place_at self.now spot }
     {
         Some(Place {
@@ -83,12 +83,12 @@ impl PlaceLines {
     }
 
     /// The area of a block. Costs what [`PlaceLines::spot`] does.
-    pub fn area(&self, b: Block) -> Area
+    pub fn area(&self, b: Block) -> LineArea
         ensures { result ≡ area_of self.now b }
     {
         let rows = self.rows.table(b.sheet);
         let cols = self.cols.table(b.sheet);
-        Area {
+        LineArea {
             sheet: b.sheet,
             top: number(rows, b.top),
             left: number(cols, b.left),
@@ -98,7 +98,7 @@ impl PlaceLines {
     }
 
     /// The block of an area; `None` where one of its lines stands nowhere. Costs what [`PlaceLines::spot`] does.
-    pub fn block(&self, area: Area) -> Option<Block>
+    pub fn block(&self, area: LineArea) -> Option<Block>
         ensures { result ≡ block_at self.now area }
     {
         let rows = self.rows.table(area.sheet);

@@ -8,7 +8,7 @@ ghost use Rattle.range_cases.specs.Grid.{moved_cell, moved_on_sheet, stands_at, 
 
 use cell_addr::{Block, Place};
 use cell_value::Scalar;
-use range_table::{Cells, add_nonempty};
+use range_table::{ListedCells, add_nonempty};
 use shift_core::{Shift, moved_place};
 use std::alloc::{AllocError, Global};
 
@@ -130,7 +130,7 @@ impl Grid {
     }
 }
 
-impl Cells for Grid {
+impl ListedCells for Grid {
     ghost values = { λ grid. value_in grid.cells.items };
 
     fn value(&self, at: Place) -> &Scalar {

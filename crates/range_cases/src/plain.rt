@@ -5,7 +5,7 @@ use crate::grid::Grid;
 use cell_addr::{Block, Place};
 use cell_value::{Scalar, Summary};
 use fix_num::Fixed;
-use range_table::Cells;
+use range_table::ListedCells;
 use shift_core::{Shift, moved_place};
 use std::alloc::{AllocError, Global};
 

@@ -7,13 +7,13 @@ use Rattle.std.proofs.lemmas.Option.{same_Some}
 use Rattle.cell_addr.specs.declared.axis.Axis.TheVariants.{Cols, Rows}
 use Rattle.place_lines.specs.Spots.{area_of, number_of, spot_of, table_along}
 use Rattle.shift_core.specs.Carried.{first_place}
-use Rattle.place_lines.specs.declared.area.Area.{Area}
+use Rattle.place_lines.specs.declared.area.LineArea.{LineArea}
 use Rattle.cell_addr.specs.declared.place.Block.{Block}
 use Rattle.cell_value.specs.declared.summary.Summary.{Summary}
 use Rattle.place_lines.specs.declared.lines.PlaceLines.{PlaceLines}
 use Rattle.place_lines.proofs.Places.{one_block}
 use Rattle.range_table.specs.declared.files.Files.{Files}
-use Rattle.range_table.specs.declared.kept.Kept.{Kept}
+use Rattle.range_table.specs.declared.kept.KeptSummaries.{KeptSummaries}
 use Rattle.range_table.specs.declared.state.State.{State}
 use Rattle.range_table.specs.declared.state.State.TheVariants as state
 use Rattle.range_table.specs.declared.state.State.TheVariants.{Left}
@@ -114,21 +114,21 @@ module _ (a b : Table) (grown : Grows a b) where
 
 -- ---- both
 
-pub both_grow : (a b : Kept) → Grows a.table b.table → IsMore a.files b.files → kept.Grows a b
+pub both_grow : (a b : KeptSummaries) → Grows a.table b.table → IsMore a.files b.files → kept.Grows a b
 both_grow a b f g = record { table = f; files = g }
 
-pub same_both : (a : Kept) → kept.Grows a a
+pub same_both : (a : KeptSummaries) → kept.Grows a a
 same_both a = record { table = same_grows a.table; files = same_more a.files }
 
-pub both_on : (a b c : Kept) → kept.Grows a b → kept.Grows b c → kept.Grows a c
+pub both_on : (a b c : KeptSummaries) → kept.Grows a b → kept.Grows b c → kept.Grows a c
 both_on a b c f g = record { table = grows_on a.table b.table c.table f.table g.table; files = more_on a.files b.files c.files f.files g.files }
 
-pub same_map_both : (a b : Kept) → kept.Grows a b → map_of b ≡ map_of a
+pub same_map_both : (a b : KeptSummaries) → kept.Grows a b → map_of b ≡ map_of a
 same_map_both a b f = same_map_grown a.table b.table f.table a.files b.files f.files a.stands a.found
 
 -- ---- what a grown table keeps
 
-module _ (a : Kept) (t : Table) (f : Files) (grown : Grows a.table t) (more : IsMore a.files f) where
+module _ (a : KeptSummaries) (t : Table) (f : Files) (grown : Grows a.table t) (more : IsMore a.files f) where
   pub grown_stand : AllStand t
   grown_stand = stand_still a.table t grown a.files f more a.stands a.found
 
@@ -149,7 +149,7 @@ module _ (a : Kept) (t : Table) (f : Files) (grown : Grows a.table t) (more : Is
 
 -- ---- one number more
 
-pub grows_pushed : (a b : Table) (area : Area) → b.lines ≡ a.lines → b.keys.keys ≡ a.keys.keys ++ area ∷ [] → b.states.items ≡ a.states.items ++ Left ∷ [] → Grows a b
+pub grows_pushed : (a b : Table) (area : LineArea) → b.lines ≡ a.lines → b.keys.keys ≡ a.keys.keys ++ area ∷ [] → b.states.items ≡ a.states.items ++ Left ∷ [] → Grows a b
 grows_pushed a b area lines keys states = record {
   lines = lines;
   keys = λ n x h. ap (λ ks. slice_get ks n) keys ∙ gets-more a.keys.keys (area ∷ []) n x h;
@@ -163,5 +163,5 @@ grows_same a b lines keys states = record {
   states = λ n. ap (λ l. state_at l n) states;
 }
 
-pub once_more : (keys : List Area) → IsDistinct same_area keys → AreOnce keys
+pub once_more : (keys : List LineArea) → IsDistinct same_area keys → AreOnce keys
 once_more keys distinct = AllPairs-from_IsDistinct decides_areas keys distinct

@@ -16,7 +16,7 @@ use Rattle.cell_value.specs.Summary.{IsBounded}
 use Rattle.cell_value.specs.declared.summary.Summary.{Summary}
 use Rattle.place_lines.specs.Laws.{IsNarrowBlock}
 use Rattle.place_lines.specs.Spots.{area_of, block_at}
-use Rattle.place_lines.specs.declared.area.Area.{Area}
+use Rattle.place_lines.specs.declared.area.LineArea.{LineArea}
 use Rattle.place_lines.specs.declared.lines.PlaceLines.{PlaceLines}
 use Rattle.place_lines.proofs.Places.{area_returns, block_returns, one_block}
 use Rattle.shift_core.proofs.CarriedEntries.{eq_by_cmp-decides}
@@ -34,7 +34,7 @@ use Rattle.range_table.proofs.Orders.{block_cmp-IsAntisymmetric, block_cmp-IsTot
 
 -- ---- areas in lists
 
-pub same_areas : (a b : Area) → same_area a b ≡ true → a ≡ b
+pub same_areas : (a b : LineArea) → same_area a b ≡ true → a ≡ b
 same_areas a b h =
     let (first, rest) = and_parts (a.sheet == b.sheet) _ h in
     let (second, more) = and_parts (a.top == b.top) _ rest in
@@ -47,16 +47,16 @@ same_areas a b h =
     let right = eqb-true a.right b.right fifth in
     λ i. record { sheet = sheet i; top = top i; left = left i; bottom = bottom i; right = right i }
 
-pub own_area : (a : Area) → same_area a a ≡ true
+pub own_area : (a : LineArea) → same_area a a ≡ true
 own_area a =
     and_from (a.sheet == a.sheet) _ (eq-eqb a.sheet a.sheet refl) (and_from (a.top == a.top) _ (eq-eqb a.top a.top refl)
     (and_from (a.left == a.left) _ (eq-eqb a.left a.left refl) (and_from (a.bottom == a.bottom) (a.right == a.right) (eq-eqb a.bottom a.bottom refl) (eq-eqb a.right a.right refl))))
 
-pub decides_areas : (a b : Area) → Decides (same_area a b) (a ≡ b)
+pub decides_areas : (a b : LineArea) → Decides (same_area a b) (a ≡ b)
 decides_areas a b = (same_areas a b, λ same. subst (λ c. same_area a c ≡ true) same (own_area a))
 
 -- what is got is at the place
-pub got : (keys : List Area) (n : ℕ) (k d : Area) → slice_get keys n ≡ Some k → (n < length keys) × (get_or keys n d ≡ k)
+pub got : (keys : List LineArea) (n : ℕ) (k d : LineArea) → slice_get keys n ≡ Some k → (n < length keys) × (get_or keys n d ≡ k)
 got [] n k d e = absurd (none e)
   where
     none : None ≡ Some k → ⊥
@@ -64,7 +64,7 @@ got [] n k d e = absurd (none e)
 got (x ∷ keys) zero k d e = (omega arith, same_Some x k e)
 got (x ∷ keys) (suc n) k d e = let (low, is) = got keys n k d e in (omega (arith, low), is)
 
-pub gets-more : (keys more : List Area) (n : ℕ) (k : Area) → slice_get keys n ≡ Some k → slice_get (keys ++ more) n ≡ Some k
+pub gets-more : (keys more : List LineArea) (n : ℕ) (k : LineArea) → slice_get keys n ≡ Some k → slice_get (keys ++ more) n ≡ Some k
 gets-more [] more n k e = absurd (none e)
   where
     none : None ≡ Some k → ⊥
@@ -72,12 +72,12 @@ gets-more [] more n k e = absurd (none e)
 gets-more (x ∷ keys) more zero k e = e
 gets-more (x ∷ keys) more (suc n) k e = gets-more keys more n k e
 
-pub gets-last : (keys : List Area) (k : Area) → slice_get (keys ++ k ∷ []) (length keys) ≡ Some k
+pub gets-last : (keys : List LineArea) (k : LineArea) → slice_get (keys ++ k ∷ []) (length keys) ≡ Some k
 gets-last [] k = refl
 gets-last (x ∷ keys) k = gets-last keys k
 
 -- what stands in a list passes its own test
-pub listed : (keys : List Area) (n : ℕ) (k : Area) → slice_get keys n ≡ Some k → list_any (same_area k) keys ≡ true
+pub listed : (keys : List LineArea) (n : ℕ) (k : LineArea) → slice_get keys n ≡ Some k → list_any (same_area k) keys ≡ true
 listed [] n k e = absurd (none e)
   where
     none : None ≡ Some k → ⊥
@@ -86,7 +86,7 @@ listed (x ∷ keys) zero k e = or_left (same_area k x) (list_any (same_area k) k
 listed (x ∷ keys) (suc n) k e = or_right (same_area k x) (list_any (same_area k) keys) (listed keys n k e)
 
 -- no area has two numbers
-pub one_number : (keys : List Area) (n m : ℕ) (k : Area) → AreOnce keys → slice_get keys n ≡ Some k → slice_get keys m ≡ Some k → n ≡ m
+pub one_number : (keys : List LineArea) (n m : ℕ) (k : LineArea) → AreOnce keys → slice_get keys n ≡ Some k → slice_get keys m ≡ Some k → n ≡ m
 one_number keys n m k once e f =
     let (low, is) = got keys n k k e in
     let (below, same) = got keys m k k f in
@@ -103,14 +103,14 @@ one_number keys n m k once e f =
 pub narrow : (b : Block) → IsBlockInside b → IsNarrowBlock b
 narrow b (rows, bottom, cols, right) = ((omega arith, omega arith), (omega arith, omega arith))
 
-pub found_there : (lines : PlaceLines) (keys : List Area) (n : ℕ) (b : Block) → block_under lines keys n ≡ Some b → slice_get keys n ≡ Some (area_of lines b)
+pub found_there : (lines : PlaceLines) (keys : List LineArea) (n : ℕ) (b : Block) → block_under lines keys n ≡ Some b → slice_get keys n ≡ Some (area_of lines b)
 found_there lines keys n b e = by (slice_get keys n) refl e
   where
-    by : (o : Option Area) → slice_get keys n ≡ o → option_and_then (block_at lines) o ≡ Some b → slice_get keys n ≡ Some (area_of lines b)
+    by : (o : Option LineArea) → slice_get keys n ≡ o → option_and_then (block_at lines) o ≡ Some b → slice_get keys n ≡ Some (area_of lines b)
     by None is h = absurd (cc)
     by (Some a) is h = is ∙ ap (λ x. Some x) (sym (area_returns lines a b h))
 
-pub stands_there : (lines : PlaceLines) (keys : List Area) (n : ℕ) (b : Block) → IsBlockInside b → slice_get keys n ≡ Some (area_of lines b) → block_under lines keys n ≡ Some b
+pub stands_there : (lines : PlaceLines) (keys : List LineArea) (n : ℕ) (b : Block) → IsBlockInside b → slice_get keys n ≡ Some (area_of lines b) → block_under lines keys n ≡ Some b
 stands_there lines keys n b inside e = ap (option_and_then (block_at lines)) e ∙ block_returns lines b (narrow b inside)
 
 some_of : {X : Type 0} (o : Option X) → IsSome o → (x : X) × (o ≡ Some x)
@@ -288,10 +288,10 @@ copied_next t n m next is more =
 
 -- ---- look-ups
 
-pub stands_at : (keys : List Area) (a : Area) (r : Option ℕ) → r ≡ position (same_area a) keys → IfSome r (λ n. slice_get keys n ≡ Some a)
+pub stands_at : (keys : List LineArea) (a : LineArea) (r : Option ℕ) → r ≡ position (same_area a) keys → IfSome r (λ n. slice_get keys n ≡ Some a)
 stands_at keys a r is = subst (λ o. IfSome o (λ n. slice_get keys n ≡ Some a)) (sym is) (by (nat_lt (position_or_len (same_area a) keys) (length keys)) refl)
   where
-    gets : (ks : List Area) (n : ℕ) (d : Area) → n < length ks → slice_get ks n ≡ Some (get_or ks n d)
+    gets : (ks : List LineArea) (n : ℕ) (d : LineArea) → n < length ks → slice_get ks n ≡ Some (get_or ks n d)
     gets [] n d low = absurd (omega (arith, low))
     gets (x ∷ ks) zero d low = refl
     gets (x ∷ ks) (suc n) d low = gets ks n d (omega (arith, low))

@@ -38,7 +38,7 @@ use Rattle.touch_index.proofs.Staying.{block_is_somewhere, block_kept}
 use Rattle.range_table.specs.Shifted.{AreMoved, GivesUpBlock, KeepsBlock, TearsBlock}
 use Rattle.range_table.specs.declared.changes.Changes.{Changes}
 use Rattle.range_table.specs.declared.files.Files.{Files}
-use Rattle.range_table.specs.declared.kept.Kept.{Kept}
+use Rattle.range_table.specs.declared.kept.KeptSummaries.{KeptSummaries}
 use Rattle.range_table.specs.declared.state.State.{State}
 use Rattle.range_table.specs.declared.state.State.TheVariants as state
 use Rattle.range_table.specs.declared.table.Table.{Table}
@@ -124,11 +124,11 @@ pub gone_last : (number : ℕ) (xs : List ℕ) → has number (xs ++ number ∷ 
 gone_last number xs = has-append_right number xs (number ∷ []) (has_first number [])
 
 -- the block that has a number of which something is known
-its_block : (k : Kept) (n : ℕ) (b c : Block) → IsUnder k.table n b → IsUnder k.table n c → b ≡ c
+its_block : (k : KeptSummaries) (n : ℕ) (b c : Block) → IsUnder k.table n b → IsUnder k.table n c → b ≡ c
 its_block k n b c under there = one_block k.table.lines b c (same_Some (area_of k.table.lines b) (area_of k.table.lines c) (sym under ∙ there))
 
 module _ (s : Shift) (after_lines : PlaceLines) where
-  module _ (old new : Kept) (grown : both.Grows old new) (c : Changes) where
+  module _ (old new : KeptSummaries) (grown : both.Grows old new) (c : Changes) where
     under_before : (n : ℕ) (b : Block) → is_found (known new.table n) ≡ true → IsUnder new.table n b → IsUnder old.table n b
     under_before n b h under =
         let was : is_found (known old.table n) ≡ true = subst (λ st. is_found st ≡ true) (grown.table.states n) h in
@@ -156,7 +156,7 @@ module _ (s : Shift) (after_lines : PlaceLines) where
     }
 
   -- no number is done yet
-  pub no_changes : (k : Kept) (c : Changes) → c.left.items ≡ [] → c.arrived.entries ≡ [] → AreChanges s after_lines k [] c
+  pub no_changes : (k : KeptSummaries) (c : Changes) → c.left.items ≡ [] → c.arrived.entries ≡ [] → AreChanges s after_lines k [] c
   no_changes k c left arrived = record {
     done = λ n h. absurd (false≢true h);
     taken = λ n b h. absurd (false≢true (sym (ap (has n) left) ∙ h));
@@ -167,7 +167,7 @@ module _ (s : Shift) (after_lines : PlaceLines) where
       apart st e = cc
 
   -- a number of which nothing is known, or whose block isn't touched
-  pub one_untouched : (k : Kept) (c : Changes) (number : ℕ) (gone : List ℕ) → ((b : Block) → IsUnder k.table number b → is_found (known k.table number) ≡ true → ¬ IsTouched s b)
+  pub one_untouched : (k : KeptSummaries) (c : Changes) (number : ℕ) (gone : List ℕ) → ((b : Block) → IsUnder k.table number b → is_found (known k.table number) ≡ true → ¬ IsTouched s b)
       → AreChanges s after_lines k gone c → AreChanges s after_lines k (gone ++ number ∷ []) c
   one_untouched k c number gone still are = record {
     done = λ n h b under inside found. ⊎_elim
@@ -179,7 +179,7 @@ module _ (s : Shift) (after_lines : PlaceLines) where
   }
 
   -- a number that leaves
-  module _ (k : Kept) (c d : Changes) (number : ℕ) (block : Block) (gone : List ℕ) (under : IsUnder k.table number block) (left : d.left.items ≡ c.left.items ++ number ∷ [])
+  module _ (k : KeptSummaries) (c d : Changes) (number : ℕ) (block : Block) (gone : List ℕ) (under : IsUnder k.table number block) (left : d.left.items ≡ c.left.items ++ number ∷ [])
       (still : (m : ℕ) → IsSome (tree.get nat_cmp c.arrived m) → IsSome (tree.get nat_cmp d.arrived m))
       (only : (m : ℕ) (st : State) → tree.get nat_cmp d.arrived m ≡ Some st → (tree.get nat_cmp c.arrived m ≡ Some st) ⊎ Arrives s after_lines k m st)
       (takes : IsTaken s after_lines k.table d number block) (are : AreChanges s after_lines k gone c) where
@@ -211,15 +211,15 @@ module _ (s : Shift) (after_lines : PlaceLines) where
     }
 
   -- a block whose summary is given up takes none along
-  pub ends_taken : (k : Kept) (c : Changes) (number : ℕ) (block : Block) → GivesUpBlock s block → IsTaken s after_lines k.table c number block
+  pub ends_taken : (k : KeptSummaries) (c : Changes) (number : ℕ) (block : Block) → GivesUpBlock s block → IsTaken s after_lines k.table c number block
   ends_taken k c number block gone after x is keeps = absurd (keeps.0 gone)
 
-  pub moves_taken : (k : Kept) (c d : Changes) (number : ℕ) (block after : Block) → KeepsBlock s block after → TakesTo after_lines number after k c d → IsTaken s after_lines k.table d number block
+  pub moves_taken : (k : KeptSummaries) (c d : Changes) (number : ℕ) (block after : Block) → KeepsBlock s block after → TakesTo after_lines number after k c d → IsTaken s after_lines k.table d number block
   moves_taken k c d number block after keeps takes other x is kept =
       let same : after ≡ other = same_Some after other (sym keeps.1 ∙ kept.1) in
       let (m, at, some) = takes.some x is in (m, subst (λ b. IsNumberBy after_lines k.table m b) same at, some)
 
-  pub moves_only : (k : Kept) (c d : Changes) (number : ℕ) (block after : Block) → IsUnder k.table number block → IsBlockInside after → KeepsBlock s block after → TakesTo after_lines number after k c d
+  pub moves_only : (k : KeptSummaries) (c d : Changes) (number : ℕ) (block after : Block) → IsUnder k.table number block → IsBlockInside after → KeepsBlock s block after → TakesTo after_lines number after k c d
       → (m : ℕ) (st : State) → tree.get nat_cmp d.arrived m ≡ Some st → (tree.get nat_cmp c.arrived m ≡ Some st) ⊎ Arrives s after_lines k m st
   moves_only k c d number block after under inside keeps takes m st is = ⊎_elim
       (λ (before : tree.get nat_cmp c.arrived m ≡ Some st). inl before)
@@ -230,7 +230,7 @@ module _ (s : Shift) (after_lines : PlaceLines) where
 -- ---- all
 
 -- numbers that weren't found are those of blocks that aren't touched
-pub all_done : (s : Shift) (after_lines : PlaceLines) (old new : Kept) (c : Changes) (found : List ℕ) → both.Grows old new → FindsGivenUp s old.table.lines old.files found → AreChanges s after_lines new found c
+pub all_done : (s : Shift) (after_lines : PlaceLines) (old new : KeptSummaries) (c : Changes) (found : List ℕ) → both.Grows old new → FindsGivenUp s old.table.lines old.files found → AreChanges s after_lines new found c
     → (n : ℕ) → IsDone s after_lines new.table c n
 all_done s after_lines old new c found grown finds are n b under inside known_n = ⊎_elim
     (λ (gone : has n found ≡ true). are.done n gone b under inside known_n)
@@ -241,7 +241,7 @@ all_done s after_lines old new c found grown finds are n b under inside known_n 
     false≢true (sym other ∙ finds x n in_sheet has_it.touches (subst (IsTouched s) (sym same) touched))))
     (has_or_not n found)
 
-module _ (s : Shift) (after_lines : PlaceLines) (k : Kept) (c : Changes) (gone : List ℕ) (new : Table) (sound : IsSound s) (moved : lines.AreMoved (form_of s) k.table.lines after_lines)
+module _ (s : Shift) (after_lines : PlaceLines) (k : KeptSummaries) (c : Changes) (gone : List ℕ) (new : Table) (sound : IsSound s) (moved : lines.AreMoved (form_of s) k.table.lines after_lines)
     (done : (n : ℕ) → IsDone s after_lines k.table c n) (are : AreChanges s after_lines k gone c)
     (here : new.lines ≡ after_lines) (keys : new.keys.keys ≡ k.table.keys.keys) (states : (n : ℕ) → known new n ≡ state_then c k.table n) where
   -- what is known of a number afterwards arrived, or was known before, and its block isn't touched
@@ -389,7 +389,7 @@ kept_of st x y e f = same_kept (sym e ∙ f)
     same_kept : state.Kept x ≡ state.Kept y → x ≡ y
     same_kept e = cc
 
-pub takes_none : (after_lines : PlaceLines) (number : ℕ) (after : Block) (k : Kept) (c : Changes) → summary_in (known k.table number) ≡ None → TakesTo after_lines number after k c c
+pub takes_none : (after_lines : PlaceLines) (number : ℕ) (after : Block) (k : KeptSummaries) (c : Changes) → summary_in (known k.table number) ≡ None → TakesTo after_lines number after k c c
 takes_none after_lines number after k c none = record {
   some = λ x is. absurd (apart x (sym none ∙ ap summary_in is));
   still = λ m some. some;
@@ -399,7 +399,7 @@ takes_none after_lines number after k c none = record {
     apart : (x : Summary) → None ≡ Some x → ⊥
     apart x e = cc
 
-pub takes_one : (after_lines : PlaceLines) (number : ℕ) (after : Block) (k : Kept) (c d : Changes) (arrival : ℕ) (x : Summary) → known k.table number ≡ state.Kept x → IsNumberBy after_lines k.table arrival after
+pub takes_one : (after_lines : PlaceLines) (number : ℕ) (after : Block) (k : KeptSummaries) (c d : Changes) (arrival : ℕ) (x : Summary) → known k.table number ≡ state.Kept x → IsNumberBy after_lines k.table arrival after
     → Finds k.files after_lines after arrival → ((n : ℕ) → tree.get nat_cmp d.arrived n ≡ cond (eqb n arrival) (Some (state.Kept x)) (tree.get nat_cmp c.arrived n)) → TakesTo after_lines number after k c d
 takes_one after_lines number after k c d arrival x is number_is finds arrived = record {
   some = λ y other. (arrival, number_is, ap is_some (arrived arrival ∙ ap (λ t. cond t (Some (state.Kept x)) (tree.get nat_cmp c.arrived arrival)) (eq-eqb arrival arrival refl)));
@@ -419,7 +419,7 @@ takes_one after_lines number after k c d arrival x is number_is finds arrived = 
         inr (x, here, is, subst (λ n. IsNumberBy after_lines k.table n after) (sym same) number_is, subst (Finds k.files after_lines after) (sym same) finds)
     by_only m st false e at = inl (sym (arrived m ∙ ap (λ t. cond t (Some (state.Kept x)) (tree.get nat_cmp c.arrived m)) e) ∙ at)
 
-module _ (s : Shift) (after_lines : PlaceLines) (k : Kept) (number : ℕ) (block : Block) (under : IsUnder k.table number block) where
+module _ (s : Shift) (after_lines : PlaceLines) (k : KeptSummaries) (number : ℕ) (block : Block) (under : IsUnder k.table number block) where
   pub leave_ends : (c d : Changes) (gone : List ℕ) → d.arrived ≡ c.arrived → GivesUpBlock s block → d.left.items ≡ c.left.items ++ number ∷ [] → AreChanges s after_lines k gone c → AreChanges s after_lines k (gone ++ number ∷ []) d
   leave_ends c d gone arrived ends left are =
       one_left s after_lines k c d number block gone under left
@@ -442,7 +442,7 @@ module _ (s : Shift) (after_lines : PlaceLines) (k : Kept) (number : ℕ) (block
   stays_done c gone still are = one_untouched s after_lines k c number gone (λ b there found touched. still (subst (IsTouched s) (its_block k number b block there under) touched)) are
 
 -- what arrives comes to numbers that are there
-pub arrives_low : (s : Shift) (after_lines : PlaceLines) (k : Kept) (c : Changes) (gone : List ℕ) → AreChanges s after_lines k gone c → (n : ℕ) (st : State) → tree.get nat_cmp c.arrived n ≡ Some st → n < length k.table.states.items
+pub arrives_low : (s : Shift) (after_lines : PlaceLines) (k : KeptSummaries) (c : Changes) (gone : List ℕ) → AreChanges s after_lines k gone c → (n : ℕ) (st : State) → tree.get nat_cmp c.arrived n ≡ Some st → n < length k.table.states.items
 arrives_low s after_lines k c gone are n st is =
     let (m, b, after, x, e, keeps, kept, number, inside, finds) = are.arrived n st is in
     subst (λ len. n < len) (sym k.table.counts) (got k.table.keys.keys n (area_of after_lines after) (area_of after_lines after) number).0

@@ -10,7 +10,7 @@ use cell_value::Scalar;
 use std::alloc::AllocError;
 
 /// Cells that have values, read one by one or listed.
-pub trait Cells {
+pub trait ListedCells {
     // The value of each place.
     ghost values: { Self → Place → Scalar };
 

@@ -1,20 +1,20 @@
 // Equal kept summaries, on sheets whose lines are numbered anew.
 ghost use Rattle.std.specs.Prelude.{◌≡◌, ◌<◌, ℕ, IfOk, OnOk};
 
-use crate::kept::Kept;
+use crate::kept::KeptSummaries;
 use crate::state::State;
 use std::alloc::AllocError;
 
-impl Kept {
+impl KeptSummaries {
     ghost use Rattle.range_table.specs.internal.Copied.{with_kept};
     ghost use Rattle.range_table.specs.internal.Kept.{map_of};
     ghost use Rattle.range_table.specs.internal.Tables.{kept_under};
 
     // Equal summaries. Costs their number, and that of the slots of their blocks.
-    pub(crate) fn copied(&self) -> Result<Kept, AllocError>
+    pub(crate) fn copied(&self) -> Result<KeptSummaries, AllocError>
         ensures { IfOk result (λ copy. map_of copy ≡ map_of self.now) }
     {
-        let mut copy = Kept::new(self.alloc)?;
+        let mut copy = KeptSummaries::new(self.alloc)?;
         'numbers: for number in 0..self.table.len() {
             self.copy_one(&mut copy, number)?;
         }
@@ -22,7 +22,7 @@ impl Kept {
     }
 
     // Keeps what is kept under a number in the copy too.
-    fn copy_one(&self, copy: &mut Kept, number: usize) -> Result<(), AllocError>
+    fn copy_one(&self, copy: &mut KeptSummaries, number: usize) -> Result<(), AllocError>
         ensures { OnOk result (map_of copy.new ≡ with_kept (kept_under self.now.table number) (map_of copy.old)) }
     {
         if let State::Kept(summary) = self.table.state(number) {

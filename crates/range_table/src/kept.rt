@@ -18,7 +18,7 @@ use cell_value::Summary;
 use std::alloc::{AllocError, Global};
 
 // Kept summaries of blocks.
-pub(crate) struct Kept {
+pub(crate) struct KeptSummaries {
     pub(crate) alloc: Global,
     // The blocks under numbers, with their summaries.
     pub(crate) table: Table,
@@ -32,9 +32,9 @@ pub(crate) struct Kept {
 }
 
 // Written out, so that whoever drops one calls one function.
-impl Drop for Kept {
+impl Drop for KeptSummaries {
     fn drop(self) {
-        let Kept {
+        let KeptSummaries {
             alloc: _,
             table: _table,
             files: _files,
@@ -43,16 +43,16 @@ impl Drop for Kept {
     }
 }
 
-impl Kept {
+impl KeptSummaries {
     ghost use Rattle.std.specs.FinMap as map;
     ghost use Rattle.range_table.specs.Table.{without_holders};
     ghost use Rattle.range_table.specs.internal.Kept.{Grows, HasNumber, map_of};
 
     // Nothing is kept.
-    pub(crate) fn new(alloc: Global) -> Result<Kept, AllocError>
+    pub(crate) fn new(alloc: Global) -> Result<KeptSummaries, AllocError>
         ensures { IfOk result (λ kept. map_of kept ≡ map.empty) }
     {
-        Ok(Kept {
+        Ok(KeptSummaries {
             alloc,
             table: Table::new(alloc)?,
             files: Files::new(alloc),

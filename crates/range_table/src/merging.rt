@@ -6,7 +6,7 @@ ghost use Rattle.cell_value.specs.declared.scalar.Scalar.{Scalar};
 ghost use Rattle.range_table.specs.Cells.{block_values, cells_in, nonempty_in, row_values, seen_values};
 ghost use Rattle.range_table.specs.internal.Rows.{GoesOn};
 
-use crate::cells::Cells;
+use crate::cells::ListedCells;
 use cell_addr::{Block, Place};
 use cell_value::{Scalar, Summary};
 use std::alloc::AllocError;
@@ -25,7 +25,7 @@ const READ_FOR_ONE_LISTED: u64 = 16;
 
 // Goes on with the summary of some values over the cells of a block, with a step for each that isn't empty. Reads them one
 // by one, which takes no memory, or lists them where there may be few among many. For want of memory no step was counted.
-pub(crate) fn with_block<C: Cells, L: Ledger>(
+pub(crate) fn with_block<C: ListedCells, L: Ledger>(
     start: Summary,
     b: Block,
     cells: &C,
@@ -53,7 +53,7 @@ pub(crate) fn with_block<C: Cells, L: Ledger>(
 }
 
 // Goes on over the cells of a block, read row by row.
-fn with_cells<C: Cells, L: Ledger>(
+fn with_cells<C: ListedCells, L: Ledger>(
     begun: Merged,
     b: Block,
     cells: &C,
@@ -75,7 +75,7 @@ fn with_cells<C: Cells, L: Ledger>(
 }
 
 // Goes on over the cells of one row of a block.
-fn with_row<C: Cells, L: Ledger>(
+fn with_row<C: ListedCells, L: Ledger>(
     begun: Merged,
     b: Block,
     row: u32,

@@ -1,6 +1,6 @@
 // Kept summaries of blocks, as callers see them.
-use crate::cells::Cells;
-use crate::kept::Kept;
+use crate::cells::ListedCells;
+use crate::kept::KeptSummaries;
 use cell_addr::{Block, Place};
 use cell_value::Summary;
 use shift_core::Shift;
@@ -17,7 +17,7 @@ use steps::Steps;
 pub struct Ranges {
     alloc: Global,
     // None as long as nothing was kept.
-    kept: Option<Box<Kept>>,
+    kept: Option<Box<KeptSummaries>>,
     merged: u64,
 }
 
@@ -104,8 +104,8 @@ impl Ranges {
     /// `merged` rises by as much. For want of memory all is as it was, and no step was counted.
     ///
     /// Costs a reading of each cell that is to be merged or is empty, or, of blocks that are large beside the number of all
-    /// filled cells ([`Cells::filled`]), what the list of those that aren't empty does ([`Cells::listed`]).
-    pub fn summary<C: Cells, L: Ledger>(
+    /// filled cells ([`ListedCells::filled`]), what the list of those that aren't empty does ([`ListedCells::listed`]).
+    pub fn summary<C: ListedCells, L: Ledger>(
         &mut self,
         b: Block,
         cells: &C,
@@ -138,7 +138,7 @@ impl Ranges {
         ensures some { OnOk result (IsSome self.new.kept) }
     {
         if self.kept.is_none() {
-            self.kept = Some(Box::new(self.alloc, Kept::new(self.alloc)?)?);
+            self.kept = Some(Box::new(self.alloc, KeptSummaries::new(self.alloc)?)?);
         }
         Ok(())
     }

@@ -5,13 +5,13 @@ ghost use Rattle.shift_core.specs.Sound.{IsSound};
 
 use crate::changes::Changes;
 use crate::fate::{Fate, fate_of};
-use crate::kept::Kept;
+use crate::kept::KeptSummaries;
 use cell_addr::Block;
 use place_lines::PlaceLines;
 use shift_core::Shift;
 use std::alloc::AllocError;
 
-impl Kept {
+impl KeptSummaries {
     ghost use Rattle.cell_addr.specs.declared.place.Place.{Place};
     ghost use Rattle.cell_value.specs.declared.scalar.Scalar.{Scalar};
     ghost use Rattle.range_table.specs.Shifted.{AreMoved, TakesValues};

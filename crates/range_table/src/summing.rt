@@ -6,8 +6,8 @@ ghost use Rattle.range_table.specs.Cells.{fold, nonempty_in};
 ghost use Rattle.range_table.specs.Table.{cells_left, last_row, without_last_row};
 ghost use Rattle.range_table.specs.internal.Rows.{Begins};
 
-use crate::cells::Cells;
-use crate::kept::Kept;
+use crate::cells::ListedCells;
+use crate::kept::KeptSummaries;
 use crate::merging::{Merged, with_block};
 use cell_addr::Block;
 use cell_value::Summary;
@@ -15,14 +15,14 @@ use std::alloc::AllocError;
 use std::sync::ledger::Ledger;
 use steps::Steps;
 
-impl Kept {
+impl KeptSummaries {
     ghost use Rattle.std.specs.FinMap as map;
     ghost use Rattle.range_table.specs.Table.{AreFolds, begun, cells_to_merge};
     ghost use Rattle.range_table.specs.internal.Kept.{map_of};
 
     // The summary of the block, which is kept from now on. For want of memory
     // all is as it was, and no cell was merged.
-    pub(crate) fn summary<C: Cells, L: Ledger>(
+    pub(crate) fn summary<C: ListedCells, L: Ledger>(
         &mut self,
         b: Block,
         cells: &C,
@@ -45,7 +45,7 @@ impl Kept {
     }
 
     // Adds the summary of a block that has none.
-    fn add<C: Cells, L: Ledger>(
+    fn add<C: ListedCells, L: Ledger>(
         &mut self,
         b: Block,
         cells: &C,
@@ -79,7 +79,7 @@ impl Kept {
 
 // The summary of the block, from that of what stands above its last row where it is given, and else from all cells. For
 // want of memory no cell was merged.
-fn going_on<C: Cells, L: Ledger>(
+fn going_on<C: ListedCells, L: Ledger>(
     begun: Option<Summary>,
     b: Block,
     cells: &C,
@@ -101,7 +101,7 @@ fn going_on<C: Cells, L: Ledger>(
 }
 
 // The summary of the block, from that of what stands above its last row.
-fn with_last_row<C: Cells, L: Ledger>(
+fn with_last_row<C: ListedCells, L: Ledger>(
     above: Summary,
     b: Block,
     cells: &C,
@@ -121,7 +121,7 @@ fn with_last_row<C: Cells, L: Ledger>(
 }
 
 // The summary of the block, from all of its cells.
-fn over_all<C: Cells, L: Ledger>(
+fn over_all<C: ListedCells, L: Ledger>(
     b: Block,
     cells: &C,
     steps: &mut Steps<L>,

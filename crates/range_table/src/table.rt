@@ -6,7 +6,7 @@ ghost use Rattle.range_table.specs.internal.States.{AreOnce, block_under, same_a
 use crate::state::State;
 use cell_addr::Block;
 use indexmap::IndexSet;
-use place_lines::{Area, PlaceLines};
+use place_lines::{LineArea, PlaceLines};
 use std::alloc::{AllocError, Global};
 
 // The blocks that were kept at some time, under numbers from 0 on, by the numbers of their lines. So what an operation only
@@ -15,7 +15,7 @@ pub(crate) struct Table {
     // Where the lines stand.
     pub(crate) lines: PlaceLines,
     // The areas of the blocks, in the order in which they came.
-    pub(crate) keys: IndexSet<Area>,
+    pub(crate) keys: IndexSet<LineArea>,
     // What is known of each.
     pub(crate) states: Vec<State>,
     pub ghost counts: { length states.items ≡ length keys.keys },
@@ -56,7 +56,7 @@ impl Table {
     }
 
     // The number of an area.
-    pub(crate) fn number(&self, area: Area) -> Option<usize>
+    pub(crate) fn number(&self, area: LineArea) -> Option<usize>
         ensures found { IfSome result (λ n. slice_get self.now.keys.keys n ≡ Some area) }
         ensures absent { IsNone result → list_any (same_area area) self.now.keys.keys ≡ false }
     {
@@ -104,7 +104,7 @@ impl Table {
     }
 
     // The number of an area, which is added where it isn't known.
-    pub(crate) fn know(&mut self, area: Area) -> Result<usize, AllocError>
+    pub(crate) fn know(&mut self, area: LineArea) -> Result<usize, AllocError>
         ensures grown { Grows self.old self.new }
         ensures number { IfOk result (λ n. slice_get self.new.keys.keys n ≡ Some area) }
     {
@@ -136,7 +136,7 @@ fn push_last<X: Copy>(list: &mut Vec<X>, x: X)
 }
 
 // Adds an area that isn't there at the end.
-fn add_key(keys: &mut IndexSet<Area>, area: Area) -> Result<(), AllocError>
+fn add_key(keys: &mut IndexSet<LineArea>, area: LineArea) -> Result<(), AllocError>
     requires { list_any (same_area area) keys.old.keys ≡ false }
     ensures keys { OnOk result (keys.new.keys ≡ keys.old.keys ++ area ∷ []) }
     ensures err { OnErr result (keys.new.keys ≡ keys.old.keys) }

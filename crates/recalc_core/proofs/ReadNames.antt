@@ -17,8 +17,8 @@ use Rattle.dep_graph.specs.declared.node.Node.{Node}
 use Rattle.recalc_core.specs.Given.{HasGivenAt, IsFound, IsGiven}
 use Rattle.recalc_core.specs.Nodes.{node_at}
 use Rattle.recalc_core.specs.declared.names.ReadName.{ReadName}
-use Rattle.recalc_core.specs.declared.trees.Given.{Given}
-use Rattle.recalc_core.specs.declared.trees.Given.TheVariants.{Formula}
+use Rattle.recalc_core.specs.declared.trees.NodeContent.{NodeContent}
+use Rattle.recalc_core.specs.declared.trees.NodeContent.TheVariants.{Formula}
 use Rattle.recalc_core.specs.internal.Seen.{AddsRead, AreRead, IsRead}
 
 -- words that are the same find the same
@@ -33,7 +33,7 @@ same_back v w h = (bytes_decides (folded w) (folded v)).1 (sym ((bytes_decides (
 
 module _ (b : Workbook) (words : List (List ℕ)) (sheet : ℕ) where
   -- the name that a word finds, with the formula that is given of its node
-  pub read_here : (word : List ℕ) (a : Node) (given : Given) (name : ReadName) → IsFound b words word sheet (Some a) → IsGiven b words a given → given ≡ Formula name.tree name.home
+  pub read_here : (word : List ℕ) (a : Node) (given : NodeContent) (name : ReadName) → IsFound b words word sheet (Some a) → IsGiven b words a given → given ≡ Formula name.tree name.home
       → name.word ≡ word → name.node ≡ a → IsRead b words sheet name
   read_here word a given name (key, is, at) has formula same here =
       let (home, tree) = subst (λ o. HasGivenAt b o (Formula name.tree name.home)) at (subst (IsGiven b words a) formula has) in

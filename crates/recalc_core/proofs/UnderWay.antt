@@ -22,8 +22,8 @@ use Rattle.recalc_core.specs.Given.{HasGivenAt, IsGiven}
 use Rattle.recalc_core.specs.Kept.{AreRight, IsRight, Kept, expected_at}
 use Rattle.recalc_core.specs.Nodes.{node_at}
 use Rattle.recalc_core.specs.Steps.{cost_of, node_cost, tree_cost}
-use Rattle.recalc_core.specs.declared.trees.Given.{Given}
-use Rattle.recalc_core.specs.declared.trees.Given.TheVariants as given
+use Rattle.recalc_core.specs.declared.trees.NodeContent.{NodeContent}
+use Rattle.recalc_core.specs.declared.trees.NodeContent.TheVariants as given
 use Rattle.recalc_core.specs.internal.KeptTables.{IsPut}
 use Rattle.recalc_core.specs.internal.UnderWay.{AreCycles, DifferWithin, DiffersAt, IsMeaning, IsPlan, IsReady, IsUnderWay, IsWithinCost, ShowsCycle}
 use Rattle.recalc_core.proofs.Worked.{meaning_expected, nothing_expected, ready_within, value_expected}
@@ -60,13 +60,13 @@ module _ (b : Workbook) (words : List (List ℕ)) (customs : List (List ℕ × R
       apart : given.Formula tree home ≡ given.Nothing → ⊥
       apart e = cc
 
-  pub value_right : (a : Node) (s : Scalar) (has_it : Given) (old new : Kept) (r : Result (Unit {0}) AllocError) → IsGiven b words a has_it → has_it ≡ given.Value s → OnOk r (IsPut a (Some s) old new) → OnOk r (Right new a)
+  pub value_right : (a : Node) (s : Scalar) (has_it : NodeContent) (old new : Kept) (r : Result (Unit {0}) AllocError) → IsGiven b words a has_it → has_it ≡ given.Value s → OnOk r (IsPut a (Some s) old new) → OnOk r (Right new a)
   value_right a s has_it old new r here is put = on_ok r (λ p. put_right a (Some s) old new p (given_value s (node_at words a) (subst (IsGiven b words a) is here))) put
 
-  pub nothing_right : (a : Node) (has_it : Given) (old new : Kept) (r : Result (Unit {0}) AllocError) → IsGiven b words a has_it → has_it ≡ given.Nothing → OnOk r (IsPut a None old new) → OnOk r (Right new a)
+  pub nothing_right : (a : Node) (has_it : NodeContent) (old new : Kept) (r : Result (Unit {0}) AllocError) → IsGiven b words a has_it → has_it ≡ given.Nothing → OnOk r (IsPut a None old new) → OnOk r (Right new a)
   nothing_right a has_it old new r here is put = on_ok r (λ p. put_right a None old new p (given_nothing (node_at words a) (subst (IsGiven b words a) is here))) put
 
-  pub formula_right : (a : Node) (tree : Rc term.Node Global) (home : Home) (s : Scalar) (has_it : Given) (kept old new : Kept) (r : Result (Unit {0}) AllocError) → IsReady b words customs today kept a
+  pub formula_right : (a : Node) (tree : Rc term.Node Global) (home : Home) (s : Scalar) (has_it : NodeContent) (kept old new : Kept) (r : Result (Unit {0}) AllocError) → IsReady b words customs today kept a
       → IsGiven b words a has_it → has_it ≡ given.Formula tree home → IsMeaning b words customs today kept home (at_home home (relative tree.value)) s → OnOk r (IsPut a (Some s) old new) → OnOk r (Right new a)
   formula_right a tree home s has_it kept old new r ready here is means put =
       on_ok r (λ p. put_right a (Some s) old new p (given_formula a tree home s kept (node_at words a) ready refl (subst (IsGiven b words a) is here) means)) put
@@ -82,7 +82,7 @@ module _ (b : Workbook) (words : List (List ℕ)) (customs : List (List ℕ × R
       apart : given.Formula tree home ≡ given.Nothing → ⊥
       apart e = cc
 
-  pub formula_within : (a : Node) (tree : Rc term.Node Global) (home : Home) (has_it : Given) (kept : Kept) (old new : ℕ) → IsReady b words customs today kept a → IsGiven b words a has_it → has_it ≡ given.Formula tree home
+  pub formula_within : (a : Node) (tree : Rc term.Node Global) (home : Home) (has_it : NodeContent) (kept : Kept) (old new : ℕ) → IsReady b words customs today kept a → IsGiven b words a has_it → has_it ≡ given.Formula tree home
       → IsWithinCost b words today kept home (at_home home (relative tree.value)) old new → new ≤ old + node_cost b words customs today a
   formula_within a tree home has_it kept old new ready here is most = given_within a tree home kept old new (node_at words a) ready refl (subst (IsGiven b words a) is here) most
 

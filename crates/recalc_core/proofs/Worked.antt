@@ -45,7 +45,7 @@ use Rattle.recalc_core.specs.Kept.{AreRight, IsRight, Kept, expected, expected_a
 use Rattle.recalc_core.specs.Nodes.{node_at}
 use Rattle.recalc_core.specs.Steps.{formula_cost}
 use Rattle.recalc_core.specs.declared.names.ReadName.{ReadName}
-use Rattle.recalc_core.specs.declared.trees.Given.TheVariants as given
+use Rattle.recalc_core.specs.declared.trees.NodeContent.TheVariants as given
 use Rattle.recalc_core.specs.declared.kept.KeptValues.{KeptValues}
 use Rattle.recalc_core.specs.internal.KeptValues.{kept_by}
 use Rattle.recalc_core.specs.internal.Seen.{AreRead, IsRead, named_by, shown_at, shown_of, world_in}

@@ -38,4 +38,4 @@ pub use laws::{
     shifts_go_back,
 };
 pub use recalc::Recalc;
-pub use trees::{Given, Trees};
+pub use trees::{NodeContent, Trees};

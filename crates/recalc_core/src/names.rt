@@ -6,7 +6,7 @@ ghost use Rattle.formula_tree.specs.StandsFor.{at_home};
 ghost use Rattle.formula_tree.specs.declared.reference.Home.{Home};
 ghost use Rattle.recalc_core.specs.internal.Seen.{AddsRead, AreRead};
 
-use crate::trees::{Given, Trees};
+use crate::trees::{NodeContent, Trees};
 use cell_addr::Text;
 use dep_graph::Node;
 use formula_tree::{Home, Tree, names_of};
@@ -73,14 +73,14 @@ fn read_word<T: Trees>(
         return Ok(());
     };
     match trees.given(node)? {
-        Given::Formula(tree, home) => names.push(ReadName {
+        NodeContent::Formula(tree, home) => names.push(ReadName {
             word: word.copy(alloc)?,
             node,
             home,
             tree,
         })?,
-        Given::Nothing => unreachable!(),
-        Given::Value(_) => unreachable!(),
+        NodeContent::Nothing => unreachable!(),
+        NodeContent::Value(_) => unreachable!(),
     }
     Ok(())
 }

@@ -15,7 +15,7 @@ use calc_eval::{NameView, View, filled_area};
 use cell_addr::{Block, Place, same_folded};
 use cell_value::{Area, Scalar, Summary};
 use dep_graph::Node;
-use range_table::{Ranges, add_nonempty};
+use range_table::{ListedCells, Ranges, add_nonempty};
 use std::alloc::{AllocError, Global};
 use std::sync::ledger::Ledger;
 use steps::Steps;
@@ -54,7 +54,7 @@ impl<'a> Shown<'a> {
     }
 }
 
-impl range_table::Cells for Shown<'_> {
+impl ListedCells for Shown<'_> {
     ghost values = { λ s. shown_at (kept_by s.kept.now) };
 
     fn value(&self, at: Place) -> &Scalar {
@@ -84,7 +84,7 @@ fn nonempty<'a>(alloc: Global, cells: &[(Place, &'a Scalar)]) -> Result<Vec<&'a 
 
 // What a formula sees: kept values, the names that it reads, kept summaries, and the day.
 #[derive(Drop)]
-pub(crate) struct Seen<'a> {
+pub(crate) struct FormulaSight<'a> {
     shown: Shown<'a>,
     names: &'a [ReadName],
     ranges: Ranges,
@@ -94,7 +94,7 @@ pub(crate) struct Seen<'a> {
     ghost right: { AreFolds (shown_at (kept_by shown.kept.now)) (table_of ranges).kept },
 }
 
-impl<'a> Seen<'a> {
+impl<'a> FormulaSight<'a> {
     // By these values, where each summary is that of its block's cells.
     pub(crate) fn new(
         alloc: Global,
@@ -102,13 +102,13 @@ impl<'a> Seen<'a> {
         names: &'a [ReadName],
         ranges: Ranges,
         day: i32,
-    ) -> Seen<'a>
+    ) -> FormulaSight<'a>
         requires { AreFolds (shown_at (kept_by kept.now)) (table_of ranges).kept }
         ensures kept { result.shown.kept.now ≡ kept.now }
         ensures names { result.names.now ≡ names.now }
         ensures day { result.day ≡ day }
     {
-        Seen {
+        FormulaSight {
             shown: Shown::by(alloc, kept),
             names,
             ranges,
@@ -124,7 +124,7 @@ impl<'a> Seen<'a> {
     }
 }
 
-impl View for Seen<'_> {
+impl View for FormulaSight<'_> {
     ghost world = { λ seen. world_in (kept_by seen.shown.kept.now) seen.names.now seen.day };
 
     fn scalar(&self, at: Place) -> &Scalar {

@@ -10,7 +10,7 @@ use std::alloc::AllocError;
 
 /// What a workbook has at a node.
 #[derive(Drop)]
-pub enum Given {
+pub enum NodeContent {
     /// An empty cell, or a name that it doesn't know.
     Nothing,
     /// A cell without a tree, which shows this.
@@ -33,7 +33,7 @@ pub trait Trees {
     ghost laws: { IsOrder leaves };
 
     /// What stands at the place or name; at a range nothing. A formula that can't be read is the value `#ERROR!`.
-    fn given(&mut self, a: Node) -> Result<Given, AllocError>
+    fn given(&mut self, a: Node) -> Result<NodeContent, AllocError>
         ensures given { IfOk result (IsGiven (workbook self.old) (words self.old) a) }
         ensures leaves { workbook self.new ≡ workbook self.old }
         ensures words { words self.new ≡ words self.old }

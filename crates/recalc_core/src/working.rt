@@ -13,8 +13,8 @@ ghost use Rattle.recalc_core.specs.internal.UnderWay.{DifferWithin, DiffersAt, I
 
 use crate::names::read_names;
 use crate::recalc::Recalc;
-use crate::seen::Seen;
-use crate::trees::{Given, Trees};
+use crate::seen::FormulaSight;
+use crate::trees::{NodeContent, Trees};
 use calc_eval::{Customs, eval};
 use cell_value::Scalar;
 use dep_graph::Node;
@@ -72,7 +72,7 @@ impl Recalc {
         let names = read_names(self.alloc, trees, tree, home.sheet())?;
         let none = Ranges::new(self.alloc)?;
         let ranges = mem::replace(&mut self.ranges, none);
-        let mut seen = Seen::new(self.alloc, &self.kept, &names, ranges, day);
+        let mut seen = FormulaSight::new(self.alloc, &self.kept, &names, ranges, day);
         let value = eval(self.alloc, tree, home, &mut seen, customs, steps);
         self.ranges = seen.into_ranges();
         value
@@ -98,9 +98,9 @@ impl Recalc {
         ensures reads { T.leaves trees.old trees.new }
     {
         match trees.given(a)? {
-            Given::Nothing => self.settle(a, None),
-            Given::Value(value) => self.settle(a, Some(value)),
-            Given::Formula(tree, home) => {
+            NodeContent::Nothing => self.settle(a, None),
+            NodeContent::Value(value) => self.settle(a, Some(value)),
+            NodeContent::Formula(tree, home) => {
                 let value = self.formula_value(trees, &tree, home, customs, day, steps)?;
                 self.settle(a, Some(value))
             }

@@ -12,19 +12,19 @@ use Rattle.run_inputs.specs.Outcome.{Outcome, ended, or_end}
 use Rattle.run_inputs.specs.declared.ending.Ending.{Ending}
 use Rattle.run_inputs.specs.declared.ending.Ending.TheVariants as ending
 use Rattle.sheet_cli.specs.Run.{fault_line, outcome_said, script_outcome}
-use Rattle.sheet_cli.specs.declared.ending.Stop.{Stop}
-use Rattle.sheet_cli.specs.declared.ending.Stop.TheVariants as stop
+use Rattle.sheet_cli.specs.declared.ending.EarlyEnd.{EarlyEnd}
+use Rattle.sheet_cli.specs.declared.ending.EarlyEnd.TheVariants as stop
 use Rattle.sheet_cli.specs.internal.Ends.{EndPrinted, Printed, PrintedLine, Runs}
 use Rattle.sheet_cli.proofs.Outcomes.{part-longer}
 
 -- a line that a run was stopped in is a part of what it ends with
-pub printed_line : (X : Type 0) (line : List ℕ) (status : ℕ) (old new : Option (List ℕ)) (s : Stop) → PrintedLine line old new {X = X} (Err s) → Printed (line, status) old new (Err s)
+pub printed_line : (X : Type 0) (line : List ℕ) (status : ℕ) (old new : Option (List ℕ)) (s : EarlyEnd) → PrintedLine line old new {X = X} (Err s) → Printed (line, status) old new (Err s)
 printed_line X line status old new stop.ReadFault printed = absurd printed
 printed_line X line status old new stop.WriteFault printed = printed
 printed_line X line status old new stop.NoMemory printed = printed
 
 -- and so is the line of a fault in reading
-pub printed_fault : (X : Type 0) (old new : Option (List ℕ)) (s : Stop) → PrintedLine fault_line old new {X = X} (Err s) → EndPrinted ending.ReadFault old new (Err s)
+pub printed_fault : (X : Type 0) (old new : Option (List ℕ)) (s : EarlyEnd) → PrintedLine fault_line old new {X = X} (Err s) → EndPrinted ending.ReadFault old new (Err s)
 printed_fault X old new stop.ReadFault printed = absurd printed
 printed_fault X old new stop.WriteFault printed = printed
 printed_fault X old new stop.NoMemory printed = printed
@@ -36,14 +36,14 @@ SaysEnd ending.ReadFault o = ⊤
 SaysEnd ending.NoMemory o = ⊤
 
 -- what was printed is what the run is told to print
-pub printed_runs : (told : Option Told) (f : Told → Outcome) (Faulty : Type 0) (o : Outcome) (old new : Option (List ℕ)) (r : Result ℕ Stop) → ((t : Told) → told ≡ Some t → f t ≡ o) → Printed o old new r → Runs told f Faulty old new r
+pub printed_runs : (told : Option Told) (f : Told → Outcome) (Faulty : Type 0) (o : Outcome) (old new : Option (List ℕ)) (r : Result ℕ EarlyEnd) → ((t : Told) → told ≡ Some t → f t ≡ o) → Printed o old new r → Runs told f Faulty old new r
 printed_runs told f Faulty o old new (Ok status) same printed = λ t is. rw (same t is) printed
 printed_runs told f Faulty o old new (Err stop.ReadFault) same printed = absurd printed
 printed_runs told f Faulty o old new (Err stop.WriteFault) same printed = λ t is. inl (rw (same t is) printed)
 printed_runs told f Faulty o old new (Err stop.NoMemory) same printed = λ t is. inl (rw (same t is) printed)
 
 -- where what a run is told to print is the same
-pub runs_alike : (told : Option Told) (f h : Told → Outcome) (Faulty : Type 0) (old new : Option (List ℕ)) (r : Result ℕ Stop) → ((t : Told) → f t ≡ h t) → Runs told h Faulty old new r → Runs told f Faulty old new r
+pub runs_alike : (told : Option Told) (f h : Told → Outcome) (Faulty : Type 0) (old new : Option (List ℕ)) (r : Result ℕ EarlyEnd) → ((t : Told) → f t ≡ h t) → Runs told h Faulty old new r → Runs told f Faulty old new r
 runs_alike told f h Faulty old new (Ok status) same runs = λ t is. rw (same t) (runs t is)
 runs_alike told f h Faulty old new (Err stop.ReadFault) same runs = runs
 runs_alike told f h Faulty old new (Err stop.WriteFault) same runs = λ t is. elim (runs t is) [ inl part ↦ inl (rw (same t) part) | inr fault ↦ inr fault ]
@@ -54,7 +54,7 @@ pub rose_later : (a b c : ℕ) → a ≤ b → Rose b c → Rose a c
 rose_later a b c later rose = omega arith
 
 -- how a run ends before its first reply is what it is told to print, or the line of a fault in reading
-pub end_runs : (told : Option Told) (f : Told → Outcome) (Faulty : Type 0) (e : Ending) (old new : Option (List ℕ)) (r : Result ℕ Stop) → ((t : Told) → told ≡ Some t → SaysEnd e (f t)) → (e ≡ ending.ReadFault → Faulty) → EndPrinted e old new r → Runs told f Faulty old new r
+pub end_runs : (told : Option Told) (f : Told → Outcome) (Faulty : Type 0) (e : Ending) (old new : Option (List ℕ)) (r : Result ℕ EarlyEnd) → ((t : Told) → told ≡ Some t → SaysEnd e (f t)) → (e ≡ ending.ReadFault → Faulty) → EndPrinted e old new r → Runs told f Faulty old new r
 end_runs told f Faulty (ending.Says text status) old new r says faulty printed = printed_runs told f Faulty (ended status (string_bytes text)) old new r says printed
 end_runs told f Faulty ending.ReadFault old new (Ok status) says faulty printed = absurd printed
 end_runs told f Faulty ending.ReadFault old new (Err stop.ReadFault) says faulty printed = (faulty refl, printed)

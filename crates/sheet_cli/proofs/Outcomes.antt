@@ -19,8 +19,8 @@ use Rattle.script_lang.specs.Command.{command_in, version_after}
 use Rattle.script_lang.specs.declared.error.ScriptError.{ScriptError}
 use Rattle.sheet_cli.specs.Answering.{outcome_from, record_outcome}
 use Rattle.run_inputs.specs.Outcome.{Outcome, followed_by}
-use Rattle.sheet_cli.specs.declared.ending.Stop.{Stop}
-use Rattle.sheet_cli.specs.declared.ending.Stop.TheVariants as stop
+use Rattle.sheet_cli.specs.declared.ending.EarlyEnd.{EarlyEnd}
+use Rattle.sheet_cli.specs.declared.ending.EarlyEnd.TheVariants as stop
 use Rattle.sheet_cli.specs.internal.Answers.{AnswersPart, AnswersRecord, PartOfCommand, version_behind}
 use Rattle.sheet_cli.specs.internal.Ends.{Printed, PrintedLine}
 
@@ -168,7 +168,7 @@ pub so_far : {C : Type 0} {G : Ghosts C} (customs : C → List (List ℕ × Rule
 so_far customs strict version old now engine k left whole (d, (stands, written, status)) = completes-so_far old now (outcome_from strict version d k left).0 whole.0 written
 
 -- a part was printed before a run was stopped, though not by a fault in reading
-pub stopped : (o : Outcome) (old new : Option (List ℕ)) (s : Stop) → (s ≡ stop.ReadFault → ⊥) → AppendsPart old new o.0 → Printed o old new (Err s)
+pub stopped : (o : Outcome) (old new : Option (List ℕ)) (s : EarlyEnd) → (s ≡ stop.ReadFault → ⊥) → AppendsPart old new o.0 → Printed o old new (Err s)
 stopped o old new stop.ReadFault other part = absurd (other refl)
 stopped o old new stop.WriteFault other part = part
 stopped o old new stop.NoMemory other part = part
@@ -190,12 +190,12 @@ wrote_part (Some xs) None bytes r write.NoMemory is part none = absurd (none is)
 wrote_part (Some xs) (Some ys) bytes r write.NoMemory is part none = (0, none is ∙ sym (append-nil xs))
 
 -- what was written of a line before a run was stopped
-pub line_part : (X : Type 0) (line : List ℕ) (old new : Option (List ℕ)) (s : Stop) → PrintedLine line old new {X = X} (Err s) → AppendsPart old new line
+pub line_part : (X : Type 0) (line : List ℕ) (old new : Option (List ℕ)) (s : EarlyEnd) → PrintedLine line old new {X = X} (Err s) → AppendsPart old new line
 line_part X line old new stop.ReadFault printed = absurd printed
 line_part X line old new stop.WriteFault printed = printed
 line_part X line old new stop.NoMemory printed = printed
 
 -- want of memory stopped a run, of which a part was printed
-pub no_memory : (o : Outcome) (old new : Option (List ℕ)) (r : Result ℕ Stop) → IsErrAnd r (λ e. e ≡ stop.NoMemory) → AppendsPart old new o.0 → Printed o old new r
+pub no_memory : (o : Outcome) (old new : Option (List ℕ)) (r : Result ℕ EarlyEnd) → IsErrAnd r (λ e. e ≡ stop.NoMemory) → AppendsPart old new o.0 → Printed o old new r
 no_memory o old new (Ok status) is part = absurd is
 no_memory o old new (Err e) is part = stopped o old new e (λ fault. cc) part

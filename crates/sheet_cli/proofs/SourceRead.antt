@@ -14,7 +14,7 @@ use Rattle.run_inputs.specs.Outcome.{Outcome, too_long}
 use Rattle.run_inputs.specs.declared.ending.Ending.{Ending}
 use Rattle.run_inputs.specs.declared.ending.Ending.TheVariants as ending
 use Rattle.sheet_cli.specs.Run.{Leaves, WasRead, reads_source, source_left}
-use Rattle.sheet_cli.specs.declared.ending.Stop.{Stop}
+use Rattle.sheet_cli.specs.declared.ending.EarlyEnd.{EarlyEnd}
 use Rattle.sheet_cli.specs.internal.Ends.{EndPrinted, EndsScript, Reads}
 use Rattle.sheet_cli.proofs.Endings.{end_status, told_parts}
 
@@ -42,16 +42,16 @@ unread said status None never = tt
 unread said status (Some bytes) never = (λ reads ends. absurd (never reads ends), λ reads. refl, λ is. refl, λ is. inl refl)
 
 -- the run's end came before its script
-pub books_unread : (X : Type 0) (said : Said) (e : Ending) (old new source : Option (List ℕ)) (r : Result ℕ Stop) → EndsOpening {X = X} (Err e) → EndPrinted e old new r → Reads (Some said) source source r
+pub books_unread : (X : Type 0) (said : Said) (e : Ending) (old new source : Option (List ℕ)) (r : Result ℕ EarlyEnd) → EndsOpening {X = X} (Err e) → EndPrinted e old new r → Reads (Some said) source source r
 books_unread X said e old new source (Ok status) ends printed = unread said status source (λ reads is. apart status (end_status X e old new status ends printed) is)
 books_unread X said e old new source (Err s) ends printed = λ reads. refl
 
 -- a generated list was executed
-pub generated_unread : (said : Said) (source : Option (List ℕ)) (r : Result ℕ Stop) → reads_source (Some said) ≡ false → Reads (Some said) source source r
+pub generated_unread : (said : Said) (source : Option (List ℕ)) (r : Result ℕ EarlyEnd) → reads_source (Some said) ≡ false → Reads (Some said) source source r
 generated_unread said source (Ok status) never = unread said status source (λ reads is. cc)
 generated_unread said source (Err s) never = λ reads. refl
 
-pub generated_leave : (said : Said) (files : Option Files) (source : Option (List ℕ)) (r : Result ℕ Stop) → reads_source (Some said) ≡ false → OnOk r (Leaves (told_by files source) (source_left (Some said)) source)
+pub generated_leave : (said : Said) (files : Option Files) (source : Option (List ℕ)) (r : Result ℕ EarlyEnd) → reads_source (Some said) ≡ false → OnOk r (Leaves (told_by files source) (source_left (Some said)) source)
 generated_leave said files source (Ok status) never = λ t is. rw never (told_parts files source t is).1
 generated_leave said files source (Err s) never = tt
 
@@ -73,7 +73,7 @@ all_read bytes None consumed end = absurd consumed.1
 all_read bytes (Some left) consumed end = ap (λ (zs : List ℕ). Some zs) end
 
 -- the run's end came at its script
-pub script_unread : (X : Type 0) (said : Said) (script : Option (List ℕ)) (e : Ending) (old new before after : Option (List ℕ)) (r : Result ℕ Stop) → reads_source (Some said) ≡ is_none script → TakesScript {X = X} script (Err e) before after → EndsOpening {X = X} (Err e) → EndPrinted e old new r
+pub script_unread : (X : Type 0) (said : Said) (script : Option (List ℕ)) (e : Ending) (old new before after : Option (List ℕ)) (r : Result ℕ EarlyEnd) → reads_source (Some said) ≡ is_none script → TakesScript {X = X} script (Err e) before after → EndsOpening {X = X} (Err e) → EndPrinted e old new r
     → Reads (Some said) before after r
 script_unread X said (Some file) e old new before after (Ok status) reads took ends printed = rw took (unread said status before (λ r is. apart status (end_status X e old new status ends printed) is))
 script_unread X said (Some file) e old new before after (Err s) reads took ends printed = λ never. took
@@ -86,7 +86,7 @@ script_unread X said None ending.NoMemory old new before after (Ok status) reads
 script_unread X said None e old new before after (Err s) reads took ends printed = λ never. cc
 
 -- the script was read
-pub script_read : {X : Type 0} (said : Said) (script : Option (List ℕ)) (x : X) (before after : Option (List ℕ)) (r : Result ℕ Stop) → reads_source (Some said) ≡ is_none script → TakesScript script (Ok x) before after → EndsScript r → Reads (Some said) before after r
+pub script_read : {X : Type 0} (said : Said) (script : Option (List ℕ)) (x : X) (before after : Option (List ℕ)) (r : Result ℕ EarlyEnd) → reads_source (Some said) ≡ is_none script → TakesScript script (Ok x) before after → EndsScript r → Reads (Some said) before after r
 script_read said (Some file) x before after (Ok status) reads took ends = rw took (unread said status before (λ r is. cc))
 script_read said (Some file) x before after (Err s) reads took ends = λ never. took
 script_read said None x None after (Ok status) reads took ends = tt
@@ -95,7 +95,7 @@ script_read said None x (Some bytes) after (Ok status) reads took ends =
 script_read said None x before after (Err s) reads took ends = λ never. cc
 
 -- what is left where the books came to the run's end
-pub books_leave : {X : Type 0} (said : Said) (seen : X → List GivenSheet) (e : Ending) (files : Option Files) (source old new : Option (List ℕ)) (r : Result ℕ Stop) → ((told : Files) → files ≡ Some told → ComesTo seen (sheets_told told said.books) (Err e)) → EndPrinted e old new r
+pub books_leave : {X : Type 0} (said : Said) (seen : X → List GivenSheet) (e : Ending) (files : Option Files) (source old new : Option (List ℕ)) (r : Result ℕ EarlyEnd) → ((told : Files) → files ≡ Some told → ComesTo seen (sheets_told told said.books) (Err e)) → EndPrinted e old new r
     → OnOk r (Leaves (told_by files source) (source_left (Some said)) source)
 books_leave said seen (ending.Says text s) files source old new (Ok status) opens printed = λ t is.
     let parts = told_parts files source t is in
@@ -111,7 +111,7 @@ left_is : (said : Said) (sheets : List GivenSheet) (script : Option (List ℕ)) 
 left_is said sheets script t after reads books is = rw (reads, books, and-true (is_none script)) is
 
 -- and where the script came to the run's end
-pub script_end_leave : (X : Type 0) (said : Said) (sheets : List GivenSheet) (e : Ending) (files : Option Files) (old new before after : Option (List ℕ)) (r : Result ℕ Stop) → (script : Option (List ℕ)) → reads_source (Some said) ≡ is_none script
+pub script_end_leave : (X : Type 0) (said : Said) (sheets : List GivenSheet) (e : Ending) (files : Option Files) (old new before after : Option (List ℕ)) (r : Result ℕ EarlyEnd) → (script : Option (List ℕ)) → reads_source (Some said) ≡ is_none script
     → ((told : Files) → files ≡ Some told → sheets_told told said.books ≡ Ok sheets) → TakesScript {X = X} script (Err e) before after → EndPrinted e old new r → OnOk r (Leaves (told_by files before) (source_left (Some said)) after)
 script_end_leave X said sheets e files old new before after (Ok status) (Some file) reads books took printed = λ t is.
     let parts = told_parts files before t is in
@@ -133,7 +133,7 @@ few_left source bytes is =
     drop_all 67108865 source (omega (arith, few))
 
 -- and where the script was read
-pub script_leave : {X : Type 0} (said : Said) (sheets : List GivenSheet) (seen : X → List ℕ) (x : X) (files : Option Files) (before after : Option (List ℕ)) (r : Result ℕ Stop) → (script : Option (List ℕ)) → reads_source (Some said) ≡ is_none script
+pub script_leave : {X : Type 0} (said : Said) (sheets : List GivenSheet) (seen : X → List ℕ) (x : X) (files : Option Files) (before after : Option (List ℕ)) (r : Result ℕ EarlyEnd) → (script : Option (List ℕ)) → reads_source (Some said) ≡ is_none script
     → ((told : Files) → files ≡ Some told → sheets_told told said.books ≡ Ok sheets) → ((told : Told) → told_by files before ≡ Some told → script_told told script ≡ Ok (seen x)) → TakesScript script (Ok x) before after → OnOk r (Leaves (told_by files before) (source_left (Some said)) after)
 script_leave said sheets seen x files before after (Ok status) (Some file) reads books script took = λ t is.
     let parts = told_parts files before t is in
@@ -149,7 +149,7 @@ stops_apart : (n : ℕ) → (n ≡ 5) ⊎ (n ≡ 6) ⊎ (n ≡ 7) → ((n ≡ 0)
 stops_apart n stops = (λ is. grind arith, λ is. grind arith, λ is. grind arith)
 
 -- a run was stopped
-pub stopped_read : (said : Option Said) (n : ℕ) (s : Stop) (old new : Option (List ℕ)) → (n ≡ 5) ⊎ (n ≡ 6) ⊎ (n ≡ 7) → Reads said old new (Err s) → WasRead said n old new
+pub stopped_read : (said : Option Said) (n : ℕ) (s : EarlyEnd) (old new : Option (List ℕ)) → (n ≡ 5) ⊎ (n ≡ 6) ⊎ (n ≡ 7) → Reads said old new (Err s) → WasRead said n old new
 stopped_read said n s None new stops reads = tt
 stopped_read said n s (Some bytes) new stops reads =
     let other = stops_apart n stops in

@@ -21,7 +21,7 @@ ghost use Rattle.sheet_cli.specs.internal.Answers.{AnswersCommand, AnswersPart, 
 ghost use Rattle.sheet_cli.specs.internal.Ends.{EndsScript, Printed, PrintedLine};
 ghost use Rattle.sheet_cli.specs.internal.Tallied.{Adds, summary_of};
 
-use crate::ending::{ANSWERED, NO_COMMAND, REFUSED, Stop};
+use crate::ending::{ANSWERED, EarlyEnd, NO_COMMAND, REFUSED};
 use book_files::{Records, Sink};
 use book_model::BookSheet;
 use calc_eval::Customs;
@@ -46,12 +46,12 @@ pub(crate) fn run_script<C: Customs, O: Sink, L: Ledger>(
     day: i32,
     registry: C,
     steps: &mut Steps<L>,
-) -> Result<u8, Stop>
+) -> Result<u8, EarlyEnd>
     requires can { CanBegin (given_sheets sheets.items) }
     requires limit { said.now.undo_limit ≤ MAX_UNDO }
     requires short { length script.now ≤ MAX_INPUT }
     ensures printed { Printed (script_outcome (C.customs registry) day (seen said.now) (given_sheets sheets.items) script.now) (O.taken out.old) (O.taken out.new) result }
-    ensures write_fault { IsErrOf result Stop.WriteFault → Rose (O.faults out.old) (O.faults out.new) }
+    ensures write_fault { IsErrOf result EarlyEnd.WriteFault → Rose (O.faults out.old) (O.faults out.new) }
     ensures status { EndsScript result }
 {
     let mut session = Session::new(alloc, &sheets, said.undo_limit, registry, day)?;
@@ -67,10 +67,10 @@ fn run_records<C: Customs, O: Sink, L: Ledger>(
     script: &[u8],
     out: &mut O,
     steps: &mut Steps<L>,
-) -> Result<u8, Stop>
+) -> Result<u8, EarlyEnd>
     requires { length script.now ≤ MAX_INPUT }
     ensures printed { (d : State) → StandsFor C.customs session.old.engine d → Printed (outcome_from strict Two d 1 (records default_config (strip_bom script.now))) (O.taken out.old) (O.taken out.new) result }
-    ensures write_fault { IsErrOf result Stop.WriteFault → Rose (O.faults out.old) (O.faults out.new) }
+    ensures write_fault { IsErrOf result EarlyEnd.WriteFault → Rose (O.faults out.old) (O.faults out.new) }
     ensures status { EndsScript result }
 {
     let mut records = Records::open(alloc, script);
@@ -106,12 +106,12 @@ fn run_record<C: Customs, O: Sink, L: Ledger>(
     fields: &ByteRecord,
     out: &mut O,
     steps: &mut Steps<L>,
-) -> Result<Option<u8>, Stop>
+) -> Result<Option<u8>, EarlyEnd>
     ensures answered { IfOk result (λ end. AnswersRecord C.customs strict (command_in version.old number (fields_of fields.now)) number end session.old.engine session.new.engine (O.taken out.old) (O.taken out.new)) }
     ensures part { OnErr result (AnswersPart C.customs (command_in version.old number (fields_of fields.now)) number session.old.engine (O.taken out.old) (O.taken out.new)) }
     ensures version { IfOk result (λ _. version.new ≡ version_behind version.old (command_in version.old number (fields_of fields.now))) }
-    ensures no_read_fault { IsErrOf result Stop.ReadFault → ⊥ }
-    ensures write_fault { IsErrOf result Stop.WriteFault → Rose (O.faults out.old) (O.faults out.new) }
+    ensures no_read_fault { IsErrOf result EarlyEnd.ReadFault → ⊥ }
+    ensures write_fault { IsErrOf result EarlyEnd.WriteFault → Rose (O.faults out.old) (O.faults out.new) }
     ensures later { O.faults out.old ≤ O.faults out.new }
     ensures status { IfOk result (λ end. IfSome end (λ status. (status ≡ 1) ⊎ (status ≡ 3))) }
 {
@@ -120,7 +120,7 @@ fn run_record<C: Customs, O: Sink, L: Ledger>(
             *version = version_after(*version, &command);
             run_command(session, strict, &command, out, steps)
         }
-        Err(ScriptError::NoMemory) => Err(Stop::NoMemory),
+        Err(ScriptError::NoMemory) => Err(EarlyEnd::NoMemory),
         Err(cause) => {
             refuse_record(alloc, number, cause, out)?;
             Ok(Some(NO_COMMAND))
@@ -135,11 +135,11 @@ fn run_command<C: Customs, O: Sink, L: Ledger>(
     command: &Command,
     out: &mut O,
     steps: &mut Steps<L>,
-) -> Result<Option<u8>, Stop>
+) -> Result<Option<u8>, EarlyEnd>
     ensures answered { IfOk result (λ end. AnswersCommand C.customs strict command.now end session.old.engine session.new.engine (O.taken out.old) (O.taken out.new)) }
     ensures part { OnErr result (PartOfCommand C.customs command.now session.old.engine (O.taken out.old) (O.taken out.new)) }
-    ensures no_read_fault { IsErrOf result Stop.ReadFault → ⊥ }
-    ensures write_fault { IsErrOf result Stop.WriteFault → Rose (O.faults out.old) (O.faults out.new) }
+    ensures no_read_fault { IsErrOf result EarlyEnd.ReadFault → ⊥ }
+    ensures write_fault { IsErrOf result EarlyEnd.WriteFault → Rose (O.faults out.old) (O.faults out.new) }
     ensures later { O.faults out.old ≤ O.faults out.new }
     ensures status { IfOk result (λ end. IfSome end (λ status. status ≡ 1)) }
 {
@@ -164,9 +164,9 @@ fn refuse_record<O: Sink>(
     number: u64,
     cause: ScriptError,
     out: &mut O,
-) -> Result<(), Stop>
+) -> Result<(), EarlyEnd>
     ensures printed { PrintedLine (line_of (record_text number cause)) (O.taken out.old) (O.taken out.new) result }
-    ensures write_fault { IsErrOf result Stop.WriteFault → Rose (O.faults out.old) (O.faults out.new) }
+    ensures write_fault { IsErrOf result EarlyEnd.WriteFault → Rose (O.faults out.old) (O.faults out.new) }
     ensures later { O.faults out.old ≤ O.faults out.new }
 {
     let text = record_text(alloc, number, cause)?;
@@ -183,12 +183,12 @@ pub(crate) fn run_generated<C: Customs, O: Sink, L: Ledger>(
     day: i32,
     registry: C,
     steps: &mut Steps<L>,
-) -> Result<u8, Stop>
+) -> Result<u8, EarlyEnd>
     requires least { 1 ≤ size }
     requires most { size ≤ MAX_SIZE }
     requires limit { said.now.undo_limit ≤ MAX_UNDO }
     ensures printed { Printed (generated_outcome (C.customs registry) day (seen said.now) size) (O.taken out.old) (O.taken out.new) result }
-    ensures write_fault { IsErrOf result Stop.WriteFault → Rose (O.faults out.old) (O.faults out.new) }
+    ensures write_fault { IsErrOf result EarlyEnd.WriteFault → Rose (O.faults out.old) (O.faults out.new) }
     ensures status { EndsScript result }
 {
     let commands = generate(alloc, size)?;
@@ -205,9 +205,9 @@ fn run_commands<C: Customs, O: Sink, L: Ledger>(
     commands: &[Command],
     out: &mut O,
     steps: &mut Steps<L>,
-) -> Result<u8, Stop>
+) -> Result<u8, EarlyEnd>
     ensures printed { (d : State) → StandsFor C.customs session.old.engine d → Printed (summary_outcome strict (answers_from d commands.now)) (O.taken out.old) (O.taken out.new) result }
-    ensures write_fault { IsErrOf result Stop.WriteFault → Rose (O.faults out.old) (O.faults out.new) }
+    ensures write_fault { IsErrOf result EarlyEnd.WriteFault → Rose (O.faults out.old) (O.faults out.new) }
     ensures status { EndsScript result }
 {
     let mut tally = Tally::none();
@@ -280,9 +280,9 @@ fn sum(a: u64, b: u64) -> Result<u64, AllocError>
 }
 
 /// Writes the line of a text.
-pub(crate) fn print<O: Sink>(alloc: Global, out: &mut O, text: &str) -> Result<(), Stop>
+pub(crate) fn print<O: Sink>(alloc: Global, out: &mut O, text: &str) -> Result<(), EarlyEnd>
     ensures printed { PrintedLine (line_of text.now) (O.taken out.old) (O.taken out.new) result }
-    ensures write_fault { IsErrOf result Stop.WriteFault → Rose (O.faults out.old) (O.faults out.new) }
+    ensures write_fault { IsErrOf result EarlyEnd.WriteFault → Rose (O.faults out.old) (O.faults out.new) }
     ensures later { O.faults out.old ≤ O.faults out.new }
 {
     let bytes = line(alloc, text)?;
@@ -295,9 +295,9 @@ pub(crate) fn print_end<O: Sink>(
     out: &mut O,
     text: &str,
     status: u8,
-) -> Result<u8, Stop>
+) -> Result<u8, EarlyEnd>
     ensures printed { Printed (ended status text.now) (O.taken out.old) (O.taken out.new) result }
-    ensures write_fault { IsErrOf result Stop.WriteFault → Rose (O.faults out.old) (O.faults out.new) }
+    ensures write_fault { IsErrOf result EarlyEnd.WriteFault → Rose (O.faults out.old) (O.faults out.new) }
     ensures status { IfOk result (λ end. end ≡ status) }
 {
     match print(alloc, out, text) {
@@ -307,9 +307,9 @@ pub(crate) fn print_end<O: Sink>(
 }
 
 // Writes the last bytes of a run that ends with this status.
-fn print_last<O: Sink>(out: &mut O, bytes: &[u8], status: u8) -> Result<u8, Stop>
+fn print_last<O: Sink>(out: &mut O, bytes: &[u8], status: u8) -> Result<u8, EarlyEnd>
     ensures printed { Printed (bytes.now, status) (O.taken out.old) (O.taken out.new) result }
-    ensures write_fault { IsErrOf result Stop.WriteFault → Rose (O.faults out.old) (O.faults out.new) }
+    ensures write_fault { IsErrOf result EarlyEnd.WriteFault → Rose (O.faults out.old) (O.faults out.new) }
     ensures status { IfOk result (λ end. end ≡ status) }
 {
     match write(out, bytes) {
@@ -319,9 +319,9 @@ fn print_last<O: Sink>(out: &mut O, bytes: &[u8], status: u8) -> Result<u8, Stop
 }
 
 // Writes bytes.
-fn write<O: Sink>(out: &mut O, bytes: &[u8]) -> Result<(), Stop>
+fn write<O: Sink>(out: &mut O, bytes: &[u8]) -> Result<(), EarlyEnd>
     ensures printed { PrintedLine bytes.now (O.taken out.old) (O.taken out.new) result }
-    ensures write_fault { IsErrOf result Stop.WriteFault → Rose (O.faults out.old) (O.faults out.new) }
+    ensures write_fault { IsErrOf result EarlyEnd.WriteFault → Rose (O.faults out.old) (O.faults out.new) }
     ensures later { O.faults out.old ≤ O.faults out.new }
 {
     out.write(bytes)?;

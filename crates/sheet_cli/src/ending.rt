@@ -27,31 +27,31 @@ pub const NO_MEMORY: u8 = 7;
 
 /// Why a run ends before its output is whole.
 #[derive(Clone, Copy, PartialEq, Eq, Debug)]
-pub enum Stop {
+pub enum EarlyEnd {
     ReadFault,
     WriteFault,
     NoMemory,
 }
 
-impl From<AllocError> for Stop {
-    ghost use Rattle.sheet_cli.specs.declared.ending.Stop.TheVariants as stop;
+impl From<AllocError> for EarlyEnd {
+    ghost use Rattle.sheet_cli.specs.declared.ending.EarlyEnd.TheVariants as stop;
 
     ghost from_gives = { λ _ e. e ≡ stop.NoMemory };
 
-    fn from(_: AllocError) -> Stop {
-        Stop::NoMemory
+    fn from(_: AllocError) -> EarlyEnd {
+        EarlyEnd::NoMemory
     }
 }
 
-impl From<WriteError> for Stop {
+impl From<WriteError> for EarlyEnd {
     ghost use Rattle.sheet_cli.specs.internal.Answers.{stop_of_write};
 
     ghost from_gives = { λ e stop. stop ≡ stop_of_write e };
 
-    fn from(error: WriteError) -> Stop {
+    fn from(error: WriteError) -> EarlyEnd {
         match error {
-            WriteError::Failed => Stop::WriteFault,
-            WriteError::NoMemory => Stop::NoMemory,
+            WriteError::Failed => EarlyEnd::WriteFault,
+            WriteError::NoMemory => EarlyEnd::NoMemory,
         }
     }
 }

@@ -8,7 +8,7 @@ ghost use Rattle.sheet_cli.specs.Run.{IsEndStatus, IsStatus, Leaves, Prints, Pri
 ghost use Rattle.sheet_cli.specs.internal.Ends.{EndPrinted, IsSaidStatus, Reads, Runs};
 
 use crate::answering::{print, print_end, run_generated, run_script};
-use crate::ending::{NO_MEMORY, READ_FAULT, Stop, WRITE_FAULT, WRONG_WORDS};
+use crate::ending::{EarlyEnd, NO_MEMORY, READ_FAULT, WRITE_FAULT, WRONG_WORDS};
 use book_files::{Folder, Sink, Source};
 use calc_eval::Customs;
 use command_words::{Words, WordsError, words as read_words};
@@ -74,9 +74,9 @@ pub fn run<C: Customs, F: Folder, I: Source, O: Sink, L: Ledger>(
 {
     match run_to_end(alloc, words, folder, input, out, day, registry, steps) {
         Ok(status) => status,
-        Err(Stop::ReadFault) => READ_FAULT,
-        Err(Stop::WriteFault) => WRITE_FAULT,
-        Err(Stop::NoMemory) => NO_MEMORY,
+        Err(EarlyEnd::ReadFault) => READ_FAULT,
+        Err(EarlyEnd::WriteFault) => WRITE_FAULT,
+        Err(EarlyEnd::NoMemory) => NO_MEMORY,
     }
 }
 
@@ -90,11 +90,11 @@ fn run_to_end<C: Customs, F: Folder, I: Source, O: Sink, L: Ledger>(
     day: i32,
     registry: C,
     steps: &mut Steps<L>,
-) -> Result<u8, Stop>
+) -> Result<u8, EarlyEnd>
     ensures runs { Runs (told_by (F.files folder.old) (I.left input.old)) (outcome (C.customs registry) day (map string_bytes words.now)) (Rose (F.faults folder.old) (F.faults folder.new) ⊎ Rose (I.faults input.old) (I.faults input.new)) (O.taken out.old) (O.taken out.new) result }
     ensures usage { IfOk result (λ status. (status ≡ 2) ↔ (meaning (map string_bytes words.now) ≡ None)) }
-    ensures known { IsErrOf result Stop.ReadFault → meaning (map string_bytes words.now) ≢ None }
-    ensures write_fault { IsErrOf result Stop.WriteFault → Rose (O.faults out.old) (O.faults out.new) }
+    ensures known { IsErrOf result EarlyEnd.ReadFault → meaning (map string_bytes words.now) ≢ None }
+    ensures write_fault { IsErrOf result EarlyEnd.WriteFault → Rose (O.faults out.old) (O.faults out.new) }
     ensures source { Reads (meaning (map string_bytes words.now)) (I.left input.old) (I.left input.new) result }
     ensures left { OnOk result (Leaves (told_by (F.files folder.old) (I.left input.old)) (source_left (meaning (map string_bytes words.now))) (I.left input.new)) }
     ensures files { F.files folder.new ≡ F.files folder.old }
@@ -103,7 +103,7 @@ fn run_to_end<C: Customs, F: Folder, I: Source, O: Sink, L: Ledger>(
     match read_words(alloc, words) {
         Ok(said) => run_said(alloc, &said, folder, input, out, day, registry, steps),
         Err(WordsError::Usage) => print_end(alloc, out, USAGE, WRONG_WORDS),
-        Err(WordsError::NoMemory) => Err(Stop::NoMemory),
+        Err(WordsError::NoMemory) => Err(EarlyEnd::NoMemory),
     }
 }
 
@@ -117,10 +117,10 @@ fn run_said<C: Customs, F: Folder, I: Source, O: Sink, L: Ledger>(
     day: i32,
     registry: C,
     steps: &mut Steps<L>,
-) -> Result<u8, Stop>
+) -> Result<u8, EarlyEnd>
     requires { IsInRange (seen said.now) }
     ensures runs { Runs (told_by (F.files folder.old) (I.left input.old)) (outcome_meant (C.customs registry) day (Some (seen said.now))) (Rose (F.faults folder.old) (F.faults folder.new) ⊎ Rose (I.faults input.old) (I.faults input.new)) (O.taken out.old) (O.taken out.new) result }
-    ensures write_fault { IsErrOf result Stop.WriteFault → Rose (O.faults out.old) (O.faults out.new) }
+    ensures write_fault { IsErrOf result EarlyEnd.WriteFault → Rose (O.faults out.old) (O.faults out.new) }
     ensures source { Reads (Some (seen said.now)) (I.left input.old) (I.left input.new) result }
     ensures left { OnOk result (Leaves (told_by (F.files folder.old) (I.left input.old)) (source_left (Some (seen said.now))) (I.left input.new)) }
     ensures files { F.files folder.new ≡ F.files folder.old }
@@ -142,11 +142,11 @@ fn run_told<C: Customs, F: Folder, I: Source, O: Sink, L: Ledger>(
     day: i32,
     registry: C,
     steps: &mut Steps<L>,
-) -> Result<u8, Stop>
+) -> Result<u8, EarlyEnd>
     requires range { IsInRange (seen said.now) }
     requires script { said.now.generate ≡ None }
     ensures runs { Runs (told_by (F.files folder.old) (I.left input.old)) (outcome_said (C.customs registry) day None (seen said.now)) (Rose (F.faults folder.old) (F.faults folder.new) ⊎ Rose (I.faults input.old) (I.faults input.new)) (O.taken out.old) (O.taken out.new) result }
-    ensures write_fault { IsErrOf result Stop.WriteFault → Rose (O.faults out.old) (O.faults out.new) }
+    ensures write_fault { IsErrOf result EarlyEnd.WriteFault → Rose (O.faults out.old) (O.faults out.new) }
     ensures source { Reads (Some (seen said.now)) (I.left input.old) (I.left input.new) result }
     ensures left { OnOk result (Leaves (told_by (F.files folder.old) (I.left input.old)) (source_left (Some (seen said.now))) (I.left input.new)) }
     ensures files { F.files folder.new ≡ F.files folder.old }
@@ -162,16 +162,16 @@ fn run_told<C: Customs, F: Folder, I: Source, O: Sink, L: Ledger>(
 }
 
 // Says how a run ends before its first reply.
-fn end<O: Sink>(alloc: Global, out: &mut O, ending: Ending) -> Result<u8, Stop>
+fn end<O: Sink>(alloc: Global, out: &mut O, ending: Ending) -> Result<u8, EarlyEnd>
     ensures printed { EndPrinted ending (O.taken out.old) (O.taken out.new) result }
-    ensures write_fault { IsErrOf result Stop.WriteFault → Rose (O.faults out.old) (O.faults out.new) }
+    ensures write_fault { IsErrOf result EarlyEnd.WriteFault → Rose (O.faults out.old) (O.faults out.new) }
 {
     match ending {
         Ending::Says(text, status) => print_end(alloc, out, text.as_str(), status),
         Ending::ReadFault => match print(alloc, out, "read fault") {
-            Ok(()) => Err(Stop::ReadFault),
+            Ok(()) => Err(EarlyEnd::ReadFault),
             Err(stop) => Err(stop),
         },
-        Ending::NoMemory => Err(Stop::NoMemory),
+        Ending::NoMemory => Err(EarlyEnd::NoMemory),
     }
 }

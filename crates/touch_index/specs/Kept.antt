@@ -10,7 +10,7 @@ use Rattle.cell_addr.specs.declared.place.Place.{Place}
 use Rattle.needs_order.specs.Needs.{has}
 use Rattle.place_lines.specs.Spots.{number_of, spot_of, table_along}
 use Rattle.place_lines.specs.declared.lines.PlaceLines.{PlaceLines}
-use Rattle.place_lines.specs.declared.spot.Spot.{Spot}
+use Rattle.place_lines.specs.declared.spot.LineSpot.{LineSpot}
 use Rattle.shift_core.specs.Carried.{first_place}
 use Rattle.shift_core.specs.declared.form.Form.{Form}
 use Rattle.touch_index.specs.Touched.{TouchesBlock, TouchesCell}
@@ -18,11 +18,11 @@ use Rattle.touch_index.specs.declared.index.TouchIndex.{TouchIndex}
 use Rattle.touch_index.specs.internal.Points.{has_point}
 
 -- a cell at the spot is kept under the number
-abbrev pub keeps_cell : TouchIndex → Spot → ℕ → Bool
+abbrev pub keeps_cell : TouchIndex → LineSpot → ℕ → Bool
 keeps_cell x spot n = has_point x.cells spot n
 
 -- a block that begins at the spot is kept under the number
-abbrev pub begins_at : TouchIndex → Spot → ℕ → Bool
+abbrev pub begins_at : TouchIndex → LineSpot → ℕ → Bool
 begins_at x spot n = has_point x.firsts spot n
 
 -- a block that has this line of a sheet, but not as its first, is kept under the number
@@ -47,8 +47,8 @@ KeepsBlock x lines b n = IsTrue (begins_at x (spot_of lines (first_place b)) n) 
 -- what was kept is kept still
 abbrev pub Grows : TouchIndex → TouchIndex → Type 0
 Grows old new =
-    ((spot : Spot) (n : ℕ) → IsTrue (keeps_cell old spot n) → IsTrue (keeps_cell new spot n))
-    × ((spot : Spot) (n : ℕ) → IsTrue (begins_at old spot n) → IsTrue (begins_at new spot n))
+    ((spot : LineSpot) (n : ℕ) → IsTrue (keeps_cell old spot n) → IsTrue (keeps_cell new spot n))
+    × ((spot : LineSpot) (n : ℕ) → IsTrue (begins_at old spot n) → IsTrue (begins_at new spot n))
     × ((axis : Axis) (sheet line n : ℕ) → IsTrue (goes_on axis old sheet line n) → IsTrue (goes_on axis new sheet line n))
 
 -- each kept cell of the sheet that an operation touches is among the numbers

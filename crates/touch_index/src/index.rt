@@ -4,7 +4,7 @@ ghost use Rattle.cell_addr.specs.Place.{IsBlockInside};
 ghost use Rattle.cell_addr.specs.declared.axis.Axis.{Axis};
 ghost use Rattle.cell_addr.specs.declared.place.Block.{Block};
 ghost use Rattle.place_lines.specs.Spots.{number_of, spot_of, table_along};
-ghost use Rattle.place_lines.specs.declared.spot.Spot.{Spot};
+ghost use Rattle.place_lines.specs.declared.spot.LineSpot.{LineSpot};
 ghost use Rattle.shift_core.specs.Form.{IsWithin};
 ghost use Rattle.touch_index.specs.internal.Points.{FilesRuns, FindsStill};
 
@@ -49,8 +49,8 @@ impl TouchIndex {
 
     /// Nothing is kept.
     pub fn new(alloc: Global) -> TouchIndex
-        ensures cells { (spot : Spot) (n : ℕ) → keeps_cell result spot n ≡ false }
-        ensures blocks { (spot : Spot) (n : ℕ) → begins_at result spot n ≡ false }
+        ensures cells { (spot : LineSpot) (n : ℕ) → keeps_cell result spot n ≡ false }
+        ensures blocks { (spot : LineSpot) (n : ℕ) → begins_at result spot n ≡ false }
     {
         TouchIndex {
             alloc,

@@ -4,14 +4,14 @@ ghost use Rattle.std.specs.BTreeMap.Range.{IsLeBy};
 ghost use Rattle.std.specs.BTreeSet.{contains};
 ghost use Rattle.cell_addr.specs.declared.axis.Axis.{Axis};
 ghost use Rattle.place_lines.specs.Spots.{in_runs};
-ghost use Rattle.place_lines.specs.declared.spot.Spot.{Spot};
+ghost use Rattle.place_lines.specs.declared.spot.LineSpot.{LineSpot};
 ghost use Rattle.needs_order.specs.Needs.{has};
 ghost use Rattle.touch_index.specs.declared.point.Point.{Point};
 ghost use Rattle.touch_index.specs.internal.Points.{StillFound, has_point, is_between, line_in, line_over, point_along, point_cmp};
 
 use crate::point::Point;
 use cell_addr::Axis;
-use place_lines::Spot;
+use place_lines::LineSpot;
 use std::alloc::{AllocError, Global};
 use std::collections::BTreeSet;
 use std::ops::Range;
@@ -35,7 +35,7 @@ impl Drop for Points {
 impl Points {
     // No numbers.
     pub(crate) fn new(alloc: Global) -> Points
-        ensures { (spot : Spot) (n : ℕ) → has_point result spot n ≡ false }
+        ensures { (spot : LineSpot) (n : ℕ) → has_point result spot n ≡ false }
     {
         Points {
             by_rows: BTreeSet::new(alloc),
@@ -44,8 +44,8 @@ impl Points {
     }
 
     // Keeps the number at the spot. Where there is no memory, nothing else is kept that wasn't.
-    pub(crate) fn add(&mut self, spot: Spot, number: usize) -> Result<(), AllocError>
-        ensures grown { (at : Spot) (n : ℕ) → has_point self.old at n ≡ true → has_point self.new at n ≡ true }
+    pub(crate) fn add(&mut self, spot: LineSpot, number: usize) -> Result<(), AllocError>
+        ensures grown { (at : LineSpot) (n : ℕ) → has_point self.old at n ≡ true → has_point self.new at n ≡ true }
         ensures added { OnOk result (has_point self.new spot number ≡ true) }
     {
         self.by_rows.insert(point(spot, Axis::Rows, number))?;
@@ -55,7 +55,7 @@ impl Points {
 
     // The points in the order of their lines along the axis.
     fn along(&self, axis: Axis) -> &BTreeSet<Point>
-        ensures { (spot : Spot) (n : ℕ) → has_point self.now spot n ≡ true → contains point_cmp result.now (point_along axis spot n) ≡ true }
+        ensures { (spot : LineSpot) (n : ℕ) → has_point self.now spot n ≡ true → contains point_cmp result.now (point_along axis spot n) ≡ true }
     {
         match axis {
             Axis::Rows => &self.by_rows,
@@ -72,7 +72,7 @@ impl Points {
         runs: &[Range<u64>],
     ) -> Result<(), AllocError>
         ensures still { OnOk result (StillFound found.old.items found.new.items) }
-        ensures found { OnOk result ((spot : Spot) (n : ℕ) → has_point self.now spot n ≡ true → spot.sheet ≡ sheet → in_runs runs.now (line_in axis spot) ≡ true → has n found.new.items ≡ true) }
+        ensures found { OnOk result ((spot : LineSpot) (n : ℕ) → has_point self.now spot n ≡ true → spot.sheet ≡ sheet → in_runs runs.now (line_in axis spot) ≡ true → has n found.new.items ≡ true) }
     {
         let points = self.along(axis);
         'runs: for run in runs {
@@ -91,7 +91,7 @@ impl Points {
         others: &[Range<u64>],
     ) -> Result<(), AllocError>
         ensures still { OnOk result (StillFound found.old.items found.new.items) }
-        ensures found { OnOk result ((spot : Spot) (n : ℕ) → has_point self.now spot n ≡ true → spot.sheet ≡ sheet → in_runs runs.now (line_in axis spot) ≡ true → in_runs others.now (line_over axis spot) ≡ true → has n found.new.items ≡ true) }
+        ensures found { OnOk result ((spot : LineSpot) (n : ℕ) → has_point self.now spot n ≡ true → spot.sheet ≡ sheet → in_runs runs.now (line_in axis spot) ≡ true → in_runs others.now (line_over axis spot) ≡ true → has n found.new.items ≡ true) }
     {
         let points = self.along(axis);
         'runs: for run in runs {
@@ -102,7 +102,7 @@ impl Points {
 }
 
 // The point of a number at a spot.
-fn point(spot: Spot, axis: Axis, number: usize) -> Point
+fn point(spot: LineSpot, axis: Axis, number: usize) -> Point
     ensures { result ≡ point_along axis spot number }
 {
     match axis {

@@ -9,9 +9,9 @@ use Rattle.cell_addr.specs.Axis.{same_axis}
 use Rattle.cell_addr.specs.declared.whole.Whole as whole
 use Rattle.cell_addr.proofs.SamePlaces.{same_axis-equal, same_axis-self}
 use Rattle.place_lines.specs.Spots.{area_of, block_at, number_of, past, place_at, position_at, positions, spot_of, table_along}
-use Rattle.place_lines.specs.declared.area.Area.{Area}
+use Rattle.place_lines.specs.declared.area.LineArea.{LineArea}
 use Rattle.place_lines.specs.declared.lines.PlaceLines.{PlaceLines}
-use Rattle.place_lines.specs.declared.spot.Spot.{Spot}
+use Rattle.place_lines.specs.declared.spot.LineSpot.{LineSpot}
 use Rattle.dep_graph.specs.declared.ends.Ends.{Ends}
 use Rattle.dep_graph.specs.declared.key.Key.{Key}
 use Rattle.dep_graph.specs.declared.key.Key.TheVariants.{Cell, Name, Range, Whole}
@@ -52,10 +52,10 @@ node_of lines (Range area) = option_map node.Range (block_at lines area)
 node_of lines (Whole ends) = option_map node.Whole (whole_at lines ends)
 
 -- tests whether two are the same
-abbrev pub same_spot : Spot → Spot → Bool
+abbrev pub same_spot : LineSpot → LineSpot → Bool
 same_spot s t = s.sheet == t.sheet && (s.row == t.row && s.col == t.col)
 
-abbrev pub same_area : Area → Area → Bool
+abbrev pub same_area : LineArea → LineArea → Bool
 same_area a b = a.sheet == b.sheet && (a.top == b.top && (a.left == b.left && (a.bottom == b.bottom && a.right == b.right)))
 
 abbrev pub same_ends : Ends → Ends → Bool
@@ -96,7 +96,7 @@ AreKeysOnce keys = AllPairs (λ a b. a ≢ b) keys
 same_number : (n : ℕ) → (n == n) ≡ true
 same_number n = eq-eqb n n refl
 
-same_spots : (s t : Spot) → same_spot s t ≡ true → s ≡ t
+same_spots : (s t : LineSpot) → same_spot s t ≡ true → s ≡ t
 same_spots s t h =
     let (first, rest) = and_parts (s.sheet == t.sheet) _ h in
     let (second, third) = and_parts (s.row == t.row) (s.col == t.col) rest in
@@ -105,7 +105,7 @@ same_spots s t h =
     let col = eqb-true s.col t.col third in
     λ i. record { sheet = sheet i; row = row i; col = col i }
 
-same_areas : (a b : Area) → same_area a b ≡ true → a ≡ b
+same_areas : (a b : LineArea) → same_area a b ≡ true → a ≡ b
 same_areas a b h =
     let (first, rest) = and_parts (a.sheet == b.sheet) _ h in
     let (second, more) = and_parts (a.top == b.top) _ rest in

@@ -14,7 +14,7 @@ use Rattle.cell_addr.specs.declared.whole.Whole.{Whole}
 use Rattle.place_lines.specs.Moved.{is_known_line}
 use Rattle.place_lines.specs.Spots.{number_of, past, table_along}
 use Rattle.place_lines.specs.declared.lines.PlaceLines.{PlaceLines}
-use Rattle.place_lines.specs.declared.spot.Spot.{Spot}
+use Rattle.place_lines.specs.declared.spot.LineSpot.{LineSpot}
 use Rattle.shift_core.specs.Form.{IsWithin}
 use Rattle.shift_core.specs.Wholes.{runs_across}
 use Rattle.shift_core.specs.declared.form.Form.{Form}
@@ -31,12 +31,12 @@ abbrev pub is_line : ℕ → Bool
 is_line number = nat_lt number (past 0)
 
 -- the number of a spot's line along an axis
-abbrev pub number_on : Axis → Spot → ℕ
+abbrev pub number_on : Axis → LineSpot → ℕ
 number_on Rows spot = spot.row
 number_on Cols spot = spot.col
 
 -- the spot is on a line of the sheet across the axis
-abbrev pub is_on_sheet : Axis → Spot → Bool
+abbrev pub is_on_sheet : Axis → LineSpot → Bool
 is_on_sheet axis spot = is_line (number_on (across axis) spot)
 
 -- the lines of whole ranges are filed as the rows of one column: that of their axis
@@ -45,18 +45,18 @@ column_of Rows = 0
 column_of Cols = 1
 
 -- along an axis the cell at a spot finds the number
-abbrev pub finds_along : Axis → BlockIndex → Spot → ℕ → Bool
+abbrev pub finds_along : Axis → BlockIndex → LineSpot → ℕ → Bool
 finds_along axis wholes spot n = is_on_sheet axis spot && finds wholes spot.sheet (number_on axis spot) (column_of axis) n
 
 -- the slots of whole ranges along an axis that hold a spot
-abbrev pub slots_along : Axis → BlockIndex → Spot → List ℕ
+abbrev pub slots_along : Axis → BlockIndex → LineSpot → List ℕ
 slots_along axis wholes spot = if is_on_sheet axis spot then slots_of wholes spot.sheet (number_on axis spot) (column_of axis) else []
 
 -- the spot is on a run of lines of a sheet along the axis, or on one of these runs
-abbrev pub on_run : ℕ → Axis → Range ℕ → Spot → Bool
+abbrev pub on_run : ℕ → Axis → Range ℕ → LineSpot → Bool
 on_run sheet axis run spot = spot.sheet == sheet && (is_on_sheet axis spot && in_lines run (number_on axis spot))
 
-abbrev pub on_runs : ℕ → Axis → List (Range ℕ) → Spot → Bool
+abbrev pub on_runs : ℕ → Axis → List (Range ℕ) → LineSpot → Bool
 on_runs sheet axis runs spot = list_any (λ run. on_run sheet axis run spot) runs
 
 -- the number is that of a line from the first position to the last
@@ -64,18 +64,18 @@ abbrev pub IsNumberIn : LineTable → Span → ℕ → Type 0
 IsNumberIn t span number = (position : ℕ) × IsWithin span position × (number_of t position ≡ number)
 
 -- the spot is on the lines of the whole range
-abbrev pub IsOnLines : PlaceLines → Whole → Spot → Type 0
+abbrev pub IsOnLines : PlaceLines → Whole → LineSpot → Type 0
 IsOnLines lines w spot =
     (spot.sheet ≡ w.sheet) × IsTrue (is_on_sheet w.axis spot) × IsNumberIn (table_along w.axis lines w.sheet) (lines_of w) (number_on w.axis spot)
 
 -- of the spots on lines that the sheet has along the axis, just those on the whole range's lines pass the test; and what
 -- passes it is known to the lines, so that no line that comes in later does
-abbrev pub HoldsWhole : PlaceLines → (Spot → Type 0) → Whole → Type 0
+abbrev pub HoldsWhole : PlaceLines → (LineSpot → Type 0) → Whole → Type 0
 HoldsWhole lines test w = record {
-  sheet : (spot : Spot) → test spot → spot.sheet ≡ w.sheet;
-  exact : (spot : Spot) (position : ℕ) → spot.sheet ≡ w.sheet → number_of (table_along w.axis lines w.sheet) position ≡ number_on w.axis spot →
+  sheet : (spot : LineSpot) → test spot → spot.sheet ≡ w.sheet;
+  exact : (spot : LineSpot) (position : ℕ) → spot.sheet ≡ w.sheet → number_of (table_along w.axis lines w.sheet) position ≡ number_on w.axis spot →
       test spot ↔ (IsTrue (is_on_sheet w.axis spot) × IsWithin (lines_of w) position);
-  known : (spot : Spot) → test spot → is_known_line (table_along w.axis lines w.sheet) (number_on w.axis spot) ≡ true;
+  known : (spot : LineSpot) → test spot → is_known_line (table_along w.axis lines w.sheet) (number_on w.axis spot) ≡ true;
 }
 
 -- the part of a whole range that is on lines which an insert along its axis puts between others

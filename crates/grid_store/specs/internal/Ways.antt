@@ -13,24 +13,24 @@ use Rattle.shift_core.specs.Tables.{place_moved, place_returned}
 use Rattle.shift_core.specs.declared.edit.Edit.{Edit}
 use Rattle.shift_core.specs.declared.form.Form.{Form}
 use Rattle.shift_core.specs.declared.shift.Shift.{Shift}
-use Rattle.grid_store.specs.declared.way.Way.{Way}
-use Rattle.grid_store.specs.declared.way.Way.TheVariants.{Forth, Back}
+use Rattle.grid_store.specs.declared.way.Going.{Going}
+use Rattle.grid_store.specs.declared.way.Going.TheVariants.{Forth, Back}
 
 -- the other way
-abbrev pub turned : Way → Way
+abbrev pub turned : Going → Going
 turned Forth = Back
 turned Back = Forth
 
 -- where a place goes
-abbrev pub form_goes : Way → Form → Place → Option Place
+abbrev pub form_goes : Going → Form → Place → Option Place
 form_goes Forth f p = place_moved f p
 form_goes Back f p = place_returned f p
 
-abbrev pub goes : Way → Shift → Place → Option Place
+abbrev pub goes : Going → Shift → Place → Option Place
 goes w s = form_goes w (form_of s)
 
 -- where a line goes, and which comes here
-abbrev pub line_goes : Way → ℕ → Edit → ℕ → Option ℕ
+abbrev pub line_goes : Going → ℕ → Edit → ℕ → Option ℕ
 line_goes Forth limit edit line = line_after limit edit line
 line_goes Back limit edit line = line_before limit edit line
 
@@ -52,10 +52,10 @@ abbrev pub whole : ℕ → Block
 whole sheet = record { sheet = sheet; top = 0; left = 0; bottom = ROWS - 1; right = COLS - 1 }
 
 -- the block whose cells a move of cells takes, and the one that they come to
-abbrev pub from_block : Way → Block → Place → Block
+abbrev pub from_block : Going → Block → Place → Block
 from_block Forth source to = source
 from_block Back source to = destination source to
 
-abbrev pub onto_block : Way → Block → Place → Block
+abbrev pub onto_block : Going → Block → Place → Block
 onto_block Forth source to = destination source to
 onto_block Back source to = source

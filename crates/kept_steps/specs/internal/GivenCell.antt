@@ -9,11 +9,11 @@ use Rattle.dep_graph.specs.declared.node.Node.TheVariants.{Cell, Name}
 use Rattle.grid_store.specs.declared.cell.Cell as grid
 use Rattle.grid_store.specs.declared.cell.Cell.TheVariants as cell
 use Rattle.name_table.specs.declared.key.NameKey.{NameKey}
-use Rattle.recalc_core.specs.declared.trees.Given.{Given}
-use Rattle.recalc_core.specs.declared.trees.Given.TheVariants.{Nothing, Value}
+use Rattle.recalc_core.specs.declared.trees.NodeContent.{NodeContent}
+use Rattle.recalc_core.specs.declared.trees.NodeContent.TheVariants.{Nothing, Value}
 
 -- what a cell without a formula that has a tree is given as
-abbrev pub given_plain : Option grid.Cell → Given
+abbrev pub given_plain : Option grid.Cell → NodeContent
 given_plain (Some (cell.Number m)) = Value (scalar.Number m)
 given_plain (Some (cell.Truth b)) = Value (scalar.Truth b)
 given_plain (Some (cell.Text w)) = Value (scalar.Text w)

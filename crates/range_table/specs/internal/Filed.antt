@@ -8,14 +8,14 @@ use Rattle.cell_addr.specs.declared.place.Block.{Block}
 use Rattle.cell_addr.specs.declared.place.Place.{Place}
 use Rattle.place_lines.specs.Spots.{spot_of}
 use Rattle.place_lines.specs.declared.lines.PlaceLines.{PlaceLines}
-use Rattle.place_lines.specs.declared.spot.Spot.{Spot}
+use Rattle.place_lines.specs.declared.spot.LineSpot.{LineSpot}
 
 -- the line is one of the run
 abbrev pub in_run : Range ℕ → ℕ → Bool
 in_run run line = nat_le run.start line && nat_lt line run.end
 
 -- the cell at a spot finds the number
-abbrev pub finds_at : BlockIndex → Spot → ℕ → Bool
+abbrev pub finds_at : BlockIndex → LineSpot → ℕ → Bool
 finds_at x spot n = finds x spot.sheet spot.row spot.col n
 
 -- what cells found they find still

@@ -13,7 +13,7 @@ use Rattle.range_table.specs.Shifted.{GivesUpBlock, KeepsBlock}
 use Rattle.range_table.specs.declared.changes.Changes.{Changes}
 use Rattle.range_table.specs.declared.fate.Fate.{Fate}
 use Rattle.range_table.specs.declared.fate.Fate.TheVariants.{Ends, Moves, Stays}
-use Rattle.range_table.specs.declared.kept.Kept.{Kept}
+use Rattle.range_table.specs.declared.kept.KeptSummaries.{KeptSummaries}
 use Rattle.range_table.specs.declared.state.State.{State}
 use Rattle.range_table.specs.declared.state.State.TheVariants as state
 use Rattle.range_table.specs.declared.table.Table.{Table}
@@ -37,7 +37,7 @@ IsTaken s lines t c n b =
     (after : Block) (x : Summary) → known t n ≡ state.Kept x → KeepsBlock s b after → (m : ℕ) × IsNumberBy lines t m after × IsSome (tree.get nat_cmp c.arrived m)
 
 -- the state is that of a summary that was kept for a block, and is kept on for the one of the number
-abbrev pub Arrives : Shift → PlaceLines → Kept → ℕ → State → Type 0
+abbrev pub Arrives : Shift → PlaceLines → KeptSummaries → ℕ → State → Type 0
 Arrives s lines k m st =
     (n : ℕ) × (b : Block) × (after : Block) × (x : Summary) × (st ≡ state.Kept x) × KeepsUnder k.table n b x × KeepsBlock s b after
     × IsNumberBy lines k.table m after × IsBlockInside after × Finds k.files lines after m
@@ -52,13 +52,13 @@ abbrev pub AreTaken : Shift → PlaceLines → Table → Changes → Type 0
 AreTaken s lines t c = (n : ℕ) (b : Block) → has n c.left.items ≡ true → IsUnder t n b → IsTaken s lines t c n b
 
 -- the numbers gone by are done, and what arrives was kept
-pub record AreChanges (s : Shift) (lines : PlaceLines) (k : Kept) (gone : List ℕ) (c : Changes) : Type 0 where
+pub record AreChanges (s : Shift) (lines : PlaceLines) (k : KeptSummaries) (gone : List ℕ) (c : Changes) : Type 0 where
   pub done : (n : ℕ) → has n gone ≡ true → IsDone s lines k.table c n
   pub taken : AreTaken s lines k.table c
   pub arrived : (m : ℕ) (st : State) → tree.get nat_cmp c.arrived m ≡ Some st → Arrives s lines k m st
 
 -- what is kept under the number, if anything, comes to the number of the block
-pub record TakesTo (lines : PlaceLines) (number : ℕ) (after : Block) (k : Kept) (old new : Changes) : Type 0 where
+pub record TakesTo (lines : PlaceLines) (number : ℕ) (after : Block) (k : KeptSummaries) (old new : Changes) : Type 0 where
   pub some : (x : Summary) → known k.table number ≡ state.Kept x → (m : ℕ) × IsNumberBy lines k.table m after × IsSome (tree.get nat_cmp new.arrived m)
   pub still : (m : ℕ) → IsSome (tree.get nat_cmp old.arrived m) → IsSome (tree.get nat_cmp new.arrived m)
   pub only : (m : ℕ) (st : State) → tree.get nat_cmp new.arrived m ≡ Some st → (tree.get nat_cmp old.arrived m ≡ Some st)

@@ -9,7 +9,7 @@ use Rattle.cell_value.specs.Summary.{IsBounded}
 use Rattle.cell_value.specs.declared.summary.Summary.{Summary}
 use Rattle.needs_order.specs.Needs.{has}
 use Rattle.place_lines.specs.Spots.{area_of}
-use Rattle.place_lines.specs.declared.area.Area.{Area}
+use Rattle.place_lines.specs.declared.area.LineArea.{LineArea}
 use Rattle.range_table.specs.Blocks.{BlockMap}
 use Rattle.range_table.specs.declared.changes.Changes.{Changes}
 use Rattle.range_table.specs.declared.state.State.{State}
@@ -59,7 +59,7 @@ AllStand t = (n : ℕ) → is_found (known t n) ≡ true → IsSome (block_under
 -- numbers were added, and all that was known is known still
 pub record Grows (old new : Table) : Type 0 where
   pub lines : new.lines ≡ old.lines
-  pub keys : (n : ℕ) (a : Area) → slice_get old.keys.keys n ≡ Some a → slice_get new.keys.keys n ≡ Some a
+  pub keys : (n : ℕ) (a : LineArea) → slice_get old.keys.keys n ≡ Some a → slice_get new.keys.keys n ≡ Some a
   pub states : (n : ℕ) → known new n ≡ known old n
 
 -- what is known of a number after changes

@@ -15,8 +15,8 @@ use Rattle.command_answers.specs.Replies.{is_refused, next_state, record_text, r
 use Rattle.book_files.specs.Outside.{AppendsPart}
 use Rattle.book_files.specs.declared.error.WriteError.{WriteError}
 use Rattle.book_files.specs.declared.error.WriteError.TheVariants as write
-use Rattle.sheet_cli.specs.declared.ending.Stop.{Stop}
-use Rattle.sheet_cli.specs.declared.ending.Stop.TheVariants as stop
+use Rattle.sheet_cli.specs.declared.ending.EarlyEnd.{EarlyEnd}
+use Rattle.sheet_cli.specs.declared.ending.EarlyEnd.TheVariants as stop
 
 -- a refusal ends the run
 abbrev pub EndsAt : Bool → State → Command → Bool → Type 0
@@ -47,6 +47,6 @@ AnswersPart customs (Ok c) k before old new = PartOfCommand customs c before old
 AnswersPart customs (Err e) k before old new = AppendsPart old new (line_of (record_text k e))
 
 -- how a failed write stops a run
-abbrev pub stop_of_write : WriteError → Stop
+abbrev pub stop_of_write : WriteError → EarlyEnd
 stop_of_write write.Failed = stop.WriteFault
 stop_of_write write.NoMemory = stop.NoMemory

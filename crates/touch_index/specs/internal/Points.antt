@@ -12,7 +12,7 @@ use Rattle.cell_addr.specs.declared.axis.Axis.{Axis}
 use Rattle.cell_addr.specs.declared.axis.Axis.TheVariants.{Cols, Rows}
 use Rattle.needs_order.specs.Needs.{has}
 use Rattle.place_lines.specs.Spots.{in_runs}
-use Rattle.place_lines.specs.declared.spot.Spot.{Spot}
+use Rattle.place_lines.specs.declared.spot.LineSpot.{LineSpot}
 use Rattle.touch_index.specs.declared.point.Point.{Point}
 use Rattle.touch_index.specs.declared.points.Points.{Points}
 
@@ -21,17 +21,17 @@ abbrev pub point_cmp : Point → Point → Ordering
 point_cmp a b = ordering_then (nat_cmp a.sheet b.sheet) (ordering_then (nat_cmp a.line b.line) (ordering_then (nat_cmp a.across b.across) (nat_cmp a.number b.number)))
 
 -- the line of a spot along the axis
-abbrev pub line_in : Axis → Spot → ℕ
+abbrev pub line_in : Axis → LineSpot → ℕ
 line_in Rows spot = spot.row
 line_in Cols spot = spot.col
 
 -- the line of a spot along the other axis
-abbrev pub line_over : Axis → Spot → ℕ
+abbrev pub line_over : Axis → LineSpot → ℕ
 line_over Rows spot = spot.col
 line_over Cols spot = spot.row
 
 -- the point of a number at a spot, by the line along the axis
-abbrev pub point_along : Axis → Spot → ℕ → Point
+abbrev pub point_along : Axis → LineSpot → ℕ → Point
 point_along axis spot n = record { sheet = spot.sheet; line = line_in axis spot; across = line_over axis spot; number = n }
 
 -- the first point of a line that is on a line of the other axis or after it
@@ -39,7 +39,7 @@ abbrev pub first_point : ℕ → ℕ → ℕ → Point
 first_point sheet line across = record { sheet = sheet; line = line; across = across; number = 0 }
 
 -- the number is kept at the spot
-abbrev pub has_point : Points → Spot → ℕ → Bool
+abbrev pub has_point : Points → LineSpot → ℕ → Bool
 has_point points spot n = contains point_cmp points.by_rows (point_along Rows spot n) && contains point_cmp points.by_cols (point_along Cols spot n)
 
 -- the point is the first one or after it, and before the end

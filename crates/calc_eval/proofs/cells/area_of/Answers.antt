@@ -6,11 +6,11 @@ use Rattle.calc_eval.proofs.cells.area_of.Goals as goal
 
 pub push-requires-clause-next : goal.push-requires-clause-next
 push-requires-clause-next g c =
-    subst (λ a. IsEmptyFrom a c.rows.row c.cols.col) (sym c.cols.invariant) (next_empty (g.C.Cells.shown c.args.cells.now) c.args.block c.rows.row c.cols.col)
+    subst (λ a. IsEmptyFrom a c.rows.row c.cols.col) (sym c.cols.invariant) (next_empty (g.C.ShownCells.shown c.args.cells.now) c.args.block c.rows.row c.cols.col)
 
 pub cols-preserved : goal.cols-preserved
 cols-preserved g c =
-    let shown = g.C.Cells.shown c.args.cells.now in
+    let shown = g.C.ShownCells.shown c.args.cells.now in
     let row : c.rows.row < height c.args.block = subst (λ n. c.rows.row < n) c.extent-rows.ensures.rows c.rows-test.true in
     let col : c.cols.col < width c.args.block = subst (λ n. c.cols.col < n) c.extent-rows.ensures.cols c.cols-test.true in
     c.in_ok-push.ensures.ok
@@ -19,7 +19,7 @@ cols-preserved g c =
 
 pub rows-preserved : goal.rows-preserved
 rows-preserved g c =
-    let shown = g.C.Cells.shown c.args.cells.now in
+    let shown = g.C.ShownCells.shown c.args.cells.now in
     let within = c.cols.auto.col-end in
     let past = c.cols-test.false in
     let is = c.extent-rows.ensures.cols in
@@ -30,7 +30,7 @@ rows-preserved g c =
 
 pub returns : goal.returns
 returns g c =
-    let shown = g.C.Cells.shown c.args.cells.now in
+    let shown = g.C.ShownCells.shown c.args.cells.now in
     let within = c.rows.auto.row-end in
     let past = c.rows-test.false in
     let is = c.extent-rows.ensures.rows in

@@ -3,7 +3,7 @@ use Rattle.std.specs.List.{list_any}
 use Rattle.block_index.specs.Index.{filed_in}
 use Rattle.needs_order.specs.Needs.{has}
 use Rattle.place_lines.specs.Spots.{spot_of}
-use Rattle.place_lines.specs.declared.spot.Spot.{Spot}
+use Rattle.place_lines.specs.declared.spot.LineSpot.{LineSpot}
 use Rattle.range_table.specs.internal.Filed.{finds_at}
 use Rattle.range_table.specs.internal.GivenUp.{GivesUp}
 use Rattle.range_table.proofs.GivingUp.{gives_all}
@@ -14,7 +14,7 @@ returns-in-Err c = gives_all c.args.at _ c.args.table.now c.give_up_all.new.tabl
 
 pub returns-in-Ok : goal.returns-in-Ok
 returns-in-Ok c =
-    let found : (s : Spot) → s ≡ spot_of c.args.table.now.lines c.args.at → GivesUp c.args.at (λ n. finds_at c.args.files.now.cells s n ≡ true) c.args.table.now c.give_up_under.new.table → GivesUp c.args.at (λ n. finds_at c.args.files.now.cells (spot_of c.args.table.now.lines c.args.at) n ≡ true) c.args.table.now c.give_up_under.new.table
+    let found : (s : LineSpot) → s ≡ spot_of c.args.table.now.lines c.args.at → GivesUp c.args.at (λ n. finds_at c.args.files.now.cells s n ≡ true) c.args.table.now c.give_up_under.new.table → GivesUp c.args.at (λ n. finds_at c.args.files.now.cells (spot_of c.args.table.now.lines c.args.at) n ≡ true) c.args.table.now c.give_up_under.new.table
     = λ s is. subst (λ z. GivesUp c.args.at (λ n. finds_at c.args.files.now.cells z n ≡ true) c.args.table.now c.give_up_under.new.table) is in
     found c.spot-spot.result c.spot-spot.ensures
     (subst (λ l. GivesUp c.args.at (λ n. list_any (λ s. has n (filed_in c.args.files.now.cells s)) l ≡ true) c.args.table.now c.give_up_under.new.table) (c.deref.ensures.value ∙ c.in-Ok.ensures.slots) c.give_up_under.ensures)

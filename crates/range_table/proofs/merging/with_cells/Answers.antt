@@ -11,7 +11,7 @@ pub rows-preserved : goal.rows-preserved
 rows-preserved g c =
     let i = c.rows.invariant in
     let b = c.args.b in
-    let f = row_values (g.C.Cells.values c.args.cells.now) b in
+    let f = row_values (g.C.ListedCells.values c.args.cells.now) b in
     let row = c.rows.row in
     let n = row - b.top in
     let after : row + 1 - b.top ≡ suc n = omega (arith, i.from) in

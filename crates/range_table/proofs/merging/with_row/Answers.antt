@@ -8,7 +8,7 @@ pub cols-preserved : goal.cols-preserved
 cols-preserved g c =
     let i = c.cols.invariant in
     let b = c.args.b in
-    let f = λ (col : ℕ). g.C.Cells.values c.args.cells.now (record { sheet = b.sheet; row = c.args.row; col = col }) in
+    let f = λ (col : ℕ). g.C.ListedCells.values c.args.cells.now (record { sheet = b.sheet; row = c.args.row; col = col }) in
     let col = c.cols.col in
     let n = col - b.left in
     let before = map f (range_with_len b.left n) in

@@ -2,7 +2,7 @@
 use Rattle.std.proofs.Common.{rules, map}
 use Rattle.std.specs.Prelude.{string_bytes}
 use Rattle.command_words.specs.Words.{meaning}
-use Rattle.sheet_cli.specs.declared.ending.Stop.TheVariants as stop
+use Rattle.sheet_cli.specs.declared.ending.EarlyEnd.TheVariants as stop
 use Rattle.sheet_cli.proofs.SourceRead.{stopped_read}
 use Rattle.sheet_cli.proofs.program.run.Goals as goal
 

@@ -1,6 +1,6 @@
 use Rattle.std.proofs.Common.{◌≡◌, ◌∙◌, ◌<◌, ◌↔◌, ap, length, refl, subst, sym, true, []}
 use Rattle.std.proofs.lemmas.List.{append-nil}
-use Rattle.place_lines.specs.declared.spot.Spot.{Spot}
+use Rattle.place_lines.specs.declared.spot.LineSpot.{LineSpot}
 use Rattle.dep_graph.specs.internal.Files.{IsSpotOf, finds_filing}
 use Rattle.std.specs.Prelude.{IsSome}
 use Rattle.dep_graph.specs.internal.Filings.{filing_of}
@@ -32,7 +32,7 @@ invariant_of-self-2 c = record {
   filed = filings_kept c.args.self.now.nodes c.file.new.self c.keep.new.self c.args.number c.in_ok-filing.filing c.keep.ensures.index c.keep.ensures.wholes c.keep.ensures.owners c.keep.ensures.serves c.keep.ensures.kept c.in_ok-filing.ensures.owner c.args.range
       (filings_on c.args.self.now.nodes c.args.self.now.files c.file.new.self c.args.self.now.filed c.file.ensures.on) c.requires.node
       (held c.args.self.now.nodes.lines c.args.self.now.files c.file.new.self c.args.number c.in_ok-filing.filing c.args.range c.requires.range c.file.ensures.on c.in_ok-filing.ensures.new c.in_ok-filing.ensures.owner
-      (subst (λ l. (spot : Spot) → (finds_filing c.file.new.self spot c.in_ok-filing.filing ≡ true) ↔ IsSpotOf l c.args.range spot) c.lines.ensures c.in_ok-filing.ensures.exact));
+      (subst (λ l. (spot : LineSpot) → (finds_filing c.file.new.self spot c.in_ok-filing.filing ≡ true) ↔ IsSpotOf l c.args.range spot) c.lines.ensures c.in_ok-filing.ensures.exact));
   used = λ a n h. still_filed c.args.self.now.nodes c.file.new.self c.keep.new.self c.args.number c.in_ok-filing.filing c.keep.ensures.kept n
       (λ range. subst IsSome (sym (ap (λ v. filing_of v n) c.file.ensures.on.current)) (c.args.self.now.used a n h range));
   indexed = c.args.self.now.indexed;

@@ -2,7 +2,7 @@ use Rattle.std.proofs.Common.{◌∙◌, ap}
 use Rattle.std.specs.FinMap as map
 use Rattle.std.proofs.lemmas.Result.{IfOk-weaker, on_ok_weaker}
 use Rattle.grid_store.specs.Grid.{cells_of, outside, within}
-use Rattle.grid_store.specs.declared.way.Way.TheVariants.{Forth}
+use Rattle.grid_store.specs.declared.way.Going.TheVariants.{Forth}
 use Rattle.grid_store.specs.internal.Ways.{carried_map, form_goes, lost_by}
 use Rattle.grid_store.proofs.CarriedCells.{sheet_cleared, sheet_lost}
 use Rattle.grid_store.proofs.RenewedCells.{seen_inside}

@@ -3,7 +3,7 @@ use Rattle.std.proofs.Common.{◌∙◌, ap, map}
 use Rattle.std.specs.FinMap as fin
 use Rattle.std.proofs.lemmas.Result.{on_ok_weaker}
 use Rattle.grid_store.specs.Grid.{cells_of, items_of, with_entries, within, without_places}
-use Rattle.grid_store.specs.declared.way.Way.TheVariants.{Back}
+use Rattle.grid_store.specs.declared.way.Going.TheVariants.{Back}
 use Rattle.grid_store.specs.internal.Ways.{carried_map, form_goes, whole}
 use Rattle.grid_store.proofs.CarriedCells.{sheet_cleared}
 use Rattle.grid_store.proofs.Exchanges.{without-block}

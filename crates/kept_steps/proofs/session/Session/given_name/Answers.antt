@@ -11,7 +11,7 @@ use Rattle.kept_book.specs.Frame.{named_at}
 use Rattle.kept_book.specs.Kept.{at_of}
 use Rattle.recalc_core.specs.Given.{HasGivenAt}
 use Rattle.recalc_core.specs.Nodes.{name_at}
-use Rattle.recalc_core.specs.declared.trees.Given.TheVariants.{Formula}
+use Rattle.recalc_core.specs.declared.trees.NodeContent.TheVariants.{Formula}
 use Rattle.kept_steps.specs.Session.{state_of}
 use Rattle.kept_steps.proofs.GivenNodes.{name-given, no-name-given}
 use Rattle.kept_steps.proofs.session.Session.given_name.Goals as goal

@@ -1,0 +1,12 @@
+use Rattle.std.proofs.Common.{◌≡◌, ◌-◌, ◌≤◌}
+use Rattle.std.specs.List.{flat_map, range_with_len}
+use Rattle.range_table.specs.Cells.{nonempty, row_values, seen_values}
+use Rattle.range_cases.specs.Grid.{value_in}
+use Rattle.range_cases.proofs.grid.GridListedCells.listed.Given as goal
+
+-- the rows before the row are listed
+abbrev pub invariant-rows : goal.invariant-rows
+invariant-rows l = record {
+  listed : seen_values l.list.items ≡ nonempty (flat_map (row_values (value_in l.self.cells.items) l.b) (range_with_len l.b.top (l.row - l.b.top)));
+  from : l.b.top ≤ l.row;
+}
