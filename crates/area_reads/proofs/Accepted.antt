@@ -1,16 +1,13 @@
 -- Each filled place of a block can be asked for where the block can. Serves reads of areas.
-use Rattle.std.proofs.Common.{◌≡◌, ◌∙◌, sym, ap, refl, arith, ℕ, Bool, true, false, cond, not, Option, Some, None}
+use Rattle.std.proofs.Common.{◌≡◌, ◌∙◌, sym, ap, refl, arith, Bool, true, false, cond, not, Some, None}
 use Rattle.std.proofs.lemmas.Bool.Decides.{nat_tests}
 use Rattle.std.proofs.lemmas.Option.{none-some}
 use Rattle.cell_addr.specs.Place.{covers}
 use Rattle.cell_addr.specs.declared.place.Block.{Block}
 use Rattle.cell_addr.specs.declared.place.Place.{Place}
-use Rattle.book_model.specs.Operation as op
-use Rattle.book_model.specs.Refusals.{at_block, at_place, cause, first_cause, is_block_outside, is_outside, is_suspended}
+use Rattle.book_model.specs.Refusals.{at_block, at_place, first_cause, is_block_outside, is_outside}
 use Rattle.book_model.specs.Workbook.{State, has_sheet}
-use Rattle.book_model.specs.declared.refusal.Refusal.{Refusal}
-use Rattle.book_model.specs.declared.refusal.Refusal.TheVariants.{NoSheet, Outside, Suspended}
-use Rattle.area_reads.specs.Reads.{values_cause}
+use Rattle.book_model.specs.declared.refusal.Refusal.TheVariants.{NoSheet, Outside}
 
 on_sheet : (area : Block) (p : Place) → covers area p ≡ true → area.sheet ≡ p.sheet
 on_sheet area p covered = grind (arith, nat_tests)
@@ -29,13 +26,3 @@ at_accepted area d p none covered = go (not (has_sheet d.book area.sheet)) (is_b
         ap (λ s. cond (not (has_sheet d.book s)) (Some NoSheet) (cond (is_outside p) (Some Outside) None)) (sym (on_sheet area p covered))
         ∙ ap (λ b. cond b (Some NoSheet) (cond (is_outside p) (Some Outside) None)) lacks
         ∙ ap (λ c. cond c (Some Outside) None) (within area p covered out)
-
-suspended_by : (b : Bool) (more : Option Refusal) → cond b (Some Suspended) more ≡ None → (b ≡ false) × (more ≡ None)
-suspended_by true more none = absurd (none-some Suspended (sym none))
-suspended_by false more none = (refl, none)
-
--- its value
-pub value_accepted : (area : Block) (d : State) (p : Place) → values_cause area d ≡ None → covers area p ≡ true → cause (op.value p) d ≡ None
-value_accepted area d p none covered =
-    let free = suspended_by (is_suspended d) (first_cause (at_block d area)) none in
-    ap (λ b. cond b (Some Suspended) (first_cause (at_place d p))) free.0 ∙ at_accepted area d p free.1 covered

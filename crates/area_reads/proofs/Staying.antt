@@ -1,5 +1,5 @@
 -- What stays over reads that come one after the other. Serves reads of areas.
-use Rattle.std.proofs.Common.{◌≡◌, ◌∙◌, sym, ap, subst, refl, arith, ◌⊎◌, inl, inr, ℕ, ◌≤◌, List, Option, Some, None, Result, Ok, Err}
+use Rattle.std.proofs.Common.{◌≡◌, ◌∙◌, sym, ap, subst, refl, ℕ, List, Option, Some, None, Result, Ok, Err}
 use Rattle.std.proofs.lemmas.Option.{none-some}
 use Rattle.custom_fn.specs.declared.rule.Rule.{Rule}
 use Rattle.calc_eval.specs.declared.customs.Customs.{Ghosts}
@@ -11,12 +11,12 @@ use Rattle.book_model.specs.declared.refusal.Refusal.{Refusal}
 use Rattle.book_engine.specs.Areas.{Answered}
 use Rattle.book_engine.specs.Calls.{Stays}
 use Rattle.book_engine.specs.Engine.{Does, StandsFor}
-use Rattle.book_engine.specs.Kept.{IsIdle, KeepsLine, KeepsValues, WorksOut}
+use Rattle.book_engine.specs.Kept.{KeepsLine, KeepsValues}
 use Rattle.book_engine.specs.declared.engine.Engine.{Engine}
 use Rattle.book_engine.specs.declared.stop.Stop.{Stop}
 use Rattle.book_engine.specs.declared.stop.Stop.TheVariants.{Refused, NoMemory}
-use Rattle.book_engine.proofs.IdleReads.{fewer, idle, line_on, line_same, nothing, values_on, values_same}
-use Rattle.area_reads.specs.Reads.{AreOneRead, AreQuiet}
+use Rattle.book_engine.proofs.IdleReads.{line_on, line_same, values_on, values_same}
+use Rattle.area_reads.specs.Reads.{AreQuiet}
 
 same_either : (r : Option Refusal) (d : State) → unless_refused r d d ≡ d
 same_either None d = refl
@@ -38,32 +38,11 @@ module _ {C X : Type 0} {G : Ghosts C} (customs : C → List (List ℕ × Rule))
   fails NoMemory d Holds does stands none = tt
 
 module _ {C : Type 0} {G : Ghosts C} (customs : C → List (List ℕ × Rule)) where
-  -- no read is one, and is quiet
-  pub no_read : (e : Engine C G) (n : ℕ) → AreOneRead customs e e n n
-  no_read e n = record { stays = λ d stands. stands; line = line_same e; least = omega arith; most = nothing customs e n }
-
+  -- no read is quiet
   pub quiet_none : (e : Engine C G) → AreQuiet customs e e
   quiet_none e = record { stays = λ d stands. stands; line = line_same e; values = values_same e }
 
-  -- nothing was read, or nothing is marked any more
-  abbrev pub IsStill : Engine C G → Engine C G → ℕ → ℕ → Type 0
-  IsStill first old start before = ((old ≡ first) × (before ≡ start)) ⊎ IsIdle old
-
-  works_on : (first old : Engine C G) (start before after : ℕ) → WorksOut customs first start before → IsStill first old start before → WorksOut customs old before after → WorksOut customs first start after
-  works_on first old start before after worked (inl (same, none)) works = subst (λ n. WorksOut customs first n after) none (subst (λ e. WorksOut customs e before after) same works)
-  works_on first old start before after worked (inr still) works = fewer customs first start before after worked (idle customs old before after still works)
-
-  -- one more value
-  pub read_on : (first old new : Engine C G) (start before after : ℕ) → AreOneRead customs first old start before → IsStill first old start before → Stays customs old new → KeepsLine old new → before ≤ after → WorksOut customs old before after
-      → AreOneRead customs first new start after
-  read_on first old new start before after read still stays line least most = record {
-    stays = λ d stands. stays d (read.stays d stands);
-    line = line_on first old new read.line line;
-    least = (let earlier = read.least in omega (arith, earlier, least));
-    most = works_on first old start before after read.most still most;
-  }
-
-  -- and one more text
+  -- one more text
   pub quiet_on : (first old new : Engine C G) → AreQuiet customs first old → Stays customs old new → KeepsLine old new → KeepsValues old new → AreQuiet customs first new
   quiet_on first old new quiet stays line values = record {
     stays = λ d stands. stays d (quiet.stays d stands);

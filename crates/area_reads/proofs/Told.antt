@@ -1,46 +1,30 @@
 -- What a block's reads answer by what its filled places' reads do. Serves reads of areas.
-use Rattle.std.proofs.Common.{◌≡◌, ◌∙◌, sym, ap, subst, refl, ℕ, ◌+◌, ◌<◌, ◌||◌, Bool, true, false, cond, get_or, length, List, [], ◌∷◌, ◌++◌, map, take, Option, Some, None, is_some, Result, Ok, Err, Vec, Global}
+use Rattle.std.proofs.Common.{◌≡◌, ◌∙◌, sym, ap, subst, ℕ, ◌+◌, ◌<◌, true, get_or, length, List, [], ◌∷◌, ◌++◌, map, take, None, Result, Ok, Err, Vec, Global}
 use Rattle.std.proofs.lemmas.List.{map-append, take_more}
 use Rattle.std.proofs.lemmas.Option.{none-some}
 use Rattle.std.specs.List.{All}
 use Rattle.cell_addr.specs.Place.{covers}
 use Rattle.cell_addr.specs.declared.place.Block.{Block}
 use Rattle.cell_addr.specs.declared.place.Place.{Place}
-use Rattle.cell_value.specs.declared.scalar.Scalar.{Scalar}
 use Rattle.book_model.specs.Operation as op
-use Rattle.book_model.specs.Refusals.{at_block, cause, first_cause}
+use Rattle.book_model.specs.Refusals.{cause}
 use Rattle.book_model.specs.Workbook.{State}
-use Rattle.book_model.specs.declared.refusal.Refusal.TheVariants.{Suspended}
 use Rattle.book_engine.specs.Areas.{Answered, filled_in_block}
 use Rattle.book_engine.specs.declared.stop.Stop.{Stop}
 use Rattle.book_engine.specs.declared.stop.Stop.TheVariants.{Refused, NoMemory}
 use Rattle.book_engine.proofs.FilledPlaces.{each_passes}
-use Rattle.area_reads.specs.Reads.{contents_at, contents_in, values_at, values_cause, values_in}
-use Rattle.area_reads.proofs.Accepted.{at_accepted, value_accepted}
-
--- neither suspended nor in a batch
-pub free_cause : (area : Block) (d : State) (suspended batch : Bool) → suspended ≡ d.suspended → suspended ≡ false → batch ≡ is_some d.batch → batch ≡ false → first_cause (at_block d area) ≡ None → values_cause area d ≡ None
-free_cause area d suspended batch is isnt has hasnt none =
-    ap (λ t. cond (t || is_some d.batch) (Some Suspended) (first_cause (at_block d area))) (sym is ∙ isnt)
-    ∙ ap (λ t. cond t (Some Suspended) (first_cause (at_block d area))) (sym has ∙ hasnt) ∙ none
+use Rattle.area_reads.specs.Reads.{contents_at, contents_in}
+use Rattle.area_reads.proofs.Accepted.{at_accepted}
 
 module _ (area : Block) (d : State) (places : List Place) (same : places ≡ filled_in_block area d.book) where
   covered : All (λ p. covers area p ≡ true) places
   covered = subst (All (λ p. covers area p ≡ true)) (sym same) (each_passes (covers area) d.book)
 
   -- each of the places can be asked for
-  pub values_accepted : values_cause area d ≡ None → All (λ p. cause (op.value p) d ≡ None) places
-  values_accepted none = λ k p below. value_accepted area d (get_or places k p) none (covered k p below)
-
   pub contents_accepted : cause (op.copy area) d ≡ None → All (λ p. cause (op.content p) d ≡ None) places
   contents_accepted none = λ k p below. at_accepted area d (get_or places k p) none (covered k p below)
 
   -- what is read of them is what is read of the block
-  pub values_told : (r : Result (Vec (Place × Scalar) Global) Stop) → values_cause area d ≡ None → Answered None (λ list. list.items ≡ values_at places d) r → Answered (values_cause area d) (λ list. list.items ≡ values_in area d) r
-  values_told (Ok list) none told = (none, told.1 ∙ ap (λ ps. values_at ps d) same)
-  values_told (Err (Refused r)) none told = absurd (none-some r told)
-  values_told (Err NoMemory) none told = tt
-
   pub contents_told : (r : Result (Vec (Place × List ℕ) Global) Stop) → cause (op.copy area) d ≡ None → Answered None (λ list. list.items ≡ contents_at places d) r → Answered (cause (op.copy area) d) (λ list. list.items ≡ contents_in area d) r
   contents_told (Ok list) none told = (none, told.1 ∙ ap (λ ps. contents_at ps d) same)
   contents_told (Err (Refused r)) none told = absurd (none-some r told)

@@ -1,15 +1,14 @@
 -- What reads of areas answer and leave. Source: this project's own.
-use Rattle.std.specs.Prelude.{ℕ, ◌≤◌, List, ◌∷◌, map, Option}
+use Rattle.std.specs.Prelude.{ℕ, ◌≤◌, List, map, Option}
 use Rattle.cell_addr.specs.declared.place.Block.{Block}
 use Rattle.cell_addr.specs.declared.place.Place.{Place}
 use Rattle.cell_value.specs.declared.scalar.Scalar.{Scalar}
 use Rattle.custom_fn.specs.declared.rule.Rule.{Rule}
 use Rattle.calc_eval.specs.declared.customs.Customs.{Ghosts}
-use Rattle.book_model.specs.Answers.{content_text, value_of}
-use Rattle.book_model.specs.Refusals.{at_block, first_cause, is_suspended}
+use Rattle.book_model.specs.Answers.{content_text}
 use Rattle.book_model.specs.Workbook.{State}
 use Rattle.book_model.specs.declared.refusal.Refusal.{Refusal}
-use Rattle.book_model.specs.declared.refusal.Refusal.TheVariants.{Suspended}
+use Rattle.book_engine.specs.Areas as areas
 use Rattle.book_engine.specs.Areas.{filled_in_block}
 use Rattle.book_engine.specs.Calls.{Stays}
 use Rattle.book_engine.specs.Kept.{KeepsLine, KeepsValues, WorksOut}
@@ -17,18 +16,15 @@ use Rattle.book_engine.specs.declared.engine.Engine.{Engine}
 
 -- why the values of a block are refused, if they are
 abbrev pub values_cause : Block → State → Option Refusal
-values_cause area d = first_cause ((is_suspended d, Suspended) ∷ at_block d area)
+values_cause area d = areas.values_cause area d
 
--- the values, or the texts of the contents, of places
-abbrev pub values_at : List Place → State → List (Place × Scalar)
-values_at places d = map (λ p. (p, value_of d p)) places
-
+-- the texts of the contents of places
 abbrev pub contents_at : List Place → State → List (Place × List ℕ)
 contents_at places d = map (λ p. (p, content_text d p)) places
 
--- those of the filled places of a block, row by row
+-- what the filled places of a block show, and the texts of their contents, row by row
 abbrev pub values_in : Block → State → List (Place × Scalar)
-values_in area d = values_at (filled_in_block area d.book) d
+values_in area d = areas.values_in_block area d
 
 abbrev pub contents_in : Block → State → List (Place × List ℕ)
 contents_in area d = contents_at (filled_in_block area d.book) d

@@ -6,10 +6,9 @@ ghost use Rattle.book_model.specs.Refusals.{cause};
 ghost use Rattle.book_model.specs.Workbook.{State};
 ghost use Rattle.book_engine.specs.Areas.{Answered};
 ghost use Rattle.book_engine.specs.Engine.{StandsFor};
-ghost use Rattle.area_reads.specs.Reads.{AreOneRead, AreQuiet, contents_at, contents_in, values_at, values_cause, values_in};
+ghost use Rattle.area_reads.specs.Reads.{AreOneRead, AreQuiet, contents_at, contents_in, values_cause, values_in};
 
 use book_engine::{Engine, Stop};
-use book_model::Refusal;
 use calc_eval::Customs;
 use cell_addr::{Block, Place, Text};
 use cell_value::Scalar;
@@ -17,9 +16,9 @@ use std::alloc::{AllocError, Global};
 use std::sync::ledger::Ledger;
 use steps::Steps;
 
-/// The filled cells of a block with what they show, row by row. The first of them that is read works out what the changes since the
-/// last read reach, and the others find nothing to work out. Costs what [`Engine::filled`] does, what [`Engine::value`] does once, and
-/// a look-up for each cell.
+/// The filled cells of a block with what they show, row by row. What the changes since the last read of a value reach is worked out
+/// first. Costs what [`Engine::values`] does: for a cell that holds a formula a look-up, and for any other one that is filled no more
+/// than to copy what it holds.
 ///
 /// # Errors
 /// `Suspended` where the computation is suspended or a batch is open, `NoSheet`, `Outside` where the block isn't within the limits of
@@ -33,29 +32,7 @@ pub fn values<C: Customs, L: Ledger>(
     ensures answered { (d : State) → StandsFor C.customs engine.old d → Answered (values_cause area d) (λ list. list.items ≡ values_in area d) result }
     ensures read { AreOneRead C.customs engine.old engine.new steps.old steps.new }
 {
-    if engine.is_suspended() || engine.has_batch() {
-        return Err(Stop::Refused(Refusal::Suspended));
-    }
-    let places = engine.filled(area)?;
-    values_at(alloc, engine, &places, steps)
-}
-
-// What cells show, one after the other, where each may be asked for.
-fn values_at<C: Customs, L: Ledger>(
-    alloc: Global,
-    engine: &mut Engine<C>,
-    places: &[Place],
-    steps: &mut Steps<L>,
-) -> Result<Vec<(Place, Scalar)>, Stop>
-    ensures answered { (d : State) → StandsFor C.customs engine.old d → All (λ p. cause (op.value p) d ≡ None) places.now → Answered None (λ list. list.items ≡ values_at places.now d) result }
-    ensures read { AreOneRead C.customs engine.old engine.new steps.old steps.new }
-{
-    let mut list = Vec::with_capacity(alloc, places.len())?;
-    'places: for at in places {
-        let shown = engine.value(*at, steps)?;
-        put(&mut list, *at, shown)?;
-    }
-    Ok(list)
+    engine.values(alloc, area, steps)
 }
 
 /// The filled cells of a block with the texts that give them their contents, row by row. Costs what [`Engine::filled`] does, and for

@@ -29,6 +29,7 @@ pub mod NeedingNames
 pub mod ListedLinks
 pub mod LeastAreas
 pub mod FilledPlaces
+pub mod ShownCells
 pub mod ListedNames
 pub mod UsedNames
 pub mod IdleReads

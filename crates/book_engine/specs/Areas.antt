@@ -1,20 +1,23 @@
 -- What is asked of cells, of areas and of names: what kind of content a cell has, which places are filled, how far a sheet is used,
 -- and which names there are. Source: this project's own.
-use Rattle.std.specs.Prelude.{◌≡◌, ◌==◌, ⊤, ℕ, Bool, List, [], filter, map, Option, Some, None, option_map, IsSome, Result, Ok, Err}
+use Rattle.std.specs.Prelude.{◌≡◌, ◌==◌, ⊤, ℕ, Bool, List, [], ◌∷◌, filter, map, Option, Some, None, option_map, IsSome, Result, Ok, Err}
 use Rattle.std.specs.FinMap as fin
 use Rattle.cell_addr.specs.Place.{Covers, covers}
 use Rattle.cell_addr.specs.Text.{capitals}
 use Rattle.cell_addr.specs.declared.place.Block.{Block}
 use Rattle.cell_addr.specs.declared.place.Place.{Place}
+use Rattle.cell_value.specs.declared.scalar.Scalar.{Scalar}
 use Rattle.book_cells.specs.Workbook.{Content, number, truth, text, formula, unreadable}
 use Rattle.book_values.specs.Names.{Key}
 use Rattle.value_network.specs.Network.{cyclic}
 use Rattle.book_values.specs.Values.{network}
 use Rattle.book_values.specs.Workbook.{place, scope_sheet}
-use Rattle.book_model.specs.Answers.{by_capitals, valued}
+use Rattle.book_model.specs.Answers.{by_capitals, value_of, valued}
 use Rattle.book_model.specs.Content.{tree_shown}
+use Rattle.book_model.specs.Refusals.{at_block, first_cause, is_suspended}
 use Rattle.book_model.specs.Workbook.{State, Workbook}
 use Rattle.book_model.specs.declared.refusal.Refusal.{Refusal}
+use Rattle.book_model.specs.declared.refusal.Refusal.TheVariants.{Suspended}
 use Rattle.book_engine.specs.declared.areas.Kind.{Kind}
 use Rattle.book_engine.specs.declared.areas.Kind.TheVariants as kind
 use Rattle.book_engine.specs.declared.listing.NameEntry.{NameEntry}
@@ -47,6 +50,14 @@ filled_in_block area b = filled_where (covers area) b
 
 abbrev pub filled_on_sheet : ℕ → Workbook → List Place
 filled_on_sheet sheet b = filled_where (λ p. p.sheet == sheet) b
+
+-- why the values of a block are refused, if they are
+abbrev pub values_cause : Block → State → Option Refusal
+values_cause area d = first_cause ((is_suspended d, Suspended) ∷ at_block d area)
+
+-- the filled places of a block with what they show, row by row
+abbrev pub values_in_block : Block → State → List (Place × Scalar)
+values_in_block area d = map (λ p. (p, value_of d p)) (filled_in_block area d.book)
 
 -- the least block that covers all places of a kind: at each of its four edges there is one
 pub record IsLeastOver (Holds : Place → Type 0) (area : Block) : Type 0 where

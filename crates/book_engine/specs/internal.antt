@@ -14,3 +14,4 @@ pub mod WaitingProp
 pub mod Areas
 pub mod Listing
 pub mod Giving
+pub mod ShownCells

@@ -12,6 +12,7 @@ ghost use Rattle.book_model.specs.Names.{is_name};
 ghost use Rattle.book_model.specs.Workbook.{has_name, has_scope, has_sheet};
 ghost use Rattle.book_model.specs.declared.refusal.Refusal.TheVariants as refusals;
 ghost use Rattle.book_values.specs.Names.{found, key_of};
+ghost use Rattle.book_engine.specs.Areas.{values_cause};
 ghost use Rattle.book_engine.specs.Seen.{Fits, state_of};
 ghost use Rattle.book_engine.specs.internal.Turns.{IsCause};
 ghost use Rattle.book_model.specs.Workbook.{State};
@@ -65,6 +66,16 @@ impl Parts {
             return Err(Refusal::Suspended);
         }
         self.check_place(at)
+    }
+
+    // Where the values of a block are asked for.
+    pub(crate) fn check_values(&self, area: Block) -> Result<(), Refusal>
+        ensures { IsCause result (values_cause area (state_of self.now)) }
+    {
+        if self.session.suspended || self.session.batch.is_some() {
+            return Err(Refusal::Suspended);
+        }
+        self.check_clear(area)
     }
 
     // Where a name's value, or that of a formula, is asked for on a sheet.

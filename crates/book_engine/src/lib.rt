@@ -35,6 +35,7 @@ mod reading;
 mod setting;
 mod sheets;
 mod shifting;
+mod shown_cells;
 mod shown_name;
 mod stepping;
 mod stop;

@@ -112,7 +112,7 @@ impl Parts {
     }
 
     // Brings what is kept of values up to date.
-    fn refresh<C: Customs, L: Ledger>(
+    pub(crate) fn refresh<C: Customs, L: Ledger>(
         &mut self,
         customs: &C,
         day: i32,

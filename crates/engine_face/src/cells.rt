@@ -147,7 +147,7 @@ fn contents_made(alloc: Global, end: Result<Vec<(Place, Text)>, Stop>) -> Result
 fn values_list(alloc: Global, cells: &[(Place, Scalar)]) -> Result<CellList, AllocError>
     ensures { IfOk result (λ list. AreCells cells.now list) }
 {
-    let mut rows = Vec::new(alloc);
+    let mut rows = Vec::with_capacity(alloc, cells.len())?;
     let mut texts = Vec::new(alloc);
     let mut rest = cells;
     'cells: while let Some((cell, after)) = rest.split_first() {
@@ -181,7 +181,7 @@ fn text_shown(cell: &(Place, Scalar)) -> &[u8]
 fn contents_list(alloc: Global, cells: &[(Place, Text)]) -> Result<CellList, AllocError>
     ensures { IfOk result (λ list. AreCells (as_texts cells.now) list) }
 {
-    let mut rows = Vec::new(alloc);
+    let mut rows = Vec::with_capacity(alloc, cells.len())?;
     let mut texts = Vec::new(alloc);
     let mut rest = cells;
     'cells: while let Some((cell, after)) = rest.split_first() {

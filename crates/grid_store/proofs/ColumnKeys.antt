@@ -1,6 +1,5 @@
 -- How far a block's cells are found, turned key by turned key of its columns. Serves lists of cells, and whether there are any.
-use Rattle.std.proofs.Common.{◌≡◌, ◌∙◌, sym, ap, refl, subst, ℕ, ◌+◌, ◌<◌, ◌≤◌, ◌⊎◌, inl, inr, ◌||◌, Bool, true, false, cond, List, [], ◌∷◌, Some, IsSome, is_some, arith}
-use Rattle.std.specs.Borrow.{Bor}
+use Rattle.std.proofs.Common.{◌≡◌, ◌∙◌, sym, ap, refl, subst, ℕ, ◌+◌, ◌<◌, ◌≤◌, ◌⊎◌, inl, inr, ◌||◌, Bool, true, false, cond, List, [], ◌∷◌, Some, None, IsSome, arith}
 use Rattle.std.specs.BTreeMap.{BTreeMap, is_at}
 use Rattle.std.specs.BTreeMap.Range.{range_contains}
 use Rattle.std.specs.BTreeSet.{BTreeSet, IsKeyInRange, contains, keys_between}
@@ -18,8 +17,6 @@ use Rattle.cell_addr.specs.Place.{covers}
 use Rattle.cell_addr.specs.declared.place.Block.{Block}
 use Rattle.cell_addr.specs.declared.place.Place.{Place}
 use Rattle.cell_addr.specs.declared.place.TheConstants.{ROWS, COLS}
-use Rattle.cell_addr.proofs.Places.{place_cmp-IsTotalOrder, place_cmp-IsAntisymmetric}
-use Rattle.shift_core.proofs.CarriedEntries.{eq_by_cmp-decides}
 use Rattle.shift_core.proofs.CellMoves.{Covers-from_covers}
 use Rattle.stable_lines.specs.Sheets.{table_of}
 use Rattle.stable_lines.specs.declared.run.Run.{Run}
@@ -27,10 +24,10 @@ use Rattle.stable_lines.specs.declared.sheets.SheetLines.{SheetLines}
 use Rattle.grid_store.specs.Grid.{HasAny}
 use Rattle.grid_store.specs.Keys.{key_at, key_cmp, place_at}
 use Rattle.grid_store.specs.declared.key.CellKey.{CellKey}
-use Rattle.grid_store.specs.internal.Listing.{AreCellsOf, AreLinesAt, HasColumns, IsAdded, LacksColumns, StillHas, look}
+use Rattle.grid_store.specs.internal.Listing.{AreCellsOf, AreLinesAt, Found, HasColumns, IsAdded, LacksColumns, StillHas, look}
 use Rattle.grid_store.specs.internal.Turned.{AreTurned, turned}
 use Rattle.grid_store.proofs.KeyPlaces.{key_of_place, place_of_key}
-use Rattle.grid_store.proofs.Listings.{added_cell, both, in_lines, stands_before, still_or}
+use Rattle.grid_store.proofs.Listings.{added_cell, both, found_there, in_lines, stands_before, still_or}
 use Rattle.grid_store.proofs.TurnedKeys.{same_key}
 use Rattle.grid_store.proofs.Views.{get-seen_at, kept, key_of_seen, seen}
 
@@ -84,13 +81,13 @@ gone_by t rest k true same h here = inl (here (ap turned (same_key (turned k) t 
 gone_by t rest k false same h here = inr h
 
 -- the block's cells on some lines of columns, as far as their turned keys have been gone through
-pub record Progress {X : Type 0} (rows cols : SheetLines) (es : List (CellKey × X)) (area : Block) (lines : Run) (before found : BTreeMap Place (Bor X)) (rest : List CellKey) : Type 0 where
+pub record Progress {X : Type 0} (rows cols : SheetLines) (es : List (CellKey × X)) (area : Block) (lines : Run) (before found : Found X) (rest : List CellKey) : Type 0 where
   pub cells : AreCellsOf area (seen rows cols es) found
   pub still : StillHas before found
   pub pending : (k : CellKey) (q : Place) → IsSome (kept es k) → IsOnColumns area.sheet lines k → place_at rows cols k ≡ Some q → covers area q ≡ true → IsSome (look found q) ⊎ IsListed k rest
 
 -- before the first turned key
-pub begun : {X : Type 0} (rows cols : SheetLines) (m : BTreeMap CellKey X) (ts : BTreeSet CellKey) (area : Block) (lines : Run) (found : BTreeMap Place (Bor X)) (range rest : List CellKey) → AreTurned m ts → AreCellsOf area (seen rows cols m.entries) found
+pub begun : {X : Type 0} (rows cols : SheetLines) (m : BTreeMap CellKey X) (ts : BTreeSet CellKey) (area : Block) (lines : Run) (found : Found X) (range rest : List CellKey) → AreTurned m ts → AreCellsOf area (seen rows cols m.entries) found
     → rest ≡ range → range ≡ keys_between key_cmp (first_on area.sheet lines) (end_on area.sheet lines) ts → Progress rows cols m.entries area lines found found rest
 begun rows cols m ts area lines found range rest turn cells same between = record {
   cells = cells;
@@ -98,9 +95,9 @@ begun rows cols m ts area lines found range rest turn cells same between = recor
   pending = λ k q some on at there. inr (all_listed m ts area.sheet lines range rest turn same between k some on);
 }
 
-module _ {X : Type 0} (rows cols : SheetLines) (es : List (CellKey × X)) (area : Block) (lines : Run) (before : BTreeMap Place (Bor X)) where
+module _ {X : Type 0} (rows cols : SheetLines) (es : List (CellKey × X)) (area : Block) (lines : Run) (before : Found X) where
   -- the first of what is left is not in the block
-  pub pass : (found : BTreeMap Place (Bor X)) (t : CellKey) (rest : List CellKey) → Progress rows cols es area lines before found (t ∷ rest)
+  pub pass : (found : Found X) (t : CellKey) (rest : List CellKey) → Progress rows cols es area lines before found (t ∷ rest)
       → ((q : Place) → IsSome (kept es (turned t)) → place_at rows cols (turned t) ≡ Some q → covers area q ≡ true → ⊥) → Progress rows cols es area lines before found rest
   pass found t rest p out = record {
     cells = p.cells;
@@ -113,26 +110,21 @@ module _ {X : Type 0} (rows cols : SheetLines) (es : List (CellKey × X)) (area 
     ];
   }
 
-  found_there : (found new : BTreeMap Place (Bor X)) (at q : Place) (c : X) → at ≡ q → IsAdded found at c new → IsSome (look new q)
-  found_there found new at q c same added =
-      let hit : is_at (place_cmp at) q ≡ true = (eq_by_cmp-decides place_cmp-IsTotalOrder place_cmp-IsAntisymmetric at q).1 same in
-      ap is_some (added q ∙ ap (λ b. cond b (Some c) (look found q)) hit)
-
   -- the first of what is left is added
-  pub take_up : (found new : BTreeMap Place (Bor X)) (t : CellKey) (rest : List CellKey) (at : Place) (c : X) → Progress rows cols es area lines before found (t ∷ rest)
+  pub take_up : (found new : Found X) (t : CellKey) (rest : List CellKey) (at : Place) (c : X) → Progress rows cols es area lines before found (t ∷ rest)
       → place_at rows cols (turned t) ≡ Some at → covers area at ≡ true → kept es (turned t) ≡ Some c → IsAdded found at c new → Progress rows cols es area lines before new rest
   take_up found new t rest at c p here there is added = record {
-    cells = λ q x h. added_cell rows cols es area found at q c x (is_at (place_cmp at) q) refl there (get-seen_at rows cols es at (turned t) (key_of_place rows cols (turned t) at here) ∙ is) (p.cells q x) (sym (added q) ∙ h);
-    still = λ q some. subst IsSome (sym (added q)) (still_or (is_at (place_cmp at) q) c (look found q) (p.still q some));
+    cells = λ q x h. added_cell rows cols es area at q c x (is_at (place_cmp at) q) (look found q) refl there (get-seen_at rows cols es at (turned t) (key_of_place rows cols (turned t) at here) ∙ is) (p.cells q x) (sym (added q) ∙ h);
+    still = λ q some. subst IsSome (sym (added q)) (still_or (look found q) (cond (is_at (place_cmp at) q) (Some c) None) (p.still q some));
     pending = λ k q some on at' in_area. elim (p.pending k q some on at' in_area) [
-      | inl h ↦ inl (subst IsSome (sym (added q)) (still_or (is_at (place_cmp at) q) c (look found q) h))
+      | inl h ↦ inl (subst IsSome (sym (added q)) (still_or (look found q) (cond (is_at (place_cmp at) q) (Some c) None) h))
       | inr h ↦
           gone_by {P = IsSome (look new q)} t rest k (is_at (key_cmp (turned k)) t) refl h (λ e. found_there found new at q c (same_Some at q (sym here ∙ ap (place_at rows cols) (sym e) ∙ at')) added)
     ];
   }
 
   -- where no turned key is left, all cells of the columns are found
-  pub gone_through : (found : BTreeMap Place (Bor X)) → Progress rows cols es area lines before found [] → AreLinesAt (table_of cols area.sheet) lines → HasColumns area (seen rows cols es) lines.from (lines.from + lines.count) found
+  pub gone_through : (found : Found X) → Progress rows cols es area lines before found [] → AreLinesAt (table_of cols area.sheet) lines → HasColumns area (seen rows cols es) lines.from (lines.from + lines.count) found
   gone_through found p lines_at q there some low high =
       let w = key_of_seen rows cols es q some in
       elim (p.pending w.0 q w.2 (on_columns rows cols area lines q w.0 lines_at there w.1 low high) (place_of_key rows cols q w.0 w.1) there) [

@@ -30,8 +30,9 @@ use Rattle.grid_store.specs.declared.draft.Draft.{Draft}
 use Rattle.grid_store.specs.declared.grid.Grid.{Grid}
 use Rattle.grid_store.specs.declared.key.CellKey.{CellKey}
 use Rattle.grid_store.specs.declared.way.Going.{Going}
-use Rattle.grid_store.specs.internal.Drafting.{AreMade, AreTakenOut, IsLaidOver, KeepsBase, is_gone, or_else}
-use Rattle.grid_store.specs.internal.Listing.{look}
+use Rattle.grid_store.specs.internal.Drafting.{AreMade, AreTakenOut, IsLaidOver, KeepsBase, is_gone}
+use Rattle.grid_store.specs.internal.Lists.{or_else}
+use Rattle.grid_store.specs.internal.Listing.{look_in}
 use Rattle.grid_store.specs.internal.Renewal.{IsRenewalOver}
 use Rattle.grid_store.specs.internal.Ways.{carried_map, form_goes, line_goes, turned}
 use Rattle.grid_store.proofs.ChangedMaps.{changed_inside, changes-carried, get-changed, one-change}
@@ -194,11 +195,11 @@ in_turn None false change s = refl
 in_turn (Some c) b change s = refl
 
 pub laid_on : {X : Type 0} (front : List (Place × Bor (Option X))) (at : Place) (change : Bor (Option X)) (found new : BTreeMap Place (Bor X)) → IsLaidOver at change.now found new
-    → (q : Place) → unwrap_or (find_place q (seen_items front)) (look new q) ≡ unwrap_or (find_place q (seen_items (front ++ (at, change) ∷ []))) (look found q)
+    → (q : Place) → unwrap_or (find_place q (seen_items front)) (look_in new.entries q) ≡ unwrap_or (find_place q (seen_items (front ++ (at, change) ∷ []))) (look_in found.entries q)
 laid_on front at change found new laid q =
-    ap (unwrap_or (find_place q (seen_items front))) (laid q ∙ ap (λ b. cond b change.now (look found q)) (turned-test at q))
-    ∙ in_turn (find_place q (seen_items front)) (eq_by_cmp place_cmp q at) change.now (look found q)
-    ∙ ap (λ r. unwrap_or r (look found q)) (sym (find-last (seen_items front) (at, change.now) q)) ∙ ap (λ es. unwrap_or (find_place q es) (look found q)) (sym (seen-last front (at, change)))
+    ap (unwrap_or (find_place q (seen_items front))) (laid q ∙ ap (λ b. cond b change.now (look_in found.entries q)) (turned-test at q))
+    ∙ in_turn (find_place q (seen_items front)) (eq_by_cmp place_cmp q at) change.now (look_in found.entries q)
+    ∙ ap (λ r. unwrap_or r (look_in found.entries q)) (sym (find-last (seen_items front) (at, change.now) q)) ∙ ap (λ es. unwrap_or (find_place q es) (look_in found.entries q)) (sym (seen-last front (at, change)))
 
 within_both : {X : Type 0} (b : Bool) (r : Option (Option X)) (s : Option X) → unwrap_or (cond b r None) (cond b s None) ≡ cond b (unwrap_or r s) None
 within_both true r s = refl
@@ -206,8 +207,8 @@ within_both false r s = refl
 
 -- the changes of a block laid over its cells
 pub laid_found : {X : Type 0} (area : Block) (c : PlaceMap (Option X)) (m : PlaceMap X) (found new : BTreeMap Place (Bor X)) (es : List (Place × Option X)) → es ≡ entries (within area c)
-    → ((q : Place) → look found q ≡ cond (covers area q) (get m q) None) → ((q : Place) → look new q ≡ unwrap_or (find_place q es) (look found q))
-    → (q : Place) → look new q ≡ cond (covers area q) (get (with_changes (entries c) m) q) None
+    → ((q : Place) → look_in found.entries q ≡ cond (covers area q) (get m q) None) → ((q : Place) → look_in new.entries q ≡ unwrap_or (find_place q es) (look_in found.entries q))
+    → (q : Place) → look_in new.entries q ≡ cond (covers area q) (get (with_changes (entries c) m) q) None
 laid_found area c m found new es is there laid q =
     laid q ∙ (λ i. unwrap_or (find_place q (is i)) (there q i))
     ∙ ap (λ r. unwrap_or r (cond (covers area q) (get m q) None)) (sym (get-entries (within area c) q) ∙ get-kept c (covers area) q)

@@ -10,7 +10,8 @@ use Rattle.grid_store.specs.Draft.{is_one_of}
 use Rattle.stable_lines.specs.declared.sheets.SheetLines.{SheetLines}
 use Rattle.grid_store.specs.Keys.{key_cmp, place_at}
 use Rattle.grid_store.specs.declared.key.CellKey.{CellKey}
-use Rattle.grid_store.specs.internal.Drafting.{AreAllFresh, AreAllKept, AreKeptOver, KeepsAll, emptied_by, emptied_of, fresh_of, or_else, over_of, placed_if, under}
+use Rattle.grid_store.specs.internal.Drafting.{AreAllFresh, AreAllKept, AreKeptOver, KeepsAll, emptied_by, emptied_of, fresh_of, over_of, placed_if, under}
+use Rattle.grid_store.specs.internal.Lists.{or_else}
 use Rattle.grid_store.proofs.KeyOrder.{key_cmp-IsTotalOrder, key_cmp-IsAntisymmetric}
 use Rattle.grid_store.proofs.Views.{above_none}
 
@@ -38,7 +39,7 @@ under-last [] e k = refl
 under-last (f ∷ front) e k =
     ap (cond (is_at (key_cmp k) f.0) (Some f.1)) (under-last front e k) ∙ last-or (is_at (key_cmp k) f.0) f.1 (under front k) (cond (is_at (key_cmp k) e.0) (Some e.1) None)
 
-in-turn : {X : Type 0} (r : Option X) (b : Bool) (x : X) (s : Option X) → or_else r (cond b (Some x) s) ≡ or_else (or_else r (cond b (Some x) None)) s
+pub in-turn : {X : Type 0} (r : Option X) (b : Bool) (x : X) (s : Option X) → or_else r (cond b (Some x) s) ≡ or_else (or_else r (cond b (Some x) None)) s
 in-turn None true x s = refl
 in-turn None false x s = refl
 in-turn (Some y) b x s = refl

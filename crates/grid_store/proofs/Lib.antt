@@ -18,4 +18,6 @@ pub mod ColumnKeys
 pub mod LinesRenewed
 pub mod ChangedMaps
 pub mod KeyChanges
+pub mod FoundCells
+pub mod RunPlaces
 pub mod Drafts

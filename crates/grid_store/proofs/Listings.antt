@@ -11,7 +11,6 @@ use Rattle.std.proofs.lemmas.Bool.Decides.{nat_tests}
 use Rattle.std.proofs.lemmas.Map.Entries.{lookup-filter-keys}
 use Rattle.std.proofs.lemmas.Map.Made.{keys_of-map_values, lookup-map_values}
 use Rattle.std.specs.List.Sorted.{IsStrictlySortedBy}
-use Rattle.std.specs.BTreeMap as tree
 use Rattle.std.specs.BTreeMap.{BTreeMap, is_at}
 use Rattle.std.specs.FinMap as map
 use Rattle.std.specs.List.{All, AllByRecursion}
@@ -35,7 +34,8 @@ use Rattle.stable_lines.specs.declared.sheets.SheetLines.{SheetLines}
 use Rattle.grid_store.specs.Grid.{HasAny, seen_items}
 use Rattle.grid_store.specs.Keys.{key_at, key_cmp, place_at}
 use Rattle.grid_store.specs.declared.key.CellKey.{CellKey}
-use Rattle.grid_store.specs.internal.Listing.{AreCellsOf, AreLinesAt, HasNone, HasRows, IsAdded, StillHas, look}
+use Rattle.grid_store.specs.internal.Listing.{AreCellsOf, AreLinesAt, Found, HasNone, HasRows, IsAdded, IsInOrder, StillHas, look, look_in}
+use Rattle.grid_store.specs.internal.Lists.{or_else}
 use Rattle.grid_store.proofs.KeyOrder.{key_cmp-IsTotalOrder, key_cmp-IsAntisymmetric}
 use Rattle.grid_store.proofs.KeyPlaces.{inside_key, key_col, key_line, key_of_place, key_sheet, place_of_key}
 use Rattle.grid_store.proofs.Views.{get-seen_at, kept, key_of_seen, seen}
@@ -52,7 +52,7 @@ abbrev pub IsIn : ℕ → ℕ → Run → CellKey → Type 0
 IsIn sheet row lines k = (k.sheet ≡ sheet) × (k.row ≡ row) × (lines.to ≤ k.col) × (k.col < lines.to + lines.count)
 
 -- the block's cells under some keys, as far as these have been gone through
-pub record Progress {X : Type 0} (rows cols : SheetLines) (es : List (CellKey × X)) (area : Block) (IsSought : CellKey → Type 0) (before found : BTreeMap Place (Bor X)) (rest : List (CellKey × X)) : Type 0 where
+pub record Progress {X : Type 0} (rows cols : SheetLines) (es : List (CellKey × X)) (area : Block) (IsSought : CellKey → Type 0) (before found : Found X) (rest : List (CellKey × X)) : Type 0 where
   pub cells : AreCellsOf area (seen rows cols es) found
   pub still : StillHas before found
   pub entries : AllByRecursion (λ e. kept es e.0 ≡ Some e.1) rest
@@ -85,26 +85,37 @@ same_key_test : (k l : CellKey) → (is_at (key_cmp k) l ≡ true) → k ≡ l
 same_key_test k l h = (eq_by_cmp-decides key_cmp-IsTotalOrder key_cmp-IsAntisymmetric k l).0 h
 
 -- what is found once a cell is added
-pub added_cell : {X : Type 0} (rows cols : SheetLines) (es : List (CellKey × X)) (area : Block) (found : BTreeMap Place (Bor X)) (at q : Place) (cell c : X) (b : Bool) → is_at (place_cmp at) q ≡ b → covers area at ≡ true → map.get (seen rows cols es) at ≡ Some cell
-    → (look found q ≡ Some c → (covers area q ≡ true) × (map.get (seen rows cols es) q ≡ Some c)) → cond b (Some cell) (look found q) ≡ Some c
+pub added_cell : {X : Type 0} (rows cols : SheetLines) (es : List (CellKey × X)) (area : Block) (at q : Place) (cell c : X) (b : Bool) (before : Option X) → is_at (place_cmp at) q ≡ b → covers area at ≡ true → map.get (seen rows cols es) at ≡ Some cell
+    → (before ≡ Some c → (covers area q ≡ true) × (map.get (seen rows cols es) q ≡ Some c)) → or_else before (cond b (Some cell) None) ≡ Some c
     → (covers area q ≡ true) × (map.get (seen rows cols es) q ≡ Some c)
-added_cell rows cols es area found at q cell c true same there here others h =
+added_cell rows cols es area at q cell c b (Some x) same there here others h = others h
+added_cell rows cols es area at q cell c true None same there here others h =
     let e = same_place_test at q same in
     (ap (covers area) (sym e) ∙ there, ap (map.get (seen rows cols es)) (sym e) ∙ here ∙ h)
-added_cell rows cols es area found at q cell c false same there here others h = others h
+added_cell rows cols es area at q cell c false None same there here others h = cc
 
-pub still_or : {X : Type 0} (b : Bool) (c : X) (r : Option X) → IsSome r → IsSome (cond b (Some c) r)
-still_or true c r h = refl
-still_or false c r h = h
+pub still_or : {X : Type 0} (r s : Option X) → IsSome r → IsSome (or_else r s)
+still_or None s h = cc
+still_or (Some x) s h = refl
 
-module _ {X : Type 0} (rows cols : SheetLines) (es : List (CellKey × X)) (area : Block) (IsSought : CellKey → Type 0) (before : BTreeMap Place (Bor X)) where
+-- what is found at a place once a cell is added there
+added_there : {X : Type 0} (r : Option X) (c : X) → IsSome (or_else r (Some c))
+added_there None c = refl
+added_there (Some x) c = refl
+
+pub found_there : {X : Type 0} (found new : Found X) (at q : Place) (c : X) → at ≡ q → IsAdded found at c new → IsSome (look new q)
+found_there found new at q c same added =
+    let hit : is_at (place_cmp at) q ≡ true = (eq_by_cmp-decides place_cmp-IsTotalOrder place_cmp-IsAntisymmetric at q).1 same in
+    subst IsSome (sym (added q ∙ ap (λ b. or_else (look found q) (cond b (Some c) None)) hit)) (added_there (look found q) c)
+
+module _ {X : Type 0} (rows cols : SheetLines) (es : List (CellKey × X)) (area : Block) (IsSought : CellKey → Type 0) (before : Found X) where
   -- the first of what is left is not in the block
   passed_on : (e : CellKey × X) (rest : List (CellKey × X)) (k : CellKey) (q : Place) (b : Bool) (P : Type 0) → is_at (key_cmp k) e.0 ≡ b → (place_at rows cols e.0 ≡ Some q → covers area q ≡ true → ⊥)
       → place_at rows cols k ≡ Some q → covers area q ≡ true → IsSome (cond b (Some e.1) (kept rest k)) → P ⊎ IsSome (kept rest k)
   passed_on e rest k q true P same out at there some = absurd (out (ap (place_at rows cols) (sym (same_key_test k e.0 same)) ∙ at) there)
   passed_on e rest k q false P same out at there some = inr some
 
-  pub pass : (found : BTreeMap Place (Bor X)) (e : CellKey × X) (rest : List (CellKey × X)) → Progress rows cols es area IsSought before found (e ∷ rest)
+  pub pass : (found : Found X) (e : CellKey × X) (rest : List (CellKey × X)) → Progress rows cols es area IsSought before found (e ∷ rest)
       → ((q : Place) → place_at rows cols e.0 ≡ Some q → covers area q ≡ true → ⊥) → Progress rows cols es area IsSought before found rest
   pass found e rest p out = record {
     cells = p.cells;
@@ -117,28 +128,26 @@ module _ {X : Type 0} (rows cols : SheetLines) (es : List (CellKey × X)) (area 
   }
 
   -- the first of what is left is added
-  added_pending : (found new : BTreeMap Place (Bor X)) (e : CellKey × X) (rest : List (CellKey × X)) (at : Place) (k : CellKey) (q : Place) (b : Bool) → is_at (key_cmp k) e.0 ≡ b → place_at rows cols e.0 ≡ Some at
+  added_pending : (found new : Found X) (e : CellKey × X) (rest : List (CellKey × X)) (at : Place) (k : CellKey) (q : Place) (b : Bool) → is_at (key_cmp k) e.0 ≡ b → place_at rows cols e.0 ≡ Some at
       → IsAdded found at e.1 new → place_at rows cols k ≡ Some q → IsSome (cond b (Some e.1) (kept rest k)) → IsSome (look new q) ⊎ IsSome (kept rest k)
   added_pending found new e rest at k q true same here added there some =
-      let one : at ≡ q = same_Some at q (sym here ∙ ap (place_at rows cols) (sym (same_key_test k e.0 same)) ∙ there) in
-      let hit : is_at (place_cmp at) q ≡ true = (eq_by_cmp-decides place_cmp-IsTotalOrder place_cmp-IsAntisymmetric at q).1 one in
-      inl (ap is_some (added q ∙ ap (λ b. cond b (Some e.1) (look found q)) hit))
+      inl (found_there found new at q e.1 (same_Some at q (sym here ∙ ap (place_at rows cols) (sym (same_key_test k e.0 same)) ∙ there)) added)
   added_pending found new e rest at k q false same here added there some = inr some
 
-  pub take_up : (found new : BTreeMap Place (Bor X)) (e : CellKey × X) (rest : List (CellKey × X)) (at : Place) → Progress rows cols es area IsSought before found (e ∷ rest)
+  pub take_up : (found new : Found X) (e : CellKey × X) (rest : List (CellKey × X)) (at : Place) → Progress rows cols es area IsSought before found (e ∷ rest)
       → place_at rows cols e.0 ≡ Some at → covers area at ≡ true → IsAdded found at e.1 new → Progress rows cols es area IsSought before new rest
   take_up found new e rest at p here there added = record {
-    cells = λ q c h. added_cell rows cols es area found at q e.1 c (is_at (place_cmp at) q) refl there (get-seen_at rows cols es at e.0 (key_of_place rows cols e.0 at here) ∙ p.entries.0) (p.cells q c) (sym (added q) ∙ h);
-    still = λ q some. subst IsSome (sym (added q)) (still_or (is_at (place_cmp at) q) e.1 (look found q) (p.still q some));
+    cells = λ q c h. added_cell rows cols es area at q e.1 c (is_at (place_cmp at) q) (look found q) refl there (get-seen_at rows cols es at e.0 (key_of_place rows cols e.0 at here) ∙ p.entries.0) (p.cells q c) (sym (added q) ∙ h);
+    still = λ q some. subst IsSome (sym (added q)) (still_or (look found q) (cond (is_at (place_cmp at) q) (Some e.1) None) (p.still q some));
     entries = p.entries.1;
     pending = λ k q some on at' in_area. elim (p.pending k q some on at' in_area) [
-      | inl h ↦ inl (subst IsSome (sym (added q)) (still_or (is_at (place_cmp at) q) e.1 (look found q) h))
+      | inl h ↦ inl (subst IsSome (sym (added q)) (still_or (look found q) (cond (is_at (place_cmp at) q) (Some e.1) None) h))
       | inr h ↦ added_pending found new e rest at k q (is_at (key_cmp k) e.0) refl here added at' h
     ];
   }
 
 -- where no key is left, all cells on the lines are found
-pub gone_through : {X : Type 0} (rows cols : SheetLines) (es : List (CellKey × X)) (area : Block) (row : ℕ) (lines : Run) (before found : BTreeMap Place (Bor X)) → Progress rows cols es area (IsIn area.sheet row lines) before found [] → AreLinesAt (table_of cols area.sheet) lines
+pub gone_through : {X : Type 0} (rows cols : SheetLines) (es : List (CellKey × X)) (area : Block) (row : ℕ) (lines : Run) (before found : Found X) → Progress rows cols es area (IsIn area.sheet row lines) before found [] → AreLinesAt (table_of cols area.sheet) lines
     → (k : CellKey) (q : Place) → IsSome (kept es k) → k.row ≡ row → place_at rows cols k ≡ Some q → covers area q ≡ true → lines.from ≤ q.col → q.col < lines.from + lines.count → IsSome (look found q)
 gone_through rows cols es area row lines before found p lines_at k q some on at there low high =
     elim (p.pending k q some (in_lines rows cols area row lines q k lines_at (Covers-from_covers area q there) (key_of_place rows cols k q at) on low high) at there) [
@@ -178,7 +187,7 @@ kept_between low high es k inside =
     lookup-filter-keys (is_at (key_cmp k)) (range_contains key_cmp low high) true (λ l same. ap (range_contains key_cmp low high) (sym (same_key_test k l same)) ∙ inside) es
 
 -- before the first key, where those that are sought are of the range
-pub begun : {X : Type 0} (rows cols : SheetLines) (m : BTreeMap CellKey X) (area : Block) (IsSought : CellKey → Type 0) (low high : Bound CellKey) (found : BTreeMap Place (Bor X)) (range rest : List (CellKey × X)) → AreCellsOf area (seen rows cols m.entries) found
+pub begun : {X : Type 0} (rows cols : SheetLines) (m : BTreeMap CellKey X) (area : Block) (IsSought : CellKey → Type 0) (low high : Bound CellKey) (found : Found X) (range rest : List (CellKey × X)) → AreCellsOf area (seen rows cols m.entries) found
     → ((k : CellKey) → IsSought k → range_contains key_cmp low high k ≡ true) → rest ≡ range → range ≡ entries_between key_cmp low high m.entries
     → All (IsEntryInRange key_cmp low high m) range → Progress rows cols m.entries area IsSought found found rest
 begun rows cols m area IsSought low high found range rest cells inside same between all = record {
@@ -245,7 +254,7 @@ stands_before rows cols rl cl sheet col past k q at =
     ]
 
 -- where the cells on the lines of some rows are found, those of the rows are
-pub rows_found : {X : Type 0} (rows cols : SheetLines) (es : List (CellKey × X)) (area : Block) (lines : Run) (found : BTreeMap Place (Bor X)) → AreLinesAt (table_of rows area.sheet) lines
+pub rows_found : {X : Type 0} (rows cols : SheetLines) (es : List (CellKey × X)) (area : Block) (lines : Run) (found : Found X) → AreLinesAt (table_of rows area.sheet) lines
     → ((k : CellKey) (q : Place) → IsSome (kept es k) → place_at rows cols k ≡ Some q → covers area q ≡ true → lines.to ≤ k.row → k.row < lines.to + lines.count → IsSome (look found q))
     → HasRows area (seen rows cols es) lines.from (lines.from + lines.count) found
 rows_found rows cols es area lines found lines_at h q there some low high =
@@ -254,7 +263,7 @@ rows_found rows cols es area lines found lines_at h q there some low high =
     h w.0 q w.2 (place_of_key rows cols q w.0 w.1) there on.1 on.2
 
 -- what is found at a place, where all of the block is
-module _ {X : Type 0} (area : Block) (m : PlaceMap X) (found : BTreeMap Place (Bor X)) (cells : AreCellsOf area m found) (rows : HasRows area m 0 (area.bottom + 1) found) where
+module _ {X : Type 0} (area : Block) (m : PlaceMap X) (found : Found X) (cells : AreCellsOf area m found) (rows : HasRows area m 0 (area.bottom + 1) found) where
   found-by : (q : Place) (b : Bool) (r s : Option X) → covers area q ≡ b → look found q ≡ r → map.get m q ≡ s → r ≡ cond b s None
   found-by q true None None e f g = refl
   found-by q true None (Some c) e f g =
@@ -268,13 +277,13 @@ module _ {X : Type 0} (area : Block) (m : PlaceMap X) (found : BTreeMap Place (B
   all_found q = found-by q (covers area q) (look found q) (map.get m q) refl refl refl
 
 -- what is found are the entries of a block, where it is at each place
-pub entries_found : {X : Type 0} (area : Block) (m : PlaceMap X) (found : BTreeMap Place (Bor X)) → ((q : Place) → look found q ≡ cond (covers area q) (map.get m q) None) → tree.IsOrdered place_cmp found
-    → seen_items found.entries ≡ map.entries (map.retain_keys m (covers area))
+pub entries_found : {X : Type 0} (area : Block) (m : PlaceMap X) (found : List (Place × Bor X)) → ((q : Place) → look_in found q ≡ cond (covers area q) (map.get m q) None) → IsInOrder found
+    → seen_items found ≡ map.entries (map.retain_keys m (covers area))
 entries_found area m found there ordered =
-    let es = seen_items found.entries in
-    sym (entries-from_entries place_cmp-IsTotalOrder es (subst (IsStrictlySortedBy place_cmp) (sym (keys_of-map_values (λ b. b.now) found.entries)) ordered))
+    let es = seen_items found in
+    sym (entries-from_entries place_cmp-IsTotalOrder es (subst (IsStrictlySortedBy place_cmp) (sym (keys_of-map_values (λ b. b.now) found)) ordered))
     ∙ ap map.entries (map.same_map place_cmp-IsTotalOrder place_cmp-IsAntisymmetric (map.from_entries es) (map.retain_keys m (covers area)) (λ q.
-    sym (lookup-from_entries place_cmp-IsTotalOrder es q) ∙ lookup-map_values (λ b. b.now) (is_at (place_cmp q)) found.entries ∙ there q
+    sym (lookup-from_entries place_cmp-IsTotalOrder es q) ∙ lookup-map_values (λ b. b.now) (is_at (place_cmp q)) found ∙ there q
     ∙ sym (map.get-retain_keys m (covers area) q (λ x t. ap (covers area) (sym (place_cmp-IsAntisymmetric q x t))))))
 
 -- past the sheet's last row no cell is seen

@@ -1,6 +1,5 @@
 -- A block's cells gone through in the order of their keys, up to one beside its columns. Serves the lists of cells.
-use Rattle.std.proofs.Common.{◌≡◌, ◌∙◌, sym, ap, refl, subst, ℕ, ◌+◌, ◌<◌, ◌≤◌, ◌⊎◌, inl, inr, Bool, true, false, cond, List, [], ◌∷◌, Some, None, IsSome, is_some, arith}
-use Rattle.std.specs.Borrow.{Bor}
+use Rattle.std.proofs.Common.{◌≡◌, ◌∙◌, sym, ap, refl, subst, ℕ, ◌+◌, ◌<◌, ◌≤◌, inl, inr, Bool, true, false, cond, List, [], ◌∷◌, Some, IsSome, is_some, arith}
 use Rattle.std.specs.BTreeMap.{BTreeMap, IsOrdered, is_at}
 use Rattle.std.specs.BTreeMap.Range.{IsEntryInRange, IsInRange, entries_between, range_contains}
 use Rattle.std.specs.List.{All, AllByRecursion, filter}
@@ -18,7 +17,7 @@ use Rattle.std.proofs.lemmas.List.Kept.{IsStrictlySortedBy-filter}
 use Rattle.std.proofs.lemmas.Map.{lookup-none}
 use Rattle.std.proofs.lemmas.Map.Entries.{none_below_head}
 use Rattle.std.proofs.lemmas.Map.Keys.{sorted_tail}
-use Rattle.cell_addr.specs.Place.{Covers, covers}
+use Rattle.cell_addr.specs.Place.{covers}
 use Rattle.cell_addr.specs.declared.place.Block.{Block}
 use Rattle.cell_addr.specs.declared.place.Place.{Place}
 use Rattle.shift_core.proofs.CellMoves.{Covers-from_covers}
@@ -27,10 +26,10 @@ use Rattle.stable_lines.specs.declared.run.Run.{Run}
 use Rattle.stable_lines.specs.declared.sheets.SheetLines.{SheetLines}
 use Rattle.grid_store.specs.Keys.{key_cmp, place_at}
 use Rattle.grid_store.specs.declared.key.CellKey.{CellKey}
-use Rattle.grid_store.specs.internal.Listing.{AreCellsOf, AreLinesAt, SpansColumns, look}
+use Rattle.grid_store.specs.internal.Listing.{AreCellsOf, AreLinesAt, Found, SpansColumns, look}
 use Rattle.grid_store.proofs.KeyOrder.{key_cmp-IsTotalOrder}
 use Rattle.grid_store.proofs.KeyPlaces.{key_of_place}
-use Rattle.grid_store.proofs.Listings.{Progress, begun, both, covers_sheet, in_lines, row_order}
+use Rattle.grid_store.proofs.Listings.{Progress, begun, both, in_lines, row_order}
 use Rattle.grid_store.proofs.Views.{kept, seen}
 
 -- the key is of the sheet, and its lines are among these rows and columns
@@ -45,7 +44,7 @@ abbrev pub end_over : ℕ → ℕ → Bound CellKey
 end_over sheet high = Excluded (record { sheet = sheet; row = high; col = 0 })
 
 -- the block's cells on some lines of rows and of columns, as far as their keys have been gone through in order
-pub record Stretch {X : Type 0} (rows cols : SheetLines) (es : List (CellKey × X)) (area : Block) (low high : ℕ) (lines : Run) (before found : BTreeMap Place (Bor X)) (rest : List (CellKey × X)) : Type 0 where
+pub record Stretch {X : Type 0} (rows cols : SheetLines) (es : List (CellKey × X)) (area : Block) (low high : ℕ) (lines : Run) (before found : Found X) (rest : List (CellKey × X)) : Type 0 where
   pub progress : Progress rows cols es area (IsOver area.sheet low high lines) before found rest
   pub sorted : IsStrictlySortedBy key_cmp (keys_of rest)
   pub inside : AllByRecursion (λ e. IsInRange key_cmp (first_over area.sheet low lines) (end_over area.sheet high) e.0) rest
@@ -73,7 +72,7 @@ inside_only low high m [] h = tt
 inside_only low high m (e ∷ rest) h = (h.0.0, inside_only low high m rest h.1)
 
 -- before the first key
-pub stretch_begun : {X : Type 0} (rows cols : SheetLines) (m : BTreeMap CellKey X) (area : Block) (low high : ℕ) (lines : Run) (found : BTreeMap Place (Bor X)) (range rest : List (CellKey × X)) → AreCellsOf area (seen rows cols m.entries) found
+pub stretch_begun : {X : Type 0} (rows cols : SheetLines) (m : BTreeMap CellKey X) (area : Block) (low high : ℕ) (lines : Run) (found : Found X) (range rest : List (CellKey × X)) → AreCellsOf area (seen rows cols m.entries) found
     → rest ≡ range → range ≡ entries_between key_cmp (first_over area.sheet low lines) (end_over area.sheet high) m.entries
     → All (IsEntryInRange key_cmp (first_over area.sheet low lines) (end_over area.sheet high) m) range → IsOrdered key_cmp m → Stretch rows cols m.entries area low high lines found found rest
 stretch_begun rows cols m area low high lines found range rest cells same between all ordered =
@@ -104,14 +103,18 @@ in_later_row sheet low col s r c from e f = grind (arith, nat_tests)
 col_order : (sheet s t a b c d : ℕ) → s ≡ sheet → t ≡ sheet → is_gt (ordering_then (nat_cmp s t) (ordering_then (nat_cmp a b) (nat_cmp c d))) ≡ false → b ≤ a → c ≤ d
 col_order sheet s t a b c d e f g h = grind (arith, nat_tests)
 
-module _ {X : Type 0} (rows cols : SheetLines) (es : List (CellKey × X)) (area : Block) (low high : ℕ) (lines : Run) (before : BTreeMap Place (Bor X)) where
+module _ {X : Type 0} (rows cols : SheetLines) (es : List (CellKey × X)) (area : Block) (low high : ℕ) (lines : Run) (before : Found X) where
   -- the first of what is left is gone through
-  pub stretch_on : (found new : BTreeMap Place (Bor X)) (e : CellKey × X) (rest : List (CellKey × X)) → Stretch rows cols es area low high lines before found (e ∷ rest)
+  pub stretch_on : (found new : Found X) (e : CellKey × X) (rest : List (CellKey × X)) → Stretch rows cols es area low high lines before found (e ∷ rest)
       → Progress rows cols es area (IsOver area.sheet low high lines) before new rest → Stretch rows cols es area low high lines before new rest
   stretch_on found new e rest s p = record { progress = p; sorted = sorted_tail key_cmp e.0 (keys_of rest) s.sorted; inside = s.inside.1 }
 
+  -- the first of what is left is of the sheet and of these lines of rows
+  pub first_inside : (found : Found X) (e : CellKey × X) (rest : List (CellKey × X)) → Stretch rows cols es area low high lines before found (e ∷ rest) → (e.0.sheet ≡ area.sheet) × (low ≤ e.0.row) × (e.0.row < high)
+  first_inside found e rest s = in_range_parts area.sheet low high lines.to e.0.sheet e.0.row e.0.col s.inside.0.0 s.inside.0.1
+
   -- all of the block's cells on the lines of rows from the first to before another are found
-  abbrev pub AreFoundTo : ℕ → BTreeMap Place (Bor X) → Type 0
+  abbrev pub AreFoundTo : ℕ → Found X → Type 0
   AreFoundTo next found = (k : CellKey) (q : Place) → IsSome (kept es k) → place_at rows cols k ≡ Some q → covers area q ≡ true → low ≤ k.row → k.row < next → IsSome (look found q)
 
   module _ (lines_at : AreLinesAt (table_of cols area.sheet) lines) (spans : SpansColumns area lines) where
@@ -122,14 +125,14 @@ module _ {X : Type 0} (rows cols : SheetLines) (es : List (CellKey × X)) (area 
         (w.0, from, under, w.2, w.3)
 
     -- where no key is left, all are found
-    pub found_all : (found : BTreeMap Place (Bor X)) → Stretch rows cols es area low high lines before found [] → AreFoundTo high found
+    pub found_all : (found : Found X) → Stretch rows cols es area low high lines before found [] → AreFoundTo high found
     found_all found s k q some at there from under =
         elim (s.progress.pending k q some (over k q at there from under) at there) [
           | inl h ↦ h
           | inr h ↦ cc
         ]
 
-    found_before : (found : BTreeMap Place (Bor X)) (e : CellKey × X) (rest : List (CellKey × X)) → Stretch rows cols es area low high lines before found (e ∷ rest)
+    found_before : (found : Found X) (e : CellKey × X) (rest : List (CellKey × X)) → Stretch rows cols es area low high lines before found (e ∷ rest)
         → (next : ℕ) → next ≤ high → ((k : CellKey) → IsOver area.sheet low high lines k → k.row < next → is_gt (key_cmp e.0 k) ≡ false → ⊥) → AreFoundTo next found
     found_before found e rest s next upto none k q some at there from under =
         let on = over k q at there from (omega (arith, under, upto)) in
@@ -139,7 +142,7 @@ module _ {X : Type 0} (rows cols : SheetLines) (es : List (CellKey × X)) (area 
         ]
 
     -- the first of what is left is before the columns: the cells of the lines before its own are found
-    pub found_to_left : (found : BTreeMap Place (Bor X)) (e : CellKey × X) (rest : List (CellKey × X)) → Stretch rows cols es area low high lines before found (e ∷ rest) → e.0.col < lines.to
+    pub found_to_left : (found : Found X) (e : CellKey × X) (rest : List (CellKey × X)) → Stretch rows cols es area low high lines before found (e ∷ rest) → e.0.col < lines.to
         → (low < e.0.row) × (e.0.row ≤ high) × AreFoundTo e.0.row found
     found_to_left found e rest s left =
         let own = in_range_parts area.sheet low high lines.to e.0.sheet e.0.row e.0.col s.inside.0.0 s.inside.0.1 in (
@@ -150,7 +153,7 @@ module _ {X : Type 0} (rows cols : SheetLines) (es : List (CellKey × X)) (area 
         )
 
     -- the first of what is left is behind the columns: the cells of its line are found too
-    pub found_to_right : (found : BTreeMap Place (Bor X)) (e : CellKey × X) (rest : List (CellKey × X)) → Stretch rows cols es area low high lines before found (e ∷ rest) → lines.to + lines.count ≤ e.0.col
+    pub found_to_right : (found : Found X) (e : CellKey × X) (rest : List (CellKey × X)) → Stretch rows cols es area low high lines before found (e ∷ rest) → lines.to + lines.count ≤ e.0.col
         → (low < e.0.row + 1) × (e.0.row + 1 ≤ high) × AreFoundTo (e.0.row + 1) found
     found_to_right found e rest s right =
         let own = in_range_parts area.sheet low high lines.to e.0.sheet e.0.row e.0.col s.inside.0.0 s.inside.0.1 in (

@@ -1,17 +1,15 @@
 // Blocks of whole columns, looked through by what is kept in these.
-ghost use Rattle.std.specs.Prelude.{◌≡◌, ◌↔◌, ◌+◌, ◌<◌, false, IsTrue, OnOk};
-ghost use Rattle.std.specs.BTreeMap.{IsEmpty};
+ghost use Rattle.std.specs.Prelude.{◌≡◌, ◌↔◌, ◌+◌, ◌<◌, [], false, IsTrue, OnOk};
 ghost use Rattle.stable_lines.specs.Sheets.{table_of};
 ghost use Rattle.grid_store.specs.Grid.{HasAny};
 ghost use Rattle.grid_store.specs.internal.Listing.{AreCellsOf, AreLinesAt, HasColumns, HasRows, LacksColumns, StillHas, shown};
 
+use crate::found::put;
 use crate::key::CellKey;
-use crate::listing::add;
 use crate::view::View;
 use cell_addr::{Block, COLS, Place, ROWS};
 use stable_lines::Run;
 use std::alloc::AllocError;
-use std::collections::BTreeMap;
 
 // Whether the block is looked through by its columns: where it has all rows, but not all columns. Only cost depends on it.
 pub(crate) fn is_of_columns(area: Block) -> bool {
@@ -23,9 +21,9 @@ impl<'a, V: Drop> View<'a, V> {
     pub(crate) fn find_by_cols(
         &self,
         area: Block,
-        found: &mut BTreeMap<Place, &'a V>,
+        found: &mut Vec<(Place, &'a V)>,
     ) -> Result<(), AllocError>
-        requires { IsEmpty found.old }
+        requires { found.old.items ≡ [] }
         ensures cells { OnOk result (AreCellsOf area (shown self.now) found.new) }
         ensures rows { OnOk result (HasRows area (shown self.now) 0 (area.bottom + 1) found.new) }
     {
@@ -47,7 +45,7 @@ impl<'a, V: Drop> View<'a, V> {
         &self,
         area: Block,
         lines: Run,
-        found: &mut BTreeMap<Place, &'a V>,
+        found: &mut Vec<(Place, &'a V)>,
     ) -> Result<(), AllocError>
         requires cells { AreCellsOf area (shown self.now) found.old }
         requires lines { AreLinesAt (table_of self.now.cols.now area.sheet) lines }
@@ -72,7 +70,7 @@ impl<'a, V: Drop> View<'a, V> {
             if let Some(at) = self.place(key) {
                 if area.holds(at) {
                     if let Some(cell) = self.cells.by_rows().get(&key) {
-                        add(found, at, cell)?;
+                        put(found, at, cell)?;
                     }
                 }
             }

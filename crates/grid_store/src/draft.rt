@@ -18,17 +18,17 @@ use crate::cells::Cells;
 use crate::change::whole;
 use crate::drafting::lay_over;
 use crate::duplicate::Duplicate;
+use crate::found::{by_place, in_order};
 use crate::grid::Grid;
 use crate::key::CellKey;
 use crate::list::CellList;
-use crate::listing::{copies, in_order};
+use crate::listing::copies;
 use crate::moving::{blocks, both_places, carried};
 use crate::view::View;
 use crate::way::{Going, lost_lines};
 use cell_addr::{Axis, Block, Place};
 use shift_core::{Edit, Form, Shift};
 use std::alloc::AllocError;
-use std::collections::BTreeMap;
 
 /// Changes of a grid that are made on the side, one after the other, and then put in place together.
 ///
@@ -260,8 +260,9 @@ impl<V: Duplicate> Draft<V> {
     fn listed(&self, grid: &Grid<V>, area: Block) -> Result<CellList<V>, AllocError>
         ensures { IfOk result (λ list. items_of list ≡ map.entries (within area (drafted grid.now self.now))) }
     {
-        let mut found = BTreeMap::new(grid.alloc);
+        let mut found = Vec::new(grid.alloc);
         self.view(grid).find(area, &mut found)?;
+        let mut found = by_place(grid.alloc, found)?;
         lay_over(self.changes.listed_refs(area)?, &mut found)?;
         let list = in_order(grid.alloc, found)?;
         copies(grid.alloc, &list)

@@ -8,8 +8,8 @@ ghost use Rattle.grid_store.specs.Keys.{key_cmp, place_at};
 ghost use Rattle.grid_store.specs.internal.Drafting.{AreAllFresh, AreAllKept, AreKeptOver, AreLaidOver, AreMade, AreTakenOut, IsLaidOver, KeepsAll, emptied_by, emptied_of, fresh_of, is_gone, over_of, placed_if, under};
 
 use crate::cells::Cells;
+use crate::found::add;
 use crate::key::{CellKey, place_in};
-use crate::listing::add;
 use cell_addr::Place;
 use stable_lines::SheetLines;
 use std::alloc::{AllocError, Global};

@@ -24,6 +24,7 @@ mod draft;
 mod drafting;
 mod duplicate;
 mod exchange;
+mod found;
 mod grid;
 mod key;
 mod list;

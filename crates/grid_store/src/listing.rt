@@ -1,14 +1,14 @@
 // The filled cells of a block, in the order of their places.
-ghost use Rattle.std.specs.Prelude.{◌≡◌, ◌+◌, ◌<◌, ◌≤◌, IfNone, IfOk, IfSome, OnOk};
-ghost use Rattle.std.specs.BTreeMap.{IsEmpty, IsOrdered};
-ghost use Rattle.cell_addr.specs.Order.{place_cmp};
+ghost use Rattle.std.specs.Prelude.{◌≡◌, ◌+◌, ◌<◌, ◌≤◌, [], IfNone, IfOk, IfSome, OnOk, Some};
 ghost use Rattle.std.specs.FinMap as map;
 ghost use Rattle.stable_lines.specs.Sheets.{table_of};
 ghost use Rattle.grid_store.specs.Grid.{cells_of, items_of, seen_items, within};
-ghost use Rattle.grid_store.specs.internal.Listing.{AreCellsOf, AreLinesAt, HasCols, HasLines, HasRows, IsAdded, KeepsNone, SpansColumns, StillHas, shown};
+ghost use Rattle.grid_store.specs.Keys.{place_at};
+ghost use Rattle.grid_store.specs.internal.Listing.{AreCellsOf, AreLinesAt, HasCols, HasLines, HasRows, KeepsNone, SpansColumns, StillHas, shown};
 
 use crate::columns::is_of_columns;
 use crate::duplicate::Duplicate;
+use crate::found::{ordered, put};
 use crate::grid::Grid;
 use crate::key::CellKey;
 use crate::list::CellList;
@@ -16,7 +16,6 @@ use crate::view::View;
 use cell_addr::{Block, Place};
 use stable_lines::Run;
 use std::alloc::{AllocError, Global};
-use std::collections::BTreeMap;
 
 impl<V: Duplicate> Grid<V> {
     /// Copies of the filled cells of the block, row by row. Costs about what [`Grid::listed_refs`] does, and the copies.
@@ -43,11 +42,12 @@ impl<V: Duplicate> Grid<V> {
 }
 
 impl<V: Drop> Grid<V> {
-    /// The filled cells of the block, row by row. Costs about their number, each of them the logarithm of it, and the runs of its
-    /// rows' lines. Where rows that hold any cell hold some beside the block, each of these rows costs up to two logarithms of the
-    /// number of filled cells more; neither the number of its rows counts, nor that of the cells beside it. Where the lines of its
-    /// columns stand in several runs, each row that holds any cell costs such logarithms as often as there are runs. Whole columns,
-    /// but not all of a sheet, cost the runs of their lines and each of their cells the logarithm of the number of filled cells.
+    /// The filled cells of the block, row by row. Costs about their number, and the runs of its rows' lines. Where rows that hold any
+    /// cell hold some beside the block, each of these rows costs up to two logarithms of the number of filled cells more; neither the
+    /// number of its rows counts, nor that of the cells beside it. Where the lines of its columns stand in several runs, each row that
+    /// holds any cell costs such logarithms as often as there are runs, and each cell a look-up of its lines. Whole columns, but not
+    /// all of a sheet, cost the runs of their lines and each of their cells the logarithm of the number of filled cells, and where
+    /// these aren't found in the order of their places, that of their own number too.
     pub fn listed_refs(&self, area: Block) -> Result<Vec<(Place, &V)>, AllocError>
         ensures { IfOk result (λ list. seen_items list.items ≡ map.entries (within area (cells_of self.now))) }
     {
@@ -64,18 +64,18 @@ impl<'a, V: Drop> View<'a, V> {
     ) -> Result<Vec<(Place, &'a V)>, AllocError>
         ensures { IfOk result (λ list. seen_items list.items ≡ map.entries (within area (shown self.now))) }
     {
-        let mut found = BTreeMap::new(alloc);
+        let mut found = Vec::new(alloc);
         self.find(area, &mut found)?;
-        in_order(alloc, found)
+        ordered(alloc, found)
     }
 
     // Finds the seen cells of the block, by its columns or by its rows.
     pub(crate) fn find(
         &self,
         area: Block,
-        found: &mut BTreeMap<Place, &'a V>,
+        found: &mut Vec<(Place, &'a V)>,
     ) -> Result<(), AllocError>
-        requires { IsEmpty found.old }
+        requires { found.old.items ≡ [] }
         ensures cells { OnOk result (AreCellsOf area (shown self.now) found.new) }
         ensures rows { OnOk result (HasRows area (shown self.now) 0 (area.bottom + 1) found.new) }
     {
@@ -87,12 +87,8 @@ impl<'a, V: Drop> View<'a, V> {
     }
 
     // Finds the seen cells of the block, by its runs of rows whose lines follow one another.
-    fn find_by_rows(
-        &self,
-        area: Block,
-        found: &mut BTreeMap<Place, &'a V>,
-    ) -> Result<(), AllocError>
-        requires { IsEmpty found.old }
+    fn find_by_rows(&self, area: Block, found: &mut Vec<(Place, &'a V)>) -> Result<(), AllocError>
+        requires { found.old.items ≡ [] }
         ensures cells { OnOk result (AreCellsOf area (shown self.now) found.new) }
         ensures rows { OnOk result (HasRows area (shown self.now) 0 (area.bottom + 1) found.new) }
     {
@@ -114,7 +110,7 @@ impl<'a, V: Drop> View<'a, V> {
         &self,
         area: Block,
         lines: Run,
-        found: &mut BTreeMap<Place, &'a V>,
+        found: &mut Vec<(Place, &'a V)>,
     ) -> Result<(), AllocError>
         requires cells { AreCellsOf area (shown self.now) found.old }
         requires lines { AreLinesAt (table_of self.now.rows.now area.sheet) lines }
@@ -153,7 +149,7 @@ impl<'a, V: Drop> View<'a, V> {
         area: Block,
         lines: Run,
         cols: Run,
-        found: &mut BTreeMap<Place, &'a V>,
+        found: &mut Vec<(Place, &'a V)>,
     ) -> Result<(), AllocError>
         requires cells { AreCellsOf area (shown self.now) found.old }
         requires lines { AreLinesAt (table_of self.now.rows.now area.sheet) lines }
@@ -168,32 +164,37 @@ impl<'a, V: Drop> View<'a, V> {
         let end = lines.to + lines.count;
         let mut row = lines.to;
         while row < end {
-            row = self.find_up_to(area, row, end, cols, found)?;
+            row = self.find_up_to(area, row, lines, cols, found)?;
         }
         Ok(())
     }
 
-    // Finds the seen cells of the block on the lines of rows from `row` to before `end`, up to the first cell that is beside these
-    // lines of columns. Answers the line of rows to go on from, which is `end` where no cell is beside them.
+    // Finds the seen cells of the block on these lines of rows from `row` on, up to the first cell that is beside these lines of
+    // columns. Answers the line of rows to go on from, which is the end of the lines where no cell is beside the columns. Where a
+    // cell stands follows from its lines, with no look-up.
     fn find_up_to(
         &self,
         area: Block,
         row: u64,
-        end: u64,
+        lines: Run,
         cols: Run,
-        found: &mut BTreeMap<Place, &'a V>,
+        found: &mut Vec<(Place, &'a V)>,
     ) -> Result<u64, AllocError>
         requires cells { AreCellsOf area (shown self.now) found.old }
-        requires before { row < end }
+        requires from { lines.to ≤ row }
+        requires before { row < lines.to + lines.count }
+        requires lines { AreLinesAt (table_of self.now.rows.now area.sheet) lines }
+        requires lines_sum { lines.to + lines.count < 18446744073709551616 }
         requires cols { AreLinesAt (table_of self.now.cols.now area.sheet) cols }
         requires all { SpansColumns area cols }
         requires sum { cols.to + cols.count < 18446744073709551616 }
-        ensures within { IfOk result (λ next. (row < next) × (next ≤ end)) }
+        ensures within { IfOk result (λ next. (row < next) × (next ≤ lines.to + lines.count)) }
         ensures cells { OnOk result (AreCellsOf area (shown self.now) found.new) }
         ensures lines { IfOk result (λ next. HasLines self.now area row next found.new) }
         ensures still { OnOk result (StillHas found.old found.new) }
     {
         let sheet = area.sheet;
+        let end = lines.to + lines.count;
         let first = CellKey {
             sheet,
             row,
@@ -211,13 +212,27 @@ impl<'a, V: Drop> View<'a, V> {
             if key.col >= cols.to + cols.count {
                 return Ok(key.row + 1);
             }
-            if let Some(at) = self.place(*key) {
-                if area.holds(at) {
-                    add(found, at, cell)?;
-                }
+            let at = self.place_on(lines, cols, *key);
+            if area.holds(at) {
+                put(found, at, cell)?;
             }
         }
         Ok(end)
+    }
+
+    // The place of a key whose lines are among these lines of rows and of columns of its sheet.
+    fn place_on(&self, lines: Run, cols: Run, key: CellKey) -> Place
+        requires lines { AreLinesAt (table_of self.now.rows.now key.sheet) lines }
+        requires row { (lines.to ≤ key.row) × (key.row < lines.to + lines.count) }
+        requires cols { AreLinesAt (table_of self.now.cols.now key.sheet) cols }
+        requires col { (cols.to ≤ key.col) × (key.col < cols.to + cols.count) }
+        ensures { place_at self.now.rows.now self.now.cols.now key ≡ Some result }
+    {
+        Place {
+            sheet: key.sheet,
+            row: (lines.from + (key.row - lines.to)) as u32,
+            col: (cols.from + (key.col - cols.to)) as u32,
+        }
     }
 
     // Finds the seen cells of the block that are on these lines of rows, one after the other of those that hold any.
@@ -225,7 +240,7 @@ impl<'a, V: Drop> View<'a, V> {
         &self,
         area: Block,
         lines: Run,
-        found: &mut BTreeMap<Place, &'a V>,
+        found: &mut Vec<(Place, &'a V)>,
     ) -> Result<(), AllocError>
         requires cells { AreCellsOf area (shown self.now) found.old }
         requires lines { AreLinesAt (table_of self.now.rows.now area.sheet) lines }
@@ -248,7 +263,7 @@ impl<'a, V: Drop> View<'a, V> {
         &self,
         area: Block,
         row: u64,
-        found: &mut BTreeMap<Place, &'a V>,
+        found: &mut Vec<(Place, &'a V)>,
     ) -> Result<(), AllocError>
         requires { AreCellsOf area (shown self.now) found.old }
         ensures cells { OnOk result (AreCellsOf area (shown self.now) found.new) }
@@ -274,7 +289,7 @@ impl<'a, V: Drop> View<'a, V> {
         area: Block,
         row: u64,
         lines: Run,
-        found: &mut BTreeMap<Place, &'a V>,
+        found: &mut Vec<(Place, &'a V)>,
     ) -> Result<(), AllocError>
         requires cells { AreCellsOf area (shown self.now) found.old }
         requires lines { AreLinesAt (table_of self.now.cols.now area.sheet) lines }
@@ -297,7 +312,7 @@ impl<'a, V: Drop> View<'a, V> {
         for (key, cell) in self.cells.by_rows().range(first..end) {
             if let Some(at) = self.place(*key) {
                 if area.holds(at) {
-                    add(found, at, cell)?;
+                    put(found, at, cell)?;
                 }
             }
         }
@@ -322,33 +337,6 @@ impl<'a, V: Drop> View<'a, V> {
             None => None,
         }
     }
-}
-
-// Adds the cell.
-pub(crate) fn add<'a, V>(
-    found: &mut BTreeMap<Place, &'a V>,
-    at: Place,
-    cell: &'a V,
-) -> Result<(), AllocError>
-    ensures { OnOk result (IsAdded found.old at cell.now found.new) }
-{
-    found.insert(at, cell)?;
-    Ok(())
-}
-
-// The found cells, in the order of their places.
-pub(crate) fn in_order<'a, V>(
-    alloc: Global,
-    found: BTreeMap<Place, &'a V>,
-) -> Result<Vec<(Place, &'a V)>, AllocError>
-    ensures { IfOk result (λ list. (list.items ≡ found.entry.entries) × IsOrdered place_cmp found.entry) }
-{
-    let _many = found.len();
-    let mut list = Vec::new(alloc);
-    for (at, cell) in found {
-        list.push((at, cell))?;
-    }
-    Ok(list)
 }
 
 // Copies of the cells.

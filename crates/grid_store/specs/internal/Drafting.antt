@@ -16,7 +16,8 @@ use Rattle.grid_store.specs.Keys.{key_cmp, place_at}
 use Rattle.grid_store.specs.declared.draft.Draft.{Draft}
 use Rattle.grid_store.specs.declared.grid.Grid.{Grid}
 use Rattle.grid_store.specs.declared.key.CellKey.{CellKey}
-use Rattle.grid_store.specs.internal.Listing.{look}
+use Rattle.grid_store.specs.internal.Listing.{look_in}
+use Rattle.grid_store.specs.internal.Lists.{or_else}
 
 -- the lines and what is noted as lost are as they were
 abbrev pub KeepsBase : {X : Type 0} → Draft X → Draft X → Type 0
@@ -24,11 +25,11 @@ KeepsBase old new = (new.changes.rows ≡ old.changes.rows) × (new.changes.cols
 
 -- these changes are laid over what was found
 abbrev pub AreLaidOver : {X : Type 0} → List (Place × Option X) → BTreeMap Place (Bor X) → BTreeMap Place (Bor X) → Type 0
-AreLaidOver es old new = (q : Place) → look new q ≡ unwrap_or (fin.find place_cmp q es) (look old q)
+AreLaidOver es old new = (q : Place) → look_in new.entries q ≡ unwrap_or (fin.find place_cmp q es) (look_in old.entries q)
 
 -- one change is laid over what was found
 abbrev pub IsLaidOver : {X : Type 0} → Place → Option X → BTreeMap Place (Bor X) → BTreeMap Place (Bor X) → Type 0
-IsLaidOver at change old new = (q : Place) → look new q ≡ (if is_at (place_cmp at) q then change else look old q)
+IsLaidOver at change old new = (q : Place) → look_in new.entries q ≡ (if is_at (place_cmp at) q then change else look_in old.entries q)
 
 -- the keys have that of each of the grid's cells in the block, as the draft has its lines
 abbrev pub HasKeysOf : {X : Type 0} → Grid X → Draft X → Block → List CellKey → Type 0
@@ -47,11 +48,6 @@ StillNotes old new = (k : CellKey) → is_one_of old.lost.items k ≡ true → i
 -- what entries have under a key
 abbrev pub under : {X : Type 0} → List (CellKey × X) → CellKey → Option X
 under es k = lookup (is_at (key_cmp k)) es
-
--- the first of two that is there
-abbrev pub or_else : {X : Type 0} → Option X → Option X → Option X
-or_else None s = s
-or_else (Some x) s = Some x
 
 -- the same is kept under each key
 abbrev pub KeepsAll : {X : Type 0} → BTreeMap CellKey X → BTreeMap CellKey X → Type 0

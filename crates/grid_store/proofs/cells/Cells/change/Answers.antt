@@ -3,7 +3,8 @@ use Rattle.std.proofs.Common.{◌∙◌, sym, ap, subst, cond, None}
 use Rattle.std.specs.BTreeMap as tree
 use Rattle.grid_store.specs.Draft.{is_one_of}
 use Rattle.grid_store.specs.Keys.{key_cmp}
-use Rattle.grid_store.specs.internal.Drafting.{AreAllFresh, AreAllKept, or_else, under}
+use Rattle.grid_store.specs.internal.Drafting.{AreAllFresh, AreAllKept, under}
+use Rattle.grid_store.specs.internal.Lists.{or_else}
 use Rattle.grid_store.proofs.KeyChanges.{fresh-fresh, kept-under, over-kept, parts-make}
 use Rattle.grid_store.proofs.cells.Cells.change.Goals as goal
 

@@ -1,7 +1,8 @@
 use Rattle.std.proofs.Common.{◌≡◌, ◌∙◌, sym, ap, subst, cond, Some, None, ◌++◌, ◌∷◌, []}
 use Rattle.std.specs.BTreeMap as tree
 use Rattle.grid_store.specs.Keys.{key_cmp}
-use Rattle.grid_store.specs.internal.Drafting.{or_else, under}
+use Rattle.grid_store.specs.internal.Drafting.{under}
+use Rattle.grid_store.specs.internal.Lists.{or_else}
 use Rattle.grid_store.proofs.KeyChanges.{front-none, last-kept, last-other}
 use Rattle.grid_store.proofs.cells.Cells.keep_all.Goals as goal
 

@@ -2,7 +2,8 @@ use Rattle.std.proofs.Common.{◌≡◌, ◌∙◌, sym, ap, subst, IsSome, ◌+
 use Rattle.std.specs.BTreeMap as tree
 use Rattle.std.specs.BTreeMap.{is_at}
 use Rattle.grid_store.specs.Keys.{key_cmp}
-use Rattle.grid_store.specs.internal.Drafting.{AreAllKept, or_else, under}
+use Rattle.grid_store.specs.internal.Drafting.{AreAllKept, under}
+use Rattle.grid_store.specs.internal.Lists.{or_else}
 use Rattle.grid_store.proofs.KeyChanges.{each_front, kept-still, last-kept, still_some}
 use Rattle.grid_store.proofs.cells.Cells.settle.Goals as goal
 

@@ -2,7 +2,8 @@ use Rattle.std.proofs.Common.{◌≡◌, length}
 use Rattle.std.specs.BTreeMap as tree
 use Rattle.grid_store.specs.Keys.{key_cmp}
 use Rattle.grid_store.specs.declared.key.CellKey.{CellKey}
-use Rattle.grid_store.specs.internal.Drafting.{AreAllKept, or_else, under}
+use Rattle.grid_store.specs.internal.Drafting.{AreAllKept, under}
+use Rattle.grid_store.specs.internal.Lists.{or_else}
 use Rattle.grid_store.proofs.cells.Cells.settle.Given as goal
 
 abbrev pub invariant-loop-key : goal.invariant-loop-key

@@ -17,9 +17,9 @@ loop-key-init _ c =
 pub loop-key-preserved-in-Continue-1 : goal.loop-key-preserved-in-Continue-1
 loop-key-preserved-in-Continue-1 _ c =
     let g = c.args.self.now in
-    take_up g.rows.now g.cols.now g.cells.now.entries c.args.area (IsIn c.args.area.sheet c.args.row c.args.lines) c.args.found.now c.loop-key.found c.add.new.found (c.in-Some.key.now, c.in-Some.cell.now) c.next.new.self c.in-Some-place.at
+    take_up g.rows.now g.cols.now g.cells.now.entries c.args.area (IsIn c.args.area.sheet c.args.row c.args.lines) c.args.found.now c.loop-key.found c.put.new.found (c.in-Some.key.now, c.in-Some.cell.now) c.next.new.self c.in-Some-place.at
     (subst (λ r. Progress g.rows.now g.cols.now g.cells.now.entries c.args.area (IsIn c.args.area.sheet c.args.row c.args.lines) c.args.found.now c.loop-key.found r) c.in-Some.ensures.steps c.loop-key.invariant)
-    (sym c.in-Some-place.ensures) (sym c.holds.ensures.test ∙ c.if-holds.true) c.in_ok-add.ensures
+    (sym c.in-Some-place.ensures) (sym c.holds.ensures.test ∙ c.if-holds.true) c.in_ok-put.ensures
 
 pub loop-key-preserved-else-holds : goal.loop-key-preserved-else-holds
 loop-key-preserved-else-holds _ c =

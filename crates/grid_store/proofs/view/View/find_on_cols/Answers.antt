@@ -19,9 +19,9 @@ pub loop-turned-preserved-in-Continue-1 : goal.loop-turned-preserved-in-Continue
 loop-turned-preserved-in-Continue-1 _ c =
     let g = c.args.self.now in
     let is : kept g.cells.now.entries (turned c.in-Some.turned.now) ≡ Some c.in-Some-get.cell.now = sym (c.in-Some-get.ensures.value ∙ (λ i. tree.get key_cmp (c.by_rows.ensures i) (c.turned-key.ensures i))) in
-    take_up g.rows.now g.cols.now g.cells.now.entries c.args.area c.args.lines c.args.found.now c.loop-turned.found c.add.new.found c.in-Some.turned.now c.next.new.self c.in-Some-place.at c.in-Some-get.cell.now
+    take_up g.rows.now g.cols.now g.cells.now.entries c.args.area c.args.lines c.args.found.now c.loop-turned.found c.put.new.found c.in-Some.turned.now c.next.new.self c.in-Some-place.at c.in-Some-get.cell.now
     (subst (λ r. Progress g.rows.now g.cols.now g.cells.now.entries c.args.area c.args.lines c.args.found.now c.loop-turned.found r) c.in-Some.ensures.steps c.loop-turned.invariant)
-    (sym (c.in-Some-place.ensures ∙ ap (place_at g.rows.now g.cols.now) c.turned-key.ensures)) (sym c.holds.ensures.test ∙ c.if-holds.true) is c.in_ok-add.ensures
+    (sym (c.in-Some-place.ensures ∙ ap (place_at g.rows.now g.cols.now) c.turned-key.ensures)) (sym c.holds.ensures.test ∙ c.if-holds.true) is c.in_ok-put.ensures
 
 pub loop-turned-preserved-in_default-get : goal.loop-turned-preserved-in_default-get
 loop-turned-preserved-in_default-get _ c =
