@@ -28,7 +28,7 @@ use Rattle.calc_terms.specs.World.{World}
 use Rattle.book_values.specs.Values.{content_value, value_of}
 use Rattle.book_values.specs.Workbook.{Workbook, content_tree, home_of, place}
 use Rattle.recalc_core.specs.Given.{HasGiven}
-use Rattle.recalc_core.specs.declared.trees.Given.TheVariants as given
+use Rattle.recalc_core.specs.declared.trees.NodeContent.TheVariants as given
 use Rattle.recalc_core.proofs.Worked.{expected_some, value_expected}
 use Rattle.kept_book.specs.Numbered.{Numbered}
 use Rattle.kept_book.specs.Stored.{content_of, contents_of}
