@@ -4,7 +4,7 @@ use Rattle.std.specs.Prelude.{IsSome, slice_get, unwrap_or}
 use Rattle.std.specs.List.{list_any, position_or_len}
 use Rattle.std.proofs.lemmas.Bool.{cases_lt, eq-eqb, eqb-true, false≢true, or_cases, or_left}
 use Rattle.std.proofs.lemmas.Bool.Decides.{nat_tests}
-use Rattle.std.proofs.lemmas.List.{get_or_past, length_push, map-append, take_more}
+use Rattle.std.proofs.lemmas.List.{get_or_past, length-append, length_push, map-append, take_more}
 use Rattle.std.proofs.lemmas.List.Folds.{position_or_len_push}
 use Rattle.std.proofs.lemmas.Option.{same_Some}
 use Rattle.needs_order.specs.Needs as plain
@@ -23,7 +23,7 @@ use Rattle.dep_graph.specs.internal.Filings.{filing_of, owner_at, serves_at, sin
 use Rattle.dep_graph.specs.internal.Keys.{AreNarrow, is_narrow, own_key, same_key}
 use Rattle.dep_graph.specs.internal.Nets.{Grows}
 use Rattle.dep_graph.specs.internal.Numbers.{AreFilings, IsAlive, IsFiled, IsHeld, count_of, found_at, found_under, is_range, node_at, place_of}
-use Rattle.dep_graph.specs.internal.Touches.{IsIndexed}
+use Rattle.dep_graph.specs.internal.Touches.{AreIndexed, IsIndexed}
 use Rattle.dep_graph.proofs.Filed.{finds_alike, held_node, holds_as, kept_holds, node_held, present_serving}
 use Rattle.dep_graph.proofs.Growing.{found_more, grown_map, known_inside}
 use Rattle.dep_graph.proofs.Numbers.{alive_inside, at_place, gets-more, got}
@@ -133,31 +133,14 @@ module _ (net : Net) (keys more : List Key) (behind : keys ≡ net.nodes.keys.ke
       let before : plain.has n (needs_of net.links a) ≡ true = subst (λ l. plain.has n l ≡ true) (same a) h in
       filed_more current n (known_inside net a n before) (filings n) (net.used a n before)
 
--- what operations find by keys, which are the same
-pub indexed_same : (net : Net) (keys : List Key) → keys ≡ net.nodes.keys.keys → (n : ℕ) (k : Key) → slice_get keys n ≡ Some k → IsIndexed net.nodes.lines net.touches n k
-indexed_same net keys same n k at = net.indexed n k (ap (λ l. slice_get l n) (sym same) ∙ at)
-
--- or with one more at the end
-pub indexed_push : (net : Net) (keys : List Key) (more : Key) → keys ≡ net.nodes.keys.keys ++ more ∷ [] → IsIndexed net.nodes.lines net.touches (count_of net.nodes) more
-    → (n : ℕ) (k : Key) → slice_get keys n ≡ Some k → IsIndexed net.nodes.lines net.touches n k
-indexed_push net keys more is last n k at = ⊎_elim
-    (λ (low : n < count_of net.nodes). net.indexed n k (sym (gets-more net.nodes.keys.keys (more ∷ []) n low) ∙ there))
-    (λ (high : count_of net.nodes ≤ n).
-    let (same, here) = pushed net.nodes.keys.keys more n k high there in
-    subst (λ m. IsIndexed net.nodes.lines net.touches m k) (sym same) (subst (IsIndexed net.nodes.lines net.touches (count_of net.nodes)) here last))
-    (cases_lt n (count_of net.nodes))
-  where
-    there : slice_get (net.nodes.keys.keys ++ more ∷ []) n ≡ Some k
-    there = ap (λ l. slice_get l n) (sym is) ∙ at
-
-    pushed : (l : List Key) (x : Key) (n : ℕ) (k : Key) → length l ≤ n → slice_get (l ++ x ∷ []) n ≡ Some k → (n ≡ length l) × (x ≡ k)
-    pushed [] x zero k high e = (refl, same_Some x k e)
-    pushed [] x (suc n) k high e = absurd (none e)
-      where
-        none : None ≡ Some k → ⊥
-        none e = cc
-    pushed (y ∷ l) x zero k high e = absurd (omega (arith, high))
-    pushed (y ∷ l) x (suc n) k high e = let (same, is) = pushed l x n k (omega (arith, high)) e in (ap suc same, is)
+-- what operations find by keys, where maybe some come behind them
+pub indexed_grown : (net : Net) (t : NodeTable) (more : List Key) → t.keys.keys ≡ net.nodes.keys.keys ++ more → t.lines ≡ net.nodes.lines → AreIndexed t net.touches
+indexed_grown net t more is lines = record {
+  reached = omega (arith, net.indexed.reached, ap length is ∙ length-append net.nodes.keys.keys more);
+  each = λ n k early at.
+      subst (λ l. IsIndexed l net.touches n k) (sym lines)
+      (net.indexed.each n k early (sym (gets-more net.nodes.keys.keys more n (omega (arith, early, net.indexed.reached))) ∙ (ap (λ l. slice_get l n) (sym is) ∙ at)));
+}
 
 -- ---- links of one node replaced
 

@@ -168,10 +168,14 @@ indexed_more lines old new n k more indexed =
     ]
 
 pub all_more : (nodes : NodeTable) (old new : Touches) → IsMore old new → AreIndexed nodes old → AreIndexed nodes new
-all_more nodes old new more indexed n k at = indexed_more nodes.lines old new n k more (indexed n k at)
+all_more nodes old new more indexed = record {
+  reached = subst (λ k. k ≤ count_of nodes) (sym more.kept) indexed.reached;
+  each = λ n k early at. indexed_more nodes.lines old new n k more (indexed.each n k (subst (λ m. n < m) more.kept early) at);
+}
 
 pub more_more : (a b c : Touches) → IsMore a b → IsMore b c → IsMore a c
 more_more a b c f g = record {
+  kept = g.kept ∙ f.kept;
   odd = λ n h. g.odd n (f.odd n h);
   index = (λ spot n h. g.index.0 spot n (f.index.0 spot n h), λ spot n h. g.index.1 spot n (f.index.1 spot n h), λ axis sheet line n h. g.index.2 axis sheet line n (f.index.2 axis sheet line n h));
 }
@@ -226,16 +230,16 @@ module _ (s : Shift) (sound : IsSound s) (old new : PlaceLines) (moved : AreMove
       )
 
   -- a range that is handed on under a number that it keeps, where lines that come in are kept too
-  pub stays_handed : (nodes : NodeTable) (t : Touches) (x : TouchIndex) (n : ℕ) (k : Key) (a : Node) (c : Block) → nodes.lines ≡ old → n < count_of nodes → k ≡ key_at nodes n → AreIndexed nodes t
+  pub stays_handed : (nodes : NodeTable) (t : Touches) (x : TouchIndex) (n : ℕ) (k : Key) (a : Node) (c : Block) → nodes.lines ≡ old → n < count_of nodes → k ≡ key_at nodes n → AreIndexed nodes t → n < t.kept
       → node_of new k ≡ Some a → a ≡ Range c → IsHandedAt (form_of s) (found_at nodes n) c
       → ((was : PlaceLines) (b : Block) → IsHandedOn (form_of s) was new b c → KeepsBlock t.index was b n → KeepsBlock x new c n) → (has n t.odd.keys ≡ true) ⊎ KeepsNode x new n (Range c)
-  stays_handed nodes t x n k a c lines low is indexed stands is_c (b, found, (inside, within, many)) keeps =
+  stays_handed nodes t x n k a c lines low is indexed early stands is_c (b, found, (inside, within, many)) keeps =
       let at : slice_get nodes.keys.keys n ≡ Some k = gets nodes.keys.keys n (key.Name 0 0) low ∙ ap Some (sym is) in
       let was : node_of nodes.lines k ≡ Some (Range b) = ap (option_and_then (node_of nodes.lines)) (sym at) ∙ found in
       let area : area_of old b ≡ area_of new c
       = one_area (area_of old b) (area_of new c) (ap (λ l. key_of l (Range b)) (sym lines) ∙ (key_returns nodes.lines k (Range b) was ∙ (sym (key_returns new k a stands) ∙ ap (key_of new) is_c))) in
       let on : IsHandedOn (form_of s) old new b c = record { sound = sound; moved = moved; here = inside; there = within; area = area; count = many } in
-      elim (opened nodes.lines t n k (indexed n k at)) [
+      elim (opened nodes.lines t n k (indexed.each n k early at)) [
         | inl odd ↦ inl odd
         | inr kept ↦ inr (within, keeps old b on (subst (λ l. KeepsBlock t.index l b n) lines (kept.1 (Range b) was).1))
       ]
@@ -275,12 +279,12 @@ module _ (s : Shift) (sound : IsSound s) (old new : PlaceLines) (moved : AreMove
 
   -- where the found nodes are kept as they stand then, and the others are untouched, all are indexed
   module _ (nodes : NodeTable) (lines : nodes.lines ≡ old) (t : Touches) (numbers : List ℕ) (indexed : AreIndexed nodes t) (finds : FindsTouched s nodes numbers) (kept : AreKept new nodes.keys.keys t numbers) where
-    found_then : (n : ℕ) (k : Key) → slice_get nodes.keys.keys n ≡ Some k → has n numbers ≡ true → IsKnownKey old k → (o : Option Node) → node_of new k ≡ o → IsIndexed new t n k
-    found_then n k at h known None e = closed new t n k (inr (stays_known_key k known, λ a is. absurd (none a (sym e ∙ is))))
+    found_then : (n : ℕ) (k : Key) → n < t.kept → slice_get nodes.keys.keys n ≡ Some k → has n numbers ≡ true → IsKnownKey old k → (o : Option Node) → node_of new k ≡ o → IsIndexed new t n k
+    found_then n k early at h known None e = closed new t n k (inr (stays_known_key k known, λ a is. absurd (none a (sym e ∙ is))))
       where
         none : (a : Node) → None ≡ Some a → ⊥
         none a e = cc
-    found_then n k at h known (Some a) e = node_indexed new t n k a e (kept n a h (ap (option_and_then (node_of new)) at ∙ e))
+    found_then n k early at h known (Some a) e = node_indexed new t n k a e (kept n a h early (ap (option_and_then (node_of new)) at ∙ e))
 
     other_then : (n : ℕ) (k : Key) → slice_get nodes.keys.keys n ≡ Some k → has n numbers ≡ false → IsKnownKey old k → ((a : Node) → node_of old k ≡ Some a → KeepsNode t.index old n a) → IsIndexed new t n k
     other_then n k at other known keeps = closed new t n k (inr (stays_known_key k known, λ a is. here a is))
@@ -294,28 +298,32 @@ module _ (s : Shift) (sound : IsSound s) (old new : PlaceLines) (moved : AreMove
             let is_c : c ≡ a = one_node new c a (sym same ∙ (key_returns old k b was ∙ sym (key_returns new k a is))) in
             subst (KeepsNode t.index new n) is_c (stay (keeps b was))
 
-    pub all_indexed : (n : ℕ) (k : Key) → slice_get nodes.keys.keys n ≡ Some k → IsIndexed new t n k
-    all_indexed n k at =
-        elim (opened old t n k (subst (λ l. IsIndexed l t n k) lines (indexed n k at))) [
+    pub all_indexed : (n : ℕ) (k : Key) → n < t.kept → slice_get nodes.keys.keys n ≡ Some k → IsIndexed new t n k
+    all_indexed n k early at =
+        elim (opened old t n k (subst (λ l. IsIndexed l t n k) lines (indexed.each n k early at))) [
           | inl odd ↦ closed new t n k (inl odd)
           | inr keeps ↦ elim (has_or_not n numbers) [
-            | inl h ↦ found_then n k at h keeps.0 (node_of new k) refl
+            | inl h ↦ found_then n k early at h keeps.0 (node_of new k) refl
             | inr other ↦ other_then n k at other keeps.0 keeps.1
           ]
         ]
 
 -- ---- what is found
 
--- of the numbers that the index finds and the odd ones, those of keys are all that an operation touches
-pub finds_all : (s : Shift) (nodes : NodeTable) (t : Touches) (touched first found : List ℕ) → AreIndexed nodes t
+-- of the numbers that the index finds and the odd ones, those of keys, and all that aren't kept yet, are all that an operation
+-- touches
+pub finds_all : (s : Shift) (nodes : NodeTable) (t : Touches) (touched first second found : List ℕ) → AreIndexed nodes t
     → FindsCells t.index nodes.lines (form_of s) touched → FindsBlocks t.index nodes.lines (form_of s) touched
-    → AddsKnown nodes touched [] first → AddsKnown nodes t.odd.keys first found → FindsTouched s nodes found
-finds_all s nodes t touched first found indexed cells blocks one two n a is =
-    elim (opened nodes.lines t n (key_of nodes.lines a) (indexed n (key_of nodes.lines a) at)) [
-      | inl odd ↦ inl ((two n).1 (inr (odd, low)))
-      | inr keeps ↦ elim (has_or_not n found) [
-        | inl h ↦ inl h
-        | inr other ↦ inr (untouched other a (keeps.1 a was))
+    → AddsKnown nodes touched [] first → AddsKnown nodes t.odd.keys first second → AddsBetween t.kept (count_of nodes) second found → FindsTouched s nodes found
+finds_all s nodes t touched first second found indexed cells blocks one two three n a is =
+    elim (cases_lt n t.kept) [
+      | inr fresh ↦ inl ((three n).1 (inr (fresh, low)))
+      | inl early ↦ elim (opened nodes.lines t n (key_of nodes.lines a) (indexed.each n (key_of nodes.lines a) early at)) [
+        | inl odd ↦ inl ((three n).1 (inl ((two n).1 (inr (odd, low)))))
+        | inr keeps ↦ elim (has_or_not n found) [
+          | inl h ↦ inl h
+          | inr other ↦ inr (untouched other a (keeps.1 a was))
+        ]
       ]
     ]
   where
@@ -329,13 +337,46 @@ finds_all s nodes t touched first found indexed cells blocks one two n a is =
     was = ap (option_and_then (node_of nodes.lines)) (sym at) ∙ is
 
     apart : has n found ≡ false → has n touched ≡ true → ⊥
-    apart other h = false≢true (sym other ∙ (two n).1 (inl ((one n).1 (inr (h, low)))))
+    apart other h = false≢true (sym other ∙ (three n).1 (inl ((two n).1 (inl ((one n).1 (inr (h, low)))))))
 
     untouched : has n found ≡ false → (b : Node) → KeepsNode t.index nodes.lines n b → IsUntouched s b
     untouched other (Cell p) (inside, kept) = (inside, λ touches. apart other (cells p n inside kept touches))
     untouched other (Name scope word) kept = tt
     untouched other (Whole w) kept = absurd kept
     untouched other (Range b) (inside, kept) = (inside, λ touches. apart other (blocks b n inside kept touches))
+
+-- and all of them are numbers of keys
+pub all_inside : (nodes : NodeTable) (touched odd first second found : List ℕ) (start : ℕ) → AddsKnown nodes touched [] first → AddsKnown nodes odd first second
+    → AddsBetween start (count_of nodes) second found → AreInside nodes found
+all_inside nodes touched odd first second found start one two three n h =
+    elim ((three n).0 h) [
+      | inr fresh ↦ fresh.1
+      | inl was ↦ elim ((two n).0 was) [
+        | inr known ↦ known.1
+        | inl early ↦ elim ((one n).0 early) [ inr known ↦ known.1 | inl none ↦ absurd (false≢true none) ]
+      ]
+    ]
+
+-- the number that is kept next
+pub next_kept : (nodes : NodeTable) (t u : Touches) (n : ℕ) (k : Key) → AreIndexed nodes t → t.kept ≡ n → n < count_of nodes → u.kept ≡ n + 1 → u.odd ≡ t.odd → u.index ≡ t.index
+    → slice_get nodes.keys.keys n ≡ Some k → IsIndexed nodes.lines t n k → AreIndexed nodes u
+next_kept nodes t u n k indexed next low kept odd index at here = record {
+  reached = omega (arith, low, kept);
+  each = λ m j early is. same m j (elim (cases_lt m n) [
+    | inl before ↦ indexed.each m j (omega (arith, before, next)) is
+    | inr after ↦ last m j (omega (arith, early, kept, after)) is
+  ]);
+}
+  where
+    last : (m : ℕ) (j : Key) → m ≡ n → slice_get nodes.keys.keys m ≡ Some j → IsIndexed nodes.lines t m j
+    last m j own is =
+        let one : k ≡ j = same_Some k j (sym at ∙ (ap (slice_get nodes.keys.keys) (sym own) ∙ is)) in
+        subst (λ i. IsIndexed nodes.lines t i j) (sym own) (subst (IsIndexed nodes.lines t n) one here)
+
+    same : (m : ℕ) (j : Key) → IsIndexed nodes.lines t m j → IsIndexed nodes.lines u m j
+    same m j was other =
+        let (known, cells, blocks) = was (ap (λ o. has m o.keys) (sym odd) ∙ other) in
+        (known, λ p is. subst (λ x. KeepsNode x nodes.lines m (Cell p)) (sym index) (cells p is), λ b is. subst (λ x. KeepsNode x nodes.lines m (Range b)) (sym index) (blocks b is))
 
 -- where keys are added behind, and their numbers to those found
 pub finds_grown : (s : Shift) (old new : NodeTable) (first end : ℕ) (found more : List ℕ) → ((n : ℕ) → n < count_of old → found_at new n ≡ found_at old n) → first ≡ count_of old → end ≡ count_of new

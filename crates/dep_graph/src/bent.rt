@@ -22,8 +22,9 @@ impl Graph {
     /// Each node, once, that is linked to a cell that the operation loses, or to a range that it loses, whose size it
     /// changes, in which it displaces lines, or which it cuts at the sheet's end; or to a whole range with whose block
     /// it does so, or across which it edits lines of its sheet. Costs a search for each run of the lines that the
-    /// operation loses or displaces, and for each node that it touches, or that isn't inside its sheet, and each whole
-    /// range, on whichever sheet, about the number of its users. Errs for want of memory.
+    /// operation loses or displaces, and for each node that it touches, or that isn't inside its sheet, each whole range,
+    /// on whichever sheet, and each node that is new since the last [`Graph::shift`], about the number of its users. Errs
+    /// for want of memory.
     pub fn bent(&self, s: &Shift) -> Result<Nodes, AllocError>
         requires { IsSound s.now }
         ensures { IfOk result (λ nodes. AreBent s.now (links_of self.now) (items_of nodes)) }

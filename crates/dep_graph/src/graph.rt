@@ -27,8 +27,7 @@ impl Graph {
     }
 
     /// Replaces what the node was linked to. Where there is no memory all links stay as they were. Costs about the number
-    /// of the node's old and new needs, for each node that is new to the graph the logarithm of the number of nodes, and
-    /// for a range that is new or that no node needs yet the number of its slots.
+    /// of the node's old and new needs, and for a range that is new or that no node needs yet the number of its slots.
     pub fn link(&mut self, a: Node, needs: &[Node]) -> Result<(), AllocError>
         ensures ok { OnOk result (AreLinked a needs.now (links_of self.old) (links_of self.new)) }
         ensures err { OnErr result (AreSame (links_of self.old) (links_of self.new)) }
@@ -43,8 +42,8 @@ impl Graph {
         self.net.unlink(a);
     }
 
-    /// An equal graph. Costs about the number of nodes and links, for each node the logarithm of the number of nodes, and
-    /// the number of the slots of the used ranges. Errs for want of memory.
+    /// An equal graph. Costs about the number of nodes and links, and the number of the slots of the used ranges. Errs for
+    /// want of memory.
     pub fn copied(&self) -> Result<Graph, AllocError>
         ensures { IfOk result (λ graph. AreSame (links_of self.now) (links_of graph)) }
     {

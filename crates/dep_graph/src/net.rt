@@ -7,7 +7,7 @@ ghost use Rattle.indexmap.specs.IndexSet.{spare};
 ghost use Rattle.dep_graph.specs.declared.node.Node.{Node};
 ghost use Rattle.dep_graph.specs.internal.Keys.{AreKeysOnce, is_narrow, same_key};
 ghost use Rattle.dep_graph.specs.internal.Numbers.{AreFilings, IsAlive, IsFiled, count_of, found_at, is_range, key_place, node_at, place_of};
-ghost use Rattle.dep_graph.specs.internal.Touches.{AreIndexed, IsIndexed};
+ghost use Rattle.dep_graph.specs.internal.Touches.{AreIndexed};
 
 use crate::files::Files;
 use crate::key::Key;
@@ -198,29 +198,14 @@ impl Net {
     {
         match self.nodes.keys.get_index_of(&key) {
             Some(number) => Ok(number),
-            None => {
-                self.keep_next(key)?;
-                self.add(key)
-            }
+            None => self.add(key),
         }
-    }
-
-    // Lets operations find a key by the number that the next one gets.
-    fn keep_next(&mut self, key: Key) -> Result<(), AllocError>
-        ensures nodes { self.new.nodes ≡ self.old.nodes }
-        ensures links { self.new.links ≡ self.old.links }
-        ensures files { self.new.files ≡ self.old.files }
-        ensures kept { OnOk result (IsIndexed self.new.nodes.lines self.new.touches (count_of self.new.nodes) key) }
-    {
-        let number = self.nodes.len();
-        self.touches.keep_key(self.nodes.lines(), key, number)
     }
 
     // Adds a key that isn't known, and answers its number.
     fn add(&mut self, key: Key) -> Result<usize, AllocError>
         requires narrow { is_narrow key ≡ true }
         requires new { key_place self.old.nodes key ≡ count_of self.old.nodes }
-        requires kept { IsIndexed self.old.nodes.lines self.old.touches (count_of self.old.nodes) key }
         ensures grown { Grows self.old self.new }
         ensures files { self.new.files.owners ≡ self.old.files.owners }
         ensures place { IfOk result (λ n. n ≡ key_place self.new.nodes key) }

@@ -12,8 +12,9 @@ ghost use Rattle.dep_graph.specs.internal.Keys.{is_narrow};
 ghost use Rattle.dep_graph.specs.internal.Nets.{Grows, links_in};
 ghost use Rattle.dep_graph.specs.internal.Numbers.{count_of, key_place};
 ghost use Rattle.dep_graph.specs.internal.ShiftedNumbers.{AreTargets, SetsTarget, after_at, aim_of, is_linked};
-ghost use Rattle.dep_graph.specs.internal.Touches.{AddsBetween, AreInside, FindsTouched};
+ghost use Rattle.dep_graph.specs.internal.Touches.{AreInside, FindsTouched};
 
+use crate::found::add_between;
 use crate::graph::Graph;
 use crate::key::Key;
 use crate::net::Net;
@@ -40,7 +41,9 @@ impl Graph {
     /// sheet, and each whole range, on whichever sheet, about the number of its links and of its users' links. It
     /// touches what it loses or bends, and what it takes along with moved cells; what it only carries along isn't
     /// looked at. A range that it touches costs the number of its slots besides; but where its corners keep their lines
-    /// and a move leaves their number, just the slots of the lines that come in between. Now and then, where
+    /// and a move leaves their number, just the slots of the lines that come in between. A node that is new since the operation before is first kept where
+    /// operations find it, which costs the logarithm of the number of nodes, and for a range besides about the logarithm of
+    /// the length of each run of its lines. Now and then, where
     /// operations and links that were replaced may have left behind half of the nodes that are kept, or lines that came in
     /// between those of ranges take as much memory, the graph is made anew, which costs what [`Graph::copied`] does.
     pub fn shift(&mut self, s: &Shift) -> Result<(), AllocError>
@@ -81,6 +84,7 @@ impl Net {
         ensures ok { OnOk result (AreShifted s.now (links_in self.old) (links_in self.new)) }
         ensures err { OnErr result (AreSame (links_in self.old) (links_in self.new)) }
     {
+        self.keep_fresh()?;
         let lines = self.nodes.lines.moved(self.alloc, s)?;
         let aims = self.aims(&lines, s)?;
         self.move_by(lines, s, &aims)
@@ -221,20 +225,6 @@ impl Net {
             *self = net;
         }
     }
-}
-
-// Adds the numbers from the first to before the end.
-fn add_between(
-    numbers: &mut IndexSet<usize, NearHash>,
-    first: usize,
-    end: usize,
-) -> Result<(), AllocError>
-    ensures { OnOk result (AddsBetween first end numbers.old.keys numbers.new.keys) }
-{
-    'numbers: for number in first..end {
-        numbers.insert(number)?;
-    }
-    Ok(())
 }
 
 // How many of the filings stand beside others of their nodes.

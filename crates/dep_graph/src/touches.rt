@@ -19,8 +19,11 @@ use shift_core::Shift;
 use std::alloc::{AllocError, Global};
 use touch_index::{TouchIndex, hands_on};
 
-// Nodes under their numbers. What is kept is never taken out.
+// Nodes under their numbers. What is kept is never taken out. A node is kept when an operation comes, and not when it gets its
+// number: so linking costs nothing of it, and a workbook whose lines nobody edits takes no memory for it.
 pub(crate) struct Touches {
+    // The numbers below this one are kept. The others came since the last operation, and any may touch them.
+    pub(crate) kept: usize,
     // The cells and the ranges within the limits of their sheets.
     pub(crate) index: TouchIndex,
     // The numbers of the others, each of which any operation may touch, and of all whole ranges: those of a sheet are touched
@@ -32,6 +35,7 @@ pub(crate) struct Touches {
 impl Drop for Touches {
     fn drop(self) {
         let Touches {
+            kept: _,
             index: _index,
             odd: _odd,
         } = self;
@@ -44,8 +48,11 @@ impl Touches {
     ghost use Rattle.dep_graph.specs.internal.Numbers.{count_of, key_at};
 
     // Nothing is kept.
-    pub(crate) fn new(alloc: Global) -> Touches {
+    pub(crate) fn new(alloc: Global) -> Touches
+        ensures { result.kept ≡ 0 }
+    {
         Touches {
+            kept: 0,
             index: TouchIndex::new(alloc),
             odd: IndexSet::with_hasher(alloc, NearHash::new()),
         }
@@ -88,7 +95,8 @@ impl Touches {
         Ok(())
     }
 
-    // Keeps the node of a number, if it stands somewhere: a range that is handed on with only the lines that come in.
+    // Keeps the node of a number, if it stands somewhere: a range that is handed on with only the lines that come in. One that
+    // isn't kept yet waits for the next operation.
     fn keep_found(
         &mut self,
         lines: &PlaceLines,
@@ -101,8 +109,11 @@ impl Touches {
         requires number { number < count_of nodes.now }
         requires indexed { AreIndexed nodes.now self.old }
         ensures more { IsMore self.old self.new }
-        ensures kept { OnOk result ((a : Node) → node_of lines.now (key_at nodes.now number) ≡ Some a → IsKept lines.now self.new number a) }
+        ensures kept { OnOk result ((a : Node) → number < self.new.kept → node_of lines.now (key_at nodes.now number) ≡ Some a → IsKept lines.now self.new number a) }
     {
+        if self.kept <= number {
+            return Ok(());
+        }
         match nodes.key(number).node(lines) {
             Some(after) => match handed_on(s, nodes.node(number), after) {
                 Some(block) => self.index.hand_on(lines, s, block, number),

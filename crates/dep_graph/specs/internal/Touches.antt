@@ -44,9 +44,9 @@ KeepsNode x lines n (Whole w) = ⊥
 abbrev pub IsKept : PlaceLines → Touches → ℕ → Node → Type 0
 IsKept lines t n a = IsTrue (has n t.odd.keys) ⊎ KeepsNode t.index lines n a
 
--- so are those of the numbers that stand somewhere
+-- so are those of the numbers that stand somewhere, but for numbers that aren't kept yet
 abbrev pub AreKept : PlaceLines → List Key → Touches → List ℕ → Type 0
-AreKept lines keys t numbers = (n : ℕ) (a : Node) → IsTrue (has n numbers) → found_under lines keys n ≡ Some a → IsKept lines t n a
+AreKept lines keys t numbers = (n : ℕ) (a : Node) → IsTrue (has n numbers) → n < t.kept → found_under lines keys n ≡ Some a → IsKept lines t n a
 
 -- unless the number is odd, its key is known, and a cell or a range that stands there is kept
 abbrev pub IsIndexed : PlaceLines → Touches → ℕ → Key → Type 0
@@ -55,12 +55,14 @@ IsIndexed lines t n k =
     × ((p : Place) → node_of lines k ≡ Some (Cell p) → KeepsNode t.index lines n (Cell p))
     × ((b : Block) → node_of lines k ≡ Some (Range b) → KeepsNode t.index lines n (Range b))
 
--- so are all
-abbrev pub AreIndexed : NodeTable → Touches → Type 0
-AreIndexed nodes t = (n : ℕ) (k : Key) → slice_get nodes.keys.keys n ≡ Some k → IsIndexed nodes.lines t n k
+-- so are all that are kept, which have keys
+pub record AreIndexed (nodes : NodeTable) (t : Touches) : Type 0 where
+  pub reached : t.kept ≤ count_of nodes
+  pub each : (n : ℕ) (k : Key) → n < t.kept → slice_get nodes.keys.keys n ≡ Some k → IsIndexed nodes.lines t n k
 
--- what was kept is kept still
+-- what was kept is kept still, and no other numbers count for kept
 pub record IsMore (old new : Touches) : Type 0 where
+  pub kept : new.kept ≡ old.kept
   pub odd : (n : ℕ) → IsTrue (has n old.odd.keys) → IsTrue (has n new.odd.keys)
   pub index : Grows old.index new.index
 

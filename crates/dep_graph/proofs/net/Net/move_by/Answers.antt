@@ -120,7 +120,10 @@ invariant_of-self-3 c =
       used = λ a n h range.
           still_served net.files c.put_few.new.self filing c.put_few.ensures.owners c.put_few.ensures.kept c.put_few.ensures.serves n
           (used_filed s lines net target are links redirected filing c.in_ok-filings.ensures.refiled a n h range);
-      indexed = all_indexed s c.requires.sound net.nodes.lines lines moved net.nodes refl touches more (all_more net.nodes net.touches touches c.keep_all.ensures.more net.indexed) finds kept;
+      indexed = record {
+        reached = (all_more net.nodes net.touches touches c.keep_all.ensures.more net.indexed).reached;
+        each = all_indexed s c.requires.sound net.nodes.lines lines moved net.nodes refl touches more (all_more net.nodes net.touches touches c.keep_all.ensures.more net.indexed) finds kept;
+      };
     }
 
 pub returns-clause-ok : goal.returns-clause-ok

@@ -19,9 +19,9 @@ numbers-preserved c =
     let low : number < count_of c.args.nodes.now = c.requires.inside number (has_at c.args.numbers.now i c.numbers-test.true) in
     record {
       more = more_more c.args.self.now c.numbers.self c.keep_found.new.self c.numbers.invariant.more c.keep_found.ensures.more;
-      kept = λ n a h is. elim (taken_cases c.args.numbers.now i n 0 c.numbers-test.true h) [
-        | inl early ↦ kept_more lines c.numbers.self c.keep_found.new.self n a c.keep_found.ensures.more (c.numbers.invariant.kept n a early is)
+      kept = λ n a h low_n is. elim (taken_cases c.args.numbers.now i n 0 c.numbers-test.true h) [
+        | inl early ↦ kept_more lines c.numbers.self c.keep_found.new.self n a c.keep_found.ensures.more (c.numbers.invariant.kept n a early (subst (λ m. n < m) c.keep_found.ensures.more.kept low_n) is)
         | inr here ↦ subst (λ m. IsKept lines c.keep_found.new.self m a) (sym here)
-            (c.in_ok-keep_found.ensures.kept a (found_of_key lines c.args.nodes.now number (key_at c.args.nodes.now number) a low refl (subst (λ m. found_under lines c.args.nodes.now.keys.keys m ≡ Some a) here is)))
+            (c.in_ok-keep_found.ensures.kept a (subst (λ m. m < c.keep_found.new.self.kept) here low_n) (found_of_key lines c.args.nodes.now number (key_at c.args.nodes.now number) a low refl (subst (λ m. found_under lines c.args.nodes.now.keys.keys m ≡ Some a) here is)))
       ];
     }

@@ -1,6 +1,6 @@
 use Rattle.std.proofs.Common.{◌≡◌, ◌≤◌, ◌⊎◌}
 use Rattle.dep_graph.specs.internal.Touches.{AddsBetween}
-use Rattle.dep_graph.proofs.shifted.add_between.Given as goal
+use Rattle.dep_graph.proofs.found.add_between.Given as goal
 
 -- the numbers gone by were added
 abbrev pub invariant-numbers : goal.invariant-numbers
