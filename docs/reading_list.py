@@ -29,7 +29,7 @@ CORE, CORE_FILES, CORE_LINES = "the core", 15, 1_000
 # those of its crates that are reached.
 PARTS = {
     CORE: (
-        "book_cells/Workbook book_model/Workbook book_model/Content book_model/Operation book_model/Refusals book_model/Clipboard "
+        "book_values/Book book_model/Workbook book_model/Content book_model/Operation book_model/Refusals book_model/Clipboard "
         "book_model/Changes book_model/Session book_model/Answers calc_terms/Meaning value_network/Network book_values/Values "
         "command_answers/Replies script_lang/Lines sheet_cli/Run",
         "",

@@ -8,7 +8,7 @@ use Rattle.cell_addr.specs.declared.place.Place.{Place}
 use Rattle.cell_addr.proofs.Places.{place_cmp-IsTotalOrder, place_cmp-IsAntisymmetric}
 use Rattle.cell_value.specs.Scalar.{read_truth}
 use Rattle.cell_value.specs.declared.fault.FaultKind.{FaultKind}
-use Rattle.book_cells.specs.Workbook.{Book as Contents, Content}
+use Rattle.book_values.specs.Book.{Book as Contents, Content}
 use Rattle.fix_num.specs.Text.{number_of}
 use Rattle.fix_num.specs.declared.error.NumError.{NumError}
 use Rattle.grid_store.specs.declared.cell.Cell.{Cell}

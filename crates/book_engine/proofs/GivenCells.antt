@@ -7,7 +7,7 @@ use Rattle.cell_addr.specs.declared.place.Place.{Place}
 use Rattle.cell_value.specs.Scalar.{truth_text}
 use Rattle.fix_num.specs.Number.{IsInside}
 use Rattle.fix_num.specs.Text.{text_of}
-use Rattle.book_cells.specs.Workbook.{Content}
+use Rattle.book_values.specs.Book.{Content}
 use Rattle.book_model.specs.Changes.{with_content, with_given_content}
 use Rattle.book_model.specs.Content.{content_given, content_of, text_given}
 use Rattle.book_model.specs.Operation as op

@@ -7,7 +7,7 @@ use Rattle.std.specs.FinMap.{len-empty}
 use Rattle.cell_addr.specs.Order.{place_cmp}
 use Rattle.cell_addr.specs.Text.{folded}
 use Rattle.cell_addr.proofs.Places.{place_cmp-IsTotalOrder}
-use Rattle.book_cells.specs.Workbook.{Content}
+use Rattle.book_values.specs.Book.{Content}
 use Rattle.book_model.specs.Given.{CanBegin, GivenSheet, IsGivenCell, IsGivenSheet, StandApart, given_entry, numbered, workbook_given}
 use Rattle.book_model.specs.declared.given.BookCell.{BookCell}
 use Rattle.book_model.proofs.Counts.{len-from_entries, length-filter_map}

@@ -12,7 +12,7 @@ use Rattle.cell_addr.specs.Place.{same_place}
 use Rattle.cell_addr.specs.declared.place.Place.{Place}
 use Rattle.cell_addr.proofs.Places.{place_cmp-IsTotalOrder, place_cmp-IsAntisymmetric}
 use Rattle.cell_addr.proofs.SamePlaces.{same_place-equal, same_place-self}
-use Rattle.book_cells.specs.Workbook.{Book as Contents, Content, number, truth, text, formula, unreadable}
+use Rattle.book_values.specs.Book.{Book as Contents, Content, number, truth, text, formula, unreadable}
 use Rattle.formula_tree.specs.declared.link.Link.TheVariants as links
 use Rattle.calc_terms.specs.Needs.{mentions}
 use Rattle.dep_graph.specs.Nodes.{has, same_node}

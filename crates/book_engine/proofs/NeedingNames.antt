@@ -15,7 +15,7 @@ use Rattle.std.specs.Prelude.{slice_get}
 use Rattle.std.specs.declared.cmp.Ordering.{Ordering}
 use Rattle.std.specs.declared.cmp.Ordering.TheVariants.{Less, Equal, Greater}
 use Rattle.std.proofs.lemmas.Bool.Decides.{nat_tests}
-use Rattle.book_cells.specs.Workbook.{Book as Contents}
+use Rattle.book_values.specs.Book.{Book as Contents}
 use Rattle.cell_addr.specs.Text.{capitals, folded}
 use Rattle.cell_addr.specs.declared.place.Place.{Place}
 use Rattle.formula_tree.specs.Term.{Term}

@@ -9,7 +9,7 @@ use Rattle.formula_tree.specs.declared.reference.Corner.{Corner}
 use Rattle.grid_store.specs.declared.cell.Cell.{Cell}
 use Rattle.grid_store.specs.declared.cell.Cell.TheVariants as cell
 use Rattle.shift_core.specs.Maps.{PlaceMap}
-use Rattle.book_cells.specs.Workbook.{Content, number, truth, text, formula, unreadable}
+use Rattle.book_values.specs.Book.{Content, number, truth, text, formula, unreadable}
 use Rattle.book_values.specs.Workbook.{content_tree}
 use Rattle.book_model.specs.Content.{content_shown, formula_shown, tree_shown}
 use Rattle.book_model.specs.Sound.{IsSound}

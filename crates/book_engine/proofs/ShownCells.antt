@@ -23,7 +23,7 @@ use Rattle.grid_store.specs.Grid.{seen_items, within}
 use Rattle.grid_store.specs.declared.cell.Cell.{Cell}
 use Rattle.grid_store.proofs.PlaceMaps.{get-kept}
 use Rattle.shift_core.specs.Maps.{PlaceMap}
-use Rattle.book_cells.specs.Workbook.{Content}
+use Rattle.book_values.specs.Book.{Content}
 use Rattle.calc_terms.specs.World.{World}
 use Rattle.book_values.specs.Values.{content_value, value_of}
 use Rattle.book_values.specs.Workbook.{Workbook, content_tree, home_of, place}

@@ -8,7 +8,7 @@ use Rattle.cell_addr.proofs.Places.{place_cmp-IsTotalOrder, place_cmp-IsAntisymm
 use Rattle.std.specs.FinMap as fin
 use Rattle.cell_addr.specs.Place.{IsInside, covers}
 use Rattle.cell_addr.specs.declared.place.Place.{Place}
-use Rattle.book_cells.specs.Workbook.{Book as Contents, Content}
+use Rattle.book_values.specs.Book.{Book as Contents, Content}
 use Rattle.shift_core.specs.Maps.{AreInside}
 use Rattle.book_model.specs.Operation.{Operation}
 use Rattle.book_model.specs.Refusals.{cause}

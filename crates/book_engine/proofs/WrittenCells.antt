@@ -12,7 +12,7 @@ use Rattle.cell_addr.proofs.Places.{place_cmp-IsTotalOrder}
 use Rattle.cell_addr.proofs.SamePlaces.{same_place-self}
 use Rattle.cell_addr.specs.Place.{IsInside, same_place}
 use Rattle.cell_addr.specs.declared.place.Place.{Place}
-use Rattle.book_cells.specs.Workbook.{Book as Contents}
+use Rattle.book_values.specs.Book.{Book as Contents}
 use Rattle.grid_store.specs.declared.cell.Cell.{Cell}
 use Rattle.shift_core.specs.Maps.{PlaceMap}
 use Rattle.book_model.specs.Changes.{HaveDistinctPlaces, all_placed, placed, with_contents}

@@ -7,7 +7,7 @@ use Rattle.cell_addr.specs.Text.{capitals}
 use Rattle.cell_addr.specs.declared.place.Block.{Block}
 use Rattle.cell_addr.specs.declared.place.Place.{Place}
 use Rattle.cell_value.specs.declared.scalar.Scalar.{Scalar}
-use Rattle.book_cells.specs.Workbook.{Content, number, truth, text, formula, unreadable}
+use Rattle.book_values.specs.Book.{Content, number, truth, text, formula, unreadable}
 use Rattle.book_values.specs.Names.{Key}
 use Rattle.value_network.specs.Network.{cyclic}
 use Rattle.book_values.specs.Values.{network}

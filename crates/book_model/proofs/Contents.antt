@@ -9,7 +9,7 @@ use Rattle.cell_addr.specs.declared.place.Place.{Place}
 use Rattle.cell_addr.specs.Order.{place_cmp}
 use Rattle.cell_addr.specs.Sheets.{id_in, name_in, AreSheets}
 use Rattle.cell_addr.proofs.Places.{place_cmp-IsTotalOrder, place_cmp-IsAntisymmetric}
-use Rattle.book_cells.specs.Workbook.{Book as Contents, Content, number, truth, text, formula}
+use Rattle.book_values.specs.Book.{Book as Contents, Content, number, truth, text, formula}
 use Rattle.formula_parse.proofs.CanonicalRead.{named-apart}
 use Rattle.formula_tree.proofs.Exact.{text_reader-exact}
 use Rattle.formula_tree.proofs.ProperTrees.{spelled-proper, spelled-listed}

@@ -14,7 +14,7 @@ use Rattle.cell_addr.specs.Text.{folded}
 use Rattle.cell_addr.specs.declared.place.Place.{Place}
 use Rattle.cell_addr.specs.declared.place.TheConstants.{NO_SHEET}
 use Rattle.cell_addr.proofs.Places.{place_cmp-IsTotalOrder}
-use Rattle.book_cells.specs.Workbook.{Content}
+use Rattle.book_values.specs.Book.{Content}
 use Rattle.custom_fn.specs.declared.rule.Rule.{Rule}
 use Rattle.book_model.specs.Names.{key_cmp}
 use Rattle.book_model.specs.Workbook.{Workbook, has_sheet}

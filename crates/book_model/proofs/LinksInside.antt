@@ -12,7 +12,7 @@ use Rattle.cell_addr.specs.declared.axis.Axis.{Axis}
 use Rattle.cell_addr.specs.declared.axis.Axis.TheVariants.{Rows, Cols}
 use Rattle.cell_addr.specs.declared.place.Block.{Block}
 use Rattle.cell_addr.specs.declared.place.Place.{Place}
-use Rattle.book_cells.specs.Workbook.{Content, number, text, truth, formula, unreadable}
+use Rattle.book_values.specs.Book.{Content, number, text, truth, formula, unreadable}
 use Rattle.formula_tree.specs.Links.{is_place_word, once_after, same_link}
 use Rattle.formula_tree.specs.Mentions.{mentions_in, mentions_in_all}
 use Rattle.formula_tree.specs.Proper.{AreProper, IsProper}

@@ -12,7 +12,7 @@ use Rattle.cell_addr.specs.Place.{Covers, IsBlockInside, IsInside, covers}
 use Rattle.cell_addr.specs.Sheets.{name_in}
 use Rattle.cell_addr.specs.declared.place.Block.{Block}
 use Rattle.cell_addr.specs.declared.place.Place.{Place}
-use Rattle.book_cells.specs.Workbook.{Book as Contents, Content, number, truth, text, formula, unreadable}
+use Rattle.book_values.specs.Book.{Book as Contents, Content, number, truth, text, formula, unreadable}
 use Rattle.formula_tree.specs.declared.reference.Home.TheVariants as homes
 use Rattle.shift_core.proofs.CellMoves.{Covers-from_covers, carried_covered, carried_returns, covers-from_Covers, returned_covered, returned_goes}
 use Rattle.shift_core.specs.Carried.{carried_place, destination, first_place}

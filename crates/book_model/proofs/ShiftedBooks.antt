@@ -12,7 +12,7 @@ use Rattle.cell_addr.specs.Order.{place_cmp}
 use Rattle.cell_addr.specs.Place.{IsInside}
 use Rattle.cell_addr.specs.declared.place.Place.{Place}
 use Rattle.cell_addr.proofs.Places.{place_cmp-IsTotalOrder}
-use Rattle.book_cells.specs.Workbook.{Book as Contents, Content, number, truth, text, formula, unreadable}
+use Rattle.book_values.specs.Book.{Book as Contents, Content, number, truth, text, formula, unreadable}
 use Rattle.cell_addr.specs.Sheets.{AreSheets}
 use Rattle.shift_core.proofs.MovedMaps.{get-moved, moved_inside}
 use Rattle.shift_core.proofs.PlaceLaws.{place_returned_goes}

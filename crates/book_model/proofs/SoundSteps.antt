@@ -12,8 +12,8 @@ use Rattle.cell_addr.specs.declared.place.Place.{Place}
 use Rattle.cell_addr.proofs.Places.{place_cmp-IsTotalOrder, place_cmp-IsAntisymmetric}
 use Rattle.cell_addr.specs.Place.{IsBlockInside, IsInside, covers}
 use Rattle.cell_addr.specs.Sheets.{AreSheets}
-use Rattle.book_cells.specs.Workbook.{Book as Contents, Content}
-use Rattle.book_cells.specs.Workbook as contents
+use Rattle.book_values.specs.Book.{Book as Contents, Content}
+use Rattle.book_values.specs.Book as contents
 use Rattle.formula_tree.specs.Term.{Term}
 use Rattle.formula_tree.specs.declared.reference.Corner.{Corner}
 use Rattle.book_values.specs.Names.{Key, key_of}

@@ -11,7 +11,7 @@ use Rattle.cell_addr.specs.Order.{place_cmp}
 use Rattle.cell_addr.specs.Place.{same_place}
 use Rattle.cell_addr.proofs.Places.{place_cmp-IsTotalOrder}
 use Rattle.cell_addr.proofs.SamePlaces.{same_place-equal, same_place-self}
-use Rattle.book_cells.specs.Workbook.{Book as Contents, Content}
+use Rattle.book_values.specs.Book.{Book as Contents, Content}
 use Rattle.book_model.specs.Changes.{HaveDistinctPlaces, all_placed, placed}
 use Rattle.book_model.specs.Content.{content_given, content_of}
 use Rattle.book_model.specs.Laws.{written_at}

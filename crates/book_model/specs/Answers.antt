@@ -12,7 +12,7 @@ use Rattle.cell_addr.specs.declared.place.Place.{Place}
 use Rattle.cell_value.specs.declared.fault.FaultKind.TheVariants as fault
 use Rattle.cell_value.specs.declared.scalar.Scalar.{Scalar}
 use Rattle.cell_value.specs.declared.scalar.Scalar.TheVariants as scalar
-use Rattle.book_cells.specs.Workbook.{Content, formula}
+use Rattle.book_values.specs.Book.{Content, formula}
 use Rattle.formula_tree.specs.Links.{once, same_link}
 use Rattle.formula_tree.specs.Mentions.{mentions_in}
 use Rattle.formula_tree.specs.Term.{Term}

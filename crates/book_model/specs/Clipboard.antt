@@ -2,7 +2,7 @@
 use Rattle.std.specs.FinMap as map
 use Rattle.cell_addr.specs.Place.{covers}
 use Rattle.cell_addr.specs.declared.place.Block.{Block}
-use Rattle.book_cells.specs.Workbook.{Book as Contents}
+use Rattle.book_values.specs.Book.{Book as Contents}
 
 -- nothing, a copied block with what its cells held at the copy, or a cut block, which moves where it is pasted
 pub data Clipboard : Type 0 where

@@ -5,8 +5,8 @@ use Rattle.cell_addr.specs.Parts.{strip_prefix}
 use Rattle.cell_addr.specs.Sheets.{id_in, name_in}
 use Rattle.cell_value.specs.Scalar.{read_truth, truth_text}
 use Rattle.cell_value.specs.declared.fault.FaultKind.{FaultKind}
-use Rattle.book_cells.specs.Workbook.{Content}
-use Rattle.book_cells.specs.Workbook as content
+use Rattle.book_values.specs.Book.{Content}
+use Rattle.book_values.specs.Book as content
 use Rattle.fix_num.specs.Text.{number_of, text_of}
 use Rattle.fix_num.specs.declared.error.NumError.{NumError}
 use Rattle.formula_tree.specs.Canonical.{formula_text}

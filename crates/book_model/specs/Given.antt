@@ -5,7 +5,7 @@ use Rattle.std.specs.FinMap as finmap
 use Rattle.cell_addr.specs.declared.place.Place.{Place}
 use Rattle.cell_addr.specs.declared.place.TheConstants.{ROWS, COLS}
 use Rattle.cell_addr.specs.Text.{folded}
-use Rattle.book_cells.specs.Workbook.{Content}
+use Rattle.book_values.specs.Book.{Content}
 use Rattle.custom_fn.specs.declared.rule.Rule.{Rule}
 use Rattle.book_model.specs.Clipboard.{nothing}
 use Rattle.book_model.specs.Workbook.{Workbook, State}

@@ -8,7 +8,7 @@ use Rattle.fix_num.specs.Text.{text_of}
 use Rattle.cell_addr.specs.declared.place.Place.{Place}
 use Rattle.cell_addr.specs.Place.{same_place}
 use Rattle.cell_value.specs.Scalar.{truth_text}
-use Rattle.book_cells.specs.Workbook.{Content}
+use Rattle.book_values.specs.Book.{Content}
 use Rattle.book_model.specs.Answers.{dependents_of, precedents_of}
 use Rattle.book_model.specs.Changes.{HaveDistinctPlaces, with_contents}
 use Rattle.book_model.specs.Content.{content_given, content_of, text_given}

@@ -5,7 +5,7 @@ use Rattle.cell_addr.specs.declared.place.Place.{Place}
 use Rattle.cell_addr.specs.Place.{IsBlockInside, IsInside}
 use Rattle.cell_addr.specs.Sheets.{AreSheets}
 use Rattle.cell_addr.specs.Whole.{IsWholeInside}
-use Rattle.book_cells.specs.Workbook.{Content, formula}
+use Rattle.book_values.specs.Book.{Content, formula}
 use Rattle.formula_tree.specs.Proper.{IsProper}
 use Rattle.formula_tree.specs.Term.{Term}
 use Rattle.formula_tree.specs.declared.link.Link.{Link}

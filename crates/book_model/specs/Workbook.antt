@@ -2,7 +2,7 @@
 use Rattle.std.specs.Prelude.{ℕ, ℤ, ◌==◌, Bool, true, List, [], ◌∷◌, Option, Some, None, is_some}
 use Rattle.std.specs.FinMap as map
 use Rattle.std.specs.List.{list_any}
-use Rattle.book_cells.specs.Workbook.{Book as Contents}
+use Rattle.book_values.specs.Book.{Book as Contents}
 use Rattle.custom_fn.specs.declared.rule.Rule.{Rule}
 use Rattle.book_values.specs.Names.{Key}
 use Rattle.book_model.specs.Clipboard.{Clipboard}

@@ -5,19 +5,30 @@ use Rattle.std.specs.Cmp.Lexicographic.{bytes_decides}
 use Rattle.std.specs.FinMap.{find}
 use Rattle.std.specs.List.{filter, list_any}
 use Rattle.std.specs.Ordering.{is_eq}
+use Rattle.std.specs.declared.cmp.Ordering.{Ordering}
+use Rattle.std.specs.declared.cmp.Ordering.TheVariants.{Less, Equal, Greater}
 use Rattle.std.proofs.lemmas.Bool.{and_from, and_parts, cases_Bool, false≢true, or_cases, or_left, or_right}
+use Rattle.cell_addr.proofs.Places.{place_cmp-IsAntisymmetric}
 use Rattle.cell_addr.proofs.SamePlaces.{same_place-equal, same_place-self}
 use Rattle.cell_addr.specs.Order.{place_cmp}
 use Rattle.cell_addr.specs.Place.{same_place}
 use Rattle.cell_addr.specs.declared.place.Place.{Place}
-use Rattle.book_cells.proofs.Books.{same_at}
-use Rattle.book_cells.specs.Workbook.{Content, is_formula}
+use Rattle.book_values.specs.Book.{Content, is_formula}
 use Rattle.formula_tree.specs.Links.{same_scope}
 use Rattle.formula_tree.specs.Term.{Term}
 use Rattle.formula_tree.specs.declared.reference.Corner.{Corner}
 use Rattle.book_values.specs.Names.{Key, Names, same_key, tree_in}
 use Rattle.book_values.specs.Workbook.{Node, same_node}
 use Rattle.book_values.specs.Workbook as nodes
+
+is_eq-Equal : (o : Ordering) → is_eq o ≡ true → o ≡ Equal
+is_eq-Equal Less h = cc
+is_eq-Equal Equal h = refl
+is_eq-Equal Greater h = cc
+
+-- places that compare as equal are one
+same_at : (p q : Place) → is_eq (place_cmp p q) ≡ true → p ≡ q
+same_at p q here = place_cmp-IsAntisymmetric p q (is_eq-Equal (place_cmp p) q here)
 
 same_scope-self : (s : Option ℕ) → same_scope s s ≡ true
 same_scope-self None = refl

@@ -7,8 +7,8 @@ use Rattle.std.proofs.lemmas.List.Folds.{list_any-append}
 use Rattle.cell_addr.specs.Place.{same_place}
 use Rattle.cell_addr.specs.declared.place.Place.{Place}
 use Rattle.cell_value.specs.declared.scalar.Scalar.{Scalar}
-use Rattle.book_cells.specs.Workbook.{Content, formulas_of}
-use Rattle.book_cells.specs.Workbook as content
+use Rattle.book_values.specs.Book.{Content, formulas_of}
+use Rattle.book_values.specs.Book as content
 use Rattle.custom_fn.specs.declared.rule.Rule.{Rule}
 use Rattle.formula_tree.specs.Links.{names_in}
 use Rattle.formula_tree.specs.Reference.{sheet_of}

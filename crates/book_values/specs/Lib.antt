@@ -1,3 +1,4 @@
+pub mod Book
 pub mod Names
 pub mod Workbook
 pub mod Values

@@ -5,7 +5,7 @@ use Rattle.std.specs.List.{list_any}
 use Rattle.cell_addr.specs.Place.{same_place}
 use Rattle.cell_addr.specs.declared.place.Place.{Place}
 use Rattle.cell_addr.specs.declared.place.TheConstants.{NO_SHEET}
-use Rattle.book_cells.specs.Workbook as cells
+use Rattle.book_values.specs.Book as cells
 use Rattle.formula_tree.specs.Links.{names_in}
 use Rattle.formula_tree.specs.Reference.{sheet_of}
 use Rattle.formula_tree.specs.Term.{Term}

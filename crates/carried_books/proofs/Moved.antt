@@ -31,7 +31,7 @@ use Rattle.shift_core.proofs.PlaceLaws.{place_moved_returns, place_returned_goes
 use Rattle.tree_rewrite.specs.References.{EachReference, EachReferenceOfAll}
 use Rattle.tree_rewrite.specs.Rewritten.{area_after, rewritten}
 use Rattle.value_network.specs.Network.{Network, cyclic, value}
-use Rattle.book_cells.specs.Workbook as contents
+use Rattle.book_values.specs.Book as contents
 use Rattle.calc_terms.specs.Needs.{mentions, mentions_any}
 use Rattle.calc_terms.specs.References.{full_block}
 use Rattle.calc_terms.specs.World.{World}

@@ -9,7 +9,7 @@ use Rattle.formula_tree.specs.declared.reference.Corner.{Corner}
 use Rattle.shift_core.specs.Tables.{place_after, place_before}
 use Rattle.shift_core.specs.declared.shift.Shift.{Shift}
 use Rattle.tree_rewrite.specs.Rewritten.{rewritten}
-use Rattle.book_cells.specs.Workbook as contents
+use Rattle.book_values.specs.Book as contents
 use Rattle.calc_terms.specs.Needs.{mentions_name}
 use Rattle.book_values.specs.Names.{Key, found, tree_in}
 use Rattle.book_values.specs.Workbook.{Node, Workbook, home_of, name, needs, place, tree_at}

@@ -11,7 +11,7 @@ use Rattle.cell_addr.specs.Order.{place_cmp}
 use Rattle.cell_addr.specs.Place.{covers}
 use Rattle.cell_addr.specs.declared.place.Block.{Block}
 use Rattle.cell_addr.specs.declared.place.Place.{Place}
-use Rattle.book_cells.specs.Workbook.{Content}
+use Rattle.book_values.specs.Book.{Content}
 use Rattle.clip_board.specs.declared.clip.CopyItem.{CopyItem}
 use Rattle.clip_board.specs.declared.clip.CopyItem.TheVariants as item
 use Rattle.grid_store.specs.Grid.{within}

@@ -8,7 +8,7 @@ use Rattle.std.proofs.Math.ListN.{get_or-map}
 use Rattle.std.proofs.lemmas.Grind.{take_at_read}
 use Rattle.cell_addr.specs.Text.{folded}
 use Rattle.cell_addr.specs.declared.place.Place.{Place}
-use Rattle.book_cells.specs.Workbook.{Book as Contents, Content}
+use Rattle.book_values.specs.Book.{Book as Contents, Content}
 use Rattle.name_table.specs.SheetLists.{CanJoin}
 use Rattle.std.specs.Prelude.{ℤ}
 use Rattle.cell_value.specs.Scalar.{read_truth}

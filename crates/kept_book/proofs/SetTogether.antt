@@ -12,7 +12,7 @@ use Rattle.cell_addr.proofs.Places.{place_cmp-IsTotalOrder}
 use Rattle.cell_addr.specs.Order.{place_cmp}
 use Rattle.cell_addr.specs.Place.{IsInside}
 use Rattle.cell_addr.specs.declared.place.Place.{Place}
-use Rattle.book_cells.specs.Workbook.{Book as Contents, Content}
+use Rattle.book_values.specs.Book.{Book as Contents, Content}
 use Rattle.clip_board.specs.declared.clip.CopyItem.{CopyItem}
 use Rattle.grid_store.proofs.Exchanges.{get-without_places}
 use Rattle.grid_store.specs.Grid.{without_places}

@@ -7,7 +7,7 @@ use Rattle.std.specs.FinMap.{same_map}
 use Rattle.cell_addr.specs.Place.{IsInside}
 use Rattle.cell_addr.specs.declared.place.Place.{Place}
 use Rattle.cell_addr.proofs.Places.{place_cmp-IsTotalOrder, place_cmp-IsAntisymmetric}
-use Rattle.book_cells.specs.Workbook.{formula}
+use Rattle.book_values.specs.Book.{formula}
 use Rattle.formula_tree.specs.Term.{Term}
 use Rattle.formula_tree.specs.declared.reference.Corner.{Corner}
 use Rattle.grid_store.specs.declared.cell.Cell.{Cell}

@@ -13,7 +13,7 @@ use Rattle.std.specs.declared.rc.Rc.{Rc}
 use Rattle.cell_addr.specs.Order.{place_cmp}
 use Rattle.cell_addr.specs.Place.{IsInside}
 use Rattle.cell_addr.specs.declared.place.Place.{Place}
-use Rattle.book_cells.specs.Workbook.{formula}
+use Rattle.book_values.specs.Book.{formula}
 use Rattle.clip_board.specs.declared.clip.CopyItem.{CopyItem}
 use Rattle.clip_board.specs.declared.clip.CopyItem.TheVariants as item
 use Rattle.formula_tree.specs.declared.node.Node.{Node}

@@ -4,7 +4,7 @@ ghost use Rattle.std.specs.List.{All};
 ghost use Rattle.std.specs.FinMap as map;
 ghost use Rattle.cell_addr.specs.Place.{covers};
 ghost use Rattle.cell_addr.specs.declared.place.Place.{Place as PlaceSeen};
-ghost use Rattle.book_cells.specs.Workbook.{Content};
+ghost use Rattle.book_values.specs.Book.{Content};
 ghost use Rattle.clip_board.specs.Clips.{items_of};
 ghost use Rattle.kept_book.specs.Copied.{IsCopied, IsHeld, content_copied, contents_copied};
 ghost use Rattle.kept_book.specs.Kept.{IsStanding, SameBook, workbook};

@@ -9,7 +9,7 @@ ghost use Rattle.grid_store.specs.Grid.{cells_of};
 ghost use Rattle.lazy_store.specs.Store.{AreCaughtUp, GoOnWithin, MovesLagging, StayOrComeTo};
 ghost use Rattle.name_table.specs.Named.{names_of};
 ghost use Rattle.name_table.specs.Scopes.{key_of};
-ghost use Rattle.book_cells.specs.Workbook.{Content};
+ghost use Rattle.book_values.specs.Book.{Content};
 ghost use Rattle.book_values.specs.Workbook.{content_tree};
 ghost use Rattle.kept_book.specs.Copied.{IsCopied, IsHeld, contents_copied};
 ghost use Rattle.kept_book.specs.Formula.{tree_at, tree_in_scope};

@@ -20,7 +20,7 @@ use Rattle.shift_core.specs.declared.shift.Shift.{Shift}
 use Rattle.tree_rewrite.specs.Rewritten.{area_after, rewritten}
 use Rattle.carried_terms.proofs.Needs.{names_stay}
 use Rattle.carried_books.specs.Moved.{is_bare}
-use Rattle.book_cells.specs.Workbook.{Content}
+use Rattle.book_values.specs.Book.{Content}
 use Rattle.book_values.specs.Names.{Names, found}
 use Rattle.book_values.specs.Workbook as book
 use Rattle.book_values.specs.Workbook.{Workbook, content_tree, home_of, tree_at}

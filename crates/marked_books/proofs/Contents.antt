@@ -11,7 +11,7 @@ use Rattle.cell_addr.specs.declared.place.Block.{Block}
 use Rattle.cell_addr.specs.declared.place.Place.{Place}
 use Rattle.cell_addr.proofs.Places.{place_cmp-IsAntisymmetric, place_cmp-IsTotalOrder}
 use Rattle.shift_core.specs.Carried.{destination}
-use Rattle.book_cells.specs.Workbook.{Book as Contents, Content}
+use Rattle.book_values.specs.Book.{Book as Contents, Content}
 use Rattle.dep_graph.specs.Nodes.{has}
 use Rattle.dep_graph.specs.declared.node.Node.TheVariants.{Cell}
 use Rattle.dep_graph.proofs.Places.{has_first}

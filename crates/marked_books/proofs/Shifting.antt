@@ -23,8 +23,8 @@ use Rattle.shift_core.proofs.PlaceLaws.{place_moved_inside, place_moved_returns}
 use Rattle.tree_rewrite.specs.References.{FitsSheets}
 use Rattle.tree_rewrite.specs.Rewritten.{rewritten}
 use Rattle.tree_rewrite.proofs.CallerLemmas.{proper-fit}
-use Rattle.book_cells.specs.Workbook.{Content}
-use Rattle.book_cells.specs.Workbook as contents
+use Rattle.book_values.specs.Book.{Content}
+use Rattle.book_values.specs.Book as contents
 use Rattle.book_values.specs.Names.{Key, tree_in}
 use Rattle.book_values.specs.Workbook as book
 use Rattle.book_values.specs.Workbook.{content_tree, scope_sheet}

@@ -9,7 +9,7 @@ use Rattle.shift_core.specs.Sound.{IsSound as IsSoundShift}
 use Rattle.shift_core.specs.declared.shift.Shift.{Shift}
 use Rattle.formula_tree.specs.Term.{Term}
 use Rattle.formula_tree.specs.declared.reference.Corner.{Corner}
-use Rattle.book_cells.specs.Workbook.{Book as Contents}
+use Rattle.book_values.specs.Book.{Book as Contents}
 use Rattle.book_values.specs.Names.{Key}
 use Rattle.book_values.specs.Workbook as book
 use Rattle.dep_graph.specs.Nodes.{has}

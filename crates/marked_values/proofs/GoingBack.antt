@@ -19,7 +19,7 @@ use Rattle.shift_core.proofs.Opposites.{back_sound, block_goes_back, form_of_opp
 use Rattle.shift_core.proofs.WholeMoves.{whole_goes_back}
 use Rattle.shift_core.proofs.PlaceLaws.{place_moved_inside, place_moved_returns, place_returned_goes, place_returned_inside}
 use Rattle.tree_rewrite.specs.Rewritten.{rewritten}
-use Rattle.book_cells.specs.Workbook.{Content}
+use Rattle.book_values.specs.Book.{Content}
 use Rattle.book_values.specs.Names.{tree_in}
 use Rattle.book_values.specs.Workbook as book
 use Rattle.book_values.specs.Workbook.{Workbook, scope_sheet}

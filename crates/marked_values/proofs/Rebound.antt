@@ -17,8 +17,8 @@ use Rattle.calc_terms.specs.Laws.{NameAlike}
 use Rattle.calc_terms.specs.Meaning.{meaning}
 use Rattle.calc_terms.specs.Needs.{mentions_name}
 use Rattle.calc_terms.specs.World.{Named, World}
-use Rattle.book_cells.specs.Workbook.{Content}
-use Rattle.book_cells.specs.Workbook as content
+use Rattle.book_values.specs.Book.{Content}
+use Rattle.book_values.specs.Book as content
 use Rattle.book_values.proofs.Keys.{same_key-self, word_passes}
 use Rattle.book_values.specs.Names.{Key, found, is_found, key_of, tree_in}
 use Rattle.book_values.specs.Values.{content_value, name_value, named_as, worked_out, world_of}

@@ -25,7 +25,7 @@ use Rattle.shift_core.proofs.CellMoves.{Covers-from_covers, carried_covered, cas
 use Rattle.shift_core.proofs.Opposites.{form_of_opposite}
 use Rattle.shift_core.proofs.UnbentBlocks.{carried_back}
 use Rattle.tree_rewrite.specs.Rewritten.{area_after, area_at, cell_at, rewritten}
-use Rattle.book_cells.specs.Workbook.{Content}
+use Rattle.book_values.specs.Book.{Content}
 use Rattle.book_values.specs.Workbook as book
 use Rattle.book_values.specs.Workbook.{Workbook, content_tree, scope_sheet, tree_at}
 use Rattle.carried_books.specs.Moved.{content_after, is_bare}

@@ -17,7 +17,7 @@ use Rattle.shift_core.specs.Wholes.{whole_after}
 use Rattle.shift_core.specs.declared.shift.Shift.{Shift}
 use Rattle.shift_core.specs.declared.shift.Shift.TheVariants.{DropSheet}
 use Rattle.shift_core.proofs.PlaceLaws.{stays_on_drop}
-use Rattle.book_cells.specs.Workbook.{Content}
+use Rattle.book_values.specs.Book.{Content}
 use Rattle.book_values.specs.Values.{value_of}
 use Rattle.book_values.specs.Workbook as book
 use Rattle.book_values.specs.Workbook.{Workbook, scope_sheet, tree_at}

@@ -12,7 +12,7 @@ use Rattle.shift_core.specs.Sound.{IsSound}
 use Rattle.shift_core.specs.Tables.{place_before}
 use Rattle.shift_core.specs.declared.shift.Shift.{Shift}
 use Rattle.shift_core.proofs.PlaceLaws.{place_returned_goes, place_returned_inside}
-use Rattle.book_cells.specs.Workbook.{Content}
+use Rattle.book_values.specs.Book.{Content}
 use Rattle.book_values.specs.Names.{Key}
 use Rattle.book_values.specs.Workbook as book
 use Rattle.book_values.specs.Workbook.{Workbook, scope_sheet, tree_at}

@@ -20,7 +20,7 @@ use Rattle.formula_tree.specs.declared.reference.Corner.{Corner}
 use Rattle.shift_core.proofs.Axes.{ends_inside}
 use Rattle.tree_rewrite.specs.References.{EachReference, EachReferenceOfAll, FitsSheets, IsAreaInside, IsReferenceInside}
 use Rattle.tree_rewrite.proofs.EachReferences.{EachReference-map}
-use Rattle.book_cells.specs.Workbook.{Content}
+use Rattle.book_values.specs.Book.{Content}
 use Rattle.book_values.specs.Names.{Names}
 use Rattle.book_values.specs.Workbook as book
 use Rattle.book_values.specs.Workbook.{Workbook, content_tree, tree_at}

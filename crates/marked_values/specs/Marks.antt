@@ -8,7 +8,7 @@ use Rattle.formula_tree.specs.Term.{Term}
 use Rattle.formula_tree.specs.declared.reference.Corner.{Corner}
 use Rattle.tree_rewrite.specs.References.{FitsSheets}
 use Rattle.value_network.specs.Network.{LeadsTo}
-use Rattle.book_cells.specs.Workbook as contents
+use Rattle.book_values.specs.Book as contents
 use Rattle.book_values.specs.Values.{network}
 use Rattle.book_values.specs.Workbook as book
 use Rattle.book_values.specs.Workbook.{Workbook, tree_at}

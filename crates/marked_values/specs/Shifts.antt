@@ -6,7 +6,7 @@ use Rattle.cell_addr.specs.declared.place.Place.{Place}
 use Rattle.cell_addr.specs.declared.place.TheConstants.{NO_SHEET}
 use Rattle.cell_addr.specs.Place.{IsInside, covers}
 use Rattle.custom_fn.specs.declared.rule.Rule.{Rule}
-use Rattle.book_cells.specs.Workbook as contents
+use Rattle.book_values.specs.Book as contents
 use Rattle.formula_tree.specs.Links.{is_place_word}
 use Rattle.formula_tree.specs.Reference.{sheet_of}
 use Rattle.formula_tree.specs.Term.{Term, prefix, percent, binary, call, paren, Terms, no_terms, term}

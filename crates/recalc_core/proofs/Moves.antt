@@ -11,7 +11,7 @@ use Rattle.custom_fn.specs.declared.rule.Rule.{Rule}
 use Rattle.value_network.proofs.Values.{unique_on}
 use Rattle.value_network.specs.Network.{LeadsTo, Network, after, at_once, cyclic, round}
 use Rattle.calc_terms.specs.World.{World}
-use Rattle.book_cells.specs.Workbook.{Content}
+use Rattle.book_values.specs.Book.{Content}
 use Rattle.formula_tree.specs.Term.{Term}
 use Rattle.formula_tree.specs.declared.reference.Corner.{Corner}
 use Rattle.book_values.proofs.Networks.{cycles_return, is_network, values_unfold}

@@ -29,8 +29,8 @@ use Rattle.calc_terms.specs.Laws.{AreAlike, NameAlike, ShowAlike}
 use Rattle.calc_terms.specs.Meaning.{meaning}
 use Rattle.calc_terms.specs.Needs.{mentions_name}
 use Rattle.calc_terms.specs.World.{World}
-use Rattle.book_cells.specs.Workbook.{Content}
-use Rattle.book_cells.specs.Workbook as content
+use Rattle.book_values.specs.Book.{Content}
+use Rattle.book_values.specs.Book as content
 use Rattle.book_values.proofs.Keys.{same_key-self, word_passes}
 use Rattle.book_values.proofs.Networks.{cycles_return, values_unfold}
 use Rattle.book_values.specs.Names.{Key, found, is_found, tree_in}

@@ -16,7 +16,7 @@ use Rattle.shift_core.specs.Tables.{block_after, place_after}
 use Rattle.shift_core.specs.Wholes.{whole_after}
 use Rattle.shift_core.specs.declared.shift.Shift.{Shift}
 use Rattle.tree_rewrite.specs.Rewritten.{rewritten}
-use Rattle.book_cells.specs.Workbook.{Content}
+use Rattle.book_values.specs.Book.{Content}
 use Rattle.book_values.specs.Workbook as book
 use Rattle.book_values.specs.Workbook.{Workbook, content_tree, home_of, scope_sheet, tree_at}
 use Rattle.carried_books.proofs.Moved.{tree_after}

@@ -17,7 +17,7 @@ use Rattle.dep_graph.specs.declared.node.Node.TheVariants.{Cell, Name, Range, Wh
 use Rattle.dep_graph.proofs.Places.{has-append_cases}
 use Rattle.kept_book.specs.Kept.{IsMore}
 use Rattle.name_table.specs.Named.{words_of}
-use Rattle.book_cells.specs.Workbook.{Content}
+use Rattle.book_values.specs.Book.{Content}
 use Rattle.book_model.specs.Answers.{valued}
 use Rattle.book_model.specs.Workbook.{State}
 use Rattle.recalc_core.specs.Kept.{Kept, stands}

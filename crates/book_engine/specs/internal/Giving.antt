@@ -2,7 +2,7 @@
 use Rattle.std.specs.Prelude.{◌≡◌, ◌≢◌, ◌&&◌, ◌==◌, ◌+◌, ◌-◌, ℕ, Bool, true, false, not, nat_le, nat_lt, List, [], ◌∷◌, length, is_none, is_some}
 use Rattle.std.specs.FinMap as map
 use Rattle.cell_addr.specs.declared.place.Place.{Place}
-use Rattle.book_cells.specs.Workbook.{Book as Contents}
+use Rattle.book_values.specs.Book.{Book as Contents}
 use Rattle.book_model.specs.Content.{content_of}
 use Rattle.book_model.specs.Refusals.{Cause, is_outside}
 use Rattle.book_model.specs.Workbook.{State, has_sheet}

@@ -3,7 +3,7 @@ use Rattle.std.specs.Prelude.{ℕ, Bool, true, false, List, [], Option, Some, No
 use Rattle.std.specs.Ordering.{eq_by_cmp}
 use Rattle.cell_addr.specs.Text.{capitals}
 use Rattle.cell_addr.specs.declared.place.Place.{Place}
-use Rattle.book_cells.specs.Workbook.{Content, formula}
+use Rattle.book_values.specs.Book.{Content, formula}
 use Rattle.formula_tree.specs.Links.{once}
 use Rattle.formula_tree.specs.Mentions.{mentions_in, same_mention}
 use Rattle.formula_tree.specs.Term.{Term}

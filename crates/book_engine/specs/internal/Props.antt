@@ -1,7 +1,7 @@
 -- What has one proof at most, so that it may be kept with a value: that a tree is proper, and that a session is sound.
 use denote.Struct.Props as logic
 use Rattle.std.specs.Prelude.{ℕ, List, Option, Some, None}
-use Rattle.book_cells.specs.Workbook.{Content, number, truth, text, formula, unreadable}
+use Rattle.book_values.specs.Book.{Content, number, truth, text, formula, unreadable}
 use Rattle.formula_tree.specs.Proper.{IsProper, AreProper}
 use Rattle.formula_tree.specs.Term as tree
 use Rattle.formula_tree.specs.Term.{Term, Terms}

@@ -1,7 +1,7 @@
 use Rattle.std.proofs.Common.{◌≡◌, ◌∙◌, sym, ap, subst, Some, None, option_map}
 use Rattle.std.specs.Option.{option_copied}
 use Rattle.std.specs.FinMap as fin
-use Rattle.book_cells.specs.Workbook.{formula}
+use Rattle.book_values.specs.Book.{formula}
 use Rattle.book_values.specs.Workbook.{content_tree}
 use Rattle.grid_store.specs.Grid.{cells_of}
 use Rattle.kept_book.specs.Copied.{IsPlain}
