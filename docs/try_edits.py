@@ -8,12 +8,15 @@
 
 The gate tries the edits of must-fail/ alone, each over a second proof of its crate. Here all are tried, in a scratch
 copy of the repository, and first by a check of the functions that an edit changes, alone: where the check proves these
-as they stand and not with the edit, it is refused, in some ten seconds. Whichever can't be tried so, as one of a
-constant, or is still proved so, is tried over the whole crate by `rt must-fail`.
+as they stand and not with the edit, it is refused. A function is proved by the contracts of those that it calls, so
+edits of different functions are tried in one round, by one check of all these functions. Where that tells nothing of
+one, it is tried by itself. Whichever can't be tried so, as one of a constant, or is still proved so, is tried over the
+whole crate by `rt must-fail`.
 
 docs/edits.lock has a line for each crate: its name, how many edits were refused, of how many, and a checksum of all
 that this rests on: sources and definitions of the crate and of those below it, without comments, and the crate's edits.
 """
+import contextlib
 import hashlib
 import re
 import shutil
@@ -34,6 +37,8 @@ REFUSED = "refused, as it must be"
 # A function's head, and what an impl is of: a type, or a trait and a type.
 FUNCTION = re.compile(r'^(\s*)(?:#\[[^\]]*\]\s*)?(?:pub(?:\([a-z]+\))? )?(?:const )?(?:unsafe )?(?:extern "C" )?fn (\w+)')
 IMPL = re.compile(r"^(?:unsafe )?impl\b(?:<[^{]*?>)? (?:(\w[\w:]*)(?:<.*?>)? for )?&?(?:'\w+ )?(\w+)")
+# What a check says of a function that it doesn't prove.
+UNPROVED = re.compile(r"^fn (\S+): (?:not proved|no proof)")
 # What a check says of a place in a file, and what says only that a proof names something that isn't there.
 PLACED = re.compile(r"(note: )?\S+:\d+:\d+: ")
 NAMES = re.compile(r"(note: )?(\./)?proofs/.*(has no field|is not in scope|has no `|was not admitted|was rejected)")
@@ -141,9 +146,8 @@ def function_at(crate, path, text, at):
 
 
 def functions_of(crate, folder, edit):
-    """The names of the functions that an edit changes, and the edited files; None where an old text isn't there once, or
-    stands in no function."""
-    names, files = [], {}
+    """The names of the functions that an edit changes; None where an old text isn't there once, or stands in no function."""
+    names = []
     for path, pairs in changes(edit).items():
         text = (folder / "crates" / crate / path).read_text()
         for old, new in pairs:
@@ -151,8 +155,7 @@ def functions_of(crate, folder, edit):
                 return None
             names.append(function_at(crate, path, text, text.find(old) + len(old) - len(old.lstrip())))
             text = text.replace(old, new)
-        files[path] = text
-    return None if None in names else (list(dict.fromkeys(names)), files)
+    return None if None in names else list(dict.fromkeys(names))
 
 
 def check(crate, folder, names):
@@ -162,11 +165,8 @@ def check(crate, folder, names):
     return ran.stdout.splitlines(), ran.returncode
 
 
-def refusal(lines, status):
-    """What is to be said of an edit by what a check of its functions says; None where that tells nothing."""
-    if status != 1 or not any(line.startswith("only=") for line in lines):
-        return None
-    told = [line for line in lines if PLACED.match(line)]
+def first_told(told):
+    """What is to be said of an edit by the placed lines of a check that tells of it; None where they tell nothing."""
     told = [line for line in told if ": error" in line or line.startswith("note: ")] or told
     first = next((line for line in told if not NAMES.match(line)), "")
     if told and not first:
@@ -174,25 +174,62 @@ def refusal(lines, status):
     return f"{REFUSED}: {first[:160]}"
 
 
+def rounds_of(found):
+    """The edits in rounds, each of which changes no function twice: each edit with the names of its functions."""
+    rounds = []
+    for edit, names in found.items():
+        free = next((it for it in rounds if not any(name in other for other in it.values() for name in names)), None)
+        if free is None:
+            rounds.append({edit: names})
+        else:
+            free[edit] = names
+    return rounds
+
+
+@contextlib.contextmanager
+def applied(crate, folder, edits):
+    """Applies edits to the scratch copy, and takes them back."""
+    pairs = [(folder / "crates" / crate / path, old, new) for edit in edits for path, those in changes(edit).items() for old, new in those]
+    kept = {file: file.read_text() for file, _, _ in pairs}
+    try:
+        for file, old, new in pairs:
+            file.write_text(file.read_text().replace(old, new))
+        yield
+    finally:
+        for file, text in kept.items():
+            file.write_text(text)
+
+
+def tried_in_round(crate, folder, edits):
+    """Tries edits of different functions by one check: what is said of each, with None where that tells nothing of it."""
+    with applied(crate, folder, edits):
+        lines, status = check(crate, folder, [name for names in edits.values() for name in names])
+    if status != 1 or not any(line.startswith("only=") for line in lines):
+        return dict.fromkeys(edits)
+    unproved, told = {it[1] for it in map(UNPROVED.match, lines) if it}, [line for line in lines if PLACED.match(line)]
+    # what a check says of a function stands at a place of its proofs, or of a source file
+    of = lambda name: [line for line in told if f"/{name.rpartition('::')[2]}/" in line or "src/" in line.split(":")[0]]
+    said = {}
+    for edit, names in edits.items():
+        here = [name for name in names if name in unproved]
+        said[edit] = first_told([line for name in here for line in of(name)]) if here else None
+    return said
+
+
 def tried_alone(crate, folder):
     """Tries the edits of a crate by the functions that they change: what is said of each, with None for those that want the
     whole crate."""
     found = {edit: functions_of(crate, folder, edit) for edit in edits_of(crate)}
-    every = list(dict.fromkeys(name for it in found.values() if it for name in it[0]))
+    every = list(dict.fromkeys(name for names in found.values() if names for name in names))
     whole = [name for name in every if check(crate, folder, [name])[1]] if every and check(crate, folder, every)[1] else []
-    said = {}
-    for edit, it in found.items():
-        said[edit] = None
-        if it and not any(name in whole for name in it[0]):
-            kept = {path: (folder / "crates" / crate / path).read_text() for path in it[1]}
-            try:
-                for path, text in it[1].items():
-                    (folder / "crates" / crate / path).write_text(text)
-                said[edit] = refusal(*check(crate, folder, it[0]))
-            finally:
-                for path, text in kept.items():
-                    (folder / "crates" / crate / path).write_text(text)
-        print(f"{crate}/{edit.name}: {said[edit] or 'wants the whole crate'}", flush=True)
+    said = dict.fromkeys(found)
+    for edits in rounds_of({edit: names for edit, names in found.items() if names and not any(name in whole for name in names)}):
+        said.update(tried_in_round(crate, folder, edits))
+        for edit in edits:
+            if said[edit] is None and len(edits) > 1:
+                said.update(tried_in_round(crate, folder, {edit: edits[edit]}))
+    for edit, told in said.items():
+        print(f"{crate}/{edit.name}: {told or 'wants the whole crate'}", flush=True)
     return said
 
 
