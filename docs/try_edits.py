@@ -37,8 +37,9 @@ REFUSED = "refused, as it must be"
 # A function's head, and what an impl is of: a type, or a trait and a type.
 FUNCTION = re.compile(r'^(\s*)(?:#\[[^\]]*\]\s*)?(?:pub(?:\([a-z]+\))? )?(?:const )?(?:unsafe )?(?:extern "C" )?fn (\w+)')
 IMPL = re.compile(r"^(?:unsafe )?impl\b(?:<[^{]*?>)? (?:(\w[\w:]*)(?:<.*?>)? for )?&?(?:'\w+ )?(\w+)")
-# What a check says of a function that it doesn't prove.
-UNPROVED = re.compile(r"^fn (\S+): (?:not proved|no proof)")
+# What a check says of a function behind all else that it says of it, and of one that only waits for the proof of another.
+FUNCTION_TOLD = re.compile(r"^fn (\S+): (.*)$")
+UNPROVED, WAITS = re.compile(r"not proved|no proof"), re.compile(r"no proof: it calls ")
 # What a check says of a place in a file, and what says only that a proof names something that isn't there.
 PLACED = re.compile(r"(note: )?\S+:\d+:\d+: ")
 NAMES = re.compile(r"(note: )?(\./)?proofs/.*(has no field|is not in scope|has no `|was not admitted|was rejected)")
@@ -165,13 +166,29 @@ def check(crate, folder, names):
     return ran.stdout.splitlines(), ran.returncode
 
 
+def told_of_functions(lines):
+    """What a check says of each function that it doesn't prove, by its name: its own line last. None of one that waits for the
+    proof of another."""
+    found, told = {}, []
+    for line in lines:
+        of = FUNCTION_TOLD.match(line)
+        if of and UNPROVED.match(of[2]) and not WAITS.match(of[2]):
+            found[of[1]] = [*told, line]
+        if of:
+            told = []
+        elif PLACED.match(line):
+            told.append(line)
+    return found
+
+
 def first_told(told):
-    """What is to be said of an edit by the placed lines of a check that tells of it; None where they tell nothing."""
-    told = [line for line in told if ": error" in line or line.startswith("note: ")] or told
-    first = next((line for line in told if not NAMES.match(line)), "")
-    if told and not first:
+    """What is to be said of an edit by what a check says of its functions; None where that tells nothing."""
+    placed = [line for line in told if PLACED.match(line)]
+    placed = [line for line in placed if ": error" in line or line.startswith("note: ")] or placed
+    first = next((line for line in placed if not NAMES.match(line)), "")
+    if not told or placed and not first:
         return None
-    return f"{REFUSED}: {first[:160]}"
+    return f"{REFUSED}: {(first or told[-1])[:160]}"
 
 
 def rounds_of(found):
@@ -206,14 +223,9 @@ def tried_in_round(crate, folder, edits):
         lines, status = check(crate, folder, [name for names in edits.values() for name in names])
     if status != 1 or not any(line.startswith("only=") for line in lines):
         return dict.fromkeys(edits)
-    unproved, told = {it[1] for it in map(UNPROVED.match, lines) if it}, [line for line in lines if PLACED.match(line)]
-    # what a check says of a function stands at a place of its proofs, or of a source file
-    of = lambda name: [line for line in told if f"/{name.rpartition('::')[2]}/" in line or "src/" in line.split(":")[0]]
-    said = {}
-    for edit, names in edits.items():
-        here = [name for name in names if name in unproved]
-        said[edit] = first_told([line for name in here for line in of(name)]) if here else None
-    return said
+    told = told_of_functions(lines)
+    of = lambda name: [line for whole, those in told.items() if f"::{whole}".endswith(f"::{name}") for line in those]
+    return {edit: first_told([line for name in names for line in of(name)]) for edit, names in edits.items()}
 
 
 def tried_alone(crate, folder):
@@ -223,11 +235,15 @@ def tried_alone(crate, folder):
     every = list(dict.fromkeys(name for names in found.values() if names for name in names))
     whole = [name for name in every if check(crate, folder, [name])[1]] if every and check(crate, folder, every)[1] else []
     said = dict.fromkeys(found)
-    for edits in rounds_of({edit: names for edit, names in found.items() if names and not any(name in whole for name in names)}):
+    left = {edit: names for edit, names in found.items() if names and not any(name in whole for name in names)}
+    while left:
+        edits = rounds_of(left)[0]
         said.update(tried_in_round(crate, folder, edits))
-        for edit in edits:
-            if said[edit] is None and len(edits) > 1:
-                said.update(tried_in_round(crate, folder, {edit: edits[edit]}))
+        untold = [edit for edit in edits if said[edit] is None]
+        # of a round that tells nothing each is tried by itself, and else what it doesn't tell of in a later one
+        for edit in untold if len(untold) == len(edits) > 1 else ():
+            said.update(tried_in_round(crate, folder, {edit: edits[edit]}))
+        left = {edit: names for edit, names in left.items() if edit not in edits or edit in untold and len(untold) < len(edits)}
     for edit, told in said.items():
         print(f"{crate}/{edit.name}: {told or 'wants the whole crate'}", flush=True)
     return said

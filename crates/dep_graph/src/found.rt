@@ -1,6 +1,7 @@
 // The nodes that a structural operation touches.
-ghost use Rattle.std.specs.Prelude.{◌≡◌, ◌<◌, OnOk, IfOk};
+ghost use Rattle.std.specs.Prelude.{◌≡◌, ◌<◌, ◌+◌, OnOk, IfOk};
 ghost use Rattle.shift_core.specs.Sound.{IsSound};
+ghost use Rattle.dep_graph.specs.internal.Nets.{Grows};
 ghost use Rattle.dep_graph.specs.internal.Numbers.{count_of};
 ghost use Rattle.dep_graph.specs.internal.Touches.{AddsBetween, AddsKnown, AreInside, FindsTouched};
 
@@ -13,9 +14,7 @@ use std::alloc::AllocError;
 impl Net {
     // Keeps all nodes where operations find them.
     pub(crate) fn keep_fresh(&mut self) -> Result<(), AllocError>
-        ensures nodes { self.new.nodes ≡ self.old.nodes }
-        ensures links { self.new.links ≡ self.old.links }
-        ensures files { self.new.files ≡ self.old.files }
+        ensures { Grows self.old self.new }
     {
         'numbers: for number in self.touches.kept..self.nodes.len() {
             self.keep_next(number)?;
