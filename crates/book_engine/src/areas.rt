@@ -47,7 +47,7 @@ impl<C: Customs> Engine<C> {
     pub fn kind(&self, at: Place) -> Result<Kind, Stop>
         ensures { (d : State) → StandsFor C.customs self.now d → Answered (cause (op.content at) d) (λ kind. kind ≡ kind_of (fin.get d.book.cells at)) result }
     {
-        kind(&self.parts, at)
+        cell_kind(&self.parts, at)
     }
 
     /// The filled places of a block, row by row. Costs about their number and that of the block's rows that hold any cell.
@@ -83,7 +83,7 @@ impl<C: Customs> Engine<C> {
 }
 
 // What kind of content a cell has.
-fn kind(parts: &Parts, at: Place) -> Result<Kind, Stop>
+fn cell_kind(parts: &Parts, at: Place) -> Result<Kind, Stop>
     ensures { Answered (cause (op.content at) (state_of parts.now)) (λ kind. kind ≡ kind_of (fin.get (state_of parts.now).book.cells at)) result }
 {
     parts.check_place(at)?;

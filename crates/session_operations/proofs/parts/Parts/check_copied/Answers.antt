@@ -1,5 +1,4 @@
 use Rattle.std.proofs.Common.{sym, not}
-use Rattle.std.proofs.lemmas.Result.{err_from_is_err_and}
 use Rattle.std.specs.Prelude.{nat_lt}
 use Rattle.std.specs.FinMap as fin
 use Rattle.shift_core.specs.Carried.{destination}
@@ -9,7 +8,7 @@ use Rattle.book_model.specs.Workbook.{has_sheet}
 use Rattle.book_model.specs.declared.refusal.Refusal.TheVariants.{CellLimit, NoSheet, Outside}
 use Rattle.kept_book.specs.Copied.{contents_copied}
 use Rattle.session_operations.specs.Seen.{state_of}
-use Rattle.session_operations.proofs.Pasting.{few-enough, three-none, three-third, three-first, too-many}
+use Rattle.session_operations.proofs.Pasting.{few-enough, three-none}
 use Rattle.session_operations.proofs.parts.Parts.check_copied.Goals as goal
 
 pub filled_after-requires-clause-few : goal.filled_after-requires-clause-few

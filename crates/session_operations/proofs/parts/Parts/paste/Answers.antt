@@ -1,18 +1,9 @@
-use Rattle.std.proofs.Common.{◌≡◌, sym, subst, not, None, refl}
-use Rattle.std.specs.Prelude.{nat_lt}
-use Rattle.std.specs.FinMap as fin
+use Rattle.std.proofs.Common.{sym, subst, refl}
 use Rattle.cell_addr.specs.Place.{covers}
 use Rattle.shift_core.specs.Carried.{destination}
-use Rattle.book_model.specs.Changes.{with_copy}
-use Rattle.book_model.specs.Clipboard.{copied}
-use Rattle.book_model.specs.Operation.{paste}
-use Rattle.book_model.specs.Refusals.{cause, is_block_outside}
 use Rattle.book_model.specs.Sound.{IsSound}
-use Rattle.book_model.specs.Workbook.{has_sheet}
-use Rattle.book_model.specs.declared.refusal.Refusal.TheVariants.{CellLimit, NoSheet, Outside}
-use Rattle.kept_book.specs.Copied.{contents_copied}
-use Rattle.session_operations.specs.Seen.{state_of, with_clipboard}
-use Rattle.session_operations.proofs.Pasting.{few-enough, pasted-sound, three-none}
+use Rattle.session_operations.specs.Seen.{state_of}
+use Rattle.session_operations.proofs.Pasting.{pasted-sound}
 use Rattle.session_operations.proofs.Turning.{sound_inside}
 use Rattle.session_values.proofs.MarkedCells.{at_most, at_most_on}
 use Rattle.session_values.specs.Touched.{AreTouched, AreTouchedAtMost}
