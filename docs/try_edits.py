@@ -39,7 +39,7 @@ FUNCTION = re.compile(r'^(\s*)(?:#\[[^\]]*\]\s*)?(?:pub(?:\([a-z]+\))? )?(?:cons
 IMPL = re.compile(r"^(?:unsafe )?impl\b(?:<[^{]*?>)? (?:(\w[\w:]*)(?:<.*?>)? for )?&?(?:'\w+ )?(\w+)")
 # What a check says of a function behind all else that it says of it, and of one that only waits for the proof of another.
 FUNCTION_TOLD = re.compile(r"^fn (\S+): (.*)$")
-UNPROVED, WAITS = re.compile(r"not proved|no proof"), re.compile(r"no proof: it calls ")
+UNPROVED, WAITS = re.compile(r"not proved|no proof"), re.compile(r"(no proof:|not proved;) it calls ")
 # What a check says of a place in a file, and what says only that a proof names something that isn't there.
 PLACED = re.compile(r"(note: )?\S+:\d+:\d+: ")
 NAMES = re.compile(r"(note: )?(\./)?proofs/.*(has no field|is not in scope|has no `|was not admitted|was rejected)")
@@ -172,7 +172,7 @@ def told_of_functions(lines):
     found, told = {}, []
     for line in lines:
         of = FUNCTION_TOLD.match(line)
-        if of and UNPROVED.match(of[2]) and not WAITS.match(of[2]):
+        if of and UNPROVED.match(of[2]) and (told or not WAITS.match(of[2])):
             found[of[1]] = [*told, line]
         if of:
             told = []

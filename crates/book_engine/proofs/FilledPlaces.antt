@@ -24,11 +24,11 @@ use Rattle.book_model.specs.Workbook.{State, Workbook}
 use Rattle.kept_book.specs.Numbered.{Numbered}
 use Rattle.kept_book.specs.Stored.{content_of, contents_of}
 use Rattle.book_engine.specs.Areas.{IsFilledOn, IsUsedArea, filled_on_sheet, filled_where}
-use Rattle.book_engine.specs.Kept.{whole_sheet}
+use Rattle.session_operations.specs.Kept.{whole_sheet}
 use Rattle.book_engine.specs.internal.Areas.{area_over, widened}
-use Rattle.book_engine.specs.internal.Pasting.{is_among}
+use Rattle.session_operations.specs.internal.Pasting.{is_among}
 use Rattle.book_engine.proofs.LeastAreas.{among_first, among_later, every, grown, start_reaches}
-use Rattle.book_engine.proofs.Turning.{covers_same}
+use Rattle.session_operations.proofs.Turning.{covers_same}
 
 module _ {X Y : Type 0} (h : X → Y) where
   abbrev mapped : List (Place × X) → List (Place × Y)

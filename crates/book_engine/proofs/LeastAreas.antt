@@ -9,7 +9,7 @@ use Rattle.cell_addr.specs.declared.place.Place.{Place}
 use Rattle.cell_addr.proofs.Places.{place_cmp-IsAntisymmetric, place_cmp-IsTotalOrder}
 use Rattle.shift_core.proofs.CarriedEntries.{eq_by_cmp-decides}
 use Rattle.book_engine.specs.internal.Areas.{area_over, widened}
-use Rattle.book_engine.specs.internal.Pasting.{is_among}
+use Rattle.session_operations.specs.internal.Pasting.{is_among}
 
 -- the first of a list is one of it, and so is each later one
 pub among_first : (p : Place) (ps : List Place) → is_among (p ∷ ps) p ≡ true

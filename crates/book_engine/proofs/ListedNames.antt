@@ -21,14 +21,14 @@ use Rattle.book_model.proofs.NameOrder.{key_cmp-IsTotalOrder}
 use Rattle.kept_book.specs.Frame.{Words, name_seen, names_seen}
 use Rattle.recalc_core.specs.Nodes.{AreNumbered}
 use Rattle.book_engine.specs.Areas.{entry_of}
-use Rattle.book_engine.specs.declared.shown_name.ShownName.{ShownName}
-use Rattle.book_engine.specs.internal.Links.{passes, shown_name}
+use Rattle.session_operations.specs.declared.shown_name.ShownName.{ShownName}
+use Rattle.session_operations.specs.internal.Links.{shown_name}
+use Rattle.session_operations.specs.Names.{passes, shown_cmp, shown_cmp-IsTotalOrder}
 use Rattle.book_engine.specs.internal.Listing.{entry_shown, is_listed_as, shown_key}
-use Rattle.book_engine.specs.internal.ShownNames.{shown_cmp, shown_cmp-IsTotalOrder}
-use Rattle.book_engine.proofs.NamedSlots.{key-itself}
-use Rattle.book_engine.proofs.NeedingNames.{IsSmall, all-small, key_shown, keys-decide, shown-decide, shown_cmp-IsAntisymmetric}
-use Rattle.book_engine.proofs.RaisedKeys.{all_found, entries-raised, find-raised, is_raised, raised}
-use Rattle.book_engine.proofs.SortedKeys.{kept, kept_are}
+use Rattle.session_operations.proofs.NamedSlots.{key-itself}
+use Rattle.session_operations.proofs.NeedingNames.{IsSmall, all-small, key_shown, keys-decide, shown-decide, shown_cmp-IsAntisymmetric}
+use Rattle.session_operations.proofs.RaisedKeys.{all_found, entries-raised, find-raised, is_raised, raised}
+use Rattle.session_operations.proofs.SortedKeys.{kept, kept_are}
 
 all-pass : {X : Type 0} (o : Option X) → is_some o ≡ passes (λ x. true) o
 all-pass None = refl

@@ -34,9 +34,10 @@ use Rattle.kept_book.specs.Numbered.{Numbered}
 use Rattle.kept_book.specs.Stored.{content_of, contents_of}
 use Rattle.kept_book.proofs.Contents.{get-contents}
 use Rattle.book_model.specs.Workbook.{State}
-use Rattle.book_engine.specs.Areas.{Answered, values_cause, values_in_block}
-use Rattle.book_engine.specs.Seen.{with_rules}
-use Rattle.book_engine.specs.declared.stop.Stop.{Stop}
+use Rattle.book_engine.specs.Areas.{values_cause, values_in_block}
+use Rattle.session_operations.specs.Turns.{Answered}
+use Rattle.session_operations.specs.Seen.{with_rules}
+use Rattle.session_operations.specs.declared.stop.Stop.{Stop}
 use Rattle.book_engine.specs.internal.ShownCells.{AreHeld, Holds, shown_at, shown_each}
 
 -- a cell whose content has no tree shows what its content alone gives

@@ -9,7 +9,7 @@ use Rattle.book_model.specs.Workbook.{State}
 use Rattle.kept_book.specs.Ids.{AreBelow, AreLive}
 use Rattle.kept_steps.specs.Fits.{AreSteps}
 use Rattle.session_values.specs.Following.{FollowsIn}
-use Rattle.book_engine.specs.Seen.{CanPaste}
+use Rattle.session_operations.specs.Seen.{CanPaste}
 use Rattle.book_engine.specs.TakenApart.{FitParts, frame_among, state_among, steps_among, timeline_among}
 use Rattle.book_engine.specs.declared.taken_apart.EngineParts.{EngineParts}
 

@@ -1,6 +1,6 @@
 -- What is asked of cells, of areas and of names: what kind of content a cell has, which places are filled, how far a sheet is used,
 -- and which names there are. Source: this project's own.
-use Rattle.std.specs.Prelude.{◌≡◌, ◌==◌, ⊤, ℕ, Bool, List, [], ◌∷◌, filter, map, Option, Some, None, option_map, IsSome, Result, Ok, Err}
+use Rattle.std.specs.Prelude.{◌≡◌, ◌==◌, ℕ, Bool, List, [], ◌∷◌, filter, map, Option, Some, None, option_map, IsSome}
 use Rattle.std.specs.FinMap as fin
 use Rattle.cell_addr.specs.Place.{Covers, covers}
 use Rattle.cell_addr.specs.Text.{capitals}
@@ -21,15 +21,6 @@ use Rattle.book_model.specs.declared.refusal.Refusal.TheVariants.{Suspended}
 use Rattle.book_engine.specs.declared.areas.Kind.{Kind}
 use Rattle.book_engine.specs.declared.areas.Kind.TheVariants as kind
 use Rattle.book_engine.specs.declared.listing.NameEntry.{NameEntry}
-use Rattle.book_engine.specs.declared.stop.Stop.{Stop}
-use Rattle.book_engine.specs.declared.stop.Stop.TheVariants.{Refused, NoMemory}
-
--- a question that may have a cause to be refused: where it has none this holds of the answer, and else the cause is the answer; or
--- there was no memory
-abbrev pub Answered : {X : Type 0} → Option Refusal → (X → Type 0) → Result X Stop → Type 0
-Answered cause P (Ok x) = (cause ≡ None) × P x
-Answered cause P (Err (Refused r)) = cause ≡ Some r
-Answered cause P (Err NoMemory) = ⊤
 
 -- what kind of content a cell has
 abbrev pub kind_of : Option Content → Kind

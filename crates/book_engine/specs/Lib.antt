@@ -1,4 +1,3 @@
-pub mod Seen
 pub mod Engine
 pub mod Kept
 pub mod Areas

@@ -7,17 +7,16 @@ ghost use Rattle.book_model.specs.Refusals.{cause};
 ghost use Rattle.book_model.specs.Workbook.{State};
 ghost use Rattle.kept_book.specs.Numbered.{Numbered};
 ghost use Rattle.kept_book.specs.Stored.{content_of};
-ghost use Rattle.book_engine.specs.Areas.{Answered, IsUsedArea, filled_in_block, filled_on_sheet, filled_where, kind_of};
-ghost use Rattle.book_engine.specs.Seen.{Fits, state_of};
+ghost use Rattle.book_engine.specs.Areas.{IsUsedArea, filled_in_block, filled_on_sheet, filled_where, kind_of};
+ghost use Rattle.session_operations.specs.Turns.{Answered};
+ghost use Rattle.session_operations.specs.Seen.{Fits, state_of};
 ghost use Rattle.book_engine.specs.internal.Areas.{area_over, widened};
 
 use crate::engine::Engine;
-use crate::parts::Parts;
-use crate::setting::whole_sheet;
-use crate::stop::Stop;
 use calc_eval::Customs;
 use cell_addr::{Block, Place};
 use grid_store::Cell;
+use session_operations::{Parts, Stop, whole_sheet};
 use std::alloc::{AllocError, Global};
 
 /// What kind of content a cell has.
@@ -48,7 +47,7 @@ impl<C: Customs> Engine<C> {
     pub fn kind(&self, at: Place) -> Result<Kind, Stop>
         ensures { (d : State) → StandsFor C.customs self.now d → Answered (cause (op.content at) d) (λ kind. kind ≡ kind_of (fin.get d.book.cells at)) result }
     {
-        self.parts.kind(at)
+        cell_kind(&self.parts, at)
     }
 
     /// The filled places of a block, row by row. Costs about their number and that of the block's rows that hold any cell.
@@ -58,7 +57,7 @@ impl<C: Customs> Engine<C> {
     pub fn filled(&self, area: Block) -> Result<Vec<Place>, Stop>
         ensures { (d : State) → StandsFor C.customs self.now d → Answered (cause (op.copy area) d) (λ places. places.items ≡ filled_in_block area d.book) result }
     {
-        self.parts.filled(area)
+        filled(&self.parts, area)
     }
 
     /// The filled places of a sheet, row by row. Costs about their number and that of the rows that hold any cell.
@@ -68,7 +67,7 @@ impl<C: Customs> Engine<C> {
     pub fn filled_in(&self, sheet: u32) -> Result<Vec<Place>, Stop>
         ensures { (d : State) → StandsFor C.customs self.now d → Answered (cause (op.clear_sheet sheet) d) (λ places. places.items ≡ filled_on_sheet sheet d.book) result }
     {
-        self.parts.filled_in(sheet)
+        filled_in(&self.parts, sheet)
     }
 
     /// The least block that holds all filled cells of a sheet; `None` where it has none. Costs what [`Engine::filled_in`] does, its
@@ -79,62 +78,60 @@ impl<C: Customs> Engine<C> {
     pub fn used_area(&self, sheet: u32) -> Result<Option<Block>, Stop>
         ensures { (d : State) → StandsFor C.customs self.now d → Answered (cause (op.clear_sheet sheet) d) (IsUsedArea sheet d.book) result }
     {
-        self.parts.used_area(sheet)
+        used_area(&self.parts, sheet)
     }
 }
 
-impl Parts {
-    // What kind of content a cell has.
-    fn kind(&self, at: Place) -> Result<Kind, Stop>
-        ensures { Answered (cause (op.content at) (state_of self.now)) (λ kind. kind ≡ kind_of (fin.get (state_of self.now).book.cells at)) result }
-    {
-        self.check_place(at)?;
-        Ok(self.kind_at(at))
-    }
+// What kind of content a cell has.
+fn cell_kind(parts: &Parts, at: Place) -> Result<Kind, Stop>
+    ensures { Answered (cause (op.content at) (state_of parts.now)) (λ kind. kind ≡ kind_of (fin.get (state_of parts.now).book.cells at)) result }
+{
+    parts.check_place(at)?;
+    Ok(kind_at(parts, at))
+}
 
-    // What kind of content a place has.
-    fn kind_at(&self, at: Place) -> Kind
-        ensures { result ≡ kind_of (fin.get (state_of self.now).book.cells at) }
-    {
-        kind_in(self.session.book.grid.cell(at))
-    }
+// What kind of content a place has.
+fn kind_at(parts: &Parts, at: Place) -> Kind
+    ensures { result ≡ kind_of (fin.get (state_of parts.now).book.cells at) }
+{
+    kind_in(parts.session.book.grid.cell(at))
+}
 
-    // The filled places of a block.
-    fn filled(&self, area: Block) -> Result<Vec<Place>, Stop>
-        ensures { Answered (cause (op.copy area) (state_of self.now)) (λ places. places.items ≡ filled_in_block area (state_of self.now).book) result }
-    {
-        self.check_clear(area)?;
-        let places = self.places(area)?;
-        Ok(places)
-    }
+// The filled places of a block.
+fn filled(parts: &Parts, area: Block) -> Result<Vec<Place>, Stop>
+    ensures { Answered (cause (op.copy area) (state_of parts.now)) (λ places. places.items ≡ filled_in_block area (state_of parts.now).book) result }
+{
+    parts.check_clear(area)?;
+    let places = places(parts, area)?;
+    Ok(places)
+}
 
-    // The filled places of a sheet.
-    pub(crate) fn filled_in(&self, sheet: u32) -> Result<Vec<Place>, Stop>
-        requires { Fits self.now }
-        ensures { Answered (cause (op.clear_sheet sheet) (state_of self.now)) (λ places. places.items ≡ filled_on_sheet sheet (state_of self.now).book) result }
-    {
-        self.check_sheet(sheet)?;
-        let places = self.places(whole_sheet(sheet))?;
-        Ok(places)
-    }
+// The filled places of a sheet.
+pub(crate) fn filled_in(parts: &Parts, sheet: u32) -> Result<Vec<Place>, Stop>
+    requires { Fits parts.now }
+    ensures { Answered (cause (op.clear_sheet sheet) (state_of parts.now)) (λ places. places.items ≡ filled_on_sheet sheet (state_of parts.now).book) result }
+{
+    parts.check_sheet(sheet)?;
+    let places = places(parts, whole_sheet(sheet))?;
+    Ok(places)
+}
 
-    // The least block over the filled places of a sheet.
-    fn used_area(&self, sheet: u32) -> Result<Option<Block>, Stop>
-        requires { Fits self.now }
-        ensures { Answered (cause (op.clear_sheet sheet) (state_of self.now)) (IsUsedArea sheet (state_of self.now).book) result }
-    {
-        let places = self.filled_in(sheet)?;
-        Ok(area_over(&places))
-    }
+// The least block over the filled places of a sheet.
+fn used_area(parts: &Parts, sheet: u32) -> Result<Option<Block>, Stop>
+    requires { Fits parts.now }
+    ensures { Answered (cause (op.clear_sheet sheet) (state_of parts.now)) (IsUsedArea sheet (state_of parts.now).book) result }
+{
+    let places = filled_in(parts, sheet)?;
+    Ok(area_over(&places))
+}
 
-    // The filled places of a block, without a look at its limits.
-    fn places(&self, area: Block) -> Result<Vec<Place>, AllocError>
-        ensures { IfOk result (λ places. places.items ≡ filled_where (covers area) (state_of self.now).book) }
-    {
-        let book = &self.session.book;
-        let cells = book.grid.listed_refs(area)?;
-        places_of(book.alloc, &cells)
-    }
+// The filled places of a block, without a look at its limits.
+fn places(parts: &Parts, area: Block) -> Result<Vec<Place>, AllocError>
+    ensures { IfOk result (λ places. places.items ≡ filled_where (covers area) (state_of parts.now).book) }
+{
+    let book = &parts.session.book;
+    let cells = book.grid.listed_refs(area)?;
+    places_of(book.alloc, &cells)
 }
 
 // What kind of content a kept cell has.

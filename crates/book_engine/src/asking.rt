@@ -3,7 +3,7 @@ ghost use Rattle.std.specs.Prelude.{◌≡◌, is_none, is_some, length, option_
 ghost use Rattle.book_model.specs.Operation as op;
 ghost use Rattle.book_model.specs.Refusals.{cause};
 ghost use Rattle.book_model.specs.Workbook.{State};
-ghost use Rattle.book_engine.specs.Seen.{is_nothing};
+ghost use Rattle.book_engine.specs.Engine.{is_nothing};
 
 use crate::engine::Engine;
 use calc_eval::Customs;

@@ -4,18 +4,16 @@ ghost use Rattle.book_model.specs.Operation as op;
 ghost use Rattle.book_model.specs.Refusals.{cause};
 ghost use Rattle.book_model.specs.Workbook.{State};
 ghost use Rattle.book_model.specs.declared.refusal.Refusal.{Refusal as RefusalSeen};
-ghost use Rattle.book_engine.specs.Areas.{Answered};
+ghost use Rattle.session_operations.specs.Turns.{Answered};
 ghost use Rattle.book_engine.specs.Cause.{operation_of};
-ghost use Rattle.book_engine.specs.Seen.{Fits, clip_of, state_of, with_clipboard};
+ghost use Rattle.session_operations.specs.Seen.{Fits, clip_of, state_of, with_clipboard};
 
 use crate::engine::Engine;
-use crate::parts::Parts;
-use crate::stop::Stop;
-use crate::waiting::Waiting;
 use book_model::Refusal;
 use calc_eval::Customs;
 use cell_addr::{Block, Place};
 use clip_board::Clip;
+use session_operations::{Parts, Stop, Waiting};
 use shift_core::Shift;
 use std::alloc::AllocError;
 
@@ -100,7 +98,7 @@ impl<C: Customs> Engine<C> {
     pub fn cause(&self, change: &Change<'_>) -> Result<Option<Refusal>, AllocError>
         ensures { (d : State) → StandsFor C.customs self.now d → IfOk result (λ why. why ≡ cause (operation_of change.now) d) }
     {
-        why(self.parts.check(&self.waiting, change))
+        why(check(&self.parts, &self.waiting, change))
     }
 }
 
@@ -115,46 +113,44 @@ fn why(end: Result<(), Stop>) -> Result<Option<Refusal>, AllocError>
     }
 }
 
-impl Parts {
-    // Tests whether the call is refused, where this waits to be pasted.
-    fn check(&self, waiting: &Waiting, change: &Change<'_>) -> Result<(), Stop>
-        requires { Fits self.now }
-        ensures { Answered (cause (operation_of change.now) (with_clipboard (clip_of waiting.now.clip) (state_of self.now))) (λ x. ⊤) result }
-    {
-        match change {
-            Change::Set { at, text } => self.check_set(*at, text)?,
-            Change::Structural(s) => self.check_structural(s)?,
-            Change::Clear { area } | Change::Copy { area } | Change::Cut { area } => {
-                self.check_clear(*area)?;
-            }
-            Change::AddSheet { name } => self.check_add(name)?,
-            Change::RenameSheet { sheet, name } => self.check_rename(*sheet, name)?,
-            Change::ClearSheet { sheet } => self.check_sheet(*sheet)?,
-            Change::AddName { name, scope, text } => self.check_added(name, *scope, text)?,
-            Change::ChangeName { name, scope, text } => self.check_changed(name, *scope, text)?,
-            Change::RemoveName { name, scope } => self.check_known_name(name, *scope)?,
-            Change::Paste { at } => self.check_waiting(waiting, *at)?,
-            Change::Begin => self.check_begin()?,
-            Change::Commit => self.check_commit()?,
-            Change::Undo => self.check_undo()?,
-            Change::Redo => self.check_redo()?,
+// Tests whether the call is refused, where this waits to be pasted.
+fn check(parts: &Parts, waiting: &Waiting, change: &Change<'_>) -> Result<(), Stop>
+    requires { Fits parts.now }
+    ensures { Answered (cause (operation_of change.now) (with_clipboard (clip_of waiting.now.clip) (state_of parts.now))) (λ x. ⊤) result }
+{
+    match change {
+        Change::Set { at, text } => parts.check_set(*at, text)?,
+        Change::Structural(s) => parts.check_structural(s)?,
+        Change::Clear { area } | Change::Copy { area } | Change::Cut { area } => {
+            parts.check_clear(*area)?;
         }
-        Ok(())
+        Change::AddSheet { name } => parts.check_add(name)?,
+        Change::RenameSheet { sheet, name } => parts.check_rename(*sheet, name)?,
+        Change::ClearSheet { sheet } => parts.check_sheet(*sheet)?,
+        Change::AddName { name, scope, text } => parts.check_added(name, *scope, text)?,
+        Change::ChangeName { name, scope, text } => parts.check_changed(name, *scope, text)?,
+        Change::RemoveName { name, scope } => parts.check_known_name(name, *scope)?,
+        Change::Paste { at } => check_waiting(parts, waiting, *at)?,
+        Change::Begin => parts.check_begin()?,
+        Change::Commit => parts.check_commit()?,
+        Change::Undo => parts.check_undo()?,
+        Change::Redo => parts.check_redo()?,
     }
+    Ok(())
+}
 
-    // Where what waits is pasted.
-    fn check_waiting(&self, waiting: &Waiting, at: Place) -> Result<(), Stop>
-        requires { Fits self.now }
-        ensures { Answered (cause (op.paste at) (with_clipboard (clip_of waiting.now.clip) (state_of self.now))) (λ x. ⊤) result }
-    {
-        match &waiting.clip {
-            Clip::Nothing => return Err(Stop::Refused(Refusal::NothingToPaste)),
-            Clip::Copied(area, cells) => self.check_copied(*area, cells.items(), at)?,
-            Clip::Cut(area) => self.check_structural(&Shift::MoveBlock {
-                source: *area,
-                to: at,
-            })?,
-        }
-        Ok(())
+// Where what waits is pasted.
+fn check_waiting(parts: &Parts, waiting: &Waiting, at: Place) -> Result<(), Stop>
+    requires { Fits parts.now }
+    ensures { Answered (cause (op.paste at) (with_clipboard (clip_of waiting.now.clip) (state_of parts.now))) (λ x. ⊤) result }
+{
+    match &waiting.clip {
+        Clip::Nothing => return Err(Stop::Refused(Refusal::NothingToPaste)),
+        Clip::Copied(area, cells) => parts.check_copied(*area, cells.items(), at)?,
+        Clip::Cut(area) => parts.check_structural(&Shift::MoveBlock {
+            source: *area,
+            to: at,
+        })?,
     }
+    Ok(())
 }

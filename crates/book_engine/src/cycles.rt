@@ -10,14 +10,15 @@ ghost use Rattle.book_model.specs.Refusals.{cause};
 ghost use Rattle.book_model.specs.Workbook.{State};
 ghost use Rattle.kept_steps.specs.Reads.{Reads};
 ghost use Rattle.session_values.specs.Following.{book_of};
-ghost use Rattle.book_engine.specs.Areas.{Answered, cyclic_on_sheet};
-ghost use Rattle.book_engine.specs.Seen.{Fits, ValuesFollow, ValuesFollowStill, state_of, with_rules};
+ghost use Rattle.book_engine.specs.Areas.{cyclic_on_sheet};
+ghost use Rattle.session_operations.specs.Turns.{Answered};
+ghost use Rattle.session_operations.specs.Seen.{Fits, ValuesFollow, ValuesFollowStill, state_of, with_rules};
 
+use crate::areas;
 use crate::engine::Engine;
-use crate::parts::Parts;
-use crate::stop::Stop;
 use calc_eval::Customs;
 use cell_addr::Place;
+use session_operations::{Parts, Stop};
 use std::alloc::AllocError;
 
 #[tactic(auto, unfolding(crate::specs::Engine::StandsFor))]
@@ -40,35 +41,33 @@ impl<C: Customs> Engine<C> {
         ensures stays { Stays C.customs self.old self.new }
         ensures line { KeepsLine self.old self.new }
     {
-        self.parts.on_cycle(sheet)
+        on_cycle(&mut self.parts, sheet)
     }
 }
 
-impl Parts {
-    // The cells of a sheet that are on a cycle, whatever the custom functions and the day.
-    fn on_cycle(&mut self, sheet: u32) -> Result<Vec<Place>, Stop>
-        requires fits { Fits self.old }
-        requires follow { (customs : List (List ℕ × Rule)) × (today : ℤ) × ValuesFollow customs today self.old }
-        ensures answered { (customs : List (List ℕ × Rule)) (today : ℤ) → Answered (cause (op.clear_sheet sheet) (state_of self.old)) (λ places. places.items ≡ cyclic_on_sheet sheet (with_rules customs today (state_of self.old))) result }
-        ensures state { state_of self.new ≡ state_of self.old }
-        ensures fits { Fits self.new }
-        ensures line { self.new.session.book.lazy.line ≡ self.old.session.book.lazy.line }
-        ensures follow { ValuesFollowStill self.old self.new }
-    {
-        let places = self.filled_in(sheet)?;
-        let found = self.cyclic_among(&places)?;
-        Ok(found)
-    }
+// The cells of a sheet that are on a cycle, whatever the custom functions and the day.
+fn on_cycle(parts: &mut Parts, sheet: u32) -> Result<Vec<Place>, Stop>
+    requires fits { Fits parts.old }
+    requires follow { (customs : List (List ℕ × Rule)) × (today : ℤ) × ValuesFollow customs today parts.old }
+    ensures answered { (customs : List (List ℕ × Rule)) (today : ℤ) → Answered (cause (op.clear_sheet sheet) (state_of parts.old)) (λ places. places.items ≡ cyclic_on_sheet sheet (with_rules customs today (state_of parts.old))) result }
+    ensures state { state_of parts.new ≡ state_of parts.old }
+    ensures fits { Fits parts.new }
+    ensures line { parts.new.session.book.lazy.line ≡ parts.old.session.book.lazy.line }
+    ensures follow { ValuesFollowStill parts.old parts.new }
+{
+    let places = areas::filled_in(parts, sheet)?;
+    let found = cyclic_among(parts, &places)?;
+    Ok(found)
+}
 
-    // Those of the places that are on a cycle.
-    fn cyclic_among(&mut self, places: &[Place]) -> Result<Vec<Place>, AllocError>
-        requires fits { Fits self.old }
-        requires follow { (customs : List (List ℕ × Rule)) × (today : ℤ) × ValuesFollow customs today self.old }
-        ensures found { IfOk result (λ found. (customs : List (List ℕ × Rule)) (today : ℤ) → found.items ≡ filter (λ p. cyclic (network (book_of self.old.session) customs today) (nodes.place p)) places.now) }
-        ensures reads { Reads self.old.session self.new.session }
-        ensures follow { ValuesFollowStill self.old self.new }
-    {
-        let Parts { session, values } = self;
-        values.on_cycle(session, places)
-    }
+// Those of the places that are on a cycle.
+fn cyclic_among(parts: &mut Parts, places: &[Place]) -> Result<Vec<Place>, AllocError>
+    requires fits { Fits parts.old }
+    requires follow { (customs : List (List ℕ × Rule)) × (today : ℤ) × ValuesFollow customs today parts.old }
+    ensures found { IfOk result (λ found. (customs : List (List ℕ × Rule)) (today : ℤ) → found.items ≡ filter (λ p. cyclic (network (book_of parts.old.session) customs today) (nodes.place p)) places.now) }
+    ensures reads { Reads parts.old.session parts.new.session }
+    ensures follow { ValuesFollowStill parts.old parts.new }
+{
+    let Parts { session, values } = parts;
+    values.on_cycle(session, places)
 }

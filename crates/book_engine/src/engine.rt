@@ -12,14 +12,11 @@ ghost use Rattle.book_model.specs.Operation as op;
 ghost use Rattle.book_model.specs.Workbook.{State, first_sheet};
 ghost use Rattle.book_model.specs.Sound.{IsLinkInside};
 ghost use Rattle.book_model.specs.declared.limits.TheConstants.{MAX_UNDO};
-ghost use Rattle.book_engine.specs.Seen.{Fits, ValuesFollow, with_clipboard};
+ghost use Rattle.session_operations.specs.Seen.{Fits, ValuesFollow, with_clipboard};
 ghost use Rattle.session_values.specs.Refreshed.{IsUnmarked};
 ghost use Rattle.book_engine.specs.internal.FitsProp.{fits-prop};
 ghost use Rattle.book_engine.specs.internal.FollowProp.{follow-prop};
 
-use crate::parts::Parts;
-use crate::stop::Stop;
-use crate::waiting::Waiting;
 use book_model::{BookSheet, Refusal};
 use calc_eval::Customs;
 use cell_addr::{Block, Place, SheetNames, Text};
@@ -29,6 +26,7 @@ use dep_graph::Nodes;
 use formula_tree::Link;
 use kept_steps::Entry;
 use lazy_store::Stored;
+use session_operations::{Parts, Stop, Waiting};
 use shift_core::Shift;
 use shift_line::Line;
 use std::alloc::{AllocError, Global};
@@ -92,8 +90,10 @@ impl<C: Customs> Engine<C> {
 
 #[tactic(auto, unfolding(crate::specs::Engine::StandsFor))]
 impl<C: Customs> Engine<C> {
-    ghost use Rattle.book_engine.specs.Engine.{Does, DoesAlways, NoAnswer, StandsFor};
-    ghost use Rattle.book_engine.specs.Kept.{GoesOn, KeepsAll, KeepsAtPaste, KeepsAtShift, KeepsEarlier, KeepsElsewhere, KeepsInUse, KeepsLine, KeepsValues, LeavesLine, MarksCells, MarksNameAdded, MarksNameChanged, MarksNameRemoved, MarksOperation, MarksPaste, MarksRedone, MarksUndone, TriesOut, WorksOut, book_kept, marks_kept, merged_kept, stored_by, values_kept, whole_sheet};
+    ghost use Rattle.book_engine.specs.Engine.{Does, DoesAlways, StandsFor};
+    ghost use Rattle.session_operations.specs.Turns.{NoAnswer};
+    ghost use Rattle.book_engine.specs.Kept.{GoesOn, KeepsAll, KeepsAtPaste, KeepsAtShift, KeepsEarlier, KeepsElsewhere, KeepsInUse, KeepsLine, KeepsValues, LeavesLine, MarksCells, MarksNameAdded, MarksNameChanged, MarksNameRemoved, MarksOperation, MarksPaste, MarksRedone, MarksUndone, TriesOut, WorksOut, book_kept, marks_kept, merged_kept, stored_by, values_kept};
+    ghost use Rattle.session_operations.specs.Kept.{whole_sheet};
 
     /// The engine of a workbook with these sheets, numbered from 0 in their order, and these texts in their cells. All
     /// formulas are read when all sheets are there. At most `limit` steps can be undone, which is at most 1,000. Formulas

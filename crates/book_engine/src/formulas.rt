@@ -10,15 +10,11 @@ ghost use Rattle.formula_tree.specs.declared.reference.Corner.{Corner};
 ghost use Rattle.book_model.specs.Answers.{first_cell};
 ghost use Rattle.book_model.specs.Workbook.{State};
 ghost use Rattle.kept_book.specs.Formula.{tree_at};
-ghost use Rattle.book_engine.specs.Areas.{Answered};
+ghost use Rattle.session_operations.specs.Turns.{Answered};
 ghost use Rattle.book_engine.specs.Formulas.{TellsWrong, names_used_of, normal_text_of, text_cause, tree_on, untold_cause, words_used};
-ghost use Rattle.book_engine.specs.Seen.{Fits, ValuesFollowStill, state_of};
+ghost use Rattle.session_operations.specs.Seen.{Fits, ValuesFollowStill, state_of};
 
 use crate::engine::Engine;
-use crate::naming::read_tree;
-use crate::parts::Parts;
-use crate::reading::first_cell;
-use crate::stop::Stop;
 use book_model::{MAX_TEXT, Refusal};
 use calc_eval::Customs;
 use cell_addr::{Text, capitals};
@@ -26,6 +22,7 @@ use formula_parse::{TextSpan, parse_error};
 use formula_print::print;
 use formula_tree::{Home, Mention, Tree, mentions_of};
 use kept_steps::Session;
+use session_operations::{Parts, Stop, first_cell, read_tree};
 use std::alloc::{AllocError, Global};
 
 #[tactic(auto, unfolding(crate::specs::Engine::StandsFor))]
@@ -46,7 +43,7 @@ impl<C: Customs> Engine<C> {
         ensures kept { KeepsAll self.old self.new }
         ensures values { KeepsValues self.old self.new }
     {
-        self.parts.normal_text(sheet, text)
+        normal_text(&mut self.parts, sheet, text)
     }
 
     /// The names that the formula of the text uses, in capitals, in the order of the formula, each once; whether or not there are such
@@ -63,7 +60,7 @@ impl<C: Customs> Engine<C> {
         ensures kept { KeepsAll self.old self.new }
         ensures values { KeepsValues self.old self.new }
     {
-        self.parts.names_in(sheet, text)
+        names_in(&mut self.parts, sheet, text)
     }
 
     /// Where a text stops being a formula: the part of it, in bytes, that is its first token at which no formula goes on; `None`
@@ -77,75 +74,73 @@ impl<C: Customs> Engine<C> {
     pub fn parse_error(&self, sheet: u32, text: &str) -> Result<Option<TextSpan>, Stop>
         ensures { (d : State) → StandsFor C.customs self.now d → Answered (untold_cause d.book sheet text.now) (TellsWrong text.now) result }
     {
-        self.parts.parse_error(sheet, text)
+        wrong_span(&self.parts, sheet, text)
     }
 }
 
-impl Parts {
-    // The canonical text of the formula that the text spells on the sheet.
-    fn normal_text(&mut self, sheet: u32, text: &str) -> Result<Text, Stop>
-        requires { Fits self.old }
-        ensures answered { Answered (text_cause (state_of self.old).book sheet text.now) (λ shown. normal_text_of (state_of self.old).book sheet text.now ≡ Some shown) result }
-        ensures state { state_of self.new ≡ state_of self.old }
-        ensures fits { Fits self.new }
-        ensures book { self.new.session.book ≡ self.old.session.book }
-        ensures follow { ValuesFollowStill self.old self.new }
-        ensures values { self.new.values ≡ self.old.values }
-    {
-        let tree = self.tree_on(sheet, text)?;
-        let book = &self.session.book;
-        let home = Home::Cell(first_cell(sheet));
-        let shown = print(book.alloc, &tree, home, &book.names)?;
-        Ok(shown)
-    }
+// The canonical text of the formula that the text spells on the sheet.
+fn normal_text(parts: &mut Parts, sheet: u32, text: &str) -> Result<Text, Stop>
+    requires { Fits parts.old }
+    ensures answered { Answered (text_cause (state_of parts.old).book sheet text.now) (λ shown. normal_text_of (state_of parts.old).book sheet text.now ≡ Some shown) result }
+    ensures state { state_of parts.new ≡ state_of parts.old }
+    ensures fits { Fits parts.new }
+    ensures book { parts.new.session.book ≡ parts.old.session.book }
+    ensures follow { ValuesFollowStill parts.old parts.new }
+    ensures values { parts.new.values ≡ parts.old.values }
+{
+    let tree = tree_on(parts, sheet, text)?;
+    let book = &parts.session.book;
+    let home = Home::Cell(first_cell(sheet));
+    let shown = print(book.alloc, &tree, home, &book.names)?;
+    Ok(shown)
+}
 
-    // The names that the formula of the text uses.
-    fn names_in(&mut self, sheet: u32, text: &str) -> Result<Vec<Text>, Stop>
-        requires { Fits self.old }
-        ensures answered { Answered (text_cause (state_of self.old).book sheet text.now) (λ words. names_used_of (state_of self.old).book sheet text.now ≡ Some words.items) result }
-        ensures state { state_of self.new ≡ state_of self.old }
-        ensures fits { Fits self.new }
-        ensures book { self.new.session.book ≡ self.old.session.book }
-        ensures follow { ValuesFollowStill self.old self.new }
-        ensures values { self.new.values ≡ self.old.values }
-    {
-        let tree = self.tree_on(sheet, text)?;
-        let home = Home::Cell(first_cell(sheet));
-        let words = words_used(self.session.book.alloc, &tree, home)?;
-        Ok(words)
-    }
+// The names that the formula of the text uses.
+fn names_in(parts: &mut Parts, sheet: u32, text: &str) -> Result<Vec<Text>, Stop>
+    requires { Fits parts.old }
+    ensures answered { Answered (text_cause (state_of parts.old).book sheet text.now) (λ words. names_used_of (state_of parts.old).book sheet text.now ≡ Some words.items) result }
+    ensures state { state_of parts.new ≡ state_of parts.old }
+    ensures fits { Fits parts.new }
+    ensures book { parts.new.session.book ≡ parts.old.session.book }
+    ensures follow { ValuesFollowStill parts.old parts.new }
+    ensures values { parts.new.values ≡ parts.old.values }
+{
+    let tree = tree_on(parts, sheet, text)?;
+    let home = Home::Cell(first_cell(sheet));
+    let words = words_used(parts.session.book.alloc, &tree, home)?;
+    Ok(words)
+}
 
-    // Where a text stops being a formula.
-    #[tactic(auto, using(crate::proofs::WrongTexts::wrong_or_none))]
-    fn parse_error(&self, sheet: u32, text: &str) -> Result<Option<TextSpan>, Stop>
-        ensures { Answered (untold_cause (state_of self.now).book sheet text.now) (TellsWrong text.now) result }
-    {
-        self.check_sheet(sheet)?;
-        if text.len() > MAX_TEXT {
-            return Err(Stop::Refused(Refusal::TextLimit));
-        }
-        Ok(parse_error(text))
+// Where a text stops being a formula.
+#[tactic(auto, using(crate::proofs::WrongTexts::wrong_or_none))]
+fn wrong_span(parts: &Parts, sheet: u32, text: &str) -> Result<Option<TextSpan>, Stop>
+    ensures { Answered (untold_cause (state_of parts.now).book sheet text.now) (TellsWrong text.now) result }
+{
+    parts.check_sheet(sheet)?;
+    if text.len() > MAX_TEXT {
+        return Err(Stop::Refused(Refusal::TextLimit));
     }
+    Ok(parse_error(text))
+}
 
-    // The tree that the text spells on the sheet, in a formula in its first cell.
-    #[tactic(auto, using(crate::proofs::Following::follow_same))]
-    fn tree_on(&mut self, sheet: u32, text: &str) -> Result<Tree, Stop>
-        ensures answered { Answered (text_cause (state_of self.old).book sheet text.now) (λ tree. (tree_on (state_of self.old).book sheet text.now ≡ Some (tree_at (first_cell sheet) tree)) × IsProper (tree_at (first_cell sheet) tree)) result }
-        ensures state { state_of self.new ≡ state_of self.old }
-        ensures book { self.new.session.book ≡ self.old.session.book }
-        ensures follow { ValuesFollowStill self.old self.new }
-        ensures values { self.new.values ≡ self.old.values }
-    {
-        self.check_sheet(sheet)?;
-        let Session { pool, book, .. } = &mut self.session;
-        read_tree(
-            book.alloc,
-            pool,
-            &book.names,
-            Home::Cell(first_cell(sheet)),
-            text,
-        )
-    }
+// The tree that the text spells on the sheet, in a formula in its first cell.
+#[tactic(auto, using(session_operations::proofs::Following::follow_same))]
+fn tree_on(parts: &mut Parts, sheet: u32, text: &str) -> Result<Tree, Stop>
+    ensures answered { Answered (text_cause (state_of parts.old).book sheet text.now) (λ tree. (tree_on (state_of parts.old).book sheet text.now ≡ Some (tree_at (first_cell sheet) tree)) × IsProper (tree_at (first_cell sheet) tree)) result }
+    ensures state { state_of parts.new ≡ state_of parts.old }
+    ensures book { parts.new.session.book ≡ parts.old.session.book }
+    ensures follow { ValuesFollowStill parts.old parts.new }
+    ensures values { parts.new.values ≡ parts.old.values }
+{
+    parts.check_sheet(sheet)?;
+    let Session { pool, book, .. } = &mut parts.session;
+    read_tree(
+        book.alloc,
+        pool,
+        &book.names,
+        Home::Cell(first_cell(sheet)),
+        text,
+    )
 }
 
 // The words of the names that the tree uses in a formula at the home, in capitals, each once.

@@ -1,11 +1,11 @@
 // Idle time, spent on formulas that weren't read since operations went past them.
 ghost use Rattle.std.specs.Prelude.{◌≡◌, ◌↔◌, true, IfOk, OnOk};
 ghost use Rattle.lazy_store.specs.Store as store;
-ghost use Rattle.book_engine.specs.Seen.{Fits, ValuesFollowStill, state_of};
+ghost use Rattle.session_operations.specs.Seen.{Fits, ValuesFollowStill, state_of};
 
 use crate::engine::Engine;
-use crate::parts::Parts;
 use calc_eval::Customs;
+use session_operations::Parts;
 use std::alloc::AllocError;
 
 #[tactic(auto, unfolding(crate::specs::Engine::StandsFor))]
@@ -40,24 +40,22 @@ impl<C: Customs> Engine<C> {
         ensures all { IfOk result (λ all. (all ≡ true) ↔ AreCaughtUp self.new) }
         ensures values { KeepsValues self.old self.new }
     {
-        self.parts.settle_idle(budget)
+        settle_idle(&mut self.parts, budget)
     }
 }
 
-impl Parts {
-    // Takes formulas that lag behind the cursor to it, as far as the budget goes.
-    fn settle_idle(&mut self, budget: u64) -> Result<bool, AllocError>
-        requires { Fits self.old }
-        ensures state { state_of self.new ≡ state_of self.old }
-        ensures fits { Fits self.new }
-        ensures line { self.new.session.book.lazy.line ≡ self.old.session.book.lazy.line }
-        ensures others { store.MovesLagging self.old.session.book.lazy.line.cursor self.old.session.book.lazy self.new.session.book.lazy }
-        ensures placed { OnOk result (store.StayOrComeTo self.old.session.book.lazy.line.cursor self.old.session.book.lazy self.new.session.book.lazy) }
-        ensures budget { OnOk result (store.GoOnWithin budget self.old.session.book.lazy self.new.session.book.lazy) }
-        ensures all { IfOk result (λ all. (all ≡ true) ↔ store.AreCaughtUp self.new.session.book.lazy) }
-        ensures follow { ValuesFollowStill self.old self.new }
-        ensures values { self.new.values ≡ self.old.values }
-    {
-        self.session.catch_up(budget)
-    }
+// Takes formulas that lag behind the cursor to it, as far as the budget goes.
+fn settle_idle(parts: &mut Parts, budget: u64) -> Result<bool, AllocError>
+    requires { Fits parts.old }
+    ensures state { state_of parts.new ≡ state_of parts.old }
+    ensures fits { Fits parts.new }
+    ensures line { parts.new.session.book.lazy.line ≡ parts.old.session.book.lazy.line }
+    ensures others { store.MovesLagging parts.old.session.book.lazy.line.cursor parts.old.session.book.lazy parts.new.session.book.lazy }
+    ensures placed { OnOk result (store.StayOrComeTo parts.old.session.book.lazy.line.cursor parts.old.session.book.lazy parts.new.session.book.lazy) }
+    ensures budget { OnOk result (store.GoOnWithin budget parts.old.session.book.lazy parts.new.session.book.lazy) }
+    ensures all { IfOk result (λ all. (all ≡ true) ↔ store.AreCaughtUp parts.new.session.book.lazy) }
+    ensures follow { ValuesFollowStill parts.old parts.new }
+    ensures values { parts.new.values ≡ parts.old.values }
+{
+    parts.session.catch_up(budget)
 }

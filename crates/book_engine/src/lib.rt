@@ -15,40 +15,24 @@
 //! them again.
 #![tactic(auto)]
 
-mod absolute;
 mod areas;
 mod asking;
 mod cause;
-mod checks;
-mod copying;
 mod cycles;
 mod engine;
 mod formulas;
 mod giving;
 mod idle;
 pub mod laws;
-mod links;
 mod listing;
-mod naming;
-mod parts;
-mod reading;
-mod setting;
-mod sheets;
-mod shifting;
 mod shown_cells;
-mod shown_name;
-mod stepping;
-mod stop;
 mod taken_apart;
-mod undoing;
-mod waiting;
 mod writing;
 
 pub use areas::Kind;
 pub use cause::Change;
 pub use engine::Engine;
 pub use listing::NameEntry;
-pub use stop::Stop;
 pub use taken_apart::EngineParts;
 
 // What callers need of the crates below, so that an application lists this crate alone.
@@ -61,5 +45,6 @@ pub use fix_num::Fixed;
 pub use formula_parse::TextSpan;
 pub use formula_tree::Link;
 pub use kept_steps::Entry;
+pub use session_operations::Stop;
 pub use shift_core::Shift;
 pub use steps::Steps;

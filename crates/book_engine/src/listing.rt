@@ -9,16 +9,13 @@ ghost use Rattle.book_model.specs.Operation as op;
 ghost use Rattle.book_model.specs.Refusals.{cause};
 ghost use Rattle.book_model.specs.Workbook.{State};
 ghost use Rattle.kept_book.specs.Formula.{tree_in_scope};
-ghost use Rattle.book_engine.specs.Areas.{Answered, entries_of, name_text_of};
-ghost use Rattle.book_engine.specs.Seen.{Fits, ValuesFollowStill, state_of};
+ghost use Rattle.book_engine.specs.Areas.{entries_of, name_text_of};
+ghost use Rattle.session_operations.specs.Turns.{Answered};
+ghost use Rattle.session_operations.specs.Seen.{Fits, ValuesFollowStill, state_of};
 ghost use Rattle.book_engine.specs.internal.Listing.{entry_shown, is_listed_as, shown_key};
-ghost use Rattle.book_engine.specs.internal.ShownNames.{shown_cmp};
+ghost use Rattle.session_operations.specs.Names.{shown_cmp};
 
 use crate::engine::Engine;
-use crate::links::add;
-use crate::parts::Parts;
-use crate::shown_name::ShownName;
-use crate::stop::Stop;
 use book_model::Refusal;
 use calc_eval::Customs;
 use cell_addr::{Text, capitals};
@@ -26,6 +23,7 @@ use formula_print::print;
 use formula_tree::Tree;
 use kept_book::home_in;
 use name_table::{NameKey, Names};
+use session_operations::{Parts, ShownName, Stop, add};
 use std::alloc::{AllocError, Global};
 use std::collections::BTreeSet;
 
@@ -48,7 +46,7 @@ impl<C: Customs> Engine<C> {
     pub fn names_listed(&self) -> Result<Vec<NameEntry>, AllocError>
         ensures { IfOk result (λ list. (d : State) → StandsFor C.customs self.now d → list.items ≡ entries_of d.book) }
     {
-        self.parts.names_listed()
+        names_listed(&self.parts)
     }
 
     /// The canonical text of the expression of the scope's own name, in any case of its ASCII letters: what [`Engine::add_name`] and
@@ -62,56 +60,54 @@ impl<C: Customs> Engine<C> {
         ensures line { KeepsLine self.old self.new }
         ensures values { KeepsValues self.old self.new }
     {
-        self.parts.name_text(name, scope)
+        name_text(&mut self.parts, name, scope)
     }
 }
 
-impl Parts {
-    // All named expressions, in order.
-    fn names_listed(&self) -> Result<Vec<NameEntry>, AllocError>
-        ensures { IfOk result (λ list. list.items ≡ entries_of (state_of self.now).book) }
-    {
-        let book = &self.session.book;
-        let keys = book.names.all()?;
-        let names = names_shown(book.alloc, &book.names, &keys)?;
-        entries(book.alloc, &names)
-    }
+// All named expressions, in order.
+fn names_listed(parts: &Parts) -> Result<Vec<NameEntry>, AllocError>
+    ensures { IfOk result (λ list. list.items ≡ entries_of (state_of parts.now).book) }
+{
+    let book = &parts.session.book;
+    let keys = book.names.all()?;
+    let names = names_shown(book.alloc, &book.names, &keys)?;
+    entries(book.alloc, &names)
+}
 
-    // The canonical text of the expression of the scope's own name.
-    fn name_text(&mut self, name: &str, scope: Option<u32>) -> Result<Text, Stop>
-        requires { Fits self.old }
-        ensures answered { Answered (cause (op.remove_name name.now scope) (state_of self.old)) (λ text. name_text_of (state_of self.old).book (key_of scope name.now) ≡ Some text) result }
-        ensures state { state_of self.new ≡ state_of self.old }
-        ensures fits { Fits self.new }
-        ensures line { self.new.session.book.lazy.line ≡ self.old.session.book.lazy.line }
-        ensures follow { ValuesFollowStill self.old self.new }
-        ensures values { self.new.values ≡ self.old.values }
-    {
-        if !self.has_scope(scope) {
-            return Err(Stop::Refused(Refusal::NoSheet));
-        }
-        let Some(tree) = self.tree_named(name, scope)? else {
-            return Err(Stop::Refused(Refusal::NoSuchName));
-        };
-        let book = &self.session.book;
-        let text = print(book.alloc, &tree, home_in(scope), &book.names)?;
-        Ok(text)
+// The canonical text of the expression of the scope's own name.
+fn name_text(parts: &mut Parts, name: &str, scope: Option<u32>) -> Result<Text, Stop>
+    requires { Fits parts.old }
+    ensures answered { Answered (cause (op.remove_name name.now scope) (state_of parts.old)) (λ text. name_text_of (state_of parts.old).book (key_of scope name.now) ≡ Some text) result }
+    ensures state { state_of parts.new ≡ state_of parts.old }
+    ensures fits { Fits parts.new }
+    ensures line { parts.new.session.book.lazy.line ≡ parts.old.session.book.lazy.line }
+    ensures follow { ValuesFollowStill parts.old parts.new }
+    ensures values { parts.new.values ≡ parts.old.values }
+{
+    if !parts.has_scope(scope) {
+        return Err(Stop::Refused(Refusal::NoSheet));
     }
+    let Some(tree) = tree_named(parts, name, scope)? else {
+        return Err(Stop::Refused(Refusal::NoSuchName));
+    };
+    let book = &parts.session.book;
+    let text = print(book.alloc, &tree, home_in(scope), &book.names)?;
+    Ok(text)
+}
 
-    // The tree of the scope's own name, if it has the name.
-    #[tactic(auto, using(crate::proofs::Following::follow_reads))]
-    fn tree_named(&mut self, name: &str, scope: Option<u32>) -> Result<Option<Tree>, AllocError>
-        ensures tree { IfOk result (λ tree. option_map (tree_in_scope scope) tree ≡ fin.get (state_of self.old).book.names (key_of scope name.now)) }
-        ensures state { state_of self.new ≡ state_of self.old }
-        ensures names { self.new.session.book.names ≡ self.old.session.book.names }
-        ensures line { self.new.session.book.lazy.line ≡ self.old.session.book.lazy.line }
-        ensures follow { ValuesFollowStill self.old self.new }
-        ensures values { self.new.values ≡ self.old.values }
-    {
-        match self.session.book.names.known(name) {
-            Some(word) => self.session.named(scope, word),
-            None => Ok(None),
-        }
+// The tree of the scope's own name, if it has the name.
+#[tactic(auto, using(session_operations::proofs::Following::follow_reads))]
+fn tree_named(parts: &mut Parts, name: &str, scope: Option<u32>) -> Result<Option<Tree>, AllocError>
+    ensures tree { IfOk result (λ tree. option_map (tree_in_scope scope) tree ≡ fin.get (state_of parts.old).book.names (key_of scope name.now)) }
+    ensures state { state_of parts.new ≡ state_of parts.old }
+    ensures names { parts.new.session.book.names ≡ parts.old.session.book.names }
+    ensures line { parts.new.session.book.lazy.line ≡ parts.old.session.book.lazy.line }
+    ensures follow { ValuesFollowStill parts.old parts.new }
+    ensures values { parts.new.values ≡ parts.old.values }
+{
+    match parts.session.book.names.known(name) {
+        Some(word) => parts.session.named(scope, word),
+        None => Ok(None),
     }
 }
 

@@ -8,19 +8,20 @@ ghost use Rattle.kept_book.specs.Numbered.{Numbered};
 ghost use Rattle.kept_steps.specs.declared.session.Session.{Session as SessionSeen};
 ghost use Rattle.session_values.specs.Following.{AreShowing, book_of};
 ghost use Rattle.session_values.specs.Refreshed.{IsUnmarked};
-ghost use Rattle.book_engine.specs.Areas.{Answered, values_cause, values_in_block};
-ghost use Rattle.book_engine.specs.Kept.{WorksOutIn};
-ghost use Rattle.book_engine.specs.Seen.{Fits, ValuesFollow, state_of, with_rules};
+ghost use Rattle.book_engine.specs.Areas.{values_cause, values_in_block};
+ghost use Rattle.session_operations.specs.Turns.{Answered, IsCause};
+ghost use Rattle.session_operations.specs.Kept.{WorksOutIn};
+ghost use Rattle.session_operations.specs.Seen.{Fits, ValuesFollow, state_of, with_rules};
 ghost use Rattle.book_engine.specs.internal.ShownCells.{AreHeld, Holds, shown_each, shown_within};
 
 use crate::engine::Engine;
-use crate::parts::Parts;
-use crate::stop::Stop;
+use book_model::Refusal;
 use calc_eval::Customs;
 use cell_addr::{Block, Place};
 use cell_value::{FaultKind, Scalar};
 use grid_store::Cell;
 use kept_steps::Session;
+use session_operations::{Parts, Stop};
 use session_values::SessionValues;
 use std::alloc::{AllocError, Global};
 use std::sync::ledger::Ledger;
@@ -52,36 +53,43 @@ impl<C: Customs> Engine<C> {
         ensures least { steps.old ≤ steps.new }
         ensures most { WorksOut C.customs self.old steps.old steps.new }
     {
-        self.parts
-            .values(alloc, area, &self.customs, self.day, steps)
+        values(&mut self.parts, alloc, area, &self.customs, self.day, steps)
     }
 }
 
-impl Parts {
-    // The filled cells of a block with what they show.
-    fn values<C: Customs, L: Ledger>(
-        &mut self,
-        alloc: Global,
-        area: Block,
-        customs: &C,
-        day: i32,
-        steps: &mut Steps<L>,
-    ) -> Result<Vec<(Place, Scalar)>, Stop>
-        requires fits { Fits self.old }
-        requires follow { ValuesFollow (C.customs customs.now) day self.old }
-        ensures answered { Answered (values_cause area (state_of self.old)) (λ list. list.items ≡ values_in_block area (with_rules (C.customs customs.now) day (state_of self.old))) result }
-        ensures state { state_of self.new ≡ state_of self.old }
-        ensures line { self.new.session.book.lazy.line ≡ self.old.session.book.lazy.line }
-        ensures follow { ValuesFollow (C.customs customs.now) day self.new }
-        ensures unmarked { OnOk result (IsUnmarked self.new.values.values) }
-        ensures least { steps.old ≤ steps.new }
-        ensures most { WorksOutIn (C.customs customs.now) day self.old steps.old steps.new }
-    {
-        self.check_values(area)?;
-        self.refresh(customs, day, steps)?;
-        let list = shown_in(alloc, &self.session, &self.values, area)?;
-        Ok(list)
+// The filled cells of a block with what they show.
+fn values<C: Customs, L: Ledger>(
+    parts: &mut Parts,
+    alloc: Global,
+    area: Block,
+    customs: &C,
+    day: i32,
+    steps: &mut Steps<L>,
+) -> Result<Vec<(Place, Scalar)>, Stop>
+    requires fits { Fits parts.old }
+    requires follow { ValuesFollow (C.customs customs.now) day parts.old }
+    ensures answered { Answered (values_cause area (state_of parts.old)) (λ list. list.items ≡ values_in_block area (with_rules (C.customs customs.now) day (state_of parts.old))) result }
+    ensures state { state_of parts.new ≡ state_of parts.old }
+    ensures line { parts.new.session.book.lazy.line ≡ parts.old.session.book.lazy.line }
+    ensures follow { ValuesFollow (C.customs customs.now) day parts.new }
+    ensures unmarked { OnOk result (IsUnmarked parts.new.values.values) }
+    ensures least { steps.old ≤ steps.new }
+    ensures most { WorksOutIn (C.customs customs.now) day parts.old steps.old steps.new }
+{
+    check_values(parts, area)?;
+    parts.refresh(customs, day, steps)?;
+    let list = shown_in(alloc, &parts.session, &parts.values, area)?;
+    Ok(list)
+}
+
+// Where the values of a block are asked for.
+fn check_values(parts: &Parts, area: Block) -> Result<(), Refusal>
+    ensures { IsCause result (values_cause area (state_of parts.now)) }
+{
+    if parts.session.suspended || parts.session.batch.is_some() {
+        return Err(Refusal::Suspended);
     }
+    parts.check_clear(area)
 }
 
 // The filled cells of a block with what they show, where what is kept of values is right.

@@ -4,8 +4,6 @@ ghost use Rattle.cell_addr.specs.declared.place.Place.{Place};
 ghost use Rattle.book_model.specs.Workbook.{State};
 
 use crate::engine::Engine;
-use crate::parts::Parts;
-use crate::waiting::Waiting;
 use calc_eval::Customs;
 use clip_board::Clip;
 use formula_tree::Pool;
@@ -15,6 +13,7 @@ use kept_steps::{Entry, Session};
 use kept_values::Values;
 use lazy_store::Lazy;
 use name_table::Names;
+use session_operations::{Parts, Waiting};
 use session_values::SessionValues;
 use std::alloc::Global;
 use undo_book::UndoBook;

@@ -28,7 +28,7 @@ is_eq-Equal Greater h = cc
 
 -- places that compare as equal are one
 same_at : (p q : Place) → is_eq (place_cmp p q) ≡ true → p ≡ q
-same_at p q here = place_cmp-IsAntisymmetric p q (is_eq-Equal (place_cmp p) q here)
+same_at p q here = place_cmp-IsAntisymmetric p q (is_eq-Equal (place_cmp p q) here)
 
 same_scope-self : (s : Option ℕ) → same_scope s s ≡ true
 same_scope-self None = refl

@@ -1,7 +1,7 @@
 // What a workbook is in, and its list of sheets.
 ghost use Rattle.std.specs.Prelude.{◌≡◌, IsUtf8, None, is_none, is_some, false, length, option_map, slice_get, true, unwrap_or, ⊤};
 ghost use Rattle.cell_addr.specs.Sheets.{id_in, name_in};
-ghost use Rattle.book_engine.specs.Seen.{is_nothing};
+ghost use Rattle.book_engine.specs.Engine.{is_nothing};
 ghost use Rattle.book_model.specs.Operation as op;
 ghost use Rattle.book_model.specs.Refusals.{cause};
 ghost use Rattle.book_model.specs.Workbook.{State};

@@ -2,7 +2,7 @@
 ghost use Rattle.std.specs.Prelude.{◌≡◌, is_none, is_some, length, option_map, slice_get, unwrap_or};
 ghost use Rattle.cell_addr.specs.Sheets.{id_in, name_in};
 ghost use Rattle.cell_addr.specs.declared.place.TheConstants.{NO_SHEET};
-ghost use Rattle.book_engine.specs.Seen.{is_nothing};
+ghost use Rattle.book_engine.specs.Engine.{is_nothing};
 ghost use Rattle.book_model.specs.Operation as op;
 ghost use Rattle.book_model.specs.Refusals.{cause};
 ghost use Rattle.book_model.specs.Workbook.{State};

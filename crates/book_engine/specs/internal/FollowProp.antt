@@ -9,8 +9,8 @@ use Rattle.dep_graph.specs.declared.node.Node.TheVariants.{Cell, Name, Range, Wh
 use Rattle.kept_values.specs.declared.values.Values.{Values}
 use Rattle.recalc_core.specs.Kept.{IsRight, Kept}
 use Rattle.session_values.specs.Following.{FollowsIn, book_of, words_in}
-use Rattle.book_engine.specs.Seen.{ValuesFollow}
-use Rattle.book_engine.specs.declared.parts.Parts.{Parts}
+use Rattle.session_operations.specs.Seen.{ValuesFollow}
+use Rattle.session_operations.specs.declared.parts.Parts.{Parts}
 
 inside-prop : (a : Node) → IsProp (IsNodeInside a)
 inside-prop (Cell p) = Prim.hlevel logic.props

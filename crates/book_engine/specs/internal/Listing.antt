@@ -4,9 +4,8 @@ use Rattle.std.specs.Ordering.{eq_by_cmp}
 use Rattle.cell_addr.specs.Text.{capitals}
 use Rattle.name_table.specs.declared.key.NameKey.{NameKey}
 use Rattle.book_engine.specs.declared.listing.NameEntry.{NameEntry}
-use Rattle.book_engine.specs.declared.shown_name.ShownName.{ShownName}
-use Rattle.book_engine.specs.internal.Links.{passes}
-use Rattle.book_engine.specs.internal.ShownNames.{shown_cmp}
+use Rattle.session_operations.specs.declared.shown_name.ShownName.{ShownName}
+use Rattle.session_operations.specs.Names.{passes, shown_cmp}
 
 -- a name of a table as links show it, if its word is known
 abbrev pub shown_key : List (List ℕ) → NameKey → Option ShownName

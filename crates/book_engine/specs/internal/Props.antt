@@ -1,34 +1,11 @@
--- What has one proof at most, so that it may be kept with a value: that a tree is proper, and that a session is sound.
+-- That a session is sound has one proof at most, so that it may be kept with an engine.
 use denote.Struct.Props as logic
 use Rattle.std.specs.Prelude.{ℕ, List, Option, Some, None}
 use Rattle.book_values.specs.Book.{Content, number, truth, text, formula, unreadable}
-use Rattle.formula_tree.specs.Proper.{IsProper, AreProper}
-use Rattle.formula_tree.specs.Term as tree
-use Rattle.formula_tree.specs.Term.{Term, Terms}
-use Rattle.formula_tree.specs.declared.reference.Corner.{Corner}
 use Rattle.book_model.specs.Clipboard.{Clipboard, nothing, copied, moving}
 use Rattle.book_model.specs.Sound.{ClearedBy, IsContentOf, IsSound, IsSoundBatch, IsSoundBook, IsProperContent, IsSoundClip}
 use Rattle.book_model.specs.Workbook.{Batch, State, Workbook}
-
-mutual
-  pub is_proper-prop : (t : Term Corner) → IsProp (IsProper t)
-  is_proper-prop (tree.number m) = Prim.hlevel logic.props
-  is_proper-prop (tree.text w) = Prim.hlevel logic.props
-  is_proper-prop (tree.truth b) = Prim.hlevel logic.props
-  is_proper-prop (tree.fault f) = Prim.hlevel logic.props
-  is_proper-prop (tree.cell c) = Prim.hlevel logic.props
-  is_proper-prop (tree.area c d) = Prim.hlevel logic.props
-  is_proper-prop (tree.whole axis c d) = Prim.hlevel logic.props
-  is_proper-prop (tree.name w) = Prim.hlevel logic.props
-  is_proper-prop (tree.prefix s t) = let h = is_proper-prop t in Prim.hlevel (h, logic.props)
-  is_proper-prop (tree.percent t) = let h = is_proper-prop t in Prim.hlevel (h, logic.props)
-  is_proper-prop (tree.binary o l r) = let h = is_proper-prop l in let i = is_proper-prop r in Prim.hlevel (h, i, logic.props)
-  is_proper-prop (tree.call w ts) = let h = are_proper-prop ts in Prim.hlevel (h, logic.props)
-  is_proper-prop (tree.paren t) = is_proper-prop t
-
-  are_proper-prop : (ts : Terms Corner) → IsProp (AreProper ts)
-  are_proper-prop tree.no_terms = Prim.hlevel logic.props
-  are_proper-prop (tree.term t ts) = let h = is_proper-prop t in let i = are_proper-prop ts in Prim.hlevel (h, i, logic.props)
+use Rattle.session_operations.specs.internal.Props.{is_proper-prop}
 
 is_content_of-prop : (b : Workbook) (c : Content) → IsProp (IsContentOf b c)
 is_content_of-prop b (number m) = Prim.hlevel logic.props

@@ -2,9 +2,9 @@ use Rattle.std.proofs.Common.{◌≡◌, take}
 use Rattle.std.specs.BTreeSet.{contains}
 use Rattle.std.specs.List.{list_any}
 use Rattle.name_table.specs.Named.{words_of}
-use Rattle.book_engine.specs.declared.shown_name.ShownName.{ShownName}
+use Rattle.session_operations.specs.declared.shown_name.ShownName.{ShownName}
 use Rattle.book_engine.specs.internal.Listing.{is_listed_as}
-use Rattle.book_engine.specs.internal.ShownNames.{shown_cmp}
+use Rattle.session_operations.specs.Names.{shown_cmp}
 use Rattle.book_engine.proofs.listing.names_shown.Given as goal
 
 -- the names gone by

@@ -5,7 +5,8 @@ use Rattle.name_table.specs.Named.{words_of}
 use Rattle.book_model.specs.Answers.{valued}
 use Rattle.session_values.specs.Following.{FollowsIn}
 use Rattle.book_engine.specs.Engine.{StandsFor}
-use Rattle.book_engine.specs.Seen.{clip_of, with_clipboard, with_rules}
+use Rattle.session_operations.specs.Seen.{with_rules}
+use Rattle.session_operations.specs.Seen.{clip_of, with_clipboard}
 use Rattle.book_engine.specs.TakenApart.{steps_among}
 use Rattle.book_engine.proofs.TakenApart.{followed}
 use Rattle.book_engine.proofs.engine.Engine.joined.Goals as goal

@@ -7,4 +7,4 @@ pub invariant_of-self : goal.invariant_of-self
 invariant_of-self g c = record { fits = c.names_in.ensures.fits; follow = c.names_in.ensures.follow (g.C.Customs.customs c.args.self.now.customs) c.args.self.now.day c.args.self.now.follow }
 
 pub returns-clause-line : goal.returns-clause-line
-returns-clause-line g c = line_kept c.args.self.now.parts.session.book.lazy.line c.names_in.new.self.session.book.lazy.line (ap (λ (b : Book). b.lazy.line) c.names_in.ensures.book)
+returns-clause-line g c = line_kept c.args.self.now.parts.session.book.lazy.line c.names_in.new.parts.session.book.lazy.line (ap (λ (b : Book). b.lazy.line) c.names_in.ensures.book)

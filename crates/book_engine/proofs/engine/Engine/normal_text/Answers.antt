@@ -7,4 +7,4 @@ pub invariant_of-self : goal.invariant_of-self
 invariant_of-self g c = record { fits = c.normal_text.ensures.fits; follow = c.normal_text.ensures.follow (g.C.Customs.customs c.args.self.now.customs) c.args.self.now.day c.args.self.now.follow }
 
 pub returns-clause-line : goal.returns-clause-line
-returns-clause-line g c = line_kept c.args.self.now.parts.session.book.lazy.line c.normal_text.new.self.session.book.lazy.line (ap (λ (b : Book). b.lazy.line) c.normal_text.ensures.book)
+returns-clause-line g c = line_kept c.args.self.now.parts.session.book.lazy.line c.normal_text.new.parts.session.book.lazy.line (ap (λ (b : Book). b.lazy.line) c.normal_text.ensures.book)

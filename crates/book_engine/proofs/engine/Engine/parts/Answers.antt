@@ -6,7 +6,7 @@ use Rattle.kept_values.specs.Values.{marks_in}
 use Rattle.book_engine.specs.Engine.{StandsFor}
 use Rattle.book_engine.specs.Kept.{merged_in_any}
 use Rattle.book_engine.specs.TakenApart.{FitParts, parts_of, state_among, stored_among}
-use Rattle.book_engine.specs.declared.parts.Parts.{Parts}
+use Rattle.session_operations.specs.declared.parts.Parts.{Parts}
 use Rattle.book_engine.proofs.TakenApart.{fitting}
 use Rattle.book_engine.proofs.engine.Engine.parts.Goals as goal
 

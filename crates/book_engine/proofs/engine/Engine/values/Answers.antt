@@ -2,7 +2,8 @@ use Rattle.std.proofs.Common.{rules, w32}
 use mir.Val.{SFits}
 use Rattle.std.proofs.lemmas.Int.{to_z-of_z}
 use Rattle.book_engine.specs.Engine.{StandsFor}
-use Rattle.book_engine.specs.Seen.{clip_of, state_of, with_clipboard, with_rules}
+use Rattle.session_operations.specs.Seen.{with_rules}
+use Rattle.session_operations.specs.Seen.{clip_of, state_of, with_clipboard}
 use Rattle.book_engine.proofs.KeptLine.{line_kept}
 use Rattle.book_engine.proofs.ShownCells.{answered_as, answered_on}
 use Rattle.book_engine.proofs.engine.Engine.values.Goals as goal
@@ -17,4 +18,4 @@ returns-clause-answered g c = λ d stands.
     (answered_on c.args.area customs (state_of e.parts) _ e.day (to_z-of_z w32 e.day day) c.values.result c.values.ensures.answered)
 
 pub returns-clause-line : goal.returns-clause-line
-returns-clause-line g c = line_kept c.args.self.now.parts.session.book.lazy.line c.values.new.self.session.book.lazy.line c.values.ensures.line
+returns-clause-line g c = line_kept c.args.self.now.parts.session.book.lazy.line c.values.new.parts.session.book.lazy.line c.values.ensures.line

@@ -1,6 +1,0 @@
-use Rattle.marked_books.proofs.Shifting.{sessions_are_inside}
-use Rattle.book_engine.specs.Seen.{state_of}
-use Rattle.book_engine.proofs.parts.Parts.refresh.Goals as goal
-
-pub refresh-requires-clause-inside : goal.refresh-requires-clause-inside
-refresh-requires-clause-inside g c = sessions_are_inside (state_of c.args.self.now) c.requires.fits

@@ -1,6 +1,0 @@
-use Rattle.std.proofs.Common.{refl}
-use Rattle.book_engine.proofs.Following.{follow_same}
-use Rattle.book_engine.proofs.parts.Parts.suspend.Goals as goal
-
-pub returns-clause-follow : goal.returns-clause-follow
-returns-clause-follow c = follow_same c.args.self.now (record { session = c.suspend.new.self; values = c.args.self.now.values }) c.suspend.ensures.book refl

@@ -1,0 +1,25 @@
+pub mod SheetNames
+pub mod NamedSlots
+pub mod NamesRead
+pub mod ReadContents
+pub mod Turning
+pub mod Pushed
+pub mod FilledCells
+pub mod Following
+pub mod GivenCells
+pub mod WrittenCells
+pub mod Stepped
+pub mod PartsStepped
+pub mod TurnedMarks
+pub mod TouchedCells
+pub mod Counted
+pub mod Closed
+pub mod Causes
+pub mod Pasting
+pub mod PastedCounts
+pub mod SortedKeys
+pub mod RaisedKeys
+pub mod NeedingCells
+pub mod NeedingNames
+pub mod ListedLinks
+mod TriedCosts

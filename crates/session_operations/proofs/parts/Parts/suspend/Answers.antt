@@ -1,0 +1,6 @@
+use Rattle.std.proofs.Common.{refl}
+use Rattle.session_operations.proofs.Following.{follow_same}
+use Rattle.session_operations.proofs.parts.Parts.suspend.Goals as goal
+
+pub returns-clause-follow : goal.returns-clause-follow
+returns-clause-follow c = follow_same c.args.self.now (record { session = c.suspend.new.self; values = c.args.self.now.values }) c.suspend.ensures.book refl
