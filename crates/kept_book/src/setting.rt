@@ -107,14 +107,14 @@ impl Book {
         let position = self.lazy.line().cursor();
         let names = Vec::new(self.alloc);
         let sheets = Vec::new(self.alloc);
+        let held = replaced_at(self.alloc, &self.grid, at)?;
         let mut written = CellList::new(self.alloc)?;
         written.push(at, cell.copied(self.alloc)?)?;
-        let replaced = replaced_at(self.alloc, &self.grid, at)?;
         self.grid.put(at, cell)?;
         Ok(Part {
             from: position,
             to: position,
-            replaced,
+            replaced: held,
             written,
             names,
             sheets,

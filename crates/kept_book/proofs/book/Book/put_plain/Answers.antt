@@ -14,7 +14,7 @@ returns-clause-makes c =
     let grid2 = c.put.new.self in
     record {
       joins = plain-joined book.lazy book.grid grid2 book.names book.next_id c.args.at c.args.cell c.requires.inside c.requires.plain c.requires.stand book.fresh c.in_ok-put.ensures.ok _
-          (c.cursor-position.ensures.result ∙ ap (λ t. t.cursor) c.line.ensures) refl c.in_ok-replaced.ensures
+          (c.cursor-position.ensures.result ∙ ap (λ t. t.cursor) c.line.ensures) refl c.in_ok-held.ensures
           (c.in_ok-push.ensures.ok ∙ (λ i. c.in_ok-written.ensures i ++ (c.args.at, c.in_ok-copied.ensures i) ∷ [])) (ap (map name_change) c.new-names.ensures.items)
           (ap (map sheet_change) c.new-sheets.ensures.items);
       keeps = plain-keeps book.lazy book.grid grid2 book.names book.next_id c.args.at c.args.cell c.requires.inside c.requires.plain c.requires.stand book.fresh c.in_ok-put.ensures.ok;
