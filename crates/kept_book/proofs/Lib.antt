@@ -19,6 +19,7 @@ pub mod NamesPut
 pub mod Looked
 pub mod ShiftedBooks
 pub mod WrittenBooks
+pub mod PlainBooks
 pub mod NamedBooks
 pub mod ChangedSheets
 pub mod NewBooks

@@ -17,6 +17,7 @@ use Rattle.cell_addr.specs.declared.place.TheConstants.{COLS, ROWS}
 use Rattle.book_values.specs.Book.{Content}
 use Rattle.clip_board.specs.declared.clip.CopyItem.{CopyItem}
 use Rattle.grid_store.proofs.Exchanges.{get-without_places}
+use Rattle.grid_store.proofs.PlaceMaps.{same_places}
 use Rattle.grid_store.specs.Grid.{within, without_places}
 use Rattle.grid_store.specs.declared.cell.Cell.{Cell}
 use Rattle.grid_store.specs.internal.Exchange.{is_among}
@@ -99,6 +100,18 @@ given-placed one m at x = go x
         get-insert place_cmp-IsTotalOrder (without_places (places_of (listed_at at (fin.get m at))) (contents_of one m)) at y q
         ∙ ap (cond (eq_by_cmp place_cmp q at) (Some y)) (emptied q) ∙ over (eq_by_cmp place_cmp q at) y (fin.get (contents_of one m) q)
         ∙ sym (get-insert place_cmp-IsTotalOrder (contents_of one m) at y q))
+
+-- a cell that is placed over what its place held
+pub placed-over : (m : PlaceMap Cell) (at : Place) (c : Cell) → fin.insert m at c ≡ fin.insert (without_places (places_of (listed_at at (fin.get m at))) m) at c
+placed-over m at c = same_places _ _ (λ q.
+    get-insert place_cmp-IsTotalOrder m at c q ∙ go q (eq_by_cmp place_cmp q at)
+    ∙ ap (cond (eq_by_cmp place_cmp q at) (Some c))
+    (sym (get-without_places (places_of (listed_at at (fin.get m at))) m q ∙ ap (λ b. cond b None (fin.get m q)) (among-listed at q (fin.get m at))))
+    ∙ sym (get-insert place_cmp-IsTotalOrder (without_places (places_of (listed_at at (fin.get m at))) m) at c q))
+  where
+    go : (q : Place) (b : Bool) → cond b (Some c) (fin.get m q) ≡ cond b (Some c) (cond (is_some (cond b (fin.get m at) None)) None (fin.get m q))
+    go q true = refl
+    go q false = refl
 
 pub listed-inside : (at : Place) (r : Option Cell) → IsInside at → All (λ e. IsInside e.0) (listed_at at r)
 listed-inside at None inside = λ k d l. absurd (omega arith)

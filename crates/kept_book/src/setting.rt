@@ -1,5 +1,5 @@
 // Cells that are given what a text says, or emptied.
-ghost use Rattle.std.specs.Prelude.{◌≡◌, ◌==◌, ◌++◌, [], IfOk, OnOk, OnErr, IfSome, filter_map, map as each, option_map};
+ghost use Rattle.std.specs.Prelude.{◌≡◌, ◌==◌, ◌++◌, ◌∷◌, [], None, Some, IfOk, OnOk, OnErr, IfSome, filter_map, map as each, option_map};
 ghost use Rattle.std.specs.List.{All, cons_option};
 ghost use Rattle.std.specs.FinMap as map;
 ghost use Rattle.cell_addr.specs.Place.{IsInside, covers};
@@ -10,11 +10,12 @@ ghost use Rattle.shift_line.specs.Track.{with_spare};
 ghost use Rattle.book_model.specs.Changes.{HaveDistinctPlaces, emptied, with_content, with_contents, with_given_content};
 ghost use Rattle.book_model.specs.Content.{content_given, tree_given};
 ghost use Rattle.kept_book.specs.Change.{places_of};
-ghost use Rattle.kept_book.specs.Copied.{IsCopied, content_copied, entry_copied};
+ghost use Rattle.kept_book.specs.Copied.{IsCopied, IsPlain, content_copied, entry_copied};
 ghost use Rattle.kept_book.specs.Formula.{IsFormula, tree_at};
 ghost use Rattle.kept_book.specs.Ids.{KeepsBelow};
 ghost use Rattle.kept_book.specs.Kept.{IsStanding, Makes, SameBook, change_of, workbook};
-ghost use Rattle.kept_book.specs.internal.Cells.{entry_given, listed_at, stood_at};
+ghost use Rattle.kept_book.specs.Stored.{content_of};
+ghost use Rattle.kept_book.specs.internal.Cells.{entry_given, listed_at, stood_at, with_content_at};
 
 use crate::book::Book;
 use crate::part::Part;
@@ -65,10 +66,59 @@ impl Book {
         ensures line { self.new.lazy.line ≡ with_spare self.new.lazy.line.spare self.old.lazy.line }
         ensures kept { KeepsBelow self.old.next_id self.old.lazy self.new.lazy }
     {
-        let given = given(self.alloc, pool, &self.names, at, content)?;
+        match item_given(self.alloc, pool, &self.names, at, content)? {
+            Some(CopyItem::Kept(cell)) => self.put_plain(at, cell),
+            item => self.put_item(at, item),
+        }
+    }
+
+    // Gives a cell a thing, or empties it.
+    fn put_item(&mut self, at: Place, item: Option<CopyItem>) -> Result<Part, AllocError>
+        requires inside { IsInside at }
+        requires copied { IfSome item (λ x. IsCopied (at, x)) }
+        requires stand { IsStanding self.old }
+        ensures ok { OnOk result (workbook self.new ≡ with_content_at at (option_map (content_copied at) item) (workbook self.old)) }
+        ensures makes { IfOk result (λ part. Makes self.old self.new (change_of part)) }
+        ensures replaced { IfOk result (λ part. items_of part.replaced ≡ listed_at at (map.get (cells_of self.old.grid) at)) }
+        ensures written { IfOk result (λ part. All (λ e. e.0 ≡ at) (items_of part.written)) }
+        ensures err { OnErr result (SameBook self.old self.new) }
+        ensures line { self.new.lazy.line ≡ with_spare self.new.lazy.line.spare self.old.lazy.line }
+        ensures kept { KeepsBelow self.old.next_id self.old.lazy self.new.lazy }
+    {
+        let given = given(self.alloc, at, item)?;
         let replaced = replaced_at(self.alloc, &self.grid, at)?;
         let part = self.write(replaced, given)?;
         Ok(part)
+    }
+
+    // Gives a cell something that is no formula: only the lists that the part keeps are made. These come first, so that want of
+    // memory leaves the cell as it was.
+    fn put_plain(&mut self, at: Place, cell: Cell) -> Result<Part, AllocError>
+        requires inside { IsInside at }
+        requires plain { IsPlain cell }
+        requires stand { IsStanding self.old }
+        ensures ok { OnOk result (workbook self.new ≡ with_content_at at (Some (content_of (λ n. None) cell)) (workbook self.old)) }
+        ensures makes { IfOk result (λ part. Makes self.old self.new (change_of part)) }
+        ensures replaced { IfOk result (λ part. items_of part.replaced ≡ listed_at at (map.get (cells_of self.old.grid) at)) }
+        ensures written { IfOk result (λ part. items_of part.written ≡ (at, cell) ∷ []) }
+        ensures err { OnErr result (SameBook self.old self.new) }
+        ensures lazy { self.new.lazy ≡ self.old.lazy }
+    {
+        let position = self.lazy.line().cursor();
+        let names = Vec::new(self.alloc);
+        let sheets = Vec::new(self.alloc);
+        let held = replaced_at(self.alloc, &self.grid, at)?;
+        let mut written = CellList::new(self.alloc)?;
+        written.push(at, cell.copied(self.alloc)?)?;
+        self.grid.put(at, cell)?;
+        Ok(Part {
+            from: position,
+            to: position,
+            replaced: held,
+            written,
+            names,
+            sheets,
+        })
     }
 
     /// Gives cells the contents that texts say, each of them another cell, and answers what that changed. Every other formula is kept
@@ -133,21 +183,19 @@ impl Book {
     }
 }
 
-// What a content gives to a cell: nothing, or one thing.
+// What is given to a cell, as a list.
 fn given(
     alloc: Global,
-    pool: &mut Pool,
-    sheets: &Names,
     at: Place,
-    content: ContentText,
+    item: Option<CopyItem>,
 ) -> Result<Vec<(Place, CopyItem)>, AllocError>
-    requires { IsInside at }
-    ensures entries { IfOk result (λ r. each entry_copied r.items ≡ cons_option (option_map (λ x. (at, x)) (content_given (listed sheets.now) at.sheet content)) []) }
+    requires { IfSome item (λ x. IsCopied (at, x)) }
+    ensures entries { IfOk result (λ r. each entry_copied r.items ≡ cons_option (option_map (λ x. (at, x)) (option_map (content_copied at) item)) []) }
     ensures copied { IfOk result (λ r. All IsCopied r.items) }
     ensures there { IfOk result (λ r. All (λ e. e.0 ≡ at) r.items) }
 {
     let mut list = Vec::with_capacity(alloc, 1)?;
-    if let Some(item) = item_given(alloc, pool, sheets, at, content)? {
+    if let Some(item) = item {
         list.push_reserved((at, item));
     }
     Ok(list)

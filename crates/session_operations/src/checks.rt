@@ -208,7 +208,7 @@ impl Parts {
     pub(crate) fn is_full_without(&self, at: Place) -> bool
         ensures { result ≡ (is_none (map.get (state_of self.now).book.cells at) && nat_le MAX_CELLS (map.len (state_of self.now).book.cells)) }
     {
-        self.session.book.grid.cell(at).is_none() && self.session.book.grid.filled() >= MAX_CELLS
+        self.session.book.grid.filled() >= MAX_CELLS && self.session.book.grid.cell(at).is_none()
     }
 
     /// Why [`Parts::structural`] would be refused now, if it would: the first cause that holds. Costs look-ups, and where lines are
