@@ -11,6 +11,7 @@ from .values import Fault, Place, Value, decimal
 
 # How many bytes a room has at first.
 SIZE = 256
+OTHER_THREAD = "a workbook is used by the thread that opened it"
 
 
 class Room:
@@ -22,7 +23,7 @@ class Room:
 
     def grow(self, size: int) -> None:
         if size > self.size:
-            self.bytes, self.size = create_string_buffer(size), size
+            self.bytes, self.size, self.length = create_string_buffer(size), size, c_size_t(size)
             self.seen = memoryview(self.bytes)
 
     def text(self, start: int, length: int) -> str:
@@ -53,11 +54,14 @@ class Calls:
 
     def _call(self, name: str, *words: object) -> int:
         if get_ident() != self._thread:
-            raise RuntimeError("a workbook is used by the thread that opened it")
+            raise RuntimeError(OTHER_THREAD)
         return CALLED[name](self._at_book, *words)
 
+    # Written out, as the calls below that most programs make most, since a call within Python takes half of what the library does.
     def _do(self, name: str, *words: object) -> None:
-        status = self._call(name, *words)
+        if get_ident() != self._thread:
+            raise RuntimeError(OTHER_THREAD)
+        status = CALLED[name](self._at_book, *words)
         if status:
             check(status)
 
@@ -72,14 +76,17 @@ class Calls:
         return room.text(0, self._count.value)
 
     def _value(self, name: str, *words: object) -> Value:
+        if get_ident() != self._thread:
+            raise RuntimeError(OTHER_THREAD)
         room, shown = self._room, self._shown
-        status = self._call(name, *words, room.bytes, room.size, self._at_shown)
+        status = CALLED[name](self._at_book, *words, room.bytes, room.length, self._at_shown)
         if status == NO_ROOM:
             room.grow(shown.length)
-            status = self._call(name, *words, room.bytes, room.size, self._at_shown)
+            status = self._call(name, *words, room.bytes, room.length, self._at_shown)
         if status:
             check(status)
-        return room.value(shown.kind, shown.number, 0, shown.length)
+        kind = shown.kind
+        return decimal(shown.number) if kind == 1 else room.value(kind, shown.number, 0, shown.length)
 
     def _places(self, name: str, sheet: int, *words: object) -> List[Place]:
         rows, layout = self._rows, library.PLACE_ROW

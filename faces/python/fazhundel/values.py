@@ -4,6 +4,7 @@ from enum import IntEnum
 from typing import NamedTuple, Optional, Union
 
 MILLION = 1_000_000
+LEAST, GREATEST = -(2**63), 2**63 - 1
 
 # Enough digits for every number of 64 bits, whatever the program's own context says.
 EXACT = Context(prec=19)
@@ -69,15 +70,18 @@ Link = Union[Place, Block, Name]
 def decimal(millionths: int) -> Decimal:
     """The number of so many millionths, without zeros behind it."""
     whole, rest = divmod(millionths, MILLION)
-    return EXACT.normalize(EXACT.scaleb(Decimal(millionths), -6)) if rest else Decimal(whole)
+    return Decimal(whole) if not rest else EXACT.normalize(EXACT.scaleb(Decimal(millionths), -6))
 
 
 def millionths(number: Union[Decimal, int]) -> int:
     """The number as a whole number of millionths. ValueError where it is none of 64 bits, TypeError for any other type."""
-    if not isinstance(number, (Decimal, int)) or isinstance(number, bool):
+    if type(number) is int:
+        scaled, rest = number * MILLION, 0
+    elif not isinstance(number, (Decimal, int)) or isinstance(number, bool):
         raise TypeError(f"a Decimal or an int was expected, not {type(number).__name__}")
-    above, below = number.as_integer_ratio()
-    scaled, rest = divmod(above * MILLION, below)
-    if rest or not -(2**63) <= scaled < 2**63:
+    else:
+        above, below = number.as_integer_ratio()
+        scaled, rest = divmod(above * MILLION, below)
+    if rest or not LEAST <= scaled <= GREATEST:
         raise ValueError(f"{number} is no number of millionths")
     return scaled
