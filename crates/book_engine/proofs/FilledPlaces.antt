@@ -1,5 +1,5 @@
 -- The filled places of a workbook, and how far a sheet is used. Serves what is asked of areas.
-use Rattle.std.proofs.Common.{◌≡◌, ◌∙◌, sym, ap, subst, refl, arith, ◌==◌, ◌&&◌, ℕ, Bool, true, false, cond, filter, List, [], ◌∷◌, map, Option, Some, None, is_some, IsSome, Bor, eqb-true}
+use Rattle.std.proofs.Common.{◌≡◌, ◌∙◌, sym, ap, subst, refl, arith, ◌==◌, ◌&&◌, ℕ, Bool, true, false, cond, filter, List, [], ◌∷◌, map, Option, Some, None, is_some, Bor, eqb-true}
 use Rattle.std.proofs.lemmas.Bool.{false≢true}
 use Rattle.std.proofs.lemmas.Bool.Decides.{nat_tests}
 use Rattle.std.proofs.lemmas.List.Elements.{All-from_recursion}

@@ -24,7 +24,7 @@ use Rattle.book_engine.specs.Areas.{entry_of}
 use Rattle.session_operations.specs.declared.shown_name.ShownName.{ShownName}
 use Rattle.session_operations.specs.internal.Links.{shown_name}
 use Rattle.session_operations.specs.Names.{passes, shown_cmp, shown_cmp-IsTotalOrder}
-use Rattle.book_engine.specs.internal.Listing.{entry_shown, is_listed_as, shown_key}
+use Rattle.book_engine.specs.internal.Listing.{entry_shown, is_listed_as}
 use Rattle.session_operations.proofs.NamedSlots.{key-itself}
 use Rattle.session_operations.proofs.NeedingNames.{IsSmall, all-small, key_shown, keys-decide, shown-decide, shown_cmp-IsAntisymmetric}
 use Rattle.session_operations.proofs.RaisedKeys.{all_found, entries-raised, find-raised, is_raised, raised}

@@ -1,5 +1,5 @@
 -- What the call does that a command asks for, and what answers one that stopped.
-use Rattle.std.specs.Prelude.{◌≡◌, ℕ, List, Option, Some, None, Result, Ok, Err, ⊤}
+use Rattle.std.specs.Prelude.{◌≡◌, ℕ, List, Some, None, Result, Ok, Err, ⊤}
 use Rattle.calc_eval.specs.declared.customs.Customs.{Ghosts}
 use Rattle.custom_fn.specs.declared.rule.Rule.{Rule}
 use Rattle.book_model.specs.Workbook.{State}
