@@ -37,9 +37,11 @@ REFUSED = "refused, as it must be"
 # A function's head, and what an impl is of: a type, or a trait and a type.
 FUNCTION = re.compile(r'^(\s*)(?:#\[[^\]]*\]\s*)?(?:pub(?:\([a-z]+\))? )?(?:const )?(?:unsafe )?(?:extern "C" )?fn (\w+)')
 IMPL = re.compile(r"^(?:unsafe )?impl\b(?:<[^{]*?>)? (?:(\w[\w:]*)(?:<.*?>)? for )?&?(?:'\w+ )?(\w+)")
-# What a check says of a function behind all else that it says of it, and of one that only waits for the proof of another.
+# What a check says of a function behind all else that it says of it, of one that only waits for the proof of another, and of one
+# of which it reads no proof, so that no contract is tried.
 FUNCTION_TOLD = re.compile(r"^fn (\S+): (.*)$")
 UNPROVED, WAITS = re.compile(r"not proved|no proof"), re.compile(r"(no proof:|not proved;) it calls ")
+UNREAD = re.compile(r"the borrow checker does not cover this function")
 # What a check says of a place in a file, and what says only that a proof names something that isn't there.
 PLACED = re.compile(r"(note: )?\S+:\d+:\d+: ")
 NAMES = re.compile(r"(note: )?(\./)?proofs/.*(has no field|is not in scope|has no `|was not admitted|was rejected)")
@@ -168,16 +170,18 @@ def check(crate, folder, names):
 
 def told_of_functions(lines):
     """What a check says of each function that it doesn't prove, by its name: its own line last. None of one that waits for the
-    proof of another."""
-    found, told = {}, []
+    proof of another, or of which no proof is read."""
+    errors, found, told = [line for line in lines if PLACED.match(line) and "proofs/" in line.split(":")[0]], {}, []
     for line in lines:
         of = FUNCTION_TOLD.match(line)
-        if of and UNPROVED.match(of[2]) and (told or not WAITS.match(of[2])):
-            found[of[1]] = [*told, line]
-        if of:
-            told = []
-        elif PLACED.match(line):
-            told.append(line)
+        if not of:
+            told += [line] if PLACED.match(line) and line not in errors else []
+            continue
+        # errors in proofs stand before all else, under the folder of their function
+        here = [error for error in errors if f"/{'/'.join(of[1].split('::')[-2:])}/" in error] + told
+        if UNPROVED.match(of[2]) and not UNREAD.search(of[2]) and (here or not WAITS.match(of[2])):
+            found[of[1]] = [*here, line]
+        told = []
     return found
 
 
