@@ -36,3 +36,4 @@ mod writing;
 pub use book::Book;
 pub use naming::home_in;
 pub use part::{NameChange, Part, SheetChange};
+pub use passing::Side;

@@ -16,9 +16,9 @@ use shift_core::Shift;
 use shift_line::Line;
 use std::alloc::{AllocError, Global};
 
-// The two sides of a change.
+/// A side of a change: what was before it, or what is after it.
 #[derive(Clone, Copy)]
-pub(crate) enum Side {
+pub enum Side {
     Before,
     After,
 }

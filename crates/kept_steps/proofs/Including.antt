@@ -37,7 +37,7 @@ use Rattle.kept_steps.specs.Fits.{changes_in, steps_of}
 use Rattle.kept_steps.specs.InUse.{AheadHas, HasFormula, HereHas, OnHas, PastHas}
 use Rattle.kept_steps.specs.Timeline.{Timeline}
 use Rattle.kept_steps.specs.declared.entry.Entry.{Entry}
-use Rattle.kept_steps.specs.declared.listing.Side.TheVariants.{Before, After}
+use Rattle.kept_book.specs.declared.passing.Side.TheVariants.{Before, After}
 use Rattle.kept_steps.specs.internal.Listed.{has, id_in, id_on, ids_of_step, ids_on}
 use Rattle.kept_steps.proofs.Entries.{each_entry}
 

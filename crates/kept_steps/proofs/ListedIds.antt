@@ -16,7 +16,7 @@ use Rattle.kept_steps.specs.Fits.{open_changes, start_of}
 use Rattle.kept_steps.specs.InUse.{HasAny, HasFormula, HereHas}
 use Rattle.kept_steps.specs.Timeline.{Timeline}
 use Rattle.kept_steps.specs.declared.entry.Entry.{Entry}
-use Rattle.kept_steps.specs.declared.listing.Side.TheVariants.{Before, After}
+use Rattle.kept_book.specs.declared.passing.Side.TheVariants.{Before, After}
 use Rattle.kept_steps.specs.internal.Listed.{Adds, has, id_in, ids_of_step, ids_on, ids_open}
 use Rattle.kept_steps.proofs.Including.{ahead-listed, cells-listed, here-parts, names-listed, past-listed}
 use Rattle.kept_steps.proofs.Walks.{before_has}

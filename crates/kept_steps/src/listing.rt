@@ -5,24 +5,17 @@ ghost use Rattle.std.specs.List.{flat_map};
 ghost use Rattle.std.specs.Option.{option_to_list};
 ghost use Rattle.kept_book.specs.Kept.{frame_of, id_of};
 ghost use Rattle.kept_steps.specs.InUse.{HasFormula};
-ghost use Rattle.kept_steps.specs.declared.listing.Side.TheVariants as sides;
+ghost use Rattle.kept_book.specs.declared.passing.Side.TheVariants as sides;
 ghost use Rattle.kept_steps.specs.internal.Listed.{Adds, cells_on, id_in, id_on, ids_of_step, ids_on, ids_open};
 
 use crate::entry::Entry;
 use cell_addr::Place;
 use grid_store::Cell;
 use indexmap::IndexSet;
-use kept_book::{Book, NameChange, Part};
+use kept_book::{Book, NameChange, Part, Side};
 use name_table::NameKey;
 use std::alloc::AllocError;
 use undo_book::UndoBook;
-
-// A side of a change: what was before it, or what is after it.
-#[derive(Clone, Copy)]
-pub(crate) enum Side {
-    Before,
-    After,
-}
 
 // Adds the ids of the formulas that the workbook has.
 pub(crate) fn add_present(ids: &mut IndexSet<u64>, book: &Book) -> Result<(), AllocError>

@@ -14,8 +14,8 @@ use Rattle.kept_book.specs.declared.part.NameChange.{NameChange}
 use Rattle.kept_book.specs.declared.part.Part.{Part}
 use Rattle.kept_steps.specs.Fits.{changes_in}
 use Rattle.kept_steps.specs.declared.entry.Entry.{Entry}
-use Rattle.kept_steps.specs.declared.listing.Side.{Side}
-use Rattle.kept_steps.specs.declared.listing.Side.TheVariants.{Before, After}
+use Rattle.kept_book.specs.declared.passing.Side.{Side}
+use Rattle.kept_book.specs.declared.passing.Side.TheVariants.{Before, After}
 
 -- the id is one of these
 abbrev pub has : List ℕ → ℕ → Bool

@@ -1,6 +1,6 @@
 use Rattle.std.proofs.Common.{subst, arith}
 use Rattle.std.specs.List.{flat_map}
-use Rattle.kept_steps.specs.declared.listing.Side.TheVariants as sides
+use Rattle.kept_book.specs.declared.passing.Side.TheVariants as sides
 use Rattle.kept_steps.specs.internal.Listed.{Adds, ids_of_step, ids_on}
 use Rattle.kept_steps.proofs.ListedIds.{adds-none, adds-step}
 use Rattle.kept_steps.proofs.listing.add_undone.Goals as goal

@@ -1,6 +1,6 @@
 use Rattle.std.proofs.Common.{take}
 use Rattle.std.specs.List.{flat_map}
-use Rattle.kept_steps.specs.declared.listing.Side.TheVariants as sides
+use Rattle.kept_book.specs.declared.passing.Side.TheVariants as sides
 use Rattle.kept_steps.specs.internal.Listed.{Adds, ids_of_step}
 use Rattle.kept_steps.proofs.listing.add_undone.Given as goal
 

@@ -2,7 +2,7 @@ use Rattle.std.proofs.Common.{subst}
 use Rattle.std.specs.List.{flat_map}
 use Rattle.kept_book.specs.Kept.{frame_of}
 use Rattle.kept_steps.specs.Timeline.{timeline_of}
-use Rattle.kept_steps.specs.declared.listing.Side.TheVariants.{After}
+use Rattle.kept_book.specs.declared.passing.Side.TheVariants.{After}
 use Rattle.kept_steps.specs.internal.Listed.{Adds, ids_of_step}
 use Rattle.kept_steps.proofs.ListedIds.{in-use-there}
 use Rattle.kept_steps.proofs.session.Session.listed.Goals as goal
