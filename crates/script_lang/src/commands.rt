@@ -12,7 +12,7 @@ pub enum Version {
 
 /// One command of a script: its word with the fields in their order. Sheets are named, rows and columns are counted
 /// from 0. This project's own.
-#[derive(Drop, Debug)]
+#[derive(Debug)]
 pub enum Command {
     /// Gives a cell the content that a text says.
     Set(Spot, Text),
@@ -80,4 +80,45 @@ pub enum Command {
     Try(Text, Text),
     /// Says of which version the script is; the workbook stays as it is.
     Version(Version),
+}
+
+// Written out, so that whoever drops one calls one function.
+impl Drop for Command {
+    fn drop(self) {
+        match self {
+            Command::Set(_at, _text) => {}
+            Command::Clear(_area) => {}
+            Command::InsertRows(_sheet, _at, _count) => {}
+            Command::DeleteRows(_sheet, _at, _count) => {}
+            Command::InsertCols(_sheet, _at, _count) => {}
+            Command::DeleteCols(_sheet, _at, _count) => {}
+            Command::MoveRows(_sheet, _from, _count, _before) => {}
+            Command::MoveCols(_sheet, _from, _count, _before) => {}
+            Command::AddSheet(_name) => {}
+            Command::DropSheet(_sheet) => {}
+            Command::RenameSheet(_sheet, _name) => {}
+            Command::ClearSheet(_sheet) => {}
+            Command::AddName(_name, _scope, _text) => {}
+            Command::ChangeName(_name, _scope, _text) => {}
+            Command::RemoveName(_name, _scope) => {}
+            Command::Copy(_area) => {}
+            Command::Cut(_area) => {}
+            Command::Paste(_at) => {}
+            Command::MoveBlock(_area, _at) => {}
+            Command::Begin => {}
+            Command::Commit => {}
+            Command::Suspend => {}
+            Command::Resume => {}
+            Command::Undo => {}
+            Command::Redo => {}
+            Command::Value(_at) => {}
+            Command::Formula(_at) => {}
+            Command::Content(_at) => {}
+            Command::Precedents(_at) => {}
+            Command::Dependents(_at) => {}
+            Command::NameValue(_name, _sheet) => {}
+            Command::Try(_sheet, _text) => {}
+            Command::Version(_version) => {}
+        }
+    }
 }

@@ -1,6 +1,7 @@
 // How the records of a script say commands.
-ghost use Rattle.std.specs.Prelude.{◌≡◌, ◌+◌, ◌<◌, ◌≤◌, IfOk, drop, length};
+ghost use Rattle.std.specs.Prelude.{◌≡◌, ◌+◌, ◌<◌, ◌≤◌, OnOk, drop, length};
 ghost use Rattle.csv.specs.Records.{fields_of};
+ghost use Rattle.formula_parse.specs.Migrated.{migrated, migrated_name};
 ghost use Rattle.script_lang.specs.Arguments.{no_arguments, read_from};
 ghost use Rattle.script_lang.specs.Command.{Says, command_in, command_of, command_with, migrated_command, of_version, version_after, word_at, word_in};
 ghost use Rattle.script_lang.specs.internal.Reading.{field};
@@ -49,11 +50,12 @@ pub fn command_in(
 ) -> Result<Command, ScriptError>
     ensures { Says result (command_in version number (fields_of fields.now)) }
 {
-    let command = command(alloc, fields, number)?;
+    let mut command = command(alloc, fields, number)?;
     match version {
-        Version::One => Ok(migrated_command(alloc, command)?),
-        Version::Two => Ok(command),
+        Version::One => migrate(alloc, &mut command)?,
+        Version::Two => {}
     }
+    Ok(command)
 }
 
 /// The version of a script behind a command: the one that this says, or the one before.
@@ -66,33 +68,44 @@ pub fn version_after(version: Version, command: &Command) -> Version
     }
 }
 
-// A command of a script of version 1 as it is meant today.
-fn migrated_command(alloc: Global, command: Command) -> Result<Command, AllocError>
-    ensures { IfOk result (λ new. new ≡ migrated_command command) }
+// Makes of a command of a script of version 1 the one that is meant today.
+fn migrate(alloc: Global, command: &mut Command) -> Result<(), AllocError>
+    ensures { OnOk result (command.new ≡ migrated_command command.old) }
 {
     match command {
-        Command::Set(at, text) => Ok(Command::Set(at, migrated(alloc, text.as_str())?)),
-        Command::AddName(name, scope, text) => Ok(Command::AddName(
-            migrated_name(alloc, name.as_str())?,
-            scope,
-            migrated(alloc, text.as_str())?,
-        )),
-        Command::ChangeName(name, scope, text) => Ok(Command::ChangeName(
-            migrated_name(alloc, name.as_str())?,
-            scope,
-            migrated(alloc, text.as_str())?,
-        )),
-        Command::RemoveName(name, scope) => Ok(Command::RemoveName(
-            migrated_name(alloc, name.as_str())?,
-            scope,
-        )),
-        Command::NameValue(name, sheet) => Ok(Command::NameValue(
-            migrated_name(alloc, name.as_str())?,
-            sheet,
-        )),
-        Command::Try(sheet, text) => Ok(Command::Try(sheet, migrated(alloc, text.as_str())?)),
-        other => Ok(other),
+        Command::Set(_, text) => migrate_text(alloc, text),
+        Command::AddName(name, _, text) => migrate_both(alloc, name, text),
+        Command::ChangeName(name, _, text) => migrate_both(alloc, name, text),
+        Command::RemoveName(name, _) => migrate_name(alloc, name),
+        Command::NameValue(name, _) => migrate_name(alloc, name),
+        Command::Try(_, text) => migrate_text(alloc, text),
+        _ => Ok(()),
     }
+}
+
+// Takes the text of a formula along.
+fn migrate_text(alloc: Global, text: &mut Text) -> Result<(), AllocError>
+    ensures { OnOk result (text.new ≡ migrated text.old) }
+{
+    *text = migrated(alloc, text.as_str())?;
+    Ok(())
+}
+
+// Takes a name along.
+fn migrate_name(alloc: Global, name: &mut Text) -> Result<(), AllocError>
+    ensures { OnOk result (name.new ≡ migrated_name name.old) }
+{
+    *name = migrated_name(alloc, name.as_str())?;
+    Ok(())
+}
+
+// Takes a name and the text of its formula along.
+fn migrate_both(alloc: Global, name: &mut Text, text: &mut Text) -> Result<(), AllocError>
+    ensures name { OnOk result (name.new ≡ migrated_name name.old) }
+    ensures text { OnOk result (text.new ≡ migrated text.old) }
+{
+    migrate_name(alloc, name)?;
+    migrate_text(alloc, text)
 }
 
 // The word that the first field of the record of this number spells.
