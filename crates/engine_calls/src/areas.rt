@@ -16,14 +16,19 @@ use steps::Steps;
 // An application that shows a sheet asks which cells are filled, and reads these.
 pub(crate) fn areas_are_read(alloc: Global) -> Result<bool, Stop> {
     let mut engine = built(alloc, 20, NoCustoms)?;
+    are_read(alloc, &mut engine)
+}
+
+// In an engine without sheets.
+fn are_read(alloc: Global, engine: &mut Engine<NoCustoms>) -> Result<bool, Stop> {
     engine.add_sheet("Plan")?;
     engine.set(place(3, 1), "=B5*2")?;
     engine.set(place(4, 1), "21")?;
     engine.set(place(2, 4), "tax")?;
-    let found = are_found(&engine)?;
-    let shown = are_shown::<Brand>(alloc, &mut engine, Blank::new(1))?;
-    let texts = contents(alloc, &mut engine, block(3, 1))?;
-    Ok(found && shown && holds_formula(&texts) && are_listed(&mut engine)?)
+    let found = are_found(engine)?;
+    let shown = are_shown::<Brand>(alloc, engine, Blank::new(1))?;
+    let texts = contents(alloc, engine, block(3, 1))?;
+    Ok(found && shown && holds_formula(&texts) && are_listed(engine)?)
 }
 
 // Whether the filled cells are found, and how far they go.

@@ -70,19 +70,28 @@ fn counts<C: Customs, L: Ledger>(
     let mut steps = Steps::<L>::new(blank);
     let mut engine = built(alloc, 20, customs)?;
     fill(alloc, &mut engine)?;
-    let all = count_after(&mut engine, 0, calls, &mut steps)?;
+    counts_changes(&mut engine, calls, &mut steps)
+}
+
+// All formulas, then one whose number changes, and none where rows come and go or the sheet is renamed; then the others.
+fn counts_changes<C: Customs, L: Ledger>(
+    engine: &mut Engine<C>,
+    calls: &Calls,
+    steps: &mut Steps<L>,
+) -> Result<bool, Stop> {
+    let all = count_after(engine, 0, calls, steps)?;
     engine.set(place(499, 0), "2")?;
-    let one = count_after(&mut engine, 499, calls, &mut steps)?;
+    let one = count_after(engine, 499, calls, steps)?;
     engine.insert_rows(0, 499, 1)?;
-    let moved = count_after(&mut engine, 0, calls, &mut steps)?;
+    let moved = count_after(engine, 0, calls, steps)?;
     engine.undo()?;
-    let back = count_after(&mut engine, 0, calls, &mut steps)?;
+    let back = count_after(engine, 0, calls, steps)?;
     engine.rename_sheet(0, "Other")?;
-    let renamed = count_after(&mut engine, 0, calls, &mut steps)?;
-    let names = counts_users(&mut engine, calls, &mut steps)?;
-    let rows = counts_bent(&mut engine, calls, &mut steps)?;
-    let words = counts_sought(&mut engine, calls, &mut steps)?;
-    let batches = counts_batch(&mut engine, calls, &mut steps)?;
+    let renamed = count_after(engine, 0, calls, steps)?;
+    let names = counts_users(engine, calls, steps)?;
+    let rows = counts_bent(engine, calls, steps)?;
+    let words = counts_sought(engine, calls, steps)?;
+    let batches = counts_batch(engine, calls, steps)?;
     let stay = moved == 1_001 && back == 1_001 && renamed == 1_001;
     Ok(all == 1_000 && one == 1_001 && stay && names && rows && words && batches)
 }

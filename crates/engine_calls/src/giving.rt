@@ -62,6 +62,11 @@ fn are_refused(engine: &mut Engine<NoCustoms>) -> bool {
 // The apostrophe that a text needs counts as a byte of it.
 pub(crate) fn apostrophes_count(alloc: Global) -> Result<bool, Stop> {
     let mut engine = built(alloc, 20, NoCustoms)?;
+    are_counted(alloc, &mut engine)
+}
+
+// In an engine without sheets.
+fn are_counted(alloc: Global, engine: &mut Engine<NoCustoms>) -> Result<bool, Stop> {
     engine.add_sheet("Plan")?;
     let word = long_text(alloc, "x")?;
     let formula = long_text(alloc, "=")?;
@@ -82,19 +87,22 @@ fn long_text(alloc: Global, first: &str) -> Result<String, AllocError> {
 // Cells are written together: as one step, or none of them.
 pub(crate) fn cells_are_written_together(alloc: Global) -> Result<bool, Stop> {
     let mut engine = built(alloc, 20, NoCustoms)?;
+    are_written(alloc, &mut engine)
+}
+
+// In an engine without sheets.
+fn are_written(alloc: Global, engine: &mut Engine<NoCustoms>) -> Result<bool, Stop> {
     engine.add_sheet("Plan")?;
-    write_two(alloc, &mut engine, "20", place_below(0), "=A1+1")?;
-    let written = holds(&mut engine, 0, Kind::Number, "20")?
-        && holds(&mut engine, 1, Kind::Formula, "=A1+1")?;
-    write_two(alloc, &mut engine, "'=x", place_below(0), "")?;
-    let again = holds(&mut engine, 0, Kind::Text, "'=x")?
-        && holds(&mut engine, 1, Kind::Empty, "")?;
-    let refused = write_two(alloc, &mut engine, "3", place_below(1), "4");
+    write_two(alloc, engine, "20", place_below(0), "=A1+1")?;
+    let written = holds(engine, 0, Kind::Number, "20")?
+        && holds(engine, 1, Kind::Formula, "=A1+1")?;
+    write_two(alloc, engine, "'=x", place_below(0), "")?;
+    let again = holds(engine, 0, Kind::Text, "'=x")? && holds(engine, 1, Kind::Empty, "")?;
+    let refused = write_two(alloc, engine, "3", place_below(1), "4");
     let stay = refused == Err(Stop::Refused(Refusal::NoSheet))
-        && holds(&mut engine, 0, Kind::Text, "'=x")?;
+        && holds(engine, 0, Kind::Text, "'=x")?;
     engine.undo()?;
-    let back = holds(&mut engine, 0, Kind::Number, "20")?
-        && holds(&mut engine, 1, Kind::Formula, "=A1+1")?;
+    let back = holds(engine, 0, Kind::Number, "20")? && holds(engine, 1, Kind::Formula, "=A1+1")?;
     engine.undo()?;
     let filled = engine.filled_in(0)?;
     Ok(written && again && stay && back && filled.is_empty())

@@ -132,25 +132,50 @@ fn holds<L: Ledger>(
     steps: &mut Steps<L>,
 ) -> io::Result<bool> {
     let wanted = printed(rt.alloc(), case)?;
-    let ran = answer(rt.alloc(), case, given, Way::Run, steps)?;
-    if u32::from(ran.status) != case.status || ran.out.as_slice() != wanted.as_bytes() {
-        println!(rt; "    DIFFERS: {}", case.shows)?;
-        println!(rt; "        status {}, wanted {}", ran.status, case.status)?;
-        print_differences(rt, &ran.out, &wanted)?;
+    if !runs(rt, case, given, wanted.as_str(), steps)? {
         return Ok(false);
     }
-    if is_script(case) {
-        let apart = answer(rt.alloc(), case, given, Way::TakenApart, steps)?;
-        if apart.out.as_slice() != wanted.as_bytes() {
-            println!(rt; "    DIFFERS TAKEN APART: {}", case.shows)?;
-            print_differences(rt, &apart.out, &wanted)?;
-            return Ok(false);
-        }
+    if !is_script(case) {
+        println!(rt; "    {}", case.shows)?;
+        return Ok(true);
+    }
+    runs_apart(rt, case, given, wanted.as_str(), steps)
+}
+
+// Whether the program's run answers a case as it should; it prints where it doesn't.
+fn runs<L: Ledger>(
+    rt: &HostRuntime,
+    case: &Case,
+    given: &mut Given,
+    wanted: &str,
+    steps: &mut Steps<L>,
+) -> io::Result<bool> {
+    let ran = answer(rt.alloc(), case, given, Way::Run, steps)?;
+    if u32::from(ran.status) == case.status && ran.out.as_slice() == wanted.as_bytes() {
+        return Ok(true);
+    }
+    println!(rt; "    DIFFERS: {}", case.shows)?;
+    println!(rt; "        status {}, wanted {}", ran.status, case.status)?;
+    print_differences(rt, &ran.out, wanted)?;
+    Ok(false)
+}
+
+// Whether an engine that is taken apart answers it so too; it prints what the case shows, or where it differs.
+fn runs_apart<L: Ledger>(
+    rt: &HostRuntime,
+    case: &Case,
+    given: &mut Given,
+    wanted: &str,
+    steps: &mut Steps<L>,
+) -> io::Result<bool> {
+    let apart = answer(rt.alloc(), case, given, Way::TakenApart, steps)?;
+    if apart.out.as_slice() == wanted.as_bytes() {
         println!(rt; "    {} (and taken apart)", case.shows)?;
         return Ok(true);
     }
-    println!(rt; "    {}", case.shows)?;
-    Ok(true)
+    println!(rt; "    DIFFERS TAKEN APART: {}", case.shows)?;
+    print_differences(rt, &apart.out, wanted)?;
+    Ok(false)
 }
 
 // What the run of a case must print.

@@ -7,6 +7,7 @@ ghost use Rattle.custom_fn.specs.Rule.{rule_value};
 ghost use Rattle.tariffs.specs.Tariffs as tariff;
 
 use book_files::{DiskFolder, StdSink, StdSource};
+use calc_eval::Customs;
 use cell_value::Scalar;
 use sheet_cli::run;
 use std::marker::Brand;
@@ -38,8 +39,7 @@ fn main(rt: HostRuntime) -> ExitCode {
     }
 }
 
-// The status of `run` over the real folder and streams, with the words after the program's name and the program's two
-// custom functions.
+// The status of `run` with the words after the program's name and the program's two custom functions.
 fn sheetrun<L: Ledger>(rt: &HostRuntime, blank: Blank) -> io::Result<u8>
     requires name { blank.name ≡ L.name }
     requires parts { blank.parts ≡ L.parts }
@@ -47,9 +47,6 @@ fn sheetrun<L: Ledger>(rt: &HostRuntime, blank: Blank) -> io::Result<u8>
 {
     let alloc = rt.alloc();
     let mut steps = Steps::<L>::new(blank);
-    let mut folder = DiskFolder::new(rt);
-    let mut input = StdSource::new(rt);
-    let mut out = StdSink::new(rt);
     let words = words(rt)?;
     let by_weight = Box::new(
         alloc,
@@ -64,17 +61,29 @@ fn sheetrun<L: Ledger>(rt: &HostRuntime, blank: Blank) -> io::Result<u8>
         { levy(x) },
     )?;
     let registry = customs(alloc, by_weight, on_amount)?;
-    let day = today(rt);
-    Ok(run(
-        alloc,
-        &words,
+    Ok(run_outside(rt, &words, registry, &mut steps))
+}
+
+// The status of `run` over the real folder and streams.
+fn run_outside<C: Customs, L: Ledger>(
+    rt: &HostRuntime,
+    words: &[String],
+    registry: C,
+    steps: &mut Steps<L>,
+) -> u8 {
+    let mut folder = DiskFolder::new(rt);
+    let mut input = StdSource::new(rt);
+    let mut out = StdSink::new(rt);
+    run(
+        rt.alloc(),
+        words,
         &mut folder,
         &mut input,
         &mut out,
-        day,
+        today(rt),
         registry,
-        &mut steps,
-    ))
+        steps,
+    )
 }
 
 // The day of the system's clock. A clock that can't be read or that stands before 1970 gives no date, so that TODAY is
