@@ -15,6 +15,7 @@ comments. What stands in a specs/internal/ is for the proofs of bodies alone: a 
 """
 import re
 import sys
+from functools import cache
 from pathlib import Path
 
 ROOT = Path(__file__).resolve().parent.parent
@@ -43,6 +44,7 @@ PARTS = {
 }
 PROMISES = "the engine's own promises"
 USE = re.compile(r"^\s*(?:pub )?(?:ghost )?use Rattle\.(\w+)\.specs\.([\w.]+?)(?:\.\{([^}]*)\})?(?: as (\w+))?;?\s*(?:--.*)?$")
+PASSED = re.compile(r"^pub use Rattle\.(\w+)\.specs\.([\w.]+?)(?: as (\w+))?$", re.M)
 WORD = re.compile(r"[\w-]+(?:\.[\w-]+)*")
 
 
@@ -50,6 +52,23 @@ def file_of(crate, module):
     """The file of a module of definitions; none for what is declared by the program's own types."""
     path = ROOT / "crates" / crate / "specs" / (module.replace(".", "/") + ".antt")
     return path if path.is_file() else None
+
+
+@cache
+def passed_on(crate):
+    """The modules of other crates that a crate hands on as its own, and where each of them stands."""
+    path = ROOT / "crates" / crate / "specs/Lib.antt"
+    found = PASSED.findall(path.read_text()) if path.is_file() else []
+    return {alias or module.split(".")[-1]: (low, module) for low, module, alias in found}
+
+
+def home_of(crate, module):
+    """Where a module stands that a crate may have handed on."""
+    first, *rest = module.split(".")
+    if first not in passed_on(crate):
+        return crate, module
+    low, name = passed_on(crate)[first]
+    return home_of(low, ".".join([name, *rest]))
 
 
 def uses(lines):
@@ -60,10 +79,11 @@ def uses(lines):
         if not match:
             continue
         crate, module, listed, alias = match.groups()
+        place = home_of(crate, module)
         if alias:
-            modules[alias] = (crate, module)
+            modules[alias] = place
         for name in (listed or "").split(","):
-            names[name.strip()] = (crate, module)
+            names[name.strip()] = place
     return names, modules
 
 

@@ -8,13 +8,13 @@ use Rattle.book_model.specs.Refusals.{cause}
 use Rattle.book_model.specs.Session.{done, next, unless_refused}
 use Rattle.book_model.specs.Workbook.{State}
 use Rattle.book_model.specs.declared.refusal.Refusal.{Refusal}
-use Rattle.session_operations.specs.Turns.{Answered}
+use Rattle.book_engine.specs.Turns.{Answered}
 use Rattle.book_engine.specs.Calls.{Stays}
 use Rattle.book_engine.specs.Engine.{Does, StandsFor}
 use Rattle.book_engine.specs.Kept.{KeepsLine, KeepsValues}
 use Rattle.book_engine.specs.declared.engine.Engine.{Engine}
-use Rattle.session_operations.specs.declared.stop.Stop.{Stop}
-use Rattle.session_operations.specs.declared.stop.Stop.TheVariants.{Refused, NoMemory}
+use Rattle.book_engine.specs.Stop.{Stop}
+use Rattle.book_engine.specs.Stop.TheVariants.{Refused, NoMemory}
 use Rattle.book_engine.proofs.IdleReads.{line_on, line_same, values_on, values_same}
 use Rattle.area_reads.specs.Reads.{AreQuiet}
 

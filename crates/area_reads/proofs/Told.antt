@@ -10,9 +10,9 @@ use Rattle.book_model.specs.Operation as op
 use Rattle.book_model.specs.Refusals.{cause}
 use Rattle.book_model.specs.Workbook.{State}
 use Rattle.book_engine.specs.Areas.{filled_in_block}
-use Rattle.session_operations.specs.Turns.{Answered}
-use Rattle.session_operations.specs.declared.stop.Stop.{Stop}
-use Rattle.session_operations.specs.declared.stop.Stop.TheVariants.{Refused, NoMemory}
+use Rattle.book_engine.specs.Turns.{Answered}
+use Rattle.book_engine.specs.Stop.{Stop}
+use Rattle.book_engine.specs.Stop.TheVariants.{Refused, NoMemory}
 use Rattle.book_engine.proofs.FilledPlaces.{each_passes}
 use Rattle.area_reads.specs.Reads.{contents_at, contents_in}
 use Rattle.area_reads.proofs.Accepted.{at_accepted}

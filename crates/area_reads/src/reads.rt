@@ -4,7 +4,7 @@ ghost use Rattle.std.specs.List.{All};
 ghost use Rattle.book_model.specs.Operation as op;
 ghost use Rattle.book_model.specs.Refusals.{cause};
 ghost use Rattle.book_model.specs.Workbook.{State};
-ghost use Rattle.session_operations.specs.Turns.{Answered};
+ghost use Rattle.book_engine.specs.Turns.{Answered};
 ghost use Rattle.book_engine.specs.Engine.{StandsFor};
 ghost use Rattle.area_reads.specs.Reads.{AreOneRead, AreQuiet, contents_at, contents_in, values_cause, values_in};
 

@@ -5,7 +5,7 @@ use Rattle.calc_eval.specs.declared.customs.Customs.{Ghosts}
 use Rattle.book_model.specs.Session.{next}
 use Rattle.book_engine.specs.Calls.{AnyCallsFollow, CallsLead, start, asked, wanted}
 use Rattle.book_engine.specs.declared.engine.Engine.{Engine}
-use Rattle.session_operations.specs.declared.stop.Stop.TheVariants.{Refused, NoMemory}
+use Rattle.session_questions.specs.Stop.TheVariants.{Refused, NoMemory}
 
 pub lead : {C : Type 0} {G : Ghosts C} (customs : C → List (List ℕ × Rule)) (X : Type 0) (e : Engine C G) → CallsLead customs X e
 lead customs X old op new (Ok x) does = λ d stands. (does d stands).2

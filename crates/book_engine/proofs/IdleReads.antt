@@ -13,11 +13,11 @@ use Rattle.dep_graph.specs.Walks.{IsOnce}
 use Rattle.dep_graph.specs.declared.node.Node.{Node}
 use Rattle.recalc_core.specs.Nodes.{node_at}
 use Rattle.recalc_core.specs.Steps.{cost_of, node_cost}
-use Rattle.marked_values.specs.Marks.{ReachesMark}
-use Rattle.kept_values.specs.Values.{marks_in}
-use Rattle.kept_values.specs.declared.values.Values.{Values}
-use Rattle.session_values.specs.Following.{book_of, words_in}
-use Rattle.session_values.specs.Refreshed.{IsUnmarked, TakesStepsIn}
+use Rattle.session_questions.specs.Marks.{ReachesMark}
+use Rattle.session_questions.specs.Values.{marks_in}
+use Rattle.session_questions.specs.KeptValues.{Values}
+use Rattle.session_questions.specs.Following.{book_of, words_in}
+use Rattle.session_questions.specs.Refreshed.{IsUnmarked, TakesStepsIn}
 use Rattle.shift_line.specs.Track.{Track, with_spare}
 use Rattle.book_engine.specs.Kept.{IsIdle, KeepsLine, KeepsValues, WorksOut, session_kept, values_kept}
 use Rattle.book_engine.specs.declared.engine.Engine.{Engine}

@@ -3,10 +3,5 @@ pub mod KeptLine
 pub mod GivenExamples
 pub mod TakenApart
 pub mod AnyCalls
-pub mod LeastAreas
-pub mod FilledPlaces
-pub mod ShownCells
-pub mod ListedNames
-pub mod UsedNames
 pub mod IdleReads
-pub mod WrongTexts
+pub use Rattle.session_questions.proofs.FilledPlaces

@@ -12,7 +12,7 @@ use Rattle.clip_board.specs.declared.clip.CopyList.{CopyList}
 use Rattle.shift_core.specs.Carried.{destination}
 use Rattle.shift_core.specs.declared.shift.Shift.TheVariants.{MoveBlock}
 use Rattle.book_engine.specs.Kept.{MarksCellsAtMost, MarksOperation, MarksPaste}
-use Rattle.session_operations.specs.Seen.{area_moving, clip_of}
+use Rattle.session_questions.specs.Seen.{area_moving, clip_of}
 use Rattle.book_engine.specs.declared.engine.Engine.{Engine}
 
 module _ {C X E : Type 0} {G : Ghosts C} (r : Result X E) (clip : Clip) (at : Place) (old new : Engine C G) where

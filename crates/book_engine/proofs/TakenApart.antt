@@ -8,8 +8,8 @@ use Rattle.book_model.specs.Sound.{IsSound}
 use Rattle.book_model.specs.Workbook.{State}
 use Rattle.kept_book.specs.Ids.{AreBelow, AreLive}
 use Rattle.kept_steps.specs.Fits.{AreSteps}
-use Rattle.session_values.specs.Following.{FollowsIn}
-use Rattle.session_operations.specs.Seen.{CanPaste}
+use Rattle.session_questions.specs.Following.{FollowsIn}
+use Rattle.session_questions.specs.Seen.{CanPaste}
 use Rattle.book_engine.specs.TakenApart.{FitParts, frame_among, state_among, steps_among, timeline_among}
 use Rattle.book_engine.specs.declared.taken_apart.EngineParts.{EngineParts}
 

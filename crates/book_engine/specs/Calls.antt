@@ -6,10 +6,10 @@ use Rattle.book_model.specs.Operation.{Operation}
 use Rattle.book_model.specs.Session.{after_all, next}
 use Rattle.book_model.specs.Workbook.{State}
 use Rattle.book_engine.specs.Engine.{Does, StandsFor}
-use Rattle.session_operations.specs.Turns.{NoAnswer}
+use Rattle.session_questions.specs.Turns.{NoAnswer}
 use Rattle.book_engine.specs.declared.engine.Engine.{Engine}
-use Rattle.session_operations.specs.declared.stop.Stop.{Stop}
-use Rattle.session_operations.specs.declared.stop.Stop.TheVariants.{NoMemory}
+use Rattle.session_questions.specs.Stop.{Stop}
+use Rattle.session_questions.specs.Stop.TheVariants.{NoMemory}
 
 -- the second engine is in the session after the first one's
 abbrev pub Leads : {C : Type 0} {G : Ghosts C} → (C → List (List ℕ × Rule)) → Operation → Engine C G → Engine C G → Type 0

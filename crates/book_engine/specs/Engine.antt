@@ -7,11 +7,11 @@ use Rattle.book_model.specs.Operation.{Operation}
 use Rattle.book_model.specs.Refusals.{cause}
 use Rattle.book_model.specs.Session.{next}
 use Rattle.book_model.specs.Workbook.{State}
-use Rattle.session_operations.specs.Seen.{with_rules}
-use Rattle.session_operations.specs.Seen.{clip_of, state_of, with_clipboard}
+use Rattle.session_questions.specs.Seen.{with_rules}
+use Rattle.session_questions.specs.Seen.{clip_of, state_of, with_clipboard}
 use Rattle.book_engine.specs.declared.engine.Engine.{Engine}
-use Rattle.session_operations.specs.declared.stop.Stop.{Stop}
-use Rattle.session_operations.specs.declared.stop.Stop.TheVariants.{Refused, NoMemory}
+use Rattle.session_questions.specs.Stop.{Stop}
+use Rattle.session_questions.specs.Stop.TheVariants.{Refused, NoMemory}
 
 -- the engine, which holds these custom functions, is in this session; who calls the engine never looks inside
 unfoldable pub StandsFor : {C : Type 0} {G : Ghosts C} → (C → List (List ℕ × Rule)) → Engine C G → State → Type 0

@@ -20,14 +20,14 @@ use Rattle.shift_core.specs.Carried.{destination}
 use Rattle.shift_core.specs.declared.shift.Shift.{Shift}
 use Rattle.shift_core.specs.declared.shift.Shift.TheVariants.{MoveBlock}
 use Rattle.calc_eval.specs.declared.customs.Customs.{Ghosts}
-use Rattle.kept_values.specs.Values.{marks_in, merged_in}
-use Rattle.kept_values.specs.declared.values.Values.{Values}
-use Rattle.session_values.specs.Naming.{MarksAddition, MarksChange, MarksRemoval}
-use Rattle.session_values.specs.Refreshed.{IsUnmarked}
-use Rattle.session_values.specs.Touched.{AreTouched, AreTouchedAtMost}
-use Rattle.session_operations.specs.Kept.{KeepsLineIn, LeavesLineIn, MarksAlong, MarksRedoneIn, MarksUndoneIn, TriesOutIn, WorksOutIn}
+use Rattle.session_questions.specs.Values.{marks_in, merged_in}
+use Rattle.session_questions.specs.KeptValues.{Values}
+use Rattle.session_questions.specs.Naming.{MarksAddition, MarksChange, MarksRemoval}
+use Rattle.session_questions.specs.Refreshed.{IsUnmarked}
+use Rattle.session_questions.specs.Touched.{AreTouched, AreTouchedAtMost}
+use Rattle.session_questions.specs.Kept.{KeepsLineIn, LeavesLineIn, MarksAlong, MarksRedoneIn, MarksUndoneIn, TriesOutIn, WorksOutIn}
 use Rattle.book_engine.specs.declared.engine.Engine.{Engine}
-use Rattle.session_operations.specs.declared.stop.Stop.{Stop}
+use Rattle.session_questions.specs.Stop.{Stop}
 
 -- the session of an engine
 abbrev pub session_kept : {C : Type 0} {G : Ghosts C} → Engine C G → Session

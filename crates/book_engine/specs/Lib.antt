@@ -1,8 +1,13 @@
 pub mod Engine
 pub mod Kept
-pub mod Areas
-pub mod Formulas
 pub mod Cause
 pub mod TakenApart
 pub mod Calls
 pub mod internal
+pub use Rattle.session_questions.specs.Turns
+pub use Rattle.session_questions.specs.Stop
+pub use Rattle.session_questions.specs.Seen
+pub use Rattle.session_questions.specs.Areas
+pub use Rattle.session_questions.specs.Formulas
+pub use Rattle.session_questions.specs.declared.areas.Kind
+pub use Rattle.session_questions.specs.declared.listing.NameEntry

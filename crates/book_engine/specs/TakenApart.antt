@@ -19,9 +19,9 @@ use Rattle.kept_book.specs.Ids.{AreBelow, AreLive}
 use Rattle.kept_book.specs.Kept.{id_of}
 use Rattle.kept_steps.specs.Fits.{AreSteps, session_of}
 use Rattle.kept_steps.specs.Timeline.{Timeline}
-use Rattle.session_values.specs.Following.{FollowsIn}
-use Rattle.session_operations.specs.Seen.{with_rules}
-use Rattle.session_operations.specs.Seen.{CanPaste, clip_of, with_clipboard}
+use Rattle.session_questions.specs.Following.{FollowsIn}
+use Rattle.session_questions.specs.Seen.{with_rules}
+use Rattle.session_questions.specs.Seen.{CanPaste, clip_of, with_clipboard}
 use Rattle.calc_eval.specs.declared.customs.Customs.{Ghosts}
 use Rattle.book_engine.specs.declared.engine.Engine.{Engine}
 use Rattle.book_engine.specs.declared.taken_apart.EngineParts.{EngineParts}

@@ -2,6 +2,3 @@
 pub mod Props
 pub mod FitsProp
 pub mod FollowProp
-pub mod Areas
-pub mod Listing
-pub mod ShownCells

@@ -4,16 +4,16 @@ ghost use Rattle.book_model.specs.Operation as op;
 ghost use Rattle.book_model.specs.Refusals.{cause};
 ghost use Rattle.book_model.specs.Workbook.{State};
 ghost use Rattle.book_model.specs.declared.refusal.Refusal.{Refusal as RefusalSeen};
-ghost use Rattle.session_operations.specs.Turns.{Answered};
+ghost use Rattle.session_questions.specs.Turns.{Answered};
 ghost use Rattle.book_engine.specs.Cause.{operation_of};
-ghost use Rattle.session_operations.specs.Seen.{Fits, clip_of, state_of, with_clipboard};
+ghost use Rattle.session_questions.specs.Seen.{Fits, clip_of, state_of, with_clipboard};
 
 use crate::engine::Engine;
 use book_model::Refusal;
 use calc_eval::Customs;
 use cell_addr::{Block, Place};
 use clip_board::Clip;
-use session_operations::{Parts, Stop, Waiting};
+use session_questions::{Parts, Stop, Waiting};
 use shift_core::Shift;
 use std::alloc::AllocError;
 

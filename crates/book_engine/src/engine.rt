@@ -12,8 +12,8 @@ ghost use Rattle.book_model.specs.Operation as op;
 ghost use Rattle.book_model.specs.Workbook.{State, first_sheet};
 ghost use Rattle.book_model.specs.Sound.{IsLinkInside};
 ghost use Rattle.book_model.specs.declared.limits.TheConstants.{MAX_UNDO};
-ghost use Rattle.session_operations.specs.Seen.{Fits, ValuesFollow, with_clipboard};
-ghost use Rattle.session_values.specs.Refreshed.{IsUnmarked};
+ghost use Rattle.session_questions.specs.Seen.{Fits, ValuesFollow, with_clipboard};
+ghost use Rattle.session_questions.specs.Refreshed.{IsUnmarked};
 ghost use Rattle.book_engine.specs.internal.FitsProp.{fits-prop};
 ghost use Rattle.book_engine.specs.internal.FollowProp.{follow-prop};
 
@@ -26,7 +26,7 @@ use dep_graph::Nodes;
 use formula_tree::Link;
 use kept_steps::Entry;
 use lazy_store::Stored;
-use session_operations::{Parts, Stop, Waiting};
+use session_questions::{Parts, Stop, Waiting, dependents, precedents};
 use shift_core::Shift;
 use shift_line::Line;
 use std::alloc::{AllocError, Global};
@@ -91,9 +91,9 @@ impl<C: Customs> Engine<C> {
 #[tactic(auto, unfolding(crate::specs::Engine::StandsFor))]
 impl<C: Customs> Engine<C> {
     ghost use Rattle.book_engine.specs.Engine.{Does, DoesAlways, StandsFor};
-    ghost use Rattle.session_operations.specs.Turns.{NoAnswer};
+    ghost use Rattle.session_questions.specs.Turns.{NoAnswer};
     ghost use Rattle.book_engine.specs.Kept.{GoesOn, KeepsAll, KeepsAtPaste, KeepsAtShift, KeepsEarlier, KeepsElsewhere, KeepsInUse, KeepsLine, KeepsValues, LeavesLine, MarksCells, MarksNameAdded, MarksNameChanged, MarksNameRemoved, MarksOperation, MarksPaste, MarksRedone, MarksUndone, TriesOut, WorksOut, book_kept, marks_kept, merged_kept, stored_by, values_kept};
-    ghost use Rattle.session_operations.specs.Kept.{whole_sheet};
+    ghost use Rattle.session_questions.specs.Kept.{whole_sheet};
 
     /// The engine of a workbook with these sheets, numbered from 0 in their order, and these texts in their cells. All
     /// formulas are read when all sheets are there. At most `limit` steps can be undone, which is at most 1,000. Formulas
@@ -624,7 +624,7 @@ impl<C: Customs> Engine<C> {
         ensures kept { KeepsElsewhere at self.old self.new }
         ensures values { KeepsValues self.old self.new }
     {
-        self.parts.precedents(at)
+        precedents(&mut self.parts, at)
     }
 
     /// The cells and then the names whose formulas need a cell by a reference or a range of their own: cells by the number
@@ -640,7 +640,7 @@ impl<C: Customs> Engine<C> {
         ensures line { KeepsLine self.old self.new }
         ensures inside { IfOk result (λ links. All IsLinkInside links.items) }
     {
-        self.parts.dependents(at)
+        dependents(&mut self.parts, at)
     }
 
     /// The number of the sheet of this name, in any case of its ASCII letters.

@@ -4,13 +4,13 @@ ghost use Rattle.cell_value.specs.Scalar.{truth_text};
 ghost use Rattle.fix_num.specs.Text.{text_of};
 ghost use Rattle.book_model.specs.Content.{text_given};
 ghost use Rattle.book_model.specs.Operation as op;
-ghost use Rattle.session_operations.specs.Turns.{NoAnswer};
+ghost use Rattle.session_questions.specs.Turns.{NoAnswer};
 
 use crate::engine::Engine;
 use calc_eval::Customs;
 use cell_addr::Place;
 use fix_num::Fixed;
-use session_operations::Stop;
+use session_questions::Stop;
 
 #[tactic(auto, unfolding(crate::specs::Engine::StandsFor))]
 impl<C: Customs> Engine<C> {

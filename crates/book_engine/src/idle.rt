@@ -1,11 +1,11 @@
 // Idle time, spent on formulas that weren't read since operations went past them.
 ghost use Rattle.std.specs.Prelude.{◌≡◌, ◌↔◌, true, IfOk, OnOk};
 ghost use Rattle.lazy_store.specs.Store as store;
-ghost use Rattle.session_operations.specs.Seen.{Fits, ValuesFollowStill, state_of};
+ghost use Rattle.session_questions.specs.Seen.{Fits, ValuesFollowStill, state_of};
 
 use crate::engine::Engine;
 use calc_eval::Customs;
-use session_operations::Parts;
+use session_questions::Parts;
 use std::alloc::AllocError;
 
 #[tactic(auto, unfolding(crate::specs::Engine::StandsFor))]

@@ -29,10 +29,8 @@ mod shown_cells;
 mod taken_apart;
 mod writing;
 
-pub use areas::Kind;
 pub use cause::Change;
 pub use engine::Engine;
-pub use listing::NameEntry;
 pub use taken_apart::EngineParts;
 
 // What callers need of the crates below, so that an application lists this crate alone.
@@ -45,6 +43,6 @@ pub use fix_num::Fixed;
 pub use formula_parse::TextSpan;
 pub use formula_tree::Link;
 pub use kept_steps::Entry;
-pub use session_operations::Stop;
+pub use session_questions::{Kind, NameEntry, Stop};
 pub use shift_core::Shift;
 pub use steps::Steps;

@@ -10,11 +10,9 @@ use formula_tree::Pool;
 use grid_store::{Cell, Grid};
 use kept_book::Book;
 use kept_steps::{Entry, Session};
-use kept_values::Values;
 use lazy_store::Lazy;
 use name_table::Names;
-use session_operations::{Parts, Waiting};
-use session_values::SessionValues;
+use session_questions::{Parts, SessionValues, Values, Waiting};
 use std::alloc::Global;
 use undo_book::UndoBook;
 
@@ -59,7 +57,7 @@ pub struct EngineParts<C> {
 #[tactic(auto, unfolding(crate::specs::Engine::StandsFor))]
 impl<C: Customs> Engine<C> {
     ghost use Rattle.book_engine.specs.Engine.{StandsFor};
-    ghost use Rattle.kept_values.specs.Values.{marks_in};
+    ghost use Rattle.session_questions.specs.Values.{marks_in};
     ghost use Rattle.book_engine.specs.Kept.{book_kept, marks_kept, merged_in_any, merged_kept, session_kept, stored_by};
     ghost use Rattle.book_engine.specs.TakenApart.{FitParts, parts_of, stored_among};
 

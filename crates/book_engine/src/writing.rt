@@ -1,13 +1,13 @@
 // Many cells that are given what texts say, all of them or none.
 ghost use Rattle.book_model.specs.Changes.{HaveDistinctPlaces};
 ghost use Rattle.book_model.specs.Operation as op;
-ghost use Rattle.session_values.specs.Touched.{is_place_of};
-ghost use Rattle.session_operations.specs.Turns.{NoAnswer};
+ghost use Rattle.session_questions.specs.Touched.{is_place_of};
+ghost use Rattle.session_questions.specs.Turns.{NoAnswer};
 
 use crate::engine::Engine;
 use calc_eval::Customs;
 use cell_addr::{Place, Text};
-use session_operations::Stop;
+use session_questions::Stop;
 
 #[tactic(auto, unfolding(crate::specs::Engine::StandsFor))]
 impl<C: Customs> Engine<C> {

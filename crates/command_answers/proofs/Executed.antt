@@ -11,8 +11,8 @@ use Rattle.book_model.specs.declared.refusal.Refusal.{Refusal}
 use Rattle.book_model.specs.Workbook.{State}
 use Rattle.book_engine.specs.Engine.{Does}
 use Rattle.book_engine.specs.declared.engine.Engine.{Engine}
-use Rattle.session_operations.specs.declared.stop.Stop.{Stop}
-use Rattle.session_operations.specs.declared.stop.Stop.TheVariants.{Refused, NoMemory}
+use Rattle.book_engine.specs.Stop.{Stop}
+use Rattle.book_engine.specs.Stop.TheVariants.{Refused, NoMemory}
 use Rattle.script_lang.specs.declared.commands.Command.{Command}
 use Rattle.command_answers.specs.internal.Answers.{DoesFor}
 use Rattle.command_answers.specs.Sessions.{Keeps}

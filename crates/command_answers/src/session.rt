@@ -6,7 +6,7 @@ ghost use Rattle.book_model.specs.Sound.{IsLinkInside};
 ghost use Rattle.book_model.specs.Workbook.{State};
 ghost use Rattle.cell_value.specs.Scalar.{shown_text};
 ghost use Rattle.book_engine.specs.Engine.{StandsFor};
-ghost use Rattle.session_operations.specs.Turns.{NoAnswer};
+ghost use Rattle.book_engine.specs.Turns.{NoAnswer};
 ghost use Rattle.script_lang.specs.Lines.{line_of};
 ghost use Rattle.script_lang.specs.declared.commands.Command.TheVariants as command;
 ghost use Rattle.command_answers.specs.Asked.{block_of, place_of, scope_named, sheet_named, sheet_of};

@@ -4,8 +4,8 @@ use Rattle.std.specs.Prelude.{Result, Ok, Err}
 use Rattle.book_model.specs.Operation.{Operation}
 use Rattle.book_model.specs.Workbook.{State}
 use Rattle.book_engine.specs.Engine.{Does}
-use Rattle.session_operations.specs.declared.stop.Stop.{Stop}
-use Rattle.session_operations.specs.declared.stop.Stop.TheVariants as stop
+use Rattle.book_engine.specs.Stop.{Stop}
+use Rattle.book_engine.specs.Stop.TheVariants as stop
 use Rattle.rule_table.specs.Rules.{rules_of}
 use Rattle.engine_face.specs.Session.{AsksFor, Told, Wrote}
 use Rattle.engine_face.specs.Shown.{EndFits, EndTold, filled, fits}

@@ -5,8 +5,8 @@ use Rattle.book_model.specs.Session.{done, next, unless_refused}
 use Rattle.book_model.specs.Workbook.{State}
 use Rattle.book_model.specs.declared.refusal.Refusal.{Refusal}
 use Rattle.book_engine.specs.Engine.{Does}
-use Rattle.session_operations.specs.declared.stop.Stop.{Stop}
-use Rattle.session_operations.specs.declared.stop.Stop.TheVariants as stop
+use Rattle.book_engine.specs.Stop.{Stop}
+use Rattle.book_engine.specs.Stop.TheVariants as stop
 use Rattle.rule_table.specs.Rules.{rules_of}
 use Rattle.engine_face.specs.Session.{Asks, Told}
 use Rattle.engine_face.specs.Shown.{EndTold}

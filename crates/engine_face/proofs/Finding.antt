@@ -3,9 +3,9 @@
 use Rattle.std.proofs.Common.{◌≡◌, ◌∙◌, sym, ap, subst, refl, ℕ, true, length, List, Option, Result, Ok, Err}
 use Rattle.book_model.specs.Workbook.{State}
 use Rattle.book_model.specs.declared.refusal.Refusal.{Refusal}
-use Rattle.session_operations.specs.Turns.{Answered}
-use Rattle.session_operations.specs.declared.stop.Stop.{Stop}
-use Rattle.session_operations.specs.declared.stop.Stop.TheVariants as stop
+use Rattle.book_engine.specs.Turns.{Answered}
+use Rattle.book_engine.specs.Stop.{Stop}
+use Rattle.book_engine.specs.Stop.TheVariants as stop
 use Rattle.engine_face.specs.Lists.{Made}
 use Rattle.engine_face.specs.Session.{Finds, Stands, Stays, Tells, Told, Wrote}
 use Rattle.engine_face.specs.Shown.{EndFits, EndTold, filled, fits}

@@ -6,8 +6,8 @@ use Rattle.book_model.specs.Operation.{Operation}
 use Rattle.book_model.specs.Session.{next}
 use Rattle.book_model.specs.Workbook.{State}
 use Rattle.book_engine.specs.Engine.{Does}
-use Rattle.session_operations.specs.declared.stop.Stop.{Stop}
-use Rattle.session_operations.specs.declared.stop.Stop.TheVariants as stop
+use Rattle.book_engine.specs.Stop.{Stop}
+use Rattle.book_engine.specs.Stop.TheVariants as stop
 use Rattle.rule_table.specs.Rules.{rules_of}
 use Rattle.engine_face.specs.Links.{EndCounts, EndLinks, LinksTold, ListFits, link_counts, link_rows, link_word, link_words}
 use Rattle.engine_face.specs.Session.{AsksFor, Stands, Told, Wrote}

@@ -5,10 +5,10 @@ use Rattle.cell_addr.specs.declared.place.Place.{Place}
 use Rattle.cell_value.specs.declared.scalar.Scalar.{Scalar}
 use Rattle.book_model.specs.Workbook.{State}
 use Rattle.book_model.specs.declared.refusal.Refusal.{Refusal}
-use Rattle.session_operations.specs.Turns.{Answered}
-use Rattle.book_engine.specs.declared.listing.NameEntry.{NameEntry}
-use Rattle.session_operations.specs.declared.stop.Stop.{Stop}
-use Rattle.session_operations.specs.declared.stop.Stop.TheVariants as stop
+use Rattle.book_engine.specs.Turns.{Answered}
+use Rattle.book_engine.specs.NameEntry.{NameEntry}
+use Rattle.book_engine.specs.Stop.{Stop}
+use Rattle.book_engine.specs.Stop.TheVariants as stop
 use Rattle.engine_face.specs.Areas.{place_rows}
 use Rattle.engine_face.specs.Lists.{AreCells, AreNames, EndList, Made, as_names, as_texts, cell_rows, cell_texts, list_sizes, name_rows, name_words, words_or_none}
 use Rattle.engine_face.specs.Session.{Finds, Stands, Stays, Told, Wrote}

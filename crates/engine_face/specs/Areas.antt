@@ -7,8 +7,8 @@ use Rattle.formula_parse.specs.declared.wrong.TextSpan.{TextSpan}
 use Rattle.book_model.specs.Workbook.{State, Workbook}
 use Rattle.book_engine.specs.Areas.{IsUsedArea, cyclic_on_sheet, filled_in_block, filled_on_sheet, kind_of}
 use Rattle.book_engine.specs.Formulas.{TellsWrong}
-use Rattle.book_engine.specs.declared.areas.Kind.{Kind}
-use Rattle.book_engine.specs.declared.areas.Kind.TheVariants as kind
+use Rattle.book_engine.specs.Kind.{Kind}
+use Rattle.book_engine.specs.Kind.TheVariants as kind
 use Rattle.engine_face.specs.declared.areas.PlaceRow.{PlaceRow}
 use Rattle.engine_face.specs.declared.areas.UsedArea.{UsedArea}
 use Rattle.engine_face.specs.declared.wrong.WrongPart.{WrongPart}

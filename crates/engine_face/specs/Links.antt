@@ -12,7 +12,7 @@ use Rattle.engine_face.specs.declared.status.Status.{Status}
 use Rattle.engine_face.specs.declared.status.Status.TheVariants.{Done, NoMemory, NoRoom}
 use Rattle.engine_face.specs.Shown.{filled, fits}
 use Rattle.engine_face.specs.Status.{status_of_stop}
-use Rattle.session_operations.specs.declared.stop.Stop.{Stop}
+use Rattle.book_engine.specs.Stop.{Stop}
 
 -- the word of a name; no bytes of any other link
 abbrev pub link_word : Link → List ℕ

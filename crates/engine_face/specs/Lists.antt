@@ -9,9 +9,9 @@ use Rattle.book_values.specs.Names.{key_of}
 use Rattle.book_model.specs.Workbook.{State}
 use Rattle.book_engine.specs.Areas.{entries_of, name_text_of}
 use Rattle.book_engine.specs.Formulas.{names_used_of, normal_text_of}
-use Rattle.book_engine.specs.declared.listing.NameEntry.{NameEntry}
-use Rattle.session_operations.specs.declared.stop.Stop.{Stop}
-use Rattle.session_operations.specs.declared.stop.Stop.TheVariants.{NoMemory}
+use Rattle.book_engine.specs.NameEntry.{NameEntry}
+use Rattle.book_engine.specs.Stop.{Stop}
+use Rattle.book_engine.specs.Stop.TheVariants.{NoMemory}
 use Rattle.area_reads.specs.Reads.{contents_in, values_in}
 use Rattle.engine_face.specs.Links.{ListFits}
 use Rattle.engine_face.specs.Shown.{shown_value, text_or_none, value_text}

@@ -16,7 +16,7 @@ use Rattle.book_model.specs.declared.refusal.Refusal.{Refusal}
 use Rattle.book_model.specs.declared.refusal.Refusal.TheVariants.{NoSheet}
 use Rattle.book_engine.specs.Engine.{StandsFor}
 use Rattle.book_engine.specs.Kept.{AreCaughtUp, ComeToCursor, GoOnWithin}
-use Rattle.session_operations.specs.Seen.{with_clipboard}
+use Rattle.book_engine.specs.Seen.{with_clipboard}
 use Rattle.rule_table.specs.Rules.{rules_of}
 use Rattle.engine_face.specs.Shown.{Fits, filled, truth_bit}
 use Rattle.engine_face.specs.declared.session.Session.{Session}

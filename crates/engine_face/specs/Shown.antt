@@ -4,7 +4,7 @@ use Rattle.cell_value.specs.declared.fault.FaultKind.{FaultKind}
 use Rattle.cell_value.specs.declared.fault.FaultKind.TheVariants as fault
 use Rattle.cell_value.specs.declared.scalar.Scalar.{Scalar}
 use Rattle.cell_value.specs.declared.scalar.Scalar.TheVariants.{Empty, Number, Text, Truth, Fault}
-use Rattle.session_operations.specs.declared.stop.Stop.{Stop}
+use Rattle.book_engine.specs.Stop.{Stop}
 use Rattle.engine_face.specs.Status.{status_of_stop}
 use Rattle.engine_face.specs.declared.shown.Shown.{Shown}
 use Rattle.engine_face.specs.declared.status.Status.{Status}

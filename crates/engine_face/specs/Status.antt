@@ -3,8 +3,8 @@ use Rattle.std.specs.Prelude.{ℕ, ◌==◌, List, [], ◌∷◌, map, find, unw
 use Rattle.book_model.specs.declared.refusal.Refusal.TheVariants as refusal
 use Rattle.book_model.specs.declared.refusal.Refusal.{Refusal}
 use Rattle.book_model.specs.RefusalNames.{refusal_number}
-use Rattle.session_operations.specs.declared.stop.Stop as stops
-use Rattle.session_operations.specs.declared.stop.Stop.TheVariants as stop
+use Rattle.book_engine.specs.Stop as stops
+use Rattle.book_engine.specs.Stop.TheVariants as stop
 use Rattle.engine_face.specs.declared.status.Status.{Status}
 use Rattle.engine_face.specs.declared.status.Status.TheVariants.{Done, Refused, NoMemory, NoRoom, NotOpen, NotUtf8, BadLimit, BadTable, StillOpen, BadNumber, BadCells, BadChange}
 

@@ -3,7 +3,7 @@ ghost use Rattle.std.specs.Prelude.{◌≡◌, ◌<◌, ◌&&◌, IfOk};
 ghost use Rattle.book_model.specs.Operation as op;
 ghost use Rattle.book_model.specs.Refusals.{cause};
 ghost use Rattle.book_model.specs.Workbook.{State};
-ghost use Rattle.session_operations.specs.Turns.{Answered};
+ghost use Rattle.book_engine.specs.Turns.{Answered};
 ghost use Rattle.book_engine.specs.Engine.{StandsFor};
 ghost use Rattle.area_reads.specs.Reads.{values_cause, values_in};
 ghost use Rattle.cell_value.specs.declared.scalar.Scalar.TheVariants as scalars;

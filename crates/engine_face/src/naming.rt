@@ -4,7 +4,7 @@ ghost use Rattle.book_model.specs.Operation as op;
 ghost use Rattle.book_model.specs.Refusals.{cause};
 ghost use Rattle.book_model.specs.Workbook.{State};
 ghost use Rattle.book_engine.specs.Areas.{entries_of};
-ghost use Rattle.session_operations.specs.Turns.{Answered};
+ghost use Rattle.book_engine.specs.Turns.{Answered};
 ghost use Rattle.book_engine.specs.Engine.{StandsFor};
 ghost use Rattle.book_engine.specs.Formulas.{text_cause};
 ghost use Rattle.rule_table.specs.Rules.{rules_of};

@@ -25,12 +25,12 @@ use Rattle.dep_graph.specs.declared.node.Node.{Node}
 use Rattle.recalc_core.specs.Edits.{DifferInName}
 use Rattle.recalc_core.specs.Laws.{AreKnown}
 use Rattle.recalc_core.specs.Nodes.{AreNumbered}
-use Rattle.marked_values.specs.Shifts.{IsBookAfter}
-use Rattle.marked_books.proofs.Contents.{unpasted}
-use Rattle.marked_books.proofs.Naming.{named_differ, named_now, stood}
-use Rattle.marked_books.proofs.Shifting.{accepted_shifts_lead_on, sessions_are_inside}
-use Rattle.kept_values.specs.Shifted.{HasTouched}
-use Rattle.kept_values.specs.declared.values.Values.{Values}
+use Rattle.session_values.specs.Shifts.{IsBookAfter}
+use Rattle.session_values.proofs.Contents.{unpasted}
+use Rattle.session_values.proofs.Naming.{named_differ, named_now, stood}
+use Rattle.session_values.proofs.Shifting.{accepted_shifts_lead_on, sessions_are_inside}
+use Rattle.session_values.specs.Shifted.{HasTouched}
+use Rattle.session_values.specs.KeptValues.{Values}
 use Rattle.kept_book.specs.Change.{Change}
 use Rattle.kept_book.specs.Copied.{contents_copied}
 use Rattle.kept_book.specs.Kept.{IsMore, at_of, frame_of}

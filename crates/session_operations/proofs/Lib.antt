@@ -17,9 +17,7 @@ pub mod Closed
 pub mod Causes
 pub mod Pasting
 pub mod PastedCounts
-pub mod SortedKeys
-pub mod RaisedKeys
-pub mod NeedingCells
-pub mod NeedingNames
-pub mod ListedLinks
 mod TriedCosts
+pub use Rattle.session_values.proofs.MentionedPlaces
+pub use Rattle.session_values.proofs.Shifting
+pub use Rattle.session_values.proofs.Following as KeptFollowing

@@ -17,7 +17,7 @@ use Rattle.book_model.specs.Workbook.{State}
 use Rattle.kept_book.proofs.Contents.{get-contents}
 use Rattle.kept_book.specs.Numbered.{Numbered}
 use Rattle.kept_book.specs.Stored.{content_of, contents_of, tree_of}
-use Rattle.session_operations.specs.internal.Links.{holds_formula}
+use Rattle.session_operations.specs.internal.Contents.{holds_formula}
 
 -- a content that has a tree is the formula of it
 pub is-formula : (o : Option Content) (t : Term Corner) → Some t ≡ content_tree o → o ≡ Some (formula t)

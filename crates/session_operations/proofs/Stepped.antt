@@ -17,15 +17,15 @@ use Rattle.dep_graph.specs.declared.node.Node.{Node}
 use Rattle.dep_graph.specs.declared.node.Node.TheVariants.{Cell}
 use Rattle.recalc_core.specs.Laws.{AreKnown}
 use Rattle.recalc_core.specs.Shifted.{drops_scope}
-use Rattle.marked_values.specs.Shifts.{IsBookAfter}
-use Rattle.marked_values.proofs.GoingBack.{keeps}
-use Rattle.marked_books.proofs.Shifting.{all_inside, book_after, sessions_are_inside}
-use Rattle.restored_values.specs.Suspects.{AreRemoved}
+use Rattle.session_values.specs.Shifts.{IsBookAfter}
+use Rattle.session_values.proofs.GoingBack.{keeps}
+use Rattle.session_values.proofs.Shifting.{all_inside, book_after, sessions_are_inside}
+use Rattle.session_values.specs.Suspects.{AreRemoved}
 use Rattle.kept_book.specs.Change.{Change}
 use Rattle.kept_book.specs.Kept.{IsMore, line_of}
 use Rattle.kept_steps.specs.Turned.{ListsLost, Operates, is_replaced, operation_of, replaced_of, to_redo, to_undo}
 use Rattle.kept_steps.specs.declared.session.Session.{Session}
-use Rattle.kept_values.specs.Shifted.{HasTouched}
+use Rattle.session_values.specs.Shifted.{HasTouched}
 use Rattle.session_values.specs.Following.{FollowsIn, book_of, words_in}
 use Rattle.session_values.specs.Shifting.{FollowsShift, FollowsShiftBack}
 use Rattle.session_operations.specs.Seen.{ValuesFollowStill, state_of}

@@ -15,8 +15,8 @@ use Rattle.book_values.specs.Workbook as book
 use Rattle.dep_graph.specs.Nodes.{has}
 use Rattle.dep_graph.specs.declared.node.Node.{Node}
 use Rattle.recalc_core.specs.Nodes.{node_at}
-use Rattle.kept_values.specs.Values.{links_in, seeks_in}
-use Rattle.kept_values.specs.declared.values.Values.{Values}
+use Rattle.session_values.specs.Values.{links_in, seeks_in}
+use Rattle.session_values.specs.KeptValues.{Values}
 use Rattle.session_values.specs.Following.{words_in}
 use Rattle.session_values.specs.Naming.{MarksFor, MarksTurn, turn_of}
 use Rattle.session_values.specs.Parts.{MarksPartsBack, MarksPartsForth}

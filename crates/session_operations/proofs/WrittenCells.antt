@@ -23,7 +23,7 @@ use Rattle.book_model.specs.Workbook.{State}
 use Rattle.book_model.specs.declared.refusal.Refusal.TheVariants.{CellLimit, TextLimit}
 use Rattle.book_model.proofs.Accepted.{none_in}
 use Rattle.book_model.proofs.SoundSteps.{cells_known}
-use Rattle.marked_books.proofs.Contents.{other_place}
+use Rattle.session_values.proofs.Contents.{other_place}
 use Rattle.kept_book.specs.Numbered.{Numbered}
 use Rattle.kept_book.specs.Stored.{content_of, contents_of}
 use Rattle.kept_book.proofs.Contents.{get-contents}

@@ -19,8 +19,8 @@ use Rattle.kept_steps.specs.declared.session.Session.{Session}
 use Rattle.shift_core.specs.Opposite.{opposite_of}
 use Rattle.shift_core.specs.declared.shift.Shift.{Shift}
 use Rattle.shift_line.specs.Track.{with_spare}
-use Rattle.kept_values.specs.Shifted.{may_touch}
-use Rattle.kept_values.specs.declared.values.Values.{Values}
+use Rattle.session_values.specs.Shifted.{may_touch}
+use Rattle.session_values.specs.KeptValues.{Values}
 use Rattle.session_values.specs.Following.{book_of, words_in}
 use Rattle.session_values.specs.Parts.{MarksPartsBack, MarksPartsForth}
 use Rattle.session_values.specs.Refreshed.{TakesStepsIn}

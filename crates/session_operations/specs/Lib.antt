@@ -1,5 +1,13 @@
 pub mod Seen
 pub mod Turns
 pub mod Kept
-pub mod Names
 pub mod internal
+pub use Rattle.session_values.specs.Following
+pub use Rattle.session_values.specs.Refreshed
+pub use Rattle.session_values.specs.Users
+pub use Rattle.session_values.specs.Values
+pub use Rattle.session_values.specs.Touched
+pub use Rattle.session_values.specs.declared.values.SessionValues
+pub use Rattle.session_values.specs.Naming
+pub use Rattle.session_values.specs.KeptValues
+pub use Rattle.session_values.specs.Marks

@@ -1,5 +1,5 @@
 -- What only the proofs of bodies need.
-pub mod Links
+pub mod Contents
 pub mod Touched
 pub mod Opposites
 pub mod Pasting

@@ -96,7 +96,7 @@ impl Parts {
     }
 
     // The scope of the name that the word finds on the sheet: the sheet's own, or one of the whole workbook.
-    pub(crate) fn scope_finding(&self, name: &str, sheet: u32) -> Option<Option<u32>>
+    pub fn scope_finding(&self, name: &str, sheet: u32) -> Option<Option<u32>>
         ensures { option_map (λ scope. key_of scope name.now) result ≡ found (map.entries (state_of self.now).book.names) name.now sheet }
     {
         if self.has_name(name, Some(sheet)) {

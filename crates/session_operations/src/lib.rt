@@ -21,25 +21,24 @@ mod absolute;
 mod checks;
 mod copying;
 mod giving;
-mod links;
 mod naming;
 mod parts;
 mod reading;
 mod setting;
 mod sheets;
 mod shifting;
-mod shown_name;
 mod stepping;
 mod stop;
 mod undoing;
 mod waiting;
 mod writing;
 
-pub use links::add;
 pub use naming::read_tree;
 pub use parts::Parts;
 pub use reading::first_cell;
 pub use setting::whole_sheet;
-pub use shown_name::ShownName;
 pub use stop::Stop;
 pub use waiting::Waiting;
+
+// What callers need of the crate below.
+pub use session_values::{SessionValues, Values};

@@ -14,7 +14,7 @@ ghost use Rattle.session_values.specs.Refreshed.{IsUnmarked};
 ghost use Rattle.session_operations.specs.Kept.{TriesOutIn, WorksOutIn};
 ghost use Rattle.session_operations.specs.Seen.{with_rules};
 ghost use Rattle.session_operations.specs.Seen.{Fits, ValuesFollow, ValuesFollowStill, state_of};
-ghost use Rattle.session_operations.specs.internal.Links.{holds_formula};
+ghost use Rattle.session_operations.specs.internal.Contents.{holds_formula};
 ghost use Rattle.session_operations.specs.Turns.{Turns};
 
 use crate::naming::read_tree;

@@ -10,3 +10,8 @@ pub mod NamedBetween
 pub mod PartsFollowed
 pub mod Refreshed
 pub mod PartsMarked
+pub use Rattle.kept_values.proofs.Following
+pub use Rattle.marked_books.proofs.Contents
+pub use Rattle.marked_books.proofs.Naming
+pub use Rattle.marked_books.proofs.Shifting
+pub use Rattle.marked_values.proofs.GoingBack

@@ -32,3 +32,6 @@ pub use listing::{restored_by, touched_by};
 pub use naming::NameTurn;
 pub use parts::are_of_cells;
 pub use values::SessionValues;
+
+// What callers need of the crate below.
+pub use kept_values::Values;

@@ -1,6 +1,6 @@
 -- That parts fit has one proof at most.
-use Rattle.session_operations.specs.Seen.{Fits, state_of}
-use Rattle.session_operations.specs.declared.parts.Parts.{Parts}
+use Rattle.session_questions.specs.Seen.{Fits, state_of}
+use Rattle.session_questions.specs.Parts.{Parts}
 use Rattle.book_engine.specs.internal.Props.{is_sound-prop}
 
 pub fits-prop : (p : Parts) → IsProp (Fits p)

@@ -6,11 +6,11 @@ use Rattle.book_values.specs.Workbook.{Workbook}
 use Rattle.dep_graph.specs.Laws.{IsNodeInside}
 use Rattle.dep_graph.specs.declared.node.Node.{Node}
 use Rattle.dep_graph.specs.declared.node.Node.TheVariants.{Cell, Name, Range, Whole}
-use Rattle.kept_values.specs.declared.values.Values.{Values}
+use Rattle.session_questions.specs.KeptValues.{Values}
 use Rattle.recalc_core.specs.Kept.{IsRight, Kept}
-use Rattle.session_values.specs.Following.{FollowsIn, book_of, words_in}
-use Rattle.session_operations.specs.Seen.{ValuesFollow}
-use Rattle.session_operations.specs.declared.parts.Parts.{Parts}
+use Rattle.session_questions.specs.Following.{FollowsIn, book_of, words_in}
+use Rattle.session_questions.specs.Seen.{ValuesFollow}
+use Rattle.session_questions.specs.Parts.{Parts}
 
 inside-prop : (a : Node) → IsProp (IsNodeInside a)
 inside-prop (Cell p) = Prim.hlevel logic.props

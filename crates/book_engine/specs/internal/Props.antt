@@ -5,7 +5,7 @@ use Rattle.book_values.specs.Book.{Content, number, truth, text, formula, unread
 use Rattle.book_model.specs.Clipboard.{Clipboard, nothing, copied, moving}
 use Rattle.book_model.specs.Sound.{ClearedBy, IsContentOf, IsSound, IsSoundBatch, IsSoundBook, IsProperContent, IsSoundClip}
 use Rattle.book_model.specs.Workbook.{Batch, State, Workbook}
-use Rattle.session_operations.specs.internal.Props.{is_proper-prop}
+use Rattle.session_questions.specs.Props.{is_proper-prop}
 
 is_content_of-prop : (b : Workbook) (c : Content) → IsProp (IsContentOf b c)
 is_content_of-prop b (number m) = Prim.hlevel logic.props

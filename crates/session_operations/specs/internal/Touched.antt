@@ -6,7 +6,7 @@ use Rattle.cell_addr.specs.declared.place.Block.{Block}
 use Rattle.cell_addr.specs.declared.place.Place.{Place}
 use Rattle.kept_steps.specs.Session.{state_of}
 use Rattle.kept_steps.specs.declared.session.Session.{Session}
-use Rattle.kept_values.specs.declared.values.Values.{Values}
+use Rattle.session_values.specs.KeptValues.{Values}
 use Rattle.session_values.specs.Touched.{IsMarkedIn}
 
 -- each filled cell of a block is marked

@@ -2,8 +2,8 @@ use Rattle.std.proofs.Common.{◌≡◌, sym, subst, w32, ℤ}
 use Rattle.std.proofs.lemmas.Int.{to_z-of_z}
 use Rattle.book_model.specs.Given.{given_sheets, session_given}
 use Rattle.book_engine.specs.Engine.{StandsFor}
-use Rattle.session_operations.specs.Seen.{with_rules}
-use Rattle.session_operations.specs.Seen.{ValuesFollow, clip_of, state_of, with_clipboard}
+use Rattle.session_questions.specs.Seen.{with_rules}
+use Rattle.session_questions.specs.Seen.{ValuesFollow, clip_of, state_of, with_clipboard}
 use Rattle.book_engine.proofs.engine.Engine.build.Goals as goal
 
 pub invariant_of-result : goal.invariant_of-result

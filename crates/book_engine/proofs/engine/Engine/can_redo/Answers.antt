@@ -4,7 +4,7 @@ use Rattle.book_model.specs.Operation as op
 use Rattle.book_model.specs.Refusals.{cause}
 use Rattle.book_model.specs.Workbook.{State}
 use Rattle.book_engine.specs.Engine.{StandsFor}
-use Rattle.session_operations.proofs.Causes.{accepted_where_ok}
+use Rattle.session_questions.proofs.Causes.{accepted_where_ok}
 use Rattle.book_engine.proofs.engine.Engine.can_redo.Goals as goal
 
 pub returns : goal.returns

@@ -2,11 +2,11 @@ use Rattle.std.proofs.Common.{◌∙◌, sym, ap, subst, Option}
 use Rattle.std.specs.Prelude.{⊤}
 use Rattle.book_model.specs.Refusals.{cause}
 use Rattle.book_model.specs.declared.refusal.Refusal.{Refusal}
-use Rattle.session_operations.specs.Turns.{Answered}
+use Rattle.session_questions.specs.Turns.{Answered}
 use Rattle.book_engine.specs.Cause.{operation_of}
 use Rattle.book_engine.specs.Engine.{StandsFor}
-use Rattle.session_operations.specs.Seen.{clip_of, state_of, with_clipboard}
-use Rattle.session_operations.proofs.Causes.{cause_rules}
+use Rattle.session_questions.specs.Seen.{clip_of, state_of, with_clipboard}
+use Rattle.session_questions.proofs.Causes.{cause_rules}
 use Rattle.book_engine.proofs.engine.Engine.cause.Goals as goal
 
 pub returns : goal.returns

@@ -1,6 +1,6 @@
 use Rattle.std.proofs.Common.{ap}
 use Rattle.std.proofs.lemmas.Result.{err_from_is_err_and}
-use Rattle.session_values.specs.declared.values.SessionValues.{SessionValues}
+use Rattle.session_questions.specs.SessionValues.{SessionValues}
 use Rattle.book_engine.proofs.engine.Engine.change_name.Goals as goal
 
 pub invariant_of-self : goal.invariant_of-self

@@ -5,4 +5,4 @@ pub invariant_of-self : goal.invariant_of-self
 invariant_of-self g c = record { fits = c.dependents.ensures.fits; follow = c.dependents.ensures.follow (g.C.Customs.customs c.args.self.now.customs) c.args.self.now.day c.args.self.now.follow }
 
 pub returns-clause-line : goal.returns-clause-line
-returns-clause-line g c = line_kept c.args.self.now.parts.session.book.lazy.line c.dependents.new.self.session.book.lazy.line c.dependents.ensures.line
+returns-clause-line g c = line_kept c.args.self.now.parts.session.book.lazy.line c.dependents.new.parts.session.book.lazy.line c.dependents.ensures.line

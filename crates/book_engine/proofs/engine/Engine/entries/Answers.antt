@@ -4,7 +4,7 @@ use Rattle.kept_book.specs.Kept.{frame_of}
 use Rattle.kept_steps.specs.Fits.{start_of}
 use Rattle.kept_steps.specs.Timeline.{timeline_of}
 use Rattle.book_engine.specs.Engine.{StandsFor}
-use Rattle.session_operations.proofs.Counted.{steps_ahead, steps_past}
+use Rattle.session_questions.proofs.Counted.{steps_ahead, steps_past}
 use Rattle.book_engine.proofs.engine.Engine.entries.Goals as goal
 
 pub returns-clause-done : goal.returns-clause-done

@@ -4,7 +4,7 @@ use Rattle.kept_book.specs.Kept.{frame_of}
 use Rattle.kept_steps.specs.Fits.{batch_of}
 use Rattle.kept_steps.specs.Timeline.{timeline_of}
 use Rattle.book_engine.specs.Engine.{StandsFor}
-use Rattle.session_operations.proofs.NamedSlots.{is_some-map}
+use Rattle.session_questions.proofs.NamedSlots.{is_some-map}
 use Rattle.book_engine.proofs.engine.Engine.has_batch.Goals as goal
 
 pub returns : goal.returns

@@ -3,10 +3,10 @@ use mir.Val.{SFits}
 use Rattle.std.proofs.lemmas.Int.{to_z-of_z}
 use Rattle.name_table.specs.Named.{words_of}
 use Rattle.book_model.specs.Answers.{valued}
-use Rattle.session_values.specs.Following.{FollowsIn}
+use Rattle.session_questions.specs.Following.{FollowsIn}
 use Rattle.book_engine.specs.Engine.{StandsFor}
-use Rattle.session_operations.specs.Seen.{with_rules}
-use Rattle.session_operations.specs.Seen.{clip_of, with_clipboard}
+use Rattle.session_questions.specs.Seen.{with_rules}
+use Rattle.session_questions.specs.Seen.{clip_of, with_clipboard}
 use Rattle.book_engine.specs.TakenApart.{steps_among}
 use Rattle.book_engine.proofs.TakenApart.{followed}
 use Rattle.book_engine.proofs.engine.Engine.joined.Goals as goal

@@ -3,8 +3,8 @@ use Rattle.cell_addr.specs.declared.place.Place.{Place}
 use Rattle.book_model.specs.Operation as op
 use Rattle.book_model.specs.Refusals.{cause}
 use Rattle.book_model.specs.Workbook.{State}
-use Rattle.book_engine.specs.Areas.{cyclic_on_sheet}
-use Rattle.session_operations.specs.Turns.{Answered}
+use Rattle.session_questions.specs.Areas.{cyclic_on_sheet}
+use Rattle.session_questions.specs.Turns.{Answered}
 use Rattle.book_engine.specs.Engine.{StandsFor}
 use Rattle.book_engine.proofs.KeptLine.{line_kept}
 use Rattle.book_engine.proofs.engine.Engine.on_cycle.Goals as goal

@@ -2,11 +2,11 @@ use Rattle.std.proofs.Common.{◌∙◌, ap, refl, rules, subst, sym, w32}
 use mir.Val.{SFits}
 use Rattle.std.proofs.lemmas.Int.{to_z-of_z}
 use Rattle.std.specs.Prelude.{option_map}
-use Rattle.kept_values.specs.Values.{marks_in}
+use Rattle.session_questions.specs.Values.{marks_in}
 use Rattle.book_engine.specs.Engine.{StandsFor}
 use Rattle.book_engine.specs.Kept.{merged_in_any}
 use Rattle.book_engine.specs.TakenApart.{FitParts, parts_of, state_among, stored_among}
-use Rattle.session_operations.specs.declared.parts.Parts.{Parts}
+use Rattle.session_questions.specs.Parts.{Parts}
 use Rattle.book_engine.proofs.TakenApart.{fitting}
 use Rattle.book_engine.proofs.engine.Engine.parts.Goals as goal
 

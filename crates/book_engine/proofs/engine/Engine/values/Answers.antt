@@ -2,10 +2,10 @@ use Rattle.std.proofs.Common.{rules, w32}
 use mir.Val.{SFits}
 use Rattle.std.proofs.lemmas.Int.{to_z-of_z}
 use Rattle.book_engine.specs.Engine.{StandsFor}
-use Rattle.session_operations.specs.Seen.{with_rules}
-use Rattle.session_operations.specs.Seen.{clip_of, state_of, with_clipboard}
+use Rattle.session_questions.specs.Seen.{with_rules}
+use Rattle.session_questions.specs.Seen.{clip_of, state_of, with_clipboard}
 use Rattle.book_engine.proofs.KeptLine.{line_kept}
-use Rattle.book_engine.proofs.ShownCells.{answered_as, answered_on}
+use Rattle.session_questions.proofs.ShownCells.{answered_as, answered_on}
 use Rattle.book_engine.proofs.engine.Engine.values.Goals as goal
 
 pub returns-clause-answered : goal.returns-clause-answered

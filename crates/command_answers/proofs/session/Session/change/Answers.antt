@@ -1,5 +1,5 @@
 -- A call that stopped keeps the session.
-use Rattle.session_operations.specs.Turns.{NoAnswer}
+use Rattle.book_engine.specs.Turns.{NoAnswer}
 use Rattle.command_answers.proofs.Executed.{on_err, stop_keeps_for}
 use Rattle.command_answers.proofs.session.Session.change.Goals as goal
 

@@ -1,6 +1,6 @@
 use Rattle.std.proofs.Common.{subst, sym}
 use Rattle.book_model.specs.Operation as op
-use Rattle.session_operations.specs.Turns.{NoAnswer}
+use Rattle.book_engine.specs.Turns.{NoAnswer}
 use Rattle.engine_face.specs.Session.{Asks}
 use Rattle.engine_face.specs.declared.status.Status.{Status}
 use Rattle.engine_face.proofs.Changing.{asked}

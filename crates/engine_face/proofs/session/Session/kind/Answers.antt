@@ -5,7 +5,7 @@ use Rattle.book_model.specs.Operation as op
 use Rattle.book_model.specs.Refusals.{cause}
 use Rattle.book_model.specs.Workbook.{State}
 use Rattle.book_engine.specs.Areas.{kind_of}
-use Rattle.book_engine.specs.declared.areas.Kind.{Kind}
+use Rattle.book_engine.specs.Kind.{Kind}
 use Rattle.engine_face.specs.Areas.{kind_at, kind_number}
 use Rattle.engine_face.specs.Session.{Finds, Told}
 use Rattle.engine_face.specs.declared.status.Status.{Status}

@@ -4,7 +4,7 @@ use Rattle.fix_num.specs.Number.{within}
 use Rattle.fix_num.specs.Text.{text_of}
 use Rattle.fix_num.specs.declared.error.NumError.{NumError}
 use Rattle.book_model.specs.Operation as op
-use Rattle.session_operations.specs.Turns.{NoAnswer}
+use Rattle.book_engine.specs.Turns.{NoAnswer}
 use Rattle.engine_face.specs.Session.{Asks, AsksNumber}
 use Rattle.engine_face.specs.declared.session.Session.{Session}
 use Rattle.engine_face.specs.declared.status.Status.{Status}

@@ -2,7 +2,7 @@ use Rattle.std.proofs.Common.{◌∙◌, refl, subst, sym, map, List, ℕ, None,
 use Rattle.cell_addr.specs.declared.place.Place.{Place}
 use Rattle.book_model.specs.Changes.{HaveDistinctPlaces}
 use Rattle.book_model.specs.Operation as op
-use Rattle.session_operations.specs.Turns.{NoAnswer}
+use Rattle.book_engine.specs.Turns.{NoAnswer}
 use Rattle.engine_face.specs.Session.{Asks}
 use Rattle.engine_face.specs.Status.{status_of_end}
 use Rattle.engine_face.specs.Written.{written_cell}

@@ -1,7 +1,7 @@
 use Rattle.std.proofs.Common.{◌∙◌, sym, subst}
 use Rattle.std.proofs.lemmas.Bool.{false≢true}
 use Rattle.kept_steps.specs.Turned.{AreOfCells, to_undo}
-use Rattle.kept_values.proofs.Following.{on_ok}
+use Rattle.session_values.proofs.Following.{on_ok}
 use Rattle.session_values.specs.Parts.{MarksPartsBack}
 use Rattle.session_operations.proofs.TurnedMarks.{all_ok}
 use Rattle.session_operations.proofs.parts.Parts.change_back.Goals as goal

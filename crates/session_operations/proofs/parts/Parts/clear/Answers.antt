@@ -5,7 +5,7 @@ use Rattle.session_operations.specs.Seen.{state_of}
 use Rattle.session_operations.proofs.Turning.{done_sound, next_done, sound_inside}
 use Rattle.book_model.specs.Changes.{emptied}
 use Rattle.cell_addr.specs.Place.{covers}
-use Rattle.marked_books.proofs.Contents.{unemptied}
+use Rattle.session_values.proofs.Contents.{unemptied}
 use Rattle.session_values.proofs.MarkedCells.{at_most}
 use Rattle.session_operations.proofs.Following.{follow_changed, follow_touched}
 use Rattle.session_operations.proofs.parts.Parts.clear.Goals as goal

@@ -8,7 +8,7 @@ use Rattle.session_operations.specs.internal.Touched.{AreFilledMarked}
 use Rattle.book_model.specs.Changes.{emptied}
 use Rattle.cell_addr.specs.Place.{covers}
 use Rattle.cell_addr.specs.declared.place.Place.{Place}
-use Rattle.marked_books.proofs.Contents.{unemptied}
+use Rattle.session_values.proofs.Contents.{unemptied}
 use Rattle.session_values.proofs.MarkedCells.{at_most}
 use Rattle.session_values.specs.Touched.{AreTouched}
 use Rattle.session_operations.proofs.Following.{follow_changed, follow_touched}

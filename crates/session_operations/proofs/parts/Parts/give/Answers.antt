@@ -6,7 +6,7 @@ use Rattle.book_model.specs.Operation as op
 use Rattle.book_model.specs.Sound.{IsSound}
 use Rattle.book_model.proofs.Accepted.{is_inside, none_hold}
 use Rattle.cell_addr.specs.Place.{same_place}
-use Rattle.marked_books.proofs.Contents.{other_place}
+use Rattle.session_values.proofs.Contents.{other_place}
 use Rattle.session_values.proofs.MarkedCells.{at_most}
 use Rattle.session_values.specs.Touched.{IsMarkedIn}
 use Rattle.session_operations.specs.Seen.{state_of}

@@ -4,11 +4,11 @@ use Rattle.std.proofs.lemmas.Result.{err_from_is_err_and}
 use Rattle.book_model.specs.Operation as op
 use Rattle.dep_graph.specs.Nodes.{has, items_of}
 use Rattle.dep_graph.specs.declared.node.Node.{Node}
-use Rattle.marked_values.proofs.GoingBack.{back_is_sound}
-use Rattle.restored_values.specs.Suspects.{AreRemoved}
+use Rattle.session_values.proofs.GoingBack.{back_is_sound}
+use Rattle.session_values.specs.Suspects.{AreRemoved}
 use Rattle.recalc_core.specs.Laws.{AreKnown}
 use Rattle.kept_steps.specs.Turned.{to_undo}
-use Rattle.kept_values.specs.Shifted.{HasTouched, may_touch}
+use Rattle.session_values.specs.Shifted.{HasTouched, may_touch}
 use Rattle.session_values.specs.Following.{book_of, words_in}
 use Rattle.session_values.specs.Shifting.{is_replaced_cell}
 use Rattle.session_operations.specs.Seen.{state_of}

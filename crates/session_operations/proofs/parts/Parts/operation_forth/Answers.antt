@@ -5,7 +5,7 @@ use Rattle.dep_graph.specs.Nodes.{has}
 use Rattle.dep_graph.specs.declared.node.Node.{Node}
 use Rattle.recalc_core.specs.Laws.{AreKnown}
 use Rattle.kept_steps.specs.Turned.{to_redo}
-use Rattle.kept_values.specs.Shifted.{HasTouched, may_touch}
+use Rattle.session_values.specs.Shifted.{HasTouched, may_touch}
 use Rattle.session_values.specs.Following.{book_of, words_in}
 use Rattle.session_operations.proofs.Following.{follow_none, more_as}
 use Rattle.session_operations.proofs.Stepped.{follow_forth, operation_sound}

@@ -1,4 +1,4 @@
-use Rattle.marked_books.proofs.Shifting.{sessions_are_inside}
+use Rattle.session_values.proofs.Shifting.{sessions_are_inside}
 use Rattle.session_operations.specs.Seen.{state_of}
 use Rattle.session_operations.proofs.parts.Parts.refresh.Goals as goal
 

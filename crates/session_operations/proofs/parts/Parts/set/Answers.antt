@@ -6,7 +6,7 @@ use Rattle.session_operations.proofs.Turning.{done_sound, next_done}
 use Rattle.book_model.specs.Changes.{with_content}
 use Rattle.book_model.specs.Content.{content_given, content_of}
 use Rattle.cell_addr.specs.Place.{same_place}
-use Rattle.marked_books.proofs.Contents.{other_place}
+use Rattle.session_values.proofs.Contents.{other_place}
 use Rattle.session_values.proofs.MarkedCells.{at_most}
 use Rattle.session_values.specs.Touched.{IsMarkedIn}
 use Rattle.session_operations.proofs.Following.{follow_changed, follow_touched}

@@ -2,7 +2,7 @@ use Rattle.std.proofs.Common.{◌∙◌, sym, ap}
 use Rattle.shift_core.specs.declared.shift.Shift.{Shift}
 use Rattle.kept_book.specs.Kept.{line_of}
 use Rattle.kept_steps.specs.Turned.{AreOfCells, is_listed, to_undo}
-use Rattle.kept_values.proofs.Following.{on_ok}
+use Rattle.session_values.proofs.Following.{on_ok}
 use Rattle.session_values.specs.Parts.{MarksPartsBack}
 use Rattle.session_values.specs.Touched.{AreTouched}
 use Rattle.session_operations.specs.Kept.{MarksReturned, MarksUndoneIn}

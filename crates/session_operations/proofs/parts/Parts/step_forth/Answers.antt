@@ -1,10 +1,10 @@
 use Rattle.std.proofs.Common.{◌∙◌, sym, ap}
 use Rattle.cell_addr.specs.declared.place.TheConstants.{NO_SHEET}
 use Rattle.shift_core.specs.declared.shift.Shift.{Shift}
-use Rattle.marked_values.proofs.GoingBack.{keeps}
+use Rattle.session_values.proofs.GoingBack.{keeps}
 use Rattle.kept_book.specs.Kept.{line_of}
 use Rattle.kept_steps.specs.Turned.{AreOfCells, is_listed, to_redo}
-use Rattle.kept_values.proofs.Following.{on_ok}
+use Rattle.session_values.proofs.Following.{on_ok}
 use Rattle.session_values.specs.Parts.{MarksPartsForth}
 use Rattle.session_values.specs.Touched.{AreTouched}
 use Rattle.session_operations.specs.Kept.{MarksAlong, MarksRedoneIn}

@@ -8,7 +8,7 @@ use Rattle.shift_core.specs.Form.{form_of}
 use Rattle.book_model.proofs.Accepted.{sound_form}
 use Rattle.dep_graph.specs.Nodes.{has}
 use Rattle.dep_graph.specs.declared.node.Node.{Node}
-use Rattle.kept_values.specs.Shifted.{HasTouched, may_touch}
+use Rattle.session_values.specs.Shifted.{HasTouched, may_touch}
 use Rattle.recalc_core.specs.Laws.{AreKnown}
 use Rattle.session_values.specs.Following.{book_of, words_in}
 use Rattle.session_operations.proofs.Following.{follow_none, follow_shift}

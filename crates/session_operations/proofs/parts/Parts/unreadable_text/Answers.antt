@@ -6,7 +6,7 @@ use Rattle.kept_book.proofs.Contents.{get-contents}
 use Rattle.kept_book.specs.Frame.{numbered_at}
 use Rattle.kept_book.specs.Kept.{at_of}
 use Rattle.kept_book.specs.Stored.{content_of}
-use Rattle.session_operations.specs.internal.Links.{holds_formula}
+use Rattle.session_operations.specs.internal.Contents.{holds_formula}
 use Rattle.session_operations.proofs.ReadContents.{no-formula}
 use Rattle.session_operations.proofs.parts.Parts.unreadable_text.Goals as goal
 

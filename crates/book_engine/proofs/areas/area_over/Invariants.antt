@@ -1,7 +1,0 @@
-use Rattle.std.proofs.Common.{◌≡◌, None, drop}
-use Rattle.book_engine.specs.internal.Areas.{area_over}
-use Rattle.book_engine.proofs.areas.area_over.Given as goal
-
--- with the places to come it is the block over all
-abbrev pub invariant-places : goal.invariant-places
-invariant-places l = area_over l.area (drop l.at-index l.places) ≡ area_over None l.places

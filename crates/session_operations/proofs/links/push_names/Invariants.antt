@@ -1,6 +1,0 @@
-use Rattle.std.proofs.Common.{◌≡◌, ◌++◌, map}
-use Rattle.session_operations.specs.internal.Links.{shown_link}
-use Rattle.session_operations.proofs.links.push_names.Given as goal
-
-abbrev pub invariant-names : goal.invariant-names
-invariant-names l = l.list.items ++ map shown_link l.name-iterator ≡ l.fn.list.items ++ map shown_link l.fn.names.keys

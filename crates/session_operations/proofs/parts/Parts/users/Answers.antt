@@ -1,6 +1,0 @@
-use Rattle.marked_books.proofs.Shifting.{sessions_are_inside}
-use Rattle.session_operations.specs.Seen.{state_of}
-use Rattle.session_operations.proofs.parts.Parts.users.Goals as goal
-
-pub users-requires-clause-inside : goal.users-requires-clause-inside
-users-requires-clause-inside c = sessions_are_inside (state_of c.args.self.now) c.requires.fits

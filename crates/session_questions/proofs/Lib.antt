@@ -1,0 +1,14 @@
+pub mod SortedKeys
+pub mod RaisedKeys
+pub mod NeedingCells
+pub mod NeedingNames
+pub mod ListedLinks
+pub mod LeastAreas
+pub mod FilledPlaces
+pub mod ShownCells
+pub mod ListedNames
+pub mod UsedNames
+pub mod WrongTexts
+pub use Rattle.session_operations.proofs.Causes
+pub use Rattle.session_operations.proofs.NamedSlots
+pub use Rattle.session_operations.proofs.Counted

@@ -1,0 +1,17 @@
+pub mod Areas
+pub mod Formulas
+pub mod internal
+pub use Rattle.session_operations.specs.Touched
+pub use Rattle.session_operations.specs.Turns
+pub use Rattle.session_operations.specs.Refreshed
+pub use Rattle.session_operations.specs.Values
+pub use Rattle.session_operations.specs.Seen
+pub use Rattle.session_operations.specs.Kept
+pub use Rattle.session_operations.specs.Marks
+pub use Rattle.session_operations.specs.KeptValues
+pub use Rattle.session_operations.specs.Following
+pub use Rattle.session_operations.specs.declared.stop.Stop
+pub use Rattle.session_operations.specs.SessionValues
+pub use Rattle.session_operations.specs.declared.parts.Parts
+pub use Rattle.session_operations.specs.Naming
+pub use Rattle.session_operations.specs.internal.Props
