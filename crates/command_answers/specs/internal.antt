@@ -1,3 +1,4 @@
 -- What only the proofs of bodies need.
 pub mod Answers
+pub mod Changes
 pub mod Links

@@ -12,7 +12,8 @@ ghost use Rattle.script_lang.specs.declared.commands.Command.TheVariants as comm
 ghost use Rattle.command_answers.specs.Asked.{block_of, place_of, scope_named, sheet_named, sheet_of};
 ghost use Rattle.command_answers.specs.Replies.{links_text};
 ghost use Rattle.command_answers.specs.Sessions.{Executes, Keeps};
-ghost use Rattle.command_answers.specs.internal.Answers.{DoesFor, IsChange, IsLineOfStop};
+ghost use Rattle.command_answers.specs.internal.Answers.{DoesFor, IsLineOfStop};
+ghost use Rattle.command_answers.specs.internal.Changes.{IsChange, IsOfSteps, IsOnCells, IsOnLines, IsOnNames};
 
 use crate::line::{number_line, number_room, stop_line};
 use crate::links::links_text;
@@ -273,8 +274,50 @@ fn ask<C: Customs>(engine: &mut Engine<C>, command: &Command) -> Result<(), Stop
     ensures { DoesFor C.customs command.now NoAnswer engine.old engine.new result }
 {
     match command {
+        Command::Set(..)
+        | Command::Clear(_)
+        | Command::Copy(_)
+        | Command::Cut(_)
+        | Command::Paste(_)
+        | Command::MoveBlock(..) => ask_on_cells(engine, command),
+        Command::InsertRows(..)
+        | Command::DeleteRows(..)
+        | Command::InsertCols(..)
+        | Command::DeleteCols(..)
+        | Command::MoveRows(..)
+        | Command::MoveCols(..) => ask_on_lines(engine, command),
+        Command::DropSheet(_)
+        | Command::RenameSheet(..)
+        | Command::ClearSheet(_)
+        | Command::AddName(..)
+        | Command::ChangeName(..)
+        | Command::RemoveName(..) => ask_on_names(engine, command),
+        _ => ask_of_steps(engine, command),
+    }
+}
+
+// Asks for a change of cells, or of what waits to be pasted.
+fn ask_on_cells<C: Customs>(engine: &mut Engine<C>, command: &Command) -> Result<(), Stop>
+    requires { IsOnCells command.now }
+    ensures { DoesFor C.customs command.now NoAnswer engine.old engine.new result }
+{
+    match command {
         Command::Set(at, text) => engine.set(place(engine, at), text.as_str()),
         Command::Clear(area) => engine.clear(block(engine, area)),
+        Command::Copy(area) => engine.copy(block(engine, area)),
+        Command::Cut(area) => engine.cut(block(engine, area)),
+        Command::Paste(at) => engine.paste(place(engine, at)),
+        Command::MoveBlock(area, at) => engine.move_block(block(engine, area), place(engine, at)),
+        _ => unreachable!(),
+    }
+}
+
+// Asks for a change of the rows or the columns of a sheet.
+fn ask_on_lines<C: Customs>(engine: &mut Engine<C>, command: &Command) -> Result<(), Stop>
+    requires { IsOnLines command.now }
+    ensures { DoesFor C.customs command.now NoAnswer engine.old engine.new result }
+{
+    match command {
         Command::InsertRows(sheet, at, count) => engine.insert_rows(id(engine, sheet), *at, *count),
         Command::DeleteRows(sheet, at, count) => engine.delete_rows(id(engine, sheet), *at, *count),
         Command::InsertCols(sheet, at, count) => engine.insert_cols(id(engine, sheet), *at, *count),
@@ -285,6 +328,16 @@ fn ask<C: Customs>(engine: &mut Engine<C>, command: &Command) -> Result<(), Stop
         Command::MoveCols(sheet, from, count, before) => {
             engine.move_cols(id(engine, sheet), *from, *count, *before)
         }
+        _ => unreachable!(),
+    }
+}
+
+// Asks for a change of a sheet as a whole, or of a name.
+fn ask_on_names<C: Customs>(engine: &mut Engine<C>, command: &Command) -> Result<(), Stop>
+    requires { IsOnNames command.now }
+    ensures { DoesFor C.customs command.now NoAnswer engine.old engine.new result }
+{
+    match command {
         Command::DropSheet(sheet) => engine.drop_sheet(id(engine, sheet)),
         Command::RenameSheet(sheet, name) => {
             engine.rename_sheet(id(engine, sheet), name.as_str())
@@ -299,10 +352,17 @@ fn ask<C: Customs>(engine: &mut Engine<C>, command: &Command) -> Result<(), Stop
         Command::RemoveName(name, scope) => {
             engine.remove_name(name.as_str(), scope_of(engine, scope))
         }
-        Command::Copy(area) => engine.copy(block(engine, area)),
-        Command::Cut(area) => engine.cut(block(engine, area)),
-        Command::Paste(at) => engine.paste(place(engine, at)),
-        Command::MoveBlock(area, at) => engine.move_block(block(engine, area), place(engine, at)),
+        _ => unreachable!(),
+    }
+}
+
+// Asks for a batch to be opened or closed, for the computation of values to stop or go on, or for a step to be undone or
+// done again.
+fn ask_of_steps<C: Customs>(engine: &mut Engine<C>, command: &Command) -> Result<(), Stop>
+    requires { IsOfSteps command.now }
+    ensures { DoesFor C.customs command.now NoAnswer engine.old engine.new result }
+{
+    match command {
         Command::Begin => engine.begin(),
         Command::Commit => engine.commit(),
         Command::Suspend => {

@@ -1,5 +1,5 @@
 -- What the call does that a command asks for, and what answers one that stopped.
-use Rattle.std.specs.Prelude.{◌≡◌, ℕ, List, Some, None, Result, Ok, Err, ⊤}
+use Rattle.std.specs.Prelude.{◌≡◌, ℕ, List, Some, None, Result, Ok, Err}
 use Rattle.calc_eval.specs.declared.customs.Customs.{Ghosts}
 use Rattle.custom_fn.specs.declared.rule.Rule.{Rule}
 use Rattle.book_model.specs.Workbook.{State}
@@ -9,7 +9,6 @@ use Rattle.book_engine.specs.Stop as engine
 use Rattle.book_engine.specs.Stop.TheVariants.{Refused, NoMemory}
 use Rattle.script_lang.specs.Lines.{line_of}
 use Rattle.script_lang.specs.declared.commands.Command.{Command}
-use Rattle.script_lang.specs.declared.commands.Command.TheVariants as command
 use Rattle.command_answers.specs.Replies.{next_state, refused_for, refused_text}
 use Rattle.command_answers.specs.Sessions.{Keeps}
 
@@ -18,19 +17,6 @@ abbrev pub DoesFor : {C X : Type 0} {G : Ghosts C} → (C → List (List ℕ × 
 DoesFor customs c Answers old new (Ok x) = (d : State) → StandsFor customs old d → (refused_for c d ≡ None) × Answers d x × StandsFor customs new (next_state c d)
 DoesFor customs c Answers old new (Err (Refused r)) = (d : State) → StandsFor customs old d → (refused_for c d ≡ Some r) × StandsFor customs new (next_state c d)
 DoesFor customs c Answers old new (Err NoMemory) = Keeps customs old new
-
--- the command is a change that answers nothing
-abbrev pub IsChange : Command → Type 0
-IsChange (command.AddSheet name) = ⊥
-IsChange (command.Value at) = ⊥
-IsChange (command.Formula at) = ⊥
-IsChange (command.Content at) = ⊥
-IsChange (command.Precedents at) = ⊥
-IsChange (command.Dependents at) = ⊥
-IsChange (command.NameValue name sheet) = ⊥
-IsChange (command.Try sheet text) = ⊥
-IsChange (command.Version version) = ⊥
-IsChange _ = ⊤
 
 -- the line of a call that stopped; of want of memory there is none
 abbrev pub IsLineOfStop : engine.Stop → List ℕ → Type 0
