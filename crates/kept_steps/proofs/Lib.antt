@@ -1,4 +1,4 @@
-mod Entries
+pub mod Entries
 mod Frames
 mod GridCells
 mod Walks

@@ -86,22 +86,13 @@ pub(crate) fn moved_places(
     requires destination { IsBlockInside (carrying.destination source to) }
     ensures { IfOk result (λ found. IfSome found (λ nodes. AreAdded (is_moved_node source to) [] (items_of nodes))) }
 {
-    if places_in(source) > session.book.grid.filled() {
+    if source.height().saturating_mul(source.width()) > session.book.grid.filled() {
         return Ok(None);
     }
     let mut nodes = Nodes::new(session.book.alloc)?;
     add_places(source, &mut nodes)?;
     add_places(destination(source, to), &mut nodes)?;
     Ok(Some(nodes))
-}
-
-// How many places a block has.
-fn places_in(area: Block) -> u64
-    requires { IsBlockInside area }
-{
-    let rows = (area.bottom - area.top) as u64 + 1;
-    let cols = (area.right - area.left) as u64 + 1;
-    rows * cols
 }
 
 // Adds the nodes of all places of a block.
