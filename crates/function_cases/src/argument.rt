@@ -1,7 +1,7 @@
 // The arguments of a call as they are written.
 use crate::block::{of_sheet, value_in, written};
-use crate::call::Function;
 use crate::sheet::value_at;
+use calc_terms::DataFn;
 use cell_addr::{after_quoted, quoted_text, read_area};
 use cell_value::{Arg, FaultKind, Scalar};
 use fix_num::Fixed;
@@ -12,7 +12,7 @@ use std::alloc::{AllocError, Global};
 pub(crate) fn arguments_of(
     alloc: Global,
     text: &str,
-    function: Option<Function>,
+    function: Option<DataFn>,
 ) -> Result<Option<Vec<Arg>>, AllocError> {
     let mut args = Vec::new(alloc);
     if text.is_empty() || add_arguments(alloc, text, function, &mut args)? {
@@ -26,7 +26,7 @@ pub(crate) fn arguments_of(
 fn add_arguments(
     alloc: Global,
     text: &str,
-    function: Option<Function>,
+    function: Option<DataFn>,
     args: &mut Vec<Arg>,
 ) -> Result<bool, AllocError> {
     let mut open = String::new(alloc);
@@ -61,7 +61,7 @@ fn add_argument(
 }
 
 // Whether the argument at this place, from 0, is a list or a block.
-fn takes_block(function: Option<Function>, at: usize) -> bool {
+fn takes_block(function: Option<DataFn>, at: usize) -> bool {
     match function {
         Some(function) => function.takes_block(at),
         None => false,

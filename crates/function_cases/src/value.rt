@@ -1,5 +1,5 @@
 // Calls of values, of words and of days.
-use crate::call::Function;
+use calc_terms::DataFn;
 use cell_addr::Text;
 use cell_value::{Arg, FaultKind, Scalar};
 use fix_num::Fixed;
@@ -67,7 +67,7 @@ fn named(value: &Scalar) -> Option<Scalar> {
 // Whether a text is the word of a function, in capitals.
 fn is_function(value: &Scalar) -> Option<Scalar> {
     match value {
-        Scalar::Text(word) => Some(Scalar::Truth(Function::named(word.as_str()).is_some())),
+        Scalar::Text(word) => Some(Scalar::Truth(DataFn::named(word.as_str()).is_some())),
         _ => None,
     }
 }
